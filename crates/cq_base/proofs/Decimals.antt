@@ -1,0 +1,62 @@
+-- How a number is written digit by digit. A number below ten is one digit. Any other is the number without its last
+-- digit, and then that digit, so it is one digit longer. A number below 2 ^ 128 is below 10 ^ 39, so it has at most 39
+-- digits. And a digit that is written right behind those at the front leaves what comes after it as it was.
+use Rattle.std.proofs.Common.{◌≡◌, ℕ, ◌+◌, ◌<◌, ◌≤◌, ◌/◌, ◌%◌, ◌^◌, false, cond, List, [], ◌∷◌, ◌++◌, length, map, refl, ap, sym, ◌∙◌, arith, eqb, lit≤, zero, suc, set, drop, length-append, append_assoc}
+use Rattle.std.specs.Int.Digits.{digits_of}
+use Rattle.std.proofs.lemmas.Int.Digits.{digits_of_step, length-digits_of-le}
+use Rattle.std.proofs.lemmas.List.{map-append, length-map, length-drop, drop-drop}
+use Rattle.cq_base.specs.Decimal.{decimal}
+
+decimal_above : (n : ℕ) → 0 < n → decimal n ≡ map (λ d. 48 + d) (digits_of 10 n)
+unfolding decimal
+decimal_above n h = let e : eqb n 0 ≡ false = grind arith in ap (λ b. map (λ d. 48 + d) (cond b (0 ∷ []) (digits_of 10 n))) e
+
+pub decimal_small : (n : ℕ) → n < 10 → decimal n ≡ (48 + n % 10) ∷ []
+unfolding decimal
+decimal_small zero h = refl
+decimal_small (suc k) h =
+    let a : 0 < suc k = omega arith in
+    let z : suc k / 10 ≡ 0 = omega arith in
+    decimal_above (suc k) a ∙ ap (map (λ d. 48 + d)) (digits_of_step 10 (suc k) (lit≤ tt) a ∙ ap (λ q. digits_of 10 q ++ (suc k % 10) ∷ []) z)
+
+decimal_more : (n : ℕ) → 10 ≤ n → decimal n ≡ decimal (n / 10) ++ (48 + n % 10) ∷ []
+decimal_more n h =
+    let a : 0 < n = omega arith in
+    let b : 0 < n / 10 = omega arith in
+    decimal_above n a ∙ ap (map (λ d. 48 + d)) (digits_of_step 10 n (lit≤ tt) a) ∙ map-append _ _ _ ∙ ap (λ ys. ys ++ (48 + n % 10) ∷ []) (sym (decimal_above (n / 10) b))
+
+pub length-decimal : (n : ℕ) → n < 2 ^ 128 → length (decimal n) ≤ 39
+unfolding decimal
+length-decimal zero h = lit≤ tt
+length-decimal (suc k) h =
+    let a : 0 < suc k = omega arith in
+    let b : suc k < 10 ^ 39 = omega arith in
+    let e = ap length (decimal_above (suc k) a) in
+    omega (arith, e, length-map (digits_of 10 (suc k)) (λ d. 48 + d), length-digits_of-le 10 39 (suc k) (lit≤ tt) b)
+
+pub length-decimal_more : (n : ℕ) → 10 ≤ n → length (decimal n) ≡ length (decimal (n / 10)) + 1
+length-decimal_more n h = let e = ap length (decimal_more n h) in omega (arith, e, length-append (decimal (n / 10)) ((48 + n % 10) ∷ []))
+
+-- a write right behind the first list is a write at the front of the second
+set-append_seam : (xs ys : List ℕ) (v : ℕ) → set (xs ++ ys) (length xs) v ≡ xs ++ set ys 0 v
+set-append_seam [] ys v = refl
+set-append_seam (x ∷ xs) ys v = ap (λ zs. x ∷ zs) (set-append_seam xs ys v)
+
+first_set : (to : List ℕ) (v : ℕ) → 0 < length to → set to 0 v ≡ v ∷ drop 1 to
+first_set [] v h = absurd (omega arith)
+first_set (x ∷ xs) v h = refl
+
+-- the digits after one was written at the front
+pub one_digit : (n : ℕ) (to : List ℕ) → n < 10 → 0 < length to → set to 0 (48 + n % 10) ≡ decimal n ++ drop 1 to
+one_digit n to h k = first_set to (48 + n % 10) k ∙ ap (λ ds. ds ++ drop 1 to) (sym (decimal_small n h))
+
+-- the digits after the last one was written behind the others
+pub one_more_digit : (n count : ℕ) (to mid : List ℕ) → 10 ≤ n → count ≡ length (decimal (n / 10)) → count < length to → mid ≡ decimal (n / 10) ++ drop count to → set mid count (48 + n % 10) ≡ decimal n ++ drop (count + 1) to
+one_more_digit n count to mid h c k m =
+    let r : 0 < length (drop count to) = omega (arith, length-drop count to) in
+    ap (λ ys. set ys count (48 + n % 10)) m
+    ∙ ap (λ i. set (decimal (n / 10) ++ drop count to) i (48 + n % 10)) c
+    ∙ set-append_seam (decimal (n / 10)) (drop count to) (48 + n % 10)
+    ∙ ap (λ ys. decimal (n / 10) ++ ys) (first_set (drop count to) (48 + n % 10) r ∙ ap (λ ys. (48 + n % 10) ∷ ys) (drop-drop 1 count to))
+    ∙ sym (append_assoc (decimal (n / 10)) ((48 + n % 10) ∷ []) (drop (count + 1) to))
+    ∙ ap (λ ds. ds ++ drop (count + 1) to) (sym (decimal_more n h))

@@ -1,0 +1,41 @@
+-- What stands at the places of arrivals. Where no cell came every place answers none, inside the list and beyond it,
+-- so there is no cell of which anything is asked. And what is read at a place, if it is a cell, stands at its own input.
+use Rattle.std.proofs.Common.{◌≡◌, ℕ, List, get_or, Option, None, Some, Bor, refl, sym, ap, ◌∙◌, ⊎_elim}
+use Rattle.std.specs.Prelude.{IfSome, unwrap_or}
+use Rattle.std.specs.Option.{option_copied, option_flatten, option_map}
+use Rattle.std.proofs.lemmas.Bool.{cases_lt}
+use Rattle.std.proofs.lemmas.List.{length-replicate, get_or-replicate}
+use Rattle.std.proofs.lemmas.Option.{slice_get_past, unwrap_or-slice_get}
+use Rattle.cq_base.specs.declared.cell.Cell.{Cell}
+use Rattle.cq_base.specs.Arrivals.{AreArrivals, arrival_at, no_arrivals}
+
+arrival_at-no_arrivals : (input : ℕ) → arrival_at no_arrivals input ≡ None
+arrival_at-no_arrivals input =
+    let none : Option Cell = None in
+    ⊎_elim
+    (λ inside. unwrap_or-slice_get no_arrivals input none ∙ get_or-replicate 64 input none none inside)
+    (λ beyond. ap (λ (o : Option (Option Cell)). unwrap_or o none) (slice_get_past no_arrivals input beyond))
+    (cases_lt input 64)
+
+pub no_arrivals_are : AreArrivals no_arrivals
+no_arrivals_are =
+    let none : Option Cell = None in
+    record {
+      places = length-replicate 64 none;
+      own_input = λ input cell at. absurd (let clash : none ≡ Some cell = sym (arrival_at-no_arrivals input) ∙ at in cc);
+    }
+
+-- a cell that stands at a place has come to that input
+own_at : (input : ℕ) (cells : List (Option Cell)) (o : Option Cell) → AreArrivals cells → o ≡ arrival_at cells input → IfSome o (λ cell. cell.id.input ≡ input)
+own_at input cells None are is = tt
+own_at input cells (Some cell) are is = are.own_input input cell (sym is)
+
+option_flatten-copied : (found : Option (Bor (Option Cell))) → option_flatten (option_copied found) ≡ unwrap_or (option_map (λ b. b.now) found) None
+option_flatten-copied None = refl
+option_flatten-copied (Some b) = refl
+
+-- what was read at a place and then copied is a cell of that input
+pub own_read : (input : ℕ) (cells : List (Option Cell)) (found : Option (Bor (Option Cell))) (o : Option Cell) → AreArrivals cells → ((d : Option Cell) → unwrap_or (option_map (λ b. b.now) found) d ≡ get_or cells input d) → o ≡ option_flatten (option_copied found) → IfSome o (λ cell. cell.id.input ≡ input)
+own_read input cells found o are read is =
+    let none : Option Cell = None in
+    own_at input cells o are (is ∙ option_flatten-copied found ∙ read none ∙ sym (unwrap_or-slice_get cells input none))

@@ -1,0 +1,21 @@
+-- The order of keys: by rank, then by the slot of arrival, then by input. The lesser key is the more urgent.
+use Rattle.std.specs.Prelude.{◌≡◌, Bool, true, false}
+use Rattle.std.specs.declared.cmp.Ordering.{Ordering}
+use Rattle.std.specs.Ordering.{nat_cmp, ordering_then, is_lt}
+use Rattle.cq_base.specs.declared.key.Key.{Key}
+
+-- how the keys compare: where their ranks are the same by their slots, and where these are the same by their inputs
+abbrev pub key_cmp : Key → Key → Ordering
+key_cmp a b = ordering_then (nat_cmp a.rank b.rank) (ordering_then (nat_cmp a.slot b.slot) (nat_cmp a.input b.input))
+
+-- the first key is the more urgent
+unfoldable pub is_before : Key → Key → Bool
+is_before a b = is_lt (key_cmp a b)
+
+-- the order of keys is a strict total order: no key comes before itself, it goes on from one key to the next, of two
+-- keys one at most comes before the other, and where neither does they are the same key
+pub record KeyLaws : Type 0 where
+  pub never_itself : (k : Key) → is_before k k ≡ false
+  pub on : (a b c : Key) → is_before a b ≡ true → is_before b c ≡ true → is_before a c ≡ true
+  pub one_way : (a b : Key) → is_before a b ≡ true → is_before b a ≡ false
+  pub alike : (a b : Key) → is_before a b ≡ false → is_before b a ≡ false → a ≡ b

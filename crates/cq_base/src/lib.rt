@@ -1,0 +1,28 @@
+//! The plain types of the switch, on which every other crate stands.
+//!
+//! Ports, slots, cells and keys are plain data. The other types own memory or hide how they are kept,
+//! and contracts see what they mean: `Name` is its bytes, `Sequence` its items, `Room` its items and
+//! the room that is left, and `Arrivals` a map from inputs to cells.
+#![tactic(auto)]
+
+mod arrivals;
+mod cell;
+mod key;
+mod name;
+mod number;
+mod room;
+mod sequence;
+mod setup;
+mod status;
+#[cfg(test)]
+mod tests;
+
+pub use arrivals::Arrivals;
+pub use cell::{Cell, CellId, Class, Departure, Port, Queued, Slot, TagFault, Transfer};
+pub use key::{Key, keys_are_ordered};
+pub use name::Name;
+pub use number::digits;
+pub use room::Room;
+pub use sequence::Sequence;
+pub use setup::{ClassRow, Kind, Setup};
+pub use status::{NoMemory, Status};

@@ -1,0 +1,46 @@
+//! Lists that are fields of a value which contracts compare.
+//!
+//! Two vectors with the same items may differ in capacity, so values that hold them could not be
+//! called equal. A `Sequence` is its items and nothing else.
+ghost use Rattle.std.specs.Prelude.{◌≡◌};
+
+use std::marker::Model;
+
+/// Items in order, which contracts see as a list. It is made from a vector and gives it back, and
+/// takes no memory for either.
+#[derive(Drop)]
+pub struct Sequence<T: Drop> {
+    items: Vec<T>,
+}
+
+impl<T: Drop> Model for Sequence<T> {
+    ghost use Rattle.std.specs.Prelude.{List};
+
+    ghost Value = { List T };
+
+    ghost view = { λ s. s.items.items };
+}
+
+impl<T: Drop> Sequence<T> {
+    /// The items of the vector, in its order.
+    pub fn of(items: Vec<T>) -> Self
+        ensures { result ≡ items.items }
+    {
+        Sequence { items }
+    }
+
+    /// The items, in order.
+    pub fn as_slice(&self) -> &[T]
+        ensures { result.now ≡ self.now }
+    {
+        self.items.as_slice()
+    }
+
+    /// A vector of the items, in order.
+    pub fn into_vec(self) -> Vec<T>
+        ensures { result.items ≡ self }
+    {
+        let Sequence { items } = self;
+        items
+    }
+}

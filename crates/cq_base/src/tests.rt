@@ -1,0 +1,56 @@
+//! Values from outside, and the calls that want memory, with ample memory.
+use crate::{Key, Name, Room, Sequence, Status, digits};
+use std::test::Fail;
+
+#[test]
+fn numbers_keys_and_codes_are_the_outside_ones(rt: HostRuntime) {
+    let numbers = [
+        (0, "0"),
+        (9, "9"),
+        (10, "10"),
+        (u128::MAX, "340282366920938463463374607431768211455"),
+    ];
+    for (number, text) in numbers {
+        let mut to = [0; 39];
+        let count = digits(number, &mut to);
+        assert_eq!(rt; &to[..count], text.as_bytes(), "of {number}");
+    }
+
+    let rising = [(0, 9, 9), (1, 0, 9), (1, 1, 0), (1, 1, 1)];
+    let keys = rising.map(|(rank, slot, input)| Key { rank, slot, input });
+    for (urgent, later) in keys.iter().zip(&keys[1..]) {
+        assert!(rt; urgent < later, "{urgent:?} comes before {later:?}");
+    }
+
+    let codes = [
+        (Status::Done, 0),
+        (Status::Words, 1),
+        (Status::Configuration, 2),
+        (Status::Capture, 3),
+        (Status::Tag, 4),
+        (Status::ReadFault, 5),
+        (Status::WriteFault, 6),
+        (Status::NoMemory, 7),
+    ];
+    for (status, code) in codes {
+        assert_eq!(rt; status.code(), code, "of {status:?}");
+    }
+}
+
+#[test]
+fn names_and_rooms_are_granted_with_ample_memory(rt: HostRuntime) -> Result<(), Fail> {
+    let name = Name::of(rt.alloc(), "out0.pcap")?;
+    assert_eq!(rt; name.text(), "out0.pcap");
+
+    let mut room = Room::new(rt.alloc(), 3)?;
+    assert_eq!(rt; room.spare(), 3);
+    room.push(8u64);
+    room.push(5);
+    assert_eq!(rt; room.items(), [8, 5].as_slice());
+    assert_eq!(rt; room.spare(), 1);
+
+    let sequence = Sequence::of([8, 5].to_vec(rt.alloc())?);
+    assert_eq!(rt; sequence.as_slice(), room.items());
+    assert_eq!(rt; sequence.into_vec().as_slice(), [8, 5].as_slice());
+    Ok(())
+}
