@@ -1,0 +1,6 @@
+pub mod ByName
+pub mod Columns
+pub mod InMemory
+pub mod Pieces
+pub mod Replaced
+pub mod Reading

@@ -1,0 +1,17 @@
+use Rattle.std.proofs.Common.{◌+◌, ◌-◌, ◌≡◌, ◌≤◌, vec_len}
+use Rattle.cq_space.proofs.Reading.{HasRead}
+use Rattle.cq_space.proofs.whole.read_whole.Given as goal
+
+abbrev pub invariant-pieces : goal.invariant-pieces
+invariant-pieces g l =
+    let start = g.F.Files.space l.fn.files in
+    let now = g.F.Files.space l.files in
+    record {
+      read : HasRead now.told l.name l.bytes.items now.mode;
+      within : vec_len l.bytes ≤ l.limit + 1;
+      told : now.told ≡ start.told;
+      uncounted : now.faults ≡ start.faults;
+    }
+
+abbrev pub decreases-pieces : goal.decreases-pieces
+decreases-pieces g l = l.limit + 1 - vec_len l.bytes

@@ -1,0 +1,17 @@
+use Rattle.std.proofs.Common.{length, ◌-◌, ◌≡◌, ◌≤◌, take}
+use Rattle.cq_space.specs.Space.{BeginsWriting, replaced}
+use Rattle.cq_space.proofs.whole.write_whole.Given as goal
+
+abbrev pub invariant-loop-written : goal.invariant-loop-written
+invariant-loop-written g l =
+    let start = g.F.Files.space l.fn.files in
+    let now = g.F.Files.space l.files in
+    record {
+      told : now.told ≡ replaced l.name (take l.written l.bytes) start.told;
+      mode : BeginsWriting now.told l.name now.mode;
+      within : l.written ≤ length l.bytes;
+      uncounted : now.faults ≡ start.faults;
+    }
+
+abbrev pub decreases-loop-written : goal.decreases-loop-written
+decreases-loop-written g l = length l.bytes - l.written

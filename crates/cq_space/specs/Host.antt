@@ -1,0 +1,11 @@
+-- What is known of the system's files.
+use Rattle.std.specs.Prelude.{[]}
+use Rattle.cq_space.specs.Space.{Mode, Closed, Reading, Writing}
+use Rattle.cq_space.specs.declared.host.Open.{Open}
+use Rattle.cq_space.specs.declared.host.Open.TheVariants as open_file
+
+-- the mode that an open file stands for, without its name and bytes, which are not told
+abbrev pub host_mode : {T : Type 0} → Open T → Mode
+host_mode open_file.Shut = Closed
+host_mode (open_file.Reads file) = Reading [] []
+host_mode (open_file.Writes file) = Writing []

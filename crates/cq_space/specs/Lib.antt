@@ -1,0 +1,11 @@
+pub mod Call
+pub mod Causes
+pub mod Cut
+pub mod Entries
+pub mod Host
+pub mod MemFiles
+pub mod MemSpace
+pub mod MemTaken
+pub mod Space
+pub mod Taken
+pub mod Whole

@@ -1,0 +1,71 @@
+-- What clauses see of files in memory.
+use Rattle.std.specs.Prelude.{◌≡◌, ◌⊎◌, ℕ, ◌-◌, ◌≤◌, length, Option, None, Some}
+use Rattle.std.specs.Ordering.{nat_cmp}
+use Rattle.std.specs.Cmp.Lexicographic.{slice_cmp}
+use Rattle.std.specs.FinMap.{FinMap, get, code}
+use Rattle.std.specs.Coded.{Coded, coded_list, coded_ℕ}
+use Rattle.cq_space.specs.Call.{Call, StartRead, Read, StartWrite, Write, Finish}
+use Rattle.cq_space.specs.Causes.{Rose}
+use Rattle.cq_space.specs.Cut.{IsReached, StaysBefore}
+use Rattle.cq_space.specs.Space.{Mode, Closed, Reading, Writing, Contents, Space, bytes_of}
+
+-- for each name that is cut, at how many bytes
+abbrev pub Cuts : Type 0
+Cuts = FinMap (slice_cmp nat_cmp) ℕ
+
+-- how a proof tells cuts apart
+abbrev pub cuts_code : Coded Cuts
+cuts_code = code (coded_list coded_ℕ) coded_ℕ
+
+-- the mode, the contents, where reading and writing names are cut, the faults, and those of them that came from want of memory
+pub record MemSpace : Type 0 where
+  pub mode : Mode
+  pub contents : Contents
+  pub read_cuts : Cuts
+  pub write_cuts : Cuts
+  pub faults : ℕ
+  pub starved : ℕ
+
+-- it tells its contents
+abbrev pub told_space : MemSpace → Space
+told_space s = record { mode = s.mode; told = Some s.contents; faults = s.faults }
+
+-- where the open name is cut
+abbrev pub cut_at : Mode → Cuts → Cuts → Option ℕ
+cut_at Closed reads writes = None
+cut_at (Reading name left) reads writes = get reads name
+cut_at (Writing name) reads writes = get writes name
+
+-- how many bytes of the open name were read, or written
+abbrev pub moved_at : Mode → Contents → ℕ
+moved_at Closed contents = 0
+moved_at (Reading name left) contents = length (bytes_of contents name) - length left
+moved_at (Writing name) contents = length (bytes_of contents name)
+
+-- the open name is at its cut
+abbrev pub IsCut : MemSpace → Type 0
+IsCut s = IsReached (cut_at s.mode s.read_cuts s.write_cuts) (moved_at s.mode s.contents)
+
+-- the call failed at the cut, and not for want of memory
+pub record FailsAtCut (old new : MemSpace) : Type 0 where
+  pub cut : IsCut old
+  pub starved : new.starved ≡ old.starved
+
+-- a read fails only at a cut, a start of writing only for want of memory, a write only for one of these
+abbrev pub MayFail : Call → MemSpace → MemSpace → Type 0
+MayFail StartRead old new = ⊥
+MayFail Read old new = FailsAtCut old new
+MayFail StartWrite old new = Rose old.starved new.starved
+MayFail Write old new = FailsAtCut old new ⊎ Rose old.starved new.starved
+MayFail Finish old new = ⊥
+
+-- n more bytes of the open name do not go past its cut
+abbrev pub MayMove : MemSpace → ℕ → Type 0
+MayMove s n = StaysBefore (cut_at s.mode s.read_cuts s.write_cuts) (moved_at s.mode s.contents) n
+
+-- the cuts are as before, and the count of faults from want of memory does not fall, and rises only with that of faults
+pub record KeepsCuts (old new : MemSpace) : Type 0 where
+  pub read_cuts : new.read_cuts ≡ old.read_cuts
+  pub write_cuts : new.write_cuts ≡ old.write_cuts
+  pub later : old.starved ≤ new.starved
+  pub counted : (new.starved ≡ old.starved) ⊎ Rose old.faults new.faults

@@ -1,0 +1,119 @@
+// What is asked of a file space, and what its calls answer.
+ghost use Rattle.std.specs.Prelude.{◌≡◌, ◌<◌, ◌≤◌, ℕ, length, take, IfOk, OnOk, OnErr};
+ghost use Rattle.cq_space.specs.Causes.{HasCause};
+ghost use Rattle.cq_space.specs.Call.{Call};
+ghost use Rattle.cq_space.specs.Space.{Space, Closed, IsReading, IsWriting, Finds, ReadsOn, BeginsWriting, Appends, emptied};
+
+/// A call met a fault. The count of faults of the object that answers it rose in that call.
+#[derive(Clone, Copy, Debug, PartialEq, Eq)]
+pub struct Failed;
+
+/// Names with bytes, of which one at a time is read or written.
+///
+/// What clauses see of a file space is its `space`, which has three parts.
+///
+/// - The mode: closed, reading a name of which some bytes are left, or writing a name. Reading and
+///   writing begin and end closed, so no two names are open at once.
+/// - The told contents: the bytes of each name that there is. An implementation over the system's
+///   files tells none, and a clause on contents then says nothing. No call changes the bytes of a
+///   name other than the one that is written.
+/// - The count of faults, which rises in exactly the calls that fail. Every [`Failed`] comes only where
+///   the count rose in that call: it is greater than before, or it stands at 2^64 - 1, since every
+///   implementation keeps it in a `u64` that stays at its last value. A call that does not fail leaves
+///   the count as it was.
+///
+/// An implementation may promise more, by the members `may_fail`, `may_move` and `keeps`. Files that
+/// fail only where a test sets them to fail are an example.
+pub trait Files {
+    /// The mode, the told contents and the count of faults.
+    ghost space: { Self → Space };
+
+    /// What has to be so where this call fails, from before it to after it.
+    ghost may_fail: { Call → Self → Self → Type 0 } = { λ _ _ _. Unit {0} };
+
+    /// What has to be so before a read or a write that moves so many bytes.
+    ghost may_move: { Self → ℕ → Type 0 } = { λ _ _. Unit {0} };
+
+    /// What is beside the meaning and stays as it was, from before a call to after it.
+    ghost keeps: { Self → Self → Type 0 } = { λ _ _. Unit {0} };
+
+    /// Begins to read a name from its first byte. The mode has to be closed.
+    ///
+    /// `Ok(true)`: the mode is reading, and all the bytes of the name are left. Where contents are told
+    /// they have the name. `Ok(false)`: there is no such name; this comes only where contents are told
+    /// and lack it, the mode is closed and the count is as before. `Failed`: the mode is closed. Contents
+    /// are as before in every case.
+    fn start_read(&mut self, name: &str) -> Result<bool, Failed>
+        requires { (space self.old).mode ≡ Closed }
+        ensures found { IfOk result (Finds (space self.old) (space self.new) name.now) }
+        ensures err { OnErr result ((space self.new).mode ≡ Closed) }
+        ensures told { (space self.new).told ≡ (space self.old).told }
+        ensures cause { HasCause (space self.old).faults (space self.new).faults result }
+        ensures why { OnErr result (may_fail Call.StartRead self.old self.new) }
+        ensures kept { keeps self.old self.new };
+
+    /// Reads on, into the front of `buf`. The mode has to be reading, and `buf` not empty.
+    ///
+    /// `Ok(count)`: so many bytes, at most the length of `buf`, stand at its front, and the mode is reading.
+    /// Where contents are told these are the next bytes of the name, and 0 comes exactly at its end.
+    /// `Failed`: the mode is closed. Contents are as before in both cases.
+    fn read(&mut self, buf: &mut [u8]) -> Result<usize, Failed>
+        requires mode { IsReading (space self.old).mode }
+        requires room { 0 < length buf.old }
+        ensures bound { IfOk result (λ n. n ≤ length buf.new) }
+        ensures next { IfOk result (λ n. ReadsOn (space self.old).told (space self.old).mode (take n buf.new) (space self.new).mode) }
+        ensures err { OnErr result ((space self.new).mode ≡ Closed) }
+        ensures told { (space self.new).told ≡ (space self.old).told }
+        ensures cause { HasCause (space self.old).faults (space self.new).faults result }
+        ensures why { OnErr result (may_fail Call.Read self.old self.new) }
+        ensures moved { IfOk result (may_move self.old) }
+        ensures kept { keeps self.old self.new };
+
+    /// Ends reading, at the name's end or before it. The mode has to be reading. The mode is closed
+    /// afterwards, and contents are as before.
+    fn end_read(&mut self)
+        requires { IsReading (space self.old).mode }
+        ensures closed { (space self.new).mode ≡ Closed }
+        ensures told { (space self.new).told ≡ (space self.old).told }
+        ensures uncounted { (space self.new).faults ≡ (space self.old).faults }
+        ensures kept { keeps self.old self.new };
+
+    /// Begins to write a name, with no bytes. The mode has to be closed.
+    ///
+    /// `Ok`: the mode is writing the name, and its bytes are empty, whatever they were. `Failed`: the
+    /// mode is closed, and contents are as before.
+    fn start_write(&mut self, name: &str) -> Result<(), Failed>
+        requires { (space self.old).mode ≡ Closed }
+        ensures ok { OnOk result (BeginsWriting (space self.new).told name.now (space self.new).mode) }
+        ensures emptied { OnOk result ((space self.new).told ≡ emptied name.now (space self.old).told) }
+        ensures err { OnErr result ((space self.new).mode ≡ Closed) }
+        ensures same { OnErr result ((space self.new).told ≡ (space self.old).told) }
+        ensures cause { HasCause (space self.old).faults (space self.new).faults result }
+        ensures why { OnErr result (may_fail Call.StartWrite self.old self.new) }
+        ensures kept { keeps self.old self.new };
+
+    /// Writes on, from the front of `bytes`. The mode has to be writing, and `bytes` not empty.
+    ///
+    /// `Ok(count)`: the first `count` of `bytes`, at least one, were appended to the name's bytes, and
+    /// the mode is as before. `Failed`: the mode is closed, and contents are as before.
+    fn write(&mut self, bytes: &[u8]) -> Result<usize, Failed>
+        requires mode { IsWriting (space self.old).mode }
+        requires some { 0 < length bytes.now }
+        ensures ok { IfOk result (Appends (space self.old) (space self.new) bytes.now) }
+        ensures err { OnErr result ((space self.new).mode ≡ Closed) }
+        ensures same { OnErr result ((space self.new).told ≡ (space self.old).told) }
+        ensures cause { HasCause (space self.old).faults (space self.new).faults result }
+        ensures why { OnErr result (may_fail Call.Write self.old self.new) }
+        ensures moved { IfOk result (may_move self.old) }
+        ensures kept { keeps self.old self.new };
+
+    /// Ends writing. The mode has to be writing. The mode is closed and contents are as before,
+    /// whichever the answer. `Failed` says that the bytes may not have reached the disk.
+    fn finish(&mut self) -> Result<(), Failed>
+        requires { IsWriting (space self.old).mode }
+        ensures closed { (space self.new).mode ≡ Closed }
+        ensures told { (space self.new).told ≡ (space self.old).told }
+        ensures cause { HasCause (space self.old).faults (space self.new).faults result }
+        ensures why { OnErr result (may_fail Call.Finish self.old self.new) }
+        ensures kept { keeps self.old self.new };
+}

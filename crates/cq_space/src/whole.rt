@@ -1,0 +1,120 @@
+// Whole reads and writes over any file space, and whole puts into any sink.
+ghost use Rattle.std.specs.Prelude.{◌≡◌, ◌≤◌, ◌^◌};
+ghost use Rattle.cq_space.specs.Space.{Closed};
+ghost use Rattle.cq_space.specs.Whole.{ReadsWhole, WritesWhole, PutsAll};
+
+use crate::{Failed, Files, Sink};
+use std::alloc::Global;
+
+/// How many bytes are asked for at once.
+const PIECE: usize = 65_536;
+
+/// Why a name was not read whole.
+#[derive(Clone, Copy, Debug, PartialEq, Eq)]
+pub enum ReadRefusal {
+    /// There is no such name.
+    Missing,
+    /// The file space met a fault, and counted it.
+    Fault,
+    /// The name has more bytes than the limit, which is given in bytes.
+    Long { limit: u64 },
+    /// There was no memory for the bytes.
+    NoMemory,
+}
+
+/// What was to be written was not written whole: the file space or the sink met a fault, and counted
+/// it.
+#[derive(Clone, Copy, Debug, PartialEq, Eq)]
+pub struct WriteFault;
+
+/// Reads a name whole, if it has at most `limit` bytes. The mode has to be closed, and `limit` at most
+/// 2^28.
+///
+/// `Ok` has all the bytes of the name. `Missing` comes exactly where `start_read` answered false, so
+/// only where contents are told and lack the name; `Fault` only where the count of faults rose in this
+/// call, and with every other answer the count is as before; `Long` only where the name has more than
+/// `limit` bytes, of which `limit + 1` were taken. After every answer the mode is closed, and contents
+/// are as before.
+pub fn read_whole<F: Files>(
+    alloc: Global,
+    files: &mut F,
+    name: &str,
+    limit: u64,
+) -> Result<Vec<u8>, ReadRefusal>
+    requires closed { (F.space files.old).mode ≡ Closed }
+    requires limit { limit ≤ 2 ^ 28 }
+    ensures { ReadsWhole (F.space files.old) (F.space files.new) name.now limit result }
+{
+    match files.start_read(name) {
+        Ok(true) => {}
+        Ok(false) => return Err(ReadRefusal::Missing),
+        Err(Failed) => return Err(ReadRefusal::Fault),
+    }
+    let mut bytes = Vec::new(alloc);
+    let mut buf = [0u8; PIECE];
+    'pieces: while bytes.len() as u64 <= limit {
+        let room = limit + 1 - bytes.len() as u64;
+        let most = room.min(PIECE as u64) as usize;
+        let window = &mut buf[..most];
+        match files.read(window) {
+            Ok(0) => {
+                files.end_read();
+                return Ok(bytes);
+            }
+            Ok(count) => {
+                if bytes.extend_from_slice(&window[..count]).is_err() {
+                    files.end_read();
+                    return Err(ReadRefusal::NoMemory);
+                }
+            }
+            Err(Failed) => return Err(ReadRefusal::Fault),
+        }
+    }
+    files.end_read();
+    Err(ReadRefusal::Long { limit })
+}
+
+/// Writes a name whole. The mode has to be closed. It takes no memory.
+///
+/// After `Ok` the name's bytes are `bytes`. After a fault, which comes only where the count of faults
+/// rose in this call, they are as before it or a prefix of `bytes`. After every answer the mode is
+/// closed, and the bytes of all other names are as before.
+pub fn write_whole<F: Files>(files: &mut F, name: &str, bytes: &[u8]) -> Result<(), WriteFault>
+    requires { (F.space files.old).mode ≡ Closed }
+    ensures { WritesWhole (F.space files.old) (F.space files.new) name.now bytes.now result }
+{
+    if let Err(Failed) = files.start_write(name) {
+        return Err(WriteFault);
+    }
+    let mut written = 0;
+    while written < bytes.len() {
+        match files.write(&bytes[written..]) {
+            Ok(count) => written += count,
+            Err(Failed) => return Err(WriteFault),
+        }
+    }
+    match files.finish() {
+        Ok(()) => Ok(()),
+        Err(Failed) => Err(WriteFault),
+    }
+}
+
+/// Puts all the bytes into the sink. It takes no memory.
+///
+/// After `Ok` they were appended to what the sink has taken. After a fault, which comes only where the
+/// count of faults rose in this call, a prefix of them was.
+pub fn put_all<S: Sink>(sink: &mut S, bytes: &[u8]) -> Result<(), WriteFault>
+    ensures { PutsAll (S.taken sink.old) (S.taken sink.new) (S.faults sink.old) (S.faults sink.new) bytes.now result }
+{
+    let mut taken = 0;
+    while taken < bytes.len() {
+        match sink.write(&bytes[taken..]) {
+            Ok(count) => taken += count,
+            Err(Failed) => return Err(WriteFault),
+        }
+    }
+    Ok(())
+}
+
+#[cfg(test)]
+mod tests;
