@@ -1,0 +1,10 @@
+pub mod Numbers
+pub mod Headers
+pub mod Firsts
+pub mod Records
+pub mod Rows
+pub mod Writing
+pub mod SpeltIsRead
+pub mod ReadIsSpelt
+pub mod Refused
+pub mod WrittenIsSpelt

@@ -1,0 +1,6 @@
+use Rattle.std.proofs.Common.{◌≡◌, take}
+use Rattle.cq_pcap.specs.Written.{written}
+use Rattle.cq_pcap.proofs.write.capture_bytes.Given as goal
+
+abbrev pub invariant-loop-packet : goal.invariant-loop-packet
+invariant-loop-packet l = l.out.items ≡ written (take l.packet-index l.packets)

@@ -1,0 +1,156 @@
+// Captures that are read, in one pass over the bytes.
+ghost use Rattle.std.specs.Prelude.{◌≡◌, ◌+◌, ◌≤◌, ◌^◌, Ok, Err, length, IfErr, IfOk, IfSome};
+ghost use Rattle.cq_pcap.specs.Faults.{IsFaulty, fault_of};
+ghost use Rattle.cq_pcap.specs.Reading.{first_packet, header_form, packets_of};
+ghost use Rattle.cq_pcap.specs.Record.{Spells};
+ghost use Rattle.cq_pcap.specs.Rows.{AreRowsOf, IsRowOf, packets_at};
+
+use crate::form::Form;
+use crate::{Capture, PacketRow};
+use cq_base::NoMemory;
+use std::alloc::Global;
+use thiserror::Error;
+
+/// Why no capture is read. An offset is the place in the file, in bytes, of the record at fault.
+#[derive(Clone, Copy, Debug, PartialEq, Eq, Error)]
+pub enum PcapRefusal {
+    /// The file has fewer than 24 bytes.
+    #[error("no file header")]
+    NoHeader,
+    /// The first four bytes are no magic of the format.
+    #[error("not a pcap file")]
+    Magic,
+    /// The version is not 2.4.
+    #[error("not version 2.4")]
+    Version,
+    /// The link type is not Ethernet.
+    #[error("not Ethernet")]
+    LinkType,
+    /// The file ends inside a record's header.
+    #[error("cut record header at {offset}")]
+    CutHeader { offset: u64 },
+    /// The file ends inside a record's captured bytes.
+    #[error("cut record at {offset}")]
+    CutBody { offset: u64 },
+    /// A record states a captured length of more than 262,144 bytes.
+    #[error("record of {length} bytes at {offset}")]
+    LongRecord { offset: u64, length: u32 },
+    /// The places of the packets find no memory.
+    #[error("out of memory")]
+    NoMemory,
+}
+
+impl From<NoMemory> for PcapRefusal {
+    ghost use Rattle.std.specs.Prelude.{◌≡◌};
+    ghost use Rattle.cq_pcap.specs.declared.read.PcapRefusal.TheVariants.{NoMemory as none};
+
+    ghost from_gives = { λ _ e. e ≡ none };
+
+    fn from(_: NoMemory) -> Self {
+        PcapRefusal::NoMemory
+    }
+}
+
+// The bytes of a file header, and those of a record before its captured bytes.
+const FILE_HEADER: usize = 24;
+
+const RECORD_HEADER: usize = 16;
+
+const MAJOR: u16 = 2;
+
+const MINOR: u16 = 4;
+
+const ETHERNET: u32 = 1;
+
+// The most captured bytes that a record may have.
+const LONGEST: u32 = 262_144;
+
+// In nanoseconds.
+const SECOND: u64 = 1_000_000_000;
+
+// The form of a file, by its header.
+#[tactic(auto, using(std::proofs::lemmas::Bool::Decides::nat_tests), unfolding(crate::specs::Reading::header_form))]
+fn form_of(bytes: &[u8]) -> Result<Form, PcapRefusal>
+    ensures form { IfOk result (λ form. header_form bytes.now ≡ Ok form) }
+    ensures fault { IfErr result (λ refusal. IfSome (fault_of refusal) (λ fault. header_form bytes.now ≡ Err fault)) }
+{
+    if bytes.len() < FILE_HEADER {
+        return Err(PcapRefusal::NoHeader);
+    }
+    let Some(form) = Form::at(bytes) else {
+        return Err(PcapRefusal::Magic);
+    };
+    if form.order.short(bytes, 4) != MAJOR || form.order.short(bytes, 6) != MINOR {
+        return Err(PcapRefusal::Version);
+    }
+    // The link type is the lower half of its field.
+    if form.order.word(bytes, 20) % (1 << 16) != ETHERNET {
+        return Err(PcapRefusal::LinkType);
+    }
+    Ok(form)
+}
+
+// The row of the record at the front of the bytes, which begin at a place of the file.
+#[tactic(auto, using(std::proofs::lemmas::Bool::Decides::nat_tests), unfolding(crate::specs::Reading::first_packet))]
+fn row_of(form: Form, bytes: &[u8], place: usize) -> Result<PacketRow, PcapRefusal>
+    requires { place + length bytes.now ≤ 2 ^ 28 }
+    ensures row { IfOk result (λ row. IsRowOf form bytes.now place row) }
+    ensures fault { IfErr result (λ refusal. IfSome (fault_of refusal) (λ fault. first_packet form place bytes.now ≡ Err fault)) }
+{
+    let offset = place as u64;
+    if bytes.len() < RECORD_HEADER {
+        return Err(PcapRefusal::CutHeader { offset });
+    }
+    let len = form.order.word(bytes, 8);
+    if len > LONGEST {
+        return Err(PcapRefusal::LongRecord {
+            offset,
+            length: len,
+        });
+    }
+    if bytes.len() - RECORD_HEADER < len as usize {
+        return Err(PcapRefusal::CutBody { offset });
+    }
+    let seconds = u64::from(form.order.word(bytes, 0));
+    let subseconds = u64::from(form.order.word(bytes, 4));
+    Ok(PacketRow {
+        stamp: seconds * SECOND + subseconds * form.precision.nanoseconds(),
+        original: form.order.word(bytes, 12),
+        at: offset + RECORD_HEADER as u64,
+        len,
+    })
+}
+
+// The rows of the records, which fill the file from its header on.
+fn rows_of(alloc: Global, bytes: &[u8]) -> Result<Vec<PacketRow>, PcapRefusal>
+    requires { length bytes.now ≤ 2 ^ 28 }
+    ensures rows { IfOk result (λ rows. AreRowsOf bytes.now rows.items) }
+    ensures spelt { IfOk result (λ rows. Spells bytes.now (packets_at bytes.now rows.items)) }
+    ensures faulty { IfErr result (λ refusal. IfSome (fault_of refusal) (IsFaulty bytes.now)) }
+{
+    let form = form_of(bytes)?;
+    let mut rows = Vec::new(alloc);
+    let mut at = FILE_HEADER;
+    'records: while at < bytes.len() {
+        let row = row_of(form, &bytes[at..], at)?;
+        at += RECORD_HEADER + row.len as usize;
+        rows.push(row).map_err(NoMemory::from)?;
+    }
+    Ok(rows)
+}
+
+/// Reads a file of at most 2^28 bytes: the capture that its bytes spell in the pcap file format, version
+/// 2.4, in any of its four forms, or the first fault that they have.
+///
+/// The header's zone, sigfigs, snaplen and the upper half of its network field may be anything.
+/// Subseconds of any number are added to the seconds as they stand. A refusal drops the bytes.
+pub fn read_capture(alloc: Global, bytes: Vec<u8>) -> Result<Capture, PcapRefusal>
+    requires { length bytes.items ≤ 2 ^ 28 }
+    ensures spelt { IfOk result (λ packets. Spells bytes.items packets) }
+    ensures faulty { IfErr result (λ refusal. IfSome (fault_of refusal) (IsFaulty bytes.items)) }
+    ensures read { IfOk result (λ packets. packets_of bytes.items ≡ Ok packets) }
+    ensures unread { IfErr result (λ refusal. IfSome (fault_of refusal) (λ fault. packets_of bytes.items ≡ Err fault)) }
+{
+    let rows = rows_of(alloc, &bytes)?;
+    Ok(Capture::of_rows(bytes, rows))
+}
