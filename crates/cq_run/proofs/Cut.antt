@@ -1,0 +1,48 @@
+-- A cut that is told from after judging is told from before it: judging that comes to a plan leaves contents and the count of faults as they are.
+use Rattle.std.proofs.Common.{◌≡◌, ℕ, ◌∙◌, List, [], ◌∷◌, take, ap, sym, subst, inl, inr, arith}
+use Rattle.std.specs.Prelude.{Option, Result, Ok, Err, IsErrAnd}
+use Rattle.std.specs.List.{AllByRecursion}
+use Rattle.std.specs.Io.KnownBytes.{append_known}
+use Rattle.cq_space.specs.Causes.{Rose}
+use Rattle.cq_space.specs.Space.{Contents, Space, IsCutAt, replaced}
+use Rattle.cq_run.specs.declared.stop.Unwritten.{Unwritten}
+use Rattle.cq_run.specs.declared.stop.Unwritten.TheVariants.{File, Output}
+use Rattle.cq_run.specs.declared.command.Command.{Command}
+use Rattle.cq_run.specs.declared.stop.Stop.{Stop}
+use Rattle.cq_run.specs.declared.stop.Stop.TheVariants.{Cut}
+use Rattle.cq_run.specs.Plan.{Plan}
+use Rattle.cq_run.specs.Verdict.{judged, MayWrite}
+use Rattle.cq_run.specs.Judging.{Judges}
+use Rattle.cq_run.specs.Ending.{CommandEnds}
+use Rattle.cq_run.specs.World.{World, Taken}
+use Rattle.cq_run.specs.Writing.{IsCut, IsCutAtFile, IsCutShort, all_replaced}
+
+rose_from : (old mid new : ℕ) → mid ≡ old → Rose mid new → Rose old new
+rose_from old mid new l r = omega arith
+
+short_from : (w : List ℕ × List ℕ) (old mid new : Space) → mid.told ≡ old.told → mid.faults ≡ old.faults → IsCutShort w mid new → IsCutShort w old new
+short_from w old mid new t l h = record {
+  cause = rose_from old.faults mid.faults new.faults l h.cause;
+  told = let P : Option Contents → Type 0 = λ o. IsCutAt w.0 w.1 o new.told in subst P t h.told;
+}
+
+file_from : (ws : List (List ℕ × List ℕ)) (name : List ℕ) (old mid new : Space) → mid.told ≡ old.told → mid.faults ≡ old.faults → IsCutAtFile ws name mid new → IsCutAtFile ws name old new
+file_from [] name old mid new t l h = h
+file_from (w ∷ ws) name old mid new t l (inl h) = inl (h.0, short_from w old mid new t l h.1)
+file_from (w ∷ ws) name old mid new t l (inr h) =
+    inr (h.0, record { told = h.1.told ∙ ap (replaced w.0 w.1) t; uncounted = h.1.uncounted ∙ l }, h.2)
+
+cut_from : (plan : Plan) (old mid new : World) (at : Unwritten) → mid.files.told ≡ old.files.told → mid.files.faults ≡ old.files.faults → mid.out ≡ old.out → IsCut plan mid new at → IsCut plan old new at
+cut_from plan old mid new (File name) t l o h = (file_from plan.writes name old.files mid.files new.files t l h.0, h.1 ∙ o)
+cut_from plan old mid new Output t l o h = record {
+  cause = let P : Taken → Type 0 = λ s. Rose s.faults new.out.faults in subst P o h.cause;
+  told = h.told ∙ ap (all_replaced plan.writes) t;
+  out = let P : Taken → Type 0 = λ s. (n : ℕ) × (new.out.bytes ≡ append_known s.bytes (take n plan.text)) in subst P o h.out;
+}
+
+-- a command whose plan was cut short ends so
+pub cut_ends : {R : List ℕ → Type 0} (command : Command) (plan : Plan) (old mid new : World) (at : Unwritten) (end : Result (Unit {0}) Stop) → IsErrAnd end (λ stop. stop ≡ Cut at) → Judges (judged command) R old.files mid.files (Ok plan) → AllByRecursion (λ write. MayWrite command write.0) plan.writes → mid.out ≡ old.out → IsCut plan mid new at → CommandEnds command old new end
+cut_ends command plan old mid new at (Ok x) e j n o h = absurd e
+cut_ends command plan old mid new at (Err stop) e j n o h =
+    let P : Stop → Type 0 = λ s. CommandEnds command old new (Err s) in
+    subst P (sym e) (plan, record { verdict = j.ok; names = n }, cut_from plan old mid new at j.told j.uncounted o h)

@@ -1,0 +1,10 @@
+pub mod Crossing
+pub mod Leaving
+pub mod RowsRead
+pub mod Packing
+pub mod Whole
+pub mod Put
+pub mod Removed
+pub mod Cut
+pub mod Told
+pub mod Causes

@@ -1,0 +1,26 @@
+-- What holds of told contents.
+use Rattle.std.specs.Prelude.{Option, None, Some, IfSome, IsSomeAnd, MatchOption}
+
+-- a fact that follows from another
+pub told_map : {A : Type 0} (told : Option A) (P Q : A → Type 0) → ((m : A) → P m → Q m) → IfSome told P → IfSome told Q
+told_map None P Q f h = tt
+told_map (Some m) P Q f h = f m h
+
+-- a fact that always holds
+pub told_any : {A : Type 0} (told : Option A) (P : A → Type 0) → ((m : A) → P m) → IfSome told P
+told_any None P f = tt
+told_any (Some m) P f = f m
+
+-- a fact that stands beside another one for contents that are not told
+pub told_of_match : {A : Type 0} (told : Option A) (U : Type 0) (P : A → Type 0) → MatchOption told U P → IfSome told P
+told_of_match None U P h = tt
+told_of_match (Some m) U P h = h
+
+-- contents are told where the other fact cannot hold
+pub told_is_some : {A : Type 0} (told : Option A) (U : Type 0) (P : A → Type 0) → ¬ U → MatchOption told U P → IsSomeAnd told P
+told_is_some None U P n h = n h
+told_is_some (Some m) U P n h = h
+
+pub some_map : {A : Type 0} (told : Option A) (P Q : A → Type 0) → ((m : A) → P m → Q m) → IsSomeAnd told P → IsSomeAnd told Q
+some_map None P Q f h = h
+some_map (Some m) P Q f h = f m h

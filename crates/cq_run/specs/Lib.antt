@@ -1,0 +1,14 @@
+pub mod Schedule
+pub mod IdealSwitch
+pub mod PacketsOut
+pub mod Words
+pub mod Plan
+pub mod Refusals
+pub mod Verdict
+pub mod Judging
+pub mod World
+pub mod Writing
+pub mod Ending
+pub mod Line
+pub mod Answers
+pub mod StatusCauses

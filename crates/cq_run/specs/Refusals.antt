@@ -1,0 +1,45 @@
+-- What each refusal comes to: the one table from which statuses, lines and causes follow. A new refusal is one case here.
+use Rattle.std.specs.Prelude.{ℕ, Bool, true, false, List, ◌++◌, codes}
+use Rattle.cq_base.specs.declared.status.Status.{Status}
+use Rattle.cq_base.specs.declared.status.Status.TheVariants as status
+use Rattle.cq_base.specs.Decimal.{decimal}
+use Rattle.cq_pcap.specs.Faults as pcap
+use Rattle.cq_run.specs.declared.refusal.CaptureFault.{CaptureFault}
+use Rattle.cq_run.specs.declared.refusal.CaptureFault.TheVariants.{NoHeader, Magic, Version, LinkType, CutHeader, CutBody, LongRecord, Long}
+use Rattle.cq_run.specs.declared.refusal.Refusal.{Refusal}
+use Rattle.cq_run.specs.declared.refusal.Refusal.TheVariants.{Words, Missing, Capture}
+
+pub record Meaning : Type 0 where
+  -- the status of a run that ends with it
+  pub status : Status
+  -- what its line says
+  pub text : List ℕ
+  -- whether it can come where the file space does not tell its contents
+  pub untold : Bool
+
+-- a fault of the bytes of a capture is told as it is
+abbrev pub capture_fault : pcap.Fault → CaptureFault
+capture_fault pcap.NoHeader = NoHeader
+capture_fault pcap.Magic = Magic
+capture_fault pcap.Version = Version
+capture_fault pcap.LinkType = LinkType
+capture_fault (pcap.CutHeader offset) = CutHeader offset
+capture_fault (pcap.LongRecord offset len) = LongRecord offset len
+capture_fault (pcap.CutBody offset) = CutBody offset
+
+-- the number of what is wrong with a capture, with its figures
+abbrev pub fault_text : CaptureFault → List ℕ
+fault_text NoHeader = codes "1"
+fault_text Magic = codes "2"
+fault_text Version = codes "3"
+fault_text LinkType = codes "4"
+fault_text (CutHeader offset) = codes "5 at " ++ decimal offset
+fault_text (CutBody offset) = codes "6 at " ++ decimal offset
+fault_text (LongRecord offset len) = codes "7 at " ++ decimal offset ++ codes ", length " ++ decimal len
+fault_text (Long limit) = codes "8, limit " ++ decimal limit
+
+-- words are judged before any file is asked for, and a name is missed only where contents are told
+abbrev pub meaning_of : Refusal → Meaning
+meaning_of Words = record { status = status.Words; text = codes "usage: cq_switch pass IN OUT"; untold = false }
+meaning_of (Missing name) = record { status = status.ReadFault; text = codes "read fault: " ++ name; untold = false }
+meaning_of (Capture input fault) = record { status = status.Capture; text = codes "capture of input " ++ decimal input ++ codes ": " ++ fault_text fault; untold = true }

@@ -1,0 +1,73 @@
+// What words and files are refused for.
+ghost use Rattle.std.specs.Prelude.{◌≡◌};
+ghost use Rattle.std.specs.Option.{option_map};
+ghost use Rattle.cq_pcap.specs.Faults.{fault_of};
+ghost use Rattle.cq_run.specs.Refusals.{capture_fault, meaning_of};
+
+use cq_base::{Name, Status};
+use cq_pcap::PcapRefusal;
+
+/// What is wrong with a capture. An offset is the place in the file, in bytes, of the record at fault.
+#[derive(Clone, Copy, Debug, PartialEq, Eq)]
+pub enum CaptureFault {
+    /// Number 1: it has fewer than 24 bytes.
+    NoHeader,
+    /// Number 2: its first four bytes are no magic of the format.
+    Magic,
+    /// Number 3: its version is not 2.4.
+    Version,
+    /// Number 4: its link type is not Ethernet.
+    LinkType,
+    /// Number 5: it ends inside a record's header.
+    CutHeader { offset: u64 },
+    /// Number 6: it ends inside a record's captured bytes.
+    CutBody { offset: u64 },
+    /// Number 7: a record states a captured length of more than 262,144 bytes.
+    LongRecord { offset: u64, length: u32 },
+    /// Number 8: it has more than `limit` bytes.
+    Long { limit: u64 },
+}
+
+impl CaptureFault {
+    /// What is wrong with a capture that is refused so, or None for want of memory.
+    pub fn of(refusal: PcapRefusal) -> Option<CaptureFault>
+        ensures { result ≡ option_map capture_fault (fault_of refusal) }
+    {
+        match refusal {
+            PcapRefusal::NoHeader => Some(CaptureFault::NoHeader),
+            PcapRefusal::Magic => Some(CaptureFault::Magic),
+            PcapRefusal::Version => Some(CaptureFault::Version),
+            PcapRefusal::LinkType => Some(CaptureFault::LinkType),
+            PcapRefusal::CutHeader { offset } => Some(CaptureFault::CutHeader { offset }),
+            PcapRefusal::CutBody { offset } => Some(CaptureFault::CutBody { offset }),
+            PcapRefusal::LongRecord { offset, length } => {
+                Some(CaptureFault::LongRecord { offset, length })
+            }
+            PcapRefusal::NoMemory => None,
+        }
+    }
+}
+
+/// What words and files are refused for.
+#[derive(Drop)]
+pub enum Refusal {
+    /// The words are no command.
+    Words,
+    /// A name to be read is not there.
+    Missing { name: Name },
+    /// The capture of an input is at fault.
+    Capture { input: u16, fault: CaptureFault },
+}
+
+impl Refusal {
+    /// The status of a run that ends with this refusal.
+    pub fn status(&self) -> Status
+        ensures { result ≡ (meaning_of self.now).status }
+    {
+        match self {
+            Refusal::Words => Status::Words,
+            Refusal::Missing { .. } => Status::ReadFault,
+            Refusal::Capture { .. } => Status::Capture,
+        }
+    }
+}

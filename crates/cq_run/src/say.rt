@@ -1,0 +1,138 @@
+// The line that tells why a run stopped. Nothing here takes memory.
+ghost use Rattle.std.specs.Prelude.{◌++◌};
+ghost use Rattle.std.specs.List.{flat_map};
+ghost use Rattle.cq_base.specs.Decimal.{decimal};
+ghost use Rattle.cq_run.specs.World.{taken_by};
+ghost use Rattle.cq_run.specs.Refusals.{meaning_of, fault_text};
+ghost use Rattle.cq_run.specs.Line.{Puts, line, halt_text, unwritten_text, stop_text};
+
+use crate::{CaptureFault, Halt, Refusal, Stop, Unwritten};
+use cq_base::{Name, digits};
+use cq_space::{Sink, WriteFault, put_all};
+
+const READ_FAULT: &[u8; 12] = b"read fault: ";
+
+const WRITE_FAULT: &[u8; 13] = b"write fault: ";
+
+/// Puts the line of a stop. After a fault, which comes only where the sink's count of faults rose, a
+/// front of the line was put.
+pub fn say<S: Sink>(sink: &mut S, stop: &Stop) -> Result<(), WriteFault>
+    ensures { Puts (line (stop_text stop.now)) (taken_by S.taken S.faults sink.old)
+        (taken_by S.taken S.faults sink.new) result }
+{
+    match stop {
+        Stop::Halted { halt } => say_halt(sink, halt),
+        Stop::Cut { at } => say_unwritten(sink, at),
+    }
+}
+
+fn say_halt<S: Sink>(sink: &mut S, halt: &Halt) -> Result<(), WriteFault>
+    ensures { Puts (line (halt_text halt.now)) (taken_by S.taken S.faults sink.old)
+        (taken_by S.taken S.faults sink.new) result }
+{
+    match halt {
+        Halt::Refused { refusal } => say_refusal(sink, refusal),
+        Halt::Unread { name } => say_name(sink, READ_FAULT, name),
+        Halt::NoMemory => say_line(sink, b"no memory"),
+    }
+}
+
+fn say_unwritten<S: Sink>(sink: &mut S, at: &Unwritten) -> Result<(), WriteFault>
+    ensures { Puts (line (unwritten_text at.now)) (taken_by S.taken S.faults sink.old)
+        (taken_by S.taken S.faults sink.new) result }
+{
+    match at {
+        Unwritten::File { name } => say_name(sink, WRITE_FAULT, name),
+        Unwritten::Output => say_line(sink, b"write fault: -"),
+    }
+}
+
+fn say_refusal<S: Sink>(sink: &mut S, refusal: &Refusal) -> Result<(), WriteFault>
+    ensures { Puts (line (meaning_of refusal.now).text) (taken_by S.taken S.faults sink.old)
+        (taken_by S.taken S.faults sink.new) result }
+{
+    match refusal {
+        Refusal::Words => say_line(sink, b"usage: cq_switch pass IN OUT"),
+        Refusal::Missing { name } => say_name(sink, READ_FAULT, name),
+        Refusal::Capture { input, fault } => say_capture(sink, *input, *fault),
+    }
+}
+
+fn say_capture<S: Sink>(sink: &mut S, input: u16, fault: CaptureFault) -> Result<(), WriteFault>
+    ensures { Puts (line (meaning_of (Refusal.Capture input fault)).text)
+        (taken_by S.taken S.faults sink.old) (taken_by S.taken S.faults sink.new) result }
+{
+    let mut places = [0u8; 39];
+    let count = digits(u128::from(input), &mut places);
+    put_pieces(sink, &[b"capture of input ", &places[..count], b": "])?;
+    say_fault(sink, fault)
+}
+
+fn say_fault<S: Sink>(sink: &mut S, fault: CaptureFault) -> Result<(), WriteFault>
+    ensures { Puts (line (fault_text fault)) (taken_by S.taken S.faults sink.old)
+        (taken_by S.taken S.faults sink.new) result }
+{
+    match fault {
+        CaptureFault::NoHeader => say_line(sink, b"1"),
+        CaptureFault::Magic => say_line(sink, b"2"),
+        CaptureFault::Version => say_line(sink, b"3"),
+        CaptureFault::LinkType => say_line(sink, b"4"),
+        CaptureFault::CutHeader { offset } => say_number(sink, b"5 at ", offset),
+        CaptureFault::CutBody { offset } => say_number(sink, b"6 at ", offset),
+        CaptureFault::LongRecord { offset, length } => say_long_record(sink, offset, length),
+        CaptureFault::Long { limit } => say_number(sink, b"8, limit ", limit),
+    }
+}
+
+fn say_long_record<S: Sink>(sink: &mut S, offset: u64, length: u32) -> Result<(), WriteFault>
+    ensures { Puts (line (fault_text (CaptureFault.LongRecord offset length)))
+        (taken_by S.taken S.faults sink.old) (taken_by S.taken S.faults sink.new) result }
+{
+    let mut place = [0u8; 39];
+    let place_count = digits(u128::from(offset), &mut place);
+    let mut stated = [0u8; 39];
+    let stated_count = digits(u128::from(length), &mut stated);
+    put_pieces(
+        sink,
+        &[
+            b"7 at ",
+            &place[..place_count],
+            b", length ",
+            &stated[..stated_count],
+            b"\n",
+        ],
+    )
+}
+
+fn say_line<S: Sink>(sink: &mut S, text: &[u8]) -> Result<(), WriteFault>
+    ensures { Puts (line text.now) (taken_by S.taken S.faults sink.old)
+        (taken_by S.taken S.faults sink.new) result }
+{
+    put_pieces(sink, &[text, b"\n"])
+}
+
+fn say_name<S: Sink>(sink: &mut S, head: &[u8], name: &Name) -> Result<(), WriteFault>
+    ensures { Puts (line (head.now ++ name.now)) (taken_by S.taken S.faults sink.old)
+        (taken_by S.taken S.faults sink.new) result }
+{
+    put_pieces(sink, &[head, name.text().as_bytes(), b"\n"])
+}
+
+fn say_number<S: Sink>(sink: &mut S, head: &[u8], number: u64) -> Result<(), WriteFault>
+    ensures { Puts (line (head.now ++ decimal number)) (taken_by S.taken S.faults sink.old)
+        (taken_by S.taken S.faults sink.new) result }
+{
+    let mut places = [0u8; 39];
+    let count = digits(u128::from(number), &mut places);
+    put_pieces(sink, &[head, &places[..count], b"\n"])
+}
+
+fn put_pieces<S: Sink>(sink: &mut S, pieces: &[&[u8]]) -> Result<(), WriteFault>
+    ensures { Puts (flat_map (λ p. p.now) pieces.now) (taken_by S.taken S.faults sink.old)
+        (taken_by S.taken S.faults sink.new) result }
+{
+    for piece in pieces {
+        put_all(sink, piece)?;
+    }
+    Ok(())
+}

@@ -1,0 +1,45 @@
+//! The program `cq_switch`: hands the words after its name, the system's files and its standard
+//! streams to the top call, and ends with the code of its status.
+//!
+//! The module exists to be the one place that touches the system, and it decides nothing that the
+//! top call's contract speaks of. Codes 0 to 7 are those of the statuses. Code 10 is this file's own.
+#![tactic(auto)]
+
+#[cfg(test)]
+mod tests;
+
+use cq_run::switch_top;
+use cq_space::{HostFiles, HostSink};
+use std::alloc::Global;
+use std::process::ExitCode;
+use std::{env, io};
+
+/// The code where the system does not give the words. It is the code of no status.
+const NO_WORDS: u8 = 10;
+
+/// The words after the program's name. Where one is not UTF-8 there are none: the empty list is no
+/// command either, so the top call answers both alike.
+fn words_of(rt: &HostRuntime) -> io::Result<Vec<String>> {
+    let mut words = Vec::new(rt.alloc());
+    match env::args(rt) {
+        Ok(args) => {
+            for word in args.skip(1) {
+                words.push(word)?;
+            }
+        }
+        Err(error) if error.kind() == io::ErrorKind::InvalidData => {}
+        Err(error) => return Err(error),
+    }
+    Ok(words)
+}
+
+fn main(rt: HostRuntime) -> ExitCode {
+    let Ok(words) = words_of(&rt) else {
+        return ExitCode::from(NO_WORDS);
+    };
+    let mut files = HostFiles::new(&rt);
+    let mut out = HostSink::new(rt.stdout());
+    let mut err = HostSink::new(rt.stderr());
+    let status = switch_top(rt.alloc(), &words, &mut files, &mut out, &mut err);
+    ExitCode::from(status.code())
+}
