@@ -1,0 +1,12 @@
+//! The lists in which cells wait at the inputs.
+//!
+//! An input of the switch keeps its cells in one list, most wanted first, and a cell that arrives is pushed in
+//! where its urgency places it. Where it goes in is the whole rule by which the switch keeps up with an ideal
+//! one, so the contract says the place exactly.
+#![tactic(auto)]
+
+mod input_list;
+#[cfg(test)]
+mod tests;
+
+pub use input_list::InputList;

@@ -1,0 +1,71 @@
+//! Worked insertions, and the call that wants memory, with ample memory.
+ghost use Rattle.std.specs.Prelude.{◌≡◌, ◌+◌, ◌<◌, length};
+ghost use Rattle.cq_base.specs.Cells.{ArrivedBefore};
+
+use crate::InputList;
+use cq_base::{Cell, CellId, Key, Queued};
+use std::alloc::Global;
+use std::test::Fail;
+
+// A cell of input 0 for an output, with a rank, that arrived in a slot.
+fn waiting(output: u16, rank: u128, slot: u32) -> Queued
+    ensures output { result.cell.output ≡ output }
+    ensures slot { result.key.slot ≡ slot }
+{
+    Queued {
+        cell: Cell {
+            id: CellId {
+                input: 0,
+                packet: 0,
+                index: slot,
+            },
+            output,
+            class: 0,
+            last: true,
+            at: 0,
+            len: 64,
+        },
+        key: Key {
+            rank,
+            slot: slot as u64,
+            input: 0,
+        },
+    }
+}
+
+// The newest cell goes in, with a cushion that is no less than any place.
+#[tactic(auto, using(cq_base::proofs::Lists::other_key_newest, cq_base::proofs::Lists::ahead_of_end, cq_base::proofs::Lists::arrived_newest))]
+fn arrive(list: &mut InputList, queued: Queued)
+    requires spare { 0 < list.old.spare }
+    requires in_range { queued.cell.output < list.old.outputs }
+    requires newest { ArrivedBefore queued.key.slot list.old.cells }
+    ensures len { length list.new.cells ≡ length list.old.cells + 1 }
+    ensures spare { list.new.spare + 1 ≡ list.old.spare }
+    ensures outputs { list.new.outputs ≡ list.old.outputs }
+    ensures arrived { ArrivedBefore (queued.key.slot + 1) list.new.cells }
+{
+    let end = list.len();
+    list.insert(queued, end);
+}
+
+// The slots of the cells, where a cell arrives in slot 2 behind one for each of two outputs.
+fn slots_after(alloc: Global, output: u16, rank: u128) -> Result<[u64; 3], Fail>
+    requires { output < 2 }
+{
+    let mut list = InputList::new(alloc, 2, 3)?;
+    arrive(&mut list, waiting(0, 3, 0));
+    arrive(&mut list, waiting(1, 0, 1));
+    arrive(&mut list, waiting(output, rank, 2));
+    Ok([
+        list.at(0).key.slot,
+        list.at(1).key.slot,
+        list.at(2).key.slot,
+    ])
+}
+
+#[test]
+fn a_cell_goes_ahead_of_less_urgent_ones_for_its_output(rt: HostRuntime) -> Result<(), Fail> {
+    assert_eq!(rt; slots_after(rt.alloc(), 0, 1)?, [2, 0, 1]);
+    assert_eq!(rt; slots_after(rt.alloc(), 1, 5)?, [0, 1, 2]);
+    Ok(())
+}
