@@ -1,0 +1,127 @@
+-- Who holds whom in a state that events reach. The test computes what is said, and an input is held by one output at
+-- most, the one that it asked last. So the matching of the state has exactly the pairs of an output and the input that
+-- it holds.
+use Rattle.std.proofs.Common.{ℕ, ◌≡◌, ◌⊎◌, inl, inr, ◌<◌, ◌≤◌, Bool, true, ⊎_elim, List, [], ◌∷◌, length, Option, Some, None, refl, sym, ◌∙◌, ap, arith}
+use Rattle.std.specs.Prelude.{find, is_none}
+use Rattle.std.specs.List.{range_with_len}
+use Rattle.std.proofs.lemmas.Bool.{cases_lt, cond_both, ltb-true, lt-ltb, eqb-true, eq-eqb, and_parts, and_from, true≢false}
+use Rattle.std.proofs.lemmas.List.{get_or_past, ext_get_or}
+use Rattle.std.proofs.lemmas.List.FromFn.{length-map-range_with_len, get_or-map-range_with_len}
+use Rattle.cq_prefs.specs.Orders.{Orders, AreOffers, ports, outputs_of, inputs_of}
+use Rattle.cq_prefs.specs.Pairing.{Partners, partner_of, IsMatching}
+use Rattle.cq_prefs.specs.Proposals.{State, Holds, IsFree, IsSound, holds, keeper, is_free, matching_of}
+use Rattle.cq_prefs.proofs.Places.{same_at_place, input_in_range, output_in_range}
+use Rattle.cq_prefs.proofs.Members.{Among, in_range}
+
+-- ## The one that passes a test
+
+found_passes : (p : ℕ → Bool) (xs : List ℕ) (y : ℕ) → find p xs ≡ Some y → p y ≡ true
+found_passes p [] y e = absurd (let P : ⊥ = cc in P)
+found_passes p (x ∷ xs) y e =
+    cond_both (p x) (Some x) (find p xs) (λ r. r ≡ Some y → p y ≡ true)
+    (λ here r. let same : x ≡ y = cc in ap p (sym same) ∙ here)
+    (λ _ r. found_passes p xs y r) e
+
+found_only : (p : ℕ → Bool) (xs : List ℕ) (y : ℕ) → Among y xs → p y ≡ true → ((z : ℕ) → p z ≡ true → z ≡ y) → find p xs ≡ Some y
+found_only p [] y m h only = absurd m
+found_only p (x ∷ xs) y m h only =
+    cond_both (p x) (Some x) (find p xs) (λ r. r ≡ Some y)
+    (λ here. ap (λ n. Some n) (only x here))
+    (λ not_here. ⊎_elim (λ is. absurd (true≢false (sym h ∙ ap p (sym is) ∙ not_here))) (λ later. found_only p xs y later h only) m)
+
+-- ## Who is held
+
+holds-yes : (o : Orders) (s : State) (i j : ℕ) → holds o s i j ≡ true → Holds o s j i
+holds-yes o s i j h = let parts = and_parts _ _ h in (eqb-true _ _ parts.0, ltb-true _ _ parts.1)
+
+holds-from : (o : Orders) (s : State) (i j : ℕ) → Holds o s j i → holds o s i j ≡ true
+holds-from o s i j h = and_from _ _ (eq-eqb _ _ h.0) (lt-ltb _ _ h.1)
+
+-- one output at most holds an input
+pub held_once : (o : Orders) → AreOffers o → (s : State) → IsSound o s → (i j k : ℕ) → Holds o s j i → Holds o s k i → j ≡ k
+held_once o v s w i j k a b =
+    same_at_place (outputs_of o i) j k (let x = w.last i j a in let y = w.last i k b in omega arith) (v.shown_back i j a.1)
+
+keeper-holds : (o : Orders) (s : State) (i j : ℕ) → keeper o s i ≡ Some j → Holds o s j i
+unfolding keeper
+keeper-holds o s i j e = holds-yes o s i j (found_passes (holds o s i) (range_with_len 0 (ports o)) j e)
+
+keeper-from : (o : Orders) → AreOffers o → (s : State) → IsSound o s → (i j : ℕ) → Holds o s j i → keeper o s i ≡ Some j
+unfolding keeper
+keeper-from o v s w i j h =
+    let r : j < ports o = output_in_range o v i j (v.shown_back i j h.1) in
+    found_only (holds o s i) (range_with_len 0 (ports o)) j (in_range 0 (ports o) j (omega arith) (omega arith)) (holds-from o s i j h)
+    (λ k also. held_once o v s w i k j (holds-yes o s i k also) h)
+
+none_unless : (p : Option ℕ) → ((j : ℕ) → p ≡ Some j → ⊥) → p ≡ None
+none_unless None h = refl
+none_unless (Some j) h = absurd (h j refl)
+
+-- the partner of an input in the matching of the state
+pub partner-is : (o : Orders) → AreOffers o → (s : State) → (i : ℕ) → partner_of (matching_of o s) i ≡ keeper o s i
+unfolding matching_of
+partner-is o v s i = go (cases_lt i (ports o))
+  where
+    nobody : ports o ≤ i → (j : ℕ) → keeper o s i ≡ Some j → ⊥
+    nobody l j e = let r = input_in_range o i j (v.shown_back i j (keeper-holds o s i j e).1) in omega arith
+
+    go : (i < ports o) ⊎ (ports o ≤ i) → partner_of (matching_of o s) i ≡ keeper o s i
+    go (inl l) = get_or-map-range_with_len (keeper o s) 0 (ports o) i i None l (omega arith)
+    go (inr l) =
+        get_or_past (matching_of o s) i None (let e = length-map-range_with_len (keeper o s) 0 (ports o) in omega arith)
+        ∙ sym (none_unless (keeper o s i) (nobody l))
+
+-- who is matched is held, and who is held is matched
+pub partner-holds : (o : Orders) → AreOffers o → (s : State) → (i j : ℕ) → partner_of (matching_of o s) i ≡ Some j → Holds o s j i
+partner-holds o v s i j e = keeper-holds o s i j (sym (partner-is o v s i) ∙ e)
+
+pub partner-from : (o : Orders) → AreOffers o → (s : State) → IsSound o s → (i j : ℕ) → Holds o s j i → partner_of (matching_of o s) i ≡ Some j
+partner-from o v s w i j h = partner-is o v s i ∙ keeper-from o v s w i j h
+
+pub matching-of : (o : Orders) → AreOffers o → (s : State) → IsMatching o (matching_of o s)
+unfolding matching_of
+matching-of o v s =
+    record {
+      size = length-map-range_with_len (keeper o s) 0 (ports o);
+      offered = λ i j e. v.shown_back i j (partner-holds o v s i j e).1;
+      once = λ i k j e f.
+          let a = partner-holds o v s i j e in
+          let b = partner-holds o v s k j f in
+          same_at_place (inputs_of o j) i k (let x = a.0 in let y = b.0 in omega arith) a.1;
+    }
+
+-- the matching is what shows exactly who is held
+pub matching_of-is : (o : Orders) → AreOffers o → (t : State) → IsSound o t → (m : Partners) → length m ≡ ports o →
+    ((k q : ℕ) → partner_of m k ≡ Some q → Holds o t q k) → ((k q : ℕ) → Holds o t q k → partner_of m k ≡ Some q) → m ≡ matching_of o t
+matching_of-is o v t w m size there back =
+    ext_get_or None m (matching_of o t) (let a = (matching-of o v t).size in omega arith) (λ k l. at k (partner_of m k) refl)
+  where
+    at : (k : ℕ) (p : Option ℕ) → partner_of m k ≡ p → partner_of m k ≡ partner_of (matching_of o t) k
+    at k None e = e ∙ sym (none_unless _ (λ q h. let x = back k q (partner-holds o v t k q h) in let P : ⊥ = cc in P))
+    at k (Some q) e = e ∙ sym (partner-from o v t w k q (there k q e))
+
+-- ## Who is free
+
+pub partner-free : (o : Orders) → AreOffers o → (s : State) → (i : ℕ) → IsFree o s i → partner_of (matching_of o s) i ≡ None
+partner-free o v s i f = none_unless _ (λ j e. f.unheld j (partner-holds o v s i j e))
+
+none_here : (p : Option ℕ) (j : ℕ) → is_none p ≡ true → p ≡ Some j → ⊥
+none_here None j h e = let P : ⊥ = cc in P
+none_here (Some k) j h e = let P : ⊥ = cc in P
+
+none_test : (p : Option ℕ) → p ≡ None → is_none p ≡ true
+none_test p e = ap is_none e
+
+pub free_if : (o : Orders) → AreOffers o → (s : State) → IsSound o s → (i : ℕ) → is_free o s i ≡ true → IsFree o s i
+unfolding is_free
+free_if o v s w i h =
+    let parts = and_parts _ _ h in
+    record {
+      left = ltb-true _ _ parts.0;
+      unheld = λ j held. none_here (keeper o s i) j parts.1 (keeper-from o v s w i j held);
+    }
+
+pub free_only_if : (o : Orders) → AreOffers o → (s : State) → (i : ℕ) → IsFree o s i → is_free o s i ≡ true
+unfolding is_free
+free_only_if o v s i f =
+    and_from _ _ (lt-ltb _ _ f.left) (none_test (keeper o s i) (none_unless (keeper o s i) (λ j e. f.unheld j (keeper-holds o s i j e))))

@@ -1,0 +1,16 @@
+pub mod Padded
+pub mod Places
+pub mod Members
+pub mod OutputOrder
+pub mod Sorted
+pub mod InputOrder
+pub mod Scan
+pub mod ByKey
+pub mod Fill
+pub mod Pairs
+pub mod Best
+pub mod Steps
+pub mod Holders
+pub mod Passing
+pub mod Quiet
+pub mod Counts

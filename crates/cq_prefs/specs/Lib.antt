@@ -1,0 +1,5 @@
+pub mod Orders
+pub mod FirstCells
+pub mod Pairing
+pub mod Padded
+pub mod Proposals

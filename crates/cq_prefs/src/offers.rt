@@ -1,0 +1,134 @@
+//! Who offers a cell to whom, and whom each port prefers.
+ghost use Rattle.std.specs.Prelude.{◌≡◌, ◌<◌, ◌≤◌, ◌↔◌, [], All, IsSome, IfSome, IfOk, length, map, replicate};
+ghost use Rattle.cq_list.specs.InputList.{cells_of};
+ghost use Rattle.cq_prefs.specs.FirstCells.{AreOrdersOf, FirstKeysDiffer, orders_of};
+ghost use Rattle.cq_prefs.specs.Orders.{AreOffers, IsOffered, no_offers, ports, outputs_of, inputs_of, place_of, position_of};
+
+use crate::by_key::inputs_by_key;
+use crate::input_offers::{InputOffers, keys_for, offers_of};
+use crate::preference::Preference;
+use cq_base::{NoMemory, Port};
+use cq_list::InputList;
+use std::alloc::Global;
+use std::marker::Model;
+
+/// The offers of a switch: per input its order of outputs, and per output its order of inputs, the most wanted
+/// first.
+#[derive(Drop)]
+pub struct Offers {
+    by_input: Vec<InputOffers>,
+    by_output: Vec<Preference>,
+}
+
+impl Model for Offers {
+    ghost use Rattle.std.specs.Prelude.{◌≤◌, map};
+    ghost use Rattle.cq_prefs.specs.Orders.{Orders, AreOffers, ports};
+
+    ghost Value = { Orders };
+
+    ghost view = { λ a. record { outputs = map (λ o. o.outputs) a.by_input.items; inputs = a.by_output.items } };
+
+    ghost invariant = { λ a.
+        let o : Orders = record { outputs = map (λ o. o.outputs) a.by_input.items; inputs = a.by_output.items } in
+        AreOffers o × (ports o ≤ 64) };
+}
+
+// So many inputs that offer nothing.
+fn no_inputs(alloc: Global, ports: u16) -> Result<Vec<InputOffers>, NoMemory>
+    ensures { IfOk result (λ inputs. map (λ o. o.outputs) inputs.items ≡ replicate ports []) }
+{
+    let mut inputs = Vec::new(alloc);
+    inputs.resize(ports as usize, InputOffers::none())?;
+    Ok(inputs)
+}
+
+// So many outputs that are offered nothing.
+fn no_outputs(alloc: Global, ports: u16) -> Result<Vec<Preference>, NoMemory>
+    ensures { IfOk result (λ outputs. outputs.items ≡ replicate ports []) }
+{
+    let mut outputs = Vec::new(alloc);
+    outputs.resize(ports as usize, Preference::none())?;
+    Ok(outputs)
+}
+
+impl Offers {
+    /// Nothing is offered, over so many inputs and as many outputs. The error is want of memory.
+    pub fn new(alloc: Global, ports: u16) -> Result<Offers, NoMemory>
+        requires { ports ≤ 64 }
+        ensures { IfOk result (λ offers. offers ≡ no_offers ports) }
+    {
+        Ok(Offers {
+            by_input: no_inputs(alloc, ports)?,
+            by_output: no_outputs(alloc, ports)?,
+        })
+    }
+
+    /// The same offers once more. The error is want of memory.
+    pub fn copy(&self, alloc: Global) -> Result<Offers, NoMemory>
+        ensures { IfOk result (λ offers. offers ≡ self.now) }
+    {
+        Ok(Offers {
+            by_input: Vec::from_slice(alloc, &self.by_input)?,
+            by_output: Vec::from_slice(alloc, &self.by_output)?,
+        })
+    }
+
+    /// The offers of lists of cells, one list for each input and each over as many outputs as there are inputs.
+    /// Input i and output j are offered to each other where list i has a cell for j. An input prefers the outputs
+    /// in the order of its first cells for them, an output prefers the inputs by the keys of these cells.
+    ///
+    /// Each list is read once. It takes no memory.
+    pub fn fill(&mut self, lists: &[InputList])
+        requires lists { length lists.now ≡ ports self.old }
+        requires outputs { All (λ list. list.outputs ≡ ports self.old) lists.now }
+        ensures orders { self.new ≡ orders_of (cells_of lists.now) }
+        ensures first_cells { FirstKeysDiffer (cells_of lists.now) → AreOrdersOf (cells_of lists.now) self.new }
+    {
+        offers_of(&mut self.by_input, lists);
+        for output in 0..lists.len() {
+            let keys = keys_for(&self.by_input, output as Port);
+            self.by_output[output] = inputs_by_key(&keys[..lists.len()]);
+        }
+    }
+
+    /// The number of inputs, and of outputs.
+    pub fn ports(&self) -> u16
+        ensures value { result ≡ ports self.now }
+        ensures offers { AreOffers self.now }
+        ensures few { ports self.now ≤ 64 }
+    {
+        self.by_input.len() as u16
+    }
+
+    /// The outputs for which an input has a cell, the most wanted first.
+    pub fn outputs_of(&self, input: Port) -> &[Port]
+        requires { input < ports self.now }
+        ensures { result.now ≡ outputs_of self.now input }
+    {
+        self.by_input[input as usize].outputs.as_slice()
+    }
+
+    /// The inputs that have a cell for an output, the most wanted first.
+    pub fn inputs_of(&self, output: Port) -> &[Port]
+        requires { output < ports self.now }
+        ensures { result.now ≡ inputs_of self.now output }
+    {
+        self.by_output[output as usize].as_slice()
+    }
+
+    /// The place of an output in the order of an input, or None where they are not offered to each other.
+    pub fn place_of(&self, input: Port, output: Port) -> Option<u16>
+        ensures offered { IsSome result ↔ IsOffered self.now input output }
+        ensures place { IfSome result (λ place. place ≡ place_of self.now input output) }
+    {
+        self.by_input.get(input as usize)?.outputs.place_of(output)
+    }
+
+    /// The place of an input in the order of an output, or None where they are not offered to each other.
+    pub fn position_of(&self, output: Port, input: Port) -> Option<u16>
+        ensures offered { IsSome result ↔ IsOffered self.now input output }
+        ensures position { IfSome result (λ position. position ≡ position_of self.now output input) }
+    {
+        self.by_output.get(output as usize)?.place_of(input)
+    }
+}
