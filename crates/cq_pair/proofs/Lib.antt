@@ -1,0 +1,4 @@
+pub mod Waiting
+pub mod Turns
+pub mod Reached
+pub mod Proposing

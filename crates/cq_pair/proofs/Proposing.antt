@@ -1,0 +1,206 @@
+-- The steps of one proposal put together: the input goes on to its next place, whom the output held is parted, and the
+-- output takes the input. What is then shown is the state after the event, with its pairs, its free inputs and its count.
+use Rattle.std.proofs.Common.{ℕ, ◌≡◌, ◌≢◌, ◌+◌, ◌*◌, ◌<◌, ◌≤◌, ◌∷◌, mul-le-mul, true, false, eqb, ltb, List, length, get_or, set, Some, None, refl, sym, ◌∙◌, ap, arith, subst}
+use Rattle.std.proofs.lemmas.Bool.{lt-ltb, le-ltb, eq-eqb, ne_eqb}
+use Rattle.std.proofs.lemmas.List.{get_or-set_other, length-set}
+use Rattle.cq_prefs.specs.Orders.{Orders, ports, inputs_of, position_of}
+use Rattle.cq_prefs.specs.Pairing.{partner_of, IsFreeInput, IsFreeOutput}
+use Rattle.cq_prefs.specs.Proposals.{State, position_held, next_place, Holds, IsFree, IsSound, next_output, holder, propose, outcome_of, matching_of}
+use Rattle.cq_prefs.specs.declared.outcome.Outcome.{Outcome}
+use Rattle.cq_prefs.specs.declared.outcome.Outcome.TheVariants.{Held, Displaced, Rejected}
+use Rattle.cq_prefs.proofs.Places.{input_in_range, inputs_at_most}
+use Rattle.cq_prefs.proofs.Counts.{events_at_most}
+use Rattle.cq_prefs.proofs.Holders.{matching-of, partner-free, partner-from}
+use Rattle.cq_pair.specs.Progress.{Progress, IsReached, IsAsk, MovesOn, Parts, Takes}
+use Rattle.cq_pair.proofs.Turns.{state-refused, state-taken, matching-refused, unheld-empty, matching-empty, holder-is, unheld-parted, matching-displaced}
+use Rattle.cq_pair.proofs.Reached.{sound-reached, free_known, asked_known, asked_offered, reached-step}
+
+-- what is shown after the proposal of input i
+pub record Proposed (o : Orders) (c d : Progress) (i : ℕ) (outcome : Outcome) : Type 0 where
+  pub reached : IsReached o d
+  pub event : d.state ≡ propose o c.state i
+  pub made : d.made ≡ c.made + 1
+  pub answer : outcome ≡ outcome_of o c.state i
+
+sound : (o : Orders) (c : Progress) (i j p h : ℕ) → IsAsk o c i j p h → IsSound o c.state
+sound o c i j p h a = sound-reached o a.offers c a.reached
+
+pub input_known : (o : Orders) (c : Progress) (i j p h : ℕ) → IsAsk o c i j p h → i < ports o
+input_known o c i j p h a = free_known o a.offers c a.reached i a.free
+
+next_known : (o : Orders) (c : Progress) (i j p h : ℕ) → IsAsk o c i j p h → next_output o c.state i < ports o
+next_known o c i j p h a = asked_known o a.offers c a.reached i a.free
+
+pub output_known : (o : Orders) (c : Progress) (i j p h : ℕ) → IsAsk o c i j p h → j < ports o
+output_known o c i j p h a = rw a.output (next_known o c i j p h a)
+
+-- the output does not hold the input already
+taken_less : (o : Orders) (c : Progress) (i j p h : ℕ) → IsAsk o c i j p h → p ≤ h → position_of o (next_output o c.state i) i < position_held c.state (next_output o c.state i)
+taken_less o c i j p h a l =
+    let shown = a.offers.shown i (next_output o c.state i) (asked_offered o a.offers c i a.free) in
+    let apart : position_held c.state (next_output o c.state i) ≢ position_of o (next_output o c.state i) i = λ e. a.free.unheld (next_output o c.state i) (e, shown) in
+    let x = a.position in let y = a.held in omega arith
+
+-- there is one proposal more to make
+pub few_made : (o : Orders) (c : Progress) (i j p h : ℕ) → IsAsk o c i j p h → ports o ≤ 64 → c.made < 4096
+few_made o c i j p h a few =
+    let F : State → Type 0 = λ s. IsFree o s i in
+    let r = a.reached in
+    let most = events_at_most o a.offers (i ∷ r.events) (r.are_events, subst F r.state a.free) in
+    let square : ports o * ports o ≤ 64 * 64 = mul-le-mul few few in
+    let m = r.made in omega arith
+
+state_from : (s t : State) → s.positions ≡ t.positions → s.places ≡ t.places → s ≡ t
+state_from s t e f = λ k. record { positions = e k; places = f k }
+
+-- after the input went on
+pub sizes : (o : Orders) (c : Progress) (i j p h : ℕ) → IsAsk o c i j p h → (d : Progress) → MovesOn o c d i → (length d.state.places ≡ ports o) × (length d.matching ≡ ports o)
+sizes o c i j p h a d m = (
+  let e = ap length m.places in let f = length-set c.state.places i (next_place c.state i + 1) in let g = (sound o c i j p h a).inputs in omega arith,
+  ap length (m.matching ∙ a.reached.matching) ∙ (matching-of o a.offers c.state).size,
+)
+
+-- ## The output keeps whom it holds
+
+pub rejected : (o : Orders) (c : Progress) (i j p h : ℕ) → IsAsk o c i j p h → h < p → (d : Progress) → MovesOn o c d i → Proposed o c d i Rejected
+unfolding outcome_of
+rejected o c i j p h a less d m =
+    let x = a.position in
+    let y = a.held in
+    let w = sound o c i j p h a in
+    let more : position_held c.state (next_output o c.state i) ≤ position_of o (next_output o c.state i) i = omega arith in
+    let most = inputs_at_most o a.offers (next_output o c.state i) in
+    let shown = a.offers.shown i (next_output o c.state i) (asked_offered o a.offers c i a.free) in
+    let somebody : eqb (position_held c.state (next_output o c.state i)) (ports o) ≡ false = ne_eqb _ _ (λ e. omega arith) in
+    let keeps : ltb (position_of o (next_output o c.state i) i) (position_held c.state (next_output o c.state i)) ≡ false = le-ltb _ _ more in
+    let event : d.state ≡ propose o c.state i = state_from d.state (record { positions = c.state.positions; places = set c.state.places i (next_place c.state i + 1) }) m.positions m.places ∙ sym (state-refused o c.state i more) in
+    record {
+      reached = reached-step o a.offers c d i a.reached a.free event (m.matching ∙ a.reached.matching ∙ matching-refused o a.offers c.state w i a.free more) m.waiting m.made;
+      event = event;
+      made = m.made;
+      answer = rw (somebody, keeps) refl;
+    }
+
+-- ## The output takes the input
+
+taken : (o : Orders) (c : Progress) (i j p h : ℕ) → IsAsk o c i j p h → p ≤ h → (d e f : Progress) → MovesOn o c d i → e.state ≡ d.state → Takes o e f i j p → f.state ≡ propose o c.state i
+taken o c i j p h a l d e f m same t =
+    state_from f.state (record { positions = set c.state.positions (next_output o c.state i) (position_of o (next_output o c.state i) i); places = set c.state.places i (next_place c.state i + 1) })
+    (
+    t.positions
+    ∙ ap (λ s. set s.positions j p) same
+    ∙ ap (λ ps. set ps j p) m.positions
+    ∙ ap (λ n. set c.state.positions n p) a.output
+    ∙ ap (set c.state.positions (next_output o c.state i)) a.position
+    )
+    (t.places ∙ ap (λ s. s.places) same ∙ m.places)
+    ∙ sym (state-taken o c.state i (taken_less o c i j p h a l))
+
+-- it held nobody
+pub free_input : (o : Orders) (c : Progress) (i j p h : ℕ) → IsAsk o c i j p h → (d : Progress) → MovesOn o c d i → (i < length d.matching) × IsFreeInput d.matching i
+free_input o c i j p h a d m =
+    let known = input_known o c i j p h a in
+    let e : d.matching ≡ matching_of o c.state = m.matching ∙ a.reached.matching in
+    (let z = (matching-of o a.offers c.state).size in let y = ap length e in omega arith, ap (λ l. partner_of l i) e ∙ partner-free o a.offers c.state i a.free)
+
+pub free_output : (o : Orders) (c : Progress) (i j p h : ℕ) → IsAsk o c i j p h → h ≡ ports o → (d : Progress) → MovesOn o c d i → (j < length d.matching) × IsFreeOutput d.matching j
+free_output o c i j p h a nobody d m =
+    let known = output_known o c i j p h a in
+    let e : d.matching ≡ matching_of o c.state = m.matching ∙ a.reached.matching in
+    let empty : position_held c.state j ≡ ports o = ap (position_held c.state) a.output ∙ sym a.held ∙ nobody in
+    (let z = (matching-of o a.offers c.state).size in let y = ap length e in omega arith, λ k s. unheld-empty o a.offers c.state (sound o c i j p h a) j empty k (ap (λ l. partner_of l k) (sym e) ∙ s))
+
+pub holding : (o : Orders) (c : Progress) (i j p h : ℕ) → IsAsk o c i j p h → p ≤ h → h ≡ ports o → (d e : Progress) → MovesOn o c d i → Takes o d e i j p → Proposed o c e i Held
+unfolding outcome_of
+holding o c i j p h a l nobody d e m t =
+    let event = taken o c i j p h a l d d e m refl t in
+    let w = sound o c i j p h a in
+    let empty : position_held c.state (next_output o c.state i) ≡ ports o = sym a.held ∙ nobody in
+    let yes : eqb (position_held c.state (next_output o c.state i)) (ports o) ≡ true = eq-eqb _ _ empty in
+    let held : d.matching ≡ matching_of o c.state = m.matching ∙ a.reached.matching in
+    let matching : e.matching ≡ matching_of o (propose o c.state i) =
+    t.matching ∙ ap (λ n. set n i (Some j)) held ∙ ap (λ n. set (matching_of o c.state) i (Some n)) a.output
+    ∙ matching-empty o a.offers c.state w i a.free (taken_less o c i j p h a l) empty in
+    record {
+      reached = reached-step o a.offers c e i a.reached a.free event matching t.waiting (t.made ∙ m.made);
+      event = event;
+      made = t.made ∙ m.made;
+      answer = rw yes refl;
+    }
+
+-- ## It held another input
+
+other_held : (o : Orders) (c : Progress) (i j p h : ℕ) → IsAsk o c i j p h → h ≢ ports o → position_held c.state (next_output o c.state i) ≢ ports o
+other_held o c i j p h a n e = n (a.held ∙ e)
+
+pub is_holder : (o : Orders) (c : Progress) (i j p h k : ℕ) (order : List ℕ) → IsAsk o c i j p h → order ≡ inputs_of o j → k ≡ get_or order h 0 → k ≡ holder o c.state (next_output o c.state i)
+is_holder o c i j p h k order a e f =
+    f ∙ ap (λ l. get_or l h 0) (e ∙ ap (inputs_of o) a.output) ∙ ap (λ n. get_or (inputs_of o (next_output o c.state i)) n 0) a.held
+
+holds_other : (o : Orders) (c : Progress) (i j p h k : ℕ) → IsAsk o c i j p h → h ≢ ports o → k ≡ holder o c.state (next_output o c.state i) → Holds o c.state (next_output o c.state i) k
+holds_other o c i j p h k a n e =
+    let P : ℕ → Type 0 = λ x. Holds o c.state (next_output o c.state i) x in
+    subst P (sym e) (holder-is o a.offers c.state (sound o c i j p h a) (next_output o c.state i) (next_known o c i j p h a) (other_held o c i j p h a n)).1
+
+pub held_inside : (o : Orders) (c : Progress) (i j p h : ℕ) → IsAsk o c i j p h → h ≢ ports o → h < length (inputs_of o j)
+held_inside o c i j p h a n =
+    let b = (holder-is o a.offers c.state (sound o c i j p h a) (next_output o c.state i) (next_known o c i j p h a) (other_held o c i j p h a n)).0 in
+    let e = ap (λ x. length (inputs_of o x)) a.output in
+    let y = a.held in omega arith
+
+pub other_known : (o : Orders) (c : Progress) (i j p h k : ℕ) → IsAsk o c i j p h → h ≢ ports o → k ≡ holder o c.state (next_output o c.state i) → k < ports o
+other_known o c i j p h k a n e =
+    input_in_range o k (next_output o c.state i) (a.offers.shown_back k (next_output o c.state i) (holds_other o c i j p h k a n e).1)
+
+pub other_has_partner : (o : Orders) (c : Progress) (i j p h k : ℕ) → IsAsk o c i j p h → h ≢ ports o → k ≡ holder o c.state (next_output o c.state i) → (d : Progress) → MovesOn o c d i → partner_of d.matching k ≢ None
+other_has_partner o c i j p h k a n e d m none =
+    let had = partner-from o a.offers c.state (sound o c i j p h a) k (next_output o c.state i) (holds_other o c i j p h k a n e) in
+    let same = ap (λ l. partner_of l k) (m.matching ∙ a.reached.matching) in
+    let P : ⊥ = cc in P
+
+parted : (o : Orders) (c : Progress) (i j p h k : ℕ) → IsAsk o c i j p h → k ≡ holder o c.state (next_output o c.state i) → (d e : Progress) → MovesOn o c d i → Parts o d e k →
+    e.matching ≡ set (matching_of o c.state) (holder o c.state (next_output o c.state i)) None
+parted o c i j p h k a is d e m s =
+    s.matching
+    ∙ ap (λ l. set l k None) (m.matching ∙ a.reached.matching)
+    ∙ ap (λ n. set (matching_of o c.state) n None) is
+
+pub free_input_then : (o : Orders) (c : Progress) (i j p h k : ℕ) → IsAsk o c i j p h → h ≢ ports o → k ≡ holder o c.state (next_output o c.state i) → (d e : Progress) → MovesOn o c d i → Parts o d e k →
+    (i < length e.matching) × IsFreeInput e.matching i
+free_input_then o c i j p h k a n is d e m s =
+    let f = free_input o c i j p h a d m in
+    let apart : i ≢ k = λ same. a.free.unheld (next_output o c.state i) (let P : ℕ → Type 0 = λ x. Holds o c.state (next_output o c.state i) x in subst P (sym same) (holds_other o c i j p h k a n is)) in (
+      let z = length-set d.matching k None in let y = f.0 in let x = ap length s.matching in omega arith,
+      ap (λ l. partner_of l i) s.matching ∙ get_or-set_other d.matching k i None None apart ∙ f.1,
+    )
+
+pub free_output_then : (o : Orders) (c : Progress) (i j p h k : ℕ) → IsAsk o c i j p h → h ≢ ports o → k ≡ holder o c.state (next_output o c.state i) → (d e : Progress) → MovesOn o c d i → Parts o d e k →
+    (j < length e.matching) × IsFreeOutput e.matching j
+free_output_then o c i j p h k a n is d e m s =
+    let known = output_known o c i j p h a in
+    let q = parted o c i j p h k a is d e m s in (
+      let z = length-set (matching_of o c.state) (holder o c.state (next_output o c.state i)) None in let y = (matching-of o a.offers c.state).size in let x = ap length q in omega arith,
+      λ l t. unheld-parted o a.offers c.state (sound o c i j p h a) (next_output o c.state i) (next_known o c i j p h a) (other_held o c i j p h a n) l
+          (ap (λ r. partner_of r l) (sym q) ∙ t ∙ ap (λ r. Some r) a.output),
+    )
+
+pub displaced : (o : Orders) (c : Progress) (i j p h k : ℕ) → IsAsk o c i j p h → p ≤ h → h ≢ ports o → k ≡ holder o c.state (next_output o c.state i) →
+    (d e f : Progress) → MovesOn o c d i → Parts o d e k → Takes o e f i j p → Proposed o c f i (Displaced k)
+unfolding outcome_of
+displaced o c i j p h k a l n is d e f m s t =
+    let event = taken o c i j p h a l d e f m s.state t in
+    let w = sound o c i j p h a in
+    let other = other_held o c i j p h a n in
+    let less = taken_less o c i j p h a l in
+    let somebody : eqb (position_held c.state (next_output o c.state i)) (ports o) ≡ false = ne_eqb _ _ other in
+    let takes : ltb (position_of o (next_output o c.state i) i) (position_held c.state (next_output o c.state i)) ≡ true = lt-ltb _ _ less in
+    let matching : f.matching ≡ matching_of o (propose o c.state i) =
+    t.matching ∙ ap (λ r. set r i (Some j)) (parted o c i j p h k a is d e m s)
+    ∙ ap (λ r. set (set (matching_of o c.state) (holder o c.state (next_output o c.state i)) None) i (Some r)) a.output
+    ∙ matching-displaced o a.offers c.state w i a.free less other in
+    record {
+      reached = reached-step o a.offers c f i a.reached a.free event matching t.waiting (t.made ∙ s.made ∙ m.made);
+      event = event;
+      made = t.made ∙ s.made ∙ m.made;
+      answer = rw (somebody, takes) (let D : ℕ → Outcome = λ x. Displaced x in ap D is);
+    }

@@ -1,0 +1,6 @@
+use Rattle.std.proofs.Common.{◌∙◌, ap, take}
+use Rattle.std.proofs.lemmas.List.{take-replicate}
+use Rattle.cq_pair.proofs.per_port.PerPort.all.Goals as goal
+
+pub returns : goal.returns
+returns c = ap (take c.args.ports) c.filled.ensures ∙ take-replicate c.args.ports 64 c.args.number c.requires

@@ -1,0 +1,2 @@
+pub mod FreeInputs
+pub mod Progress

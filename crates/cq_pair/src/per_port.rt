@@ -1,0 +1,58 @@
+//! A number for each port.
+ghost use Rattle.std.specs.Prelude.{◌≡◌, ◌<◌, ◌≤◌, length, replicate, slice_index, slice_set};
+
+use cq_base::Port;
+use std::marker::Model;
+
+/// A number for each of at most 64 ports. It takes no memory. Contracts see the list of the numbers.
+#[derive(Drop)]
+pub struct PerPort {
+    ports: u16,
+    numbers: [u16; 64],
+}
+
+impl Model for PerPort {
+    ghost use Rattle.std.specs.Prelude.{ℕ, ◌≡◌, ◌≤◌, List, length, take};
+
+    ghost Value = { List ℕ };
+
+    ghost view = { λ a. take a.ports a.numbers };
+
+    ghost invariant = { λ a. (a.ports ≤ 64) × (length a.numbers ≡ 64) };
+}
+
+// The same number in all places.
+fn filled(number: u16) -> [u16; 64]
+    ensures { result ≡ replicate 64 number }
+{
+    [number; 64]
+}
+
+impl PerPort {
+    /// The same number for each of so many ports.
+    pub fn all(ports: u16, number: u16) -> PerPort
+        requires { ports ≤ 64 }
+        ensures { result ≡ replicate ports number }
+    {
+        PerPort {
+            ports,
+            numbers: filled(number),
+        }
+    }
+
+    /// The number of a port.
+    pub fn at(&self, port: Port) -> u16
+        requires { port < length self.now }
+        ensures { result ≡ slice_index self.now port }
+    {
+        self.numbers[port as usize]
+    }
+
+    /// Gives a port another number.
+    pub fn set(&mut self, port: Port, number: u16)
+        requires { port < length self.old }
+        ensures { self.new ≡ slice_set self.old port number }
+    {
+        self.numbers[port as usize] = number;
+    }
+}

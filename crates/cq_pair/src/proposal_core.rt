@@ -1,0 +1,210 @@
+//! Proposals, one at a time.
+ghost use Rattle.std.specs.Prelude.{◌≡◌, ◌≢◌, ◌<◌, ◌≤◌, ◌+◌, [], length, None};
+ghost use Rattle.cq_prefs.specs.Orders.{AreOffers, IsOffered, ports, outputs_of, position_of};
+ghost use Rattle.cq_prefs.specs.Pairing.{IsFreeInput, IsFreeOutput, IsInputBest, partner_of, proposals};
+ghost use Rattle.cq_prefs.specs.Proposals.{IsFree, next_output, next_place, outcome_of, position_held, propose, start};
+ghost use Rattle.cq_pair.specs.Progress.{IsAsk, IsReached, MovesOn, Parts, ShowsWaiting, Takes};
+
+use crate::free_inputs::FreeInputs;
+use crate::order::Order;
+use crate::per_port::PerPort;
+use cq_base::Port;
+use cq_prefs::{Matching, Offers, Outcome};
+use std::marker::Model;
+
+/// Inputs that propose, each down its order, and outputs that keep the best of them. It has a fixed size and
+/// takes no memory. Contracts see the positions that the outputs hold, the places where the inputs propose next,
+/// the pairs of those who are held, the free inputs, and how many proposals were made.
+///
+/// An input is free where no output holds it and its order has an output to which it has not proposed.
+#[derive(Drop)]
+pub struct Core {
+    positions: PerPort,
+    places: PerPort,
+    matching: Matching,
+    free: FreeInputs,
+    made: u64,
+}
+
+impl Model for Core {
+    ghost use Rattle.cq_pair.specs.Progress.{Progress};
+
+    ghost Value = { Progress };
+
+    ghost view = { λ a. record {
+      state = record { positions = a.positions; places = a.places };
+      matching = a.matching;
+      free = a.free;
+      made = a.made;
+    } };
+}
+
+// The output to which an input proposes, the input's position there, and the position that the output holds.
+#[derive(Clone, Copy)]
+struct Asked {
+    output: Port,
+    position: u16,
+    held: u16,
+}
+
+impl Core {
+    /// No output holds anybody, and no proposal was made.
+    pub fn begin(offers: &Offers) -> Core
+        ensures reached { IsReached offers.now result }
+        ensures state { result.state ≡ start offers.now }
+        ensures made { result.made ≡ 0 }
+    {
+        let ports = offers.ports();
+        Core {
+            positions: PerPort::all(ports, ports),
+            places: PerPort::all(ports, 0),
+            matching: Matching::none(ports),
+            free: FreeInputs::with_offers(offers),
+            made: 0,
+        }
+    }
+
+    /// The free inputs in order of number.
+    pub fn free(&self) -> &[Port]
+        ensures { result.now ≡ self.now.free }
+    {
+        self.free.as_slice()
+    }
+
+    /// A free input proposes to the next output of its order. The output takes it where it holds nobody, or holds
+    /// an input that it prefers less, which is displaced.
+    pub fn propose(&mut self, offers: &Offers, input: Port) -> Outcome
+        requires reached { IsReached offers.now self.old }
+        requires free { IsFree offers.now self.old.state input }
+        ensures reached { IsReached offers.now self.new }
+        ensures event { self.new.state ≡ propose offers.now self.old.state input }
+        ensures made { self.new.made ≡ self.old.made + 1 }
+        ensures outcome { result ≡ outcome_of offers.now self.old.state input }
+    {
+        let asked = self.asked_by(offers, input);
+        self.move_on(offers, input);
+        if asked.held < asked.position {
+            return Outcome::Rejected;
+        }
+        if asked.held == offers.ports() {
+            self.take(offers, input, asked.output, asked.position);
+            return Outcome::Held;
+        }
+        let other = offers.inputs_of(asked.output)[asked.held as usize];
+        self.part(offers, other);
+        self.take(offers, input, asked.output, asked.position);
+        Outcome::Displaced(other)
+    }
+
+    /// Free inputs propose until nobody is free. `order` says which of them proposes next. What comes of it does
+    /// not depend on that: the matching that is best for the inputs, after as many proposals as it has.
+    pub fn settle<O: Order>(&mut self, offers: &Offers, order: &mut O)
+        requires { IsReached offers.now self.old }
+        ensures reached { IsReached offers.now self.new }
+        ensures nobody_free { self.new.free ≡ [] }
+        ensures best { IsInputBest offers.now self.new.matching }
+        ensures proposals { self.new.made ≡ proposals offers.now self.new.matching }
+    {
+        let _ports = offers.ports();
+        while !self.free().is_empty() {
+            let chosen = order.choose(self.free());
+            let input = self.free()[chosen];
+            self.propose(offers, input);
+        }
+    }
+
+    /// The pairs of each output and the input that it holds.
+    pub fn matching(&self) -> Matching
+        ensures { result ≡ self.now.matching }
+    {
+        self.matching
+    }
+
+    /// How many proposals were made.
+    pub fn made(&self) -> u64
+        ensures { result ≡ self.now.made }
+    {
+        self.made
+    }
+
+    // The output to which a free input proposes next.
+    fn next_output(&self, offers: &Offers, input: Port) -> Port
+        requires reached { IsReached offers.now self.now }
+        requires free { IsFree offers.now self.now.state input }
+        ensures { result ≡ next_output offers.now self.now.state input }
+    {
+        let _ports = offers.ports();
+        offers.outputs_of(input)[self.places.at(input) as usize]
+    }
+
+    // What a free input asks, and how it stands there.
+    fn asked_by(&self, offers: &Offers, input: Port) -> Asked
+        requires reached { IsReached offers.now self.now }
+        requires free { IsFree offers.now self.now.state input }
+        ensures ask { IsAsk offers.now self.now input result.output result.position result.held }
+        ensures few { ports offers.now ≤ 64 }
+    {
+        let _ports = offers.ports();
+        let output = self.next_output(offers, input);
+        let position = match offers.position_of(output, input) {
+            Some(position) => position,
+            None => unreachable!(),
+        };
+        let held = self.positions.at(output);
+        Asked {
+            output,
+            position,
+            held,
+        }
+    }
+
+    // An input goes on to its next place.
+    fn move_on(&mut self, offers: &Offers, input: Port)
+        requires input { input < length self.old.state.places }
+        requires known { input < ports offers.now }
+        requires left { next_place self.old.state input < length (outputs_of offers.now input) }
+        requires few { length (outputs_of offers.now input) ≤ 64 }
+        requires count { self.old.made < 4096 }
+        requires waiting { ShowsWaiting offers.now self.old }
+        ensures { MovesOn offers.now self.old self.new input }
+    {
+        self.made += 1;
+        let next = self.places.at(input) + 1;
+        self.places.set(input, next);
+        if next as usize == offers.outputs_of(input).len() {
+            self.free.remove(input);
+        }
+    }
+
+    // An input is parted from its partner, and is free if it has an output left.
+    fn part(&mut self, offers: &Offers, input: Port)
+        requires input { input < length self.old.state.places }
+        requires known { input < ports offers.now }
+        requires few { ports offers.now ≤ 64 }
+        requires matching { length self.old.matching ≡ ports offers.now }
+        requires partner { partner_of self.old.matching input ≢ None }
+        requires waiting { ShowsWaiting offers.now self.old }
+        ensures { Parts offers.now self.old self.new input }
+    {
+        self.matching.part(input);
+        let next = self.places.at(input) as usize;
+        if next < offers.outputs_of(input).len() {
+            self.free.insert(input);
+        }
+    }
+
+    // An output takes an input that has this position there.
+    fn take(&mut self, offers: &Offers, input: Port, output: Port, position: u16)
+        requires input { input < length self.old.matching }
+        requires output { output < length self.old.matching }
+        requires positions { output < length self.old.state.positions }
+        requires free_input { IsFreeInput self.old.matching input }
+        requires free_output { IsFreeOutput self.old.matching output }
+        requires waiting { ShowsWaiting offers.now self.old }
+        ensures { Takes offers.now self.old self.new input output position }
+    {
+        self.positions.set(output, position);
+        self.matching.join(input, output);
+        self.free.remove(input);
+    }
+}
