@@ -10,7 +10,7 @@ use Rattle.cq_prefs.specs.declared.outcome.Outcome.{Outcome}
 use Rattle.cq_prefs.specs.declared.outcome.Outcome.TheVariants.{Held, Displaced, Rejected}
 use Rattle.cq_prefs.proofs.Places.{input_in_range, inputs_at_most}
 use Rattle.cq_prefs.proofs.Counts.{events_at_most}
-use Rattle.cq_prefs.proofs.Holders.{matching-of, partner-free, partner-from}
+use Rattle.cq_prefs.proofs.Holding.{matching-of, partner-free, partner-from}
 use Rattle.cq_pair.specs.Progress.{Progress, IsReached, IsAsk, MovesOn, Parts, Takes}
 use Rattle.cq_pair.proofs.Turns.{state-refused, state-taken, matching-refused, unheld-empty, matching-empty, holder-is, unheld-parted, matching-displaced}
 use Rattle.cq_pair.proofs.Reached.{sound-reached, free_known, asked_known, asked_offered, reached-step}

@@ -1,17 +1,17 @@
 -- What is reached by proposals. At the beginning the inputs that wait are those with an offer. Whoever stands in the list
 -- of free inputs is free, and where the list is empty nobody is, so what is held is the matching best for the inputs.
-use Rattle.std.proofs.Common.{ℕ, ◌≡◌, ◌+◌, ◌*◌, ◌<◌, ◌≤◌, ⊎_elim, List, [], ◌∷◌, Option, None, Some, length, get_or, replicate, sym, ◌∙◌, ap, arith, subst}
+use Rattle.std.proofs.Common.{ℕ, ◌≡◌, ◌+◌, ◌*◌, ◌<◌, ◌≤◌, List, [], ◌∷◌, Option, None, length, get_or, replicate, sym, ◌∙◌, ap, arith, subst}
 use Rattle.std.specs.List.{range_with_len}
-use Rattle.std.proofs.lemmas.List.{length-replicate, get_or-replicate, get_or_past}
+use Rattle.std.proofs.lemmas.List.{length-replicate}
 use Rattle.std.proofs.lemmas.List.Elements.{filter_passes}
-use Rattle.std.proofs.lemmas.Bool.{cases_lt}
 use Rattle.cq_prefs.specs.Orders.{Orders, AreOffers, ports, IsOffered}
-use Rattle.cq_prefs.specs.Pairing.{partner_of, IsInputBest, proposals}
+use Rattle.cq_prefs.specs.Pairing.{IsInputBest, proposals}
 use Rattle.cq_prefs.specs.Proposals.{State, start, state_after, IsFree, IsQuiescent, IsSound, is_free, free_inputs, next_output, propose, matching_of}
 use Rattle.cq_prefs.proofs.Places.{input_in_range, output_in_range, inputs_at_most}
 use Rattle.cq_prefs.proofs.Members.{Among, among_kept, in_range}
 use Rattle.cq_prefs.proofs.Steps.{sound-start, sound-after, held-start, next_output-offered}
-use Rattle.cq_prefs.proofs.Holders.{free_if, free_only_if, matching-of, matching_of-is}
+use Rattle.cq_prefs.proofs.Pairs.{nobody}
+use Rattle.cq_prefs.proofs.Holding.{free_if, free_only_if, matching-of, matching_of-is}
 use Rattle.cq_prefs.proofs.Quiet.{input_best-quiet}
 use Rattle.cq_prefs.proofs.Counts.{events_at_most, events-quiet}
 use Rattle.cq_pair.specs.Progress.{Progress, IsReached, ShowsWaiting, waiting_inputs}
@@ -44,17 +44,10 @@ waiting-reached o v c r = r.free ∙ sym (waiting-free o v c.state) ∙ ap (wait
 
 -- ## The beginning
 
-nobody : (n k q : ℕ) → partner_of (replicate n None) k ≡ Some q → ⊥
-nobody n k q e =
-    let none : Option ℕ = None in
-    ⊎_elim (λ l. let a = get_or-replicate n k none none l in let P : ⊥ = cc in P)
-    (λ l. let a = get_or_past (replicate n none) k none (let z = length-replicate n none in omega arith) in let P : ⊥ = cc in P)
-    (cases_lt k n)
-
 matching-start : (o : Orders) → AreOffers o → replicate (ports o) None ≡ matching_of o (start o)
 matching-start o v =
     matching_of-is o v (start o) (sound-start o v) (replicate (ports o) None) (length-replicate {A = Option ℕ} (ports o) None)
-    (λ k q e. absurd (nobody (ports o) k q e))
+    (λ k q e. absurd (let gone = sym (nobody (ports o) k) ∙ e in let P : ⊥ = cc in P))
     (λ k q h.
     let r = output_in_range o v k q (v.shown_back k q h.1) in
     let a = held-start o q r in

@@ -9,7 +9,7 @@ use Rattle.cq_prefs.specs.Pairing.{Partners, partner_of}
 use Rattle.cq_prefs.specs.Proposals.{State, position_held, next_place, Holds, IsFree, IsSound, next_output, holder, propose, matching_of}
 use Rattle.cq_prefs.proofs.Places.{same_at_place, input_in_range, output_in_range, position_of-at, inputs_at_most}
 use Rattle.cq_prefs.proofs.Steps.{IsStep, step, sound-step}
-use Rattle.cq_prefs.proofs.Holders.{matching-of, matching_of-is, partner-holds, partner-from}
+use Rattle.cq_prefs.proofs.Holding.{matching-of, matching_of-is, partner-holds, partner-from}
 
 -- a proposal that is refused changes no position that is held
 pub state-refused : (o : Orders) (s : State) (i : ℕ) → position_held s (next_output o s i) ≤ position_of o (next_output o s i) i →

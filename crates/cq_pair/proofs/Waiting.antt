@@ -4,7 +4,7 @@ use Rattle.std.proofs.Common.{ℕ, zero, suc, ◌≡◌, ◌≢◌, ◌+◌, ◌
 use Rattle.std.specs.Prelude.{filter}
 use Rattle.std.specs.List.{range_with_len}
 use Rattle.std.proofs.lemmas.Bool.{cases_eq, cases_lt, cond_both, cond-true, cond-false, eq-eqb, ne_eqb, lt-ltb, le-ltb, eqb-true, and_left, true≢false}
-use Rattle.std.proofs.lemmas.List.{get_or-set_same, get_or-set_other, get_or_past, get_or-replicate, length-replicate, append-nil}
+use Rattle.std.proofs.lemmas.List.{get_or-set_same, get_or-set_other, append-nil}
 use Rattle.std.proofs.lemmas.List.Elements.{filter_agree, filter-append}
 use Rattle.std.proofs.lemmas.List.FromFn.{length-range_with_len}
 use Rattle.cq_prefs.specs.Orders.{Orders, AreOffers, ports, outputs_of}
@@ -12,7 +12,8 @@ use Rattle.cq_prefs.specs.Pairing.{Partners, partner_of}
 use Rattle.cq_prefs.specs.Proposals.{State, next_place, start, is_free, matching_of, free_inputs}
 use Rattle.cq_prefs.proofs.ByKey.{length-put, length-filter-le}
 use Rattle.cq_prefs.proofs.Steps.{next_place-start}
-use Rattle.cq_prefs.proofs.Holders.{partner-is}
+use Rattle.cq_prefs.proofs.Pairs.{nobody}
+use Rattle.cq_prefs.proofs.Holding.{partner-is}
 use Rattle.cq_pair.specs.FreeInputs.{with_input, without_input, has_offer, inputs_with_offers}
 use Rattle.cq_pair.specs.Progress.{is_waiting, waiting_inputs}
 
@@ -177,16 +178,11 @@ waiting-free o v s =
 
 -- ## At the beginning
 
-nobody_at : (n i : ℕ) → partner_of (replicate n None) i ≡ None
-nobody_at n i =
-    let none : Option ℕ = None in
-    ⊎_elim (λ l. get_or-replicate n i none none l) (λ l. get_or_past (replicate n none) i none (let z = length-replicate n none in omega arith)) (cases_lt i n)
-
 pub waiting-first : (o : Orders) (m : Partners) → m ≡ replicate (ports o) None → inputs_with_offers o (ports o) ≡ waiting_inputs o (start o).places m
 waiting-first o m e =
     filter_agree (has_offer o) (is_waiting o (start o).places m)
     (λ i.
-    let none : partner_of m i ≡ None = ap (λ l. partner_of l i) e ∙ nobody_at (ports o) i in
+    let none : partner_of m i ≡ None = ap (λ l. partner_of l i) e ∙ nobody (ports o) i in
     let zero : get_or (start o).places i 0 ≡ 0 = next_place-start o i in
     sym (ap (λ p. ltb (get_or (start o).places i 0) (length (outputs_of o i)) && is_none p) none ∙ and_true _ ∙ ap (λ n. ltb n (length (outputs_of o i))) zero)) (range_with_len 0 (ports o))
 

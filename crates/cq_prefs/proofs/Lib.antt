@@ -10,7 +10,7 @@ pub mod Fill
 pub mod Pairs
 pub mod Best
 pub mod Steps
-pub mod Holders
+pub mod Holding
 pub mod Passing
 pub mod Quiet
 pub mod Counts

@@ -1,11 +1,12 @@
--- No output is in two pairs: where there is no pair, where an output that is in none is joined to an input, and where an input is parted from its partner.
+-- No output is in two pairs: where there is no pair, where an output that is in none is joined to an input, and where an
+-- input is parted from its partner.
 use Rattle.std.proofs.Common.{ℕ, ◌≡◌, ◌≢◌, ◌<◌, length, replicate, Option, Some, None, sym, ap, ◌∙◌, ⊎_elim, arith}
 use Rattle.std.proofs.lemmas.Bool.{cases_eq, cases_lt}
 use Rattle.std.proofs.lemmas.Option.{same_Some}
 use Rattle.std.proofs.lemmas.List.{length-set, length-replicate, get_or-replicate, get_or_past, get_or-set_same, get_or-set_other}
 use Rattle.cq_prefs.specs.Pairing.{Partners, partner_of, with_pair, without_pair, ArePairs, IsFreeOutput}
 
-nobody : (n i : ℕ) → partner_of (replicate n None) i ≡ None
+pub nobody : (n i : ℕ) → partner_of (replicate n None) i ≡ None
 nobody n i =
     let none : Option ℕ = None in
     ⊎_elim (λ l. get_or-replicate n i none none l) (λ past. get_or_past (replicate n none) i none (omega (arith, length-replicate n none))) (cases_lt i n)
@@ -49,26 +50,17 @@ joined_pairs m input output p l inside free =
           (cases_eq i input);
     }
 
--- the partners once an input was parted from its partner
-parted_same : (m : Partners) (input : ℕ) → input < length m → partner_of (without_pair m input) input ≡ None
-parted_same m input l = get_or-set_same m input None None l
-
-parted_other : (m : Partners) (input i : ℕ) → i ≢ input → partner_of (without_pair m input) i ≡ partner_of m i
-parted_other m input i ne = get_or-set_other m input i None None ne
-
--- who has a partner still had it before
-still : (m : Partners) (input i j : ℕ) → input < length m → partner_of (without_pair m input) i ≡ Some j → partner_of m i ≡ Some j
-still m input i j l h =
+-- the partners once an input was parted: a pair that is left was there
+still_there : (m : Partners) (input i j : ℕ) → input < length m → partner_of (without_pair m input) i ≡ Some j → partner_of m i ≡ Some j
+still_there m input i j l h =
     ⊎_elim
-    (λ is. absurd (let no = sym (parted_same m input l) ∙ ap (partner_of (without_pair m input)) (sym is) ∙ h in let P : ⊥ = cc in P))
-    (λ other. sym (parted_other m input i other) ∙ h)
+    (λ is. absurd (let gone = sym (get_or-set_same m input None None l) ∙ ap (partner_of (without_pair m input)) (sym is) ∙ h in let P : ⊥ = cc in P))
+    (λ other. sym (get_or-set_other m input i None None other) ∙ h)
     (cases_eq i input)
 
 pub parted_pairs : (m : Partners) (input : ℕ) → ArePairs m → input < length m → ArePairs (without_pair m input)
 parted_pairs m input p l =
-    let none : Option ℕ = None in
-    let size = length-set m input none in
     record {
-      ports = λ i j h. let b = p.ports i j (still m input i j l h) in omega arith;
-      once = λ i k j h g. p.once i k j (still m input i j l h) (still m input k j l g);
+      ports = λ i j h. let size = length-set m input None in let b = p.ports i j (still_there m input i j l h) in omega arith;
+      once = λ i k j h g. p.once i k j (still_there m input i j l h) (still_there m input k j l g);
     }

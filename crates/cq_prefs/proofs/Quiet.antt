@@ -8,7 +8,7 @@ use Rattle.cq_prefs.specs.Pairing.{Partners, partner_of, depth, IsMatching, IsSt
 use Rattle.cq_prefs.specs.Proposals.{State, position_held, next_place, IsQuiescent, IsSound, matching_of, state_after, AreEvents}
 use Rattle.cq_prefs.proofs.Places.{position_of-at, place_in-le-length}
 use Rattle.cq_prefs.proofs.Steps.{sound-after}
-use Rattle.cq_prefs.proofs.Holders.{matching-of, partner-holds, partner-from}
+use Rattle.cq_prefs.proofs.Holding.{matching-of, partner-holds, partner-from}
 use Rattle.cq_prefs.proofs.Passing.{NonePassed, none_passed-after}
 
 -- an input stands behind the output that holds it, or at the end of its order

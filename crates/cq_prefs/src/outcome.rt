@@ -19,6 +19,8 @@ pub enum Outcome {
 /// One half slot's matching, and how many proposals were made for it.
 #[derive(Clone, Copy)]
 pub struct Phase {
+    /// Who sends to whom.
     pub matching: Matching,
+    /// The number of proposals.
     pub proposals: u64,
 }
