@@ -1,8 +1,9 @@
 -- Lists of cells that wait.
-use Rattle.std.specs.Prelude.{◌≡◌, ◌≢◌, ℕ, ◌<◌, ◌&&◌, ◌==◌, Bool, true, if◌then◌else◌, List, [], ◌∷◌, length, Option, Some, min, find, insert, slice_get}
+use Rattle.std.specs.Prelude.{◌≡◌, ◌≢◌, ℕ, ◌<◌, ◌&&◌, ◌==◌, Bool, true, if◌then◌else◌, List, [], ◌∷◌, length, Option, Some, min, filter, find, insert, slice_get}
 use Rattle.std.specs.List.{AllByRecursion, position_or_len}
 use Rattle.cq_base.specs.declared.cell.CellId.{CellId}
 use Rattle.cq_base.specs.declared.cell.Queued.{Queued}
+use Rattle.cq_base.specs.declared.key.Key.{Key}
 use Rattle.cq_base.specs.Key.{is_before}
 
 -- the first cell is the more urgent
@@ -13,6 +14,10 @@ IsBefore a b = is_before a.key b.key ≡ true
 abbrev pub EachPair : (Queued → Queued → Type 0) → List Queued → Type 0
 EachPair R [] = Unit {0}
 EachPair R (x ∷ xs) = AllByRecursion (R x) xs × EachPair R xs
+
+-- the cells stand in the order of their keys, which all differ
+abbrev pub IsRising : List Queued → Type 0
+IsRising xs = EachPair IsBefore xs
 
 -- the cells for one output stand in the order of their keys
 abbrev pub KeepsOrder : List Queued → Type 0
@@ -55,6 +60,10 @@ without_first j (x ∷ xs) = if is_for j x then xs else x ∷ without_first j xs
 abbrev pub put : Queued → List Queued → List Queued
 put c [] = c ∷ []
 put c (x ∷ xs) = if is_before c.key x.key then c ∷ x ∷ xs else x ∷ put c xs
+
+-- how many cells have a lesser key
+abbrev pub cushion : Key → List Queued → ℕ
+cushion key xs = length (filter (λ x. is_before x.key key) xs)
 
 -- the place of the first less urgent cell for the same output, or the length of the list where there is none
 abbrev pub place_of_later : Queued → List Queued → ℕ

@@ -4,3 +4,5 @@ pub mod Decimal
 pub mod Key
 pub mod Cells
 pub mod Arrivals
+pub mod Arriving
+pub mod Texts

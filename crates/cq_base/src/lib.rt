@@ -7,6 +7,7 @@
 
 mod arrivals;
 mod cell;
+mod figures;
 mod key;
 mod name;
 mod number;
@@ -19,6 +20,7 @@ mod tests;
 
 pub use arrivals::Arrivals;
 pub use cell::{Cell, CellId, Class, Departure, Port, Queued, Slot, TagFault, Transfer};
+pub use figures::{Figures, InputFigures, OutputFigures};
 pub use key::{Key, keys_are_ordered};
 pub use name::Name;
 pub use number::digits;

@@ -2,7 +2,7 @@
 //!
 //! Two vectors with the same items may differ in capacity, so values that hold them could not be
 //! called equal. A `Sequence` is its items and nothing else.
-ghost use Rattle.std.specs.Prelude.{◌≡◌};
+ghost use Rattle.std.specs.Prelude.{◌≡◌, ◌<◌, length, slice_set};
 
 use std::marker::Model;
 
@@ -34,6 +34,15 @@ impl<T: Drop> Sequence<T> {
         ensures { result.now ≡ self.now }
     {
         self.items.as_slice()
+    }
+
+    /// Puts the item at a place, in the stead of the one that stands there. The others stay. It takes no
+    /// memory.
+    pub fn set(&mut self, place: usize, item: T)
+        requires { place < length self.old }
+        ensures { self.new ≡ slice_set self.old place item }
+    {
+        self.items[place] = item;
     }
 
     /// A vector of the items, in order.
