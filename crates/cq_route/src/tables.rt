@@ -1,0 +1,122 @@
+// The tables of a switch.
+ghost use Rattle.std.specs.Prelude.{◌≡◌, IfOk};
+ghost use Rattle.cq_route.specs.Plain.{plain_ports, plain_setup, plain_tables};
+ghost use Rattle.cq_route.specs.Tables.{AreTables};
+
+use cq_base::{Class, ClassRow, Kind, Name, NoMemory, Port, Sequence, Setup};
+use std::alloc::Global;
+
+/// The files of a port.
+#[derive(Drop)]
+pub struct PortRow {
+    /// The capture of what arrives at its input. None where no packet does.
+    pub read: Option<Name>,
+    /// The capture of what leaves its output.
+    pub write: Name,
+}
+
+/// An address, and where frames to it go.
+#[derive(Clone, Copy, Debug, PartialEq, Eq)]
+pub struct AddressRow {
+    /// The address, as a frame has it: the byte that is sent first stands first.
+    pub mac: [u8; 6],
+    /// The output of frames to it.
+    pub output: Port,
+}
+
+/// A rule, which gives packets a class. It speaks of the fields that it states, and of no other.
+#[derive(Clone, Copy, Debug, PartialEq, Eq)]
+pub struct RuleRow {
+    /// The input at which the packet arrives.
+    pub input: Option<Port>,
+    /// The priority code point of the packet's outermost tag (IEEE 802.1Q).
+    pub pcp: Option<u8>,
+    /// The EtherType of the packet (IEEE 802.3).
+    pub ether_type: Option<u16>,
+    /// The code point of differentiated services of the packet (RFC 2474).
+    pub dscp: Option<u8>,
+    /// The class of the packets that have all of this.
+    pub class: Class,
+}
+
+/// What a switch is told.
+#[derive(Drop)]
+pub struct Tables {
+    /// The bytes of a packet that one cell carries.
+    pub cell_bytes: u32,
+    /// The nanoseconds of a slot.
+    pub slot_ns: u64,
+    /// The greatest length of a capture that is read, in bytes.
+    pub limit_bytes: u64,
+    /// How many workers look for a matching at a time.
+    pub workers: u16,
+    /// The output of the frames that no address row speaks of.
+    pub default_output: Port,
+    /// The class of the packets that no rule speaks of.
+    pub default_class: Class,
+    /// The file to which the departures are written.
+    pub trace: Name,
+    /// The file to which the transfers are written.
+    pub log: Name,
+    /// The classes, and the discipline of each port.
+    pub setup: Setup,
+    /// The files of each port, in order.
+    pub ports: Sequence<PortRow>,
+    /// The addresses that are known, each at most once.
+    pub addresses: Sequence<AddressRow>,
+    /// The rules. The first one that a packet meets gives its class.
+    pub rules: Sequence<RuleRow>,
+}
+
+impl Tables {
+    /// The tables of a switch of one port that reads one file and writes the other, with every default:
+    /// cells of 64 bytes, slots of 512 nanoseconds, captures of at most 67,108,864 bytes, one worker, one
+    /// class, which is of priority 0 and costs 1, and an output that sends in the order of arrival. No
+    /// address and no rule is known, and no trace and no log is named. The error is want of memory.
+    #[tactic(auto, unfolding(crate::specs::Plain::plain_tables))]
+    pub fn plain(alloc: Global, read: &str, write: &str) -> Result<Tables, NoMemory>
+        ensures tables { IfOk result (λ tables. tables ≡ plain_tables read.now write.now) }
+        ensures in_range { IfOk result (λ tables. AreTables tables) }
+    {
+        Ok(Tables {
+            cell_bytes: 64,
+            slot_ns: 512,
+            limit_bytes: 67_108_864,
+            workers: 1,
+            default_output: 0,
+            default_class: 0,
+            trace: Name::of(alloc, "")?,
+            log: Name::of(alloc, "")?,
+            setup: plain_setup(alloc)?,
+            ports: Sequence::of(one_port(alloc, read, write)?),
+            addresses: Sequence::of(Vec::new(alloc)),
+            rules: Sequence::of(Vec::new(alloc)),
+        })
+    }
+}
+
+// One class and one first-come output.
+fn plain_setup(alloc: Global) -> Result<Setup, NoMemory>
+    ensures { IfOk result (λ setup. setup ≡ plain_setup) }
+{
+    let class = ClassRow {
+        priority: 0,
+        cost: 1,
+    };
+    Ok(Setup {
+        classes: Sequence::of(Vec::from_array(alloc, [class])?),
+        kinds: Sequence::of(Vec::from_array(alloc, [Kind::FirstCome])?),
+    })
+}
+
+// The files of a switch of one port.
+fn one_port(alloc: Global, read: &str, write: &str) -> Result<Vec<PortRow>, NoMemory>
+    ensures { IfOk result (λ ports. ports.items ≡ plain_ports read.now write.now) }
+{
+    let mut ports = Vec::new(alloc);
+    ports.push(PortRow {
+        read: Some(Name::of(alloc, read)?),
+        write: Name::of(alloc, write)?,
+    })?;
+    Ok(ports)
+}
