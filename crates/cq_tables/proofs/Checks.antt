@@ -1,0 +1,80 @@
+-- Checks in order: where one holds, the next ones decide, and where one does not, it is the first.
+use Rattle.std.proofs.Common.{◌≡◌, ℕ, suc, ◌+◌, ◌<◌, List, [], ◌∷◌, ◌++◌, length, get_or, take, drop, map, Option, Some, None, Result, Ok, Err, IfErr, IfOk, refl, ap, ◌∙◌, sym, arith}
+use Rattle.cq_tables.specs.declared.refusal.TableRefusal.{TableRefusal}
+use Rattle.cq_tables.specs.declared.refusal.TableRefusal.TheVariants as refusal
+use Rattle.toml.specs.Data.{Data, Members}
+use Rattle.cq_tables.specs.declared.place.Array.{Array}
+use Rattle.cq_tables.specs.declared.place.Place.{Place}
+use Rattle.cq_tables.specs.declared.place.Place.TheVariants.{Element}
+use Rattle.cq_tables.specs.Document.{element_check}
+use Rattle.cq_tables.specs.Key.{Key, table_checks}
+use Rattle.cq_tables.specs.Value.{members, table_type}
+use Rattle.cq_tables.specs.Check.{Check, Refuses, Refused, first, each, otherwise}
+
+pub first_none : first [] ≡ None
+unfolding first
+first_none = refl
+
+-- the next checks decide
+pub first_on : (c : Check) (cs : List Check) → c ≡ None → first (c ∷ cs) ≡ first cs
+unfolding first
+first_on c cs e = rw e
+
+-- a check that does not hold
+refuses_first : (c : Check) (d : Check) (r : TableRefusal) → Refuses c r → Refuses (otherwise c d) r
+refuses_first c d refusal.NoMemory h = tt
+refuses_first c d (refusal.At code path) h = rw h
+
+pub first_here : (c : Check) (cs : List Check) (r : TableRefusal) → Refuses c r → Refuses (first (c ∷ cs)) r
+unfolding first
+first_here c cs r h = refuses_first c (first cs) r h
+
+pub first_later : (c : Check) (cs : List Check) (r : TableRefusal) → c ≡ None → Refuses (first cs) r → Refuses (first (c ∷ cs)) r
+first_later c cs r e h = rw (first_on c cs e) h
+
+-- all hold
+pub first_all : (c : Check) (cs : List Check) → c ≡ None → first cs ≡ None → first (c ∷ cs) ≡ None
+first_all c cs e h = first_on c cs e ∙ h
+
+pub first-append : (cs ds : List Check) → first (cs ++ ds) ≡ otherwise (first cs) (first ds)
+unfolding first
+first-append [] ds = refl
+first-append (None ∷ cs) ds = first-append cs ds
+first-append (Some f ∷ cs) ds = refl
+
+-- ---- of an answer: a check that does not hold is the first, where those before it hold
+
+pub otherwise_here : {A : Type 0} (r : Result A TableRefusal) (c d : Check) → IfErr r (Refuses c) → IfErr r (Refuses (otherwise c d))
+otherwise_here (Ok x) c d h = tt
+otherwise_here (Err e) c d h = refuses_first c d e h
+
+pub otherwise_later : {A : Type 0} (r : Result A TableRefusal) (c d : Check) → c ≡ None → IfErr r (Refuses d) → IfErr r (Refuses (otherwise c d))
+otherwise_later r c d e h = rw e h
+
+pub here : {A : Type 0} (r : Result A TableRefusal) (c : Check) (cs : List Check) → IfErr r (Refuses c) → IfErr r (Refuses (first (c ∷ cs)))
+here (Ok x) c cs h = tt
+here (Err e) c cs h = first_here c cs e h
+
+pub later : {A : Type 0} (r : Result A TableRefusal) (c : Check) (cs : List Check) → c ≡ None → IfErr r (Refuses (first cs)) → IfErr r (Refuses (first (c ∷ cs)))
+later r c cs e h = rw (first_on c cs e) h
+
+-- of two lists of checks
+pub here_in : {A : Type 0} (r : Result A TableRefusal) (cs ds : List Check) → IfErr r (Refuses (first cs)) → IfErr r (Refuses (first (cs ++ ds)))
+here_in r cs ds h = rw (first-append cs ds) (otherwise_here r (first cs) (first ds) h)
+
+pub later_in : {A : Type 0} (r : Result A TableRefusal) (cs ds : List Check) → first cs ≡ None → IfErr r (Refuses (first ds)) → IfErr r (Refuses (first (cs ++ ds)))
+later_in r cs ds e h = rw (first-append cs ds) (otherwise_later r (first cs) (first ds) e h)
+
+pub all_in : (cs ds : List Check) → first cs ≡ None → first ds ≡ None → first (cs ++ ds) ≡ None
+all_in cs ds e h = first-append cs ds ∙ rw e h
+
+-- ---- of an element: its table has these checks, at its place
+
+pub element_refuses : {A : Type 0} (r : Result A TableRefusal) (array : Array) (keys : Place → List Key) (i : ℕ) (d : Data) (place : Place) (table : Members) → table_type d ≡ None → place ≡ Element array i → table ≡ members d
+    → IfErr r (Refuses (first (table_checks place (keys place) table))) → IfErr r (Refuses (element_check array (λ _. keys) i d))
+element_refuses r array keys i d place table type there seen told = otherwise_later r _ _ (rw type) (rw (there, seen) at told)
+
+pub element_holds : {A : Type 0} (r : Result A TableRefusal) (array : Array) (keys : Place → List Key) (i : ℕ) (d : Data) (place : Place) (table : Members) → table_type d ≡ None → place ≡ Element array i → table ≡ members d
+    → IfOk r (λ _. first (table_checks place (keys place) table) ≡ None) → IfOk r (λ _. element_check array (λ _. keys) i d ≡ None)
+element_holds (Err e) array keys i d place table type there seen told = tt
+element_holds (Ok x) array keys i d place table type there seen told = rw type (rw (there, seen) at told)

@@ -1,0 +1,7 @@
+pub mod Values
+pub mod Checks
+pub mod LeastKey
+pub mod Walk
+pub mod Macs
+pub mod Text
+pub mod Apart

@@ -1,0 +1,5 @@
+use Rattle.cq_tables.proofs.Macs.{Walked_apart}
+use Rattle.cq_tables.proofs.addresses.address_rows.Given as goal
+
+abbrev pub invariant-addresses : goal.invariant-addresses
+invariant-addresses l = Walked_apart l.ports l.values l.index l.known.keys l.rows.items

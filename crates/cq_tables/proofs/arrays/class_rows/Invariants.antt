@@ -1,0 +1,8 @@
+use Rattle.std.proofs.Common.{◌≤◌, ◌<◌, IfSome}
+use Rattle.cq_tables.specs.declared.place.Array.TheVariants.{Classes, Ports, Rules}
+use Rattle.cq_tables.specs.Document.{class_keys, class_row, element_check, port_keys, port_kind, port_row, rule_keys, rule_row}
+use Rattle.cq_tables.proofs.Walk.{Walked}
+use Rattle.cq_tables.proofs.arrays.class_rows.Given as goal
+
+abbrev pub invariant-classes : goal.invariant-classes
+invariant-classes l = Walked (element_check Classes (λ _. class_keys)) class_row (λ row. 1 ≤ row.cost) l.values l.index l.rows.items

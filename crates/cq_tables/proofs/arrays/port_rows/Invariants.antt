@@ -1,0 +1,8 @@
+use Rattle.std.proofs.Common.{◌≤◌, ◌<◌, IfSome}
+use Rattle.cq_tables.specs.declared.place.Array.TheVariants.{Classes, Ports, Rules}
+use Rattle.cq_tables.specs.Document.{class_keys, class_row, element_check, port_keys, port_kind, port_row, rule_keys, rule_row}
+use Rattle.cq_tables.proofs.Walk.{Walked}
+use Rattle.cq_tables.proofs.arrays.port_rows.Given as goal
+
+abbrev pub invariant-ports : goal.invariant-ports
+invariant-ports l = Walked (element_check Ports (λ _. port_keys)) port_row (λ row. Unit {0}) l.values l.index l.files.items × Walked (element_check Ports (λ _. port_keys)) port_kind (λ kind. Unit {0}) l.values l.index l.kinds.items

@@ -1,0 +1,8 @@
+use Rattle.std.proofs.Common.{◌≤◌, ◌<◌, IfSome}
+use Rattle.cq_tables.specs.declared.place.Array.TheVariants.{Classes, Ports, Rules}
+use Rattle.cq_tables.specs.Document.{class_keys, class_row, element_check, port_keys, port_kind, port_row, rule_keys, rule_row}
+use Rattle.cq_tables.proofs.Walk.{Walked}
+use Rattle.cq_tables.proofs.arrays.rule_rows.Given as goal
+
+abbrev pub invariant-rules : goal.invariant-rules
+invariant-rules l = Walked (element_check Rules (λ _. rule_keys l.ports l.classes)) rule_row (λ row. IfSome row.input (λ input. input < l.ports) × (row.class < l.classes)) l.values l.index l.rows.items

@@ -1,0 +1,27 @@
+use Rattle.std.proofs.Common.{◌≡◌, ◌<◌, ◌≤◌, false, true, length, nat_le, IfErr, rules, arith}
+use Rattle.toml.specs.View.{table_view}
+use Rattle.cq_tables.specs.Check.{Refuses}
+use Rattle.cq_tables.specs.Document.{default_checks, document, file_check, tables_of, top_keys}
+use Rattle.cq_tables.specs.Key.{table_checks}
+use Rattle.cq_tables.specs.declared.place.Place.TheVariants.{Top}
+use Rattle.cq_tables.proofs.Text.{file_fault, long_told, no_document, read_all, table_fault}
+use Rattle.cq_tables.proofs.read.read_tables.Goals as goal
+
+pub returns-then-bytes-gt-LONGEST-clause-refused : goal.returns-then-bytes-gt-LONGEST-clause-refused
+returns-then-bytes-gt-LONGEST-clause-refused c = long_told c.args.bytes.now _ (omega arith) c.refusal.ensures
+
+pub returns-in_err-top-clause-refused : goal.returns-in_err-top-clause-refused
+returns-in_err-top-clause-refused c = no_document c.args.bytes.now _ (omega arith) (search rules)
+
+pub returns-in_err-tables-clause-refused : goal.returns-in_err-tables-clause-refused
+returns-in_err-tables-clause-refused c = table_fault c.args.bytes.now (table_view c.in_ok-top.top) _ (omega arith) c.in_ok-top.ensures.held (search rules)
+
+pub returns-in_err-files_differ-clause-refused : goal.returns-in_err-files_differ-clause-refused
+returns-in_err-files_differ-clause-refused c =
+    let told = c.in_err-files_differ.ensures {u = tt} in
+    let raw : IfErr c.from_residual-in_err-files_differ.result (Refuses (file_check c.in_ok-tables.tables)) = search (rules, told.refused) in
+    file_fault c.args.bytes.now (table_view c.in_ok-top.top) c.in_ok-tables.tables _ (omega arith) c.in_ok-top.ensures.held c.in_ok-tables.ensures.held c.in_ok-tables.ensures.value raw
+
+pub returns-clause-tables : goal.returns-clause-tables
+returns-clause-tables c =
+    read_all c.args.bytes.now (table_view c.in_ok-top.top) c.in_ok-tables.tables (omega arith) c.in_ok-top.ensures.held c.in_ok-tables.ensures.held c.in_ok-tables.ensures.value c.in_ok-files_differ.ensures.held

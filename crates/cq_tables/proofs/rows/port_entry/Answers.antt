@@ -1,0 +1,18 @@
+use Rattle.std.proofs.Common.{rules}
+use Rattle.cq_tables.proofs.Checks.{first_all, first_none, here, later}
+use Rattle.cq_tables.proofs.rows.port_entry.Goals as goal
+
+pub returns-in_err-only-clause-refused : goal.returns-in_err-only-clause-refused
+returns-in_err-only-clause-refused c = here _ _ _ (search rules)
+
+pub returns-in_err-read-clause-refused : goal.returns-in_err-read-clause-refused
+returns-in_err-read-clause-refused c = later _ _ _ c.in_ok-only.ensures.held (here _ _ _ (search rules))
+
+pub returns-in_err-write-clause-refused : goal.returns-in_err-write-clause-refused
+returns-in_err-write-clause-refused c = later _ _ _ c.in_ok-only.ensures.held (later _ _ _ c.in_ok-read.ensures.held (here _ _ _ (search rules)))
+
+pub returns-in_err-kind-clause-refused : goal.returns-in_err-kind-clause-refused
+returns-in_err-kind-clause-refused c = later _ _ _ c.in_ok-only.ensures.held (later _ _ _ c.in_ok-read.ensures.held (later _ _ _ c.in_ok-write.ensures.held (here _ _ _ (search rules))))
+
+pub returns-clause-held : goal.returns-clause-held
+returns-clause-held c = first_all _ _ c.in_ok-only.ensures.held (first_all _ _ c.in_ok-read.ensures.held (first_all _ _ c.in_ok-write.ensures.held (first_all _ _ c.in_ok-kind.ensures.held first_none)))

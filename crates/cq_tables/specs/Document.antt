@@ -1,0 +1,317 @@
+-- A configuration: its checks, in order, and the tables that it gives where they all hold.
+use Rattle.std.specs.Prelude.{◌≡◌, ℕ, suc, Bool, true, false, not, ◌&&◌, ◌||◌, if◌then◌else◌, nat_le, nat_lt, List, [], ◌∷◌, ◌++◌, codes, length, take, map, is_some, Option, None, Some, option_map, unwrap_or, Result, Ok, Err}
+use Rattle.std.specs.List.{list_any, flat_map}
+use Rattle.std.specs.Str.{bytes_eq, is_utf8}
+use Rattle.toml.specs.Data.{Data, Members, no_members, get_member}
+use Rattle.toml.specs.Parse.{parse_document}
+use Rattle.cq_base.specs.declared.setup.ClassRow.{ClassRow}
+use Rattle.cq_base.specs.declared.setup.Kind.{Kind}
+use Rattle.cq_base.specs.declared.setup.Kind.TheVariants.{FirstCome}
+use Rattle.cq_route.specs.declared.tables.PortRow.{PortRow}
+use Rattle.cq_route.specs.declared.tables.AddressRow.{AddressRow}
+use Rattle.cq_route.specs.declared.tables.RuleRow.{RuleRow}
+use Rattle.cq_route.specs.declared.tables.Tables.{Tables}
+use Rattle.cq_tables.specs.declared.refusal.Wrong.{Wrong}
+use Rattle.cq_tables.specs.declared.refusal.Wrong.TheVariants.{NotToml, DuplicateAddress, DuplicateFile, NoSuchPortOrClass, TooLong}
+use Rattle.cq_tables.specs.declared.figures.Figures.{Figures}
+use Rattle.cq_tables.specs.declared.refusal.TableRefusal.{TableRefusal}
+use Rattle.cq_tables.specs.declared.refusal.TableRefusal.TheVariants as refusal
+use Rattle.cq_tables.specs.declared.place.Array.{Array}
+use Rattle.cq_tables.specs.declared.place.Array.TheVariants.{Classes, Ports, Addresses, Rules}
+use Rattle.cq_tables.specs.declared.place.Place.{Place}
+use Rattle.cq_tables.specs.declared.place.Place.TheVariants.{Top, Element}
+use Rattle.cq_tables.specs.Check.{Check, Refused, at, each, first, otherwise, unless}
+use Rattle.cq_tables.specs.Place.{array_key, element_path, path}
+use Rattle.cq_tables.specs.Value.{integer_in, integer_value, wide_from, wide_value, file_name, text_value, discipline, kind_value, address, address_value, array_of, elements, table_type, members}
+use Rattle.cq_tables.specs.Key.{Key, key, required, optional, table_checks, checks_of, found, found_or}
+
+-- the rule, and then that what the value says meets a condition
+abbrev pub and_then : {A : Type 0} → (Data → Option Wrong) → (Data → A) → (A → Bool) → Wrong → Data → Option Wrong
+and_then rule value holds wrong d = otherwise (rule d) (unless (holds (value d)) wrong)
+
+-- an integer up to the greatest that a port or a class may be numbered with, below the number of those that there are
+abbrev pub number_below : ℕ → ℕ → Data → Option Wrong
+number_below greatest count = and_then (integer_in 0 greatest) integer_value (λ n. nat_lt n count) NoSuchPortOrClass
+
+-- the elements of an array that may be there
+abbrev pub elements_at : Option Data → List Data
+elements_at None = []
+elements_at (Some d) = elements d
+
+-- an element of an array of tables: it is a table, and has these keys
+abbrev pub element_check : Array → (ℕ → Place → List Key) → ℕ → Data → Check
+element_check array keys i d =
+    otherwise (at (element_path array i) (table_type d)) (first (table_checks (Element array i) (keys i (Element array i)) (members d)))
+
+-- an array of tables: what it may be, and the keys of its element at an index
+abbrev pub array : Array → (Option Data → Option Wrong) → (ℕ → Place → List Key) → Key
+array name rule keys = record {
+  name = array_key name;
+  check = λ d. otherwise (at (array_key name) (rule d)) (first (each (element_check name keys) 0 (elements_at d)));
+}
+
+-- ---- what the rows of the arrays say
+
+abbrev pub default_class_row : ClassRow
+default_class_row = record { priority = 0; cost = 1 }
+
+abbrev pub class_row : Members → ClassRow
+class_row table = record {
+  priority = found_or 0 wide_value (codes "priority") table;
+  cost = found_or 1 wide_value (codes "cost") table;
+}
+
+abbrev pub port_row : Members → PortRow
+port_row table = record {
+  read = found text_value (codes "read") table;
+  write = found_or [] text_value (codes "write") table;
+}
+
+abbrev pub port_kind : Members → Kind
+port_kind table = found_or FirstCome kind_value (codes "discipline") table
+
+abbrev pub mac_in : Members → List ℕ
+mac_in table = found_or [] address_value (codes "mac") table
+
+abbrev pub address_row : Members → AddressRow
+address_row table = record {
+  mac = mac_in table;
+  output = found_or 0 integer_value (codes "output") table;
+}
+
+abbrev pub rule_row : Members → RuleRow
+rule_row table = record {
+  input = found integer_value (codes "input") table;
+  pcp = found integer_value (codes "pcp") table;
+  ether_type = found integer_value (codes "ether_type") table;
+  dscp = found integer_value (codes "dscp") table;
+  class = found_or 0 integer_value (codes "class") table;
+}
+
+-- ---- the keys of the arrays' elements
+
+abbrev pub class_keys : Place → List Key
+class_keys place =
+    key place (codes "priority") (optional (wide_from 0))
+    ∷ key place (codes "cost") (optional (wide_from 1))
+    ∷ []
+
+abbrev pub port_keys : Place → List Key
+port_keys place =
+    key place (codes "read") (optional file_name)
+    ∷ key place (codes "write") (required file_name)
+    ∷ key place (codes "discipline") (optional discipline)
+    ∷ []
+
+-- the address is none of these
+abbrev pub is_new : List (List ℕ) → List ℕ → Bool
+is_new earlier mac = not (list_any (bytes_eq mac) earlier)
+
+abbrev pub address_keys : ℕ → List (List ℕ) → Place → List Key
+address_keys ports earlier place =
+    key place (codes "mac") (required (and_then address address_value (is_new earlier) DuplicateAddress))
+    ∷ key place (codes "output") (required (number_below 63 ports))
+    ∷ []
+
+abbrev pub rule_keys : ℕ → ℕ → Place → List Key
+rule_keys ports classes place =
+    key place (codes "input") (optional (number_below 63 ports))
+    ∷ key place (codes "pcp") (optional (integer_in 0 7))
+    ∷ key place (codes "ether_type") (optional (integer_in 0 65535))
+    ∷ key place (codes "dscp") (optional (integer_in 0 63))
+    ∷ key place (codes "class") (required (number_below 15 classes))
+    ∷ []
+
+-- ---- the top table
+
+-- the tables of an array
+abbrev pub rows_in : Array → Members → List Members
+rows_in array top = map members (elements_at (get_member (array_key array) top))
+
+-- the classes: one with the defaults where none is stated
+abbrev pub or_one : List ClassRow → List ClassRow
+or_one [] = default_class_row ∷ []
+or_one (row ∷ rows) = row ∷ rows
+
+abbrev pub class_rows : Members → List ClassRow
+class_rows top = or_one (map class_row (rows_in Classes top))
+
+-- how many classes and ports there are
+abbrev pub classes_in : Members → ℕ
+classes_in top = length (class_rows top)
+
+abbrev pub ports_in : Members → ℕ
+ports_in top = length (rows_in Ports top)
+
+-- the figures: one integer each
+abbrev pub figure_keys : Place → List Key
+figure_keys place =
+    key place (codes "version") (required (integer_in 1 1))
+    ∷ key place (codes "cell_bytes") (optional (integer_in 1 65535))
+    ∷ key place (codes "slot_ns") (optional (integer_in 1 1000000000))
+    ∷ key place (codes "limit_bytes") (optional (integer_in 24 268435456))
+    ∷ key place (codes "workers") (optional (integer_in 1 1))
+    ∷ key place (codes "default_output") (optional (integer_in 0 63))
+    ∷ key place (codes "default_class") (optional (integer_in 0 15))
+    ∷ []
+
+-- the files of the whole run
+abbrev pub file_keys : Place → List Key
+file_keys place =
+    key place (codes "trace") (required file_name)
+    ∷ key place (codes "log") (required file_name)
+    ∷ []
+
+-- the arrays
+abbrev pub class_array : Key
+class_array = array Classes (optional (array_of 1 16)) (λ i. class_keys)
+
+abbrev pub port_array : Key
+port_array = array Ports (required (array_of 1 64)) (λ i. port_keys)
+
+abbrev pub address_array : Members → Key
+address_array top = array Addresses (optional (array_of 0 4096)) (λ i. address_keys (ports_in top) (take i (map mac_in (rows_in Addresses top))))
+
+abbrev pub rule_array : Members → Key
+rule_array top = array Rules (optional (array_of 0 256)) (λ i. rule_keys (ports_in top) (classes_in top))
+
+abbrev pub array_keys : Members → List Key
+array_keys top = class_array ∷ port_array ∷ address_array top ∷ rule_array top ∷ []
+
+abbrev pub top_keys : Members → List Key
+top_keys top = figure_keys Top ++ (file_keys Top ++ array_keys top)
+
+-- ---- the tables
+
+abbrev pub figures_of : Members → Figures
+figures_of top = record {
+  cell_bytes = found_or 64 integer_value (codes "cell_bytes") top;
+  slot_ns = found_or 512 integer_value (codes "slot_ns") top;
+  limit_bytes = found_or 67108864 integer_value (codes "limit_bytes") top;
+  workers = found_or 1 integer_value (codes "workers") top;
+  default_output = found_or 0 integer_value (codes "default_output") top;
+  default_class = found_or 0 integer_value (codes "default_class") top;
+}
+
+unfoldable pub tables_of : Members → Tables
+tables_of top = record {
+  cell_bytes = (figures_of top).cell_bytes;
+  slot_ns = (figures_of top).slot_ns;
+  limit_bytes = (figures_of top).limit_bytes;
+  workers = (figures_of top).workers;
+  default_output = (figures_of top).default_output;
+  default_class = (figures_of top).default_class;
+  trace = found_or [] text_value (codes "trace") top;
+  log = found_or [] text_value (codes "log") top;
+  setup = record { classes = class_rows top; kinds = map port_kind (rows_in Ports top) };
+  ports = map port_row (rows_in Ports top);
+  addresses = map address_row (rows_in Addresses top);
+  rules = map rule_row (rows_in Rules top);
+}
+
+-- ---- what is checked across the keys
+
+-- a key that names a port or a class which may not be there
+abbrev pub is_there : List ℕ → ℕ → ℕ → Check
+is_there name n count = at name (unless (nat_lt n count) NoSuchPortOrClass)
+
+-- a file that is named, to be read or to be written
+pub record Named : Type 0 where
+  pub path : List ℕ
+  pub file : List ℕ
+  pub is_read : Bool
+
+-- two names clash where they name one file, unless it is only read
+abbrev pub clash : Named → Named → Bool
+clash a b = not (b.is_read && a.is_read) && bytes_eq a.file b.file
+
+abbrev pub written_at : Place → List ℕ → List ℕ → Named
+written_at place name file = record { path = path place name; file = file; is_read = false }
+
+abbrev pub read_at : Place → List ℕ → List ℕ → Named
+read_at place name file = record { path = path place name; file = file; is_read = true }
+
+-- the files that a port names, in order
+abbrev pub read_of : ℕ → PortRow → List Named
+read_of i row = unwrap_or (option_map (λ file. read_at (Element Ports i) (codes "read") file ∷ []) row.read) []
+
+abbrev pub names_of : ℕ → PortRow → List Named
+names_of i row = read_of i row ++ (written_at (Element Ports i) (codes "write") row.write ∷ [])
+
+abbrev pub files_of : ℕ → List PortRow → List Named
+files_of i [] = []
+files_of i (row ∷ rows) = names_of i row ++ files_of (suc i) rows
+
+-- the files that the whole run and its first ports name
+abbrev pub files_before : Tables → ℕ → List Named
+files_before t i = written_at Top (codes "trace") t.trace ∷ written_at Top (codes "log") t.log ∷ files_of 0 (take i t.ports)
+
+-- whether a port names the file, where that clashes
+abbrev pub is_named : List ℕ → Bool → PortRow → Bool
+is_named file is_read row = unwrap_or (option_map (λ read. not is_read && bytes_eq file read) row.read) false || bytes_eq file row.write
+
+-- whether the file that a port reads clashes with those before it, and the one that it writes
+abbrev pub is_taken : Tables → ℕ → List ℕ → Bool → Bool
+is_taken t i file is_read = bytes_eq file t.trace || (bytes_eq file t.log || list_any (is_named file is_read) (take i t.ports))
+
+abbrev pub read_clashes : Tables → ℕ → PortRow → Bool
+read_clashes t i row = unwrap_or (option_map (λ read. is_taken t i read true) row.read) false
+
+abbrev pub write_clashes : Tables → ℕ → PortRow → Bool
+write_clashes t i row = is_taken t i row.write false || unwrap_or (option_map (λ read. bytes_eq row.write read) row.read) false
+
+-- all files, in order
+abbrev pub files_in : Tables → List Named
+files_in t = written_at Top (codes "trace") t.trace ∷ written_at Top (codes "log") t.log ∷ files_of 0 t.ports
+
+-- each name clashes with none before it
+abbrev pub apart_from : List Named → List Named → List Check
+apart_from earlier [] = []
+apart_from earlier (n ∷ names) = at n.path (unless (not (list_any (clash n) earlier)) DuplicateFile) ∷ apart_from (earlier ++ n ∷ []) names
+
+-- the defaults are there
+abbrev pub default_checks : Members → List Check
+default_checks top =
+    is_there (codes "default_output") (found_or 0 integer_value (codes "default_output") top) (ports_in top)
+    ∷ is_there (codes "default_class") (found_or 0 integer_value (codes "default_class") top) (classes_in top)
+    ∷ []
+
+-- no file is named twice
+abbrev pub file_check : Tables → Check
+file_check t = first (apart_from [] (files_in t))
+
+-- ---- the whole text
+
+-- the document that the text is, if it is one
+unfoldable pub document : List ℕ → Option Members
+document text = if is_utf8 text then parse_document text else None
+
+abbrev pub whole : List ℕ
+whole = codes "-"
+
+-- all checks of a text, in order
+abbrev pub checks_in : List ℕ → Members → List Check
+checks_in text top =
+    at whole (unless (nat_le (length text) 1048576) TooLong)
+    ∷ at whole (unless (is_some (document text)) NotToml)
+    ∷ table_checks Top (top_keys top) top
+    ++ (default_checks top ++ (file_check (tables_of top) ∷ []))
+
+abbrev pub top_of : List ℕ → Members
+top_of text = unwrap_or (document text) no_members
+
+abbrev pub verdict : List ℕ → Check
+verdict text = first (checks_in text (top_of text))
+
+-- what a text is read as: the tables where each check holds, or the first check that does not
+abbrev pub judged : Check → Tables → Result Tables Refused
+judged None tables = Ok tables
+judged (Some refused) tables = Err refused
+
+unfoldable pub read_or_refused : List ℕ → Result Tables Refused
+read_or_refused text = judged (verdict text) (tables_of (top_of text))
+
+-- why a text of which this is known gives no tables: it is refused so, or memory ran out
+abbrev pub IsRefusedFor : Result Tables Refused → TableRefusal → Type 0
+IsRefusedFor read (refusal.At code path) = read ≡ Err (record { code = code; path = path })
+IsRefusedFor read refusal.NoMemory = Unit {0}

@@ -1,0 +1,5 @@
+pub mod Check
+pub mod Place
+pub mod Value
+pub mod Key
+pub mod Document

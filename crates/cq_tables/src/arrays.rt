@@ -1,0 +1,114 @@
+// The arrays of a configuration, element by element.
+ghost use Rattle.std.specs.Prelude.{◌≡◌, ◌≤◌, ◌<◌, None, IfOk, IfErr, IfSome, All, map};
+ghost use Rattle.toml.specs.View.{view};
+ghost use Rattle.cq_tables.specs.Check.{Refuses, each, first};
+ghost use Rattle.cq_tables.specs.Document.{class_keys, class_row, element_check, port_keys, port_kind, port_row, rule_keys, rule_row};
+ghost use Rattle.cq_tables.specs.Value.{members};
+
+use crate::place::Array;
+use crate::refusal::TableRefusal;
+use crate::rows::{PortEntry, class_row, element, port_entry, rule_row};
+use cq_base::{ClassRow, Kind, NoMemory};
+use cq_route::{PortRow, RuleRow};
+use std::alloc::Global;
+use toml::Value;
+
+// The class that an element tells.
+fn class_in(alloc: Global, index: usize, value: &Value) -> Result<ClassRow, TableRefusal>
+    ensures held { IfOk result (λ _. element_check Array.Classes (λ _. class_keys) index (view value.now) ≡ None) }
+    ensures value { IfOk result (λ row. row ≡ class_row (members (view value.now))) }
+    ensures cost { IfOk result (λ row. 1 ≤ row.cost) }
+    ensures refused { IfErr result (Refuses (element_check Array.Classes (λ _. class_keys) index (view value.now))) }
+{
+    let entries = element(alloc, Array::Classes, index, value)?;
+    class_row(entries)
+}
+
+/// The classes that the elements tell.
+pub fn class_rows(alloc: Global, values: &[Value]) -> Result<Vec<ClassRow>, TableRefusal>
+    ensures held { IfOk result (λ _. first (each (element_check Array.Classes (λ _. class_keys)) 0 (map view values.now)) ≡ None) }
+    ensures value { IfOk result (λ rows. rows.items ≡ map class_row (map members (map view values.now))) }
+    ensures costs { IfOk result (λ rows. All (λ row. 1 ≤ row.cost) rows.items) }
+    ensures refused { IfErr result (Refuses (first (each (element_check Array.Classes (λ _. class_keys)) 0 (map view values.now)))) }
+{
+    let mut rows = Vec::new(alloc);
+    'classes: for (index, value) in values.iter().enumerate() {
+        let row = class_in(alloc, index, value)?;
+        rows.push(row).map_err(NoMemory::from)?;
+    }
+    Ok(rows)
+}
+
+// The rule that an element tells.
+fn rule_in(
+    alloc: Global,
+    index: usize,
+    value: &Value,
+    ports: usize,
+    classes: usize,
+) -> Result<RuleRow, TableRefusal>
+    ensures held { IfOk result (λ _. element_check Array.Rules (λ _. rule_keys ports classes) index (view value.now) ≡ None) }
+    ensures value { IfOk result (λ row. row ≡ rule_row (members (view value.now))) }
+    ensures input { IfOk result (λ row. IfSome row.input (λ input. input < ports)) }
+    ensures class { IfOk result (λ row. row.class < classes) }
+    ensures refused { IfErr result (Refuses (element_check Array.Rules (λ _. rule_keys ports classes) index (view value.now))) }
+{
+    let entries = element(alloc, Array::Rules, index, value)?;
+    rule_row(entries, ports, classes)
+}
+
+/// The rules that the elements tell, among so many ports and classes.
+pub fn rule_rows(
+    alloc: Global,
+    values: &[Value],
+    ports: usize,
+    classes: usize,
+) -> Result<Vec<RuleRow>, TableRefusal>
+    ensures held { IfOk result (λ _. first (each (element_check Array.Rules (λ _. rule_keys ports classes)) 0 (map view values.now)) ≡ None) }
+    ensures value { IfOk result (λ rows. rows.items ≡ map rule_row (map members (map view values.now))) }
+    ensures inputs { IfOk result (λ rows. All (λ row. IfSome row.input (λ input. input < ports)) rows.items) }
+    ensures classes { IfOk result (λ rows. All (λ row. row.class < classes) rows.items) }
+    ensures refused { IfErr result (Refuses (first (each (element_check Array.Rules (λ _. rule_keys ports classes)) 0 (map view values.now)))) }
+{
+    let mut rows = Vec::new(alloc);
+    'rules: for (index, value) in values.iter().enumerate() {
+        let row = rule_in(alloc, index, value, ports, classes)?;
+        rows.push(row).map_err(NoMemory::from)?;
+    }
+    Ok(rows)
+}
+
+// The port that an element tells.
+fn port_in(alloc: Global, index: usize, value: &Value) -> Result<PortEntry, TableRefusal>
+    ensures held { IfOk result (λ _. element_check Array.Ports (λ _. port_keys) index (view value.now) ≡ None) }
+    ensures files { IfOk result (λ port. port.files ≡ port_row (members (view value.now))) }
+    ensures kind { IfOk result (λ port. port.kind ≡ port_kind (members (view value.now))) }
+    ensures refused { IfErr result (Refuses (element_check Array.Ports (λ _. port_keys) index (view value.now))) }
+{
+    let entries = element(alloc, Array::Ports, index, value)?;
+    port_entry(entries)
+}
+
+/// The ports that elements tell.
+#[derive(Drop)]
+pub struct PortEntries {
+    pub files: Vec<PortRow>,
+    pub kinds: Vec<Kind>,
+}
+
+/// The ports that the elements tell.
+pub fn port_rows(alloc: Global, values: &[Value]) -> Result<PortEntries, TableRefusal>
+    ensures held { IfOk result (λ _. first (each (element_check Array.Ports (λ _. port_keys)) 0 (map view values.now)) ≡ None) }
+    ensures files { IfOk result (λ ports. ports.files.items ≡ map port_row (map members (map view values.now))) }
+    ensures kinds { IfOk result (λ ports. ports.kinds.items ≡ map port_kind (map members (map view values.now))) }
+    ensures refused { IfErr result (Refuses (first (each (element_check Array.Ports (λ _. port_keys)) 0 (map view values.now)))) }
+{
+    let mut files = Vec::new(alloc);
+    let mut kinds = Vec::new(alloc);
+    'ports: for (index, value) in values.iter().enumerate() {
+        let port = port_in(alloc, index, value)?;
+        kinds.push(port.kind).map_err(NoMemory::from)?;
+        files.push(port.files).map_err(NoMemory::from)?;
+    }
+    Ok(PortEntries { files, kinds })
+}

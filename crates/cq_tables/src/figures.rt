@@ -1,0 +1,49 @@
+// The figures of a configuration: one integer each.
+ghost use Rattle.std.specs.Prelude.{◌≡◌, ◌≤◌, None, IfOk, IfErr};
+ghost use Rattle.std.specs.Int.{IsInRange};
+ghost use Rattle.toml.specs.View.{table_view};
+ghost use Rattle.cq_tables.specs.Check.{Refuses, first};
+ghost use Rattle.cq_tables.specs.Document.{figure_keys, figures_of};
+ghost use Rattle.cq_tables.specs.Key.{checks_of};
+
+use crate::entries::Entries;
+use crate::refusal::TableRefusal;
+use cq_base::{Class, Port};
+
+/// The figures, as the fields of these names in the tables.
+#[derive(Clone, Copy, Debug, PartialEq, Eq)]
+pub struct Figures {
+    pub cell_bytes: u32,
+    pub slot_ns: u64,
+    pub limit_bytes: u64,
+    pub workers: u16,
+    pub default_output: Port,
+    pub default_class: Class,
+}
+
+/// The figures of the table, each in its range.
+pub fn figures_in(entries: Entries) -> Result<Figures, TableRefusal>
+    ensures held { IfOk result (λ _. first (checks_of (table_view entries.entry.table.now) (figure_keys entries.entry.place)) ≡ None) }
+    ensures value { IfOk result (λ figures. figures ≡ figures_of (table_view entries.entry.table.now)) }
+    ensures cell_bytes { IfOk result (λ figures. IsInRange 1 65535 figures.cell_bytes) }
+    ensures slot_ns { IfOk result (λ figures. IsInRange 1 1000000000 figures.slot_ns) }
+    ensures limit_bytes { IfOk result (λ figures. IsInRange 24 268435456 figures.limit_bytes) }
+    ensures workers { IfOk result (λ figures. IsInRange 1 64 figures.workers) }
+    ensures refused { IfErr result (Refuses (first (checks_of (table_view entries.entry.table.now) (figure_keys entries.entry.place)))) }
+{
+    let _version = entries.required_integer("version", 1, 1)?;
+    let cell_bytes = entries.integer_or("cell_bytes", 1, 65_535, 64)?;
+    let slot_ns = entries.integer_or("slot_ns", 1, 1_000_000_000, 512)?;
+    let limit_bytes = entries.integer_or("limit_bytes", 24, 268_435_456, 67_108_864)?;
+    let workers = entries.integer_or("workers", 1, 1, 1)?;
+    let default_output = entries.integer_or("default_output", 0, 63, 0)?;
+    let default_class = entries.integer_or("default_class", 0, 15, 0)?;
+    Ok(Figures {
+        cell_bytes: cell_bytes as u32,
+        slot_ns,
+        limit_bytes,
+        workers: workers as u16,
+        default_output: default_output as u16,
+        default_class: default_class as u16,
+    })
+}

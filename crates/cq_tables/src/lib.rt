@@ -1,0 +1,25 @@
+//! Configurations, and the tables that they give.
+//!
+//! A configuration is a TOML document. `specs/Document.antt` lists its checks in order, one line a key,
+//! and says which tables it gives where they all hold. The reader stops at the first check that does not
+//! hold, with its number and the path of its key.
+#![tactic(auto)]
+
+mod addresses;
+mod arrays;
+mod entries;
+mod figures;
+mod files;
+mod known;
+mod place;
+mod read;
+mod refusal;
+mod rows;
+#[cfg(test)]
+mod tests;
+mod top;
+mod value;
+
+pub use cq_route::{AddressRow, PortRow, RuleRow, Tables};
+pub use read::read_tables;
+pub use refusal::TableRefusal;

@@ -1,0 +1,108 @@
+// The arrays of the top table.
+ghost use Rattle.std.specs.Prelude.{◌≡◌, ◌≢◌, ◌≤◌, ◌<◌, None, IfOk, IfErr, IfSome, All, length, map};
+ghost use Rattle.std.specs.Int.{IsInRange};
+ghost use Rattle.std.specs.List.{AllPairs};
+ghost use Rattle.toml.specs.View.{table_view};
+ghost use Rattle.cq_tables.specs.Check.{Refuses, first};
+ghost use Rattle.cq_tables.specs.Document.{address_array, address_row, class_array, class_rows, classes_in, port_array, port_kind, port_row, ports_in, rows_in, rule_array, rule_row};
+ghost use Rattle.cq_tables.specs.Key.{check_of};
+
+use crate::addresses::address_rows;
+use crate::arrays::{PortEntries, class_rows, port_rows, rule_rows};
+use crate::entries::Entries;
+use crate::place::{Array, Place};
+use crate::refusal::TableRefusal;
+use cq_base::{ClassRow, NoMemory};
+use cq_route::{AddressRow, RuleRow};
+use std::alloc::Global;
+use toml::Table;
+
+/// The classes: one with the defaults where none is stated.
+pub fn classes(alloc: Global, top: &Table) -> Result<Vec<ClassRow>, TableRefusal>
+    ensures held { IfOk result (λ _. check_of (table_view top.now) class_array ≡ None) }
+    ensures value { IfOk result (λ rows. rows.items ≡ class_rows (table_view top.now)) }
+    ensures costs { IfOk result (λ rows. All (λ row. 1 ≤ row.cost) rows.items) }
+    ensures range { IfOk result (λ rows. IsInRange 1 16 (length rows.items)) }
+    ensures refused { IfErr result (Refuses (check_of (table_view top.now) class_array)) }
+{
+    let place = Place::Top;
+    let entries = Entries {
+        alloc,
+        place,
+        table: top,
+    };
+    let values = entries.elements("class", 1, 16)?;
+    let mut rows = class_rows(alloc, values)?;
+    if rows.is_empty() {
+        let default = ClassRow {
+            priority: 0,
+            cost: 1,
+        };
+        rows.push(default).map_err(NoMemory::from)?;
+    }
+    Ok(rows)
+}
+
+/// The ports.
+pub fn ports(alloc: Global, top: &Table) -> Result<PortEntries, TableRefusal>
+    ensures held { IfOk result (λ _. check_of (table_view top.now) port_array ≡ None) }
+    ensures files { IfOk result (λ ports. ports.files.items ≡ map port_row (rows_in Array.Ports (table_view top.now))) }
+    ensures kinds { IfOk result (λ ports. ports.kinds.items ≡ map port_kind (rows_in Array.Ports (table_view top.now))) }
+    ensures count { IfOk result (λ ports. length ports.files.items ≡ ports_in (table_view top.now)) }
+    ensures count_kinds { IfOk result (λ ports. length ports.kinds.items ≡ ports_in (table_view top.now)) }
+    ensures range { IfOk result (λ _. IsInRange 1 64 (ports_in (table_view top.now))) }
+    ensures refused { IfErr result (Refuses (check_of (table_view top.now) port_array)) }
+{
+    let place = Place::Top;
+    let entries = Entries {
+        alloc,
+        place,
+        table: top,
+    };
+    let values = entries.required_elements("port", 1, 64)?;
+    port_rows(alloc, values)
+}
+
+/// The addresses, among so many ports.
+pub fn addresses(alloc: Global, top: &Table, ports: usize) -> Result<Vec<AddressRow>, TableRefusal>
+    requires { ports ≡ ports_in (table_view top.now) }
+    ensures held { IfOk result (λ _. check_of (table_view top.now) (address_array (table_view top.now)) ≡ None) }
+    ensures value { IfOk result (λ rows. rows.items ≡ map address_row (rows_in Array.Addresses (table_view top.now))) }
+    ensures outputs { IfOk result (λ rows. All (λ row. row.output < ports) rows.items) }
+    ensures differ { IfOk result (λ rows. AllPairs (λ a b. a.mac ≢ b.mac) rows.items) }
+    ensures refused { IfErr result (Refuses (check_of (table_view top.now) (address_array (table_view top.now)))) }
+{
+    let place = Place::Top;
+    let entries = Entries {
+        alloc,
+        place,
+        table: top,
+    };
+    let values = entries.elements("address", 0, 4096)?;
+    address_rows(alloc, values, ports)
+}
+
+/// The rules, among so many ports and classes.
+pub fn rules(
+    alloc: Global,
+    top: &Table,
+    ports: usize,
+    classes: usize,
+) -> Result<Vec<RuleRow>, TableRefusal>
+    requires ports { ports ≡ ports_in (table_view top.now) }
+    requires classes { classes ≡ classes_in (table_view top.now) }
+    ensures held { IfOk result (λ _. check_of (table_view top.now) (rule_array (table_view top.now)) ≡ None) }
+    ensures value { IfOk result (λ rows. rows.items ≡ map rule_row (rows_in Array.Rules (table_view top.now))) }
+    ensures inputs { IfOk result (λ rows. All (λ row. IfSome row.input (λ input. input < ports)) rows.items) }
+    ensures classes { IfOk result (λ rows. All (λ row. row.class < classes) rows.items) }
+    ensures refused { IfErr result (Refuses (check_of (table_view top.now) (rule_array (table_view top.now)))) }
+{
+    let place = Place::Top;
+    let entries = Entries {
+        alloc,
+        place,
+        table: top,
+    };
+    let values = entries.elements("rule", 0, 256)?;
+    rule_rows(alloc, values, ports, classes)
+}
