@@ -1,0 +1,89 @@
+-- A line is laid out: what each step of it adds, and what stands at its end.
+use Rattle.std.proofs.Common.{◌≡◌, ℕ, ◌+◌, ◌-◌, ◌/◌, ◌^◌, ◌<◌, ◌≤◌, max, List, [], length, map, not, slice_index_or, slice_get, IfSome, refl, ap, sym, ◌∙◌, subst, arith}
+use Rattle.std.specs.List.{AllByRecursion, range_with_len}
+use Rattle.std.proofs.lemmas.List.{length-append}
+use Rattle.std.proofs.lemmas.List.Filters.{length-filter_both}
+use Rattle.cq_base.specs.Arriving.{Arrival, end_of}
+use Rattle.cq_pcap.specs.Captured.{Captured, rows_from, file_length}
+use Rattle.cq_pcap.specs.declared.capture.PacketRow.{PacketRow}
+use Rattle.cq_route.specs.declared.tables.Tables.{Tables}
+use Rattle.cq_route.specs.Route.{route}
+use Rattle.cq_cells.specs.declared.line.Row.{Row}
+use Rattle.cq_cells.specs.Lines.{AreAdded, AreRows, line_arrivals}
+use Rattle.cq_cells.specs.Schedule.{cells_of, packets_of, packet_at, cells, start, arrivals_of, arrivals_at, first_stamp}
+use Rattle.cq_cells.specs.Traffic.{IsRecorded, is_to, number_of}
+use Rattle.cq_cells.proofs.Owned.{end_of-append}
+use Rattle.cq_cells.proofs.Packets.{row_of, came_by, came_more, length_packet, end_packet, IsSoFar, few_by, early_by, is_row, line_is, rows_are}
+use Rattle.cq_cells.proofs.Stamps.{IsRowOf, row_is_of, at_packet}
+
+abbrev no_packet : Captured
+no_packet = record { stamp = 0; original = 0; body = [] }
+
+abbrev no_place : PacketRow
+no_place = record { stamp = 0; original = 0; at = 0; len = 0 }
+
+-- what the capture says of the packets of the input
+pub recorded_is : (captures : List (List Captured)) (input : ℕ) (ps : List Captured) → ps ≡ packets_of captures input → AllByRecursion (λ p. p.stamp < 2 ^ 63) ps → file_length ps ≤ 2 ^ 28 → IsRecorded (packets_of captures input)
+recorded_is captures input ps same stamps small = subst (λ (qs : List Captured). IsRecorded qs) same (record { stamps = stamps; small = small })
+
+-- a row that is made of packet k is its row
+pub next_row : (t : Tables) (captures : List (List Captured)) (input k : ℕ) (ps : List Captured) (places : List PacketRow) (body : List ℕ) (row : Row) (origin free : ℕ) → ps ≡ packets_of captures input → places ≡ rows_from 24 ps → k < length ps → IfSome (slice_get ps k) (λ p. body ≡ p.body) → origin ≡ first_stamp captures → free ≡ end_of (came_by t captures input k) → row.start ≡ max (((slice_index_or places k no_place).stamp - origin) / t.slot_ns) free → row.cells ≡ cells_of (slice_index_or places k no_place).len t.cell_bytes → (row.output, row.class) ≡ route t input body → row.len ≡ (slice_index_or places k no_place).len → row ≡ row_of t captures input k
+next_row t captures input k ps places body row origin free same placed inside its from ended starts cut routed long =
+    let is : IsRowOf (slice_index_or ps k no_packet) (slice_index_or (rows_from 24 ps) k no_place) = row_is_of 24 ps k no_place no_packet inside in
+    let here : slice_index_or ps k no_packet ≡ packet_at captures input k = ap (λ (qs : List Captured). slice_index_or qs k no_packet) same in
+    let there : slice_index_or places k no_place ≡ slice_index_or (rows_from 24 ps) k no_place = ap (λ (rows : List PacketRow). slice_index_or rows k no_place) placed in
+    is_row t captures input k row origin free (slice_index_or places k no_place).stamp (slice_index_or places k no_place).len body from ended
+    (ap (λ (r : PacketRow). r.stamp) there ∙ is.stamp ∙ ap (λ (p : Captured). p.stamp) here)
+    (ap (λ (r : PacketRow). r.len) there ∙ is.len ∙ ap (λ (p : Captured). length p.body) here)
+    (at_packet (λ (p : Captured). body ≡ p.body) ps k no_packet inside its ∙ ap (λ (p : Captured). p.body) here)
+    starts cut routed long
+
+pub filter_few : (j : ℕ) (came : List Arrival) → number_of (is_to j) came ≤ length came
+filter_few j came = omega (arith, length-filter_both (is_to j) (λ (a : Arrival). not (is_to j a)) (λ _. refl) came)
+
+-- with a packet more the counts stay small
+pub record AreSmall (row : Row) (cells : ℕ) (old counts : List ℕ) : Type 0 where
+  pub ends : row.start + row.cells ≤ 2 ^ 63 + 2 ^ 28
+  pub all : cells + row.cells ≤ 2 ^ 28
+  pub each : row.output < length old → slice_index_or counts row.output 0 + row.cells ≤ slice_index_or old row.output 0 + 2 ^ 28
+
+pub still_small : (t : Tables) (captures : List (List Captured)) (input k : ℕ) (rows : List Row) (free all : ℕ) (old counts : List ℕ) (row : Row) → 1 ≤ t.cell_bytes → IsRecorded (packets_of captures input) → k < length (packets_of captures input) → IsSoFar t captures input k rows free all old counts → row ≡ row_of t captures input k → AreSmall row all old counts
+still_small t captures input k rows free all old counts row some r inside s is =
+    let had = s.all in
+    let longer : length (came_by t captures input (k + 1)) ≡ length (came_by t captures input k) + length (arrivals_of t captures input k) = ap (λ (came : List Arrival). length came) (came_more t captures input k) ∙ length-append (came_by t captures input k) (arrivals_of t captures input k) in
+    let starts : row.start ≡ start t captures input k = ap (λ (w : Row). w.start) is in
+    let cut : row.cells ≡ cells t captures input k = ap (λ (w : Row). w.cells) is in
+    let ends : end_of (came_by t captures input (k + 1)) ≡ max (end_of (came_by t captures input k)) (end_of (arrivals_of t captures input k)) = ap end_of (came_more t captures input k) ∙ end_of-append (came_by t captures input k) (arrivals_of t captures input k) in
+    let few = few_by t captures input (k + 1) some r (omega arith) in
+    let early = early_by t captures input (k + 1) r (omega arith) in
+    record {
+      ends = omega (arith, end_packet t captures input k);
+      all = omega (arith, length_packet t captures input k);
+      each = λ own.
+          let added = s.each row.output own in
+          omega (arith, length_packet t captures input k, filter_few row.output (came_by t captures input k));
+    }
+
+-- what stands at the end of a line
+pub record IsWhole (t : Tables) (captures : List (List Captured)) (input : ℕ) (rows : List Row) (free cells : ℕ) (old counts : List ℕ) : Type 0 where
+  pub line : line_arrivals input t.cell_bytes rows ≡ arrivals_at t captures input
+  pub kept : AreRows t.cell_bytes rows
+  pub all : cells ≡ length (line_arrivals input t.cell_bytes rows)
+  pub few : cells ≤ 2 ^ 28
+  pub ended : free ≡ end_of (line_arrivals input t.cell_bytes rows)
+  pub each : AreAdded (arrivals_at t captures input) old counts
+
+pub at_end : (t : Tables) (captures : List (List Captured)) (input k : ℕ) (rows : List Row) (free all : ℕ) (old counts : List ℕ) → 1 ≤ t.cell_bytes → IsRecorded (packets_of captures input) → k ≡ length (packets_of captures input) → IsSoFar t captures input k rows free all old counts → IsWhole t captures input rows free all old counts
+unfolding arrivals_at
+at_end t captures input k rows free all old counts some r last s =
+    let kept : rows ≡ map (row_of t captures input) (range_with_len 0 (length (packets_of captures input))) = s.kept ∙ ap (λ (n : ℕ). map (row_of t captures input) (range_with_len 0 n)) last in
+    let line : line_arrivals input t.cell_bytes rows ≡ arrivals_at t captures input = ap (λ (rs : List Row). line_arrivals input t.cell_bytes rs) kept ∙ line_is t captures input in
+    let came : came_by t captures input k ≡ arrivals_at t captures input = ap (λ (n : ℕ). came_by t captures input n) last in
+    record {
+      line = line;
+      kept = subst (λ (rs : List Row). AreRows t.cell_bytes rs) (sym kept) (rows_are t captures input some r);
+      all = s.all ∙ ap (λ (as_came : List Arrival). length as_came) (came ∙ sym line);
+      few = let had = s.all in omega (arith, few_by t captures input k some r (omega arith));
+      ended = s.ended ∙ ap end_of (came ∙ sym line);
+      each = subst (λ (xs : List Arrival). AreAdded xs old counts) came s.each;
+    }

@@ -1,0 +1,9 @@
+pub mod Pieces
+pub mod Ranges
+pub mod Looked
+pub mod Stamps
+pub mod Owned
+pub mod Arrived
+pub mod Packets
+pub mod Laid
+pub mod Rising

@@ -1,0 +1,70 @@
+-- Lists that are made number by number.
+use Rattle.std.proofs.Common.{◌≡◌, ◌≢◌, ℕ, zero, suc, ◌+◌, ◌<◌, ◌≤◌, Bool, List, [], ◌∷◌, ◌++◌, map, flat_map, Option, None, Some, refl, ap, sym, ◌∙◌, inl, inr, set, get_or, length, arith}
+use Rattle.std.specs.List.{range_with_len, find}
+use Rattle.std.specs.Option.{option_or}
+use Rattle.std.proofs.lemmas.Bool.{cases_eq}
+use Rattle.std.proofs.lemmas.List.Folds.{find-append}
+use Rattle.std.proofs.lemmas.List.{map-id}
+use Rattle.std.proofs.lemmas.List.FromFn.{map-range_with_len_more, fill_by_all, length-map-range_with_len, get_or-map-range_with_len}
+use Rattle.std.proofs.lemmas.List.{get_or-set_same, get_or-set_other, length-set}
+
+-- the numbers up to the next one
+pub range_more : (a n : ℕ) → range_with_len a (n + 1) ≡ range_with_len a n ++ (a + n) ∷ []
+range_more a n =
+    sym (map-id (range_with_len a (n + 1))) ∙ map-range_with_len_more (λ j. j) a n (a + n) refl ∙ ap (λ ns. ns ++ (a + n) ∷ []) (map-id (range_with_len a n))
+
+-- two functions that agree on the numbers make the same list
+pub flat_same : {X : Type 0} (f g : ℕ → List X) (a n : ℕ) → ((j : ℕ) → a ≤ j → j < a + n → f j ≡ g j) → flat_map f (range_with_len a n) ≡ flat_map g (range_with_len a n)
+flat_same f g a zero h = refl
+flat_same f g a (suc n) h =
+    let here : f a ≡ g a = h a (omega arith) (omega arith) in
+    let rest = flat_same f g (a + 1) n (λ j b e. h j (omega arith) (omega arith)) in
+    cc
+
+pub map_same : {X : Type 0} (f g : ℕ → X) (a n : ℕ) → ((j : ℕ) → a ≤ j → j < a + n → f j ≡ g j) → map f (range_with_len a n) ≡ map g (range_with_len a n)
+map_same f g a zero h = refl
+map_same f g a (suc n) h =
+    let here : f a ≡ g a = h a (omega arith) (omega arith) in
+    let rest = map_same f g (a + 1) n (λ j b e. h j (omega arith) (omega arith)) in
+    cc
+
+-- what is found, or else nothing
+pub or_none : {X : Type 0} (o : Option X) → option_or o None ≡ o
+or_none None = refl
+or_none (Some x) = refl
+
+-- nothing is found where no number has it
+pub find_none : {X : Type 0} (p : X → Bool) (f : ℕ → List X) (a n : ℕ) → ((j : ℕ) → a ≤ j → j < a + n → find p (f j) ≡ None) → find p (flat_map f (range_with_len a n)) ≡ None
+find_none p f a zero h = refl
+find_none p f a (suc n) h =
+    let here : find p (f a) ≡ None = h a (omega arith) (omega arith) in
+    find-append p (f a) (flat_map f (range_with_len (a + 1) n)) ∙ ap (λ o. option_or o (find p (flat_map f (range_with_len (a + 1) n)))) here ∙ find_none p f (a + 1) n (λ j b e. h j (omega arith) (omega arith))
+
+-- what is found at the one number that can have it
+pub find_only : {X : Type 0} (p : X → Bool) (f : ℕ → List X) (a n k : ℕ) → a ≤ k → k < a + n → ((j : ℕ) → a ≤ j → j < a + n → j ≢ k → find p (f j) ≡ None) → find p (flat_map f (range_with_len a n)) ≡ find p (f k)
+find_only p f a zero k from to h = absurd (omega arith)
+find_only {X = X} p f a (suc n) k from to h =
+    let rest : List X = flat_map f (range_with_len (a + 1) n) in
+    elim (cases_eq a k) [
+      | inl here ↦
+          find-append p (f a) rest
+          ∙ ap (λ o. option_or (find p (f a)) o) (find_none p f (a + 1) n (λ j b e. h j (omega arith) (omega arith) (omega arith)))
+          ∙ or_none (find p (f a))
+          ∙ ap (λ j. find p (f j)) here
+      | inr other ↦
+          find-append p (f a) rest
+          ∙ ap (λ o. option_or o (find p rest)) (h a (omega arith) (omega arith) other)
+          ∙ find_only p f (a + 1) n k (omega arith) (omega arith) (λ j b e. h j (omega arith) (omega arith))
+    ]
+
+-- one value that is written among those of the numbers
+pub set_one : {X : Type 0} (f g : ℕ → X) (n i : ℕ) (y : X) → i < n → g i ≡ y → ((j : ℕ) → j < n → j ≢ i → g j ≡ f j) → set (map f (range_with_len 0 n)) i y ≡ map g (range_with_len 0 n)
+set_one f g n i y inside own others =
+    fill_by_all g (set (map f (range_with_len 0 n)) i y) n y (length-set (map f (range_with_len 0 n)) i y ∙ length-map-range_with_len f 0 n)
+    (λ k h. elim (cases_eq k i) [
+      | inl same ↦
+          let fits : i < length (map f (range_with_len 0 n)) = omega (arith, length-map-range_with_len f 0 n) in
+          ap (λ j. get_or (set (map f (range_with_len 0 n)) i y) j y) same ∙ get_or-set_same (map f (range_with_len 0 n)) i y y fits ∙ sym own ∙ ap g (sym same)
+      | inr other ↦
+          get_or-set_other (map f (range_with_len 0 n)) i k y y other ∙ get_or-map-range_with_len f 0 n k k y h (omega arith) ∙ sym (others k h other)
+    ])

@@ -1,0 +1,4 @@
+pub mod Schedule
+pub mod Traffic
+pub mod Scheduled
+pub mod Lines

@@ -1,0 +1,36 @@
+// The stamp from which slots are counted.
+ghost use Rattle.std.specs.Prelude.{◌≡◌, map, min};
+ghost use Rattle.std.specs.List.{reduce};
+ghost use Rattle.cq_cells.specs.Schedule.{earlier, first_stamp};
+
+use cq_pcap::{Capture, PacketRow};
+
+/// The least stamp of all captures, in nanoseconds, or 0 where there is no packet.
+#[tactic(auto, unfolding(crate::specs::Schedule::first_stamp))]
+pub fn first_stamp(captures: &[Capture]) -> u64
+    ensures { result ≡ first_stamp captures.now }
+{
+    let mut first = None;
+    'captures: for capture in captures {
+        first = earlier(first, earliest(capture.rows()));
+    }
+    first.unwrap_or(0)
+}
+
+// The least stamp of a capture, if it has a packet.
+fn earliest(rows: &[PacketRow]) -> Option<u64>
+    ensures { result ≡ reduce min (map (λ row. row.stamp) rows.now) }
+{
+    rows.iter().map(|row| row.stamp).min()
+}
+
+// The lesser of two stamps, or the one that there is.
+fn earlier(a: Option<u64>, b: Option<u64>) -> Option<u64>
+    ensures { result ≡ earlier a b }
+{
+    match (a, b) {
+        (Some(a), Some(b)) => Some(a.min(b)),
+        (Some(a), None) => Some(a),
+        (None, b) => b,
+    }
+}

@@ -1,0 +1,20 @@
+// Laws of what arrives.
+ghost use Rattle.std.specs.Prelude.{◌≡◌, ℕ, ◌<◌, List, length};
+ghost use Rattle.cq_base.specs.Arriving.{Arrival, arriving_at};
+ghost use Rattle.cq_cells.specs.Schedule.{arrivals, packets_of};
+ghost use Rattle.cq_cells.specs.Traffic.{IsRecorded, IsShort, IsTraffic};
+ghost use Rattle.cq_pcap.specs.Captured.{Captured};
+ghost use Rattle.cq_route.specs.declared.tables.Tables.{Tables};
+ghost use Rattle.cq_route.specs.Tables.{AreTables, classes_of, ports_of};
+
+/// Each cell that arrives comes to a port, goes to a port and is of a class of the tables, and the
+/// cells of an input arrive one after another: at most one in a slot.
+pub fn one_cell_arrives_a_slot()
+    ensures { (t : Tables) (captures : List (List Captured)) → AreTables t → length captures ≡ ports_of t.setup → IsTraffic (ports_of t.setup) (classes_of t.setup) (arrivals t captures) }
+{}
+
+/// The arrivals of captures that were read end early: 64 bits count the slots of a run, with one slot
+/// for each cell after the last has come.
+pub fn arrivals_end_early()
+    ensures { (t : Tables) (captures : List (List Captured)) → AreTables t → length captures ≡ ports_of t.setup → ((i : ℕ) → i < length captures → IsRecorded (packets_of captures i)) → IsShort (arrivals t captures) }
+{}

@@ -1,0 +1,17 @@
+//! When the cells of captured packets arrive.
+//!
+//! A packet is cut into cells, which arrive in consecutive slots from the slot of its stamp on, or from
+//! a later one where the packet before it still arrives. A `Schedule` answers what arrives in a slot.
+#![tactic(auto)]
+
+mod first_stamp;
+mod laws;
+mod line;
+mod schedule;
+mod segments;
+#[cfg(test)]
+mod tests;
+
+pub use laws::{arrivals_end_early, one_cell_arrives_a_slot};
+pub use schedule::Schedule;
+pub use segments::cells_of;

@@ -1,0 +1,186 @@
+// The cells that arrive at one input. Each packet has a row, and a slot is looked up among the rows by
+// halving: the work grows with the logarithm of the number of packets.
+ghost use Rattle.std.specs.Prelude.{◌≡◌, ℕ, ◌+◌, ◌-◌, ◌/◌, ◌==◌, ◌^◌, ◌<◌, ◌≤◌, find, length, max, option_map, slice_index_or, IfOk};
+ghost use Rattle.std.specs.List.Sorted.{IsNonDecreasingBy};
+ghost use Rattle.cq_base.specs.Arriving.{end_of};
+ghost use Rattle.cq_cells.specs.Lines.{AreAdded, IsBegun, row_cell};
+ghost use Rattle.cq_cells.specs.Schedule.{arrivals_at, cells_of, first_stamp, packets_of};
+ghost use Rattle.cq_cells.specs.Traffic.{IsRecorded};
+ghost use Rattle.cq_route.specs.Route.{route};
+ghost use Rattle.cq_route.specs.Tables.{AreTables, ports_of};
+
+use crate::segments::cells_of;
+use cq_base::{Cell, CellId, Class, NoMemory, Port, Slot};
+use cq_pcap::{Capture, PacketRow};
+use cq_route::Tables;
+use std::alloc::Global;
+use std::marker::Model;
+
+// When a packet arrives, and how it is cut.
+#[derive(Clone, Copy)]
+pub struct Row {
+    // The slot of its first cell.
+    pub start: u64,
+    // The number of its cells.
+    pub cells: u32,
+    pub output: Port,
+    pub class: Class,
+    // How many bytes of it were captured.
+    pub len: u32,
+}
+
+// What arrives at an input. Contracts see it as its arrivals, in order.
+#[derive(Drop)]
+pub struct Line {
+    input: Port,
+    cell_bytes: u32,
+    cells: u64,
+    end: Slot,
+    rows: Vec<Row>,
+}
+
+impl Model for Line {
+    ghost use Rattle.std.specs.Prelude.{◌≡◌, ◌≤◌, ◌^◌, List, length};
+    ghost use Rattle.cq_base.specs.Arriving.{Arrival, end_of};
+    ghost use Rattle.cq_cells.specs.Lines.{AreRows, line_arrivals};
+
+    ghost Value = { List Arrival };
+
+    ghost view = { λ l. line_arrivals l.input l.cell_bytes l.rows.items };
+
+    ghost invariant = { λ l.
+        AreRows l.cell_bytes l.rows.items × (l.cells ≡ length (line_arrivals l.input l.cell_bytes l.rows.items)) × (l.cells ≤ 2 ^ 28) × (l.end ≡ end_of (line_arrivals l.input l.cell_bytes l.rows.items)) };
+}
+
+impl Line {
+    // How many cells arrive.
+    pub fn cells(&self) -> u64
+        ensures cells { result ≡ length self.now }
+        ensures few { result ≤ 2 ^ 28 }
+    {
+        self.cells
+    }
+
+    // The first slot from which on no cell arrives.
+    pub fn end(&self) -> Slot
+        ensures { result ≡ end_of self.now }
+    {
+        self.end
+    }
+
+    // The cell that arrives in the slot.
+    pub fn cell_at(&self, slot: Slot) -> Option<Cell>
+        ensures { result ≡ option_map (λ a. a.cell) (find (λ a. a.slot == slot) self.now) }
+    {
+        let packet = begun(&self.rows, slot).checked_sub(1)?;
+        let row = self.rows[packet];
+        let index = slot - row.start;
+        if index >= u64::from(row.cells) {
+            return None;
+        }
+        let id = CellId {
+            input: self.input,
+            packet: packet as u32,
+            index: index as u32,
+        };
+        Some(row.cell(self.cell_bytes, id))
+    }
+
+    // The arrivals at an input, of which each is counted for its output. The error is want of memory.
+    pub fn of(
+        alloc: Global,
+        input: Port,
+        captures: &[Capture],
+        tables: &Tables,
+        origin: u64,
+        to_output: &mut [u64],
+    ) -> Result<Line, NoMemory>
+        requires tables { AreTables tables.now }
+        requires place { input < length captures.now }
+        requires origin { origin ≡ first_stamp captures.now }
+        requires outputs { length to_output.old ≡ ports_of tables.now.setup }
+        requires room { (j : ℕ) → j < length to_output.old → slice_index_or to_output.old j 0 + 2 ^ 28 < 2 ^ 64 }
+        ensures line { IfOk result (λ line. line ≡ arrivals_at tables.now captures.now input) }
+        ensures few { IfOk result (λ line. length line ≤ 2 ^ 28) }
+        ensures recorded { IfOk result (λ _. IsRecorded (packets_of captures.now input)) }
+        ensures outputs { length to_output.new ≡ length to_output.old }
+        ensures counts { IfOk result (λ _. AreAdded (arrivals_at tables.now captures.now input) to_output.old to_output.new) }
+    {
+        let capture = &captures[input as usize];
+        let packets = capture.rows();
+        let mut rows = Vec::with_capacity(alloc, packets.len())?;
+        let mut free = 0;
+        let mut cells = 0;
+        'packets: for k in 0..packets.len() {
+            let row = row_of(tables, origin, free, input, packets[k], capture.body(k));
+            free = row.start + u64::from(row.cells);
+            cells += u64::from(row.cells);
+            to_output[row.output as usize] += u64::from(row.cells);
+            rows.push_reserved(row);
+        }
+        Ok(Line {
+            input,
+            cell_bytes: tables.cell_bytes,
+            cells,
+            end: free,
+            rows,
+        })
+    }
+}
+
+// How many packets have begun in the slot.
+fn begun(rows: &[Row], slot: Slot) -> usize
+    requires { IsNonDecreasingBy (λ row. row.start) rows.now }
+    ensures few { result ≤ length rows.now }
+    ensures begun { IsBegun rows.now slot result }
+{
+    rows.partition_point(|row| row.start <= slot)
+}
+
+// The row of a packet that can begin in this slot at the earliest.
+fn row_of(
+    tables: &Tables,
+    origin: u64,
+    free: u64,
+    input: Port,
+    packet: PacketRow,
+    body: &[u8],
+) -> Row
+    requires tables { AreTables tables.now }
+    ensures start { result.start ≡ max ((packet.stamp - origin) / tables.now.slot_ns) free }
+    ensures cells { result.cells ≡ cells_of packet.len tables.now.cell_bytes }
+    ensures route { (result.output, result.class) ≡ route tables.now input body.now }
+    ensures output { result.output < ports_of tables.now.setup }
+    ensures len { result.len ≡ packet.len }
+{
+    let (output, class) = tables.route(input, body);
+    let slot = packet.stamp.saturating_sub(origin) / tables.slot_ns;
+    Row {
+        start: slot.max(free),
+        cells: cells_of(packet.len, tables.cell_bytes),
+        output,
+        class,
+        len: packet.len,
+    }
+}
+
+impl Row {
+    // The cell of the packet with this id.
+    #[tactic(auto, using(crate::proofs::Pieces::piece_begins))]
+    fn cell(&self, cell_bytes: u32, id: CellId) -> Cell
+        requires some { 1 ≤ cell_bytes }
+        requires cut { self.now.cells ≡ cells_of self.now.len cell_bytes }
+        requires index { id.index < self.now.cells }
+        ensures { result ≡ row_cell id.input cell_bytes id.packet self.now id.index }
+    {
+        let at = id.index * cell_bytes;
+        Cell {
+            id,
+            output: self.output,
+            class: self.class,
+            last: id.index + 1 == self.cells,
+            at,
+            len: cell_bytes.min(self.len - at),
+        }
+    }
+}

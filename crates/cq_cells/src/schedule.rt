@@ -1,0 +1,193 @@
+// What arrives at all inputs.
+ghost use Rattle.std.specs.Prelude.{◌≡◌, ℕ, ◌^◌, ◌<◌, ◌≤◌, length, map, replicate, IfOk};
+ghost use Rattle.std.specs.List.{range_with_len};
+ghost use Rattle.cq_base.specs.Arriving.{arriving, arriving_at, end_of};
+ghost use Rattle.cq_cells.specs.Lines.{AreAdded, AreOwn, all_of};
+ghost use Rattle.cq_cells.specs.Schedule.{arrivals_at, first_stamp, packets_of};
+ghost use Rattle.cq_cells.specs.Scheduled.{schedule_of};
+ghost use Rattle.cq_cells.specs.Traffic.{IsRecorded, IsShort, IsTraffic, is_from, is_to, number_of};
+ghost use Rattle.cq_route.specs.Tables.{AreTables, classes_of, ports_of};
+
+use crate::first_stamp::first_stamp;
+use crate::line::Line;
+use cq_base::{Arrivals, Cell, NoMemory, Port, Slot};
+use cq_pcap::Capture;
+use cq_route::Tables;
+use std::alloc::Global;
+use std::marker::Model;
+
+/// When the cells of captured packets arrive. Contracts see the stamp from which slots are counted, the
+/// number of ports, and all arrivals, input after input and packet after packet.
+#[derive(Drop)]
+pub struct Schedule {
+    first_stamp: u64,
+    total: u64,
+    end: Slot,
+    lines: Vec<Line>,
+    to_output: Vec<u64>,
+}
+
+impl Model for Schedule {
+    ghost use Rattle.std.specs.Prelude.{length};
+    ghost use Rattle.cq_cells.specs.Lines.{AreCounted, all_of};
+    ghost use Rattle.cq_cells.specs.Scheduled.{Scheduled};
+
+    ghost Value = { Scheduled };
+
+    ghost view = { λ s. record { first_stamp = s.first_stamp; ports = length s.lines.items; came = all_of s.lines.items } };
+
+    ghost invariant = { λ s. AreCounted s.lines.items s.total s.end s.to_output.items };
+}
+
+impl Schedule {
+    /// The schedule of captures, capture i at input i. The cells of a packet arrive one a slot: the
+    /// first in the slot in which its stamp lies, counted from the least stamp of all captures, or in a
+    /// later one where the packet before it still arrives. The error is want of memory.
+    pub fn of(alloc: Global, captures: &[Capture], tables: &Tables) -> Result<Schedule, NoMemory>
+        requires tables { AreTables tables.now }
+        requires captures { length captures.now ≡ ports_of tables.now.setup }
+        ensures schedule { IfOk result (λ s. s ≡ schedule_of tables.now captures.now) }
+        ensures traffic { IfOk result (λ s. IsTraffic (ports_of tables.now.setup) (classes_of tables.now.setup) s.came) }
+        ensures short { IfOk result (λ s. IsShort s.came) }
+    {
+        let first_stamp = first_stamp(captures);
+        let mut to_output = no_cells(alloc, captures.len())?;
+        let lines = lines_of(alloc, captures, tables, first_stamp, &mut to_output)?;
+        let total = total_of(&lines);
+        let end = end_of(&lines);
+        Ok(Schedule {
+            first_stamp,
+            total,
+            end,
+            lines,
+            to_output,
+        })
+    }
+
+    /// The cell that arrives in the slot at the input, or None where none does.
+    pub fn cell_at(&self, slot: Slot, input: Port) -> Option<Cell>
+        requires { input < self.now.ports }
+        ensures { result ≡ arriving_at self.now.came slot input }
+    {
+        let line = &self.lines[input as usize];
+        line.cell_at(slot)
+    }
+
+    /// All cells that arrive in the slot.
+    pub fn arrivals_at(&self, slot: Slot) -> Arrivals
+        ensures { result ≡ arriving self.now.came slot }
+    {
+        arrivals_of(&self.lines, slot)
+    }
+
+    /// The stamp from which slots are counted, in nanoseconds: the least one, or 0 where there is no
+    /// packet.
+    pub fn t0(&self) -> u64
+        ensures { result ≡ self.now.first_stamp }
+    {
+        self.first_stamp
+    }
+
+    /// How many cells arrive.
+    pub fn total(&self) -> u64
+        ensures { result ≡ length self.now.came }
+    {
+        self.total
+    }
+
+    /// The first slot from which on no cell arrives, or 0 where there is no cell.
+    pub fn end(&self) -> Slot
+        ensures { result ≡ end_of self.now.came }
+    {
+        self.end
+    }
+
+    /// How many cells arrive at the input.
+    pub fn from_input(&self, input: Port) -> u64
+        requires { input < self.now.ports }
+        ensures { result ≡ number_of (is_from input) self.now.came }
+    {
+        let line = &self.lines[input as usize];
+        line.cells()
+    }
+
+    /// How many cells are for the output.
+    pub fn to_output(&self, output: Port) -> u64
+        requires { output < self.now.ports }
+        ensures { result ≡ number_of (is_to output) self.now.came }
+    {
+        self.to_output[output as usize]
+    }
+}
+
+// So many counts of nothing. The error is want of memory.
+fn no_cells(alloc: Global, outputs: usize) -> Result<Vec<u64>, NoMemory>
+    ensures { IfOk result (λ counts. counts.items ≡ replicate outputs 0) }
+{
+    let mut counts = Vec::new(alloc);
+    counts.resize(outputs, 0)?;
+    Ok(counts)
+}
+
+// The lines of all inputs, of whose cells each is counted for its output. The error is want of memory.
+fn lines_of(
+    alloc: Global,
+    captures: &[Capture],
+    tables: &Tables,
+    origin: u64,
+    to_output: &mut [u64],
+) -> Result<Vec<Line>, NoMemory>
+    requires tables { AreTables tables.now }
+    requires captures { length captures.now ≡ ports_of tables.now.setup }
+    requires origin { origin ≡ first_stamp captures.now }
+    requires outputs { to_output.old ≡ replicate (ports_of tables.now.setup) 0 }
+    ensures lines { IfOk result (λ lines. lines.items ≡ map (arrivals_at tables.now captures.now) (range_with_len 0 (length captures.now))) }
+    ensures recorded { IfOk result (λ _. (i : ℕ) → i < length captures.now → IsRecorded (packets_of captures.now i)) }
+    ensures outputs { length to_output.new ≡ length to_output.old }
+    ensures counts { IfOk result (λ lines. AreAdded (all_of lines.items) to_output.old to_output.new) }
+{
+    let mut lines = Vec::with_capacity(alloc, captures.len())?;
+    'inputs: for input in 0..captures.len() {
+        let line = Line::of(alloc, input as Port, captures, tables, origin, to_output)?;
+        lines.push_reserved(line);
+    }
+    Ok(lines)
+}
+
+// How many cells arrive at all inputs.
+fn total_of(lines: &[Line]) -> u64
+    requires { length lines.now ≤ 64 }
+    ensures { result ≡ length (all_of lines.now) }
+{
+    let mut total = 0;
+    'lines: for line in lines {
+        total += line.cells();
+    }
+    total
+}
+
+// The first slot from which on no cell arrives at any input.
+fn end_of(lines: &[Line]) -> Slot
+    ensures { result ≡ end_of (all_of lines.now) }
+{
+    let mut end = 0;
+    'lines: for line in lines {
+        end = line.end().max(end);
+    }
+    end
+}
+
+// What arrives in the slot at the inputs of these lines.
+fn arrivals_of(lines: &[Line], slot: Slot) -> Arrivals
+    requires few { length lines.now ≤ 64 }
+    requires own { AreOwn 0 lines.now }
+    ensures { result ≡ arriving (all_of lines.now) slot }
+{
+    let mut arrivals = Arrivals::none();
+    'lines: for (input, line) in lines.iter().enumerate() {
+        if let Some(cell) = line.cell_at(slot) {
+            arrivals.set(input as Port, cell);
+        }
+    }
+    arrivals
+}

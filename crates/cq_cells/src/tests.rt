@@ -1,0 +1,181 @@
+// Small captures, and the slots in which their cells arrive.
+ghost use Rattle.std.specs.Prelude.{◌≡◌, IfOk, length};
+ghost use Rattle.cq_route.specs.Tables.{AreTables};
+
+use crate::{Schedule, cells_of};
+use cq_base::{Kind, Name, NoMemory, Sequence};
+use cq_pcap::{Capture, PcapRefusal, read_capture};
+use cq_route::{AddressRow, PortRow, Tables};
+use std::alloc::Global;
+use std::test::Fail;
+
+// Little-endian with nanoseconds.
+const HEADER: [u8; 24] = [
+    0x4d, 0x3c, 0xb2, 0xa1, 2, 0, 4, 0, 0, 0, 0, 0, 0, 0, 0, 0, 0, 0, 4, 0, 1, 0, 0, 0,
+];
+
+// More than a small capture has.
+const MANY: usize = 65536;
+
+// A capture of packets, each with its stamp in nanoseconds, its length, and the last byte of the address to which
+// it goes.
+fn capture_of(alloc: Global, packets: &[(u32, u8, u8)]) -> Result<Capture, PcapRefusal> {
+    let mut bytes = Vec::from_slice(alloc, &HEADER).map_err(NoMemory::from)?;
+    for (stamp, length, to) in packets {
+        put_packet(&mut bytes, *stamp, *length, *to)?;
+    }
+    bytes.truncate(MANY);
+    read_capture(alloc, bytes)
+}
+
+fn put_packet(bytes: &mut Vec<u8>, stamp: u32, length: u8, to: u8) -> Result<(), NoMemory> {
+    bytes.extend_from_slice(&[0; 4])?;
+    bytes.extend_from_slice(&stamp.to_le_bytes())?;
+    bytes.extend_from_slice(&u32::from(length).to_le_bytes())?;
+    bytes.extend_from_slice(&u32::from(length).to_le_bytes())?;
+    for place in 0..length {
+        bytes.push(match place {
+            0 => 0x02,
+            5 => to,
+            _ => 0,
+        })?;
+    }
+    Ok(())
+}
+
+#[test]
+fn a_packet_has_as_many_cells_as_it_needs(rt: HostRuntime) -> Result<(), Fail> {
+    assert_eq!(rt; cells_of(0, 64), 1);
+    assert_eq!(rt; cells_of(64, 64), 1);
+    assert_eq!(rt; cells_of(65, 64), 2);
+    assert_eq!(rt; cells_of(128, 64), 2);
+    assert_eq!(rt; cells_of(262_144, 64), 4096);
+    assert_eq!(rt; cells_of(60, 65_535), 1);
+    Ok(())
+}
+
+// What is seen of the cell that arrives in a slot: its packet, its number, where its piece begins, how long it is,
+// and whether it is the last.
+#[tactic(auto, unfolding(cq_route::specs::Plain::plain_tables))]
+fn seen_at_one_port(
+    alloc: Global,
+    packets: &[(u32, u8, u8)],
+    slot: u64,
+) -> Result<Option<(u32, u32, u32, u32, bool)>, Fail> {
+    let tables = Tables::plain(alloc, "in", "out")?;
+    let captures = [capture_of(alloc, packets)?];
+    let schedule = Schedule::of(alloc, &captures, &tables)?;
+    let cell = schedule.cell_at(slot, 0);
+    Ok(cell.map(|c| (c.id.packet, c.id.index, c.at, c.len, c.last)))
+}
+
+#[test]
+fn cells_arrive_one_a_slot_from_the_slot_of_their_stamp_on(rt: HostRuntime) -> Result<(), Fail> {
+    let alloc = rt.alloc();
+    let together = [(0, 64, 0), (0, 65, 0), (0, 128, 0)];
+    let turned = [(2048, 60, 0), (0, 60, 0)];
+    let crowded = [(0, 200, 0), (512, 60, 0)];
+    let cases = [
+        (&together[..], 0, Some((0, 0, 0, 64, true))),
+        (&together[..], 1, Some((1, 0, 0, 64, false))),
+        (&together[..], 2, Some((1, 1, 64, 1, true))),
+        (&together[..], 3, Some((2, 0, 0, 64, false))),
+        (&together[..], 4, Some((2, 1, 64, 64, true))),
+        (&together[..], 5, None),
+        (&turned[..], 0, None),
+        (&turned[..], 3, None),
+        (&turned[..], 4, Some((0, 0, 0, 60, true))),
+        (&turned[..], 5, Some((1, 0, 0, 60, true))),
+        (&turned[..], 6, None),
+        (&crowded[..], 3, Some((0, 3, 192, 8, true))),
+        (&crowded[..], 4, Some((1, 0, 0, 60, true))),
+        (&[], 0, None),
+    ];
+    for (packets, slot, seen) in cases {
+        assert_eq!(rt;
+            seen_at_one_port(alloc, packets, slot)?,
+            seen,
+            "{packets:?} {slot}"
+        );
+    }
+    Ok(())
+}
+
+// The files of three ports.
+fn three_files(alloc: Global) -> Result<Vec<PortRow>, NoMemory>
+    ensures { IfOk result (λ files. length files.items ≡ 3) }
+{
+    let mut files = Vec::new(alloc);
+    files.push(PortRow {
+        read: None,
+        write: Name::of(alloc, "out0")?,
+    })?;
+    files.push(PortRow {
+        read: None,
+        write: Name::of(alloc, "out1")?,
+    })?;
+    files.push(PortRow {
+        read: None,
+        write: Name::of(alloc, "out2")?,
+    })?;
+    Ok(files)
+}
+
+// Three ports. Frames to address one go to output one, all others to output zero.
+#[tactic(auto, unfolding(cq_route::specs::Plain::plain_tables))]
+fn three_ports(alloc: Global) -> Result<Tables, NoMemory>
+    ensures in_range { IfOk result (λ tables. AreTables tables) }
+    ensures ports { IfOk result (λ tables. length tables.setup.kinds ≡ 3) }
+{
+    let one = AddressRow {
+        mac: [0x02, 0, 0, 0, 0, 1],
+        output: 1,
+    };
+    let mut tables = Tables::plain(alloc, "in", "out")?;
+    tables.setup.kinds = Sequence::of(Vec::from_array(alloc, [Kind::FirstCome; 3])?);
+    tables.ports = Sequence::of(three_files(alloc)?);
+    tables.addresses = Sequence::of(Vec::from_array(alloc, [one])?);
+    Ok(tables)
+}
+
+#[test]
+fn each_input_has_its_own_packets(rt: HostRuntime) -> Result<(), Fail> {
+    let alloc = rt.alloc();
+    let tables = three_ports(alloc)?;
+    let captures = [
+        capture_of(alloc, &[(1024, 60, 0)])?,
+        capture_of(alloc, &[(1024, 60, 0)])?,
+        capture_of(alloc, &[(1024, 60, 0), (1536, 60, 1)])?,
+    ];
+    let schedule = Schedule::of(alloc, &captures, &tables)?;
+    let cases = [
+        (0, [Some((0, 0)), Some((0, 0)), Some((0, 0))]),
+        (1, [None, None, Some((1, 1))]),
+        (2, [None, None, None]),
+    ];
+    for (slot, seen) in cases {
+        let arrivals = schedule.arrivals_at(slot);
+        for input in 0..3 {
+            let cell = arrivals.at(input);
+            assert_eq!(rt;
+                cell.map(|c| (c.id.packet, c.output)),
+                seen[input as usize],
+                "{slot} {input}"
+            );
+        }
+    }
+    assert_eq!(rt;
+        (schedule.t0(), schedule.total(), schedule.end()),
+        (1024, 4, 2)
+    );
+    assert_eq!(rt; (schedule.from_input(0), schedule.from_input(2)), (1, 2));
+    assert_eq!(rt;
+        (
+            schedule.to_output(0),
+            schedule.to_output(1),
+            schedule.to_output(2)
+        ),
+        (3, 1, 0)
+    );
+    Ok(())
+}
