@@ -1,0 +1,5 @@
+pub mod Classes
+pub mod Machine
+pub mod MachineLaws
+pub mod Steps
+pub mod Switch

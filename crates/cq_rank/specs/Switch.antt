@@ -1,0 +1,14 @@
+-- The machines of the outputs of one switch.
+use Rattle.std.specs.Prelude.{◌≡◌, ℕ, ◌<◌, ◌≤◌, List, length}
+use Rattle.std.specs.List.{AllByRecursion}
+use Rattle.cq_rank.specs.Machine.{Machine, machine_at}
+
+-- how many classes the machines know, which is the same for all
+abbrev pub class_count : List Machine → ℕ
+class_count ms = (machine_at ms 0).classes
+
+-- there are 1 to 64 machines, and all know the same number of classes
+pub record AreForOneSwitch (ms : List Machine) : Type 0 where
+  pub some : 0 < length ms
+  pub few : length ms ≤ 64
+  pub same : AllByRecursion (λ m. m.classes ≡ class_count ms) ms

@@ -1,0 +1,13 @@
+//! Laws of the machines.
+ghost use Rattle.std.specs.Prelude.{◌≡◌, ◌<◌, ◌≤◌, ℕ, List, length};
+ghost use Rattle.cq_rank.specs.Machine.{Machine, KeepsLaws};
+ghost use Rattle.cq_rank.specs.Steps.{Step, AreOfClasses, after};
+
+/// Between two idle slots the ranks of one class never fall, whatever other ranks are given and whatever
+/// is sent between them. It holds of every machine that keeps the laws. This function does nothing: its
+/// contract is the claim.
+pub fn ranks_of_a_class_never_fall()
+    ensures { (m : Machine) (class : ℕ) (steps : List Step) (state : List ℕ) →
+        KeepsLaws m → length state ≡ m.size → class < m.classes → AreOfClasses m.classes steps →
+        m.ranked state class ≤ m.ranked (after m steps (m.given state class)) class }
+{}
