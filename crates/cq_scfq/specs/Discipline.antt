@@ -1,0 +1,33 @@
+-- What clauses see of a discipline: its fixed numbers, with its kind in front, and the state of its machine.
+use Rattle.std.specs.Prelude.{ℕ, zero, suc, List, [], ◌∷◌, slice_index}
+use Rattle.cq_scfq.specs.declared.discipline.Discipline.{Discipline}
+use Rattle.cq_scfq.specs.declared.discipline.Discipline.TheVariants.{FirstCome, Priority, Fair}
+use Rattle.cq_rank.specs.Machine.{Machine, KeepsLaws, first_come, priority}
+use Rattle.cq_rank.specs.MachineLaws.{first_come_laws, priority_laws}
+use Rattle.cq_scfq.specs.Fair.{fair}
+use Rattle.cq_scfq.specs.FairLaws.{fair_laws}
+
+-- 0 for first come, 1 for priority, 2 for fair, and then the numbers that it keeps
+abbrev pub fixed_of : Discipline → List ℕ
+fixed_of (FirstCome r) = 0 ∷ r.fixed
+fixed_of (Priority r) = 1 ∷ r.fixed
+fixed_of (Fair r) = 2 ∷ r.fixed
+
+-- the state of its machine
+abbrev pub state_of : Discipline → List ℕ
+state_of (FirstCome r) = r.state
+state_of (Priority r) = r.state
+state_of (Fair r) = r.state
+
+-- the machine that its fixed numbers give
+abbrev pub machine_from : List ℕ → Machine
+machine_from [] = first_come 0
+machine_from (zero ∷ numbers) = first_come (slice_index numbers 0)
+machine_from (suc zero ∷ numbers) = priority numbers
+machine_from (suc (suc kind) ∷ numbers) = fair numbers
+
+pub machine_laws : (numbers : List ℕ) → KeepsLaws (machine_from numbers)
+machine_laws [] = first_come_laws 0
+machine_laws (zero ∷ numbers) = first_come_laws (slice_index numbers 0)
+machine_laws (suc zero ∷ numbers) = priority_laws numbers
+machine_laws (suc (suc kind) ∷ numbers) = fair_laws numbers

@@ -1,0 +1,4 @@
+pub mod Discipline
+pub mod Disciplines
+pub mod Fair
+pub mod FairLaws

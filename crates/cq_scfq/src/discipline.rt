@@ -1,0 +1,97 @@
+//! The discipline of an output, as a configuration states it.
+ghost use Rattle.std.specs.Prelude.{◌≡◌, ◌<◌, ◌≤◌, IfOk, OnOk, length, map};
+ghost use Rattle.cq_rank.specs.Classes.{AreClasses};
+ghost use Rattle.cq_rank.specs.Switch.{AreForOneSwitch, class_count};
+ghost use Rattle.cq_scfq.specs.Discipline.{fixed_of, machine_from, state_of};
+ghost use Rattle.cq_scfq.specs.Disciplines.{machine_of, machines_of, opening_of, openings_of};
+
+use crate::Fair;
+use cq_base::{Class, ClassRow, Kind, NoMemory, Setup};
+use cq_rank::{FirstCome, Priority, Rank, TagOverflow};
+use std::alloc::Global;
+
+/// What ranks the cells of an output, whatever its discipline.
+#[derive(Drop)]
+pub enum Discipline {
+    /// First come, first served.
+    FirstCome(FirstCome),
+    /// Strict priority.
+    Priority(Priority),
+    /// Self-clocked fair queueing.
+    Fair(Fair),
+}
+
+impl Discipline {
+    /// One for each port of a switch, in order: each of the port's kind, over the classes of the switch, and
+    /// in its opening state. The error is want of memory.
+    pub fn all(alloc: Global, setup: &Setup) -> Result<Vec<Discipline>, NoMemory>
+        requires { AreClasses setup.now.classes }
+        ensures machines { IfOk result (λ all. map machine_from (map fixed_of all.items) ≡ machines_of setup.now) }
+        ensures states { IfOk result (λ all. map state_of all.items ≡ openings_of setup.now) }
+        ensures classes { OnOk result (0 < length setup.now.kinds → class_count (machines_of setup.now) ≡ length setup.now.classes) }
+        ensures one_switch { OnOk result (0 < length setup.now.kinds → length setup.now.kinds ≤ 64 → AreForOneSwitch (machines_of setup.now)) }
+    {
+        let mut all = Vec::new(alloc);
+        'kinds: for kind in setup.kinds.as_slice() {
+            all.push(Discipline::of(alloc, *kind, setup.classes.as_slice())?)?;
+        }
+        Ok(all)
+    }
+
+    // One of the kind, over the classes.
+    fn of(alloc: Global, kind: Kind, classes: &[ClassRow]) -> Result<Discipline, NoMemory>
+        requires { AreClasses classes.now }
+        ensures machine { IfOk result (λ one. machine_from (fixed_of one) ≡ machine_of kind classes.now) }
+        ensures state { IfOk result (λ one. state_of one ≡ opening_of kind classes.now) }
+    {
+        match kind {
+            Kind::FirstCome => Ok(Discipline::FirstCome(FirstCome::new(classes.len() as u16))),
+            Kind::Priority => Ok(Discipline::Priority(Priority::new(alloc, classes)?)),
+            Kind::Fair => Ok(Discipline::Fair(Fair::new(alloc, classes)?)),
+        }
+    }
+}
+
+impl Rank for Discipline {
+    ghost use Rattle.cq_scfq.specs.Discipline.{machine_laws};
+
+    ghost fixed = { fixed_of };
+
+    ghost state = { state_of };
+
+    ghost machine = { machine_from };
+
+    ghost laws = { machine_laws };
+
+    fn classes(&self) -> u16 {
+        match self {
+            Discipline::FirstCome(rank) => rank.classes(),
+            Discipline::Priority(rank) => rank.classes(),
+            Discipline::Fair(rank) => rank.classes(),
+        }
+    }
+
+    fn rank(&mut self, class: Class) -> Result<u128, TagOverflow> {
+        match self {
+            Discipline::FirstCome(rank) => rank.rank(class),
+            Discipline::Priority(rank) => rank.rank(class),
+            Discipline::Fair(rank) => rank.rank(class),
+        }
+    }
+
+    fn sent(&mut self, rank: u128) {
+        match self {
+            Discipline::FirstCome(machine) => machine.sent(rank),
+            Discipline::Priority(machine) => machine.sent(rank),
+            Discipline::Fair(machine) => machine.sent(rank),
+        }
+    }
+
+    fn idle(&mut self) {
+        match self {
+            Discipline::FirstCome(rank) => rank.idle(),
+            Discipline::Priority(rank) => rank.idle(),
+            Discipline::Fair(rank) => rank.idle(),
+        }
+    }
+}

@@ -1,0 +1,13 @@
+//! The disciplines of the outputs, and among them self-clocked fair queueing.
+//!
+//! Fair queueing gives each class that has cells waiting a share of the line, whatever the other classes
+//! send. Its ranks are tags on a virtual time, which is the rank of the cell that is being sent.
+#![tactic(auto)]
+
+mod discipline;
+mod fair;
+#[cfg(test)]
+mod tests;
+
+pub use discipline::Discipline;
+pub use fair::Fair;
