@@ -1,0 +1,78 @@
+-- The list of one output among those of all. What stands at its place is read through all lists and all rooms, and a call
+-- that changes it changes these at its place alone.
+use Rattle.std.proofs.Common.{◌≡◌, ℕ, zero, suc, ◌<◌, ◌≤◌, eqb, Bool, true, List, [], ◌∷◌, length, map, get_or, set, replicate, refl, sym, ap, ◌∙◌, subst, arith}
+use Rattle.std.specs.Prelude.{All, IsTrue, ◌↔◌}
+use Rattle.std.specs.List.{list_all}
+use Rattle.std.proofs.lemmas.List.{get_or-map, length-map, length-replicate, get_or-replicate, map-set}
+use Rattle.std.proofs.lemmas.List.Folds.{list_all-map}
+use Rattle.std.proofs.lemmas.List.Sums.{AllPass-from_list_all, list_all-from_AllPass}
+use Rattle.std.proofs.lemmas.Bool.{eqb-true, eq-eqb}
+use Rattle.std.proofs.Math.Seq.{map-set_same}
+use Rattle.cq_base.specs.declared.cell.Queued.{Queued}
+use Rattle.cq_ideal.specs.Parts.{AreWithinRooms, QueueView, QueuesView, list_at}
+
+abbrev cells_in : QueueView → List Queued
+cells_in q = q.cells
+
+abbrev room_in : QueueView → ℕ
+room_in q = q.room
+
+module _ (items : List QueueView) (o : ℕ) (q : QueueView) (v : QueuesView) (inside : o < length v.lists) (is : q ≡ get_or items o q) (view_is : record { lists = map cells_in items; rooms = map room_in items } ≡ v) where
+  lists_are : map cells_in items ≡ v.lists
+  lists_are = ap (λ (w : QueuesView). w.lists) view_is
+
+  rooms_are : map room_in items ≡ v.rooms
+  rooms_are = ap (λ (w : QueuesView). w.rooms) view_is
+
+  here : o < length items
+  here = let e = ap length lists_are in let l = length-map items cells_in in omega arith
+
+  pub cells_seen : q.cells ≡ list_at v.lists o
+  cells_seen = ap cells_in is ∙ sym (get_or-map cells_in items o q [] here) ∙ ap (λ l. list_at l o) lists_are
+
+  pub room_seen : q.room ≡ get_or v.rooms o 0
+  room_seen = ap room_in is ∙ sym (get_or-map room_in items o q 0 here) ∙ ap (λ l. get_or l o 0) rooms_are
+
+  pub lists_after : (s : QueueView) (x y : List Queued) → s.cells ≡ x → x ≡ y → map cells_in (set items o s) ≡ set v.lists o y
+  lists_after s x y e f = map-set cells_in items o s ∙ ap (λ l. set l o s.cells) lists_are ∙ ap (set v.lists o) (e ∙ f)
+
+  pub rooms_after : (s : QueueView) → s.room ≡ q.room → map room_in (set items o s) ≡ v.rooms
+  rooms_after s e = map-set_same room_in items o s q (e ∙ ap room_in is) ∙ rooms_are
+
+-- empty lists are within any room
+pub empty_within : (items : List QueueView) (n : ℕ) → map cells_in items ≡ replicate n [] → All (λ q. length q.cells ≤ q.room) items
+empty_within items n e k d inside =
+    let long = ap length e in
+    let items_long = length-map items cells_in in
+    let none : List Queued = [] in
+    let count = length-replicate n none in
+    let nothing : (get_or items k d).cells ≡ none = sym (get_or-map cells_in items k d none inside) ∙ ap (λ l. get_or l k none) e ∙ get_or-replicate n k none none (omega arith) in
+    let zero = ap length nothing in
+    omega arith
+
+-- each list is within its room
+pub within_rooms : (items : List QueueView) (v : QueuesView) → All (λ q. length q.cells ≤ q.room) items → record { lists = map cells_in items; rooms = map room_in items } ≡ v → AreWithinRooms v
+within_rooms items v held view_is j = subst AreWithinRooms view_is (go items held) j
+  where
+    go : (items : List QueueView) → All (λ q. length q.cells ≤ q.room) items → (j : ℕ) → length (list_at (map cells_in items) j) ≤ get_or (map room_in items) j 0
+    go [] held j = omega arith
+    go (q ∷ items) held zero = held zero q (omega arith)
+    go (q ∷ items) held (suc j) = go items (λ k d inside. held (suc k) d (omega arith)) j
+
+-- a list without items has length 0
+abbrev none_in : List Queued → Bool
+none_in cells = eqb (length cells) 0
+
+nil_of : (cells : List Queued) → none_in cells ≡ true → cells ≡ []
+nil_of [] e = refl
+nil_of (c ∷ cells) e = absurd (let n = eqb-true (length (c ∷ cells)) 0 e in omega arith)
+
+of_nil : (cells : List Queued) → cells ≡ [] → none_in cells ≡ true
+of_nil cells e = eq-eqb (length cells) 0 (ap length e)
+
+pub none_wait : (items : List QueueView) (lists : List (List Queued)) (b : Bool) → b ≡ list_all (λ q. eqb (length q.cells) 0) items → map cells_in items ≡ lists → IsTrue b ↔ All (λ cells. cells ≡ []) lists
+none_wait items lists b e l =
+    let is : b ≡ list_all none_in lists = e ∙ sym (list_all-map none_in cells_in items) ∙ ap (list_all none_in) l in (
+      λ t k d inside. nil_of (get_or lists k d) (AllPass-from_list_all none_in lists (sym is ∙ t) k d inside),
+      λ all. is ∙ list_all-from_AllPass none_in lists (λ k d inside. of_nil (get_or lists k d) (all k d inside)),
+    )

@@ -1,0 +1,8 @@
+use Rattle.std.proofs.Common.{ap, ◌∙◌, eqb, length}
+use Rattle.std.specs.List.{list_all}
+use Rattle.cq_ideal.specs.Parts.{QueueView, QueuesView}
+use Rattle.cq_ideal.proofs.Listed.{none_wait}
+use Rattle.cq_ideal.proofs.queues.Queues.are_empty.Goals as goal
+
+pub returns : goal.returns
+returns c = none_wait c.self.inside.queues.items c.args.self.now.lists c.none_wait.result (c.none_wait.ensures ∙ ap (list_all (λ (q : QueueView). eqb (length q.cells) 0)) c.deref.ensures.value) (ap (λ (v : QueuesView). v.lists) c.self.view_is)

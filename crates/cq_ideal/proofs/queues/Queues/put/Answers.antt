@@ -1,0 +1,27 @@
+use Rattle.std.proofs.Common.{◌≤◌, length, ap, arith}
+use Rattle.cq_base.specs.Cells.{put}
+use Rattle.std.proofs.lemmas.List.Elements.{All-set}
+use Rattle.cq_ideal.proofs.TakenIn.{length-put}
+use Rattle.cq_ideal.specs.Parts.{QueueView}
+use Rattle.cq_ideal.proofs.Listed.{cells_seen, room_seen, lists_after, rooms_after}
+use Rattle.cq_ideal.proofs.queues.Queues.put.Goals as goal
+
+pub put-requires : goal.put-requires
+put-requires c = let cells = ap length (cells_seen c.self.inside.queues.items c.args.queued.cell.output c.index_mut.result.now c.args.self.now c.requires.output c.index_mut.ensures.value c.self.view_is) in let room = room_seen c.self.inside.queues.items c.args.queued.cell.output c.index_mut.result.now c.args.self.now c.requires.output c.index_mut.ensures.value c.self.view_is in let r = c.requires.room in omega arith
+
+pub returns-clause-lists : goal.returns-clause-lists
+returns-clause-lists c = lists_after c.self.inside.queues.items c.args.queued.cell.output c.index_mut.result.now c.args.self.now c.requires.output c.index_mut.ensures.value c.self.view_is c.put.new.self _ _ c.put.ensures.cells (ap (put c.args.queued) (cells_seen c.self.inside.queues.items c.args.queued.cell.output c.index_mut.result.now c.args.self.now c.requires.output c.index_mut.ensures.value c.self.view_is))
+
+pub returns-clause-rooms : goal.returns-clause-rooms
+returns-clause-rooms c = rooms_after c.self.inside.queues.items c.args.queued.cell.output c.index_mut.result.now c.args.self.now c.requires.output c.index_mut.ensures.value c.self.view_is c.put.new.self c.put.ensures.room
+
+pub invariant_of-self : goal.invariant_of-self
+invariant_of-self c =
+    let cells = ap length (cells_seen c.self.inside.queues.items c.args.queued.cell.output c.index_mut.result.now c.args.self.now c.requires.output c.index_mut.ensures.value c.self.view_is) in
+    let room = room_seen c.self.inside.queues.items c.args.queued.cell.output c.index_mut.result.now c.args.self.now c.requires.output c.index_mut.ensures.value c.self.view_is in
+    let want = c.requires.room in
+    let longer = ap length c.put.ensures.cells in
+    let one = length-put c.args.queued c.index_mut.result.now.cells in
+    let same = c.put.ensures.room in
+    let fits : length c.put.new.self.cells ≤ c.put.new.self.room = omega arith in
+    All-set (λ (q : QueueView). length q.cells ≤ q.room) c.self.inside.queues.items c.args.queued.cell.output c.put.new.self fits c.self.invariant

@@ -1,0 +1,58 @@
+use Rattle.std.proofs.Common.{◌≡◌, ◌+◌, ◌++◌, map, length, sym, ap, ◌∙◌, arith, append-nil}
+use Rattle.cq_base.specs.declared.cell.Departure.{Departure}
+use Rattle.cq_base.specs.Room.{RoomView}
+use Rattle.cq_ideal.specs.IdealSlot.{fronts}
+use Rattle.cq_ideal.proofs.Sending.{Sending, sending_first, sending_next, sending_last, one_sent, length-told}
+use Rattle.cq_ideal.proofs.TakenIn.{fit_same}
+use Rattle.cq_ideal.proofs.send.send.Goals as goal
+use Rattle.cq_ideal.proofs.send.send.Goals.{in-Some, in-None}
+
+pub outputs-init : goal.outputs-init
+outputs-init g c =
+    let fit = c.requires.fit in
+    let lists = fit.lists in
+    let fixed = fit.fixed in
+    let room = c.requires.sent in
+    sending_first g.R.Rank.machine c.args.slot c.args.ranks.now c.args.queues.now c.args.sent.now (omega arith)
+
+pub outputs-preserved : goal.outputs-preserved
+outputs-preserved g c =
+    let inv = c.outputs.invariant in
+    let fit = c.requires.fit in
+    let lists = fit.lists in
+    let states = fit.states in
+    let ports = c.len-ports.ensures.len in
+    let test = c.outputs-test.true in
+    let output = c.outputs.output in
+    let gone = c.pop-gone.result in
+    let step : (sent : RoomView Departure) → sent.items ≡ c.outputs.sent.items ++ one_sent c.args.slot output gone → sent.spare + length (one_sent c.args.slot output gone) ≡ c.outputs.sent.spare → Sending g.R.Rank.machine c.args.slot c.args.ranks.now c.args.queues.now c.args.sent.now (output + 1) c.told.new.self c.pop-gone.new.self sent =
+    λ sent items spare.
+    sending_next g.R.Rank.machine c.args.slot c.args.ranks.now c.args.queues.now c.args.sent.now output c.outputs.ranks c.outputs.queues c.outputs.sent gone c.told.new.self c.pop-gone.new.self sent inv (omega arith) (omega arith) c.pop-gone.ensures.first c.pop-gone.ensures.lists c.pop-gone.ensures.rooms c.told.ensures.fixed c.told.ensures.states items spare in
+    elim c.match-gone.branch [
+      | in-Some w ↦
+          let is = ap (one_sent c.args.slot output) (sym w.in-Some.is) in
+          let long = ap length is in
+          let spare = w.push.ensures.spare in
+          let now = ap (λ (s : RoomView Departure). s.spare) w.sent-is in
+          step c.match-gone.sent (ap (λ (s : RoomView Departure). s.items) w.sent-is ∙ w.push.ensures.items ∙ ap (λ l. c.outputs.sent.items ++ l) is) (omega arith)
+      | in-None w ↦
+          let is = ap (one_sent c.args.slot output) (sym w.in-None.is) in
+          let long = ap length is in
+          let now = ap (λ (s : RoomView Departure). s.spare) w.sent-is in
+          step c.match-gone.sent (ap (λ (s : RoomView Departure). s.items) w.sent-is ∙ sym (append-nil c.outputs.sent.items) ∙ ap (λ l. c.outputs.sent.items ++ l) is) (omega arith)
+    ]
+
+pub returns-clause-states : goal.returns-clause-states
+returns-clause-states g c =
+    let fit = c.requires.fit in
+    let lists = fit.lists in
+    let states = fit.states in
+    let ports = c.len-ports.ensures.len in
+    let test = c.outputs-test.false in
+    (sending_last g.R.Rank.machine c.args.slot c.args.ranks.now c.args.queues.now c.args.sent.now c.outputs.output c.outputs.ranks c.outputs.queues c.outputs.sent c.outputs.invariant (omega arith) (omega arith)).states
+
+pub returns-clause-fit : goal.returns-clause-fit
+returns-clause-fit g c =
+    let inv = c.outputs.invariant in
+    let ms = map g.R.Rank.machine c.args.ranks.now.fixed in
+    fit_same g.R.Rank.machine c.args.ranks.now c.outputs.ranks c.args.queues.now c.outputs.queues c.requires.fit inv.fixed (ap length (returns-clause-states g c) ∙ length-told ms (fronts c.args.queues.now.lists) c.args.ranks.now.states) inv.long inv.rooms

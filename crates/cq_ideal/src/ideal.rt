@@ -1,0 +1,121 @@
+//! The ideal switch, slot by slot.
+ghost use Rattle.std.specs.Prelude.{◌≡◌, ◌↔◌, ◌+◌, ◌-◌, ◌^◌, ◌<◌, ◌≤◌, ◌++◌, IsTrue, false, is_err, All, IfOk, OnOk, OnErr, [], length, map};
+ghost use Rattle.cq_rank.specs.Switch.{AreForOneSwitch, class_count};
+ghost use Rattle.cq_ideal.specs.Ideal.{HasRoomFor, HaveLeft, SpareFollows, answer_to};
+ghost use Rattle.cq_ideal.specs.IdealRun.{empty_ideal};
+ghost use Rattle.cq_ideal.specs.IdealSlot.{ideal_slot};
+ghost use Rattle.cq_ideal.specs.Ranking.{AreForPorts};
+
+use crate::queues::Queues;
+use crate::ranks::Ranks;
+use crate::send::send;
+use crate::take_in::take_in;
+use cq_base::{Arrivals, Departure, NoMemory, Room, Slot, TagFault};
+use cq_rank::Rank;
+use std::alloc::Global;
+use std::marker::Model;
+
+/// An ideal output-queued switch (the yardstick of Chuang, Goel, McKeown and Prabhakar 1999): each output
+/// has one list, in the order of keys. In a slot all arriving cells are ranked and put into the lists of
+/// their outputs, and then each output sends the first cell of its list, or is idle.
+///
+/// Contracts see the numbers that give the rank machines, the lists and the states of the machines, how
+/// many cells each list can hold, the next slot, and whether the switch is stopped.
+#[derive(Drop)]
+pub struct Ideal<R: Rank> {
+    ranks: Ranks<R>,
+    queues: Queues,
+    next: Slot,
+    stopped: bool,
+}
+
+impl<R: Rank> Model for Ideal<R> {
+    ghost use Rattle.std.specs.Prelude.{map};
+    ghost use Rattle.cq_ideal.specs.Ideal.{IdealSwitch};
+    ghost use Rattle.cq_ideal.specs.Parts.{FitTogether};
+
+    ghost Value = { IdealSwitch };
+
+    ghost view = { λ a. record { fixed = a.ranks.fixed; state = record { lists = a.queues.lists; ranks = a.ranks.states }; rooms = a.queues.rooms; next = a.next; stopped = a.stopped } };
+
+    ghost invariant = { λ a. FitTogether (map R.machine a.ranks.fixed) a.ranks a.queues };
+}
+
+impl<R: Rank> Ideal<R> {
+    /// A switch with an output for each rank, which is not stopped. All lists are empty, list j has room for
+    /// `rooms[j]` cells, and the next slot is 0. The error is want of memory.
+    pub fn new(alloc: Global, ranks: Vec<R>, rooms: &[u64]) -> Result<Ideal<R>, NoMemory>
+        requires machines { AreForOneSwitch (map R.machine (map R.fixed ranks.items)) }
+        requires rooms { length rooms.now ≡ length ranks.items }
+        ensures fixed { IfOk result (λ ideal. ideal.fixed ≡ map R.fixed ranks.items) }
+        ensures state { IfOk result (λ ideal. ideal.state ≡ empty_ideal (length ranks.items) (map R.state ranks.items)) }
+        ensures rooms { IfOk result (λ ideal. ideal.rooms ≡ rooms.now) }
+        ensures next { IfOk result (λ ideal. ideal.next ≡ 0) }
+        ensures stopped { IfOk result (λ ideal. ideal.stopped ≡ false) }
+    {
+        Ok(Ideal {
+            queues: Queues::new(alloc, rooms)?,
+            ranks: Ranks::of(ranks),
+            next: 0,
+            stopped: false,
+        })
+    }
+
+    /// One slot: the cells arrive, and each output sends the first of its list or is idle. The departures
+    /// are put at the end of `sent`, in order of output. Each cell that arrives lowers the spare of its list
+    /// by one, and each that leaves raises it by one. It takes no memory.
+    ///
+    /// The error is the first rank, in order of input, that does not fit 128 bits. Then `sent` is as before
+    /// and the switch is stopped.
+    pub fn slot(
+        &mut self,
+        slot: Slot,
+        arrivals: &Arrivals,
+        sent: &mut Room<Departure>,
+    ) -> Result<(), TagFault>
+        requires running { self.old.stopped ≡ false }
+        requires next { slot ≡ self.old.next }
+        requires early { slot < 2 ^ 64 - 1 }
+        requires arrivals { AreForPorts (length self.old.fixed) (class_count (map R.machine self.old.fixed)) arrivals.now }
+        requires spare { HasRoomFor arrivals.now self.old }
+        requires sent { length self.old.fixed ≤ sent.old.spare }
+        ensures answer { result ≡ answer_to (ideal_slot (map R.machine self.old.fixed) slot arrivals.now self.old.state) }
+        ensures state { IfOk (ideal_slot (map R.machine self.old.fixed) slot arrivals.now self.old.state) (λ of_slot. self.new.state ≡ of_slot.after) }
+        ensures sent { IfOk (ideal_slot (map R.machine self.old.fixed) slot arrivals.now self.old.state) (λ of_slot. HaveLeft slot of_slot.gone sent.old sent.new) }
+        ensures spare { IfOk (ideal_slot (map R.machine self.old.fixed) slot arrivals.now self.old.state) (λ of_slot. SpareFollows arrivals.now of_slot.gone self.old self.new) }
+        ensures next { OnOk result (self.new.next ≡ slot + 1) }
+        ensures fixed { self.new.fixed ≡ self.old.fixed }
+        ensures rooms { self.new.rooms ≡ self.old.rooms }
+        ensures stopped { self.new.stopped ≡ is_err result }
+        ensures unsent { OnErr result (sent.new ≡ sent.old) }
+    {
+        if let Err(fault) = take_in(&mut self.ranks, &mut self.queues, slot, arrivals) {
+            self.stopped = true;
+            return Err(fault);
+        }
+        send(&mut self.ranks, &mut self.queues, slot, sent);
+        self.next = slot + 1;
+        Ok(())
+    }
+
+    /// Whether a slot had a tag fault. No slot follows it.
+    pub fn stopped(&self) -> bool
+        ensures { result ≡ self.now.stopped }
+    {
+        self.stopped
+    }
+
+    /// Whether no cell waits.
+    pub fn empty(&self) -> bool
+        ensures { IsTrue result ↔ All (λ cells. cells ≡ []) self.now.state.lists }
+    {
+        self.queues.are_empty()
+    }
+
+    /// The slot that comes next.
+    pub fn next(&self) -> Slot
+        ensures { result ≡ self.now.next }
+    {
+        self.next
+    }
+}

@@ -1,0 +1,21 @@
+//! The ideal output-queued switch, which the fabric is measured by.
+//!
+//! Each output has one list, and a cell that arrives is in the list of its output at once, as if the
+//! switch could move any number of cells in a slot. No real switch does that; what such a switch sends
+//! is what ours is to send.
+#![tactic(auto)]
+
+mod flows;
+mod ideal;
+mod laws;
+mod queue;
+mod queues;
+mod ranks;
+mod send;
+mod take_in;
+#[cfg(test)]
+mod tests;
+
+pub use flows::flows_leave_as_they_came;
+pub use ideal::Ideal;
+pub use laws::ideal_run_is_whole;

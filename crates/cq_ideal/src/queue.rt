@@ -1,0 +1,87 @@
+//! The list of one output.
+ghost use Rattle.std.specs.Prelude.{◌≡◌, ◌<◌, ◌≤◌, ◌==◌, IfOk, [], drop, length, slice_get};
+ghost use Rattle.std.specs.List.{position_or_len};
+ghost use Rattle.cq_base.specs.Key.{is_before};
+ghost use Rattle.cq_base.specs.Cells.{put};
+ghost use Rattle.cq_ideal.specs.Parts.{AreInOrder};
+
+use cq_base::{NoMemory, Queued};
+use std::alloc::Global;
+use std::collections::VecDeque;
+use std::marker::Model;
+
+/// The cells that wait for an output, in the order of their keys. Contracts see them, and how many there
+/// is room for.
+#[derive(Drop)]
+pub struct Queue {
+    cells: VecDeque<Queued>,
+    room: u64,
+}
+
+impl Model for Queue {
+    ghost use Rattle.std.specs.Prelude.{◌≤◌};
+    ghost use Rattle.std.specs.VecDeque.{deque_capacity};
+    ghost use Rattle.cq_ideal.specs.Parts.{AreInOrder, QueueView};
+
+    ghost Value = { QueueView };
+
+    ghost view = { λ q. record { cells = q.cells.items; room = q.room } };
+
+    ghost invariant = { λ q. (q.room ≤ deque_capacity q.cells) × AreInOrder q.cells.items };
+}
+
+impl Queue {
+    /// No cell waits, and there is room for so many.
+    pub fn new(alloc: Global, room: u64) -> Result<Queue, NoMemory>
+        ensures cells { IfOk result (λ queue. queue.cells ≡ []) }
+        ensures room { IfOk result (λ queue. queue.room ≡ room) }
+    {
+        Ok(Queue {
+            cells: VecDeque::with_capacity(alloc, room as usize)?,
+            room,
+        })
+    }
+
+    /// Puts a cell at its place in the order of keys. It takes no memory.
+    pub fn put(&mut self, queued: Queued)
+        requires { length self.old.cells < self.old.room }
+        ensures cells { self.new.cells ≡ put queued self.old.cells }
+        ensures room { self.new.room ≡ self.old.room }
+    {
+        let place = place_of(&self.cells, &queued);
+        self.cells.insert(place, queued).unwrap();
+    }
+
+    /// Takes the first cell out, if there is one.
+    pub fn pop(&mut self) -> Option<Queued>
+        ensures first { result ≡ slice_get self.old.cells 0 }
+        ensures cells { self.new.cells ≡ drop 1 self.old.cells }
+        ensures room { self.new.room ≡ self.old.room }
+    {
+        self.cells.pop_front()
+    }
+
+    /// Whether no cell waits.
+    pub fn is_empty(&self) -> bool
+        ensures { result ≡ (length self.now.cells == 0) }
+    {
+        self.cells.is_empty()
+    }
+}
+
+// The place of the first less urgent cell, or the end.
+fn place_of(cells: &VecDeque<Queued>, queued: &Queued) -> usize
+    requires { AreInOrder cells.now.items }
+    ensures inside { result ≤ length cells.now.items }
+    ensures place { result ≡ position_or_len (λ x. is_before queued.now.key x.key) cells.now.items }
+{
+    cells.partition_point(|waiting| !goes_before(queued, waiting))
+}
+
+// Whether a cell is more urgent than another.
+#[tactic(auto, unfolding(cq_base::specs::Key::is_before))]
+fn goes_before(queued: &Queued, other: &Queued) -> bool
+    ensures { result ≡ is_before queued.now.key other.now.key }
+{
+    queued.key < other.key
+}

@@ -1,0 +1,83 @@
+//! The lists of all outputs.
+ghost use Rattle.std.specs.Prelude.{◌≡◌, ◌<◌, ◌≤◌, ◌==◌, ◌↔◌, IsTrue, All, IfOk, [], drop, length, replicate, slice_get, slice_index, slice_set};
+ghost use Rattle.std.specs.List.{list_all};
+ghost use Rattle.cq_ideal.specs.Parts.{AreWithinRooms, list_at, with_cell};
+
+use crate::queue::Queue;
+use cq_base::{NoMemory, Port, Queued};
+use std::alloc::Global;
+use std::marker::Model;
+
+/// Per output the cells that wait for it. Contracts see these lists, and how many cells each can hold.
+#[derive(Drop)]
+pub struct Queues {
+    queues: Vec<Queue>,
+}
+
+impl Model for Queues {
+    ghost use Rattle.std.specs.Prelude.{◌≤◌, All, length, map};
+    ghost use Rattle.cq_ideal.specs.Parts.{QueuesView};
+
+    ghost Value = { QueuesView };
+
+    ghost view = { λ a. record { lists = map (λ q. q.cells) a.queues.items; rooms = map (λ q. q.room) a.queues.items } };
+
+    ghost invariant = { λ a. All (λ q. length q.cells ≤ q.room) a.queues.items };
+}
+
+// Whether each of the lists is empty.
+fn none_wait(queues: &[Queue]) -> bool
+    ensures { result ≡ list_all (λ q. length q.cells == 0) queues.now }
+{
+    queues.iter().all(|queue| queue.is_empty())
+}
+
+impl Queues {
+    /// No cell waits, and the list of each output can hold so many.
+    pub fn new(alloc: Global, rooms: &[u64]) -> Result<Queues, NoMemory>
+        ensures lists { IfOk result (λ queues. queues.lists ≡ replicate (length rooms.now) []) }
+        ensures rooms { IfOk result (λ queues. queues.rooms ≡ rooms.now) }
+    {
+        let mut queues = Vec::with_capacity(alloc, rooms.len())?;
+        for room in rooms {
+            queues.push(Queue::new(alloc, *room)?)?;
+        }
+        Ok(Queues { queues })
+    }
+
+    /// How many outputs there are.
+    pub fn len(&self) -> u16
+        requires { length self.now.lists ≤ 64 }
+        ensures len { result ≡ length self.now.lists }
+        ensures within { AreWithinRooms self.now }
+    {
+        self.queues.len() as u16
+    }
+
+    /// Puts a cell into the list of its output, at its place in the order of keys.
+    pub fn put(&mut self, queued: Queued)
+        requires output { queued.cell.output < length self.old.lists }
+        requires room { length (list_at self.old.lists queued.cell.output) < slice_index self.old.rooms queued.cell.output }
+        ensures lists { self.new.lists ≡ with_cell queued self.old.lists }
+        ensures rooms { self.new.rooms ≡ self.old.rooms }
+    {
+        self.queues[queued.cell.output as usize].put(queued);
+    }
+
+    /// Takes the first cell for an output out, if there is one.
+    pub fn pop(&mut self, output: Port) -> Option<Queued>
+        requires { output < length self.old.lists }
+        ensures first { result ≡ slice_get (list_at self.old.lists output) 0 }
+        ensures lists { self.new.lists ≡ slice_set self.old.lists output (drop 1 (list_at self.old.lists output)) }
+        ensures rooms { self.new.rooms ≡ self.old.rooms }
+    {
+        self.queues[output as usize].pop()
+    }
+
+    /// Whether no cell waits for any output.
+    pub fn are_empty(&self) -> bool
+        ensures { IsTrue result ↔ All (λ xs. xs ≡ []) self.now.lists }
+    {
+        none_wait(&self.queues)
+    }
+}

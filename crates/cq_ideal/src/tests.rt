@@ -1,0 +1,183 @@
+//! Worked slots, the tag fault, and the call that wants memory, with ample memory.
+ghost use Rattle.std.specs.Prelude.{◌≡◌, ◌+◌, ◌*◌, ◌-◌, ◌<◌, ◌≤◌, ℕ, All, OnOk, false, is_err, length, map};
+ghost use Rattle.cq_rank.specs.Switch.{AreForOneSwitch, class_count};
+ghost use Rattle.cq_ideal.specs.Ideal.{spare_at};
+ghost use Rattle.cq_ideal.specs.Ranking.{AreForPorts};
+
+use crate::Ideal;
+use cq_base::{Arrivals, Cell, CellId, Class, Departure, NoMemory, Port, Room, TagFault};
+use cq_rank::{FirstCome, Rank, TagOverflow};
+use std::alloc::Global;
+use std::test::Fail;
+
+// Ranks the cells of class 0 by 0, and refuses those of class 1.
+#[derive(Drop)]
+struct RefusesClassOne;
+
+impl Rank for RefusesClassOne {
+    ghost use Rattle.std.specs.Prelude.{◌^◌, ◌∷◌, []};
+    ghost use Rattle.cq_rank.specs.Machine.{priority};
+    ghost use Rattle.cq_rank.specs.MachineLaws.{priority_laws};
+
+    ghost fixed = { λ _. 0 ∷ 2 ^ 128 ∷ [] };
+
+    ghost state = { λ _. [] };
+
+    ghost machine = { priority };
+
+    ghost laws = { priority_laws };
+
+    fn classes(&self) -> u16 {
+        2
+    }
+
+    fn rank(&mut self, class: Class) -> Result<u128, TagOverflow> {
+        if class == 0 { Ok(0) } else { Err(TagOverflow) }
+    }
+
+    fn sent(&mut self, _rank: u128) {}
+
+    fn idle(&mut self) {}
+}
+
+// The arrivals, and a cell that comes to the input.
+#[tactic(auto, using(crate::proofs::Ports::for_ports_with))]
+fn and(mut arrivals: Arrivals, input: Port, packet: u32, output: Port, class: Class) -> Arrivals
+    requires input { input < 3 }
+    requires output { output < 3 }
+    requires class { class < 2 }
+    requires arrivals { AreForPorts 3 2 arrivals }
+    ensures { AreForPorts 3 2 result }
+{
+    let id = CellId {
+        input,
+        packet,
+        index: 0,
+    };
+    let cell = Cell {
+        id,
+        output,
+        class,
+        last: true,
+        at: 0,
+        len: 60,
+    };
+    arrivals.set(input, cell);
+    arrivals
+}
+
+// No cell comes.
+#[tactic(auto, using(crate::proofs::Ports::for_ports_none))]
+fn nothing() -> Arrivals
+    ensures { AreForPorts 3 2 result }
+{
+    Arrivals::none()
+}
+
+// The next slot of a switch of three ports.
+fn step<R: Rank>(
+    ideal: &mut Ideal<R>,
+    arrivals: &Arrivals,
+    sent: &mut Room<Departure>,
+) -> Result<(), TagFault>
+    requires running { ideal.old.stopped ≡ false }
+    requires early { ideal.old.next < 1000 }
+    requires ports { length ideal.old.fixed ≡ 3 }
+    requires rooms { length ideal.old.rooms ≡ 3 }
+    requires classes { class_count (map R.machine ideal.old.fixed) ≡ 2 }
+    requires arrivals { AreForPorts 3 2 arrivals.now }
+    requires spare { (j : ℕ) → j < 3 → 64 ≤ spare_at ideal.old j }
+    requires sent { 3 ≤ sent.old.spare }
+    ensures fixed { ideal.new.fixed ≡ ideal.old.fixed }
+    ensures rooms { ideal.new.rooms ≡ ideal.old.rooms }
+    ensures next { OnOk result (ideal.new.next ≡ ideal.old.next + 1) }
+    ensures stopped { ideal.new.stopped ≡ is_err result }
+    ensures spare { OnOk result ((j : ℕ) → j < 3 → spare_at ideal.old j ≤ spare_at ideal.new j + 64) }
+{
+    let _places = arrivals.at(0);
+    ideal.slot(ideal.next(), arrivals, sent)
+}
+
+// Of each departure its slot, its output, and the input and the packet of the cell.
+fn note(left: &mut Vec<[u64; 4]>, sent: &Room<Departure>) -> Result<(), NoMemory> {
+    for departure in sent.items() {
+        let id = departure.queued.cell.id;
+        left.push([
+            departure.slot,
+            departure.output as u64,
+            id.input as u64,
+            id.packet as u64,
+        ])?;
+    }
+    Ok(())
+}
+
+// The departures of three slots, up to the first tag fault.
+fn departures<R: Rank>(
+    alloc: Global,
+    ranks: Vec<R>,
+    slots: [Arrivals; 3],
+) -> Result<(Vec<[u64; 4]>, Option<TagFault>), NoMemory>
+    requires ports { length ranks.items ≡ 3 }
+    requires machines { AreForOneSwitch (map R.machine (map R.fixed ranks.items)) }
+    requires classes { class_count (map R.machine (map R.fixed ranks.items)) ≡ 2 }
+    requires slots { All (AreForPorts 3 2) slots }
+{
+    let mut left = Vec::new(alloc);
+    let mut ideal = Ideal::new(alloc, ranks, &[192, 192, 192])?;
+    'slots: for arrivals in &slots {
+        let mut sent = Room::new(alloc, 3)?;
+        if let Err(fault) = step(&mut ideal, arrivals, &mut sent) {
+            return Ok((left, Some(fault)));
+        }
+        note(&mut left, &sent)?;
+    }
+    Ok((left, None))
+}
+
+#[test]
+fn cells_for_one_output_leave_in_the_order_of_their_inputs(rt: HostRuntime) -> Result<(), Fail> {
+    let ranks = vec![in rt.alloc(); FirstCome::new(2), FirstCome::new(2), FirstCome::new(2)]?;
+    let both = and(and(nothing(), 1, 0, 0, 0), 0, 0, 0, 0);
+    let (left, fault) = departures(rt.alloc(), ranks, [both, nothing(), nothing()])?;
+    assert_eq!(rt; left.as_slice(), &[[0, 0, 0, 0], [1, 0, 1, 0]][..]);
+    assert!(rt; fault.is_none());
+    Ok(())
+}
+
+#[test]
+fn a_cell_does_not_wait_for_another_output(rt: HostRuntime) -> Result<(), Fail> {
+    let ranks = vec![in rt.alloc(); FirstCome::new(2), FirstCome::new(2), FirstCome::new(2)]?;
+    let all = and(and(and(nothing(), 0, 0, 0, 0), 1, 0, 0, 0), 2, 0, 0, 0);
+    let later = and(nothing(), 2, 1, 1, 0);
+    let (left, _) = departures(rt.alloc(), ranks, [all, later, nothing()])?;
+    let sent = [[0, 0, 0, 0], [1, 0, 1, 0], [1, 1, 2, 1], [2, 0, 2, 0]];
+    assert_eq!(rt; left.as_slice(), &sent[..]);
+    Ok(())
+}
+
+#[test]
+fn the_first_input_whose_rank_does_not_fit_stops_the_switch(rt: HostRuntime) -> Result<(), Fail> {
+    let ranks = vec![in rt.alloc(); RefusesClassOne, RefusesClassOne, RefusesClassOne]?;
+    let first = and(and(nothing(), 0, 0, 2, 0), 1, 0, 1, 0);
+    let second = and(and(and(nothing(), 0, 1, 0, 0), 1, 1, 2, 1), 2, 0, 1, 1);
+    let (left, fault) = departures(rt.alloc(), ranks, [first, second, nothing()])?;
+    assert_eq!(rt; left.as_slice(), &[[0, 1, 1, 0], [0, 2, 0, 0]][..]);
+    let stated = TagFault {
+        slot: 1,
+        input: 1,
+        output: 2,
+    };
+    assert_eq!(rt; fault, Some(stated));
+    Ok(())
+}
+
+#[test]
+fn a_new_switch_is_empty_and_runs(rt: HostRuntime) -> Result<(), Fail> {
+    let ranks = vec![in rt.alloc(); FirstCome::new(1)]?;
+    let ideal = Ideal::new(rt.alloc(), ranks, &[1])?;
+    assert!(rt; ideal.empty());
+    assert!(rt; !ideal.stopped());
+    assert_eq!(rt; ideal.next(), 0);
+    Ok(())
+}
