@@ -1,0 +1,4 @@
+pub mod Tables
+pub mod Joins
+pub mod Pieces
+pub mod Runs

@@ -1,0 +1,6 @@
+pub mod Open
+pub mod Table
+pub mod Joining
+pub mod Piece
+pub mod Cutting
+pub mod Whole
