@@ -1,0 +1,47 @@
+-- The report of a run: its figures, each behind its name.
+use Rattle.std.specs.Prelude.{ℕ, ◌+◌, ◌-◌, List, [], ◌∷◌, ◌++◌, Option, None, Some, codes}
+use Rattle.cq_base.specs.Decimal.{decimal}
+use Rattle.cq_base.specs.declared.figures.InputFigures.{InputFigures}
+use Rattle.cq_base.specs.declared.figures.OutputFigures.{OutputFigures}
+use Rattle.cq_base.specs.declared.figures.Figures.{Figures}
+
+-- a figure: in decimal digits, or `-` where there is none
+abbrev pub figure : Option ℕ → List ℕ
+figure None = codes "-"
+figure (Some n) = decimal n
+
+-- a name, and one blank behind it the figure
+unfoldable pub named : List ℕ → Option ℕ → List ℕ
+named name n = name ++ 32 ∷ figure n
+
+-- words, parted by one blank, and a line feed behind them
+abbrev pub line_of_words : List (List ℕ) → List ℕ
+line_of_words [] = 10 ∷ []
+line_of_words (word ∷ []) = word ++ 10 ∷ []
+line_of_words (word ∷ next ∷ words) = word ++ 32 ∷ line_of_words (next ∷ words)
+
+-- an input, by its number
+unfoldable pub input_line : ℕ → InputFigures → List ℕ
+input_line i x =
+    line_of_words (named (codes "input") (Some i) ∷ named (codes "cells") (Some x.cells) ∷ named (codes "longest") (Some x.longest) ∷ named (codes "slack") x.slack ∷ [])
+
+-- an output, by its number, in a run of so many slots: it was idle in those in which it sent no cell
+unfoldable pub output_line : ℕ → ℕ → OutputFigures → List ℕ
+output_line slots j x =
+    line_of_words (named (codes "output") (Some j) ∷ named (codes "cells") (Some x.cells) ∷ named (codes "idle") (Some (slots - x.cells)) ∷ named (codes "wait") x.wait ∷ [])
+
+-- one line each, numbered in order from a first number on
+abbrev pub numbered_lines : {X : Type 0} → (ℕ → X → List ℕ) → ℕ → List X → List ℕ
+numbered_lines line n [] = []
+numbered_lines line n (x ∷ xs) = line n x ++ numbered_lines line (n + 1) xs
+
+-- the run as a whole
+unfoldable pub run_lines : Figures → List ℕ
+run_lines f =
+    line_of_words (named (codes "slots") (Some f.slots) ∷ [])
+    ++ line_of_words (named (codes "proposals") (Some f.proposals) ∷ [])
+    ++ line_of_words (named (codes "most") (Some f.most) ∷ [])
+
+-- the run as a whole, then its inputs and its outputs, each numbered from 0
+unfoldable pub report_of : Figures → List ℕ
+report_of f = run_lines f ++ numbered_lines input_line 0 f.inputs ++ numbered_lines (output_line f.slots) 0 f.outputs

@@ -1,0 +1,58 @@
+// Lines of a text, put at the end of what is built so far. The error of each is want of memory.
+ghost use Rattle.std.specs.Prelude.{◌≡◌, ◌∷◌, ◌++◌, [], OnOk};
+ghost use Rattle.cq_base.specs.Decimal.{decimal};
+ghost use Rattle.cq_base.specs.Texts.{line_of};
+ghost use Rattle.cq_report.specs.Report.{figure, named};
+
+use cq_base::{NoMemory, digits};
+
+pub fn put_number(text: &mut Vec<u8>, number: u64) -> Result<(), NoMemory>
+    ensures { OnOk result (text.new.items ≡ text.old.items ++ decimal number) }
+{
+    let mut places = [0; 39];
+    let count = digits(u128::from(number), &mut places);
+    text.extend_from_slice(&places[..count])?;
+    Ok(())
+}
+
+// A line of the first number and the others, parted by blanks.
+pub fn put_line(text: &mut Vec<u8>, first: u64, others: &[u64]) -> Result<(), NoMemory>
+    ensures { OnOk result (text.new.items ≡ text.old.items ++ line_of (first ∷ others.now)) }
+{
+    put_number(text, first)?;
+    'numbers: for number in others {
+        text.push(b' ')?;
+        put_number(text, *number)?;
+    }
+    text.push(b'\n')?;
+    Ok(())
+}
+
+fn put_figure(text: &mut Vec<u8>, number: Option<u64>) -> Result<(), NoMemory>
+    ensures { OnOk result (text.new.items ≡ text.old.items ++ figure number) }
+{
+    match number {
+        Some(number) => put_number(text, number),
+        None => {
+            text.push(b'-')?;
+            Ok(())
+        }
+    }
+}
+
+// A name with its figure, and behind it what parts it from the next, or ends the line.
+#[tactic(auto, using(std::proofs::Common::append_assoc), unfolding(crate::specs::Report::named))]
+pub fn put_named(
+    text: &mut Vec<u8>,
+    name: &[u8],
+    number: Option<u64>,
+    end: u8,
+) -> Result<(), NoMemory>
+    ensures { OnOk result (text.new.items ≡ text.old.items ++ (named name.now number ++ end ∷ [])) }
+{
+    text.extend_from_slice(name)?;
+    text.push(b' ')?;
+    put_figure(text, number)?;
+    text.push(end)?;
+    Ok(())
+}

@@ -1,0 +1,68 @@
+//! The trace and the log of a run.
+ghost use Rattle.std.specs.Prelude.{◌≡◌, ◌++◌, IfOk, OnOk};
+ghost use Rattle.cq_base.specs.Texts.{trace_of, log_of, trace_line, log_line};
+
+use crate::lines::put_line;
+use cq_base::{Departure, NoMemory, Transfer};
+use std::alloc::Global;
+
+// The most bytes of a line of the trace: those of its five numbers, and what stands behind each.
+const TRACE_LINE: usize = 20 + 5 + 5 + 10 + 10 + 5;
+
+// The most bytes of a line of the log: those of its six numbers, and what stands behind each.
+const LOG_LINE: usize = 20 + 3 + 5 + 5 + 10 + 10 + 6;
+
+/// The trace of the departures, in the order in which they stand: one line each, with its slot, its
+/// output, and the input, the packet and the number of the cell that left. Numbers are in decimal
+/// digits, parted by one blank, and each line ends with a line feed. The error is want of memory.
+#[tactic(auto, unfolding(cq_base::specs::Texts::trace_of))]
+pub fn trace_text(alloc: Global, sent: &[Departure]) -> Result<Vec<u8>, NoMemory>
+    ensures { IfOk result (λ text. text.items ≡ trace_of sent.now) }
+{
+    let mut text = Vec::with_capacity(alloc, sent.len().saturating_mul(TRACE_LINE))?;
+    'departures: for departure in sent {
+        put_departure(&mut text, departure)?;
+    }
+    Ok(text)
+}
+
+fn put_departure(text: &mut Vec<u8>, departure: &Departure) -> Result<(), NoMemory>
+    ensures { OnOk result (text.new.items ≡ text.old.items ++ trace_line departure.now) }
+{
+    let id = departure.queued.cell.id;
+    let others = [
+        u64::from(departure.output),
+        u64::from(id.input),
+        u64::from(id.packet),
+        u64::from(id.index),
+    ];
+    put_line(text, departure.slot, &others)
+}
+
+/// The log of the transfers, in the order in which they stand: one line each, with its slot, its phase,
+/// its input, its output, and the packet and the number of the cell that crossed. Numbers are in
+/// decimal digits, parted by one blank, and each line ends with a line feed. The error is want of
+/// memory.
+#[tactic(auto, unfolding(cq_base::specs::Texts::log_of))]
+pub fn log_text(alloc: Global, note: &[Transfer]) -> Result<Vec<u8>, NoMemory>
+    ensures { IfOk result (λ text. text.items ≡ log_of note.now) }
+{
+    let mut text = Vec::with_capacity(alloc, note.len().saturating_mul(LOG_LINE))?;
+    'transfers: for transfer in note {
+        put_transfer(&mut text, transfer)?;
+    }
+    Ok(text)
+}
+
+fn put_transfer(text: &mut Vec<u8>, transfer: &Transfer) -> Result<(), NoMemory>
+    ensures { OnOk result (text.new.items ≡ text.old.items ++ log_line transfer.now) }
+{
+    let others = [
+        u64::from(transfer.phase),
+        u64::from(transfer.input),
+        u64::from(transfer.output),
+        u64::from(transfer.id.packet),
+        u64::from(transfer.id.index),
+    ];
+    put_line(text, transfer.slot, &others)
+}
