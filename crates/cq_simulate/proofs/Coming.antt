@@ -1,0 +1,101 @@
+-- What is still to come for one output. Each arrival adds one cell at most to what comes, at its slot and input, and only
+-- to what comes for its output. So no more cells come for an output than there are arrivals for it. And from the end of
+-- the arrivals on none comes.
+use Rattle.std.proofs.Common.{◌≡◌, ℕ, zero, suc, ◌+◌, ◌<◌, ◌≤◌, Bool, true, false, cond, List, [], ◌∷◌, length, map, Option, Some, None, refl, sym, ap, ◌∙◌, arith}
+use Rattle.std.specs.Prelude.{◌==◌}
+use Rattle.std.specs.List.{range_with_len, filter}
+use Rattle.cq_base.specs.declared.cell.Cell.{Cell}
+use Rattle.cq_base.specs.Arriving.{Arrival, arriving_at, arriving, end_of, enough, traffic_of}
+use Rattle.cq_cells.specs.Traffic.{number_of, is_to}
+use Rattle.cq_ideal.specs.Ideal.{count_for}
+use Rattle.cq_ideal.proofs.FlowPut.{all_from}
+use Rattle.cq_ideal.proofs.FlowRank.{present}
+use Rattle.cq_ideal.proofs.FlowFound.{cell_listed, found, found_here, other_slot, other_input, found_none, arriving_is}
+use Rattle.cq_ideal.proofs.FlowCount.{before_end}
+use Rattle.cq_simulate.proofs.Waiting.{total, total_none, total_same, total_more}
+
+-- how many cells come for the output in these slots
+unfoldable pub come_for : ℕ → List (List (Option Cell)) → ℕ
+come_for j [] = 0
+come_for j (cells ∷ traffic) = count_for j cells + come_for j traffic
+
+-- how many of these cells are for the output
+count_to : ℕ → List Cell → ℕ
+count_to j [] = 0
+count_to j (cell ∷ cells) = cond (cell.output == j) 1 0 + count_to j cells
+
+module _ (j : ℕ) where
+  count_for-cons : (o : Option Cell) (cells : List (Option Cell)) → count_for j (o ∷ cells) ≡ count_to j (cell_listed o) + count_for j cells
+  unfolding count_to
+  count_for-cons None cells = omega arith
+  count_for-cons (Some cell) cells = omega arith
+
+  count_in_places : (came : List Arrival) (t a n : ℕ) → count_for j (map (arriving_at came t) (range_with_len a n)) ≡ total (λ k. count_to j (found came t k)) a n
+  unfolding total found
+  count_in_places came t a zero = refl
+  count_in_places came t a (suc n) =
+      let here = count_for-cons (arriving_at came t a) (map (arriving_at came t) (range_with_len (a + 1) n)) in
+      let rest = count_in_places came t (a + 1) n in
+      omega arith
+
+  module _ (inputs : ℕ) (are : inputs ≡ 64) where
+    -- the cells for the output that come in a slot
+    in_slot : List Arrival → ℕ → ℕ
+    in_slot came t = total (λ k. count_to j (found came t k)) 0 inputs
+
+    count_in_slot : (came : List Arrival) (t : ℕ) → count_for j (arriving came t) ≡ in_slot came t
+    unfolding in_slot
+    count_in_slot came t = ap (count_for j) (arriving_is came t inputs are) ∙ count_in_places came t 0 inputs
+
+    -- an arrival adds itself to its slot, if it is for the output
+    in_slot-cons : (a : Arrival) (came : List Arrival) → in_slot (a ∷ came) a.slot ≤ in_slot came a.slot + cond (is_to j a) 1 0
+    unfolding in_slot count_to
+    in_slot-cons a came =
+        total_more (λ k. count_to j (found (a ∷ came) a.slot k)) (λ k. count_to j (found came a.slot k)) a.cell.id.input (cond (is_to j a) 1 0) 0 inputs
+        (λ k ne. ap (count_to j) (other_input a came a.slot k (λ e. ne (sym e))))
+        (let one : count_to j (found (a ∷ came) a.slot a.cell.id.input) ≡ count_to j (a.cell ∷ []) = ap (count_to j) (found_here a came a.slot a.cell.id.input refl refl) in omega arith)
+
+    no_more_than : (came : List Arrival) (n : ℕ) → total (in_slot came) 0 n ≤ number_of (is_to j) came
+    unfolding in_slot count_to
+    no_more_than [] n =
+        let none = total_none (in_slot []) 0 n (λ t. total_none (λ k. count_to j (found [] t k)) 0 inputs (λ k. ap (count_to j) (found_none [] t k tt))) in omega arith
+    no_more_than (a ∷ came) n =
+        let more = total_more (in_slot (a ∷ came)) (in_slot came) a.slot (cond (is_to j a) 1 0) 0 n
+        (λ t ne. total_same (λ k. count_to j (found (a ∷ came) t k)) (λ k. count_to j (found came t k)) 0 inputs (λ k l. ap (count_to j) (other_slot a came t k (λ e. ne (sym e)))))
+        (in_slot-cons a came) in
+        let rest = no_more_than came n in
+        let count : cond (is_to j a) 1 0 + number_of (is_to j) came ≡ number_of (is_to j) (a ∷ came) = one (is_to j a) in
+        omega arith
+      where
+        one : (b : Bool) → cond b 1 0 + length (filter (is_to j) came) ≡ length (cond b (a ∷ filter (is_to j) came) (filter (is_to j) came))
+        one true = omega arith
+        one false = omega arith
+
+    count_from : (came : List Arrival) (a n : ℕ) → come_for j (map (arriving came) (range_with_len a n)) ≡ total (in_slot came) a n
+    unfolding come_for total
+    count_from came a zero = refl
+    count_from came a (suc n) = let here = count_in_slot came a in let rest = count_from came (a + 1) n in omega arith
+
+  pub come_for-traffic_of : (came : List Arrival) → come_for j (traffic_of came) ≤ number_of (is_to j) came
+  unfolding traffic_of
+  come_for-traffic_of came = let count = count_from 64 refl came 0 (enough came) in let few = no_more_than 64 refl came (enough came) in omega arith
+
+-- ## The end of the arrivals
+
+none_listed : (o : Option Cell) (cells : List (Option Cell)) → cell_listed o ≡ [] → length (present (o ∷ cells)) ≡ length (present cells)
+none_listed None cells e = refl
+none_listed (Some cell) cells e = absurd (let P : ⊥ = cc in P)
+
+none_in_places : (came : List Arrival) (t a n : ℕ) → ((k : ℕ) → found came t k ≡ []) → length (present (map (arriving_at came t) (range_with_len a n))) ≡ 0
+unfolding found
+none_in_places came t a zero none = refl
+none_in_places came t a (suc n) none = none_listed (arriving_at came t a) (map (arriving_at came t) (range_with_len (a + 1) n)) (none a) ∙ none_in_places came t (a + 1) n none
+
+none_in_slot : (came : List Arrival) (t inputs : ℕ) → inputs ≡ 64 → end_of came ≤ t → length (present (arriving came t)) ≡ 0
+none_in_slot came t inputs are le =
+    ap (λ (cells : List (Option Cell)). length (present cells)) (arriving_is came t inputs are)
+    ∙ none_in_places came t 0 inputs
+    (λ k. found_none came t k (all_from (λ a. a.slot < end_of came) (λ a. a.slot ≡ t → a.cell.id.input ≡ k → ⊥) (λ a l e f. absurd (omega arith)) came (before_end came)))
+
+pub none_after : (came : List Arrival) (t : ℕ) → end_of came ≤ t → length (present (arriving came t)) ≡ 0
+none_after came t le = none_in_slot came t 64 refl le

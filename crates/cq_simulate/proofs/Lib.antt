@@ -1,0 +1,9 @@
+pub mod Coming
+pub mod Departed
+pub mod Joining
+pub mod Opening
+pub mod Packed
+pub mod Running
+pub mod Steps
+pub mod Taking
+pub mod Waiting

@@ -1,0 +1,150 @@
+-- What each step of the loop over the slots asks for, where so many slots are left as are not yet over.
+use Rattle.std.proofs.Common.{◌≡◌, ◌↔◌, ℕ, suc, ◌+◌, ◌-◌, ◌<◌, ◌≤◌, Bool, true, false, List, [], length, map, get_or, Option, Some, None, Result, Ok, Err, refl, sym, ap, ◌∙◌, subst, ⊎_elim, arith}
+use Rattle.std.specs.Prelude.{IsTrue, All, IfOk, slice_index}
+use Rattle.std.specs.List.{AllByRecursion, range_with_len}
+use Rattle.std.proofs.lemmas.Bool.{cases_lt}
+use Rattle.std.proofs.lemmas.List.{get_or_past}
+use Rattle.std.proofs.lemmas.List.FromFn.{get_or-map-range_with_len, length-map-range_with_len}
+use Rattle.std.proofs.lemmas.Option.{unwrap_or-slice_get}
+use Rattle.cq_base.specs.declared.cell.Cell.{Cell}
+use Rattle.cq_base.specs.declared.cell.Departure.{Departure}
+use Rattle.cq_base.specs.declared.cell.Queued.{Queued}
+use Rattle.cq_base.specs.declared.cell.TagFault.{TagFault}
+use Rattle.cq_base.specs.Arrivals.{arrival_at}
+use Rattle.cq_base.specs.Arriving.{Arrival, arriving, arriving_at, end_of, enough, traffic_of}
+use Rattle.cq_base.specs.Room.{RoomView}
+use Rattle.cq_cells.specs.Traffic.{IsInRange, IsTraffic, number_of, is_to}
+use Rattle.cq_rank.specs.Machine.{Machine}
+use Rattle.cq_rank.specs.Switch.{class_count}
+use Rattle.cq_ideal.specs.Ideal.{IdealSwitch, HasRoomFor, HaveLeft, answer_to, count_for}
+use Rattle.cq_ideal.specs.IdealSlot.{IdealState, Sent, ideal_slot}
+use Rattle.cq_ideal.specs.IdealRun.{Ran, ideal_run}
+use Rattle.cq_ideal.specs.Ranking.{AreForPorts}
+use Rattle.cq_ideal.proofs.FlowPut.{all_from}
+use Rattle.cq_ideal.proofs.FlowFound.{cell_listed, found, all_found, arriving_is}
+use Rattle.cq_simulate.specs.IdealRuns.{departures_ran}
+use Rattle.cq_simulate.specs.Ready.{IsReady}
+use Rattle.cq_simulate.proofs.Waiting.{waiting}
+use Rattle.cq_simulate.proofs.Running.{Running, running_first, running_next, running_over, running_fault, slot_left, for_here, rest_of, run_from, sent_from, none_waits, nothing_left}
+
+-- ## The cells of a slot
+
+-- what is known of the cells that arrive
+record Fits (ports classes k : ℕ) (cell : Cell) : Type 0 where
+  pub input : k < ports
+  pub output : cell.output < ports
+  pub class : cell.class < classes
+
+one_found : (P : Cell → Type 0) (came : List Arrival) (t k : ℕ) (cell : Cell) → AllByRecursion P (found came t k) → arriving_at came t k ≡ Some cell → P cell
+unfolding found
+one_found P came t k cell all is =
+    let one : AllByRecursion P (cell_listed (Some cell)) = subst (λ (o : Option Cell). AllByRecursion P (cell_listed o)) is all in
+    one.0
+
+arriving_fits : (ports classes : ℕ) (came : List Arrival) (t k : ℕ) (cell : Cell) → AllByRecursion (IsInRange ports classes) came → arriving_at came t k ≡ Some cell → Fits ports classes k cell
+arriving_fits ports classes came t k cell all is =
+    one_found (Fits ports classes k) came t k cell
+    (all_found (Fits ports classes k) came t k
+    (all_from (IsInRange ports classes) (λ a. a.slot ≡ t → a.cell.id.input ≡ k → Fits ports classes k a.cell)
+    (λ a r _ same. record { input = subst (λ (i : ℕ). i < ports) same r.input; output = r.output; class = r.class }) came all)) is
+
+place_of : (came : List Arrival) (t input inputs : ℕ) (cell : Cell) → inputs ≡ 64 → arrival_at (arriving came t) input ≡ Some cell → arriving_at came t input ≡ Some cell
+place_of came t input inputs cell are at =
+    let none : Option Cell = None in
+    let cells : List (Option Cell) = map (arriving_at came t) (range_with_len 0 inputs) in
+    let here : get_or cells input none ≡ Some cell =
+    ap (λ (l : List (Option Cell)). get_or l input none) (sym (arriving_is came t inputs are)) ∙ sym (unwrap_or-slice_get (arriving came t) input none) ∙ at in
+    ⊎_elim
+    (λ inside. sym (get_or-map-range_with_len (arriving_at came t) 0 inputs input input none inside (omega arith)) ∙ here)
+    (λ outside. absurd (let past : get_or cells input none ≡ none = get_or_past cells input none (let l = length-map-range_with_len (arriving_at came t) 0 inputs in omega arith) in let P : ⊥ = cc in P))
+    (cases_lt input inputs)
+
+pub arrivals_for : (ports classes : ℕ) (came : List Arrival) (t : ℕ) → IsTraffic ports classes came → AreForPorts ports classes (arriving came t)
+arrivals_for ports classes came t traffic = record {
+  inputs = λ input cell at. (arriving_fits ports classes came t input cell traffic.in_range (place_of came t input 64 cell refl at)).input;
+  outputs = λ input cell at. (arriving_fits ports classes came t input cell traffic.in_range (place_of came t input 64 cell refl at)).output;
+  classes = λ input cell at. (arriving_fits ports classes came t input cell traffic.in_range (place_of came t input 64 cell refl at)).class;
+}
+
+-- ## The test
+
+pub not_over : (b : Bool) (end slot : ℕ) (lists : List (List Queued)) → b ≡ false → (IsTrue b ↔ ((end ≤ slot) × All (λ cells. cells ≡ []) lists)) → end ≤ slot → waiting lists ≡ 0 → ⊥
+not_over b end slot lists going iff le none = let over : b ≡ true = iff.1 (le, nothing_left lists none) in let P : ⊥ = cc in P
+
+-- ## The steps
+
+departures_are : (x : Result Ran TagFault) → departures_ran x ≡ sent_from 0 x
+departures_are (Ok ran) = refl
+departures_are (Err fault) = refl
+
+whole_run : (ms : List Machine) (came : List Arrival) (state : IdealState) → departures_ran (ideal_run ms 0 (traffic_of came) state) ≡ run_from ms came 0 (enough came) state
+unfolding run_from rest_of traffic_of
+whole_run ms came state = departures_are (ideal_run ms 0 (traffic_of came) state)
+
+slot_ok : (x : Result Sent TagFault) → Ok tt ≡ answer_to x → (sent : Sent) × (x ≡ Ok sent)
+slot_ok (Ok sent) e = (sent, refl)
+slot_ok (Err fault) e = absurd (let P : ⊥ = cc in P)
+
+slot_err : (x : Result Sent TagFault) (fault : TagFault) → Err fault ≡ answer_to x → x ≡ Err fault
+slot_err (Ok sent) fault e = absurd (let P : ⊥ = cc in P)
+slot_err (Err other) fault e = let same : other ≡ fault = cc in ap (λ (f : TagFault). Err f) same
+
+module _ (M : List ℕ → Machine) (came : List Arrival) (first : IdealSwitch) (first_sent : RoomView Departure) (ready : IsReady (map M first.fixed) came first first_sent) where
+  abbrev pub Before : ℕ → IdealSwitch → RoomView Departure → Type 0
+  Before slot now sent = Running (map M first.fixed) came first first_sent slot (enough came - slot) now sent
+
+  pub at_first : Before 0 first first_sent
+  at_first = subst (λ (n : ℕ). Running (map M first.fixed) came first first_sent 0 n first first_sent) (omega arith) (running_first (map M first.fixed) came first first_sent ready)
+
+  module _ (slot : ℕ) (now : IdealSwitch) (sent : RoomView Departure) (r : Before slot now sent) (more : end_of came ≤ slot → waiting now.state.lists ≡ 0 → ⊥) where
+    pub a_slot_left : slot < enough came
+    a_slot_left = let some = slot_left (map M first.fixed) came first first_sent slot (enough came - slot) now sent r more in omega arith
+
+    one_more : enough came - slot ≡ suc (enough came - (slot + 1))
+    one_more = let l = a_slot_left in omega arith
+
+    r_next : Running (map M first.fixed) came first first_sent slot (suc (enough came - (slot + 1))) now sent
+    r_next = subst (λ (n : ℕ). Running (map M first.fixed) came first first_sent slot n now sent) one_more r
+
+    pub arrivals_fit : (cells : List (Option Cell)) → cells ≡ arriving came slot → AreForPorts (length now.fixed) (class_count (map M now.fixed)) cells
+    arrivals_fit cells are =
+        subst (λ (cells : List (Option Cell)). AreForPorts (length now.fixed) (class_count (map M now.fixed)) cells) (sym are)
+        (subst (λ (fixed : List (List ℕ)). AreForPorts (length fixed) (class_count (map M fixed)) (arriving came slot)) (sym r.fixed)
+        (arrivals_for (length first.fixed) (class_count (map M first.fixed)) came slot ready.traffic))
+
+    pub room_left : (cells : List (Option Cell)) → cells ≡ arriving came slot → HasRoomFor cells now
+    room_left cells are j inside =
+        let rooms : length now.rooms ≡ length first.rooms = ap (λ (l : List ℕ). length l) r.rooms in
+        let lists : length first.rooms ≡ length first.fixed = ready.lists in
+        let each = r_next.each j (omega arith) in
+        let here = for_here j came slot (enough came - (slot + 1)) in
+        let room : slice_index first.rooms j ≡ number_of (is_to j) came = ready.rooms j (omega arith) in
+        let same : slice_index now.rooms j ≡ slice_index first.rooms j = ap (λ (l : List ℕ). slice_index l j) r.rooms in
+        let count : count_for j cells ≡ count_for j (arriving came slot) = ap (count_for j) are in
+        omega arith
+
+    pub room_sent : length now.fixed ≤ sent.spare
+    room_sent = let spare = r.spare in let same : length now.fixed ≡ length first.fixed = ap (λ (l : List (List ℕ)). length l) r.fixed in omega arith
+
+    as_now : (cells : List (Option Cell)) → cells ≡ arriving came slot → ideal_slot (map M now.fixed) slot cells now.state ≡ ideal_slot (map M first.fixed) slot (arriving came slot) now.state
+    as_now cells are = ap (λ (fixed : List (List ℕ)). ideal_slot (map M fixed) slot cells now.state) r.fixed ∙ ap (λ (l : List (Option Cell)). ideal_slot (map M first.fixed) slot l now.state) are
+
+    pub at_next : (cells : List (Option Cell)) (after : IdealSwitch) (sent_new : RoomView Departure) → cells ≡ arriving came slot → Ok tt ≡ answer_to (ideal_slot (map M now.fixed) slot cells now.state) → IfOk (ideal_slot (map M now.fixed) slot cells now.state) (λ of_slot. after.state ≡ of_slot.after) → IfOk (ideal_slot (map M now.fixed) slot cells now.state) (λ of_slot. HaveLeft slot of_slot.gone sent sent_new) → after.stopped ≡ false → after.next ≡ slot + 1 → after.fixed ≡ now.fixed → after.rooms ≡ now.rooms → Before (slot + 1) after sent_new
+    at_next cells after sent_new are answer state left running next fixed rooms =
+        let ok = slot_ok (ideal_slot (map M now.fixed) slot cells now.state) answer in
+        running_next (map M first.fixed) came first first_sent slot (enough came - (slot + 1)) now sent after sent_new ok.0 r_next
+        (sym (as_now cells are) ∙ ok.1)
+        (subst (λ (x : Result Sent TagFault). IfOk x (λ of_slot. after.state ≡ of_slot.after)) ok.1 state)
+        (subst (λ (x : Result Sent TagFault). IfOk x (λ of_slot. HaveLeft slot of_slot.gone sent sent_new)) ok.1 left)
+        running next fixed rooms
+
+    pub at_fault : (cells : List (Option Cell)) (fault : TagFault) → cells ≡ arriving came slot → Err fault ≡ answer_to (ideal_slot (map M now.fixed) slot cells now.state) → departures_ran (ideal_run (map M first.fixed) 0 (traffic_of came) first.state) ≡ Err fault
+    at_fault cells fault are answer =
+        whole_run (map M first.fixed) came first.state
+        ∙ running_fault (map M first.fixed) came first first_sent slot (enough came - (slot + 1)) now sent fault r_next
+        (sym (as_now cells are) ∙ slot_err (ideal_slot (map M now.fixed) slot cells now.state) fault answer)
+
+  pub at_end : (slot : ℕ) (now : IdealSwitch) (sent : RoomView Departure) → Before slot now sent → end_of came ≤ slot → All (λ cells. cells ≡ []) now.state.lists → departures_ran (ideal_run (map M first.fixed) 0 (traffic_of came) first.state) ≡ Ok sent.items
+  at_end slot now sent r le none =
+      whole_run (map M first.fixed) came first.state
+      ∙ running_over (map M first.fixed) came first first_sent slot (enough came - slot) now sent r le (none_waits now.state.lists none)

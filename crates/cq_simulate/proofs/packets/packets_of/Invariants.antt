@@ -1,0 +1,5 @@
+use Rattle.cq_simulate.proofs.Taking.{SoFar}
+use Rattle.cq_simulate.proofs.packets.packets_of.Given as goal
+
+abbrev pub invariant-departures : goal.invariant-departures
+invariant-departures l = SoFar l.tables l.captures l.sent l.output l.departure-index l.joiner l.packets.items

@@ -1,0 +1,4 @@
+pub mod IdealRuns
+pub mod Packets
+pub mod Pieces
+pub mod Ready

@@ -1,0 +1,21 @@
+-- The packets that leave an output.
+use Rattle.std.specs.Prelude.{ℕ, ◌+◌, ◌*◌, ◌&&◌, ◌==◌, Bool, List, map, filter}
+use Rattle.cq_base.specs.declared.cell.Departure.{Departure}
+use Rattle.cq_cells.specs.Schedule.{first_stamp, packet_at}
+use Rattle.cq_pcap.specs.Captured.{Captured}
+use Rattle.cq_pcap.specs.declared.write.OutPacket.{OutPacket}
+use Rattle.cq_route.specs.declared.tables.Tables.{Tables}
+
+-- whether the last cell of a packet departs at this output
+abbrev pub ends_packet_at : ℕ → Departure → Bool
+ends_packet_at output d = d.output == output && d.queued.cell.last
+
+-- the packet whose last cell departs: as it was captured, with the stamp of this slot
+abbrev pub leaving : Tables → List (List Captured) → Departure → OutPacket
+leaving t captures d =
+    let p = packet_at captures d.queued.cell.id.input d.queued.cell.id.packet in
+    record { stamp = first_stamp captures + d.slot * t.slot_ns; original = p.original; body = p.body }
+
+-- the packets that leave an output, in the order in which their last cells depart
+unfoldable pub packets_out : Tables → List (List Captured) → List Departure → ℕ → List OutPacket
+packets_out t captures sent output = map (leaving t captures) (filter (ends_packet_at output) sent)

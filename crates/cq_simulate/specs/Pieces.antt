@@ -1,0 +1,35 @@
+-- The pieces of the cells of captured packets, and what is open of a packet after some of its cells were taken.
+use Rattle.std.specs.Prelude.{ℕ, ◌≡◌, ◌+◌, ◌<◌, ◌≤◌, true, if◌then◌else◌, List, [], ◌∷◌, ◌++◌, length, take, drop, Option, None, Some}
+use Rattle.cq_base.specs.declared.cell.Cell.{Cell}
+use Rattle.cq_cells.specs.Schedule.{packet_at, packets_of}
+use Rattle.cq_pcap.specs.Captured.{Captured}
+use Rattle.cq_reasm.specs.Joining.{IsNext, open_after}
+use Rattle.cq_reasm.specs.Open.{Open, bytes_taken}
+use Rattle.cq_base.specs.declared.cell.Departure.{Departure}
+use Rattle.cq_pcap.specs.declared.write.OutPacket.{OutPacket}
+use Rattle.cq_route.specs.declared.tables.Tables.{Tables}
+use Rattle.cq_simulate.specs.Packets.{leaving}
+
+-- the bytes of a cell's piece
+abbrev pub piece_at : List (List Captured) → Cell → List ℕ
+piece_at captures cell = take cell.len (drop cell.at (packet_at captures cell.id.input cell.id.packet).body)
+
+-- the cell is of a packet of its input's capture, and its piece lies in that packet's bytes
+pub record IsCaptured (captures : List (List Captured)) (cell : Cell) : Type 0 where
+  pub input : cell.id.input < length captures
+  pub packet : cell.id.packet < length (packets_of captures cell.id.input)
+  pub piece : cell.at + cell.len ≤ length (packet_at captures cell.id.input cell.id.packet).body
+
+-- what is open after these cells were taken, where this was open before
+abbrev pub opened : List (List Captured) → Option Open → List Cell → Option Open
+opened captures was [] = was
+opened captures was (cell ∷ cells) = opened captures (open_after was cell (piece_at captures cell)) cells
+
+-- the cell is the next, and if it is the last all pieces of its packet are together with it
+pub record Fits (captures : List (List Captured)) (was : Option Open) (cell : Cell) : Type 0 where
+  pub next : IsNext was cell
+  pub whole : cell.last ≡ true → bytes_taken was ++ piece_at captures cell ≡ (packet_at captures cell.id.input cell.id.packet).body
+
+-- what leaves with the cell that departs: its packet, if it is the last
+abbrev pub left_with : Tables → List (List Captured) → Departure → Option OutPacket
+left_with t captures d = if d.queued.cell.last then Some (leaving t captures d) else None

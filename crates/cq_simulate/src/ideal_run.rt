@@ -1,0 +1,106 @@
+//! The run of the ideal switch.
+ghost use Rattle.std.specs.Prelude.{◌≡◌, ◌↔◌, ◌+◌, ◌<◌, ◌≤◌, ◌^◌, IsTrue, All, Ok, Err, IfOk, IfErr, OnOk, [], length, map};
+ghost use Rattle.std.specs.List.{range_with_len};
+ghost use Rattle.cq_base.specs.Arriving.{end_of, traffic_of};
+ghost use Rattle.cq_cells.specs.Traffic.{IsTraffic, IsShort, is_to, number_of};
+ghost use Rattle.cq_ideal.specs.IdealRun.{ideal_run};
+ghost use Rattle.cq_route.specs.Tables.{AreTables, classes_of, ports_of};
+ghost use Rattle.cq_simulate.specs.IdealRuns.{departures_ran, ideal_departures, slots_of, IsRefusalOf};
+ghost use Rattle.cq_simulate.specs.Ready.{IsReady};
+
+use crate::RunRefusal;
+use cq_base::{Departure, NoMemory, Room, Slot, TagFault};
+use cq_cells::Schedule;
+use cq_ideal::Ideal;
+use cq_rank::Rank;
+use cq_route::Tables;
+use cq_scfq::Discipline;
+use std::alloc::Global;
+
+/// What the ideal switch did.
+#[derive(Drop)]
+pub struct IdealRun {
+    /// The departures, in order of slot, then output.
+    pub sent: Room<Departure>,
+    /// One more than the slot of the last departure, or 0 where there is none.
+    pub slots: u64,
+}
+
+/// Runs the ideal switch over a schedule of the same ports and classes, from slot 0 until no cell
+/// arrives any more and none waits.
+///
+/// - `Tag`: a rank does not fit 128 bits; the first such fault of the ideal switch.
+/// - `NoMemory`: there was not the memory for the lists and the departures.
+pub fn run_ideal(
+    alloc: Global,
+    tables: &Tables,
+    schedule: &Schedule,
+) -> Result<IdealRun, RunRefusal>
+    requires tables { AreTables tables.now }
+    requires ports { schedule.now.ports ≡ ports_of tables.now.setup }
+    requires traffic { IsTraffic (ports_of tables.now.setup) (classes_of tables.now.setup) schedule.now.came }
+    requires short { IsShort schedule.now.came }
+    ensures sent { IfOk result (λ run. ideal_departures tables.now.setup schedule.now.came ≡ Ok run.sent.items) }
+    ensures slots { IfOk result (λ run. run.slots ≡ slots_of run.sent.items) }
+    ensures refused { IfErr result (IsRefusalOf (ideal_departures tables.now.setup schedule.now.came)) }
+{
+    let ranks = Discipline::all(alloc, &tables.setup)?;
+    let ports = ranks.len() as u16;
+    let rooms = rooms_of(alloc, schedule, ports)?;
+    let mut sent = Room::new(alloc, schedule.total() + ports as u64)?;
+    let mut ideal = Ideal::new(alloc, ranks, rooms.as_slice())?;
+    run_slots(&mut ideal, schedule, &mut sent)?;
+    let slots = slots_of(sent.items());
+    Ok(IdealRun { sent, slots })
+}
+
+// How many cells arrive for each output.
+fn rooms_of(alloc: Global, schedule: &Schedule, ports: u16) -> Result<Vec<u64>, NoMemory>
+    requires { ports ≤ schedule.now.ports }
+    ensures { IfOk result (λ rooms. rooms.items ≡ map (λ j. number_of (is_to j) schedule.now.came) (range_with_len 0 ports)) }
+{
+    let mut rooms = Vec::with_capacity(alloc, ports as usize)?;
+    'outputs: for output in 0..ports {
+        rooms.push_reserved(schedule.to_output(output));
+    }
+    Ok(rooms)
+}
+
+// Whether no cell arrives any more and none waits.
+fn is_over<R: Rank>(ideal: &Ideal<R>, schedule: &Schedule, slot: Slot) -> bool
+    ensures { IsTrue result ↔ ((end_of schedule.now.came ≤ slot) × All (λ cells. cells ≡ []) ideal.now.state.lists) }
+{
+    schedule.end() <= slot && ideal.empty()
+}
+
+// Runs a switch over all cells that arrive. The error is its first tag fault.
+fn run_slots<R: Rank>(
+    ideal: &mut Ideal<R>,
+    schedule: &Schedule,
+    sent: &mut Room<Departure>,
+) -> Result<(), TagFault>
+    requires { IsReady (map R.machine ideal.old.fixed) schedule.now.came ideal.old sent.old }
+    ensures sent { OnOk result (departures_ran (ideal_run (map R.machine ideal.old.fixed) 0 (traffic_of schedule.now.came) ideal.old.state) ≡ Ok sent.new.items) }
+    ensures fault { IfErr result (λ fault. departures_ran (ideal_run (map R.machine ideal.old.fixed) 0 (traffic_of schedule.now.came) ideal.old.state) ≡ Err fault) }
+    ensures early { OnOk result (slots_of sent.new.items ≤ 2 ^ 63 + 2 ^ 35) }
+{
+    let mut slot = 0;
+    'slots: while !is_over(ideal, schedule, slot) {
+        let arrivals = schedule.arrivals_at(slot);
+        ideal.slot(slot, &arrivals, sent)?;
+        slot += 1;
+    }
+    Ok(())
+}
+
+// One more than the slot of the last departure, or 0 where there is none.
+fn slots_of(sent: &[Departure]) -> u64
+    requires { slots_of sent.now < 2 ^ 64 }
+    ensures { result ≡ slots_of sent.now }
+{
+    let mut slots: u64 = 0;
+    'departures: for departure in sent {
+        slots = slots.max(departure.slot + 1);
+    }
+    slots
+}

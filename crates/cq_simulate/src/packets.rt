@@ -1,0 +1,110 @@
+//! The packets that leave an output.
+ghost use Rattle.std.specs.Prelude.{◌≡◌, ◌+◌, ◌*◌, ◌<◌, ◌≤◌, ℕ, All, IfOk, IfSome, OnOk, Ok, length};
+ghost use Rattle.cq_cells.specs.Schedule.{arrivals, first_stamp, packet_at, packets_of as packets_at};
+ghost use Rattle.cq_route.specs.Tables.{AreTables, ports_of};
+ghost use Rattle.cq_simulate.specs.IdealRuns.{ideal_departures};
+ghost use Rattle.cq_reasm.specs.Joining.{IsOtherPair, open_after, open_at};
+ghost use Rattle.cq_simulate.specs.Packets.{packets_out};
+ghost use Rattle.cq_simulate.specs.Pieces.{Fits, IsCaptured, left_with, piece_at};
+
+use cq_base::{Cell, Departure, NoMemory, Port, Slot};
+use cq_pcap::{Capture, OutPacket};
+use cq_reasm::{Joined, Joiner};
+use cq_route::Tables;
+use std::alloc::Global;
+
+/// The packets that leave an output, in the order in which their last cells depart: each with the stamp
+/// of that slot, its original length, and its captured bytes. `sent` is a whole run over the schedule of
+/// these captures, and `t0` the stamp from which its slots are counted, in nanoseconds. The error is want
+/// of memory.
+pub fn packets_of(
+    alloc: Global,
+    output: Port,
+    sent: &[Departure],
+    captures: &[Capture],
+    tables: &Tables,
+    t0: u64,
+) -> Result<Vec<OutPacket>, NoMemory>
+    requires tables { AreTables tables.now }
+    requires output { output < ports_of tables.now.setup }
+    requires captures { length captures.now ≡ ports_of tables.now.setup }
+    requires sent { ideal_departures tables.now.setup (arrivals tables.now captures.now) ≡ Ok sent.now }
+    requires t0 { t0 ≡ first_stamp captures.now }
+    ensures packets { IfOk result (λ packets. packets.items ≡ packets_out tables.now captures.now sent.now output) }
+    ensures bodies { IfOk result (λ packets. All (λ p. length p.body ≤ 262144) packets.items) }
+{
+    let inputs = captures.len() as u16;
+    let classes = tables.setup.classes.as_slice().len() as u16;
+    let mut joiner = Joiner::new(alloc, inputs, classes)?;
+    let mut packets = Vec::new(alloc);
+    'departures: for departure in sent {
+        if departure.output == output {
+            let left = take(&mut joiner, departure, captures, tables, t0)?;
+            match left {
+                None => {}
+                Some(packet) => packets.push(packet)?,
+            }
+        }
+    }
+    Ok(packets)
+}
+
+// Takes the cell that departs. If it is the last of its packet, that packet leaves.
+fn take(
+    joiner: &mut Joiner,
+    departure: &Departure,
+    captures: &[Capture],
+    tables: &Tables,
+    t0: u64,
+) -> Result<Option<OutPacket>, NoMemory>
+    requires slot_ns { tables.now.slot_ns ≤ 1000000000 }
+    requires t0 { t0 ≡ first_stamp captures.now }
+    requires input { departure.now.queued.cell.id.input < joiner.old.inputs }
+    requires class { departure.now.queued.cell.class < joiner.old.classes }
+    requires captured { IsCaptured captures.now departure.now.queued.cell }
+    requires fits { Fits captures.now (open_at joiner.old departure.now.queued.cell.id.input departure.now.queued.cell.class) departure.now.queued.cell }
+    ensures packet { IfOk result (λ left. left ≡ left_with tables.now captures.now departure.now) }
+    ensures body { IfOk result (λ left. IfSome left (λ p. length p.body ≤ 262144)) }
+    ensures inputs { joiner.new.inputs ≡ joiner.old.inputs }
+    ensures classes { joiner.new.classes ≡ joiner.old.classes }
+    ensures pair { OnOk result (open_at joiner.new departure.now.queued.cell.id.input departure.now.queued.cell.class ≡ open_after (open_at joiner.old departure.now.queued.cell.id.input departure.now.queued.cell.class) departure.now.queued.cell (piece_at captures.now departure.now.queued.cell)) }
+    ensures others { (input class : ℕ) → class < joiner.old.classes → IsOtherPair input class departure.now.queued.cell → open_at joiner.new input class ≡ open_at joiner.old input class }
+{
+    let cell = &departure.queued.cell;
+    let joined = joiner.take(cell, piece_of(captures, cell))?;
+    match joined {
+        None => Ok(None),
+        Some(joined) => Ok(Some(leaving(departure.slot, joined, captures, tables, t0))),
+    }
+}
+
+// The bytes of a cell's piece.
+fn piece_of<'a>(captures: &'a [Capture], cell: &Cell) -> &'a [u8]
+    requires { IsCaptured captures.now cell.now }
+    ensures piece { result.now ≡ piece_at captures.now cell.now }
+    ensures len { length result.now ≡ cell.now.len }
+{
+    let capture = &captures[cell.id.input as usize];
+    let body = capture.body(cell.id.packet as usize);
+    let at = cell.at as usize;
+    &body[at..at + cell.len as usize]
+}
+
+// A packet that is whole, with the stamp of the slot.
+fn leaving(slot: Slot, joined: Joined, captures: &[Capture], tables: &Tables, t0: u64) -> OutPacket
+    requires slot_ns { tables.now.slot_ns ≤ 1000000000 }
+    requires t0 { t0 ≡ first_stamp captures.now }
+    requires input { joined.input < length captures.now }
+    requires packet { joined.packet < length (packets_at captures.now joined.input) }
+    ensures stamp { result.stamp ≡ first_stamp captures.now + slot * tables.now.slot_ns }
+    ensures original { result.original ≡ (packet_at captures.now joined.input joined.packet).original }
+    ensures body { result.body ≡ joined.body }
+    ensures small { length (packet_at captures.now joined.input joined.packet).body ≤ 262144 }
+{
+    let capture = &captures[joined.input as usize];
+    OutPacket {
+        stamp: u128::from(t0) + u128::from(slot) * u128::from(tables.slot_ns),
+        original: capture.rows()[joined.packet as usize].original,
+        body: joined.body,
+    }
+}

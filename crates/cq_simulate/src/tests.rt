@@ -1,0 +1,235 @@
+// Small captures through switches of one and three ports.
+ghost use Rattle.std.specs.Prelude.{◌≡◌, ◌<◌, IfOk, length};
+ghost use Rattle.cq_route.specs.Tables.{AreTables, ports_of};
+
+use crate::{RunRefusal, packets_of, run_ideal};
+use cq_base::{ClassRow, Kind, Name, NoMemory, Port, Sequence, TagFault};
+use cq_cells::Schedule;
+use cq_pcap::{Capture, PcapRefusal, read_capture};
+use cq_route::{AddressRow, PortRow, Tables};
+use std::alloc::Global;
+use std::test::Fail;
+
+// Little-endian with nanoseconds.
+const HEADER: [u8; 24] = [
+    0x4d, 0x3c, 0xb2, 0xa1, 2, 0, 4, 0, 0, 0, 0, 0, 0, 0, 0, 0, 0, 0, 4, 0, 1, 0, 0, 0,
+];
+
+// More than a small capture has.
+const MANY: usize = 65536;
+
+// A capture of packets, each with its stamp in nanoseconds, its captured length, and the last byte of the address to
+// which it goes. On the wire each has four bytes more.
+fn capture_of(alloc: Global, packets: &[(u32, u8, u8)]) -> Result<Capture, PcapRefusal> {
+    let mut bytes = Vec::from_slice(alloc, &HEADER).map_err(NoMemory::from)?;
+    for (stamp, length, to) in packets {
+        put_packet(&mut bytes, *stamp, *length, *to)?;
+    }
+    bytes.truncate(MANY);
+    read_capture(alloc, bytes)
+}
+
+fn put_packet(bytes: &mut Vec<u8>, stamp: u32, length: u8, to: u8) -> Result<(), NoMemory> {
+    bytes.extend_from_slice(&[0; 4])?;
+    bytes.extend_from_slice(&stamp.to_le_bytes())?;
+    bytes.extend_from_slice(&u32::from(length).to_le_bytes())?;
+    bytes.extend_from_slice(&(u32::from(length) + 4).to_le_bytes())?;
+    for place in 0..length {
+        bytes.push(match place {
+            0 => 0x02,
+            5 => to,
+            1..5 => 0,
+            _ => place,
+        })?;
+    }
+    Ok(())
+}
+
+// The file of a port.
+fn file(alloc: Global) -> Result<PortRow, NoMemory> {
+    Ok(PortRow {
+        read: None,
+        write: Name::of(alloc, "out")?,
+    })
+}
+
+// The files of three ports.
+fn three_files(alloc: Global) -> Result<Vec<PortRow>, NoMemory>
+    ensures { IfOk result (λ files. length files.items ≡ 3) }
+{
+    let mut files = Vec::new(alloc);
+    files.push(file(alloc)?)?;
+    files.push(file(alloc)?)?;
+    files.push(file(alloc)?)?;
+    Ok(files)
+}
+
+// Three ports that send in the order of arrival. Frames to address one go to output one, all others to output zero.
+#[tactic(auto, unfolding(cq_route::specs::Plain::plain_tables))]
+fn three_ports(alloc: Global) -> Result<Tables, NoMemory>
+    ensures in_range { IfOk result (λ tables. AreTables tables) }
+    ensures ports { IfOk result (λ tables. ports_of tables.setup ≡ 3) }
+{
+    let one = AddressRow {
+        mac: [0x02, 0, 0, 0, 0, 1],
+        output: 1,
+    };
+    let mut tables = Tables::plain(alloc, "in", "out")?;
+    tables.setup.kinds = Sequence::of(Vec::from_array(alloc, [Kind::FirstCome; 3])?);
+    tables.ports = Sequence::of(three_files(alloc)?);
+    tables.addresses = Sequence::of(Vec::from_array(alloc, [one])?);
+    Ok(tables)
+}
+
+// One port that sends in the order of arrival.
+#[tactic(auto, unfolding(cq_route::specs::Plain::plain_tables))]
+fn one_port(alloc: Global) -> Result<Tables, NoMemory>
+    ensures in_range { IfOk result (λ tables. AreTables tables) }
+    ensures ports { IfOk result (λ tables. ports_of tables.setup ≡ 1) }
+{
+    Tables::plain(alloc, "in", "out")
+}
+
+// One fair port, where each cell costs all that a rank can hold.
+#[tactic(auto, unfolding(cq_route::specs::Plain::plain_tables))]
+fn dear_port(alloc: Global) -> Result<Tables, NoMemory>
+    ensures in_range { IfOk result (λ tables. AreTables tables) }
+    ensures ports { IfOk result (λ tables. ports_of tables.setup ≡ 1) }
+{
+    let class = ClassRow {
+        priority: 0,
+        cost: u128::MAX,
+    };
+    let mut tables = Tables::plain(alloc, "in", "out")?;
+    tables.setup.kinds = Sequence::of(Vec::from_array(alloc, [Kind::Fair])?);
+    tables.setup.classes = Sequence::of(Vec::from_array(alloc, [class])?);
+    Ok(tables)
+}
+
+// What a run comes to: its slots, and of each departure the slot, the output, and the cell by input, packet and number.
+fn trace_of(
+    alloc: Global,
+    tables: &Tables,
+    captures: &[Capture],
+) -> Result<(u64, Vec<(u64, u16, u16, u32, u32)>), RunRefusal>
+    requires tables { AreTables tables.now }
+    requires captures { length captures.now ≡ ports_of tables.now.setup }
+{
+    let schedule = Schedule::of(alloc, captures, tables)?;
+    let run = run_ideal(alloc, tables, &schedule)?;
+    let mut lines = Vec::new(alloc);
+    for d in run.sent.items() {
+        let id = d.queued.cell.id;
+        lines
+            .push((d.slot, d.output, id.input, id.packet, id.index))
+            .map_err(NoMemory::from)?;
+    }
+    Ok((run.slots, lines))
+}
+
+// The packets that leave an output: of each the stamp, the length on the wire, and how many bytes were captured.
+fn packets_at(
+    alloc: Global,
+    tables: &Tables,
+    captures: &[Capture],
+    output: Port,
+) -> Result<Vec<(u128, u32, usize)>, RunRefusal>
+    requires tables { AreTables tables.now }
+    requires captures { length captures.now ≡ ports_of tables.now.setup }
+    requires output { output < ports_of tables.now.setup }
+{
+    let schedule = Schedule::of(alloc, captures, tables)?;
+    let run = run_ideal(alloc, tables, &schedule)?;
+    let packets = packets_of(
+        alloc,
+        output,
+        run.sent.items(),
+        captures,
+        tables,
+        schedule.t0(),
+    )?;
+    let mut seen = Vec::new(alloc);
+    for p in &packets {
+        seen.push((p.stamp, p.original, p.body.as_slice().len()))
+            .map_err(NoMemory::from)?;
+    }
+    Ok(seen)
+}
+
+#[test]
+fn one_line_passes_as_it_came(rt: HostRuntime) -> Result<(), Fail> {
+    let alloc = rt.alloc();
+    let tables = one_port(alloc)?;
+    let captures = [capture_of(alloc, &[(0, 64, 0), (0, 65, 0), (0, 128, 0)])?];
+    let seen = packets_at(alloc, &tables, &captures, 0);
+    let left = [(0, 68, 64), (1024, 69, 65), (2048, 132, 128)];
+    assert_eq!(rt; seen.as_deref(), Ok(&left[..]));
+
+    let none = [capture_of(alloc, &[])?];
+    let seen = trace_of(alloc, &tables, &none);
+    assert_eq!(rt; seen, Ok((0, Vec::new(alloc))));
+    Ok(())
+}
+
+#[test]
+fn cells_wait_for_their_output_after_the_last_has_arrived(rt: HostRuntime) -> Result<(), Fail> {
+    let alloc = rt.alloc();
+    let tables = three_ports(alloc)?;
+    let captures = [
+        capture_of(alloc, &[(0, 60, 0)])?,
+        capture_of(alloc, &[(0, 60, 0)])?,
+        capture_of(alloc, &[(0, 60, 0), (512, 60, 1)])?,
+    ];
+    let trace = [
+        (0, 0, 0, 0, 0),
+        (1, 0, 1, 0, 0),
+        (1, 1, 2, 1, 0),
+        (2, 0, 2, 0, 0),
+    ];
+    let seen = trace_of(alloc, &tables, &captures);
+    assert_eq!(rt; seen.map(|(slots, _)| slots), Ok(3));
+    let seen = trace_of(alloc, &tables, &captures);
+    assert_eq!(rt; seen.map(|(_, lines)| lines).as_deref(), Ok(&trace[..]));
+
+    let first = [(0, 64, 60), (512, 64, 60), (1024, 64, 60)];
+    let seen = packets_at(alloc, &tables, &captures, 0);
+    assert_eq!(rt; seen.as_deref(), Ok(&first[..]));
+    let seen = packets_at(alloc, &tables, &captures, 1);
+    assert_eq!(rt; seen.as_deref(), Ok(&[(512, 64, 60)][..]));
+    let seen = packets_at(alloc, &tables, &captures, 2);
+    assert_eq!(rt; seen.as_deref(), Ok(&[][..]));
+    Ok(())
+}
+
+#[test]
+fn packets_leave_by_their_last_cells(rt: HostRuntime) -> Result<(), Fail> {
+    let alloc = rt.alloc();
+    let tables = three_ports(alloc)?;
+    let captures = [
+        capture_of(alloc, &[(1000, 200, 0)])?,
+        capture_of(alloc, &[(1000, 60, 0)])?,
+        capture_of(alloc, &[])?,
+    ];
+    let left = [(1512, 64, 60), (3048, 204, 200)];
+    let seen = packets_at(alloc, &tables, &captures, 0);
+    assert_eq!(rt; seen.as_deref(), Ok(&left[..]));
+    Ok(())
+}
+
+#[test]
+fn a_rank_that_does_not_fit_stops_the_run(rt: HostRuntime) -> Result<(), Fail> {
+    let alloc = rt.alloc();
+    let tables = dear_port(alloc)?;
+    let fault = RunRefusal::Tag(TagFault {
+        slot: 1,
+        input: 0,
+        output: 0,
+    });
+    let together = [capture_of(alloc, &[(0, 60, 0), (512, 60, 0)])?];
+    let seen = trace_of(alloc, &tables, &together);
+    assert_eq!(rt; seen.map(|(slots, _)| slots), Err(fault));
+    let apart = [capture_of(alloc, &[(0, 60, 0), (1024, 60, 0)])?];
+    let seen = trace_of(alloc, &tables, &apart);
+    assert_eq!(rt; seen.map(|(slots, _)| slots), Ok(3));
+    Ok(())
+}
