@@ -9,12 +9,20 @@ The expected files come from model.py, and so from no run of the program.
 import os
 
 from model import SECOND_NS, Packet, captured, cells_of, passed, slots, written
+from switch_model import Switch
 
 HERE = os.path.dirname(os.path.realpath(__file__))
 BEGIN = 1_700_000_000 * SECOND_NS
 
 # Microseconds after the beginning, bytes captured, and bytes on the wire.
 ONE_PORT = ((0, 64, 64), (0, 200, 200), (1, 60, 60), (2, 0, 60), (1, 65, 65), (10, 128, 128), (12, 96, 1514))
+
+# For each input of the switch of three ports: microseconds, bytes captured, and the last byte of the address.
+THREE_PORTS = (
+    ((0, 200, 1), (1, 60, 9)),
+    ((0, 60, 1), (1, 60, 0)),
+    ((0, 128, 1), (2, 60, 1)),
+)
 
 
 def frame(number, length):
@@ -23,7 +31,20 @@ def frame(number, length):
     return (head + bytes([number]) * length)[:length]
 
 
-def main():
+def addressed(station, length):
+    """A frame to the station whose address ends in this byte."""
+    return (bytes.fromhex("0200000000") + bytes([station]) + bytes.fromhex("0200000000aa" "88b5")).ljust(length, b"\0")
+
+
+def three_ports():
+    os.chdir(os.path.join(HERE, "three-ports"))
+    for number, packets in enumerate(THREE_PORTS):
+        with open("in%d.pcap" % number, "wb") as file:
+            file.write(captured(Packet(BEGIN + micros * 1000, length, addressed(station, length)) for micros, length, station in packets))
+    Switch("switch.toml").run()
+
+
+def one_port():
     packets = [Packet(BEGIN + micros * 1000, original, frame(number, length))
                for number, (micros, length, original) in enumerate(ONE_PORT)]
     for name, capture in (("in.pcap", captured(packets)), ("out.pcap", written(passed(packets)))):
@@ -36,4 +57,5 @@ def main():
 
 
 if __name__ == "__main__":
-    main()
+    one_port()
+    three_ports()

@@ -7,18 +7,20 @@ use Rattle.cq_base.specs.declared.status.Status.{Status}
 use Rattle.cq_base.specs.declared.status.Status.TheVariants as status
 use Rattle.cq_run.specs.declared.command.Command.{Command}
 use Rattle.cq_run.specs.declared.refusal.Refusal.{Refusal}
-use Rattle.cq_run.specs.declared.refusal.Refusal.TheVariants.{Words, Missing, Capture}
+use Rattle.cq_run.specs.declared.refusal.Refusal.TheVariants.{Words, Missing, Configuration, Capture, Tag}
 use Rattle.cq_run.specs.declared.stop.Halt.TheVariants.{Refused, Unread, NoMemory}
 use Rattle.cq_run.specs.declared.stop.Unwritten.TheVariants.{File, Output}
 use Rattle.cq_run.specs.declared.stop.Stop.{Stop}
 use Rattle.cq_run.specs.declared.stop.Stop.TheVariants.{Halted, Cut}
 use Rattle.cq_run.specs.Plan.{Plan}
 use Rattle.cq_run.specs.Refusals.{meaning_of}
+use Rattle.cq_run.specs.Judging.{IsRefused}
 use Rattle.cq_run.specs.Verdict.{judged, judged_or_words}
 use Rattle.cq_run.specs.World.{World, IsUntouched}
 use Rattle.cq_run.specs.Writing.{IsCutAtFile}
 use Rattle.cq_run.specs.Ending.{WordsEnd, CommandEnds, status_of, status_by}
 use Rattle.cq_run.specs.StatusCauses.{StatusCauses}
+use Rattle.cq_run.proofs.Never.{never_words}
 use Rattle.cq_run.proofs.Told.{told_map, told_any, told_of_match, told_is_some, some_map}
 
 -- the table of refusals
@@ -26,17 +28,23 @@ use Rattle.cq_run.proofs.Told.{told_map, told_any, told_of_match, told_is_some, 
 not_done : (r : Refusal) → (meaning_of r).status ≢ status.Done
 not_done Words e = cc
 not_done (Missing name) e = cc
+not_done (Configuration code path) e = cc
 not_done (Capture input fault) e = cc
+not_done (Tag fault) e = cc
 
 not_cut : (r : Refusal) → (meaning_of r).status ≢ status.WriteFault
 not_cut Words e = cc
 not_cut (Missing name) e = cc
+not_cut (Configuration code path) e = cc
 not_cut (Capture input fault) e = cc
+not_cut (Tag fault) e = cc
 
 missed_is_told : (r : Refusal) → (meaning_of r).status ≡ status.ReadFault → ¬ IsTrue (meaning_of r).untold
 missed_is_told Words e u = cc
 missed_is_told (Missing name) e u = cc
+missed_is_told (Configuration code path) e u = cc
 missed_is_told (Capture input fault) e u = cc
+missed_is_told (Tag fault) e u = cc
 
 -- a cut at a file was counted since the start
 rose_after : (old mid new : ℕ) → mid ≡ old → Rose mid new → Rose old new
@@ -147,3 +155,29 @@ causes (Some c) old new end h = command_causes c old new end h
 -- the top call's status is that of its end
 pub causes_at : (command : Option Command) (old new : World) (end : Result (Unit {0}) Stop) (answer : Status) → answer ≡ status_of end → MatchOption command (WordsEnd old new end) (λ c. CommandEnds c old new end) → StatusCauses (judged_or_words command) old new answer
 causes_at command old new end answer e h = let P : Status → Type 0 = λ s. StatusCauses (judged_or_words command) old new s in subst P (sym e) (causes command old new end h)
+
+-- only words that are no command are refused as such
+
+words_is : (r : Refusal) → (meaning_of r).status ≡ status.Words → r ≡ Words
+words_is Words e = refl
+words_is (Missing name) e = cc
+words_is (Configuration code path) e = cc
+words_is (Capture input fault) e = cc
+words_is (Tag fault) e = cc
+
+not_refused : (command : Command) (told : Option Contents) → IsRefused (judged command) told Words → ⊥
+not_refused command None h = cc
+not_refused command (Some m) h = never_words command m h
+
+not_words : (command : Command) (old new : World) (end : Result (Unit {0}) Stop) → CommandEnds command old new end → status_of end ≡ status.Words → ⊥
+not_words command old new (Ok x) h e = cc
+not_words command old new (Err (Halted (Refused r))) h e =
+    let P : Refusal → Type 0 = λ s. IsRefused (judged command) old.files.told s in
+    not_refused command old.files.told (subst P (words_is r e) h.0.0)
+not_words command old new (Err (Halted (Unread name))) h e = cc
+not_words command old new (Err (Halted NoMemory)) h e = cc
+not_words command old new (Err (Cut at)) h e = cc
+
+pub only_words : (command : Option Command) (old new : World) (end : Result (Unit {0}) Stop) (answer : Status) → answer ≡ status_of end → MatchOption command (WordsEnd old new end) (λ c. CommandEnds c old new end) → answer ≡ status.Words → command ≡ None
+only_words None old new end answer e h w = refl
+only_words (Some c) old new end answer e h w = absurd (not_words c old new end h (sym e ∙ w))

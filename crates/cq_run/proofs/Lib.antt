@@ -1,10 +1,12 @@
-pub mod Crossing
-pub mod Leaving
-pub mod RowsRead
-pub mod Packing
-pub mod Whole
 pub mod Put
 pub mod Removed
+pub mod Stays
+pub mod Captures
+pub mod TooLong
+pub mod Configured
+pub mod Chain
+pub mod Never
+pub mod Ports
 pub mod Cut
 pub mod Told
 pub mod Causes

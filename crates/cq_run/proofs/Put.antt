@@ -24,6 +24,11 @@ pub line_of_two : (a b b' c d d' : List ℕ) → b ≡ b' → d ≡ d' → a ++ 
 unfolding line
 line_of_two a b b' c d d' e f = ap (λ ys. a ++ (ys ++ (c ++ (d ++ 10 ∷ [])))) e ∙ ap (λ ys. a ++ (b' ++ (c ++ (ys ++ 10 ∷ [])))) f ∙ simp append_assoc
 
+-- and of three
+pub line_of_three : (a b b' c d d' e f f' : List ℕ) → b ≡ b' → d ≡ d' → f ≡ f' → a ++ (b ++ (c ++ (d ++ (e ++ (f ++ 10 ∷ []))))) ≡ line (a ++ b' ++ c ++ d' ++ e ++ f')
+unfolding line
+line_of_three a b b' c d d' e f f' p q r = ap (λ ys. a ++ (ys ++ (c ++ (d ++ (e ++ (f ++ 10 ∷ [])))))) p ∙ ap (λ ys. a ++ (b' ++ (c ++ (ys ++ (e ++ (f ++ 10 ∷ [])))))) q ∙ ap (λ ys. a ++ (b' ++ (c ++ (d' ++ (e ++ (ys ++ 10 ∷ [])))))) r ∙ simp append_assoc
+
 -- a line after the pieces of its head
 pub line_after : (a b b' c text : List ℕ) → b ≡ b' → a ++ (b ++ c) ++ line text ≡ line (a ++ b' ++ c ++ text)
 unfolding line

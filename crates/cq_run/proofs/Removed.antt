@@ -8,7 +8,7 @@ use Rattle.cq_space.specs.Space.{Contents}
 use Rattle.cq_run.specs.Verdict.{◌>>=◌, capture_in, capture_of, found_or_missing}
 use Rattle.cq_run.specs.Judging.{IsToRead}
 
-get-remove_same : (m : Contents) (name : List ℕ) → get (remove m name) name ≡ None
+pub get-remove_same : (m : Contents) (name : List ℕ) → get (remove m name) name ≡ None
 get-remove_same m name =
     get-remove nat_list_cmp_total m name name
     ∙ ap (λ b. cond b None (get m name)) ((eq_by_cmp_equiv nat_list_cmp_total).refl name)

@@ -23,6 +23,12 @@ Halts judge may_read old new (Refused refusal) = IsRefused judge old.told refusa
 Halts judge may_read old new (Unread name) = Rose old.faults new.faults × may_read name × IsToRead judge old.told name
 Halts judge may_read old new NoMemory = new.faults ≡ old.faults
 
+-- why a computation ends without an answer: it is refused so, or memory ran out
+abbrev pub IsHaltOf : {A : Type 0} → Result A Refusal → Halt → Type 0
+IsHaltOf judged (Refused refusal) = (judged ≡ Err refusal) × IsTrue (meaning_of refusal).untold
+IsHaltOf judged (Unread name) = ⊥
+IsHaltOf judged NoMemory = Unit {0}
+
 -- what a call that judges contents answers and leaves
 pub record Judges {A : Type 0} (judge : Contents → Result A Refusal) (may_read : List ℕ → Type 0) (old new : Space) (result : Result A Halt) : Type 0 where
   pub ok : IfOk result (λ x. IfSome old.told (λ m. judge m ≡ Ok x))

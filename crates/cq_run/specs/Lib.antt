@@ -1,11 +1,10 @@
-pub mod Schedule
-pub mod IdealSwitch
-pub mod PacketsOut
 pub mod Words
 pub mod Plan
+pub mod Plans
 pub mod Refusals
 pub mod Verdict
 pub mod Judging
+pub mod Switching
 pub mod World
 pub mod Writing
 pub mod Ending

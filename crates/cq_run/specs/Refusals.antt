@@ -7,7 +7,7 @@ use Rattle.cq_pcap.specs.Faults as pcap
 use Rattle.cq_run.specs.declared.refusal.CaptureFault.{CaptureFault}
 use Rattle.cq_run.specs.declared.refusal.CaptureFault.TheVariants.{NoHeader, Magic, Version, LinkType, CutHeader, CutBody, LongRecord, Long}
 use Rattle.cq_run.specs.declared.refusal.Refusal.{Refusal}
-use Rattle.cq_run.specs.declared.refusal.Refusal.TheVariants.{Words, Missing, Capture}
+use Rattle.cq_run.specs.declared.refusal.Refusal.TheVariants.{Words, Missing, Configuration, Capture, Tag}
 
 pub record Meaning : Type 0 where
   -- the status of a run that ends with it
@@ -38,8 +38,14 @@ fault_text (CutBody offset) = codes "6 at " ++ decimal offset
 fault_text (LongRecord offset len) = codes "7 at " ++ decimal offset ++ codes ", length " ++ decimal len
 fault_text (Long limit) = codes "8, limit " ++ decimal limit
 
+-- the forms of the commands
+abbrev pub usage : List ℕ
+usage = codes "usage: cq_switch pass IN OUT | check CONFIG | ideal CONFIG"
+
 -- words are judged before any file is asked for, and a name is missed only where contents are told
 abbrev pub meaning_of : Refusal → Meaning
-meaning_of Words = record { status = status.Words; text = codes "usage: cq_switch pass IN OUT"; untold = false }
+meaning_of Words = record { status = status.Words; text = usage; untold = false }
 meaning_of (Missing name) = record { status = status.ReadFault; text = codes "read fault: " ++ name; untold = false }
+meaning_of (Configuration code path) = record { status = status.Configuration; text = codes "configuration: C" ++ decimal code ++ codes " at " ++ path; untold = true }
 meaning_of (Capture input fault) = record { status = status.Capture; text = codes "capture of input " ++ decimal input ++ codes ": " ++ fault_text fault; untold = true }
+meaning_of (Tag fault) = record { status = status.Tag; text = codes "tag: slot " ++ decimal fault.slot ++ codes ", input " ++ decimal fault.input ++ codes ", output " ++ decimal fault.output; untold = true }

@@ -1,30 +1,34 @@
 -- What words and contents come to: what is to be written, or the refusal that is met first.
-use Rattle.std.specs.Prelude.{◌≡◌, ℕ, if◌then◌else◌, nat_lt, List, [], ◌∷◌, length, Option, None, Some, Result, Ok, Err}
+use Rattle.std.specs.Prelude.{◌≡◌, ℕ, ◌+◌, if◌then◌else◌, nat_lt, List, [], ◌∷◌, length, Option, None, Some, Result, Ok, Err}
 use Rattle.std.specs.FinMap.{get}
+use Rattle.cq_base.specs.declared.cell.Departure.{Departure}
+use Rattle.cq_base.specs.declared.cell.TagFault.{TagFault}
+use Rattle.cq_cells.specs.Schedule.{arrivals}
 use Rattle.cq_space.specs.Space.{Contents}
 use Rattle.cq_pcap.specs.Captured.{Captured}
 use Rattle.cq_pcap.specs.Faults.{Fault}
 use Rattle.cq_pcap.specs.Reading.{packets_of}
-use Rattle.cq_pcap.specs.Written.{written}
+use Rattle.cq_route.specs.declared.tables.PortRow.{PortRow}
+use Rattle.cq_route.specs.declared.tables.Tables.{Tables}
+use Rattle.cq_route.specs.Plain.{plain_tables}
+use Rattle.cq_simulate.specs.IdealRuns.{ideal_departures}
+use Rattle.cq_tables.specs.Check.{Refused}
+use Rattle.cq_tables.specs.Document.{read_or_refused}
 use Rattle.cq_run.specs.declared.command.Command.{Command}
-use Rattle.cq_run.specs.declared.command.Command.TheVariants.{Pass}
+use Rattle.cq_run.specs.declared.command.Command.TheVariants.{Pass, Check, Ideal}
 use Rattle.cq_run.specs.declared.refusal.Refusal.{Refusal}
-use Rattle.cq_run.specs.declared.refusal.Refusal.TheVariants.{Words, Missing, Capture}
+use Rattle.cq_run.specs.declared.refusal.Refusal.TheVariants.{Words, Missing, Configuration, Capture, Tag}
 use Rattle.cq_run.specs.declared.refusal.CaptureFault.TheVariants.{Long}
 use Rattle.cq_run.specs.Words.{command_for}
 use Rattle.cq_run.specs.Plan.{Plan}
-use Rattle.cq_run.specs.PacketsOut.{passed}
 use Rattle.cq_run.specs.Refusals.{capture_fault}
+use Rattle.cq_run.specs.Plans.{checked, passed, switched}
 
 -- one judgement after another: the first refusal is the answer
 infixl 10 ◌>>=◌
 abbrev pub ◌>>=◌ : {A B : Type 0} → Result A Refusal → (A → Result B Refusal) → Result B Refusal
 (Ok x) >>= f = f x
 (Err e) >>= f = Err e
-
--- at most so many bytes of a capture are read
-abbrev pub default_limit : ℕ
-default_limit = 67108864
 
 -- what a name has, or that it is missing
 abbrev pub found_or_missing : List ℕ → Option (List ℕ) → Result (List ℕ) Refusal
@@ -34,6 +38,17 @@ found_or_missing name (Some bytes) = Ok bytes
 -- the bytes of a name that is to be read
 abbrev pub named : Contents → List ℕ → Result (List ℕ) Refusal
 named m name = found_or_missing name (get m name)
+
+-- the tables that are read of a configuration, or what it is refused for
+abbrev pub read_or_refused_for : Result Tables Refused → Result Tables Refusal
+read_or_refused_for (Ok tables) = Ok tables
+read_or_refused_for (Err refused) = Err (Configuration refused.code refused.path)
+
+-- the tables of the configuration of this name
+abbrev pub tables_in : List ℕ → Contents → Result Tables Refusal
+tables_in name m = do
+  bytes ← named m name
+  read_or_refused_for (read_or_refused bytes)
 
 -- the packets that are read of an input's capture, or what is wrong with it
 abbrev pub read_or_faulty : ℕ → Result (List Captured) Fault → Result (List Captured) Refusal
@@ -48,11 +63,46 @@ capture_of input limit bytes = if nat_lt limit (length bytes) then Err (Capture 
 abbrev pub capture_in : List ℕ → ℕ → ℕ → Contents → Result (List Captured) Refusal
 capture_in name input limit m = named m name >>= capture_of input limit
 
+-- the packets that arrive at an input: it has none where no file is read for it
+abbrev pub packets_at : ℕ → ℕ → Option (List ℕ) → Contents → Result (List Captured) Refusal
+packets_at input limit None m = Ok []
+packets_at input limit (Some name) m = capture_in name input limit m
+
+-- the packets of these ports, which are numbered from this one on; the lowest input that is refused is the answer
+unfoldable pub captures_from : ℕ → ℕ → List PortRow → Contents → Result (List (List Captured)) Refusal
+captures_from limit input [] m = Ok []
+captures_from limit input (row ∷ rows) m = do
+  packets ← packets_at input limit row.read m
+  others ← captures_from limit (input + 1) rows m
+  Ok (packets ∷ others)
+
+-- the packets of all inputs
+abbrev pub captures_in : Tables → Contents → Result (List (List Captured)) Refusal
+captures_in tables m = captures_from tables.limit_bytes 0 tables.ports m
+
+-- the departures of a run, or its tag fault
+abbrev pub sent_or_tag : Result (List Departure) TagFault → Result (List Departure) Refusal
+sent_or_tag (Ok sent) = Ok sent
+sent_or_tag (Err fault) = Err (Tag fault)
+
+-- what the ideal switch sends of these packets
+abbrev pub ideally_sent : Tables → List (List Captured) → Result (List Departure) Refusal
+ideally_sent tables captures = sent_or_tag (ideal_departures tables.setup (arrivals tables captures))
+
 -- what a command comes to; a new command is one case here, and one in `MayRead` and in `MayWrite`
 abbrev pub judged : Command → Contents → Result Plan Refusal
 judged (Pass from to) m = do
-  packets ← capture_in from 0 default_limit m
-  Ok (record { writes = (to, written (passed packets)) ∷ []; text = [] })
+  packets ← capture_in from 0 (plain_tables from to).limit_bytes m
+  sent ← ideally_sent (plain_tables from to) (packets ∷ [])
+  Ok (passed from to packets sent)
+judged (Check config) m = do
+  tables ← tables_in config m
+  Ok (checked tables)
+judged (Ideal config) m = do
+  tables ← tables_in config m
+  captures ← captures_in tables m
+  sent ← ideally_sent tables captures
+  Ok (switched tables captures sent)
 
 -- words that are no command are refused before anything is read
 abbrev pub judged_or_words : Option Command → Contents → Result Plan Refusal
@@ -63,10 +113,14 @@ judged_or_words (Some command) m = judged command m
 abbrev pub verdict : List (List ℕ) → Contents → Result Plan Refusal
 verdict words m = judged_or_words (command_for words) m
 
--- the names that the line of a read fault may have, whatever the contents
+-- the names that the line of a read fault may have, whatever the contents: where a configuration says what is read, any
 abbrev pub MayRead : Command → List ℕ → Type 0
 MayRead (Pass from to) name = name ≡ from
+MayRead (Check config) name = name ≡ config
+MayRead (Ideal config) name = Unit {0}
 
--- the names that a command's plan may write, whatever the contents
+-- the names that a command's plan may write, whatever the contents: where a configuration says what is written, any
 abbrev pub MayWrite : Command → List ℕ → Type 0
 MayWrite (Pass from to) name = name ≡ to
+MayWrite (Check config) name = ⊥
+MayWrite (Ideal config) name = Unit {0}

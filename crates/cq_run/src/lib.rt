@@ -6,20 +6,19 @@
 //! what every answer of the program means.
 #![tactic(auto)]
 
+mod build;
 mod command;
 mod judge;
-mod laws;
-mod packets_out;
 mod perform;
 mod plan;
+mod reading;
 mod refusal;
 mod say;
-mod schedule;
 mod stop;
+mod switching;
 mod top;
 
 pub use command::{Command, command_of};
-pub use laws::{ideal_run_is_whole, one_cell_arrives_a_slot};
 pub use refusal::{CaptureFault, Refusal};
 pub use stop::{Halt, Stop, Unwritten};
 pub use top::switch_top;

@@ -1,8 +1,7 @@
 // What is to be written.
-ghost use Rattle.std.specs.Prelude.{◌≡◌, [], ◌∷◌, IfOk};
+ghost use Rattle.std.specs.Prelude.{◌≡◌};
 
-use cq_base::{Name, NoMemory};
-use std::alloc::Global;
+use cq_base::Name;
 use std::marker::Model;
 
 /// A name that is to have these bytes, seen as the pair of both.
@@ -21,6 +20,13 @@ impl Model for Write {
 }
 
 impl Write {
+    /// The name is to have these bytes.
+    pub fn of(name: Name, bytes: Vec<u8>) -> Write
+        ensures { result ≡ (name, bytes.items) }
+    {
+        Write { name, bytes }
+    }
+
     /// The name.
     pub fn name(&self) -> &str
         ensures { result.now ≡ self.now.0 }
@@ -60,17 +66,12 @@ impl Model for Work {
 }
 
 impl Work {
-    /// One name with its bytes, and no text.
-    pub fn one(alloc: Global, name: Name, bytes: Vec<u8>) -> Result<Work, NoMemory>
-        ensures writes { IfOk result (λ plan. plan.writes ≡ (name, bytes.items) ∷ []) }
-        ensures text { IfOk result (λ plan. plan.text ≡ []) }
+    /// These names with their bytes, and this text.
+    pub fn of(writes: Vec<Write>, text: Vec<u8>) -> Work
+        ensures writes { result.writes ≡ writes.items }
+        ensures text { result.text ≡ text.items }
     {
-        let mut writes = Vec::new(alloc);
-        writes.push(Write { name, bytes })?;
-        Ok(Work {
-            writes,
-            text: Vec::new(alloc),
-        })
+        Work { writes, text }
     }
 
     /// The names with their bytes, and the text.

@@ -4,7 +4,7 @@ ghost use Rattle.std.specs.Option.{option_map};
 ghost use Rattle.cq_pcap.specs.Faults.{fault_of};
 ghost use Rattle.cq_run.specs.Refusals.{capture_fault, meaning_of};
 
-use cq_base::{Name, Status};
+use cq_base::{Name, Status, TagFault};
 use cq_pcap::PcapRefusal;
 
 /// What is wrong with a capture. An offset is the place in the file, in bytes, of the record at fault.
@@ -55,8 +55,12 @@ pub enum Refusal {
     Words,
     /// A name to be read is not there.
     Missing { name: Name },
+    /// The configuration is refused, by its first fault: the code, and the path of the key.
+    Configuration { code: u8, path: Name },
     /// The capture of an input is at fault.
     Capture { input: u16, fault: CaptureFault },
+    /// A rank does not fit 128 bits.
+    Tag { fault: TagFault },
 }
 
 impl Refusal {
@@ -67,7 +71,9 @@ impl Refusal {
         match self {
             Refusal::Words => Status::Words,
             Refusal::Missing { .. } => Status::ReadFault,
+            Refusal::Configuration { .. } => Status::Configuration,
             Refusal::Capture { .. } => Status::Capture,
+            Refusal::Tag { .. } => Status::Tag,
         }
     }
 }

@@ -7,8 +7,10 @@ ghost use Rattle.cq_run.specs.Refusals.{meaning_of, fault_text};
 ghost use Rattle.cq_run.specs.Line.{Puts, line, halt_text, unwritten_text, stop_text};
 
 use crate::{CaptureFault, Halt, Refusal, Stop, Unwritten};
-use cq_base::{Name, digits};
+use cq_base::{Name, TagFault, digits};
 use cq_space::{Sink, WriteFault, put_all};
+
+const USAGE: &[u8; 58] = b"usage: cq_switch pass IN OUT | check CONFIG | ideal CONFIG";
 
 const READ_FAULT: &[u8; 12] = b"read fault: ";
 
@@ -52,10 +54,54 @@ fn say_refusal<S: Sink>(sink: &mut S, refusal: &Refusal) -> Result<(), WriteFaul
         (taken_by S.taken S.faults sink.new) result }
 {
     match refusal {
-        Refusal::Words => say_line(sink, b"usage: cq_switch pass IN OUT"),
+        Refusal::Words => say_line(sink, USAGE),
         Refusal::Missing { name } => say_name(sink, READ_FAULT, name),
+        Refusal::Configuration { code, path } => say_configuration(sink, *code, path),
         Refusal::Capture { input, fault } => say_capture(sink, *input, *fault),
+        Refusal::Tag { fault } => say_tag(sink, *fault),
     }
+}
+
+fn say_configuration<S: Sink>(sink: &mut S, code: u8, path: &Name) -> Result<(), WriteFault>
+    ensures { Puts (line (meaning_of (Refusal.Configuration code path.now)).text)
+        (taken_by S.taken S.faults sink.old) (taken_by S.taken S.faults sink.new) result }
+{
+    let mut places = [0u8; 39];
+    let count = digits(u128::from(code), &mut places);
+    put_pieces(
+        sink,
+        &[
+            b"configuration: C",
+            &places[..count],
+            b" at ",
+            path.text().as_bytes(),
+            b"\n",
+        ],
+    )
+}
+
+fn say_tag<S: Sink>(sink: &mut S, fault: TagFault) -> Result<(), WriteFault>
+    ensures { Puts (line (meaning_of (Refusal.Tag fault)).text)
+        (taken_by S.taken S.faults sink.old) (taken_by S.taken S.faults sink.new) result }
+{
+    let mut slot = [0u8; 39];
+    let slot_count = digits(u128::from(fault.slot), &mut slot);
+    let mut input = [0u8; 39];
+    let input_count = digits(u128::from(fault.input), &mut input);
+    let mut output = [0u8; 39];
+    let output_count = digits(u128::from(fault.output), &mut output);
+    put_pieces(
+        sink,
+        &[
+            b"tag: slot ",
+            &slot[..slot_count],
+            b", input ",
+            &input[..input_count],
+            b", output ",
+            &output[..output_count],
+            b"\n",
+        ],
+    )
 }
 
 fn say_capture<S: Sink>(sink: &mut S, input: u16, fault: CaptureFault) -> Result<(), WriteFault>

@@ -2,6 +2,10 @@
 ghost use Rattle.std.specs.Prelude.{◌≡◌, IfOk};
 ghost use Rattle.cq_space.specs.Space.{Closed};
 
+mod configured;
+mod made;
+mod plain;
+
 use cq_run::{Command, command_of, switch_top};
 use cq_space::{HostFiles, MemFiles, MemSink};
 use std::alloc::Global;
@@ -18,7 +22,7 @@ const NANOSECONDS: [u8; 24] = [
     0x4d, 0x3c, 0xb2, 0xa1, 2, 0, 4, 0, 0, 0, 0, 0, 0, 0, 0, 0, 0, 0, 4, 0, 1, 0, 0, 0,
 ];
 
-const USAGE: &str = "usage: cq_switch pass IN OUT\n";
+const USAGE: &str = "usage: cq_switch pass IN OUT | check CONFIG | ideal CONFIG\n";
 
 /// Seconds, subseconds, captured length and original length.
 type Packet = (u32, u32, u32, u32);
@@ -144,7 +148,7 @@ fn pass_with_two_values_is_a_command(rt: HostRuntime) -> Result<(), Fail> {
     let words = words_of(rt.alloc(), &["pass", "a", "b"])?;
     match command_of(rt.alloc(), &words)? {
         Some(Command::Pass { from, to }) => assert_eq!(rt; (from.text(), to.text()), ("a", "b")),
-        None => assert!(rt; false, "the words are a command"),
+        _other => assert!(rt; false, "the words are this command"),
     }
     Ok(())
 }
@@ -244,8 +248,12 @@ fn one_name_for_both_is_replaced(rt: HostRuntime) -> Result<(), Fail> {
 
 #[test]
 fn a_refusal_says_why_and_starts_no_file(rt: HostRuntime) -> Result<(), Fail> {
-    let cases: [(&[&str], u8, &str); 13] = [
+    let cases: [(&[&str], u8, &str); 17] = [
         (&[], 1, USAGE),
+        (&["check"], 1, USAGE),
+        (&["check", "-c"], 1, USAGE),
+        (&["ideal", "a", "b"], 1, USAGE),
+        (&["ideal", ""], 1, USAGE),
         (&["pass"], 1, USAGE),
         (&["pass", "a"], 1, USAGE),
         (&["pass", "-a", "b"], 1, USAGE),

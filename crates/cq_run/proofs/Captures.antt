@@ -1,0 +1,45 @@
+-- The captures of the outputs, one after another: those that were made and those that are still to be made are all.
+use Rattle.std.proofs.Common.{◌≡◌, ◌<◌, ◌≤◌, ◌∙◌, ℕ, ◌+◌, List, [], ◌∷◌, ◌++◌, length, drop, get_or, refl, ap, sym, arith, add-one, append_assoc}
+use Rattle.std.proofs.lemmas.List.{append-nil, drop_all, drop_more}
+use Rattle.cq_base.specs.Texts.{trace_of}
+use Rattle.cq_base.specs.declared.cell.Departure.{Departure}
+use Rattle.cq_pcap.specs.Captured.{Captured}
+use Rattle.cq_route.specs.declared.tables.PortRow.{PortRow}
+use Rattle.cq_route.specs.declared.tables.Tables.{Tables}
+use Rattle.cq_run.specs.Plan.{Plan}
+use Rattle.cq_run.specs.Plans.{capture_out, captures_out, switched}
+
+module _ (t : Tables) (captures : List (List Captured)) (sent : List Departure) where
+  -- the first output, and those after it
+  captures_of_more : (k : ℕ) (row : PortRow) (rows : List PortRow) → captures_out t captures sent k (row ∷ rows) ≡ (row.write, capture_out t captures sent k) ∷ captures_out t captures sent (k + 1) rows
+  unfolding captures_out
+  captures_of_more k row rows = rw add-one refl
+
+  -- what was made of the first k, with what is to be made of the rest
+  pub made_more : (rows : List PortRow) (k : ℕ) (row : PortRow) (d : PortRow) (made more all : List (List ℕ × List ℕ)) (name bytes : List ℕ) → k < length rows → row ≡ get_or rows k d → name ≡ row.write → bytes ≡ capture_out t captures sent k → more ≡ made ++ (name, bytes) ∷ []
+      → made ++ captures_out t captures sent k (drop k rows) ≡ all → more ++ captures_out t captures sent (k + 1) (drop (k + 1) rows) ≡ all
+  made_more rows k row d made more all name bytes inside is named built pushed so_far =
+      let rest = captures_out t captures sent (k + 1) (drop (k + 1) rows) in
+      ap (λ (ws : List (List ℕ × List ℕ)). ws ++ rest) pushed
+      ∙ append_assoc made ((name, bytes) ∷ []) rest
+      ∙ ap (λ (n : List ℕ). made ++ (n, bytes) ∷ rest) (named ∙ ap (λ (r : PortRow). r.write) is)
+      ∙ ap (λ (b : List ℕ). made ++ ((get_or rows k d).write, b) ∷ rest) built
+      ∙ ap (λ (ws : List (List ℕ × List ℕ)). made ++ ws) (sym (ap (captures_out t captures sent k) (drop_more rows k d inside) ∙ captures_of_more k (get_or rows k d) (drop (k + 1) rows)))
+      ∙ so_far
+
+  -- at the end all are made
+  pub made_all : (rows : List PortRow) (k : ℕ) (made all : List (List ℕ × List ℕ)) → length rows ≤ k → made ++ captures_out t captures sent k (drop k rows) ≡ all → made ≡ all
+  unfolding captures_out
+  made_all rows k made all over so_far = sym (append-nil made) ∙ ap (λ (rs : List PortRow). made ++ captures_out t captures sent k rs) (sym (drop_all k rows over)) ∙ so_far
+
+  -- a plan with these and the trace
+  pub switched_is : (plan : Plan) (made more : List (List ℕ × List ℕ)) (name bytes text : List ℕ) → made ≡ captures_out t captures sent 0 t.ports → more ≡ made ++ (name, bytes) ∷ [] → name ≡ t.trace → bytes ≡ trace_of sent → text ≡ []
+      → plan.writes ≡ more → plan.text ≡ text → plan ≡ switched t captures sent
+  unfolding switched
+  switched_is plan made more name bytes text all pushed named traced none writes texts =
+      let are : plan.writes ≡ captures_out t captures sent 0 t.ports ++ (t.trace, trace_of sent) ∷ [] =
+      writes ∙ pushed ∙ ap (λ (ws : List (List ℕ × List ℕ)). ws ++ (name, bytes) ∷ []) all
+      ∙ ap (λ (n : List ℕ). captures_out t captures sent 0 t.ports ++ (n, bytes) ∷ []) named
+      ∙ ap (λ (b : List ℕ). captures_out t captures sent 0 t.ports ++ (t.trace, b) ∷ []) traced in
+      ap (λ (ws : List (List ℕ × List ℕ)). let p : Plan = record { writes = ws; text = plan.text } in p) are
+      ∙ ap (λ (tx : List ℕ). let p : Plan = record { writes = captures_out t captures sent 0 t.ports ++ (t.trace, trace_of sent) ∷ []; text = tx } in p) (texts ∙ none)

@@ -1,0 +1,120 @@
+-- One judgement after another. Where the first ends without an answer, so do both; where it has one, both end as the second does. A name that the second is to read is to be read by both, since the first comes to the same without it, or misses it.
+use Rattle.std.proofs.Common.{◌≡◌, ◌∙◌, ℕ, IsTrue, List, ap, refl, sym, subst, inl, inr, arith}
+use Rattle.std.specs.Prelude.{Option, None, Some, IfSome, Result, Ok, Err}
+use Rattle.std.specs.FinMap.{remove}
+use Rattle.cq_space.specs.Causes.{Rose}
+use Rattle.cq_space.specs.Space.{Contents, Space, Closed}
+use Rattle.cq_run.specs.declared.refusal.Refusal.{Refusal}
+use Rattle.cq_run.specs.declared.stop.Halt.{Halt}
+use Rattle.cq_run.specs.declared.stop.Halt.TheVariants.{Refused, Unread, NoMemory}
+use Rattle.cq_run.specs.Refusals.{meaning_of}
+use Rattle.cq_run.specs.Verdict.{◌>>=◌}
+use Rattle.cq_run.specs.Judging.{IsRefused, IsToRead, Halts, IsHaltOf, Judges}
+use Rattle.cq_run.proofs.Stays.{Stays}
+
+rose_from : (old mid new : ℕ) → mid ≡ old → Rose mid new → Rose old new
+rose_from old mid new l r = omega arith
+
+-- a computation that is refused is refused whatever the contents
+refused_so : {A : Type 0} (told : Option Contents) (r : Result A Refusal) (refusal : Refusal) → r ≡ Err refusal → IsTrue (meaning_of refusal).untold → IsRefused (λ (m : Contents). r) told refusal
+refused_so None r refusal e u = u
+refused_so (Some m) r refusal e u = e
+
+pub halts_computed : {A : Type 0} (r : Result A Refusal) (R : List ℕ → Type 0) (old new : Space) (halt : Halt) → new.faults ≡ old.faults → IsHaltOf r halt → Halts (λ (m : Contents). r) R old new halt
+halts_computed r R old new (Refused refusal) l h = (refused_so old.told r refusal h.0 h.1, l)
+halts_computed r R old new (Unread name) l h = absurd h
+halts_computed r R old new NoMemory l h = l
+
+module _ {A B : Type 0} (j : Contents → Result A Refusal) (f : A → Contents → Result B Refusal) where
+  -- both, one after the other
+  abbrev both : Contents → Result B Refusal
+  both m = j m >>= (λ x. f x m)
+
+  refused_then : (told : Option Contents) (refusal : Refusal) → IsRefused j told refusal → IsRefused both told refusal
+  refused_then None refusal h = h
+  refused_then (Some m) refusal h = ap (λ (r : Result A Refusal). r >>= (λ (x : A). f x m)) h
+
+  read_then : (told : Option Contents) (name : List ℕ) → IsToRead j told name → IsToRead both told name
+  read_then None name h = tt
+  read_then (Some m) name h = ap (λ (r : Result A Refusal). r >>= (λ (x : A). f x (remove m name))) h
+
+  halts_then : (R S : List ℕ → Type 0) (old new : Space) (halt : Halt) → ((name : List ℕ) → R name → S name) → Halts j R old new halt → Halts both S old new halt
+  halts_then R S old new (Refused refusal) i h = (refused_then old.told refusal h.0, h.1)
+  halts_then R S old new (Unread name) i h = (h.0, i name h.1, read_then old.told name h.2)
+  halts_then R S old new NoMemory i h = h
+
+  -- the first ends both
+  pub judges_then : (R S : List ℕ → Type 0) (old new : Space) (halt : Halt) → ((name : List ℕ) → R name → S name) → Judges j R old new (Err halt) → Judges both S old new (Err halt)
+  judges_then R S old new halt i h = record { ok = tt; halt = halts_then R S old new halt i h.halt; closed = h.closed; told = h.told; uncounted = tt }
+
+  refused_after : (told : Option Contents) (x : A) (refusal : Refusal) → IfSome told (λ m. j m ≡ Ok x) → IsRefused (f x) told refusal → IsRefused both told refusal
+  refused_after None x refusal e h = h
+  refused_after (Some m) x refusal e h = ap (λ (r : Result A Refusal). r >>= (λ (z : A). f z m)) e ∙ h
+
+  read_after : (told : Option Contents) (x : A) (name : List ℕ) → Stays j → IfSome told (λ m. j m ≡ Ok x) → IsToRead (f x) told name → IsToRead both told name
+  unfolding Stays
+  read_after None x name s e h = tt
+  read_after (Some m) x name s e h =
+      let rest : Result A Refusal → Result B Refusal = λ r. r >>= (λ (z : A). f z (remove m name)) in
+      elim (s m name x e) [ inl same ↦ ap rest same ∙ h | inr missed ↦ ap rest missed ]
+
+  ok_after : (told : Option Contents) (x : A) (y : B) → IfSome told (λ m. j m ≡ Ok x) → IfSome told (λ m. f x m ≡ Ok y) → IfSome told (λ m. both m ≡ Ok y)
+  ok_after None x y e h = tt
+  ok_after (Some m) x y e h = ap (λ (r : Result A Refusal). r >>= (λ (z : A). f z m)) e ∙ h
+
+  halts_after : (R S : List ℕ → Type 0) (old mid new : Space) (x : A) (halt : Halt) → Stays j → ((name : List ℕ) → R name → S name) → IfSome old.told (λ m. j m ≡ Ok x) → mid.told ≡ old.told → mid.faults ≡ old.faults → Halts (f x) R mid new halt → Halts both S old new halt
+  halts_after R S old mid new x (Refused refusal) s i e t l h = (refused_after old.told x refusal e (let P : Option Contents → Type 0 = λ o. IsRefused (f x) o refusal in subst P t h.0), h.1 ∙ l)
+  halts_after R S old mid new x (Unread name) s i e t l h = (rose_from old.faults mid.faults new.faults l h.0, i name h.1, read_after old.told x name s e (let P : Option Contents → Type 0 = λ o. IsToRead (f x) o name in subst P t h.2))
+  halts_after R S old mid new x NoMemory s i e t l h = h ∙ l
+
+  -- the second ends both
+  pub judges_after : (Q R S : List ℕ → Type 0) (old mid new : Space) (x : A) (halt : Halt) → Stays j → ((name : List ℕ) → R name → S name) → Judges j Q old mid (Ok x) → Judges (f x) R mid new (Err halt) → Judges both S old new (Err halt)
+  judges_after Q R S old mid new x halt s i g h = record { ok = tt; halt = halts_after R S old mid new x halt s i g.ok g.told g.uncounted h.halt; closed = h.closed; told = h.told ∙ g.told; uncounted = tt }
+
+  -- both have an answer
+  pub judges_both : (Q R S : List ℕ → Type 0) (old mid new : Space) (x : A) (y : B) → Judges j Q old mid (Ok x) → Judges (f x) R mid new (Ok y) → Judges both S old new (Ok y)
+  judges_both Q R S old mid new x y g h =
+      record {
+        ok = ok_after old.told x y g.ok (let P : Option Contents → Type 0 = λ o. IfSome o (λ m. f x m ≡ Ok y) in subst P g.told h.ok);
+        halt = tt;
+        closed = h.closed;
+        told = h.told ∙ g.told;
+        uncounted = h.uncounted ∙ g.uncounted;
+      }
+
+-- a computation that ends without an answer, where nothing was read
+pub judges_computed_err : {A : Type 0} (r : Result A Refusal) (R : List ℕ → Type 0) (at : Space) (halt : Halt) → at.mode ≡ Closed → IsHaltOf r halt → Judges (λ (m : Contents). r) R at at (Err halt)
+judges_computed_err r R at halt c h = record { ok = tt; halt = halts_computed r R at at halt refl h; closed = c; told = refl; uncounted = tt }
+
+computed_told : {A : Type 0} (told : Option Contents) (r : Result A Refusal) (x : A) → r ≡ Ok x → IfSome told (λ (m : Contents). r ≡ Ok x)
+computed_told None r x e = tt
+computed_told (Some m) r x e = e
+
+-- one that has an answer
+pub judges_computed : {A : Type 0} (r : Result A Refusal) (R : List ℕ → Type 0) (at : Space) (x : A) → at.mode ≡ Closed → r ≡ Ok x → Judges (λ (m : Contents). r) R at at (Ok x)
+judges_computed r R at x c e = record { ok = computed_told at.told r x e; halt = tt; closed = c; told = refl; uncounted = refl }
+
+-- judgements that come to the same of all contents
+module _ {A : Type 0} (j k : Contents → Result A Refusal) (same : (m : Contents) → j m ≡ k m) where
+  refused_as : (told : Option Contents) (refusal : Refusal) → IsRefused j told refusal → IsRefused k told refusal
+  refused_as None refusal h = h
+  refused_as (Some m) refusal h = sym (same m) ∙ h
+
+  read_as : (told : Option Contents) (name : List ℕ) → IsToRead j told name → IsToRead k told name
+  read_as None name h = tt
+  read_as (Some m) name h = sym (same (remove m name)) ∙ h
+
+  ok_as : (told : Option Contents) (x : A) → IfSome told (λ m. j m ≡ Ok x) → IfSome told (λ m. k m ≡ Ok x)
+  ok_as None x h = tt
+  ok_as (Some m) x h = sym (same m) ∙ h
+
+  halts_as : (R : List ℕ → Type 0) (old new : Space) (halt : Halt) → Halts j R old new halt → Halts k R old new halt
+  halts_as R old new (Refused refusal) h = (refused_as old.told refusal h.0, h.1)
+  halts_as R old new (Unread name) h = (h.0, h.1, read_as old.told name h.2)
+  halts_as R old new NoMemory h = h
+
+  pub judges_as_ok : (R : List ℕ → Type 0) (old new : Space) (x : A) → Judges j R old new (Ok x) → Judges k R old new (Ok x)
+  judges_as_ok R old new x h = record { ok = ok_as old.told x h.ok; halt = tt; closed = h.closed; told = h.told; uncounted = h.uncounted }
+
+  pub judges_as_err : (R : List ℕ → Type 0) (old new : Space) (halt : Halt) → Judges j R old new (Err halt) → Judges k R old new (Err halt)
+  judges_as_err R old new halt h = record { ok = tt; halt = halts_as R old new halt h.halt; closed = h.closed; told = h.told; uncounted = tt }

@@ -1,0 +1,84 @@
+-- No judgement of contents refuses the words: they are judged before any file is asked for.
+use Rattle.std.proofs.Common.{◌≡◌, ℕ, ◌+◌, Bool, true, false, cond, List, [], ◌∷◌, length, ap, refl}
+use Rattle.std.specs.Prelude.{Option, None, Some, Result, Ok, Err, nat_lt}
+use Rattle.std.specs.FinMap.{get}
+use Rattle.cq_space.specs.Space.{Contents}
+use Rattle.cq_base.specs.declared.cell.Departure.{Departure}
+use Rattle.cq_base.specs.declared.cell.TagFault.{TagFault}
+use Rattle.cq_pcap.specs.Captured.{Captured}
+use Rattle.cq_pcap.specs.Faults.{Fault}
+use Rattle.cq_pcap.specs.Reading.{packets_of}
+use Rattle.cq_cells.specs.Schedule.{arrivals}
+use Rattle.cq_route.specs.declared.tables.PortRow.{PortRow}
+use Rattle.cq_route.specs.declared.tables.Tables.{Tables}
+use Rattle.cq_route.specs.Plain.{plain_tables}
+use Rattle.cq_simulate.specs.IdealRuns.{ideal_departures}
+use Rattle.cq_tables.specs.Check.{Refused}
+use Rattle.cq_tables.specs.Document.{read_or_refused}
+use Rattle.cq_run.specs.declared.command.Command.{Command}
+use Rattle.cq_run.specs.declared.command.Command.TheVariants.{Pass, Check, Ideal}
+use Rattle.cq_run.specs.declared.refusal.Refusal.{Refusal}
+use Rattle.cq_run.specs.declared.refusal.Refusal.TheVariants.{Words, Capture}
+use Rattle.cq_run.specs.declared.refusal.CaptureFault.TheVariants.{Long}
+use Rattle.cq_run.specs.Plan.{Plan}
+use Rattle.cq_run.specs.Plans.{checked, passed, switched}
+use Rattle.cq_run.specs.Verdict.{◌>>=◌, named, found_or_missing, tables_in, read_or_refused_for, capture_in, capture_of, read_or_faulty, packets_at, captures_from, captures_in, sent_or_tag, ideally_sent, judged}
+
+-- the words are not refused
+abbrev pub IsOfContents : {A : Type 0} → Result A Refusal → Type 0
+IsOfContents r = r ≡ Err Words → ⊥
+
+never_then : {A B : Type 0} (r : Result A Refusal) (f : A → Result B Refusal) → IsOfContents r → ((x : A) → IsOfContents (f x)) → IsOfContents (r >>= f)
+never_then (Ok x) f n g h = g x h
+never_then (Err e) f n g h = let is : e ≡ Words = cc h in n (ap Err is)
+
+never_found : (name : List ℕ) (o : Option (List ℕ)) → IsOfContents (found_or_missing name o)
+never_found name None h = cc
+never_found name (Some bytes) h = cc
+
+never_configured : (r : Result Tables Refused) → IsOfContents (read_or_refused_for r)
+never_configured (Ok tables) h = cc
+never_configured (Err refused) h = cc
+
+never_faulty : (input : ℕ) (r : Result (List Captured) Fault) → IsOfContents (read_or_faulty input r)
+never_faulty input (Ok packets) h = cc
+never_faulty input (Err fault) h = cc
+
+never_long : (input limit : ℕ) (b : Bool) (r : Result (List Captured) Refusal) → IsOfContents r → IsOfContents (cond b (Err (Capture input (Long limit))) r)
+never_long input limit true r n h = cc
+never_long input limit false r n h = n h
+
+never_tag : (r : Result (List Departure) TagFault) → IsOfContents (sent_or_tag r)
+never_tag (Ok sent) h = cc
+never_tag (Err fault) h = cc
+
+never_tables : (name : List ℕ) (m : Contents) → IsOfContents (tables_in name m)
+never_tables name m = never_then (named m name) (λ bytes. read_or_refused_for (read_or_refused bytes)) (never_found name (get m name)) (λ bytes. never_configured (read_or_refused bytes))
+
+never_capture : (name : List ℕ) (input limit : ℕ) (m : Contents) → IsOfContents (capture_in name input limit m)
+never_capture name input limit m =
+    never_then (named m name) (capture_of input limit) (never_found name (get m name))
+    (λ bytes. never_long input limit (nat_lt limit (length bytes)) (read_or_faulty input (packets_of bytes)) (never_faulty input (packets_of bytes)))
+
+never_packets : (input limit : ℕ) (read : Option (List ℕ)) (m : Contents) → IsOfContents (packets_at input limit read m)
+never_packets input limit None m h = cc
+never_packets input limit (Some name) m h = never_capture name input limit m h
+
+never_captures : (limit input : ℕ) (rows : List PortRow) (m : Contents) → IsOfContents (captures_from limit input rows m)
+unfolding captures_from
+never_captures limit input [] m h = cc
+never_captures limit input (row ∷ rows) m h =
+    never_then (packets_at input limit row.read m) (λ packets. captures_from limit (input + 1) rows m >>= (λ others. Ok (packets ∷ others))) (never_packets input limit row.read m)
+    (λ packets. never_then (captures_from limit (input + 1) rows m) (λ others. Ok (packets ∷ others)) (never_captures limit (input + 1) rows m) (λ others e. cc)) h
+
+-- no command comes to that
+pub never_words : (command : Command) (m : Contents) → IsOfContents (judged command m)
+never_words (Pass from to) m =
+    let tables = plain_tables from to in
+    never_then (capture_in from 0 tables.limit_bytes m) (λ packets. ideally_sent tables (packets ∷ []) >>= (λ sent. Ok (passed from to packets sent))) (never_capture from 0 tables.limit_bytes m)
+    (λ packets. never_then (ideally_sent tables (packets ∷ [])) (λ sent. Ok (passed from to packets sent)) (never_tag (ideal_departures tables.setup (arrivals tables (packets ∷ [])))) (λ sent e. cc))
+never_words (Check config) m = never_then (tables_in config m) (λ tables. Ok (checked tables)) (never_tables config m) (λ tables e. cc)
+never_words (Ideal config) m =
+    never_then (tables_in config m) (λ tables. captures_in tables m >>= (λ captures. ideally_sent tables captures >>= (λ sent. Ok (switched tables captures sent)))) (never_tables config m)
+    (λ tables. never_then (captures_in tables m) (λ captures. ideally_sent tables captures >>= (λ sent. Ok (switched tables captures sent))) (never_captures tables.limit_bytes 0 tables.ports m)
+    (λ captures. never_then (ideally_sent tables captures) (λ sent. Ok (switched tables captures sent)) (never_tag (ideal_departures tables.setup (arrivals tables captures))) (λ sent e. cc)))

@@ -1,0 +1,134 @@
+//! Reading what a command names. Nothing is written here.
+ghost use Rattle.std.specs.Prelude.{◌≡◌, ◌≤◌, ◌^◌, ◌∷◌, ◌++◌, [], IfOk, OnOk, length};
+ghost use Rattle.cq_route.specs.Tables.{AreTables, ports_of};
+ghost use Rattle.cq_space.specs.Space.{Closed};
+ghost use Rattle.cq_run.specs.Judging.{Judges};
+ghost use Rattle.cq_run.specs.Verdict.{capture_in, captures_in, packets_at, tables_in};
+
+use crate::{CaptureFault, Halt, Refusal};
+use cq_base::{Name, NoMemory, Sequence};
+use cq_pcap::{Capture, read_capture};
+use cq_route::{PortRow, Tables};
+use cq_space::{Files, ReadRefusal, read_whole};
+use cq_tables::{TableRefusal, read_tables};
+use std::alloc::Global;
+
+// The greatest length of a configuration, in bytes.
+const LONGEST_CONFIGURATION: u64 = 1_048_576;
+
+// The code of a configuration that is too long. It is a fault of the whole text, whose path is `-`.
+const TOO_LONG: u8 = 10;
+
+/// The tables of the configuration of this name.
+pub fn read_configuration<F: Files>(
+    alloc: Global,
+    files: &mut F,
+    name: Name,
+) -> Result<Tables, Halt>
+    requires { (F.space files.old).mode ≡ Closed }
+    ensures judges { Judges (tables_in name) (λ asked. asked ≡ name)
+        (F.space files.old) (F.space files.new) result }
+    ensures in_range { IfOk result (λ tables. AreTables tables) }
+{
+    match read_whole(alloc, files, name.text(), LONGEST_CONFIGURATION) {
+        Ok(bytes) => match read_tables(alloc, &bytes) {
+            Ok(tables) => Ok(tables),
+            Err(TableRefusal::At { code, path }) => Err(Halt::Refused {
+                refusal: Refusal::Configuration { code, path },
+            }),
+            Err(TableRefusal::NoMemory) => Err(Halt::NoMemory),
+        },
+        Err(ReadRefusal::Missing) => Err(Halt::Refused {
+            refusal: Refusal::Missing { name },
+        }),
+        Err(ReadRefusal::Fault) => Err(Halt::Unread { name }),
+        Err(ReadRefusal::Long { .. }) => Err(Halt::Refused {
+            refusal: Refusal::Configuration {
+                code: TOO_LONG,
+                path: Name::of(alloc, "-")?,
+            },
+        }),
+        Err(ReadRefusal::NoMemory) => Err(Halt::NoMemory),
+    }
+}
+
+/// The capture of an input, from the file of this name, if that has at most `limit` bytes.
+pub fn read_input<F: Files>(
+    alloc: Global,
+    files: &mut F,
+    name: Name,
+    input: u16,
+    limit: u64,
+) -> Result<Capture, Halt>
+    requires closed { (F.space files.old).mode ≡ Closed }
+    requires limit { limit ≤ 2 ^ 28 }
+    ensures { Judges (capture_in name input limit) (λ asked. asked ≡ name)
+        (F.space files.old) (F.space files.new) result }
+{
+    let refused = |fault| Halt::Refused {
+        refusal: Refusal::Capture { input, fault },
+    };
+    match read_whole(alloc, files, name.text(), limit) {
+        Ok(bytes) => match read_capture(alloc, bytes) {
+            Ok(capture) => Ok(capture),
+            Err(refusal) => Err(CaptureFault::of(refusal).map_or(Halt::NoMemory, refused)),
+        },
+        Err(ReadRefusal::Missing) => Err(Halt::Refused {
+            refusal: Refusal::Missing { name },
+        }),
+        Err(ReadRefusal::Fault) => Err(Halt::Unread { name }),
+        Err(ReadRefusal::Long { limit }) => Err(refused(CaptureFault::Long { limit })),
+        Err(ReadRefusal::NoMemory) => Err(Halt::NoMemory),
+    }
+}
+
+// What arrives at an input, which may have no file.
+fn read_port<F: Files>(
+    alloc: Global,
+    files: &mut F,
+    row: &PortRow,
+    input: u16,
+    limit: u64,
+) -> Result<Capture, Halt>
+    requires closed { (F.space files.old).mode ≡ Closed }
+    requires limit { limit ≤ 2 ^ 28 }
+    ensures { Judges (packets_at input limit row.now.read) (λ _. Unit {0})
+        (F.space files.old) (F.space files.new) result }
+{
+    match &row.read {
+        None => Ok(Capture::empty(alloc)),
+        Some(name) => {
+            let name = Name::of(alloc, name.text())?;
+            read_input(alloc, files, name, input, limit)
+        }
+    }
+}
+
+/// What arrives at each input, in order. The answer is that of the lowest input with a fault.
+pub fn read_inputs<F: Files>(
+    alloc: Global,
+    files: &mut F,
+    tables: &Tables,
+) -> Result<Sequence<Capture>, Halt>
+    requires closed { (F.space files.old).mode ≡ Closed }
+    requires tables { AreTables tables.now }
+    ensures judges { Judges (captures_in tables.now) (λ _. Unit {0})
+        (F.space files.old) (F.space files.new) result }
+    ensures each { IfOk result (λ captures. length captures ≡ ports_of tables.now.setup) }
+{
+    let rows = tables.ports.as_slice();
+    let mut captures = Vec::new(alloc);
+    'ports: for (input, row) in rows.iter().enumerate() {
+        let capture = read_port(alloc, files, row, input as u16, tables.limit_bytes)?;
+        put_capture(&mut captures, capture)?;
+    }
+    Ok(Sequence::of(captures))
+}
+
+/// One more capture, behind the others.
+pub fn put_capture(captures: &mut Vec<Capture>, capture: Capture) -> Result<(), NoMemory>
+    ensures { OnOk result (captures.new.items ≡ captures.old.items ++ capture ∷ []) }
+{
+    captures.push(capture)?;
+    Ok(())
+}

@@ -1,0 +1,263 @@
+//! A plain slow switch, written for these tests alone, that takes the rules at their word; and that the
+//! program's traces are its traces.
+//!
+//! It shares no line with the crates: it counts slots one by one, looks through all cells in each, and
+//! sorts a list whenever a cell comes. Slots, cells and outputs are those of `made::configuration`.
+ghost use Rattle.std.specs.Prelude.{◌<◌};
+
+use super::configured::RUNS;
+use super::made::{Frame, answer, files_of};
+use std::alloc::Global;
+use std::process::Abort;
+use std::test::Fail;
+
+/// The slot of its arrival, its input, its packet, and its number in the packet. So the order of these
+/// four is the order in which a first-come output sends.
+type Cell = (u64, usize, usize, u64);
+
+/// A cell and its output.
+type Arrival = (Cell, u8);
+
+/// In nanoseconds.
+fn stamp_of(frame: Frame) -> u64 {
+    let (seconds, nanoseconds, _, _) = frame;
+    u64::from(seconds)
+        .wrapping_mul(1_000_000_000)
+        .wrapping_add(u64::from(nanoseconds))
+}
+
+/// At 64 bytes a cell, and at least one.
+fn cells_of(frame: Frame) -> u64 {
+    let (_, _, _, len) = frame;
+    u64::from(len.div_ceil(64).max(1))
+}
+
+/// The default output, 0, where the frame is too short to have a destination.
+fn output_of(frame: Frame) -> u8 {
+    let (_, _, output, len) = frame;
+    if len < 6 { 0 } else { output }
+}
+
+/// The least stamp of all frames.
+fn origin_of(inputs: &[&[Frame]]) -> u64 {
+    let mut least = None;
+    for frames in inputs {
+        let earliest = frames.iter().map(|frame| stamp_of(*frame)).min();
+        least = match (least, earliest) {
+            (Some(a), Some(b)) => Some(b.min(a)),
+            (None, other) | (other, None) => other,
+        };
+    }
+    least.unwrap_or(0)
+}
+
+/// The slots in which the frames of an input start: each in its stamp slot, at 512 ns a slot, or in the
+/// first slot after the cells of the frame before it, whichever is later.
+fn starts_of(alloc: Global, frames: &[Frame], origin: u64) -> Result<Vec<u64>, Fail> {
+    let mut starts = Vec::new(alloc);
+    let mut free = 0u64;
+    for frame in frames {
+        let start = (stamp_of(*frame).saturating_sub(origin) / 512).max(free);
+        starts.push(start)?;
+        free = start.saturating_add(cells_of(*frame));
+    }
+    Ok(starts)
+}
+
+fn put_cells(
+    arrivals: &mut Vec<Arrival>,
+    input: usize,
+    packet: usize,
+    frame: Frame,
+    start: u64,
+) -> Result<(), Fail> {
+    for number in 0..cells_of(frame) {
+        let cell = (start.saturating_add(number), input, packet, number);
+        arrivals.push((cell, output_of(frame)))?;
+    }
+    Ok(())
+}
+
+/// All cells of all inputs.
+fn arrivals_of(alloc: Global, inputs: &[&[Frame]]) -> Result<Vec<Arrival>, Fail> {
+    let origin = origin_of(inputs);
+    let mut arrivals = Vec::new(alloc);
+    for (input, frames) in inputs.iter().enumerate() {
+        let starts = starts_of(alloc, frames, origin)?;
+        for (packet, (frame, start)) in frames.iter().zip(&starts).enumerate() {
+            put_cells(&mut arrivals, input, packet, *frame, *start)?;
+        }
+    }
+    Ok(arrivals)
+}
+
+/// Puts the cells that arrive in the slot into the lists of their outputs.
+fn arrive(lists: &mut Vec<Vec<Cell>>, arrivals: &[Arrival], slot: u64) -> Result<(), Fail> {
+    for (cell, output) in arrivals {
+        if cell.0 == slot
+            && let Some(list) = lists.get_mut(usize::from(*output))
+        {
+            list.push(*cell)?;
+            list.sort()?;
+        }
+    }
+    Ok(())
+}
+
+/// Sends the first cell of each list, and writes its line.
+fn send(
+    lists: &mut Vec<Vec<Cell>>,
+    slot: u64,
+    trace: &mut String,
+    alloc: Global,
+) -> Result<(), Fail> {
+    for (output, list) in lists.iter_mut().enumerate() {
+        if !list.is_empty() {
+            let (_, input, packet, number) = list.remove(0);
+            let line = format!(in alloc; "{slot} {output} {input} {packet} {number}\n")?;
+            trace.push_str(&line)?;
+        }
+    }
+    Ok(())
+}
+
+/// The departures of a switch whose inputs have these frames.
+fn trace_of(alloc: Global, inputs: &[&[Frame]]) -> Result<String, Fail> {
+    let arrivals = arrivals_of(alloc, inputs)?;
+    let mut lists = Vec::new(alloc);
+    for _ in inputs {
+        lists.push(Vec::new(alloc))?;
+    }
+    // After the last arrival each slot sends a cell, until none is left.
+    let last = arrivals.iter().map(|(cell, _)| cell.0).max().unwrap_or(0);
+    let mut trace = String::new(alloc);
+    for slot in 0..last.saturating_add(arrivals.len() as u64) {
+        arrive(&mut lists, &arrivals, slot)?;
+        send(&mut lists, slot, &mut trace, alloc)?;
+    }
+    Ok(trace)
+}
+
+/// A linear congruential generator, with the constants of Knuth's MMIX.
+#[derive(Drop)]
+struct Draws {
+    state: u64,
+}
+
+impl Draws {
+    fn below(&mut self, limit: u32) -> u32
+        requires { 0 < limit }
+        ensures { result < limit }
+    {
+        self.state = self
+            .state
+            .wrapping_mul(6_364_136_223_846_793_005)
+            .wrapping_add(1_442_695_040_888_963_407);
+        ((self.state >> 33) % u64::from(limit)) as u32
+    }
+
+    /// A frame of up to 300 bytes, stamped within 4 microseconds of three seconds.
+    fn frame(&mut self, ports: u32) -> Frame
+        requires some { 0 < ports }
+        requires few { ports < 5 }
+    {
+        let stamp = 2_999_996_000 + u64::from(self.below(8_000));
+        let seconds = (stamp / 1_000_000_000) as u32;
+        let nanoseconds = (stamp % 1_000_000_000) as u32;
+        (
+            seconds,
+            nanoseconds,
+            self.below(ports) as u8,
+            self.below(301),
+        )
+    }
+
+    /// Three to six frames.
+    fn frames(&mut self, alloc: Global, ports: u32) -> Result<Vec<Frame>, Fail>
+        requires some { 0 < ports }
+        requires few { ports < 5 }
+    {
+        let mut frames = Vec::new(alloc);
+        for _ in 0..3 + self.below(4) {
+            frames.push(self.frame(ports))?;
+        }
+        Ok(frames)
+    }
+}
+
+/// The frames of two to four inputs.
+fn drawn_inputs(alloc: Global, seed: u64) -> Result<Vec<Vec<Frame>>, Fail> {
+    let mut draws = Draws { state: seed };
+    let ports = 2 + draws.below(3);
+    let mut inputs = Vec::new(alloc);
+    for _ in 0..ports {
+        inputs.push(draws.frames(alloc, ports)?)?;
+    }
+    Ok(inputs)
+}
+
+/// What the frames show, the frames of the one input, and the slots in which they start.
+type Line = (&'static str, &'static [Frame], &'static [u64]);
+
+const LINES: [Line; 3] = [
+    (
+        "one, two and two cells at once",
+        &[(0, 0, 0, 64), (0, 0, 0, 65), (0, 0, 0, 128)],
+        &[0, 1, 3],
+    ),
+    (
+        "an earlier stamp after a later one",
+        &[(0, 2048, 0, 60), (0, 0, 0, 60)],
+        &[4, 5],
+    ),
+    ("a busy line", &[(0, 0, 0, 200), (0, 512, 0, 60)], &[0, 4]),
+];
+
+/// That the program writes the plain switch's trace.
+fn assert_agreement(
+    alloc: Global,
+    rt: &impl Abort,
+    case: &str,
+    inputs: &[&[Frame]],
+) -> Result<(), Fail> {
+    let mut files = files_of(alloc, inputs)?;
+    let (code, _, _) = answer(alloc, &["ideal", "c.toml"], &mut files)?;
+    let trace = trace_of(alloc, inputs)?;
+    assert_eq!(rt; code, 0, "{case}");
+    assert_eq!(rt; files.bytes("trace.txt"), Some(trace.as_bytes()), "{case}");
+    Ok(())
+}
+
+#[test]
+fn one_line_is_as_in_the_plain_switch(rt: HostRuntime) -> Result<(), Fail> {
+    for (case, frames, starts) in LINES {
+        let inputs = [frames];
+        let plain = starts_of(rt.alloc(), frames, origin_of(&inputs))?;
+        assert_eq!(rt; plain.as_slice(), starts, "{case}");
+        assert_agreement(rt.alloc(), &rt, case, &inputs)?;
+    }
+    Ok(())
+}
+
+#[test]
+fn worked_runs_are_as_in_the_plain_switch(rt: HostRuntime) -> Result<(), Fail> {
+    for (case, inputs, _, _) in RUNS {
+        assert_agreement(rt.alloc(), &rt, case, inputs)?;
+    }
+    Ok(())
+}
+
+#[test]
+fn drawn_traffic_is_as_in_the_plain_switch(rt: HostRuntime) -> Result<(), Fail> {
+    let alloc = rt.alloc();
+    for seed in 1..9 {
+        let case = format!(in alloc; "drawn from {seed}")?;
+        let drawn = drawn_inputs(alloc, seed)?;
+        let mut inputs = Vec::new(alloc);
+        for frames in &drawn {
+            inputs.push(frames.as_slice())?;
+        }
+        assert_agreement(alloc, &rt, &case, &inputs)?;
+    }
+    Ok(())
+}
