@@ -15,7 +15,7 @@ use Rattle.cq_prefs.proofs.Members.{Among, in_range}
 
 -- ## The one that passes a test
 
-found_passes : (p : ℕ → Bool) (xs : List ℕ) (y : ℕ) → find p xs ≡ Some y → p y ≡ true
+pub found_passes : (p : ℕ → Bool) (xs : List ℕ) (y : ℕ) → find p xs ≡ Some y → p y ≡ true
 found_passes p [] y e = absurd (let P : ⊥ = cc in P)
 found_passes p (x ∷ xs) y e =
     cond_both (p x) (Some x) (find p xs) (λ r. r ≡ Some y → p y ≡ true)
@@ -42,11 +42,11 @@ pub held_once : (o : Orders) → AreOffers o → (s : State) → IsSound o s →
 held_once o v s w i j k a b =
     same_at_place (outputs_of o i) j k (let x = w.last i j a in let y = w.last i k b in omega arith) (v.shown_back i j a.1)
 
-keeper-holds : (o : Orders) (s : State) (i j : ℕ) → keeper o s i ≡ Some j → Holds o s j i
+pub keeper-holds : (o : Orders) (s : State) (i j : ℕ) → keeper o s i ≡ Some j → Holds o s j i
 unfolding keeper
 keeper-holds o s i j e = holds-yes o s i j (found_passes (holds o s i) (range_with_len 0 (ports o)) j e)
 
-keeper-from : (o : Orders) → AreOffers o → (s : State) → IsSound o s → (i j : ℕ) → Holds o s j i → keeper o s i ≡ Some j
+pub keeper-from : (o : Orders) → AreOffers o → (s : State) → IsSound o s → (i j : ℕ) → Holds o s j i → keeper o s i ≡ Some j
 unfolding keeper
 keeper-from o v s w i j h =
     let r : j < ports o = output_in_range o v i j (v.shown_back i j h.1) in

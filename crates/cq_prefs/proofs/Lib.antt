@@ -14,3 +14,4 @@ pub mod Holding
 pub mod Passing
 pub mod Quiet
 pub mod Counts
+pub mod LeastFirst

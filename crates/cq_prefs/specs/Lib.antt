@@ -3,3 +3,5 @@ pub mod FirstCells
 pub mod Pairing
 pub mod Padded
 pub mod Proposals
+pub mod Moves
+pub mod LeastFirst

@@ -6,6 +6,7 @@
 //! that every way to find one is held to the same definition.
 #![tactic(auto)]
 
+mod best_law;
 mod by_key;
 mod input_offers;
 mod laws;
@@ -17,6 +18,7 @@ mod proposal_laws;
 #[cfg(test)]
 mod tests;
 
+pub use best_law::best_is_input_best;
 pub use laws::{one_is_input_best, orders_are_by_first_cells};
 pub use matching::Matching;
 pub use offers::Offers;

@@ -44,6 +44,14 @@ impl Matching {
         }
     }
 
+    /// The number of inputs, and of outputs.
+    pub fn ports(&self) -> u16
+        ensures value { result ≡ length self.now }
+        ensures few { length self.now ≤ 64 }
+    {
+        self.ports
+    }
+
     /// Joins an input and an output that have no partner yet. The other pairs stay.
     pub fn join(&mut self, input: Port, output: Port)
         requires input { input < length self.old }

@@ -1,0 +1,80 @@
+-- Where the least free input proposes, each turn is an event or finds nobody free. There are no more events than the
+-- number of ports squared, so after as many turns nobody is free, and those who are held form the matching that is best
+-- for the inputs.
+use Rattle.std.proofs.Common.{ℕ, zero, suc, ◌≡◌, ◌⊎◌, inl, inr, ◌*◌, ◌<◌, Bool, true, ⊎_elim, List, [], ◌∷◌, length, Option, Some, None, refl, sym, ◌∙◌, ap, subst, arith}
+use Rattle.std.specs.Prelude.{find}
+use Rattle.std.specs.List.{range_with_len}
+use Rattle.std.proofs.lemmas.Bool.{cond_both, true≢false}
+use Rattle.cq_prefs.specs.LeastFirst.{least_free, propose_if, state_at, best}
+use Rattle.cq_prefs.specs.Orders.{Orders, AreOffers, ports}
+use Rattle.cq_prefs.specs.Pairing.{IsInputBest}
+use Rattle.cq_prefs.specs.Proposals.{State, IsFree, IsQuiescent, is_free, next_output, propose, matching_of, state_after, AreEvents}
+use Rattle.cq_prefs.proofs.Counts.{events_at_most}
+use Rattle.cq_prefs.proofs.Holding.{found_passes, free_if, free_only_if}
+use Rattle.cq_prefs.proofs.Members.{Among, in_range}
+use Rattle.cq_prefs.proofs.Places.{input_in_range}
+use Rattle.cq_prefs.proofs.Quiet.{input_best-quiet}
+use Rattle.cq_prefs.proofs.Steps.{sound-after, next_output-offered}
+
+-- where nothing is found, nothing passes the test
+found_none : (p : ℕ → Bool) (xs : List ℕ) (y : ℕ) → find p xs ≡ None → Among y xs → p y ≡ true → ⊥
+found_none p [] y e m h = absurd m
+found_none p (x ∷ xs) y e m h =
+    cond_both (p x) (Some x) (find p xs) (λ r. r ≡ None → ⊥)
+    (λ here r. absurd (let P : ⊥ = cc in P))
+    (λ not_here r. ⊎_elim (λ is. true≢false (sym h ∙ ap p (sym is) ∙ not_here)) (λ later. found_none p xs y r later h) m) e
+
+quiet_if_none : (o : Orders) → AreOffers o → (s : State) → least_free o s ≡ None → IsQuiescent o s
+unfolding least_free
+quiet_if_none o v s e i f =
+    let r : i < ports o = input_in_range o i (next_output o s i) (next_output-offered o v s i f.left) in
+    found_none (is_free o s) (range_with_len 0 (ports o)) i e (in_range 0 (ports o) i (omega arith) (omega arith)) (free_only_if o v s i f)
+
+free_if_found : (o : Orders) → AreOffers o → (events : List ℕ) → AreEvents o events → (i : ℕ) → least_free o (state_after o events) ≡ Some i → IsFree o (state_after o events) i
+unfolding least_free
+free_if_found o v events es i e =
+    free_if o v (state_after o events) (sound-after o v events es) i (found_passes (is_free o (state_after o events)) (range_with_len 0 (ports o)) i e)
+
+-- what n turns come to
+record IsTurns (o : Orders) (n : ℕ) (s : State) : Type 0 where
+  events : List ℕ
+  are_events : AreEvents o events
+  is : s ≡ state_after o events
+  ended : (length events ≡ n) ⊎ IsQuiescent o s
+
+one_turn : (o : Orders) → AreOffers o → (n : ℕ) (s : State) → IsTurns o n s → (p : Option ℕ) → least_free o s ≡ p → IsTurns o (suc n) (propose_if o s p)
+one_turn o v n s t None e = record { events = t.events; are_events = t.are_events; is = t.is; ended = inr (quiet_if_none o v s e) }
+one_turn o v n s t (Some i) e =
+    let free : IsFree o (state_after o t.events) i = free_if_found o v t.events t.are_events i (ap (least_free o) (sym t.is) ∙ e) in
+    record {
+      events = i ∷ t.events;
+      are_events = (t.are_events, free);
+      is = ap (λ x. propose o x i) t.is;
+      ended = ⊎_elim
+          (λ all. inl (ap suc all))
+          (λ (quiet : IsQuiescent o s). absurd (quiet i (let P : State → Type 0 = λ x. IsFree o x i in subst P (sym t.is) free)))
+          t.ended;
+    }
+
+turns : (o : Orders) → AreOffers o → (n : ℕ) → IsTurns o n (state_at o n)
+turns o v zero = record { events = []; are_events = tt; is = refl; ended = inl refl }
+turns o v (suc n) = one_turn o v n (state_at o n) (turns o v n) (least_free o (state_at o n)) refl
+
+-- after so many turns nobody is free: there would be one event too many
+quiet_at_end : (o : Orders) → AreOffers o → (s : State) → IsTurns o (ports o * ports o) s → IsQuiescent o s
+quiet_at_end o v s t = ⊎_elim (λ all i f. too_many all i f) (λ quiet. quiet) t.ended
+  where
+    too_many : length t.events ≡ ports o * ports o → (i : ℕ) → IsFree o s i → ⊥
+    too_many all i f =
+        let P : State → Type 0 = λ x. IsFree o x i in
+        let most = events_at_most o v (i ∷ t.events) (t.are_events, subst P t.is f) in
+        absurd (omega arith)
+
+pub input_best-best : (o : Orders) → AreOffers o → IsInputBest o (best o)
+unfolding best
+input_best-best o v =
+    let t = turns o v (ports o * ports o) in
+    let quiet = quiet_at_end o v (state_at o (ports o * ports o)) t in
+    let Q : State → Type 0 = λ s. IsQuiescent o s in
+    let P : State → Type 0 = λ s. IsInputBest o (matching_of o s) in
+    subst P (sym t.is) (input_best-quiet o v t.events t.are_events (subst Q t.is quiet))
