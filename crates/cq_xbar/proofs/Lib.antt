@@ -1,0 +1,4 @@
+pub mod Turns
+pub mod Noting
+pub mod OneEach
+pub mod Worked
