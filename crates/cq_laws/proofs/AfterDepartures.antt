@@ -1,0 +1,72 @@
+-- What departures keep: they take the first cell out of each buffer, and nothing else changes.
+use Rattle.std.proofs.Common.{◌≡◌, ℕ, ◌+◌, ◌<◌, List, [], ◌∷◌, length, Option, sym, ap, ◌∙◌, subst, inr, arith, drop}
+use Rattle.std.proofs.lemmas.List.{length-map}
+use Rattle.cq_base.specs.declared.cell.Queued.{Queued}
+use Rattle.cq_base.specs.Cells.{IsRising, KeepsOrder}
+use Rattle.cq_rank.specs.Machine.{Machine}
+use Rattle.cq_ideal.specs.IdealSlot.{rests}
+use Rattle.cq_prefs.specs.FirstCells.{list_of}
+use Rattle.cq_laws.specs.Fabric.{Fabric, input, buffer, IsAmong, IsFabric}
+use Rattle.cq_laws.specs.Phases.{Departs}
+use Rattle.cq_laws.specs.Slack.{HasSlack}
+use Rattle.cq_laws.proofs.Falls.{departures_fall, rest_of}
+use Rattle.cq_laws.proofs.Sound.{Apart, Early, Sound}
+
+among_rest : (xs : List Queued) (c : Queued) → IsAmong c (drop 1 xs) → IsAmong c xs
+among_rest [] c h = absurd h
+among_rest (x ∷ xs) c h = inr h
+
+pub rising_rest : (xs : List Queued) → IsRising xs → IsRising (drop 1 xs)
+rising_rest [] r = tt
+rising_rest (x ∷ xs) r = r.1
+
+pub length_rests : (lists : List (List Queued)) → length (rests lists) ≡ length lists
+length_rests lists = length-map lists (λ xs. drop 1 xs)
+
+module _ (ms : List Machine) (gone : List (Option Queued)) (slot : ℕ) (old new : Fabric) (depart : Departs ms gone old new) where
+  pub sent_buffer : (j : ℕ) → buffer new j ≡ drop 1 (buffer old j)
+  sent_buffer j = ap (λ b. list_of b j) depart.buffers ∙ rest_of old.buffers j
+
+  was_crossed : (j : ℕ) (c : Queued) → IsAmong c (buffer new j) → IsAmong c (buffer old j)
+  was_crossed j c h = among_rest (buffer old j) c (subst (IsAmong c) (sent_buffer j) h)
+
+  same_input : (i : ℕ) (c : Queued) → IsAmong c (input new i) → IsAmong c (input old i)
+  same_input i c h = subst (λ l. IsAmong c (list_of l i)) depart.inputs h
+
+  sent_fabric : IsFabric old → IsFabric new
+  unfolding was_crossed same_input
+  sent_fabric fabric =
+      record {
+        square = ap length depart.buffers ∙ length_rests old.buffers ∙ fabric.square ∙ sym (ap length depart.inputs);
+        outputs = λ i c h. subst (λ n. c.cell.output < n) (sym (ap length depart.inputs)) (fabric.outputs i c (same_input i c h));
+        own = λ j c h. fabric.own j c (was_crossed j c h);
+        rising = λ j. subst IsRising (sym (sent_buffer j)) (rising_rest (buffer old j) (fabric.rising j));
+      }
+
+  sent_apart : Apart old → Apart new
+  unfolding was_crossed same_input
+  sent_apart apart =
+      record {
+        waiting = λ i k c d a b e. apart.waiting i k c d (same_input i c a) (same_input k d b) e;
+        between = λ i j c d a b e. apart.between i j c d (same_input i c a) (was_crossed j d b) e;
+        crossed = λ j l c d a b e. apart.crossed j l c d (was_crossed j c a) (was_crossed l d b) e;
+      }
+
+  sent_early : Early slot old → Early slot new
+  unfolding was_crossed same_input
+  sent_early early = record { waiting = λ i c h. early.waiting i c (same_input i c h); crossed = λ j c h. early.crossed j c (was_crossed j c h) }
+
+  pub sent_sound : Sound slot old → Sound slot new
+  sent_sound sound =
+      record {
+        fabric = sent_fabric sound.fabric;
+        order = λ i. subst (λ l. KeepsOrder (list_of l i)) (sym depart.inputs) (sound.order i);
+        apart = sent_apart sound.apart;
+        early = sent_early sound.early;
+      }
+
+  pub sent_slack : (n : ℕ) → HasSlack (1 + n) old → HasSlack n new
+  sent_slack n slack i t c at =
+      let r = departures_fall ms gone old new depart i t c at in
+      let had = slack i r.before c r.stood in
+      let fallen = r.fallen in omega arith

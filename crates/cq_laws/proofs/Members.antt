@@ -1,0 +1,169 @@
+-- The cells of a list, as members and by their places. First what a place shows of a member, then where the first cell for an
+-- output stands, then what becomes of the members where that cell is taken out, where a cell is put in the order of keys, and
+-- where one is inserted at a place.
+use Rattle.std.proofs.Common.{◌≡◌, ◌≢◌, ℕ, zero, suc, ◌<◌, ◌≤◌, ◌⊎◌, Bool, true, false, cond, List, [], ◌∷◌, Some, refl, sym, ap, ◌∙◌, subst, inl, inr, ⊎_elim, arith}
+use Rattle.std.specs.Prelude.{slice_get, find, insert}
+use Rattle.std.specs.List.{AllByRecursion, position_or_len}
+use Rattle.std.proofs.lemmas.Bool.{cond_both, cases_Bool}
+use Rattle.cq_base.specs.declared.key.Key.{Key}
+use Rattle.cq_base.specs.declared.cell.Queued.{Queued}
+use Rattle.cq_base.specs.Key.{is_before}
+use Rattle.cq_base.specs.Cells.{IsBefore, IsRising, put, is_for, first_for, place_for, without_first}
+use Rattle.cq_base.proofs.Keys.{key_laws}
+use Rattle.cq_base.proofs.Lists.{first_here, first_later}
+use Rattle.cq_laws.specs.Fabric.{IsAmong}
+
+-- ## Places and members
+
+pub among_at : (xs : List Queued) (t : ℕ) (c : Queued) → slice_get xs t ≡ Some c → IsAmong c xs
+among_at [] t c h = cc
+among_at (x ∷ xs) zero c h = inl cc
+among_at (x ∷ xs) (suc t) c h = inr (among_at xs t c h)
+
+pub at_among : (xs : List Queued) (c : Queued) → IsAmong c xs → (t : ℕ) × (slice_get xs t ≡ Some c)
+at_among [] c h = absurd h
+at_among (x ∷ xs) c h = ⊎_elim (λ e. (zero, ap Some e)) (λ k. let r = at_among xs c k in (suc r.0, r.1)) h
+
+pub all_among : (P : Queued → Type 0) (xs : List Queued) (c : Queued) → AllByRecursion P xs → IsAmong c xs → P c
+all_among P [] c a h = absurd h
+all_among P (x ∷ xs) c a h = ⊎_elim (λ e. subst P e a.0) (λ k. all_among P xs c a.1 k) h
+
+pub all_from : (P : Queued → Type 0) (xs : List Queued) → ((c : Queued) → IsAmong c xs → P c) → AllByRecursion P xs
+all_from P [] f = tt
+all_from P (x ∷ xs) f = (f x (inl refl), all_from P xs (λ c k. f c (inr k)))
+
+-- ## The first cell for an output
+
+-- where the first stands, and that it passes
+pub record IsFirst (p : Queued → Bool) (xs : List Queued) (c : Queued) : Type 0 where
+  pub place : ℕ
+  pub is : place ≡ position_or_len p xs
+  pub at : slice_get xs place ≡ Some c
+  pub passes : p c ≡ true
+
+first_in : (p : Queued → Bool) (x : Queued) (xs : List Queued) (c : Queued) (b : Bool) → p x ≡ b → cond b (Some x) (find p xs) ≡ Some c → (find p xs ≡ Some c → IsFirst p xs c) → IsFirst p (x ∷ xs) c
+first_in p x xs c true e h rest =
+    let same : x ≡ c = cc in
+    record { place = zero; is = sym (first_here p x xs e); at = ap Some same; passes = ap p (sym same) ∙ e }
+first_in p x xs c false e h rest =
+    let r = rest h in
+    let later = first_later p x xs e in
+    let is = r.is in
+    record { place = suc r.place; is = omega arith; at = r.at; passes = r.passes }
+
+pub first_at : (p : Queued → Bool) (xs : List Queued) (c : Queued) → find p xs ≡ Some c → IsFirst p xs c
+first_at p [] c h = cc
+first_at p (x ∷ xs) c h = first_in p x xs c (p x) refl h (λ k. first_at p xs c k)
+
+-- where one passes, there is a first
+pub first_of : (p : Queued → Bool) (xs : List Queued) (c : Queued) → IsAmong c xs → p c ≡ true → (f : Queued) × (find p xs ≡ Some f)
+first_of p [] c h e = absurd h
+first_of p (x ∷ xs) c h e =
+    cond_both (p x) (Some x) (find p xs) (λ o. (f : Queued) × (o ≡ Some f)) (λ _. (x, refl))
+    (λ no. ⊎_elim (λ same. absurd (cc (ap p same))) (λ k. first_of p xs c k e) h)
+
+-- ## A list without its first cell for an output
+
+-- where a cell that is left stood before
+pub record StoodAt (j : ℕ) (xs : List Queued) (t : ℕ) (c : Queued) : Type 0 where
+  pub place : ℕ
+  pub at : slice_get xs place ≡ Some c
+  pub moved : place_for j xs ≤ t → place ≡ suc t
+  pub stayed : t < place_for j xs → place ≡ t
+
+left_in : (j : ℕ) (x : Queued) (xs : List Queued) (t : ℕ) (c : Queued) (b : Bool) → is_for j x ≡ b → slice_get (cond b xs (x ∷ without_first j xs)) t ≡ Some c → ((s : ℕ) → slice_get (without_first j xs) s ≡ Some c → StoodAt j xs s c) → StoodAt j (x ∷ xs) t c
+left_in j x xs t c true e h rest =
+    let here = first_here (is_for j) x xs e in
+    record { place = suc t; at = h; moved = λ _. refl; stayed = λ l. absurd (omega arith) }
+left_in j x xs zero c false e h rest =
+    let later = first_later (is_for j) x xs e in
+    record { place = zero; at = h; moved = λ l. absurd (omega arith); stayed = λ _. refl }
+left_in j x xs (suc t) c false e h rest =
+    let later = first_later (is_for j) x xs e in
+    let r = rest t h in
+    let moved = r.moved in
+    let stayed = r.stayed in
+    record { place = suc r.place; at = r.at; moved = λ l. ap suc (moved (omega arith)); stayed = λ l. ap suc (stayed (omega arith)) }
+
+pub left_at : (j : ℕ) (xs : List Queued) (t : ℕ) (c : Queued) → slice_get (without_first j xs) t ≡ Some c → StoodAt j xs t c
+left_at j [] t c h = cc
+left_at j (x ∷ xs) t c h = left_in j x xs t c (is_for j x) refl h (λ s k. left_at j xs s c k)
+
+-- a cell of the list is left, or it is the first
+pub left_or_first : (j : ℕ) (xs : List Queued) (c : Queued) → IsAmong c xs → IsAmong c (without_first j xs) ⊎ (first_for j xs ≡ Some c)
+left_or_first j [] c h = absurd h
+left_or_first j (x ∷ xs) c h = go (is_for j x) (left_or_first j xs c)
+  where
+    go : (b : Bool) → (IsAmong c xs → IsAmong c (without_first j xs) ⊎ (first_for j xs ≡ Some c)) → IsAmong c (cond b xs (x ∷ without_first j xs)) ⊎ (cond b (Some x) (first_for j xs) ≡ Some c)
+    go true rest = ⊎_elim (λ e. inr (ap Some e)) (λ k. inl k) h
+    go false rest = ⊎_elim (λ e. inl (inl e)) (λ k. ⊎_elim (λ l. inl (inr l)) (λ f. inr f) (rest k)) h
+
+-- what is left was there
+pub left_among : (j : ℕ) (xs : List Queued) (c : Queued) → IsAmong c (without_first j xs) → IsAmong c xs
+left_among j xs c h =
+    let r = at_among (without_first j xs) c h in
+    let s = left_at j xs r.0 c r.1 in among_at xs s.place c s.at
+
+-- ## A cell put in the order of keys
+
+pub among_put : (d c : Queued) (xs : List Queued) → IsAmong d (put c xs) → (c ≡ d) ⊎ IsAmong d xs
+among_put d c [] h = h
+among_put d c (x ∷ xs) h =
+    cond_both (is_before c.key x.key) (c ∷ x ∷ xs) (x ∷ put c xs) (λ l. IsAmong d l → (c ≡ d) ⊎ IsAmong d (x ∷ xs))
+    (λ _ k. k)
+    (λ _ k. ⊎_elim (λ e. inr (inl e)) (λ m. ⊎_elim (λ e. inl e) (λ n. inr (inr n)) (among_put d c xs m)) k) h
+
+pub put_new : (c : Queued) (xs : List Queued) → IsAmong c (put c xs)
+put_new c [] = inl refl
+put_new c (x ∷ xs) = cond_both (is_before c.key x.key) (c ∷ x ∷ xs) (x ∷ put c xs) (IsAmong c) (λ _. inl refl) (λ _. inr (put_new c xs))
+
+pub put_old : (d c : Queued) (xs : List Queued) → IsAmong d xs → IsAmong d (put c xs)
+put_old d c [] h = absurd h
+put_old d c (x ∷ xs) h =
+    cond_both (is_before c.key x.key) (c ∷ x ∷ xs) (x ∷ put c xs) (IsAmong d)
+    (λ _. inr h)
+    (λ _. ⊎_elim (λ e. inl e) (λ k. inr (put_old d c xs k)) h)
+
+all_put : (P : Queued → Type 0) (c : Queued) (xs : List Queued) → P c → AllByRecursion P xs → AllByRecursion P (put c xs)
+all_put P c xs p a = all_from P (put c xs) (λ d k. ⊎_elim (λ e. subst P e p) (λ m. all_among P xs d a m) (among_put d c xs k))
+
+-- a key that differs and is not before the other is after it
+pub after_other : (a b : Key) → is_before a b ≡ false → a ≢ b → is_before b a ≡ true
+after_other a b h ne = ⊎_elim (λ e. e) (λ e. absurd (ne (key_laws.alike a b h e))) (cases_Bool (is_before b a))
+
+pub rising_put : (c : Queued) (xs : List Queued) → IsRising xs → ((d : Queued) → IsAmong d xs → c.key ≢ d.key) → IsRising (put c xs)
+rising_put c [] r ne = (tt, tt)
+rising_put c (x ∷ xs) r ne =
+    cond_both (is_before c.key x.key) (c ∷ x ∷ xs) (x ∷ put c xs) IsRising
+    (λ e. (all_from (IsBefore c) (x ∷ xs) (λ d k. ⊎_elim (λ s. subst (IsBefore c) s e) (λ m. key_laws.on c.key x.key d.key e (all_among (IsBefore x) xs d r.0 m)) k), r))
+    (λ e. (all_put (IsBefore x) c xs (after_other c.key x.key e (ne x (inl refl))) r.0, rising_put c xs r.1 (λ d k. ne d (inr k))))
+
+-- ## A cell inserted at a place
+
+-- what stands in a list after an insertion: the new cell no later than its place, each other no more than one place later
+pub record Inserted (n : Queued) (p : ℕ) (xs : List Queued) (t : ℕ) (c : Queued) : Type 0 where
+  pub was : ((t ≤ p) × (n ≡ c)) ⊎ ((s : ℕ) × (slice_get xs s ≡ Some c) × (t ≤ suc s))
+
+pub inserted_at : (xs : List Queued) (p t : ℕ) (n c : Queued) → slice_get (insert xs p n) t ≡ Some c → Inserted n p xs t c
+inserted_at xs zero zero n c h = record { was = inl (omega arith, cc) }
+inserted_at xs zero (suc t) n c h = record { was = inr (t, h, omega arith) }
+inserted_at [] (suc p) zero n c h = record { was = inl (omega arith, cc) }
+inserted_at [] (suc p) (suc t) n c h = cc
+inserted_at (x ∷ xs) (suc p) zero n c h = record { was = inr (zero, h, omega arith) }
+inserted_at (x ∷ xs) (suc p) (suc t) n c h =
+    ⊎_elim (λ k. let le = k.0 in record { was = inl (omega arith, k.1) }) (λ k. let le = k.2 in record { was = inr (suc k.0, k.1, omega arith) }) (inserted_at xs p t n c h).was
+
+pub insert_new : (xs : List Queued) (p : ℕ) (n : Queued) → IsAmong n (insert xs p n)
+insert_new xs zero n = inl refl
+insert_new [] (suc p) n = inl refl
+insert_new (x ∷ xs) (suc p) n = inr (insert_new xs p n)
+
+pub insert_old : (xs : List Queued) (p : ℕ) (n c : Queued) → IsAmong c xs → IsAmong c (insert xs p n)
+insert_old xs zero n c h = inr h
+insert_old [] (suc p) n c h = absurd h
+insert_old (x ∷ xs) (suc p) n c h = ⊎_elim (λ e. inl e) (λ k. inr (insert_old xs p n c k)) h
+
+pub among_insert : (xs : List Queued) (p : ℕ) (n c : Queued) → IsAmong c (insert xs p n) → (n ≡ c) ⊎ IsAmong c xs
+among_insert xs zero n c h = h
+among_insert [] (suc p) n c h = h
+among_insert (x ∷ xs) (suc p) n c h = ⊎_elim (λ e. inr (inl e)) (λ k. ⊎_elim (λ e. inl e) (λ m. inr (inr m)) (among_insert xs p n c k)) h

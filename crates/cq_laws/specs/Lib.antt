@@ -1,0 +1,11 @@
+pub mod Fabric
+pub mod Places
+pub mod Slack
+pub mod Phases
+pub mod FabricSlot
+pub mod FabricRun
+pub mod Records
+pub mod Agreement
+pub mod Measures
+pub mod Quiet
+pub mod Example

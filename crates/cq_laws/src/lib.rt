@@ -1,0 +1,23 @@
+//! The fabric of a switch, and why it sends what an ideal output-queued switch sends.
+//!
+//! The definitions say what a slot of the fabric is: cells arrive, a matching is transferred, the outputs
+//! send, and again a matching is transferred. The laws say that each output sends, slot by slot, what it
+//! sends in the ideal switch, whichever stable matchings are taken, and that the run is one where they are
+//! those that are best for the inputs. Nothing here runs: the crates above are held to these definitions.
+#![tactic(auto)]
+
+mod emulation;
+mod example;
+mod figures;
+mod least_slack;
+mod quiet;
+mod runs;
+mod slack;
+
+pub use emulation::{any_stable_matching, empty_together, same_departures};
+pub use example::worked_run;
+pub use figures::figures_add_up;
+pub use least_slack::{least_slack_is_on_arrival, slack_never_falls};
+pub use quiet::quiet_slots_add_nothing;
+pub use runs::{input_best_is_stable, one_run, runs_go_on};
+pub use slack::{head_of_line, slack_after_arrivals, slack_after_departures, slack_after_matching};
