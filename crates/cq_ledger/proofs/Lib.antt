@@ -1,0 +1,15 @@
+pub mod Views
+pub mod Hands
+pub mod Proposing
+pub mod Claiming
+pub mod Refusing
+pub mod Seats
+pub mod Allowed
+pub mod Readings
+pub mod SeatFields
+pub mod Closing
+pub mod Matched
+pub mod InHands
+pub mod CoreState
+pub mod Events
+pub mod Shows

@@ -1,0 +1,5 @@
+use Rattle.cq_ledger.proofs.Shows.{shows_proposals}
+use Rattle.cq_ledger.proofs.laws.rule_shows_proposals.Goals as goal
+
+pub returns : goal.returns
+returns c = shows_proposals

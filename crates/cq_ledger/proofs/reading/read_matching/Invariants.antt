@@ -1,0 +1,8 @@
+use Rattle.std.specs.Slots.{slots_items}
+use Rattle.cq_prefs.specs.Proposals.{State, IsSound}
+use Rattle.cq_ledger.specs.Reading.{Shows}
+use Rattle.cq_ledger.proofs.Matched.{IsRead}
+use Rattle.cq_ledger.proofs.reading.read_matching.Given as goal
+
+abbrev pub invariant-loop-output : goal.invariant-loop-output
+invariant-loop-output l = (s : State) → IsSound l.offers s → Shows l.offers (slots_items l.closed.words) s → IsRead l.offers s l.matching l.output

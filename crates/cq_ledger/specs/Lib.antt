@@ -1,0 +1,9 @@
+pub mod Views
+pub mod Rule
+pub mod Steps
+pub mod Shown
+pub mod Plays
+pub mod Seats
+pub mod SeatFields
+pub mod Reading
+pub mod Moments

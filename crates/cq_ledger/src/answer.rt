@@ -1,0 +1,104 @@
+//! What an input asks, and what the word that it found comes to.
+ghost use Rattle.std.specs.Prelude.{◌≡◌, ◌<◌, ◌≤◌, ◌+◌, length};
+ghost use Rattle.cq_prefs.specs.Orders.{AreOffers, IsOffered, ports, outputs_of, place_of, position_of};
+ghost use Rattle.cq_ledger.specs.Plays.{IsOtherWord};
+ghost use Rattle.cq_ledger.specs.Steps.{answer_of, hand_after, hand_at, output_at};
+
+use cq_base::Port;
+use cq_prefs::{Offers, Outcome};
+
+// An input, and the place in its order where it proposes next.
+pub(crate) type Hand = Option<(Port, u16)>;
+
+// The output that is asked, and the position of the input that asks.
+#[derive(Clone, Copy)]
+pub(crate) struct Asked {
+    pub(crate) output: Port,
+    pub(crate) position: u16,
+}
+
+// A hand with an input at a place, or an empty one where its order ends there.
+#[tactic(auto, unfolding(crate::specs::Steps::hand_at))]
+pub(crate) fn hand_from(offers: &Offers, input: Port, place: u16) -> Hand
+    requires { input < ports offers.now }
+    ensures { result ≡ hand_at offers.now input place }
+{
+    if (place as usize) < offers.outputs_of(input).len() {
+        Some((input, place))
+    } else {
+        None
+    }
+}
+
+pub(crate) fn asked_by(offers: &Offers, input: Port, place: u16) -> Asked
+    requires { place < length (outputs_of offers.now input) }
+    ensures input { input < ports offers.now }
+    ensures few { ports offers.now ≤ 64 }
+    ensures output { result.output ≡ output_at offers.now input place }
+    ensures position { result.position ≡ position_of offers.now result.output input }
+    ensures offered { IsOffered offers.now input result.output }
+    ensures offers { AreOffers offers.now }
+{
+    let _ports = offers.ports();
+    let output = offers.outputs_of(input)[place as usize];
+    let position = match offers.position_of(output, input) {
+        Some(position) => position,
+        None => unreachable!(),
+    };
+    Asked { output, position }
+}
+
+// What a proposal comes to where the output's word was this one.
+#[tactic(auto, unfolding(crate::specs::Steps::answer_of))]
+pub(crate) fn answered(
+    offers: &Offers,
+    input: Port,
+    place: u16,
+    asked: Asked,
+    found: u64,
+) -> Outcome
+    requires place { place < length (outputs_of offers.now input) }
+    requires output { asked.output ≡ output_at offers.now input place }
+    requires position { asked.position ≡ position_of offers.now asked.output input }
+    requires found { IsOtherWord offers.now input place found }
+    ensures { result ≡ answer_of offers.now input place found }
+{
+    if found == offers.ports() as u64 {
+        return Outcome::Held;
+    }
+    if found <= asked.position as u64 {
+        return Outcome::Rejected;
+    }
+    Outcome::Displaced(offers.inputs_of(asked.output)[found as usize])
+}
+
+// The hand after a proposal with this outcome.
+#[tactic(auto, unfolding(crate::specs::Steps::hand_after))]
+pub(crate) fn hand_next(
+    offers: &Offers,
+    input: Port,
+    place: u16,
+    output: Port,
+    answer: Outcome,
+) -> Hand
+    requires place { place < length (outputs_of offers.now input) }
+    requires output { output ≡ output_at offers.now input place }
+    ensures { result ≡ hand_after offers.now input place answer }
+{
+    let _ports = offers.ports();
+    match answer {
+        Outcome::Held => None,
+        Outcome::Rejected => hand_from(offers, input, place + 1),
+        Outcome::Displaced(other) => hand_behind(offers, other, output),
+    }
+}
+
+// A hand with an input at the place after an output in its order.
+#[tactic(auto, unfolding(crate::specs::Steps::hand_at))]
+fn hand_behind(offers: &Offers, input: Port, output: Port) -> Hand
+    ensures { result ≡ hand_at offers.now input (place_of offers.now input output + 1) }
+{
+    let _ports = offers.ports();
+    let place = offers.place_of(input, output)?;
+    hand_from(offers, input, place + 1)
+}

@@ -1,0 +1,24 @@
+//! What a seat knows.
+ghost use Rattle.std.specs.Borrow.{ftrue};
+ghost use Rattle.std.specs.Prelude.{ℕ, Option};
+ghost use Rattle.cq_prefs.specs.Orders.{Orders};
+
+use std::marker::Model;
+
+/// What a seat knows: it exists in contracts alone, and no value of it is made.
+pub struct View {
+    /// A bit for each input that the seat has claimed.
+    pub ghost claims: { ℕ },
+    /// No input, or one and the place in its order where it proposes next.
+    pub ghost hand: { Option (ℕ × ℕ) },
+    /// How many proposals the seat made.
+    pub ghost made: { ℕ },
+    /// A bit for each input that the seat has found claimed.
+    pub ghost seen: { ℕ },
+    /// The offers of the ledger.
+    pub ghost offers: { Orders },
+}
+
+impl Model for View {
+    ghost also_owns = { λ _. ftrue };
+}

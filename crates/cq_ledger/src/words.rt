@@ -1,0 +1,34 @@
+//! The words at the start, and the bits of the word of claims.
+ghost use Rattle.std.specs.Prelude.{◌≡◌, ◌<◌, ◌≤◌, ◌+◌, ◌^◌, ◌∷◌, ◌↔◌, take, replicate, IsTrue};
+ghost use Rattle.cq_ledger.specs.Views.{bit};
+
+// The words at the start, in the first places: nobody is claimed, and nobody has proposed.
+pub(crate) fn first_words(ports: u16) -> [u64; 65]
+    requires { ports ≤ 64 }
+    ensures { take (ports + 1) result ≡ 0 ∷ replicate ports ports }
+{
+    let mut words = filled(ports as u64);
+    words[0] = 0;
+    words
+}
+
+fn filled(word: u64) -> [u64; 65]
+    ensures { result ≡ replicate 65 word }
+{
+    [word; 65]
+}
+
+// The number with the bit of an input alone.
+pub(crate) fn bit_of(input: u16) -> u64
+    requires { input < 64 }
+    ensures { result ≡ 2 ^ input }
+{
+    1 << input
+}
+
+// Whether the number has the bit of an input.
+pub(crate) fn has_bit(word: u64, input: u16) -> bool
+    ensures { IsTrue result ↔ (bit word input ≡ 1) }
+{
+    input < 64 && (word >> input) & 1 == 1
+}
