@@ -1,0 +1,49 @@
+-- Before the first slot nothing waits and nothing was counted.
+use Rattle.std.proofs.Common.{◌≡◌, ℕ, zero, suc, List, [], Option, Some, None, length, replicate, sym, ap, ◌∙◌, subst, arith}
+use Rattle.std.specs.Prelude.{slice_get}
+use Rattle.std.proofs.lemmas.List.{length-replicate}
+use Rattle.std.proofs.lemmas.Option.{same_Some}
+use Rattle.cq_base.specs.declared.cell.Queued.{Queued}
+use Rattle.cq_base.specs.declared.figures.InputFigures.{InputFigures}
+use Rattle.cq_base.specs.declared.figures.OutputFigures.{OutputFigures}
+use Rattle.cq_base.specs.declared.figures.Figures.{Figures}
+use Rattle.cq_rank.specs.Machine.{Machine}
+use Rattle.cq_rank.specs.Switch.{AreForOneSwitch}
+use Rattle.cq_ideal.specs.IdealRun.{empty_ideal}
+use Rattle.cq_laws.specs.Fabric.{Fabric, empty_fabric}
+use Rattle.cq_laws.specs.Measures.{no_figures}
+use Rattle.cq_laws.proofs.WholeRuns.{empty_agree}
+use Rattle.cq_laws.proofs.LeastRun.{more_at_first}
+use Rattle.cq_engine.specs.Parts.{Queues, fabric_of}
+use Rattle.cq_engine.specs.Engine.{KeepsUp}
+
+replicated : {X : Type 0} (n i : ℕ) (x y : X) → slice_get (replicate n x) i ≡ Some y → y ≡ x
+replicated zero i x y h = absurd (let P : ⊥ = cc in P)
+replicated (suc n) zero x y h = sym (same_Some x y h)
+replicated (suc n) (suc i) x y h = replicated n i x y h
+
+first_up : (ms : List Machine) (n : ℕ) (ranks : List (List ℕ)) → AreForOneSwitch ms → length ms ≡ n → KeepsUp ms 0 (no_figures n) (empty_fabric n ranks)
+first_up ms n ranks one ports =
+    let none : List Queued = [] in
+    let no_wait : Option ℕ = None in
+    let no_output : OutputFigures = record { cells = 0; wait = no_wait } in
+    let no_input : InputFigures = record { cells = 0; longest = 0; slack = no_wait } in
+    record {
+      machines = one;
+      ports = length-replicate n none ∙ sym ports;
+      ideal = empty_ideal n ranks;
+      agrees = empty_agree n ranks;
+      slack = more_at_first n ranks;
+      outputs = length-replicate n no_output ∙ sym ports;
+      counts = record {
+        inputs = λ i y at. let is = ap (λ (z : InputFigures). z.cells) (replicated n i no_input y at) in omega arith;
+        outputs = λ j y at. let is = ap (λ (z : OutputFigures). z.cells) (replicated n j no_output y at) in omega arith;
+      };
+    }
+
+pub keeps_up_first : (ms : List Machine) (n : ℕ) (ranks : List (List ℕ)) (q : Queues) (x : Figures) → AreForOneSwitch ms → length ms ≡ n → q.inputs ≡ replicate n [] → q.buffers ≡ replicate n [] → x ≡ no_figures n → KeepsUp ms 0 x (fabric_of q ranks)
+keeps_up_first ms n ranks q x one ports inputs buffers figures =
+    let had : Fabric = fabric_of q ranks in
+    let want : Fabric = empty_fabric n ranks in
+    let fabric : had ≡ want = cc in
+    subst (λ (f : Fabric). KeepsUp ms 0 x f) (sym fabric) (subst (λ (y : Figures). KeepsUp ms 0 y (empty_fabric n ranks)) (sym figures) (first_up ms n ranks one ports))

@@ -1,0 +1,10 @@
+pub mod Changed
+pub mod Ranked
+pub mod Told
+pub mod Came
+pub mod Queued
+pub mod Empty
+pub mod Slot
+pub mod Seen
+pub mod Begin
+pub mod Kept

@@ -1,0 +1,7 @@
+use Rattle.std.proofs.Common.{refl, arith}
+use Rattle.cq_ideal.specs.IdealSlot.{departures_in}
+use Rattle.cq_engine.proofs.depart.send.Goals as goal
+
+pub outputs-init : goal.outputs-init
+unfolding departures_in
+outputs-init c = let room = c.requires.room in record { items = refl; spare = refl; room = omega arith }

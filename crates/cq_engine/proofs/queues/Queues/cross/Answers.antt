@@ -1,0 +1,110 @@
+use Rattle.std.proofs.Common.{◌≡◌, ◌≤◌, ◌*◌, ℕ, List, length, map, take, drop, ◌++◌, sym, ap, ◌∙◌, subst, arith}
+use Rattle.std.proofs.lemmas.List.{length-map}
+use Rattle.cq_list.specs.InputList.{Waiting, cells_of}
+use Rattle.cq_urgency.specs.OutputBuffer.{Buffered, cells_in}
+use Rattle.cq_prefs.specs.FirstCells.{orders_of, output_order}
+use Rattle.cq_prefs.specs.Moves.{Moves}
+use Rattle.cq_prefs.specs.Orders.{Orders, ports}
+use Rattle.cq_prefs.specs.Pairing.{Partners, IsInputBest, proposals}
+use Rattle.cq_prefs.proofs.Counts.{events_at_most}
+use Rattle.cq_xbar.specs.Crossbar.{HaveCells, HaveRoom, MovesRoom}
+use Rattle.cq_engine.specs.Parts.{Queues as Held, CanCross, AreSquare, list_room, buffer_room}
+use Rattle.cq_engine.proofs.Queued.{shown, whole, has_cell, have_room, lists_long, buffers_long, crossed_list_rooms, crossed_buffer_rooms, crossed_square}
+use Rattle.cq_engine.proofs.queues.Queues.cross.Goals as goal
+
+-- what the transfer says of the vectors, from what it says of their slices
+record Crossed (m : Partners) (lists : List Waiting) (buffers : List Buffered) (lists' : List Waiting) (buffers' : List Buffered) : Type 0 where
+  have : HaveCells m (cells_of lists)
+  moves : Moves m (cells_of lists) (cells_in buffers) (cells_of lists') (cells_in buffers')
+  rooms : MovesRoom m lists buffers lists' buffers'
+  outputs : map (λ w. w.outputs) lists' ≡ map (λ w. w.outputs) lists
+
+crossed : (m : Partners) (lists got : List Waiting) (buffers given : List Buffered) (lists' : List Waiting) (buffers' : List Buffered) → got ≡ lists → given ≡ buffers → HaveCells m (cells_of lists) → Moves m (cells_of got) (cells_in given) (cells_of lists') (cells_in buffers') → MovesRoom m got given lists' buffers' → map (λ w. w.outputs) lists' ≡ map (λ w. w.outputs) got → Crossed m lists buffers lists' buffers'
+crossed m lists got buffers given lists' buffers' e f have moves rooms outputs =
+    record {
+      have = have;
+      moves = subst (λ (ls : List Waiting). Moves m (cells_of ls) (cells_in buffers) (cells_of lists') (cells_in buffers')) e (subst (λ (bs : List Buffered). Moves m (cells_of got) (cells_in bs) (cells_of lists') (cells_in buffers')) f moves);
+      rooms = subst (λ (ls : List Waiting). MovesRoom m ls buffers lists' buffers') e (subst (λ (bs : List Buffered). MovesRoom m got bs lists' buffers') f rooms);
+      outputs = outputs ∙ ap (map (λ (w : Waiting). w.outputs)) e;
+    }
+
+have_cells : (lists got : List Waiting) (buffers : List Buffered) (now : Held) (o : Orders) (m found : Partners) → got ≡ lists → shown lists buffers ≡ now → CanCross now → o ≡ orders_of (cells_of got) → IsInputBest o found → m ≡ found → HaveCells m (cells_of lists)
+have_cells lists got buffers now o m found e view can orders best is =
+    has_cell (cells_of lists) (cells_in buffers) (map list_room lists) (map buffer_room buffers) o m (subst CanCross (sym view) can) (orders ∙ ap (λ (ls : List Waiting). orders_of (cells_of ls)) e) (subst (IsInputBest o) (sym is) best)
+
+pub transfer-requires-clause-room : goal.transfer-requires-clause-room
+transfer-requires-clause-room g c =
+    let lists = c.self.inside.lists.items in
+    let buffers = c.self.inside.buffers.items in
+    let m = c.matching-matching.result in
+    let have = have_cells lists c.deref.result.now buffers c.args.self.now c.fill.new.self m c.settle.new.self.matching c.deref.ensures.value c.self.view_is c.requires.cells c.fill.ensures.orders c.settle.ensures.best c.matching-matching.ensures in
+    subst (HaveRoom m) (sym c.deref_mut-2.ensures.value) (have_room lists buffers m (subst CanCross (sym c.self.view_is) c.requires.cells) have)
+
+pub invariant_of-self : goal.invariant_of-self
+invariant_of-self g c =
+    let lists = c.self.inside.lists.items in
+    let buffers = c.self.inside.buffers.items in
+    let new = c.transfer.new.lists in
+    let filled = c.transfer.new.buffers in
+    let m = c.matching-matching.result in
+    let have = have_cells lists c.deref.result.now buffers c.args.self.now c.fill.new.self m c.settle.new.self.matching c.deref.ensures.value c.self.view_is c.requires.cells c.fill.ensures.orders c.settle.ensures.best c.matching-matching.ensures in
+    let x = crossed m lists c.deref_mut.result.now buffers c.deref_mut-2.result.now new filled c.deref_mut.ensures.value c.deref_mut-2.ensures.value have c.transfer.ensures.moves c.transfer.ensures.room c.transfer.ensures.outputs in
+    let long = lists_long m lists buffers new filled x.have x.moves x.rooms in
+    let longer = buffers_long m lists buffers new filled x.have x.moves x.rooms in
+    let size = c.deref_mut.ensures.len in
+    let value = ap length c.deref_mut.ensures.value in
+    let sizes = c.deref_mut-2.ensures.len in
+    let values = ap length c.deref_mut-2.ensures.value in
+    let is : take c.self.inside.lists.len (new ++ drop (length new) lists) ≡ new = whole c.self.inside.lists.len new lists (omega arith) (omega arith) in
+    let are : take c.self.inside.buffers.len (filled ++ drop (length filled) buffers) ≡ filled = whole c.self.inside.buffers.len filled buffers (omega arith) (omega arith) in
+    let offered : ports c.self.inside.offers ≡ ports c.fill.new.self =
+    c.self.invariant.offered ∙ sym (ap ports c.fill.ensures.orders ∙ length-map (cells_of c.deref.result.now) output_order ∙ length-map c.deref.result.now (λ (w : Waiting). w.cells) ∙ ap length c.deref.ensures.value) in
+    subst (λ (ls : List Waiting). AreSquare ls (take c.self.inside.buffers.len (filled ++ drop (length filled) buffers)) (ports c.fill.new.self)) (sym is)
+    (subst (λ (bs : List Buffered). AreSquare new bs (ports c.fill.new.self)) (sym are)
+    (subst (AreSquare new filled) offered
+    (crossed_square m lists buffers new filled x.have x.moves x.rooms (ports c.self.inside.offers) c.self.invariant x.outputs)))
+
+pub returns-clause-proposals : goal.returns-clause-proposals
+returns-clause-proposals g c =
+    c.made.ensures ∙ c.settle.ensures.proposals
+    ∙ ap (proposals c.fill.new.self) (sym c.matching-matching.ensures)
+    ∙ ap (λ (o : Orders). proposals o c.matching-matching.result) (c.fill.ensures.orders ∙ ap (λ (ls : List Waiting). orders_of (cells_of ls)) c.deref.ensures.value ∙ ap (λ (q : Held). orders_of q.inputs) c.self.view_is)
+
+pub returns-clause-few : goal.returns-clause-few
+returns-clause-few g c =
+    let r = c.settle.ensures.reached in
+    let most = events_at_most c.fill.new.self c.ports-ports.ensures.offers r.events r.are_events in
+    let n : ports c.fill.new.self ≡ length c.args.self.now.inputs =
+    ap ports c.fill.ensures.orders ∙ length-map (cells_of c.deref.result.now) output_order ∙ ap (λ (ls : List Waiting). length (cells_of ls)) c.deref.ensures.value ∙ ap (λ (q : Held). length q.inputs) c.self.view_is in
+    let made = c.made.ensures ∙ r.made in
+    subst (λ (k : ℕ). c.made.result ≤ k * k) n (omega arith)
+
+pub returns-clause-from_inputs : goal.returns-clause-from_inputs
+returns-clause-from_inputs g c =
+    let lists = c.self.inside.lists.items in
+    let buffers = c.self.inside.buffers.items in
+    let new = c.transfer.new.lists in
+    let filled = c.transfer.new.buffers in
+    let m = c.matching-matching.result in
+    let have = have_cells lists c.deref.result.now buffers c.args.self.now c.fill.new.self m c.settle.new.self.matching c.deref.ensures.value c.self.view_is c.requires.cells c.fill.ensures.orders c.settle.ensures.best c.matching-matching.ensures in
+    let x = crossed m lists c.deref_mut.result.now buffers c.deref_mut-2.result.now new filled c.deref_mut.ensures.value c.deref_mut-2.ensures.value have c.transfer.ensures.moves c.transfer.ensures.room c.transfer.ensures.outputs in
+    let long = lists_long m lists buffers new filled x.have x.moves x.rooms in
+    let size = c.deref_mut.ensures.len in
+    let value = ap length c.deref_mut.ensures.value in
+    let is : take c.self.inside.lists.len (new ++ drop (length new) lists) ≡ new = whole c.self.inside.lists.len new lists (omega arith) (omega arith) in
+    ap (λ (ls : List Waiting). map list_room ls) is ∙ crossed_list_rooms m lists buffers new filled x.have x.moves x.rooms ∙ ap (λ (q : Held). q.from_inputs) c.self.view_is
+
+pub returns-clause-to_outputs : goal.returns-clause-to_outputs
+returns-clause-to_outputs g c =
+    let lists = c.self.inside.lists.items in
+    let buffers = c.self.inside.buffers.items in
+    let new = c.transfer.new.lists in
+    let filled = c.transfer.new.buffers in
+    let m = c.matching-matching.result in
+    let have = have_cells lists c.deref.result.now buffers c.args.self.now c.fill.new.self m c.settle.new.self.matching c.deref.ensures.value c.self.view_is c.requires.cells c.fill.ensures.orders c.settle.ensures.best c.matching-matching.ensures in
+    let x = crossed m lists c.deref_mut.result.now buffers c.deref_mut-2.result.now new filled c.deref_mut.ensures.value c.deref_mut-2.ensures.value have c.transfer.ensures.moves c.transfer.ensures.room c.transfer.ensures.outputs in
+    let long = buffers_long m lists buffers new filled x.have x.moves x.rooms in
+    let size = c.deref_mut-2.ensures.len in
+    let value = ap length c.deref_mut-2.ensures.value in
+    let are : take c.self.inside.buffers.len (filled ++ drop (length filled) buffers) ≡ filled = whole c.self.inside.buffers.len filled buffers (omega arith) (omega arith) in
+    ap (λ (bs : List Buffered). map buffer_room bs) are ∙ crossed_buffer_rooms m lists buffers new filled x.have x.moves x.rooms ∙ ap (λ (q : Held). q.to_outputs) c.self.view_is

@@ -1,0 +1,107 @@
+-- What clauses see of an engine, what a slot asks of it, and what it does.
+use Rattle.std.specs.Prelude.{◌≡◌, ℕ, ◌+◌, ◌-◌, ◌<◌, ◌≤◌, ◌==◌, ◌++◌, Bool, if◌then◌else◌, List, [], ◌∷◌, length, filter, Option, Some, None, Result, Ok, Err, slice_get, slice_index}
+use Rattle.cq_base.specs.declared.cell.Cell.{Cell}
+use Rattle.cq_base.specs.declared.cell.Departure.{Departure}
+use Rattle.cq_base.specs.declared.cell.Queued.{Queued}
+use Rattle.cq_base.specs.declared.cell.TagFault.{TagFault}
+use Rattle.cq_base.specs.declared.cell.Transfer.{Transfer}
+use Rattle.cq_base.specs.declared.figures.InputFigures.{InputFigures}
+use Rattle.cq_base.specs.declared.figures.OutputFigures.{OutputFigures}
+use Rattle.cq_base.specs.declared.figures.Figures.{Figures}
+use Rattle.cq_base.specs.Arrivals.{arrival_at}
+use Rattle.cq_base.specs.Cells.{is_for}
+use Rattle.cq_base.specs.Room.{RoomView}
+use Rattle.cq_rank.specs.Machine.{Machine}
+use Rattle.cq_rank.specs.Switch.{AreForOneSwitch}
+use Rattle.cq_ideal.specs.Ranking.{Ranking}
+use Rattle.cq_ideal.specs.IdealSlot.{IdealState, departures_in}
+use Rattle.cq_prefs.specs.Pairing.{IsInputBest}
+use Rattle.cq_laws.specs.Fabric.{Fabric, input, buffer}
+use Rattle.cq_laws.specs.FabricSlot.{SlotRecord, FabricSlot}
+use Rattle.cq_laws.specs.Records.{transfers_in}
+use Rattle.cq_laws.specs.Agreement.{Agrees}
+use Rattle.cq_laws.specs.Measures.{HasMoreSlack, figures_after}
+
+-- an engine
+pub record EngineView : Type 0 where
+  -- per output the numbers that give its rank machine
+  pub fixed : List (List ℕ)
+  -- the lists, the buffers, and the states of the rank machines
+  pub fabric : Fabric
+  -- per input how many cells its list can hold
+  pub from_inputs : List ℕ
+  -- per output how many cells its buffer can hold
+  pub to_outputs : List ℕ
+  -- what was seen of the slots so far
+  pub figures : Figures
+  -- the slot that comes next
+  pub next : ℕ
+  -- whether a slot had a tag fault
+  pub stopped : Bool
+
+-- how many inputs and outputs there are
+abbrev pub ports_of : EngineView → ℕ
+ports_of e = length e.fixed
+
+-- how many more cells the list of input i has room for: an insertion lowers it by one, a removal raises it by one
+abbrev pub list_spare : EngineView → ℕ → ℕ
+list_spare e i = slice_index e.from_inputs i - length (input e.fabric i)
+
+-- how many more cells the buffer of output j has room for
+abbrev pub buffer_spare : EngineView → ℕ → ℕ
+buffer_spare e j = slice_index e.to_outputs j - length (buffer e.fabric j)
+
+-- how many of the cells that wait at the inputs are for output j
+abbrev pub waiting_for : ℕ → List (List Queued) → ℕ
+waiting_for j [] = 0
+waiting_for j (cells ∷ lists) = length (filter (is_for j) cells) + waiting_for j lists
+
+-- how many of the arriving cells are for output j
+abbrev pub arriving_for : ℕ → List (Option Cell) → ℕ
+arriving_for j [] = 0
+arriving_for j (None ∷ cells) = arriving_for j cells
+arriving_for j (Some cell ∷ cells) = (if cell.output == j then 1 else 0) + arriving_for j cells
+
+-- how many cells for output j the fabric holds, at the inputs and in its buffer
+abbrev pub held_for : ℕ → Fabric → ℕ
+held_for j f = waiting_for j f.inputs + length (buffer f j)
+
+-- the list of each input at which a cell arrives has room for it
+abbrev pub HaveListRoom : List (Option Cell) → EngineView → Type 0
+HaveListRoom cells e = (i : ℕ) (cell : Cell) → arrival_at cells i ≡ Some cell → 0 < list_spare e i
+
+-- each buffer has room for all cells for its output that wait at the inputs or arrive
+abbrev pub HaveBufferRoom : List (Option Cell) → EngineView → Type 0
+HaveBufferRoom cells e = (j : ℕ) → j < ports_of e → waiting_for j e.fabric.inputs + arriving_for j cells ≤ buffer_spare e j
+
+-- the answer to what the arriving cells are ranked
+abbrev pub answer_to : Result Ranking TagFault → Result (Unit {0}) TagFault
+answer_to (Ok r) = Ok tt
+answer_to (Err fault) = Err fault
+
+-- what a slot did: it was one slot of the fabric, with the input-best matchings, and its departures, its transfers and its
+-- record were added to what was there
+pub record SlotDone (ms : List Machine) (slot : ℕ) (cells : List (Option Cell)) (old new : EngineView) (sent sent' : RoomView Departure) (note note' : RoomView Transfer) : Type 0 where
+  pub of_slot : SlotRecord
+  pub is_slot : FabricSlot IsInputBest ms slot cells old.fabric of_slot new.fabric
+  pub departed : sent'.items ≡ sent.items ++ departures_in slot of_slot.gone
+  pub departed_room : sent'.spare + length (departures_in slot of_slot.gone) ≡ sent.spare
+  pub crossed : note'.items ≡ note.items ++ transfers_in of_slot
+  pub crossed_room : note'.spare + length (transfers_in of_slot) ≡ note.spare
+  pub counted : new.figures ≡ figures_after old.figures of_slot
+
+-- before this slot no input and no output has counted more cells than there were slots
+pub record CountsFit (next : ℕ) (x : Figures) : Type 0 where
+  pub inputs : (i : ℕ) (y : InputFigures) → slice_get x.inputs i ≡ Some y → y.cells ≤ next
+  pub outputs : (j : ℕ) (y : OutputFigures) → slice_get x.outputs j ≡ Some y → y.cells ≤ next
+
+-- the fabric keeps up with an ideal switch: there is a state of one with which it agrees before this slot. And its figures are
+-- of its ports, and have a least slack below that of each cell that waits
+pub record KeepsUp (ms : List Machine) (next : ℕ) (x : Figures) (f : Fabric) : Type 0 where
+  pub machines : AreForOneSwitch ms
+  pub ports : length f.inputs ≡ length ms
+  pub ideal : IdealState
+  pub agrees : Agrees next f ideal
+  pub slack : HasMoreSlack x f
+  pub outputs : length x.outputs ≡ length ms
+  pub counts : CountsFit next x

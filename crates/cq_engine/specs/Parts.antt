@@ -1,0 +1,109 @@
+-- What clauses see of the parts of an engine: its rank machines, and the lists and buffers in which cells wait.
+use Rattle.std.specs.Prelude.{◌≡◌, ℕ, ◌+◌, ◌-◌, ◌<◌, ◌≤◌, if◌then◌else◌, is_some, All, List, [], ◌∷◌, length, drop, slice_get, slice_index, slice_index_or, slice_set, Option, Some, None, Result}
+use Rattle.cq_base.specs.declared.cell.Queued.{Queued}
+use Rattle.cq_base.specs.declared.cell.TagFault.{TagFault}
+use Rattle.cq_base.specs.Cells.{HasOtherKey, MoreUrgentAhead, cushion, first_for, with_arrival}
+use Rattle.cq_rank.specs.Machine.{Machine, machine_at}
+use Rattle.cq_ideal.specs.Ranking.{Ranking, after_input}
+use Rattle.cq_list.specs.InputList.{Waiting}
+use Rattle.cq_urgency.specs.OutputBuffer.{Buffered}
+use Rattle.cq_prefs.specs.FirstCells.{list_of, HasCellFor, FirstKeysDiffer}
+use Rattle.cq_laws.specs.Fabric.{Fabric}
+use Rattle.cq_laws.specs.Phases.{came_to}
+
+-- the rank machines: the numbers that give them, and their states
+pub record Machines : Type 0 where
+  pub fixed : List (List ℕ)
+  pub states : List (List ℕ)
+
+-- the rank that a cell of the class gets of output j
+abbrev pub rank_at : List Machine → List (List ℕ) → ℕ → ℕ → ℕ
+rank_at ms ranks j class = (machine_at ms j).ranked (slice_index_or ranks j []) class
+
+-- the rank states after that
+abbrev pub given_at : List Machine → List (List ℕ) → ℕ → ℕ → List (List ℕ)
+given_at ms ranks j class = slice_set ranks j ((machine_at ms j).given (slice_index_or ranks j []) class)
+
+-- a ranking, with what came to the inputs before it in front
+abbrev pub after_inputs : List (Option Queued) → Result Ranking TagFault → Result Ranking TagFault
+after_inputs [] x = x
+after_inputs (q ∷ came) x = after_input q (after_inputs came x)
+
+-- per input the cells of its list, per output those of its buffer, and how many cells each of them can hold
+pub record Queues : Type 0 where
+  pub inputs : List (List Queued)
+  pub buffers : List (List Queued)
+  pub from_inputs : List ℕ
+  pub to_outputs : List ℕ
+
+-- how many cells a list can hold
+abbrev pub list_room : Waiting → ℕ
+list_room list = length list.cells + list.spare
+
+-- how many cells a buffer can hold
+abbrev pub buffer_room : Buffered → ℕ
+buffer_room buffer = length buffer.cells + buffer.spare
+
+-- the fabric of these queues and of machines in these states
+abbrev pub fabric_of : Queues → List (List ℕ) → Fabric
+fabric_of q ranks = record { inputs = q.inputs; buffers = q.buffers; ranks = ranks }
+
+-- the cell goes into the list of input i: there is room, it is for one of the outputs, its key is new, and the more urgent
+-- cells for its output stand below its cushion
+pub record FitsList (q : Queues) (i : ℕ) (c : Queued) : Type 0 where
+  pub inside : i < length q.inputs
+  pub output : c.cell.output < length q.inputs
+  pub room : length (list_of q.inputs i) < slice_index q.from_inputs i
+  pub other_key : HasOtherKey c (list_of q.inputs i)
+  pub ahead : MoreUrgentAhead (cushion c.key (list_of q.buffers c.cell.output)) c (list_of q.inputs i)
+
+-- each cell that came goes into the list of its input
+abbrev pub FitLists : List (Option Queued) → Queues → Type 0
+FitLists came q = (i : ℕ) (c : Queued) → came_to came i ≡ Some c → FitsList q i c
+
+-- the cells can cross: first cells for one output have different keys in different lists, and where there is one the output's
+-- buffer has room and no cell with its key
+pub record CanCross (q : Queues) : Type 0 where
+  pub differ : FirstKeysDiffer q.inputs
+  pub room : (i j : ℕ) → HasCellFor (list_of q.inputs i) j → length (list_of q.buffers j) < slice_index q.to_outputs j
+  pub keys : (i j : ℕ) (c : Queued) → first_for j (list_of q.inputs i) ≡ Some c → HasOtherKey c (list_of q.buffers j)
+
+-- ## One list and one buffer
+
+abbrev pub no_list : Waiting
+no_list = record { cells = []; outputs = 0; spare = 0 }
+
+-- the list of input i
+abbrev pub list_at : List Waiting → ℕ → Waiting
+list_at lists i = slice_index_or lists i no_list
+
+-- a list after a cell came to it, or none, over these buffers
+abbrev pub list_with : List (List Queued) → Option Queued → Waiting → Waiting
+list_with buffers None list = list
+list_with buffers (Some c) list = record { cells = with_arrival (cushion c.key (list_of buffers c.cell.output)) c list.cells; outputs = list.outputs; spare = list.spare - 1 }
+
+-- the cell goes into the list, over these buffers
+pub record Fits (buffers : List (List Queued)) (list : Waiting) (c : Queued) : Type 0 where
+  pub buffer : c.cell.output < length buffers
+  pub output : c.cell.output < list.outputs
+  pub room : 0 < list.spare
+  pub other_key : HasOtherKey c list.cells
+  pub ahead : MoreUrgentAhead (cushion c.key (list_of buffers c.cell.output)) c list.cells
+
+-- each cell that came goes into the list of its input
+abbrev pub FitEach : List (List Queued) → List (Option Queued) → List Waiting → Type 0
+FitEach buffers came lists = (i : ℕ) (c : Queued) → i < length lists → came_to came i ≡ Some c → Fits buffers (list_at lists i) c
+
+-- the first cell of a buffer, and the buffer without it
+abbrev pub front_of : Buffered → Option Queued
+front_of buffer = slice_get buffer.cells 0
+
+abbrev pub popped : Buffered → Buffered
+popped buffer = record { cells = drop 1 buffer.cells; spare = buffer.spare + (if is_some (front_of buffer) then 1 else 0) }
+
+-- there are as many lists as buffers, 64 at most, each list is for as many outputs, and so are the offers
+pub record AreSquare (lists : List Waiting) (buffers : List Buffered) (offers : ℕ) : Type 0 where
+  pub few : length lists ≤ 64
+  pub as_many : length buffers ≡ length lists
+  pub offered : offers ≡ length lists
+  pub outputs : All (λ list. list.outputs ≡ length lists) lists

@@ -1,0 +1,90 @@
+//! How the outputs send.
+ghost use Rattle.std.specs.Prelude.{◌≡◌, ◌+◌, ◌-◌, ◌<◌, ◌≤◌, ◌^◌, ◌++◌, ℕ, Some, is_some, if◌then◌else◌, length, map, max, slice_get};
+ghost use Rattle.std.specs.List.{enumerate_from, list_any};
+ghost use Rattle.cq_base.specs.declared.figures.OutputFigures.{OutputFigures};
+ghost use Rattle.cq_ideal.specs.IdealSlot.{all_told, departures_in, fronts, rests};
+ghost use Rattle.cq_laws.specs.Phases.{came_to};
+ghost use Rattle.cq_engine.specs.Measuring.{output_counted};
+
+use crate::measure::count_outputs;
+use crate::queues::Queues;
+use crate::ranks::Ranks;
+use cq_base::{Departure, Figures, Port, Queued, Room, Slot};
+use cq_rank::Rank;
+
+// Whether any output sent a cell.
+fn any_sent(gone: &[Option<Queued>]) -> bool
+    ensures { result ≡ list_any is_some gone.now }
+{
+    gone.iter().any(|queued| queued.is_some())
+}
+
+// The cells that left are put at the end of what was sent.
+fn send(slot: Slot, gone: &[Option<Queued>], sent: &mut Room<Departure>)
+    requires few { length gone.now ≤ 64 }
+    requires room { length gone.now ≤ sent.old.spare }
+    ensures items { sent.new.items ≡ sent.old.items ++ departures_in slot gone.now }
+    ensures spare { sent.new.spare + length (departures_in slot gone.now) ≡ sent.old.spare }
+{
+    'outputs: for output in 0..gone.len() {
+        if let Some(queued) = gone[output] {
+            sent.push(Departure {
+                slot,
+                output: output as Port,
+                queued,
+            });
+        }
+    }
+}
+
+// What was seen of the outputs, with a slot more.
+fn count_departures(figures: &mut Figures, slot: Slot, gone: &[Option<Queued>])
+    requires early { slot < 2 ^ 64 - 1 }
+    requires ports { length figures.old.outputs ≡ length gone.now }
+    requires counts { (j : ℕ) (x : OutputFigures) → slice_get figures.old.outputs j ≡ Some x → x.cells < 2 ^ 64 - 1 }
+    ensures slots { figures.new.slots ≡ (if list_any is_some gone.now then max figures.old.slots (slot + 1) else figures.old.slots) }
+    ensures outputs { figures.new.outputs ≡ map (λ at. output_counted slot (came_to gone.now at.0) at.1) (enumerate_from 0 figures.old.outputs) }
+    ensures inputs { figures.new.inputs ≡ figures.old.inputs }
+    ensures proposals { figures.new.proposals ≡ figures.old.proposals }
+    ensures most { figures.new.most ≡ figures.old.most }
+{
+    count_outputs(&mut figures.outputs, slot, gone);
+    if any_sent(gone) {
+        figures.slots = figures.slots.max(slot + 1);
+    }
+}
+
+/// Each output sends the first cell of its buffer, or is idle. Its machine is told, and it is counted.
+pub fn depart<R: Rank>(
+    ranks: &mut Ranks<R>,
+    queues: &mut Queues,
+    figures: &mut Figures,
+    slot: Slot,
+    sent: &mut Room<Departure>,
+)
+    requires early { slot < 2 ^ 64 - 1 }
+    requires machines { length ranks.old.fixed ≡ length queues.old.inputs }
+    requires sent { length queues.old.inputs ≤ sent.old.spare }
+    requires outputs { length figures.old.outputs ≡ length queues.old.inputs }
+    requires counts { (j : ℕ) (x : OutputFigures) → slice_get figures.old.outputs j ≡ Some x → x.cells < 2 ^ 64 - 1 }
+    ensures fixed { ranks.new.fixed ≡ ranks.old.fixed }
+    ensures ranks { ranks.new.states ≡ all_told (map R.machine ranks.old.fixed) (fronts queues.old.buffers) ranks.old.states }
+    ensures inputs { queues.new.inputs ≡ queues.old.inputs }
+    ensures buffers { queues.new.buffers ≡ rests queues.old.buffers }
+    ensures from_inputs { queues.new.from_inputs ≡ queues.old.from_inputs }
+    ensures to_outputs { queues.new.to_outputs ≡ queues.old.to_outputs }
+    ensures sent { sent.new.items ≡ sent.old.items ++ departures_in slot (fronts queues.old.buffers) }
+    ensures sent_room { sent.new.spare + length (departures_in slot (fronts queues.old.buffers)) ≡ sent.old.spare }
+    ensures slots { figures.new.slots ≡ (if list_any is_some (fronts queues.old.buffers) then max figures.old.slots (slot + 1) else figures.old.slots) }
+    ensures output_figures { figures.new.outputs ≡ map (λ at. output_counted slot (came_to (fronts queues.old.buffers) at.0) at.1) (enumerate_from 0 figures.old.outputs) }
+    ensures input_figures { figures.new.inputs ≡ figures.old.inputs }
+    ensures proposals { figures.new.proposals ≡ figures.old.proposals }
+    ensures most { figures.new.most ≡ figures.old.most }
+{
+    let ports = queues.ports() as usize;
+    let places = queues.depart();
+    let gone = &places[..ports];
+    ranks.tell(gone);
+    send(slot, gone, sent);
+    count_departures(figures, slot, gone);
+}

@@ -1,0 +1,220 @@
+//! The engine: a fabric, slot by slot.
+ghost use Rattle.std.specs.Prelude.{◌≡◌, ◌↔◌, ◌+◌, ◌-◌, ◌*◌, ◌^◌, ◌<◌, ◌≤◌, ◌++◌, IsTrue, false, is_err, IfOk, OnOk, OnErr, [], length, map, max};
+ghost use Rattle.cq_rank.specs.Switch.{AreForOneSwitch, class_count};
+ghost use Rattle.cq_ideal.specs.Ranking.{AreForPorts, ranking};
+ghost use Rattle.cq_laws.specs.Fabric.{empty_fabric, IsEmptyFabric};
+ghost use Rattle.cq_laws.specs.Measures.{no_figures};
+ghost use Rattle.cq_engine.specs.Engine.{HaveBufferRoom, HaveListRoom, SlotDone, answer_to, ports_of};
+
+use crate::depart::depart;
+use crate::measure::count_inputs;
+use crate::queues::Queues;
+use crate::ranks::Ranks;
+use cq_base::{
+    Arrivals, Departure, Figures, InputFigures, NoMemory, OutputFigures, Room, Sequence, Slot,
+    TagFault, Transfer,
+};
+use cq_pair::Order;
+use cq_rank::Rank;
+use std::alloc::Global;
+use std::marker::Model;
+
+/// A fabric, which keeps up with an ideal switch (Chuang, Goel, McKeown and Prabhakar 1999). In a slot the
+/// arriving cells are ranked and go into the lists of their inputs, a matching is transferred, each output
+/// sends the most urgent cell of its buffer, and a second matching is transferred. Both matchings are the
+/// ones that are best for the inputs.
+///
+/// Contracts see the numbers that give the rank machines, the fabric, how many cells each list and each
+/// buffer can hold, the figures, the next slot, and whether the engine is stopped.
+#[derive(Drop)]
+pub struct Engine<R: Rank> {
+    ranks: Ranks<R>,
+    queues: Queues,
+    figures: Figures,
+    next: Slot,
+    stopped: bool,
+}
+
+impl<R: Rank> Model for Engine<R> {
+    ghost use Rattle.std.specs.Prelude.{◌≡◌, false, map};
+    ghost use Rattle.cq_engine.specs.Engine.{EngineView, KeepsUp};
+    ghost use Rattle.cq_engine.specs.Parts.{fabric_of};
+
+    ghost Value = { EngineView };
+
+    ghost view = { λ a. record {
+      fixed = a.ranks.fixed;
+      fabric = fabric_of a.queues a.ranks.states;
+      from_inputs = a.queues.from_inputs;
+      to_outputs = a.queues.to_outputs;
+      figures = a.figures;
+      next = a.next;
+      stopped = a.stopped;
+    } };
+
+    ghost invariant = { λ a. a.stopped ≡ false → KeepsUp (map R.machine a.ranks.fixed) a.next a.figures (fabric_of a.queues a.ranks.states) };
+}
+
+// Nothing was seen yet of so many inputs and outputs.
+fn no_figures(alloc: Global, ports: usize) -> Result<Figures, NoMemory>
+    ensures { IfOk result (λ figures. figures ≡ no_figures ports) }
+{
+    let mut inputs = Vec::new(alloc);
+    inputs.resize(
+        ports,
+        InputFigures {
+            cells: 0,
+            longest: 0,
+            slack: None,
+        },
+    )?;
+    let mut outputs = Vec::new(alloc);
+    outputs.resize(
+        ports,
+        OutputFigures {
+            cells: 0,
+            wait: None,
+        },
+    )?;
+    Ok(Figures {
+        slots: 0,
+        proposals: 0,
+        most: 0,
+        inputs: Sequence::of(inputs),
+        outputs: Sequence::of(outputs),
+    })
+}
+
+// Adds the proposals of the two phases of a slot.
+fn count_proposals(figures: &mut Figures, first: u64, second: u64)
+    requires { figures.old.proposals + (first + second) < 2 ^ 64 }
+    ensures proposals { figures.new.proposals ≡ figures.old.proposals + (first + second) }
+    ensures most { figures.new.most ≡ max figures.old.most (max first second) }
+    ensures slots { figures.new.slots ≡ figures.old.slots }
+    ensures inputs { figures.new.inputs ≡ figures.old.inputs }
+    ensures outputs { figures.new.outputs ≡ figures.old.outputs }
+{
+    figures.proposals += first + second;
+    figures.most = figures.most.max(first.max(second));
+}
+
+impl<R: Rank> Engine<R> {
+    /// An engine with an input and an output for each rank, which is not stopped. No cell waits, list i has
+    /// room for `from_inputs[i]` cells and buffer j for `to_outputs[j]`, nothing was counted, and the next
+    /// slot is 0. All memory that a slot needs is taken here. The error is want of memory.
+    pub fn new(
+        alloc: Global,
+        ranks: Vec<R>,
+        from_inputs: &[u64],
+        to_outputs: &[u64],
+    ) -> Result<Engine<R>, NoMemory>
+        requires machines { AreForOneSwitch (map R.machine (map R.fixed ranks.items)) }
+        requires from_inputs { length from_inputs.now ≡ length ranks.items }
+        requires to_outputs { length to_outputs.now ≡ length ranks.items }
+        ensures fixed { IfOk result (λ engine. engine.fixed ≡ map R.fixed ranks.items) }
+        ensures fabric { IfOk result (λ engine. engine.fabric ≡ empty_fabric (length ranks.items) (map R.state ranks.items)) }
+        ensures from_inputs { IfOk result (λ engine. engine.from_inputs ≡ from_inputs.now) }
+        ensures to_outputs { IfOk result (λ engine. engine.to_outputs ≡ to_outputs.now) }
+        ensures figures { IfOk result (λ engine. engine.figures ≡ no_figures (length ranks.items)) }
+        ensures next { IfOk result (λ engine. engine.next ≡ 0) }
+        ensures stopped { IfOk result (λ engine. engine.stopped ≡ false) }
+    {
+        Ok(Engine {
+            queues: Queues::new(alloc, from_inputs, to_outputs)?,
+            figures: no_figures(alloc, from_inputs.len())?,
+            ranks: Ranks::of(ranks),
+            next: 0,
+            stopped: false,
+        })
+    }
+
+    /// One slot: the cells arrive, the input-best matching is transferred, each output sends or is idle, and
+    /// the input-best matching is transferred again. The departures are put at the end of `sent`, in order
+    /// of output, and the transfers at the end of `note`, phase by phase and in order of input. The slot is
+    /// added to the figures. `order` says who proposes next where a matching is found, and changes nothing
+    /// of what is found. It takes no memory.
+    ///
+    /// The error is the first rank, in order of input, that does not fit 128 bits. Then `sent`, `note`, the
+    /// figures, the lists and the buffers are as before, and the engine is stopped.
+    pub fn slot<O: Order>(
+        &mut self,
+        slot: Slot,
+        arrivals: &Arrivals,
+        order: &mut O,
+        sent: &mut Room<Departure>,
+        note: &mut Room<Transfer>,
+    ) -> Result<(), TagFault>
+        requires running { self.old.stopped ≡ false }
+        requires next { slot ≡ self.old.next }
+        requires early { slot < 2 ^ 64 - 1 }
+        requires arrivals { AreForPorts (ports_of self.old) (class_count (map R.machine self.old.fixed)) arrivals.now }
+        requires list_room { HaveListRoom arrivals.now self.old }
+        requires buffer_room { HaveBufferRoom arrivals.now self.old }
+        requires sent { ports_of self.old ≤ sent.old.spare }
+        requires note { 2 * ports_of self.old ≤ note.old.spare }
+        requires proposals { self.old.figures.proposals + 2 * (ports_of self.old * ports_of self.old) < 2 ^ 64 }
+        ensures answer { result ≡ answer_to (ranking (map R.machine self.old.fixed) slot 0 arrivals.now self.old.fabric.ranks) }
+        ensures slot { OnOk result (SlotDone (map R.machine self.old.fixed) slot arrivals.now self.old self.new sent.old sent.new note.old note.new) }
+        ensures next { OnOk result (self.new.next ≡ slot + 1) }
+        ensures fixed { self.new.fixed ≡ self.old.fixed }
+        ensures from_inputs { self.new.from_inputs ≡ self.old.from_inputs }
+        ensures to_outputs { self.new.to_outputs ≡ self.old.to_outputs }
+        ensures stopped { self.new.stopped ≡ is_err result }
+        ensures unsent { OnErr result (sent.new ≡ sent.old) }
+        ensures unnoted { OnErr result (note.new ≡ note.old) }
+        ensures uncounted { OnErr result (self.new.figures ≡ self.old.figures) }
+        ensures lists_stay { OnErr result (self.new.fabric.inputs ≡ self.old.fabric.inputs) }
+        ensures buffers_stay { OnErr result (self.new.fabric.buffers ≡ self.old.fabric.buffers) }
+        ensures next_stays { OnErr result (self.new.next ≡ self.old.next) }
+    {
+        let came = match self.ranks.take(slot, arrivals) {
+            Ok(came) => came,
+            Err(fault) => {
+                self.stopped = true;
+                return Err(fault);
+            }
+        };
+        self.queues.arrive(&came);
+        count_inputs(&mut self.figures.inputs, &self.queues, &came);
+        let first = self.queues.cross(order, slot, 1, note);
+        depart(
+            &mut self.ranks,
+            &mut self.queues,
+            &mut self.figures,
+            slot,
+            sent,
+        );
+        let second = self.queues.cross(order, slot, 2, note);
+        count_proposals(&mut self.figures, first.proposals, second.proposals);
+        self.next = slot + 1;
+        Ok(())
+    }
+
+    /// Whether a slot had a tag fault. No slot follows it.
+    pub fn stopped(&self) -> bool
+        ensures { result ≡ self.now.stopped }
+    {
+        self.stopped
+    }
+
+    /// Whether no cell waits, at an input or at an output.
+    pub fn empty(&self) -> bool
+        ensures { IsTrue result ↔ IsEmptyFabric self.now.fabric }
+    {
+        self.queues.are_empty()
+    }
+
+    /// The slot that comes next.
+    pub fn next(&self) -> Slot
+        ensures { result ≡ self.now.next }
+    {
+        self.next
+    }
+
+    /// What was seen of the slots so far.
+    pub fn figures(&self) -> &Figures
+        ensures { result.now ≡ self.now.figures }
+    {
+        &self.figures
+    }
+}

@@ -1,0 +1,127 @@
+//! The figures of a run, slot by slot.
+ghost use Rattle.std.specs.Prelude.{◌≡◌, ℕ, ◌+◌, ◌-◌, ◌<◌, ◌≤◌, ◌^◌, Option, length, map, max, min, slice_get, Some, is_some, if◌then◌else◌};
+ghost use Rattle.std.specs.List.{enumerate_from};
+ghost use Rattle.cq_base.specs.declared.cell.Queued.{Queued};
+ghost use Rattle.cq_base.specs.declared.figures.InputFigures.{InputFigures as OfInput};
+ghost use Rattle.cq_base.specs.declared.figures.OutputFigures.{OutputFigures as OfOutput};
+ghost use Rattle.cq_laws.specs.Measures.{either_by};
+ghost use Rattle.cq_laws.specs.Phases.{came_to};
+ghost use Rattle.cq_engine.specs.Measuring.{arriving_slack, input_counted, output_counted, wait_of};
+
+use crate::queues::Queues;
+use cq_base::{InputFigures, OutputFigures, Queued, Sequence, Slot};
+
+// The lesser of two numbers, of which each may be none.
+fn lesser(a: Option<u64>, b: Option<u64>) -> Option<u64>
+    ensures { result ≡ either_by min a b }
+{
+    match (a, b) {
+        (None, b) => b,
+        (Some(a), None) => Some(a),
+        (Some(a), Some(b)) => Some(a.min(b)),
+    }
+}
+
+// The greater of two numbers, of which each may be none.
+fn greater(a: Option<u64>, b: Option<u64>) -> Option<u64>
+    ensures { result ≡ either_by max a b }
+{
+    match (a, b) {
+        (None, b) => b,
+        (Some(a), None) => Some(a),
+        (Some(a), Some(b)) => Some(a.max(b)),
+    }
+}
+
+// The slack of the cell that came to an input, if one did.
+fn slack_of(queues: &Queues, input: usize, came: Option<Queued>) -> Option<u64>
+    requires input { input < length queues.now.inputs }
+    requires output { (c : Queued) → came ≡ Some c → c.cell.output < length queues.now.inputs }
+    ensures { result ≡ arriving_slack queues.now input came }
+{
+    match came {
+        None => None,
+        Some(queued) => Some(queues.slack_of(input, &queued)),
+    }
+}
+
+// How many cells there are: one or none.
+fn count_of(queued: Option<Queued>) -> u64
+    ensures { result ≡ (if is_some queued then 1 else 0) }
+{
+    match queued {
+        None => 0,
+        Some(_) => 1,
+    }
+}
+
+// What was seen of an input, with a slot more.
+#[tactic(auto, unfolding(crate::specs::Measuring::input_counted))]
+fn input_counted(
+    figures: InputFigures,
+    queues: &Queues,
+    input: usize,
+    came: Option<Queued>,
+) -> InputFigures
+    requires input { input < length queues.now.inputs }
+    requires output { (c : Queued) → came ≡ Some c → c.cell.output < length queues.now.inputs }
+    requires count { figures.cells < 2 ^ 64 - 1 }
+    ensures { result ≡ input_counted queues.now input came figures }
+{
+    InputFigures {
+        cells: figures.cells + count_of(came),
+        longest: figures.longest.max(queues.len_of(input)),
+        slack: lesser(figures.slack, slack_of(queues, input, came)),
+    }
+}
+
+// How long the cell that left had waited, if one left.
+fn wait_of(slot: Slot, gone: Option<Queued>) -> Option<u64>
+    ensures { result ≡ wait_of slot gone }
+{
+    match gone {
+        None => None,
+        Some(queued) => Some(slot.saturating_sub(queued.key.slot)),
+    }
+}
+
+// What was seen of an output, with a slot more.
+#[tactic(auto, unfolding(crate::specs::Measuring::output_counted))]
+fn output_counted(figures: OutputFigures, slot: Slot, gone: Option<Queued>) -> OutputFigures
+    requires { figures.cells < 2 ^ 64 - 1 }
+    ensures { result ≡ output_counted slot gone figures }
+{
+    OutputFigures {
+        cells: figures.cells + count_of(gone),
+        wait: greater(figures.wait, wait_of(slot, gone)),
+    }
+}
+
+/// Adds the cells that came to the inputs to what was seen of them, once they stand in their lists.
+pub fn count_inputs(
+    inputs: &mut Sequence<InputFigures>,
+    queues: &Queues,
+    came: &[Option<Queued>; 64],
+)
+    requires ports { length inputs.old ≡ length queues.now.inputs }
+    requires outputs { (i : ℕ) (c : Queued) → came_to came.now i ≡ Some c → c.cell.output < length queues.now.inputs }
+    requires counts { (i : ℕ) (x : OfInput) → slice_get inputs.old i ≡ Some x → x.cells < 2 ^ 64 - 1 }
+    ensures { inputs.new ≡ map (λ at. input_counted queues.now at.0 (came_to came.now at.0) at.1) (enumerate_from 0 inputs.old) }
+{
+    'inputs: for input in 0..queues.ports() as usize {
+        let counted = input_counted(inputs.as_slice()[input], queues, input, came[input]);
+        inputs.set(input, counted);
+    }
+}
+
+/// Adds the cells that left the outputs to what was seen of them.
+pub fn count_outputs(outputs: &mut Sequence<OutputFigures>, slot: Slot, gone: &[Option<Queued>])
+    requires ports { length outputs.old ≡ length gone.now }
+    requires counts { (j : ℕ) (x : OfOutput) → slice_get outputs.old j ≡ Some x → x.cells < 2 ^ 64 - 1 }
+    ensures { outputs.new ≡ map (λ at. output_counted slot (came_to gone.now at.0) at.1) (enumerate_from 0 outputs.old) }
+{
+    'outputs: for output in 0..gone.len() {
+        let counted = output_counted(outputs.as_slice()[output], slot, gone[output]);
+        outputs.set(output, counted);
+    }
+}

@@ -1,0 +1,153 @@
+//! The rank machines of all outputs.
+ghost use Rattle.std.specs.Prelude.{◌≡◌, ◌↔◌, ◌+◌, ◌<◌, ◌≤◌, ◌^◌, ◌∷◌, List, Option, Ok, Err, IfErr, IfOk, IsErr, OnErr, OnOk, length, map, replicate, slice_index_or, slice_set, []};
+ghost use Rattle.cq_base.specs.declared.cell.Cell.{Cell};
+ghost use Rattle.cq_rank.specs.Machine.{machine_at, told};
+ghost use Rattle.cq_rank.specs.Switch.{AreForOneSwitch, class_count};
+ghost use Rattle.cq_ideal.specs.IdealSlot.{all_told};
+ghost use Rattle.cq_ideal.specs.Ranking.{AreForPorts, after_input, keyed, ranking};
+ghost use Rattle.cq_engine.specs.Parts.{rank_at, given_at};
+
+use crate::queues::nobody;
+use cq_base::{Arrivals, Cell, Class, Key, Port, Queued, Slot, TagFault};
+use cq_rank::{Rank, TagOverflow};
+use std::marker::Model;
+
+/// Per output what ranks its cells. Contracts see the numbers that give the machines, and their states.
+#[derive(Drop)]
+pub struct Ranks<R: Rank> {
+    ranks: Vec<R>,
+}
+
+impl<R: Rank> Model for Ranks<R> {
+    ghost use Rattle.std.specs.Prelude.{map};
+    ghost use Rattle.cq_engine.specs.Parts.{Machines};
+
+    ghost Value = { Machines };
+
+    ghost view = { λ a. record { fixed = map R.fixed a.ranks.items; states = map R.state a.ranks.items } };
+}
+
+// What a machine is told at the end of a slot.
+fn tell<R: Rank>(rank: &mut R, gone: Option<Queued>)
+    ensures fixed { R.fixed rank.new ≡ R.fixed rank.old }
+    ensures state { R.state rank.new ≡ told (R.machine (R.fixed rank.old)) (R.state rank.old) gone }
+{
+    match gone {
+        Some(queued) => rank.sent(queued.key.rank),
+        None => rank.idle(),
+    }
+}
+
+impl<R: Rank> Ranks<R> {
+    /// One for each output, in order.
+    pub fn of(ranks: Vec<R>) -> Ranks<R>
+        ensures fixed { result.fixed ≡ map R.fixed ranks.items }
+        ensures states { result.states ≡ map R.state ranks.items }
+    {
+        Ranks { ranks }
+    }
+
+    // How many machines there are.
+    fn len(&self) -> usize
+        ensures value { result ≡ length self.now.fixed }
+        ensures states { length self.now.states ≡ length self.now.fixed }
+    {
+        self.ranks.len()
+    }
+
+    // The rank of a cell of the class that arrives for an output, whose machine then knows of it.
+    fn rank(&mut self, output: Port, class: Class) -> Result<u128, TagOverflow>
+        requires output { output < length self.old.fixed }
+        requires class { class < (machine_at (map R.machine self.old.fixed) output).classes }
+        ensures fixed { self.new.fixed ≡ self.old.fixed }
+        ensures rank { IfOk result (λ rank. rank ≡ rank_at (map R.machine self.old.fixed) self.old.states output class) }
+        ensures given { OnOk result (self.new.states ≡ given_at (map R.machine self.old.fixed) self.old.states output class) }
+        ensures refused { OnErr result (self.new.states ≡ self.old.states) }
+        ensures overflow { IsErr result ↔ (2 ^ 128 ≤ rank_at (map R.machine self.old.fixed) self.old.states output class) }
+    {
+        self.ranks[output as usize].rank(class)
+    }
+
+    // A cell arrives for an output. It gets its rank of the output's machine.
+    fn keyed(&mut self, slot: Slot, input: Port, cell: Cell) -> Result<Queued, TagFault>
+        requires output { cell.output < length self.old.fixed }
+        requires class { cell.class < (machine_at (map R.machine self.old.fixed) cell.output).classes }
+        ensures fixed { self.new.fixed ≡ self.old.fixed }
+        ensures keyed { IfOk result (λ q. q ≡ keyed cell (rank_at (map R.machine self.old.fixed) self.old.states cell.output cell.class) slot input) }
+        ensures given { OnOk result (self.new.states ≡ given_at (map R.machine self.old.fixed) self.old.states cell.output cell.class) }
+        ensures fault { IfErr result (λ fault. fault ≡ record { slot = slot; input = input; output = cell.output }) }
+        ensures overflow { IsErr result ↔ (2 ^ 128 ≤ rank_at (map R.machine self.old.fixed) self.old.states cell.output cell.class) }
+    {
+        match self.rank(cell.output, cell.class) {
+            Err(_) => Err(TagFault {
+                slot,
+                input,
+                output: cell.output,
+            }),
+            Ok(rank) => Ok(Queued {
+                cell,
+                key: Key { rank, slot, input },
+            }),
+        }
+    }
+
+    // What comes to an input is ranked, if it is a cell.
+    fn came(
+        &mut self,
+        slot: Slot,
+        input: Port,
+        cell: Option<Cell>,
+    ) -> Result<Option<Queued>, TagFault>
+        requires output { (c : Cell) → cell ≡ Some c → c.output < length self.old.fixed }
+        requires class { (c : Cell) → cell ≡ Some c → c.class < (machine_at (map R.machine self.old.fixed) c.output).classes }
+        ensures fixed { self.new.fixed ≡ self.old.fixed }
+        ensures came { IfOk result (λ came. (cells : List (Option Cell)) → ranking (map R.machine self.old.fixed) slot input (cell ∷ cells) self.old.states ≡ after_input came (ranking (map R.machine self.old.fixed) slot (input + 1) cells self.new.states)) }
+        ensures fault { IfErr result (λ fault. (cells : List (Option Cell)) → ranking (map R.machine self.old.fixed) slot input (cell ∷ cells) self.old.states ≡ Err fault) }
+    {
+        match cell {
+            None => Ok(None),
+            Some(cell) => Ok(Some(self.keyed(slot, input, cell)?)),
+        }
+    }
+
+    /// The cells that arrive in a slot are ranked in order of input, each by its output's machine. The error
+    /// is the first rank that does not fit 128 bits.
+    pub fn take(
+        &mut self,
+        slot: Slot,
+        arrivals: &Arrivals,
+    ) -> Result<[Option<Queued>; 64], TagFault>
+        requires machines { AreForOneSwitch (map R.machine self.old.fixed) }
+        requires arrivals { AreForPorts (length self.old.fixed) (class_count (map R.machine self.old.fixed)) arrivals.now }
+        ensures fixed { self.new.fixed ≡ self.old.fixed }
+        ensures came { IfOk result (λ came. ranking (map R.machine self.old.fixed) slot 0 arrivals.now self.old.states ≡ Ok (record { came = came; ranks = self.new.states })) }
+        ensures fault { IfErr result (λ fault. ranking (map R.machine self.old.fixed) slot 0 arrivals.now self.old.states ≡ Err fault) }
+    {
+        let mut came = nobody();
+        'inputs: for input in 0..64 {
+            came[input as usize] = self.came(slot, input, arrivals.at(input))?;
+        }
+        Ok(came)
+    }
+
+    // The output sent this cell in the slot that ends, or nothing.
+    fn told(&mut self, output: Port, gone: Option<Queued>)
+        requires { output < length self.old.fixed }
+        ensures fixed { self.new.fixed ≡ self.old.fixed }
+        ensures states { self.new.states ≡ slice_set self.old.states output (told (machine_at (map R.machine self.old.fixed) output) (slice_index_or self.old.states output []) gone) }
+    {
+        tell(&mut self.ranks[output as usize], gone);
+    }
+
+    /// The outputs sent these cells in the slot that ends, or nothing.
+    pub fn tell(&mut self, gone: &[Option<Queued>])
+        requires few { length gone.now ≤ 64 }
+        requires outputs { length gone.now ≡ length self.old.fixed }
+        ensures fixed { self.new.fixed ≡ self.old.fixed }
+        ensures states { self.new.states ≡ all_told (map R.machine self.old.fixed) gone.now self.old.states }
+    {
+        'outputs: for output in 0..self.len() {
+            self.told(output as Port, gone[output]);
+        }
+    }
+}
