@@ -16,19 +16,12 @@ import statistics
 import subprocess
 import sys
 import tempfile
-import time
 
-ROOT = os.path.dirname(os.path.dirname(os.path.realpath(__file__)))
+from measuring import built_program, model, processor, run
+
 SEED = 1
 BYTES = 60_000_000  # the program takes at most 67,108,864
 MOST_MEMORY = 4
-
-
-def model():
-    """The plain model of the examples."""
-    sys.path.insert(0, os.path.join(ROOT, "examples"))
-    import model
-    return model
 
 
 def make(captured_name, written_name):
@@ -47,31 +40,6 @@ def make(captured_name, written_name):
         capture.write(rules.captured(packets))
     with open(written_name, "wb") as capture:
         capture.write(rules.written(rules.passed(packets)))
-
-
-def run(words):
-    """The seconds and the peak memory, in bytes, of a command that is to end with status 0."""
-    start = time.perf_counter()
-    child = os.posix_spawnp(words[0], words, os.environ)
-    _, status, used = os.wait4(child, 0)
-    seconds = time.perf_counter() - start
-    if status != 0:
-        sys.exit("%s did not end with status 0" % " ".join(words))
-    return seconds, used.ru_maxrss * 1024
-
-
-def processor():
-    with open("/proc/cpuinfo", encoding="utf-8") as lines:
-        names = [line.split(":", 1)[1].strip() for line in lines if line.startswith("model name")]
-    return "%s, %d processors" % (names[0] if names else "unknown", os.cpu_count())
-
-
-def built_program():
-    """The built program itself, so that the launcher's own time is not measured."""
-    launcher = os.path.join(ROOT, "cq_switch")
-    example = os.path.join(ROOT, "examples", "one-port", "in.pcap")
-    subprocess.run([launcher, "pass", example, os.devnull], check=True)
-    return os.path.join(ROOT, "crates", "cq_switch", "out", "cq_switch")
 
 
 def measure(program, runs, folder):
