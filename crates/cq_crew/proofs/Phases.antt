@@ -1,0 +1,32 @@
+-- What closing a ledger says of the phase.
+use Rattle.std.proofs.Common.{◌≡◌, ◌*◌, ◌≤◌, sym, ◌∙◌, ap, arith, subst}
+use Rattle.cq_prefs.specs.Orders.{Orders, AreOffers, ports}
+use Rattle.cq_prefs.specs.Pairing.{Partners, IsInputBest, proposals}
+use Rattle.cq_prefs.specs.declared.outcome.Phase.{Phase}
+use Rattle.cq_ledger.specs.Plays.{IsFew}
+use Rattle.cq_ledger.specs.Seats.{LedgerState, SeatState, IsSeatOf}
+use Rattle.cq_pair.specs.Progress.{Progress, IsReached}
+use Rattle.cq_pair.proofs.Reached.{made-most}
+use Rattle.cq_crew.specs.Settling.{IsBestPhase}
+
+pub best-closed : (o : Orders) (l : LedgerState) (s : SeatState) (phase : Phase) → l.offers ≡ o → IsSeatOf l s → IsFew s.view → IsInputBest l.offers phase.matching → phase.proposals ≡ proposals l.offers phase.matching → phase.proposals ≡ s.view.made →
+    IsBestPhase o phase
+best-closed o l s phase same of few is_best counted made =
+    let P : Orders → Type 0 = λ x. s.view.made ≤ ports x * ports x in
+    let Q : Orders → Type 0 = λ x. IsInputBest x phase.matching in
+    let most : s.view.made ≤ ports o * ports o = subst P (of.offers ∙ same) few in
+    record {
+      best = subst Q same is_best;
+      count = counted ∙ ap (λ (x : Orders). proposals x phase.matching) same;
+      few = omega arith;
+    }
+
+pub best-settled : (o : Orders) → AreOffers o → (c : Progress) (phase : Phase) → phase.matching ≡ c.matching → phase.proposals ≡ c.made → IsReached o c → IsInputBest o c.matching → c.made ≡ proposals o c.matching → IsBestPhase o phase
+best-settled o v c phase matching made reached is_best counted =
+    let most = made-most o v c reached in
+    let Q : Partners → Type 0 = λ m. IsInputBest o m in
+    record {
+      best = subst Q (sym matching) is_best;
+      count = made ∙ counted ∙ ap (proposals o) (sym matching);
+      few = omega arith;
+    }

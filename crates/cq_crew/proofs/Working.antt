@@ -1,0 +1,152 @@
+-- What claims, proposals and joins do to what a seat has claimed and seen: nothing of it is ever lost.
+use Rattle.std.proofs.Common.{ℕ, ◌≡◌, ◌≢◌, ◌⊎◌, inl, inr, ◌+◌, ◌-◌, ◌*◌, ◌<◌, ◌≤◌, ◌^◌, Option, Some, None, refl, sym, ◌∙◌, ap, arith, subst}
+use Rattle.std.specs.Prelude.{IsSome, option_map}
+use Rattle.std.proofs.lemmas.Bool.{cases_lt, cases_eq}
+use Rattle.cq_prefs.specs.Orders.{Orders, ports}
+use Rattle.cq_prefs.specs.declared.outcome.Outcome.{Outcome}
+use Rattle.cq_ledger.specs.declared.view.View.{View}
+use Rattle.cq_ledger.specs.Plays.{IsFew}
+use Rattle.cq_ledger.specs.Seats.{LedgerState, SeatState, IsSeatOf, IsProposed}
+use Rattle.cq_ledger.specs.Steps.{claim_refused, claim_taken, joined}
+use Rattle.cq_ledger.specs.Views.{bit, HasClaimed}
+use Rattle.cq_ledger.proofs.Views.{bit-or_same, bit-left}
+use Rattle.cq_crew.specs.Work.{HasTried, HaveTried, ProposesFor, Grows, IsIdleAfter, HasWorked}
+
+-- ## Views that grow
+
+pub grows-same : (v : View) → Grows v v
+grows-same v = record { claims = λ i h. h; seen = λ i h. h; made = omega arith }
+
+pub grows-after : (u v w : View) → Grows u v → Grows v w → Grows u w
+grows-after u v w a b =
+    record {
+      claims = λ i h. b.claims i (a.claims i h);
+      seen = λ i h. b.seen i (a.seen i h);
+      made = let x = a.made in let y = b.made in omega arith;
+    }
+
+pub grows-proposing : (v w : View) → ProposesFor v w → Grows v w
+grows-proposing v w p =
+    record {
+      claims = λ i h. ap (λ (n : ℕ). bit n i) p.claims ∙ h;
+      seen = λ i h. ap (λ (n : ℕ). bit n i) p.seen ∙ h;
+      made = p.made;
+    }
+
+pub grows-taken : (v : View) (i : ℕ) → Grows v (claim_taken v i)
+grows-taken v i = record { claims = λ q h. bit-left v.claims (2 ^ i) q h; seen = λ q h. h; made = omega arith }
+
+pub grows-refused : (v : View) (i : ℕ) → Grows v (claim_refused v i)
+grows-refused v i = record { claims = λ q h. h; seen = λ q h. bit-left v.seen (2 ^ i) q h; made = omega arith }
+
+pub grows-joined : (v w : View) → Grows v (joined v w)
+grows-joined v w = record { claims = λ q h. bit-left v.claims w.claims q h; seen = λ q h. bit-left v.seen w.seen q h; made = omega arith }
+
+-- ## What was tried
+
+pub tried-grown : (v w : View) → Grows v w → (i : ℕ) → HasTried v i → HasTried w i
+tried-grown v w g i (inl h) = inl (g.claims i h)
+tried-grown v w g i (inr h) = inr (g.seen i h)
+
+-- one input more
+pub tried-next : (v w : View) (k n : ℕ) → Grows v w → HaveTried v k n → HasTried w n → HaveTried w k (n + 1)
+tried-next v w k n g before here i low high = go (cases_eq i n)
+  where
+    go : (i ≡ n) ⊎ (i ≢ n) → HasTried w i
+    go (inl e) = let P : ℕ → Type 0 = λ m. HasTried w m in subst P (sym e) here
+    go (inr d) = tried-grown v w g i (before i low (let h : i < n + 1 = high in let e : i ≢ n = d in omega arith))
+
+-- upwards from a number, and then up to it
+pub tried-around : (v w : View) (k n : ℕ) → Grows v w → HaveTried v k n → HaveTried w 0 k → HaveTried w 0 n
+tried-around v w k n g above below i low high = go (cases_lt i k)
+  where
+    go : (i < k) ⊎ (k ≤ i) → HasTried w i
+    go (inl l) = below i low l
+    go (inr m) = tried-grown v w g i (above i m high)
+
+-- ## Seats with an empty hand
+
+pub idle-after : (l : LedgerState) (u : View) (s t : SeatState) → IsIdleAfter l u s → IsIdleAfter l s.view t → IsIdleAfter l u t
+idle-after l u s t a b = record { seat = b.seat; hand = b.hand; grows = grows-after u s.view t.view a.grows b.grows }
+
+-- a claim that found the input unclaimed, and the proposals after it
+pub idle-taken : (l : LedgerState) (v u : View) (s : SeatState) (i : ℕ) → u ≡ claim_taken v i → IsSeatOf l s → s.view.hand ≡ None → ProposesFor u s.view → IsIdleAfter l v s × HasTried s.view i
+idle-taken l v u s i is of empty proposes =
+    let P : View → Type 0 = λ x. Grows v x in
+    let Q : View → Type 0 = λ x. HasTried x i in
+    let first : Grows v u = subst P (sym is) (grows-taken v i) in
+    let rest : Grows u s.view = grows-proposing u s.view proposes in
+    let here : HasTried u i = subst Q (sym is) (inl (bit-or_same v.claims i)) in
+    (record { seat = of; hand = empty; grows = grows-after v u s.view first rest }, tried-grown u s.view rest i here)
+
+-- a claim that found it claimed
+pub idle-refused : (l : LedgerState) (v : View) (s : SeatState) (i : ℕ) → v.hand ≡ None → s.view ≡ claim_refused v i → IsSeatOf l s → IsIdleAfter l v s × HasTried s.view i
+idle-refused l v s i empty is of =
+    let P : View → Type 0 = λ x. Grows v x in
+    let Q : View → Type 0 = λ x. HasTried x i in
+    (record { seat = of; hand = ap (λ (x : View). x.hand) is ∙ empty; grows = subst P (sym is) (grows-refused v i) }, subst Q (sym is) (inr (bit-or_same v.seen i)))
+
+-- a join of another seat
+pub idle-joined : (l : LedgerState) (v w : View) (s t : SeatState) → IsIdleAfter l v s → IsSeatOf l t → t.view ≡ joined s.view w → IsIdleAfter l v t
+idle-joined l v w s t a of is =
+    let P : View → Type 0 = λ x. Grows s.view x in
+    record { seat = of; hand = ap (λ (x : View). x.hand) is; grows = grows-after v s.view t.view a.grows (subst P (sym is) (grows-joined s.view w)) }
+
+pub tried-joined : (v w x : View) (n : ℕ) → x ≡ joined v w → HaveTried v 0 n → HaveTried x 0 n
+tried-joined v w x n is tried i low high =
+    let P : View → Type 0 = λ y. HasTried y i in
+    subst P (sym is) (tried-grown v (joined v w) (grows-joined v w) i (tried i low high))
+
+-- both halves of the inputs
+pub worked : (l : LedgerState) (u : View) (s t : SeatState) (k n : ℕ) → n ≡ ports l.offers → IsIdleAfter l u s → HaveTried s.view k n → IsIdleAfter l s.view t → HaveTried t.view 0 k → HasWorked l u t
+worked l u s t k n is a above b below =
+    let P : ℕ → Type 0 = λ m. HaveTried t.view 0 m in
+    record { idle = idle-after l u s t a b; tried = subst P is (tried-around s.view t.view k n b.grows above below) }
+
+pub worked-joined : (l : LedgerState) (v w : View) (s t : SeatState) → HasWorked l v s → IsSeatOf l t → t.view ≡ joined s.view w → HasWorked l v t
+worked-joined l v w s t a of is = record { idle = idle-joined l v w s t a.idle of is; tried = tried-joined s.view w t.view (ports l.offers) is a.tried }
+
+-- one claimed input more
+pub claimed-next : (v : View) (n : ℕ) → ((i : ℕ) → i < n → HasClaimed v i) → HasClaimed v n → (i : ℕ) → i < n + 1 → HasClaimed v i
+claimed-next v n before here i high = go (cases_eq i n)
+  where
+    go : (i ≡ n) ⊎ (i ≢ n) → HasClaimed v i
+    go (inl e) = let P : ℕ → Type 0 = λ m. HasClaimed v m in subst P (sym e) here
+    go (inr d) = before i (let h : i < n + 1 = high in let e : i ≢ n = d in omega arith)
+
+-- ## Proposals
+
+-- a hand shows an input where it has one
+pub hand-some : (hand : Option (ℕ × ℕ)) (shown : Option ℕ) (input : ℕ) → shown ≡ option_map (λ (h : ℕ × ℕ). h.0) hand → shown ≡ Some input → IsSome hand
+hand-some None shown input e f = absurd (let g : None ≡ Some input = sym e ∙ f in let P : ⊥ = cc in P)
+hand-some (Some h) shown input e f = refl
+
+pub hand-none : (hand : Option (ℕ × ℕ)) (shown : Option ℕ) → shown ≡ option_map (λ (h : ℕ × ℕ). h.0) hand → shown ≡ None → hand ≡ None
+hand-none None shown e f = refl
+hand-none (Some h) shown e f = absurd (let g : Some h.0 ≡ None = sym e ∙ f in let P : ⊥ = cc in P)
+
+pub proposes-same : (v : View) → ProposesFor v v
+proposes-same v = record { claims = refl; seen = refl; made = omega arith }
+
+pub proposes-next : (u v w : View) (answer : Outcome) → ProposesFor u v → IsSome v.hand → ((i p : ℕ) → v.hand ≡ Some (i, p) → IsProposed v i p answer w) → ProposesFor u w
+proposes-next u v w answer before some is = go v.hand refl some
+  where
+    go : (hand : Option (ℕ × ℕ)) → v.hand ≡ hand → IsSome hand → ProposesFor u w
+    go None e s = absurd (let P : ⊥ = cc in P)
+    go (Some (i, p)) e s =
+        let view = (is i p e).view in
+        let made : w.made ≡ v.made + 1 = ap (λ (x : View). x.made) view in
+        record {
+          claims = ap (λ (x : View). x.claims) view ∙ before.claims;
+          seen = ap (λ (x : View). x.seen) view ∙ before.seen;
+          made = let m = before.made in omega arith;
+        }
+
+-- fewer proposals are left
+less_left : (most a b : ℕ) → b ≡ a + 1 → b ≤ most → most - b < most - a
+less_left most a b e h = omega arith
+
+pub proposals-left : (l : LedgerState) (s t : SeatState) → IsSeatOf l t → t.view.made ≡ s.view.made + 1 → IsFew t.view → ports l.offers * ports l.offers - t.view.made < ports l.offers * ports l.offers - s.view.made
+proposals-left l s t of made few =
+    let P : Orders → Type 0 = λ o. t.view.made ≤ ports o * ports o in
+    less_left (ports l.offers * ports l.offers) s.view.made t.view.made made (subst P of.offers few)

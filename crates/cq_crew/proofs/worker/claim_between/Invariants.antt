@@ -1,0 +1,6 @@
+use Rattle.cq_crew.specs.Work.{HaveTried, IsIdleAfter}
+use Rattle.cq_crew.proofs.worker.claim_between.Given as goal
+
+-- the inputs before this one were tried
+abbrev pub invariant-inputs : goal.invariant-inputs
+invariant-inputs g l = IsIdleAfter l.ledger l.initial.seat.view l.seat × HaveTried l.seat.view l.from l.input

@@ -1,0 +1,16 @@
+use Rattle.cq_crew.proofs.Working.{hand-some, proposes-same, proposes-next, proposals-left}
+use Rattle.cq_crew.proofs.worker.propose_all.Goals as goal
+
+pub proposals-init : goal.proposals-init
+proposals-init g c = (c.requires, proposes-same c.args.seat.now.view)
+
+pub propose-outcome-requires-clause-hand : goal.propose-outcome-requires-clause-hand
+propose-outcome-requires-clause-hand g c = hand-some c.proposals.seat.view.hand c.hand.result c.in-Some.input c.hand.ensures.input c.in-Some.is
+
+pub proposals-preserved : goal.proposals-preserved
+proposals-preserved g c =
+    let some = hand-some c.proposals.seat.view.hand c.hand.result c.in-Some.input c.hand.ensures.input c.in-Some.is in
+    (c.propose-outcome.ensures.seat, proposes-next _ c.proposals.seat.view c.propose-outcome.new.seat.view c.propose-outcome.result c.proposals.invariant.1 some c.propose-outcome.ensures.proposed)
+
+pub proposals-smaller : goal.proposals-smaller
+proposals-smaller g c = proposals-left c.args.ledger.now c.proposals.seat c.propose-outcome.new.seat c.propose-outcome.ensures.seat c.propose-outcome.ensures.made c.propose-outcome.ensures.few

@@ -1,0 +1,108 @@
+//! One phase, by as many workers as are asked for and of use.
+ghost use Rattle.std.specs.Prelude.{◌≡◌, ◌≤◌, ◌↔◌, IfSome, IsTrue, length};
+ghost use Rattle.cq_prefs.specs.Orders.{ports};
+ghost use Rattle.cq_pair.specs.FreeInputs.{inputs_with_offers};
+ghost use Rattle.cq_ledger.specs.Seats.{HasClaimedAll};
+ghost use Rattle.cq_crew.specs.Settling.{IsBestPhase, IsShared, phase_of, workers_used};
+
+use crate::crew::work_all;
+use crate::gate::Gate;
+use crate::settled::Settled;
+use cq_ledger::{Closed, Ledger, LedgerSeat, Phase};
+use cq_pair::{Core, LowestFirst};
+use cq_prefs::Offers;
+use std::alloc::Global;
+use std::thread::Threads;
+
+/// Finds the matching that is best for the inputs (Gale and Shapley 1962), by no more workers than are asked for
+/// and no more than there are inputs with an offer. The phase does not depend on how many they are, on the gate,
+/// or on who comes first. There is no refusal.
+///
+/// Two workers or more share a ledger. Worker w tries to claim the inputs from w upwards and then from 0 up to w,
+/// and each claim and each proposal is told to the gate. Fewer than two, or too little memory for a ledger, and
+/// one thread settles the phase alone, with nothing told.
+pub fn pair_phase<R: Threads + Sync, G: Gate>(
+    rt: &R,
+    alloc: Global,
+    offers: &Offers,
+    workers: u16,
+    gate: &G,
+) -> Settled
+    requires some { 1 ≤ workers }
+    requires few { workers ≤ 64 }
+    ensures phase { IsBestPhase offers.now (phase_of result) }
+    ensures shared { IsShared result → 2 ≤ workers_used offers.now workers }
+{
+    let used = workers.min(count_offering(offers));
+    if used >= 2 {
+        if let Some(closed) = settle_shared(rt, alloc, offers, used, gate) {
+            return Settled::Shared(closed);
+        }
+    }
+    Settled::Alone(settle_alone(offers))
+}
+
+// How many inputs have an offer.
+fn count_offering(offers: &Offers) -> u16
+    ensures count { result ≡ length (inputs_with_offers offers.now (ports offers.now)) }
+    ensures few { result ≤ ports offers.now }
+{
+    let mut count = 0;
+    'inputs: for input in 0..offers.ports() {
+        if !offers.outputs_of(input).is_empty() {
+            count += 1;
+        }
+    }
+    count
+}
+
+// The phase by one thread, in which the least free input proposes.
+fn settle_alone(offers: &Offers) -> Phase
+    ensures { IsBestPhase offers.now result }
+{
+    let _ports = offers.ports();
+    let mut core = Core::begin(offers);
+    core.settle(offers, &mut LowestFirst);
+    Phase {
+        matching: core.matching(),
+        proposals: core.made(),
+    }
+}
+
+// The phase by so many workers, or None where there is no memory for their ledger, or an input is left that none
+// of them claimed.
+fn settle_shared<R: Threads + Sync, G: Gate>(
+    rt: &R,
+    alloc: Global,
+    offers: &Offers,
+    workers: u16,
+    gate: &G,
+) -> Option<Closed>
+    requires some { 1 ≤ workers }
+    requires few { workers ≤ ports offers.now }
+    ensures { IfSome result (IsBestPhase offers.now) }
+{
+    let inputs = offers.ports();
+    let Ok((ledger, seat)) = Ledger::start(alloc, offers) else {
+        return None;
+    };
+    let seat = work_all(rt, &ledger, seat, 0, workers, inputs, gate);
+    if !has_claimed_all(&seat, inputs) {
+        return None;
+    }
+    let _made = seat.made();
+    Some(ledger.close(seat))
+}
+
+// Whether a seat has claimed every port.
+fn has_claimed_all(seat: &LedgerSeat, inputs: u16) -> bool
+    requires { inputs ≡ ports seat.now.view.offers }
+    ensures { IsTrue result ↔ HasClaimedAll seat.now }
+{
+    'claims: for input in 0..inputs {
+        if !seat.claimed(input) {
+            return false;
+        }
+    }
+    true
+}

@@ -1,0 +1,186 @@
+//! Worked examples by one worker and by several, and two workers who wait for each other.
+ghost use Rattle.std.specs.Prelude.{◌≡◌, ◌+◌, ◌<◌, ◌≤◌, length, IfOk};
+ghost use Rattle.cq_base.specs.Cells.{ArrivedBefore};
+
+use crate::meeting::Meeting;
+use crate::{OpenGate, Settled, pair_phase};
+use cq_base::{Cell, CellId, Key, Port, Queued};
+use cq_list::InputList;
+use cq_prefs::{Matching, Offers};
+use std::alloc::Global;
+use std::test::Fail;
+use std::thread::Threads;
+
+// A cell of an input for an output, with a rank, that arrived in a slot.
+fn waiting(input: Port, output: Port, rank: u16, slot: u16) -> Queued
+    ensures output { result.cell.output ≡ output }
+    ensures slot { result.key.slot ≡ slot }
+{
+    Queued {
+        cell: Cell {
+            id: CellId {
+                input,
+                packet: 0,
+                index: slot as u32,
+            },
+            output,
+            class: 0,
+            last: true,
+            at: 0,
+            len: 64,
+        },
+        key: Key {
+            rank: rank as u128,
+            slot: slot as u64,
+            input,
+        },
+    }
+}
+
+// The newest cell goes in, with cushion 64.
+#[tactic(auto, using(cq_base::proofs::Lists::other_key_newest, cq_base::proofs::Lists::ahead_of_end, cq_base::proofs::Lists::arrived_newest))]
+fn arrive(list: &mut InputList, queued: Queued)
+    requires spare { 0 < list.old.spare }
+    requires short { length list.old.cells ≤ 64 }
+    requires in_range { queued.cell.output < list.old.outputs }
+    requires newest { ArrivedBefore queued.key.slot list.old.cells }
+    ensures len { length list.new.cells ≡ length list.old.cells + 1 }
+    ensures spare { list.new.spare + 1 ≡ list.old.spare }
+    ensures outputs { list.new.outputs ≡ list.old.outputs }
+    ensures arrived { ArrivedBefore (queued.key.slot + 1) list.new.cells }
+{
+    list.insert(queued, 64);
+}
+
+// The list of an input, with cells of one rank for all outputs in order of number.
+fn list_for_all(alloc: Global, input: Port, outputs: u16, rank: u16) -> Result<InputList, Fail>
+    requires { outputs ≤ 64 }
+    ensures { IfOk result (λ list. list.outputs ≡ outputs) }
+{
+    let mut list = InputList::new(alloc, outputs, outputs as u64)?;
+    'cells: for output in 0..outputs {
+        arrive(&mut list, waiting(input, output, rank, output));
+    }
+    Ok(list)
+}
+
+// Each input prefers the outputs from the first to the last, and each output the inputs from the last to the first.
+fn opposed_offers(alloc: Global, ports: u16) -> Result<Offers, Fail>
+    requires { ports ≤ 64 }
+{
+    let mut lists = Vec::new(alloc);
+    'lists: for input in 0..ports {
+        lists.push(list_for_all(alloc, input, ports, ports - 1 - input)?)?;
+    }
+    let mut offers = Offers::new(alloc, ports)?;
+    offers.fill(&lists);
+    Ok(offers)
+}
+
+// The list of an input of two, with one cell for the output of its own number.
+fn list_for_one(alloc: Global, input: Port) -> Result<InputList, Fail>
+    requires { input < 2 }
+    ensures { IfOk result (λ list. list.outputs ≡ 2) }
+{
+    let mut list = InputList::new(alloc, 2, 1)?;
+    arrive(&mut list, waiting(input, input, 0, 0));
+    Ok(list)
+}
+
+// Two inputs, each with an offer to the output of its own number.
+fn offers_apart(alloc: Global) -> Result<Offers, Fail> {
+    let lists = [list_for_one(alloc, 0)?, list_for_one(alloc, 1)?];
+    let mut offers = Offers::new(alloc, 2)?;
+    offers.fill(&lists);
+    Ok(offers)
+}
+
+// The partners of all inputs, in order of number.
+fn partners(alloc: Global, matching: &Matching) -> Result<Vec<Option<Port>>, Fail> {
+    let mut partners = Vec::new(alloc);
+    'inputs: for input in 0..matching.ports() {
+        partners.push(matching.partner_of(input))?;
+    }
+    Ok(partners)
+}
+
+// The outputs from the last to the first.
+fn last_to_first(alloc: Global, ports: u16) -> Result<Vec<Option<Port>>, Fail> {
+    let mut outputs = Vec::new(alloc);
+    'outputs: for output in 0..ports {
+        outputs.push(Some(ports - 1 - output))?;
+    }
+    Ok(outputs)
+}
+
+fn is_shared(settled: &Settled) -> bool {
+    match settled {
+        Settled::Shared(_) => true,
+        Settled::Alone(_) => false,
+    }
+}
+
+// Whether workers shared the phase, the partners, and the number of proposals.
+fn settled_by<R: Threads + Sync>(
+    rt: &R,
+    alloc: Global,
+    offers: &Offers,
+    workers: u16,
+) -> Result<(bool, Vec<Option<Port>>, u64), Fail>
+    requires some { 1 ≤ workers }
+    requires few { workers ≤ 64 }
+{
+    let settled = pair_phase(rt, alloc, offers, workers, &OpenGate);
+    let phase = settled.phase();
+    Ok((
+        is_shared(&settled),
+        partners(alloc, &phase.matching)?,
+        phase.proposals,
+    ))
+}
+
+#[test]
+fn any_number_of_workers_comes_to_the_same(rt: HostRuntime) -> Result<(), Fail> {
+    for (ports, proposals) in [(2u16, 3u64), (3, 6), (64, 2080)] {
+        let offers = opposed_offers(rt.alloc(), ports)?;
+        for workers in [1u16, 2, 64] {
+            let settled = settled_by(&rt, rt.alloc(), &offers, workers)?;
+            let outputs = last_to_first(rt.alloc(), ports)?;
+            assert_eq!(rt;
+                settled,
+                (workers > 1, outputs, proposals),
+                "{ports} ports, {workers} workers"
+            );
+        }
+    }
+    Ok(())
+}
+
+#[test]
+fn without_offers_there_is_nothing_to_share(rt: HostRuntime) -> Result<(), Fail> {
+    let offers = Offers::new(rt.alloc(), 3)?;
+    let (shared, partners, proposals) = settled_by(&rt, rt.alloc(), &offers, 64)?;
+    assert_eq!(rt; partners.as_slice(), [None; 3].as_slice());
+    assert!(rt; !shared && proposals == 0);
+    Ok(())
+}
+
+#[test]
+fn two_workers_meet(rt: HostRuntime) -> Result<(), Fail> {
+    let offers = offers_apart(rt.alloc())?;
+    let gate = Meeting::new();
+    let settled = pair_phase(&rt, rt.alloc(), &offers, 2, &gate);
+    let phase = settled.phase();
+    let [zero, one] = gate.proposals();
+    assert_eq!(rt; gate.in_vain(), 0);
+    assert_eq!(rt; gate.miscounted(), 0);
+    assert!(rt; zero > 0 && one > 0);
+    assert_eq!(rt; zero.wrapping_add(one), phase.proposals);
+    assert_eq!(rt; phase.proposals, 2);
+    assert_eq!(rt;
+        partners(rt.alloc(), &phase.matching)?.as_slice(),
+        [Some(0), Some(1)].as_slice()
+    );
+    assert!(rt; is_shared(&settled));
+    Ok(())
+}

@@ -1,0 +1,78 @@
+//! One worker's work on its seat.
+ghost use Rattle.std.specs.Prelude.{◌≡◌, ◌<◌, ◌≤◌, None};
+ghost use Rattle.cq_prefs.specs.Orders.{ports};
+ghost use Rattle.cq_ledger.specs.Seats.{IsSeatOf};
+ghost use Rattle.cq_crew.specs.Work.{HasTried, HasWorked, HaveTried, IsIdleAfter, ProposesFor};
+
+use crate::gate::Gate;
+use cq_base::Port;
+use cq_ledger::{Ledger, LedgerSeat};
+
+// Tries to claim every input, its own number first and then upwards and around, and after each claim that
+// succeeds proposes until the hand is empty.
+pub(crate) fn work<G: Gate>(
+    ledger: &Ledger,
+    mut seat: LedgerSeat,
+    worker: u16,
+    inputs: u16,
+    gate: &G,
+) -> LedgerSeat
+    requires seat { IsSeatOf ledger.now seat }
+    requires hand { seat.view.hand ≡ None }
+    requires worker { worker ≤ inputs }
+    requires inputs { inputs ≡ ports ledger.now.offers }
+    ensures { HasWorked ledger.now seat.view result }
+{
+    claim_between(ledger, &mut seat, worker, worker, inputs, gate);
+    claim_between(ledger, &mut seat, worker, 0, worker, gate);
+    seat
+}
+
+// Tries to claim the inputs from one number up to another.
+fn claim_between<G: Gate>(
+    ledger: &Ledger,
+    seat: &mut LedgerSeat,
+    worker: u16,
+    from: Port,
+    to: Port,
+    gate: &G,
+)
+    requires seat { IsSeatOf ledger.now seat.old }
+    requires hand { seat.old.view.hand ≡ None }
+    requires order { from ≤ to }
+    requires to { to ≤ ports ledger.now.offers }
+    ensures idle { IsIdleAfter ledger.now seat.old.view seat.new }
+    ensures tried { HaveTried seat.new.view from to }
+{
+    'inputs: for input in from..to {
+        claim_one(ledger, seat, worker, input, gate);
+    }
+}
+
+// Tries to claim an input, and proposes until the hand is empty where it was unclaimed.
+fn claim_one<G: Gate>(ledger: &Ledger, seat: &mut LedgerSeat, worker: u16, input: Port, gate: &G)
+    requires seat { IsSeatOf ledger.now seat.old }
+    requires hand { seat.old.view.hand ≡ None }
+    requires input { input < ports ledger.now.offers }
+    ensures idle { IsIdleAfter ledger.now seat.old.view seat.new }
+    ensures tried { HasTried seat.new.view input }
+{
+    if !ledger.claim(seat, input) {
+        return;
+    }
+    gate.claimed(worker, input);
+    propose_all(ledger, seat, worker, gate);
+}
+
+// Proposes until the hand is empty.
+fn propose_all<G: Gate>(ledger: &Ledger, seat: &mut LedgerSeat, worker: u16, gate: &G)
+    requires { IsSeatOf ledger.now seat.old }
+    ensures seat { IsSeatOf ledger.now seat.new }
+    ensures hand { seat.new.view.hand ≡ None }
+    ensures proposes { ProposesFor seat.old.view seat.new.view }
+{
+    'proposals: while let Some(input) = seat.hand() {
+        let outcome = ledger.propose(seat);
+        gate.proposed(worker, input, outcome, seat);
+    }
+}
