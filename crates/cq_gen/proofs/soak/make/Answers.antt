@@ -1,0 +1,29 @@
+use Rattle.std.proofs.Common.{ap, sym, subst, ◌∙◌, arith}
+use Rattle.std.proofs.lemmas.Nat.{mul-le}
+use Rattle.cq_route.specs.declared.tables.Tables.{Tables}
+use Rattle.cq_route.specs.Tables.{AreTables, ports_of}
+use Rattle.cq_gen.proofs.InRange.{tables_in_range, tables_ports}
+use Rattle.cq_gen.proofs.Made.{captures_count, captures_lengths, captures_made, captures_of_draws}
+use Rattle.cq_gen.proofs.soak.make.Goals as goal
+
+pub overflow_mul-slots : goal.overflow_mul-slots
+overflow_mul-slots c = omega (arith, mul-le c.args.slots c.args.ports 20000 64 c.requires.slots.1 c.requires.ports.1)
+
+pub returns-clause-in_range : goal.returns-clause-in_range
+returns-clause-in_range c = subst AreTables (sym c.in_ok-tables.ensures) (tables_in_range c.args.ports c.requires.ports)
+
+pub returns-clause-ports : goal.returns-clause-ports
+returns-clause-ports c = ap (λ (t : Tables). ports_of t.setup) c.in_ok-tables.ensures ∙ tables_ports c.args.ports
+
+pub returns-clause-captures : goal.returns-clause-captures
+returns-clause-captures c =
+    captures_made c.args.seed c.args.ports c.args.slots _
+    (captures_of_draws c.args.ports c.args.slots _ _ _ (c.as_slice.ensures.value ∙ c.in_ok-words.ensures.words) c.in_ok-captures.ensures)
+
+pub returns-clause-inputs : goal.returns-clause-inputs
+returns-clause-inputs c =
+    captures_count c.args.ports c.args.slots _ _ _ (c.as_slice.ensures.value ∙ c.in_ok-words.ensures.words) c.in_ok-captures.ensures
+
+pub returns-clause-packets : goal.returns-clause-packets
+returns-clause-packets c =
+    captures_lengths c.args.ports c.args.slots _ _ _ (c.as_slice.ensures.value ∙ c.in_ok-words.ensures.words) c.in_ok-captures.ensures

@@ -1,0 +1,6 @@
+use Rattle.std.proofs.Common.{◌≡◌, replicate}
+use Rattle.cq_gen.specs.Tables.{soak_port}
+use Rattle.cq_gen.proofs.tables.port_rows.Given as goal
+
+abbrev pub invariant-ports : goal.invariant-ports
+invariant-ports l = l.rows.items ≡ replicate l.port soak_port

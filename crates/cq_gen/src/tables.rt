@@ -1,0 +1,117 @@
+// The tables of the switch.
+ghost use Rattle.std.specs.Prelude.{◌≡◌, ◌≤◌, map, replicate, IfOk};
+ghost use Rattle.std.specs.List.{range_with_len};
+ghost use Rattle.cq_gen.specs.Tables.{soak_address, soak_class, soak_kind, soak_port, soak_rule, soak_setup, soak_tables};
+
+use cq_base::{ClassRow, Kind, Name, NoMemory, Port, Sequence, Setup};
+use cq_route::{AddressRow, PortRow, RuleRow, Tables};
+use std::alloc::{AllocError, Global};
+
+// As many classes as a tag has priorities.
+const CLASSES: u8 = 8;
+
+/// The tables of a switch with so many ports. The error is want of memory.
+#[tactic(auto, unfolding(crate::specs::Tables::soak_tables))]
+pub fn soak_tables(alloc: Global, ports: Port) -> Result<Tables, NoMemory>
+    requires { ports ≤ 64 }
+    ensures { IfOk result (λ tables. tables ≡ soak_tables ports) }
+{
+    Ok(Tables {
+        cell_bytes: 64,
+        slot_ns: 512,
+        limit_bytes: 67_108_864,
+        workers: 2,
+        default_output: 0,
+        default_class: 0,
+        trace: Name::of(alloc, "")?,
+        log: Name::of(alloc, "")?,
+        setup: soak_setup(alloc, ports)?,
+        ports: Sequence::of(port_rows(alloc, ports)?),
+        addresses: Sequence::of(addresses(alloc, ports)?),
+        rules: Sequence::of(rules(alloc)?),
+    })
+}
+
+fn soak_setup(alloc: Global, ports: Port) -> Result<Setup, NoMemory>
+    ensures { IfOk result (λ setup. setup ≡ soak_setup ports) }
+{
+    Ok(Setup {
+        classes: Sequence::of(classes(alloc)?),
+        kinds: Sequence::of(kinds(alloc, ports)?),
+    })
+}
+
+// The classes, the least urgent first.
+fn classes(alloc: Global) -> Result<Vec<ClassRow>, NoMemory>
+    ensures { IfOk result (λ rows. rows.items ≡ map soak_class (range_with_len 0 8)) }
+{
+    let mut rows = Vec::with_capacity(alloc, CLASSES as usize)?;
+    'classes: for class in 0..CLASSES {
+        rows.push(ClassRow {
+            priority: u128::from(CLASSES - 1 - class),
+            cost: u128::from(1 + class),
+        })?;
+    }
+    Ok(rows)
+}
+
+fn kind_of(output: Port) -> Kind
+    ensures { result ≡ soak_kind output }
+{
+    match output % 3 {
+        0 => Kind::FirstCome,
+        1 => Kind::Priority,
+        _ => Kind::Fair,
+    }
+}
+
+// The disciplines of the outputs, in order.
+fn kinds(alloc: Global, ports: Port) -> Result<Vec<Kind>, AllocError>
+    ensures { IfOk result (λ kinds. kinds.items ≡ map soak_kind (range_with_len 0 ports)) }
+{
+    (0..ports).map(|output| kind_of(output)).collect(alloc)
+}
+
+// The ports, none of which has a file.
+fn port_rows(alloc: Global, ports: Port) -> Result<Vec<PortRow>, NoMemory>
+    ensures { IfOk result (λ rows. rows.items ≡ replicate ports soak_port) }
+{
+    let mut rows = Vec::with_capacity(alloc, ports as usize)?;
+    'ports: for port in 0..ports {
+        let row = PortRow {
+            read: None,
+            write: Name::of(alloc, "")?,
+        };
+        rows.push(row)?;
+    }
+    Ok(rows)
+}
+
+// The address of each output.
+fn addresses(alloc: Global, ports: Port) -> Result<Vec<AddressRow>, NoMemory>
+    requires { ports ≤ 64 }
+    ensures { IfOk result (λ rows. rows.items ≡ map soak_address (range_with_len 0 ports)) }
+{
+    let mut rows = Vec::with_capacity(alloc, ports as usize)?;
+    'outputs: for output in 0..ports {
+        rows.push(AddressRow {
+            mac: [0x02, 0, 0, 0, 0, output as u8],
+            output,
+        })?;
+    }
+    Ok(rows)
+}
+
+// A rule for each priority.
+fn rules(alloc: Global) -> Result<Vec<RuleRow>, AllocError>
+    ensures { IfOk result (λ rules. rules.items ≡ map soak_rule (range_with_len 0 8)) }
+{
+    let rule = |class: u8| RuleRow {
+        input: None,
+        pcp: Some(class),
+        ether_type: None,
+        dscp: None,
+        class: u16::from(class),
+    };
+    (0..CLASSES).map(rule).collect(alloc)
+}
