@@ -1,0 +1,5 @@
+pub mod Places
+pub mod Forms
+pub mod Plain
+pub mod Splitting
+pub mod Bare

@@ -1,0 +1,68 @@
+-- The command line as `clap` is told of it, and the command in what `clap` finds.
+use Rattle.std.specs.Prelude.{◌≡◌, ℕ, true, false, List, if◌then◌else◌, Option, Some, None, codes, option_and_then}
+use Rattle.std.specs.Str.{bytes_eq}
+use Rattle.clap.specs.Simple.{App, app_of, new_app, new_rule, on_top, with_rule, with_subcommand}
+use Rattle.clap.specs.declared.builder.command.Command.{Command as Parser}
+use Rattle.clap.specs.declared.builder.command.Command.TheViews.{out-Command}
+use Rattle.clap.specs.Walk.{Row, Rule, first_of}
+use Rattle.cq_words.specs.Words.{numbered, with_config}
+use Rattle.cq_words.specs.declared.command.Command.{Command}
+use Rattle.cq_words.specs.declared.command.Command.TheVariants.{Pass}
+
+-- a value that the words must give
+abbrev pub value_rule : List ℕ → Rule
+value_rule name = record (new_rule name) { required = true }
+
+-- the words stand alone, without the program's name, and `clap` adds no forms of its own
+abbrev pub bare_line : App
+bare_line = on_top (λ top. record top {
+  no_binary_name = true;
+  disable_help_flag = true;
+  disable_help_subcommand = true;
+}) (new_app (codes "cq_switch"))
+
+-- `pass IN OUT`
+abbrev pub pass_form : App
+pass_form = with_rule (with_rule (new_app (codes "pass")) (value_rule (codes "IN"))) (value_rule (codes "OUT"))
+
+-- `check CONFIG`, `ideal CONFIG` or `run CONFIG`
+abbrev pub config_form : List ℕ → App
+config_form word = with_rule (new_app word) (value_rule (codes "CONFIG"))
+
+-- `soak SEED PORTS SLOTS`
+abbrev pub soak_form : App
+soak_form =
+    with_rule (with_rule (with_rule (new_app (codes "soak")) (value_rule (codes "SEED"))) (value_rule (codes "PORTS"))) (value_rule (codes "SLOTS"))
+
+-- a form is added as a subcommand
+abbrev pub with_form : App → App → App
+with_form line form = with_subcommand line form.top
+
+-- the whole line: one subcommand a form
+abbrev pub line : App
+line = with_form (with_form (with_form (with_form (with_form bare_line pass_form) (config_form (codes "check"))) (config_form (codes "ideal"))) (config_form (codes "run"))) soak_form
+
+-- the command of `clap` is this form, and no value of it stands for other forms
+abbrev pub IsForm : App → Parser → Type 0
+IsForm form command = (app_of command ≡ form) × ((out-Command command).has_globals ≡ false)
+
+-- the command of IN and OUT, where there are both
+abbrev pub captures_in : Option (List ℕ) → Option (List ℕ) → Option Command
+captures_in (Some from) (Some to) = Some (Pass from to)
+captures_in _ _ = None
+
+-- the command of SEED, PORTS and SLOTS, where there are all
+abbrev pub numbers_in : Option (List ℕ) → Option (List ℕ) → Option (List ℕ) → Option Command
+numbers_in (Some seed) (Some ports) (Some slots) = numbered seed ports slots
+numbers_in _ _ _ = None
+
+-- the command of a subcommand's word, with the values that `clap` found under their names
+abbrev pub command_in : List ℕ → List Row → Option Command
+command_in word rows =
+    if bytes_eq word (codes "pass") then captures_in (first_of (codes "IN") rows) (first_of (codes "OUT") rows)
+    else if bytes_eq word (codes "soak") then numbers_in (first_of (codes "SEED") rows) (first_of (codes "PORTS") rows) (first_of (codes "SLOTS") rows)
+    else option_and_then (with_config word) (first_of (codes "CONFIG") rows)
+
+-- the command of what `clap` found
+abbrev pub command_found : Option (List ℕ × List Row) → Option Command
+command_found = option_and_then (λ found. command_in found.0 found.1)

@@ -1,0 +1,16 @@
+//! The words of the program's command line, and which command they are.
+//!
+//! Words are judged by a grammar of five forms, in `specs/Words.antt`. What is no command is answered
+//! by None, and nothing of it is parsed. The words of a command are split into its values by `clap`,
+//! and the numbers among them are read here. `proofs/Splitting.antt` shows that `clap` refuses no
+//! command and hands out the words as they are, so want of memory is the only error.
+#![tactic(auto)]
+
+mod command;
+mod judge;
+mod number;
+mod split;
+#[cfg(test)]
+mod tests;
+
+pub use command::{Command, command_of};

@@ -1,0 +1,124 @@
+//! Words, each with the command that they are.
+use crate::{Command, command_of};
+use std::alloc::Global;
+use std::test::Fail;
+
+/// What words, parted by blanks, are told as.
+fn said_of(alloc: Global, line: &str) -> Result<String, Fail> {
+    let mut words: Vec<String> = Vec::new(alloc);
+    for word in line.split_ascii_whitespace() {
+        words.push(String::from_str(alloc, word)?)?;
+    }
+    match command_of(alloc, words.as_slice())? {
+        None => Ok(String::from_str(alloc, "none")?),
+        Some(Command::Pass { from, to }) => {
+            let (from, to) = (from.text(), to.text());
+            Ok(format!(in alloc; "from {from} to {to}")?)
+        }
+        Some(Command::Check { config }) => {
+            let config = config.text();
+            Ok(format!(in alloc; "checks {config}")?)
+        }
+        Some(Command::Ideal { config }) => {
+            let config = config.text();
+            Ok(format!(in alloc; "ideal of {config}")?)
+        }
+        Some(Command::Run { config }) => {
+            let config = config.text();
+            Ok(format!(in alloc; "runs {config}")?)
+        }
+        Some(Command::Soak { seed, ports, slots }) => {
+            Ok(format!(in alloc; "seed {seed}, {ports} ports, {slots} slots")?)
+        }
+    }
+}
+
+#[test]
+fn words_of_a_form_are_its_command(rt: HostRuntime) -> Result<(), Fail> {
+    let cases: [(&str, &str); 11] = [
+        ("pass a b", "from a to b"),
+        ("pass a a", "from a to a"),
+        ("check c.toml", "checks c.toml"),
+        ("ideal c.toml", "ideal of c.toml"),
+        ("run c.toml", "runs c.toml"),
+        ("run help", "runs help"),
+        ("run =", "runs ="),
+        ("soak 1 8 2000", "seed 1, 8 ports, 2000 slots"),
+        ("soak 0 64 20000", "seed 0, 64 ports, 20000 slots"),
+        (
+            "soak 18446744073709551615 1 1",
+            "seed 18446744073709551615, 1 ports, 1 slots",
+        ),
+        (
+            "soak 00000000000000000001 01 001",
+            "seed 1, 1 ports, 1 slots",
+        ),
+    ];
+    for (line, said) in cases {
+        let answer = said_of(rt.alloc(), line)?;
+        assert_eq!(rt; answer.as_str(), said, "{line}");
+    }
+    Ok(())
+}
+
+#[test]
+fn other_words_are_no_command(rt: HostRuntime) -> Result<(), Fail> {
+    let lines: [&str; 30] = [
+        "",
+        "run",
+        "run a b",
+        "run -",
+        "run -a",
+        "run --help",
+        "runs a",
+        "ru a",
+        "pass a",
+        "pass -a b",
+        "pass a -b",
+        "pass -- a b",
+        "pass a b c",
+        "check",
+        "check a b",
+        "ideal -",
+        "help",
+        "help run",
+        "--version",
+        "-h",
+        "soak",
+        "soak 1 8",
+        "soak 1 8 10 1",
+        "soak 1 65 10",
+        "soak 1 0 10",
+        "soak 1 8 0",
+        "soak 1 8 20001",
+        "soak +1 8 10",
+        "soak 1 8 1a",
+        "soak 1 8 000000000000000000010",
+    ];
+    for line in lines {
+        let answer = said_of(rt.alloc(), line)?;
+        assert_eq!(rt; answer.as_str(), "none", "{line}");
+    }
+    let wide: [&str; 3] = [
+        "soak 18446744073709551616 1 1",
+        "soak 99999999999999999999 1 1",
+        "soak 018446744073709551615 64 20000",
+    ];
+    for line in wide {
+        let answer = said_of(rt.alloc(), line)?;
+        assert_eq!(rt; answer.as_str(), "none", "{line}");
+    }
+    Ok(())
+}
+
+#[test]
+fn an_empty_word_is_no_value(rt: HostRuntime) -> Result<(), Fail> {
+    let alloc = rt.alloc();
+    let words = [
+        String::from_str(alloc, "run")?,
+        String::from_str(alloc, "")?,
+    ];
+    let command = command_of(alloc, words.as_slice())?;
+    assert!(rt; command.is_none());
+    Ok(())
+}
