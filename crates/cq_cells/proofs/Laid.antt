@@ -1,5 +1,5 @@
 -- A line is laid out: what each step of it adds, and what stands at its end.
-use Rattle.std.proofs.Common.{◌≡◌, ℕ, ◌+◌, ◌-◌, ◌/◌, ◌^◌, ◌<◌, ◌≤◌, max, List, [], length, map, not, slice_index_or, slice_get, IfSome, refl, ap, sym, ◌∙◌, subst, arith}
+use Rattle.std.proofs.Common.{◌≡◌, ℕ, ◌+◌, ◌-◌, ◌/◌, ◌^◌, ◌<◌, ◌≤◌, max, List, [], length, map, not, slice_index_or, refl, ap, sym, ◌∙◌, subst, arith}
 use Rattle.std.specs.List.{AllByRecursion, range_with_len}
 use Rattle.std.proofs.lemmas.List.{length-append}
 use Rattle.std.proofs.lemmas.List.Filters.{length-filter_both}
@@ -14,7 +14,8 @@ use Rattle.cq_cells.specs.Schedule.{cells_of, packets_of, packet_at, cells, star
 use Rattle.cq_cells.specs.Traffic.{IsRecorded, is_to, number_of}
 use Rattle.cq_cells.proofs.Owned.{end_of-append}
 use Rattle.cq_cells.proofs.Packets.{row_of, came_by, came_more, length_packet, end_packet, IsSoFar, few_by, early_by, is_row, line_is, rows_are}
-use Rattle.cq_cells.proofs.Stamps.{IsRowOf, row_is_of, at_packet}
+use Rattle.cq_cells.proofs.Routed.{way_is}
+use Rattle.cq_cells.proofs.Stamps.{IsRowOf, row_is_of}
 
 abbrev no_packet : Captured
 no_packet = record { stamp = 0; original = 0; body = [] }
@@ -27,16 +28,16 @@ pub recorded_is : (captures : List (List Captured)) (input : ℕ) (ps : List Cap
 recorded_is captures input ps same stamps small = subst (λ (qs : List Captured). IsRecorded qs) same (record { stamps = stamps; small = small })
 
 -- a row that is made of packet k is its row
-pub next_row : (t : Tables) (captures : List (List Captured)) (input k : ℕ) (ps : List Captured) (places : List PacketRow) (body : List ℕ) (row : Row) (origin free : ℕ) → ps ≡ packets_of captures input → places ≡ rows_from 24 ps → k < length ps → IfSome (slice_get ps k) (λ p. body ≡ p.body) → origin ≡ first_stamp captures → free ≡ end_of (came_by t captures input k) → row.start ≡ max (((slice_index_or places k no_place).stamp - origin) / t.slot_ns) free → row.cells ≡ cells_of (slice_index_or places k no_place).len t.cell_bytes → (row.output, row.class) ≡ route t input body → row.len ≡ (slice_index_or places k no_place).len → row ≡ row_of t captures input k
-next_row t captures input k ps places body row origin free same placed inside its from ended starts cut routed long =
+pub next_row : (t : Tables) (captures : List (List Captured)) (input k : ℕ) (ps : List Captured) (places : List PacketRow) (ways : List (ℕ × ℕ)) (row : Row) (origin free : ℕ) → ps ≡ packets_of captures input → places ≡ rows_from 24 ps → k < length ps → ways ≡ map (λ (p : Captured). route t input p.body) (packets_of captures input) → origin ≡ first_stamp captures → free ≡ end_of (came_by t captures input k) → row.start ≡ max (((slice_index_or places k no_place).stamp - origin) / t.slot_ns) free → row.cells ≡ cells_of (slice_index_or places k no_place).len t.cell_bytes → (row.output, row.class) ≡ slice_index_or ways k (0, 0) → row.len ≡ (slice_index_or places k no_place).len → row ≡ row_of t captures input k
+next_row t captures input k ps places ways row origin free same placed inside sent from ended starts cut routed long =
     let is : IsRowOf (slice_index_or ps k no_packet) (slice_index_or (rows_from 24 ps) k no_place) = row_is_of 24 ps k no_place no_packet inside in
     let here : slice_index_or ps k no_packet ≡ packet_at captures input k = ap (λ (qs : List Captured). slice_index_or qs k no_packet) same in
     let there : slice_index_or places k no_place ≡ slice_index_or (rows_from 24 ps) k no_place = ap (λ (rows : List PacketRow). slice_index_or rows k no_place) placed in
-    is_row t captures input k row origin free (slice_index_or places k no_place).stamp (slice_index_or places k no_place).len body from ended
+    let within : k < length (packets_of captures input) = omega (arith, ap (λ (qs : List Captured). length qs) same) in
+    is_row t captures input k row origin free (slice_index_or places k no_place).stamp (slice_index_or places k no_place).len from ended
     (ap (λ (r : PacketRow). r.stamp) there ∙ is.stamp ∙ ap (λ (p : Captured). p.stamp) here)
     (ap (λ (r : PacketRow). r.len) there ∙ is.len ∙ ap (λ (p : Captured). length p.body) here)
-    (at_packet (λ (p : Captured). body ≡ p.body) ps k no_packet inside its ∙ ap (λ (p : Captured). p.body) here)
-    starts cut routed long
+    starts cut (routed ∙ way_is t captures input k ways within sent) long
 
 pub filter_few : (j : ℕ) (came : List Arrival) → number_of (is_to j) came ≤ length came
 filter_few j came = omega (arith, length-filter_both (is_to j) (λ (a : Arrival). not (is_to j a)) (λ _. refl) came)

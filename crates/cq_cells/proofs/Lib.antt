@@ -1,5 +1,6 @@
 pub mod Pieces
 pub mod Ranges
+mod Routed
 pub mod Looked
 pub mod Stamps
 pub mod Owned

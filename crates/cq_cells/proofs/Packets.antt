@@ -192,13 +192,12 @@ early_by t captures input (suc k) r h =
     subst P (sym place) (omega (arith, length_packet t captures input k, end_packet t captures input k, start_by t captures input k))
 
 -- a row with these figures is that of packet k
-pub is_row : (t : Tables) (captures : List (List Captured)) (input k : ℕ) (row : Row) (origin free stamp len : ℕ) (body : List ℕ) → origin ≡ first_stamp captures → free ≡ end_of (came_by t captures input k) → stamp ≡ (packet_at captures input k).stamp → len ≡ length (packet_at captures input k).body → body ≡ (packet_at captures input k).body → row.start ≡ max ((stamp - origin) / t.slot_ns) free → row.cells ≡ cells_of len t.cell_bytes → (row.output, row.class) ≡ route t input body → row.len ≡ len → row ≡ row_of t captures input k
+pub is_row : (t : Tables) (captures : List (List Captured)) (input k : ℕ) (row : Row) (origin free stamp len : ℕ) → origin ≡ first_stamp captures → free ≡ end_of (came_by t captures input k) → stamp ≡ (packet_at captures input k).stamp → len ≡ length (packet_at captures input k).body → row.start ≡ max ((stamp - origin) / t.slot_ns) free → row.cells ≡ cells_of len t.cell_bytes → (row.output, row.class) ≡ route t input (packet_at captures input k).body → row.len ≡ len → row ≡ row_of t captures input k
 unfolding stamp_slot cells
-is_row t captures input k row origin free stamp len body from ended its_stamp its_len its_body starts cut routed long =
+is_row t captures input k row origin free stamp len from ended its_stamp its_len starts cut way long =
     let slot : (stamp - origin) / t.slot_ns ≡ stamp_slot t captures input k = ap (λ (n : ℕ). (n - origin) / t.slot_ns) its_stamp ∙ ap (λ (n : ℕ). ((packet_at captures input k).stamp - n) / t.slot_ns) from in
     let begins : row.start ≡ start t captures input k = starts ∙ ap (λ (n : ℕ). max n free) slot ∙ ap (λ (n : ℕ). max (stamp_slot t captures input k) n) ended ∙ sym (start_by t captures input k) in
     let many : row.cells ≡ cells t captures input k = cut ∙ ap (λ (n : ℕ). cells_of n t.cell_bytes) its_len in
-    let way : (row.output, row.class) ≡ route t input (packet_at captures input k).body = routed ∙ ap (λ (b : List ℕ). route t input b) its_body in
     let whole : row.len ≡ length (packet_at captures input k).body = long ∙ its_len in
     λ e. record { start = begins e; cells = many e; output = (way e).0; class = (way e).1; len = whole e }
 

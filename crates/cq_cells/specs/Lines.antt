@@ -57,6 +57,7 @@ pub record AreCounted (lines : List (List Arrival)) (total end : ℕ) (to_output
   pub few : length lines ≤ 64
   pub own : AreOwn 0 lines
   pub all : total ≡ length (all_of lines)
+  pub small : total ≤ 2 ^ 34
   pub ended : end ≡ end_of (all_of lines)
   pub outputs : length to_output ≡ length lines
   pub each : (j : ℕ) → j < length lines → slice_index_or to_output j 0 ≡ number_of (is_to j) (all_of lines)

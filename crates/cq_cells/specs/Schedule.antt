@@ -34,9 +34,13 @@ first_stamp captures = least (stamps_of captures)
 abbrev pub packets_of : List (List Captured) → ℕ → List Captured
 packets_of captures input = slice_index_or captures input []
 
--- packet k of an input, or one without bytes where there is none
+-- packet k of a capture, or one without bytes where there is none
+abbrev pub packet_in : List Captured → ℕ → Captured
+packet_in packets k = slice_index_or packets k (record { stamp = 0; original = 0; body = [] })
+
+-- packet k of an input
 abbrev pub packet_at : List (List Captured) → ℕ → ℕ → Captured
-packet_at captures input k = slice_index_or (packets_of captures input) k (record { stamp = 0; original = 0; body = [] })
+packet_at captures input k = packet_in (packets_of captures input) k
 
 -- the slot in which the stamp of packet k lies
 unfoldable pub stamp_slot : Tables → List (List Captured) → ℕ → ℕ → ℕ

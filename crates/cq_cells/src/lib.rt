@@ -7,6 +7,7 @@
 mod first_stamp;
 mod laws;
 mod line;
+mod routes;
 mod schedule;
 mod segments;
 #[cfg(test)]

@@ -1,6 +1,6 @@
 // The cells that arrive at one input. Each packet has a row, and a slot is looked up among the rows by
 // halving: the work grows with the logarithm of the number of packets.
-ghost use Rattle.std.specs.Prelude.{◌≡◌, ℕ, ◌+◌, ◌-◌, ◌/◌, ◌==◌, ◌^◌, ◌<◌, ◌≤◌, find, length, max, option_map, slice_index_or, IfOk};
+ghost use Rattle.std.specs.Prelude.{◌≡◌, ℕ, ◌+◌, ◌-◌, ◌/◌, ◌==◌, ◌^◌, ◌<◌, ◌≤◌, find, length, map, max, option_map, slice_index_or, IfOk};
 ghost use Rattle.std.specs.List.Sorted.{IsNonDecreasingBy};
 ghost use Rattle.cq_base.specs.Arriving.{end_of};
 ghost use Rattle.cq_cells.specs.Lines.{AreAdded, IsBegun, row_cell};
@@ -86,18 +86,21 @@ impl Line {
         Some(row.cell(self.cell_bytes, id))
     }
 
-    // The arrivals at an input, of which each is counted for its output. The error is want of memory.
+    // The arrivals at an input, whose packets go where they are routed. Each is counted for its output. The
+    // error is want of memory.
     pub fn of(
         alloc: Global,
         input: Port,
         captures: &[Capture],
         tables: &Tables,
         origin: u64,
+        routes: &[(Port, Class)],
         to_output: &mut [u64],
     ) -> Result<Line, NoMemory>
         requires tables { AreTables tables.now }
         requires place { input < length captures.now }
         requires origin { origin ≡ first_stamp captures.now }
+        requires routes { routes.now ≡ map (λ p. route tables.now input p.body) (packets_of captures.now input) }
         requires outputs { length to_output.old ≡ ports_of tables.now.setup }
         requires room { (j : ℕ) → j < length to_output.old → slice_index_or to_output.old j 0 + 2 ^ 28 < 2 ^ 64 }
         ensures line { IfOk result (λ line. line ≡ arrivals_at tables.now captures.now input) }
@@ -112,7 +115,7 @@ impl Line {
         let mut free = 0;
         let mut cells = 0;
         'packets: for k in 0..packets.len() {
-            let row = row_of(tables, origin, free, input, packets[k], capture.body(k));
+            let row = row_of(tables, origin, free, packets[k], routes[k]);
             free = row.start + u64::from(row.cells);
             cells += u64::from(row.cells);
             to_output[row.output as usize] += u64::from(row.cells);
@@ -138,22 +141,14 @@ fn begun(rows: &[Row], slot: Slot) -> usize
 }
 
 // The row of a packet that can begin in this slot at the earliest.
-fn row_of(
-    tables: &Tables,
-    origin: u64,
-    free: u64,
-    input: Port,
-    packet: PacketRow,
-    body: &[u8],
-) -> Row
+fn row_of(tables: &Tables, origin: u64, free: u64, packet: PacketRow, way: (Port, Class)) -> Row
     requires tables { AreTables tables.now }
     ensures start { result.start ≡ max ((packet.stamp - origin) / tables.now.slot_ns) free }
     ensures cells { result.cells ≡ cells_of packet.len tables.now.cell_bytes }
-    ensures route { (result.output, result.class) ≡ route tables.now input body.now }
-    ensures output { result.output < ports_of tables.now.setup }
+    ensures route { (result.output, result.class) ≡ way }
     ensures len { result.len ≡ packet.len }
 {
-    let (output, class) = tables.route(input, body);
+    let (output, class) = way;
     let slot = packet.stamp.saturating_sub(origin) / tables.slot_ns;
     Row {
         start: slot.max(free),

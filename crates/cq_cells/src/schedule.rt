@@ -10,11 +10,13 @@ ghost use Rattle.cq_route.specs.Tables.{AreTables, classes_of, ports_of};
 
 use crate::first_stamp::first_stamp;
 use crate::line::Line;
+use crate::routes::routes_of;
 use cq_base::{Arrivals, Cell, NoMemory, Port, Slot};
 use cq_pcap::Capture;
 use cq_route::Tables;
 use std::alloc::Global;
 use std::marker::Model;
+use std::thread::Threads;
 
 /// When the cells of captured packets arrive. Contracts see the stamp from which slots are counted, the
 /// number of ports, and all arrivals, input after input and packet after packet.
@@ -42,8 +44,14 @@ impl Model for Schedule {
 impl Schedule {
     /// The schedule of captures, capture i at input i. The cells of a packet arrive one a slot: the
     /// first in the slot in which its stamp lies, counted from the least stamp of all captures, or in a
-    /// later one where the packet before it still arrives. The error is want of memory.
-    pub fn of(alloc: Global, captures: &[Capture], tables: &Tables) -> Result<Schedule, NoMemory>
+    /// later one where the packet before it still arrives. The packets of a capture are routed in threads.
+    /// The error is want of memory.
+    pub fn of<R: Threads + Sync>(
+        rt: &R,
+        alloc: Global,
+        captures: &[Capture],
+        tables: &Tables,
+    ) -> Result<Schedule, NoMemory>
         requires tables { AreTables tables.now }
         requires captures { length captures.now ≡ ports_of tables.now.setup }
         ensures schedule { IfOk result (λ s. s ≡ schedule_of tables.now captures.now) }
@@ -52,7 +60,7 @@ impl Schedule {
     {
         let first_stamp = first_stamp(captures);
         let mut to_output = no_cells(alloc, captures.len())?;
-        let lines = lines_of(alloc, captures, tables, first_stamp, &mut to_output)?;
+        let lines = lines_of(rt, alloc, captures, tables, first_stamp, &mut to_output)?;
         let total = total_of(&lines);
         let end = end_of(&lines);
         Ok(Schedule {
@@ -90,7 +98,8 @@ impl Schedule {
 
     /// How many cells arrive.
     pub fn total(&self) -> u64
-        ensures { result ≡ length self.now.came }
+        ensures cells { result ≡ length self.now.came }
+        ensures few { result ≤ 2 ^ 34 }
     {
         self.total
     }
@@ -130,7 +139,8 @@ fn no_cells(alloc: Global, outputs: usize) -> Result<Vec<u64>, NoMemory>
 }
 
 // The lines of all inputs, of whose cells each is counted for its output. The error is want of memory.
-fn lines_of(
+fn lines_of<R: Threads + Sync>(
+    rt: &R,
     alloc: Global,
     captures: &[Capture],
     tables: &Tables,
@@ -148,7 +158,9 @@ fn lines_of(
 {
     let mut lines = Vec::with_capacity(alloc, captures.len())?;
     'inputs: for input in 0..captures.len() {
-        let line = Line::of(alloc, input as Port, captures, tables, origin, to_output)?;
+        let at = input as Port;
+        let routes = routes_of(rt, alloc, at, &captures[input], tables)?;
+        let line = Line::of(alloc, at, captures, tables, origin, &routes, to_output)?;
         lines.push_reserved(line);
     }
     Ok(lines)
@@ -157,7 +169,8 @@ fn lines_of(
 // How many cells arrive at all inputs.
 fn total_of(lines: &[Line]) -> u64
     requires { length lines.now ≤ 64 }
-    ensures { result ≡ length (all_of lines.now) }
+    ensures cells { result ≡ length (all_of lines.now) }
+    ensures few { result ≤ 2 ^ 34 }
 {
     let mut total = 0;
     'lines: for line in lines {

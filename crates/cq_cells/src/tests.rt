@@ -8,6 +8,7 @@ use cq_pcap::{Capture, PcapRefusal, read_capture};
 use cq_route::{AddressRow, PortRow, Tables};
 use std::alloc::Global;
 use std::test::Fail;
+use std::thread::Threads;
 
 // Little-endian with nanoseconds.
 const HEADER: [u8; 24] = [
@@ -54,17 +55,26 @@ fn a_packet_has_as_many_cells_as_it_needs(rt: HostRuntime) -> Result<(), Fail> {
     Ok(())
 }
 
+// One port.
+#[tactic(auto, unfolding(cq_route::specs::Plain::plain_tables))]
+fn one_port(alloc: Global) -> Result<Tables, NoMemory>
+    ensures in_range { IfOk result (λ tables. AreTables tables) }
+    ensures ports { IfOk result (λ tables. length tables.setup.kinds ≡ 1) }
+{
+    Tables::plain(alloc, "in", "out")
+}
+
 // What is seen of the cell that arrives in a slot: its packet, its number, where its piece begins, how long it is,
 // and whether it is the last.
-#[tactic(auto, unfolding(cq_route::specs::Plain::plain_tables))]
-fn seen_at_one_port(
+fn seen_at_one_port<R: Threads + Sync>(
+    rt: &R,
     alloc: Global,
     packets: &[(u32, u8, u8)],
     slot: u64,
 ) -> Result<Option<(u32, u32, u32, u32, bool)>, Fail> {
-    let tables = Tables::plain(alloc, "in", "out")?;
+    let tables = one_port(alloc)?;
     let captures = [capture_of(alloc, packets)?];
-    let schedule = Schedule::of(alloc, &captures, &tables)?;
+    let schedule = Schedule::of(rt, alloc, &captures, &tables)?;
     let cell = schedule.cell_at(slot, 0);
     Ok(cell.map(|c| (c.id.packet, c.id.index, c.at, c.len, c.last)))
 }
@@ -93,7 +103,7 @@ fn cells_arrive_one_a_slot_from_the_slot_of_their_stamp_on(rt: HostRuntime) -> R
     ];
     for (packets, slot, seen) in cases {
         assert_eq!(rt;
-            seen_at_one_port(alloc, packets, slot)?,
+            seen_at_one_port(&rt, alloc, packets, slot)?,
             seen,
             "{packets:?} {slot}"
         );
@@ -147,7 +157,7 @@ fn each_input_has_its_own_packets(rt: HostRuntime) -> Result<(), Fail> {
         capture_of(alloc, &[(1024, 60, 0)])?,
         capture_of(alloc, &[(1024, 60, 0), (1536, 60, 1)])?,
     ];
-    let schedule = Schedule::of(alloc, &captures, &tables)?;
+    let schedule = Schedule::of(&rt, alloc, &captures, &tables)?;
     let cases = [
         (0, [Some((0, 0)), Some((0, 0)), Some((0, 0))]),
         (1, [None, None, Some((1, 1))]),
@@ -177,5 +187,30 @@ fn each_input_has_its_own_packets(rt: HostRuntime) -> Result<(), Fail> {
         ),
         (3, 1, 0)
     );
+    Ok(())
+}
+
+// A capture this long is split among threads.
+#[test]
+fn each_of_many_packets_has_its_own_route(rt: HostRuntime) -> Result<(), Fail> {
+    let alloc = rt.alloc();
+    let tables = three_ports(alloc)?;
+    let mut packets = Vec::new(alloc);
+    for k in 0..2048_u32 {
+        packets.push((0, 6, (k % 3) as u8))?;
+    }
+    let captures = [
+        capture_of(alloc, &packets)?,
+        capture_of(alloc, &[])?,
+        capture_of(alloc, &[])?,
+    ];
+    let schedule = Schedule::of(&rt, alloc, &captures, &tables)?;
+    assert_eq!(rt; (schedule.total(), schedule.end()), (2048, 2048));
+    assert_eq!(rt; (schedule.to_output(0), schedule.to_output(1)), (1365, 683));
+    let slots = [(0, 0), (1, 1), (1023, 0), (1024, 1), (2046, 0), (2047, 1)];
+    for (slot, output) in slots {
+        let cell = schedule.cell_at(slot, 0);
+        assert_eq!(rt; cell.map(|c| c.output), Some(output), "{slot}");
+    }
     Ok(())
 }

@@ -8,3 +8,4 @@ pub mod Slot
 pub mod Seen
 pub mod Begin
 pub mod Kept
+pub mod Worked

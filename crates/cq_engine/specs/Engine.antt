@@ -95,6 +95,11 @@ pub record CountsFit (next : ℕ) (x : Figures) : Type 0 where
   pub inputs : (i : ℕ) (y : InputFigures) → slice_get x.inputs i ≡ Some y → y.cells ≤ next
   pub outputs : (j : ℕ) (y : OutputFigures) → slice_get x.outputs j ≡ Some y → y.cells ≤ next
 
+-- so many workers can propose at once
+pub record AreWorkers (workers : ℕ) : Type 0 where
+  pub some : 1 ≤ workers
+  pub few : workers ≤ 64
+
 -- the fabric keeps up with an ideal switch: there is a state of one with which it agrees before this slot. And its figures are
 -- of its ports, and have a least slack below that of each cell that waits
 pub record KeepsUp (ms : List Machine) (next : ℕ) (x : Figures) (f : Fabric) : Type 0 where

@@ -14,15 +14,16 @@ use cq_base::{
     Arrivals, Departure, Figures, InputFigures, NoMemory, OutputFigures, Room, Sequence, Slot,
     TagFault, Transfer,
 };
-use cq_pair::Order;
+use cq_crew::Gate;
 use cq_rank::Rank;
 use std::alloc::Global;
 use std::marker::Model;
+use std::thread::Threads;
 
 /// A fabric, which keeps up with an ideal switch (Chuang, Goel, McKeown and Prabhakar 1999). In a slot the
 /// arriving cells are ranked and go into the lists of their inputs, a matching is transferred, each output
 /// sends the most urgent cell of its buffer, and a second matching is transferred. Both matchings are the
-/// ones that are best for the inputs.
+/// ones that are best for the inputs, whichever worker proposes first.
 ///
 /// Contracts see the numbers that give the rank machines, the fabric, how many cells each list and each
 /// buffer can hold, the figures, the next slot, and whether the engine is stopped.
@@ -31,13 +32,14 @@ pub struct Engine<R: Rank> {
     ranks: Ranks<R>,
     queues: Queues,
     figures: Figures,
+    workers: u16,
     next: Slot,
     stopped: bool,
 }
 
 impl<R: Rank> Model for Engine<R> {
     ghost use Rattle.std.specs.Prelude.{◌≡◌, false, map};
-    ghost use Rattle.cq_engine.specs.Engine.{EngineView, KeepsUp};
+    ghost use Rattle.cq_engine.specs.Engine.{AreWorkers, EngineView, KeepsUp};
     ghost use Rattle.cq_engine.specs.Parts.{fabric_of};
 
     ghost Value = { EngineView };
@@ -52,7 +54,7 @@ impl<R: Rank> Model for Engine<R> {
       stopped = a.stopped;
     } };
 
-    ghost invariant = { λ a. a.stopped ≡ false → KeepsUp (map R.machine a.ranks.fixed) a.next a.figures (fabric_of a.queues a.ranks.states) };
+    ghost invariant = { λ a. AreWorkers a.workers × (a.stopped ≡ false → KeepsUp (map R.machine a.ranks.fixed) a.next a.figures (fabric_of a.queues a.ranks.states)) };
 }
 
 // Nothing was seen yet of so many inputs and outputs.
@@ -101,16 +103,20 @@ fn count_proposals(figures: &mut Figures, first: u64, second: u64)
 impl<R: Rank> Engine<R> {
     /// An engine with an input and an output for each rank, which is not stopped. No cell waits, list i has
     /// room for `from_inputs[i]` cells and buffer j for `to_outputs[j]`, nothing was counted, and the next
-    /// slot is 0. All memory that a slot needs is taken here. The error is want of memory.
+    /// slot is 0. In a slot so many workers at most propose at once. All memory that a slot needs is taken here.
+    /// The error is want of memory.
     pub fn new(
         alloc: Global,
         ranks: Vec<R>,
         from_inputs: &[u64],
         to_outputs: &[u64],
+        workers: u16,
     ) -> Result<Engine<R>, NoMemory>
         requires machines { AreForOneSwitch (map R.machine (map R.fixed ranks.items)) }
         requires from_inputs { length from_inputs.now ≡ length ranks.items }
         requires to_outputs { length to_outputs.now ≡ length ranks.items }
+        requires some { 1 ≤ workers }
+        requires few { workers ≤ 64 }
         ensures fixed { IfOk result (λ engine. engine.fixed ≡ map R.fixed ranks.items) }
         ensures fabric { IfOk result (λ engine. engine.fabric ≡ empty_fabric (length ranks.items) (map R.state ranks.items)) }
         ensures from_inputs { IfOk result (λ engine. engine.from_inputs ≡ from_inputs.now) }
@@ -123,6 +129,7 @@ impl<R: Rank> Engine<R> {
             queues: Queues::new(alloc, from_inputs, to_outputs)?,
             figures: no_figures(alloc, from_inputs.len())?,
             ranks: Ranks::of(ranks),
+            workers,
             next: 0,
             stopped: false,
         })
@@ -131,16 +138,19 @@ impl<R: Rank> Engine<R> {
     /// One slot: the cells arrive, the input-best matching is transferred, each output sends or is idle, and
     /// the input-best matching is transferred again. The departures are put at the end of `sent`, in order
     /// of output, and the transfers at the end of `note`, phase by phase and in order of input. The slot is
-    /// added to the figures. `order` says who proposes next where a matching is found, and changes nothing
-    /// of what is found. It takes no memory.
+    /// added to the figures. `gate` is told of the steps of the workers, and changes nothing of what is found.
+    /// No memory is needed for a slot to succeed: a phase of two workers or more takes a ledger, and is settled
+    /// by one thread where there is none.
     ///
     /// The error is the first rank, in order of input, that does not fit 128 bits. Then `sent`, `note`, the
     /// figures, the lists and the buffers are as before, and the engine is stopped.
-    pub fn slot<O: Order>(
+    pub fn slot<T: Threads + Sync, G: Gate>(
         &mut self,
+        rt: &T,
+        alloc: Global,
         slot: Slot,
         arrivals: &Arrivals,
-        order: &mut O,
+        gate: &G,
         sent: &mut Room<Departure>,
         note: &mut Room<Transfer>,
     ) -> Result<(), TagFault>
@@ -155,6 +165,7 @@ impl<R: Rank> Engine<R> {
         requires proposals { self.old.figures.proposals + 2 * (ports_of self.old * ports_of self.old) < 2 ^ 64 }
         ensures answer { result ≡ answer_to (ranking (map R.machine self.old.fixed) slot 0 arrivals.now self.old.fabric.ranks) }
         ensures slot { OnOk result (SlotDone (map R.machine self.old.fixed) slot arrivals.now self.old self.new sent.old sent.new note.old note.new) }
+        ensures few { OnOk result (self.new.figures.proposals ≤ self.old.figures.proposals + 2 * (ports_of self.old * ports_of self.old)) }
         ensures next { OnOk result (self.new.next ≡ slot + 1) }
         ensures fixed { self.new.fixed ≡ self.old.fixed }
         ensures from_inputs { self.new.from_inputs ≡ self.old.from_inputs }
@@ -176,7 +187,8 @@ impl<R: Rank> Engine<R> {
         };
         self.queues.arrive(&came);
         count_inputs(&mut self.figures.inputs, &self.queues, &came);
-        let first = self.queues.cross(order, slot, 1, note);
+        let workers = self.workers;
+        let first = self.queues.cross(rt, alloc, workers, slot, 1, gate, note);
         depart(
             &mut self.ranks,
             &mut self.queues,
@@ -184,7 +196,7 @@ impl<R: Rank> Engine<R> {
             slot,
             sent,
         );
-        let second = self.queues.cross(order, slot, 2, note);
+        let second = self.queues.cross(rt, alloc, workers, slot, 2, gate, note);
         count_proposals(&mut self.figures, first.proposals, second.proposals);
         self.next = slot + 1;
         Ok(())
@@ -216,5 +228,20 @@ impl<R: Rank> Engine<R> {
         ensures { result.now ≡ self.now.figures }
     {
         &self.figures
+    }
+
+    /// What was seen of the slots, without the engine.
+    pub fn into_figures(self) -> Figures
+        ensures { result ≡ self.figures }
+    {
+        let Engine {
+            ranks: _,
+            queues: _,
+            figures,
+            workers: _,
+            next: _,
+            stopped: _,
+        } = self;
+        figures
     }
 }

@@ -2,7 +2,8 @@
 //!
 //! The engine keeps the cells that wait at the inputs and at the outputs, and the machines that rank them.
 //! A slot is exactly the fabric slot of the definitions: arrivals, a matching, departures, and a second
-//! matching. All memory is taken when the engine is made.
+//! matching. Workers propose at once where a matching is found. All memory that a slot needs is taken when the
+//! engine is made.
 #![tactic(auto)]
 
 mod depart;
@@ -11,6 +12,9 @@ mod laws;
 mod measure;
 mod queues;
 mod ranks;
+#[cfg(test)]
+mod tests;
 
+pub use cq_crew::{Gate, OpenGate};
 pub use engine::Engine;
 pub use laws::cells_are_kept;

@@ -12,13 +12,14 @@ ghost use Rattle.cq_laws.specs.Phases.{came_to, list_arrived};
 ghost use Rattle.cq_engine.specs.Parts.{CanCross, FitEach, FitLists, buffer_room, fabric_of, front_of, list_at, list_room, list_with, popped};
 
 use cq_base::{NoMemory, Queued, Room, Slot, Transfer};
+use cq_crew::{Gate, Phase, pair_phase};
 use cq_list::InputList;
-use cq_pair::{Core, Order, Phase};
 use cq_prefs::Offers;
 use cq_urgency::OutputBuffer;
 use cq_xbar::transfer;
 use std::alloc::Global;
 use std::marker::Model;
+use std::thread::Threads;
 
 /// The cells that wait at the inputs and at the outputs of a fabric. Contracts see the cells of each list and of
 /// each buffer, and how many cells each of them can hold.
@@ -193,15 +194,20 @@ impl Queues {
         insert_each(&mut self.lists, &self.buffers, came);
     }
 
-    /// The input-best matching of the offers is transferred, and noted. `order` says who proposes next where it
-    /// is found. The answer is the matching with its number of proposals.
-    pub fn cross<O: Order>(
+    /// The input-best matching of the offers is transferred, and noted. So many workers at most propose at once
+    /// where it is found. The answer is the matching with its number of proposals.
+    pub fn cross<T: Threads + Sync, G: Gate>(
         &mut self,
-        order: &mut O,
+        rt: &T,
+        alloc: Global,
+        workers: u16,
         slot: Slot,
         phase: u8,
+        gate: &G,
         note: &mut Room<Transfer>,
     ) -> Phase
+        requires some { 1 ≤ workers }
+        requires few { workers ≤ 64 }
         requires cells { CanCross self.old }
         requires note { length self.old.inputs ≤ note.old.spare }
         ensures best { IsInputBest (orders_of self.old.inputs) result.matching }
@@ -214,22 +220,16 @@ impl Queues {
         ensures note_room { note.new.spare + length (transfers_of result.matching self.old.inputs slot phase) ≡ note.old.spare }
     {
         self.offers.fill(&self.lists);
-        let _ports = self.offers.ports();
-        let mut core = Core::begin(&self.offers);
-        core.settle(&self.offers, order);
-        let matching = core.matching();
+        let settled = pair_phase(rt, alloc, &self.offers, workers, gate).phase();
         transfer(
-            &matching,
+            &settled.matching,
             &mut self.lists,
             &mut self.buffers,
             slot,
             phase,
             note,
         );
-        Phase {
-            matching,
-            proposals: core.made(),
-        }
+        settled
     }
 
     /// The first cell of each buffer, which leaves it, by output.

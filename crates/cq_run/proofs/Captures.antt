@@ -1,13 +1,20 @@
 -- The captures of the outputs, one after another: those that were made and those that are still to be made are all.
-use Rattle.std.proofs.Common.{◌≡◌, ◌<◌, ◌≤◌, ◌∙◌, ℕ, ◌+◌, List, [], ◌∷◌, ◌++◌, length, drop, get_or, refl, ap, sym, arith, add-one, append_assoc}
+use Rattle.std.proofs.Common.{◌≡◌, ◌<◌, ◌≤◌, ◌∙◌, ℕ, ◌+◌, List, [], ◌∷◌, ◌++◌, length, drop, get_or, refl, ap, sym, add-one, append_assoc}
 use Rattle.std.proofs.lemmas.List.{append-nil, drop_all, drop_more}
-use Rattle.cq_base.specs.Texts.{trace_of}
+use Rattle.cq_base.specs.Texts.{trace_of, log_of}
 use Rattle.cq_base.specs.declared.cell.Departure.{Departure}
+use Rattle.cq_base.specs.declared.cell.Transfer.{Transfer}
 use Rattle.cq_pcap.specs.Captured.{Captured}
 use Rattle.cq_route.specs.declared.tables.PortRow.{PortRow}
 use Rattle.cq_route.specs.declared.tables.Tables.{Tables}
 use Rattle.cq_run.specs.Plan.{Plan}
 use Rattle.cq_run.specs.Plans.{capture_out, captures_out, switched}
+
+-- a plan of these names and this text
+pub plan_is : (plan : Plan) (writes : List (List ℕ × List ℕ)) (text : List ℕ) → plan.writes ≡ writes → plan.text ≡ text → plan ≡ record { writes = writes; text = text }
+plan_is plan writes text e f =
+    ap (λ (ws : List (List ℕ × List ℕ)). let p : Plan = record { writes = ws; text = plan.text } in p) e
+    ∙ ap (λ (tx : List ℕ). let p : Plan = record { writes = writes; text = tx } in p) f
 
 module _ (t : Tables) (captures : List (List Captured)) (sent : List Departure) where
   -- the first output, and those after it
@@ -33,13 +40,21 @@ module _ (t : Tables) (captures : List (List Captured)) (sent : List Departure) 
   made_all rows k made all over so_far = sym (append-nil made) ∙ ap (λ (rs : List PortRow). made ++ captures_out t captures sent k rs) (sym (drop_all k rows over)) ∙ so_far
 
   -- a plan with these and the trace
-  pub switched_is : (plan : Plan) (made more : List (List ℕ × List ℕ)) (name bytes text : List ℕ) → made ≡ captures_out t captures sent 0 t.ports → more ≡ made ++ (name, bytes) ∷ [] → name ≡ t.trace → bytes ≡ trace_of sent → text ≡ []
-      → plan.writes ≡ more → plan.text ≡ text → plan ≡ switched t captures sent
+  pub switched_is : (plan : Plan) (made more : List (List ℕ × List ℕ)) (bytes : List ℕ) → made ≡ captures_out t captures sent 0 t.ports → more ≡ made ++ (t.trace, bytes) ∷ [] → bytes ≡ trace_of sent
+      → plan.writes ≡ more → plan.text ≡ [] → plan ≡ switched t captures sent
   unfolding switched
-  switched_is plan made more name bytes text all pushed named traced none writes texts =
-      let are : plan.writes ≡ captures_out t captures sent 0 t.ports ++ (t.trace, trace_of sent) ∷ [] =
-      writes ∙ pushed ∙ ap (λ (ws : List (List ℕ × List ℕ)). ws ++ (name, bytes) ∷ []) all
-      ∙ ap (λ (n : List ℕ). captures_out t captures sent 0 t.ports ++ (n, bytes) ∷ []) named
-      ∙ ap (λ (b : List ℕ). captures_out t captures sent 0 t.ports ++ (t.trace, b) ∷ []) traced in
-      ap (λ (ws : List (List ℕ × List ℕ)). let p : Plan = record { writes = ws; text = plan.text } in p) are
-      ∙ ap (λ (tx : List ℕ). let p : Plan = record { writes = captures_out t captures sent 0 t.ports ++ (t.trace, trace_of sent) ∷ []; text = tx } in p) (texts ∙ none)
+  switched_is plan made more bytes all pushed traced writes none =
+      plan_is plan (captures_out t captures sent 0 t.ports ++ (t.trace, trace_of sent) ∷ []) []
+      (writes ∙ pushed ∙ ap (λ (ws : List (List ℕ × List ℕ)). ws ++ (t.trace, bytes) ∷ []) all ∙ ap (λ (b : List ℕ). captures_out t captures sent 0 t.ports ++ (t.trace, b) ∷ []) traced)
+      none
+
+  -- these, the trace and the log
+  pub crossed_writes : (made traced logged : List (List ℕ × List ℕ)) (trace log : List ℕ) (note : List Transfer) → made ≡ captures_out t captures sent 0 t.ports → traced ≡ made ++ (t.trace, trace) ∷ [] → logged ≡ traced ++ (t.log, log) ∷ []
+      → trace ≡ trace_of sent → log ≡ log_of note → logged ≡ captures_out t captures sent 0 t.ports ++ (t.trace, trace_of sent) ∷ (t.log, log_of note) ∷ []
+  crossed_writes made traced logged trace log note all first second is_trace is_log =
+      second
+      ∙ ap (λ (ws : List (List ℕ × List ℕ)). ws ++ (t.log, log) ∷ []) first
+      ∙ append_assoc made ((t.trace, trace) ∷ []) ((t.log, log) ∷ [])
+      ∙ ap (λ (ws : List (List ℕ × List ℕ)). ws ++ (t.trace, trace) ∷ (t.log, log) ∷ []) all
+      ∙ ap (λ (b : List ℕ). captures_out t captures sent 0 t.ports ++ (t.trace, b) ∷ (t.log, log) ∷ []) is_trace
+      ∙ ap (λ (b : List ℕ). captures_out t captures sent 0 t.ports ++ (t.trace, trace_of sent) ∷ (t.log, b) ∷ []) is_log

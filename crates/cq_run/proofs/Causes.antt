@@ -5,7 +5,7 @@ use Rattle.cq_space.specs.Causes.{Rose}
 use Rattle.cq_space.specs.Space.{Contents, Space}
 use Rattle.cq_base.specs.declared.status.Status.{Status}
 use Rattle.cq_base.specs.declared.status.Status.TheVariants as status
-use Rattle.cq_run.specs.declared.command.Command.{Command}
+use Rattle.cq_words.specs.declared.command.Command.{Command}
 use Rattle.cq_run.specs.declared.refusal.Refusal.{Refusal}
 use Rattle.cq_run.specs.declared.refusal.Refusal.TheVariants.{Words, Missing, Configuration, Capture, Tag}
 use Rattle.cq_run.specs.declared.stop.Halt.TheVariants.{Refused, Unread, NoMemory}
@@ -13,14 +13,17 @@ use Rattle.cq_run.specs.declared.stop.Unwritten.TheVariants.{File, Output}
 use Rattle.cq_run.specs.declared.stop.Stop.{Stop}
 use Rattle.cq_run.specs.declared.stop.Stop.TheVariants.{Halted, Cut}
 use Rattle.cq_run.specs.Plan.{Plan}
+use Rattle.cq_run.specs.Aim.{Aim, Meets}
+use Rattle.cq_run.specs.Planning.{known_to, known_by}
 use Rattle.cq_run.specs.Refusals.{meaning_of}
 use Rattle.cq_run.specs.Judging.{IsRefused}
 use Rattle.cq_run.specs.Verdict.{judged, judged_or_words}
 use Rattle.cq_run.specs.World.{World, IsUntouched}
-use Rattle.cq_run.specs.Writing.{IsCutAtFile}
+use Rattle.cq_run.specs.Writing.{IsDone, IsCutAtFile}
 use Rattle.cq_run.specs.Ending.{WordsEnd, CommandEnds, status_of, status_by}
 use Rattle.cq_run.specs.StatusCauses.{StatusCauses}
 use Rattle.cq_run.proofs.Never.{never_words}
+use Rattle.cq_run.proofs.Planned.{same_faults, rose_known}
 use Rattle.cq_run.proofs.Told.{told_map, told_any, told_of_match, told_is_some, some_map}
 
 -- the table of refusals
@@ -55,15 +58,22 @@ cut_rose [] name old new h = absurd h
 cut_rose (w ∷ ws) name old new (inl h) = h.1.cause
 cut_rose (w ∷ ws) name old new (inr h) = rose_after old.faults h.0.faults new.faults h.1.uncounted (cut_rose ws name h.0 new h.2)
 
-ok_and : (v : Result Plan Refusal) (plan : Plan) (P : Plan → Type 0) → P plan → v ≡ Ok plan → IsOkAnd v P
-ok_and v plan P h e = let Q : Result Plan Refusal → Type 0 = λ r. IsOkAnd r P in subst Q (sym e) h
+-- a fact of what is aimed at where one plan meets it
+aimed : (v : Result Aim Refusal) (P Q : Aim → Type 0) → ((aim : Aim) → P aim → Q aim) → IsOkAnd v P → IsOkAnd v Q
+aimed (Ok aim) P Q f h = f aim h
+aimed (Err e) P Q f h = absurd h
 
-is_ok : (v : Result Plan Refusal) (plan : Plan) → v ≡ Ok plan → IsOk v
-is_ok v plan e = let Q : Result Plan Refusal → Type 0 = λ r. IsOk r in subst Q (sym e) refl
+aimed_status : (v : Result Aim Refusal) (P : Aim → Type 0) → IsOkAnd v P → status_by v ≡ status.Done
+aimed_status (Ok aim) P h = refl
+aimed_status (Err e) P h = absurd h
+
+aimed_ok : (v : Result Aim Refusal) (P : Aim → Type 0) → IsOkAnd v P → IsOk v
+aimed_ok (Ok aim) P h = refl
+aimed_ok (Err e) P h = absurd h
 
 -- want of memory says nothing of the verdict
-memory_causes : (v : Contents → Result Plan Refusal) (old new : World) → new.files.faults ≡ old.files.faults → IsUntouched old new → StatusCauses v old new status.NoMemory
-memory_causes v old new c h = record {
+memory_causes : (v : Contents → Result Aim Refusal) (known : Option Contents) (old new : World) → new.files.faults ≡ old.files.faults → IsUntouched old new → StatusCauses v known old new status.NoMemory
+memory_causes v known old new c h = record {
   by_verdict = λ r w m. absurd (m refl);
   done = λ e. cc;
   read = λ e. cc;
@@ -71,69 +81,69 @@ memory_causes v old new c h = record {
   write_planned = λ e. cc;
   untouched = λ d w. h;
   uncounted = λ _ _. (c, ap (λ s. s.faults) h.out);
-  complete = λ f o. told_any old.files.told _ (λ m. inr refl);
+  complete = λ f o. told_any known _ (λ m. inr refl);
 }
 
--- a refusal is the verdict where contents are told
-refusal_causes : (v : Contents → Result Plan Refusal) (r : Refusal) (old new : World) → MatchOption old.files.told (IsTrue (meaning_of r).untold) (λ m. v m ≡ Err r) → new.files.faults ≡ old.files.faults → IsUntouched old new → StatusCauses v old new (meaning_of r).status
-refusal_causes v r old new h c u =
-    let by : IfSome old.files.told (λ m. v m ≡ Err r) = told_of_match old.files.told _ _ h in
+-- a refusal is the verdict where contents are known
+refusal_causes : (v : Contents → Result Aim Refusal) (known : Option Contents) (r : Refusal) (old new : World) → MatchOption known (IsTrue (meaning_of r).untold) (λ m. v m ≡ Err r) → new.files.faults ≡ old.files.faults → IsUntouched old new → StatusCauses v known old new (meaning_of r).status
+refusal_causes v known r old new h c u =
+    let by : IfSome known (λ m. v m ≡ Err r) = told_of_match known _ _ h in
     record {
-      by_verdict = λ _ _ _. told_map old.files.told _ _ (λ m e. ap status_by e) by;
+      by_verdict = λ _ _ _. told_map known _ _ (λ m e. ap status_by e) by;
       done = λ e. absurd (not_done r e);
-      read = λ e. inl (some_map old.files.told _ _ (λ m f. ap status_by f ∙ e) (told_is_some old.files.told _ _ (missed_is_told r e) h));
+      read = λ e. inl (some_map known _ _ (λ m f. ap status_by f ∙ e) (told_is_some known _ _ (missed_is_told r e) h));
       write = λ e. absurd (not_cut r e);
       write_planned = λ e. absurd (not_cut r e);
       untouched = λ _ _. u;
       uncounted = λ _ _. (c, ap (λ s. s.faults) u.out);
-      complete = λ _ _. told_map old.files.told _ _ (λ m e. inl (ap status_by e)) by;
+      complete = λ _ _. told_map known _ _ (λ m e. inl (ap status_by e)) by;
     }
 
--- a plan that was cut short is the verdict, and the cut was counted
-cut_causes : (v : Contents → Result Plan Refusal) (plan : Plan) (old new : World) → IfSome old.files.told (λ m. v m ≡ Ok plan) → Rose old.files.faults new.files.faults ⊎ Rose old.out.faults new.out.faults → StatusCauses v old new status.WriteFault
-cut_causes v plan old new by rose = record {
+-- a plan that was cut short is aimed at, and the cut was counted
+cut_causes : (v : Contents → Result Aim Refusal) (known : Option Contents) (plan : Plan) (old new : World) → IfSome known (λ m. IsOkAnd (v m) (λ aim. Meets aim plan)) → Rose old.files.faults new.files.faults ⊎ Rose old.out.faults new.out.faults → StatusCauses v known old new status.WriteFault
+cut_causes v known plan old new by rose = record {
   by_verdict = λ _ w _. absurd (w refl);
   done = λ e. cc;
   read = λ e. cc;
   write = λ _. rose;
-  write_planned = λ _. told_map old.files.told _ _ (λ m e. is_ok (v m) plan e) by;
+  write_planned = λ _. told_map known _ _ (λ m e. aimed_ok (v m) (λ aim. Meets aim plan) e) by;
   untouched = λ _ w. absurd (w refl);
   uncounted = λ _ w. absurd (w refl);
   complete = λ f o. absurd (elim rose as (λ _. ⊥) [ inl r ↦ f r | inr r ↦ o r ]);
 }
 
-command_causes : (command : Command) (old new : World) (end : Result (Unit {0}) Stop) → CommandEnds command old new end → StatusCauses (judged command) old new (status_of end)
+command_causes : (command : Command) (old new : World) (end : Result (Unit {0}) Stop) → CommandEnds command old new end → StatusCauses (judged command) (known_to command old.files).told old new (status_of end)
 command_causes command old new (Ok x) h = record {
-  by_verdict = λ _ _ _. told_map old.files.told _ _ (λ m e. ap status_by e) h.1.verdict;
-  done = λ _. told_map old.files.told _ _ (λ m e. ok_and (judged command m) h.0 _ h.2 e) h.1.verdict;
+  by_verdict = λ _ _ _. told_map (known_to command old.files).told _ _ (λ m e. aimed_status (judged command m) (λ aim. Meets aim h.0) e) h.1.verdict;
+  done = λ _. told_map (known_to command old.files).told _ _ (λ m e. aimed (judged command m) (λ aim. Meets aim h.0) (λ aim. (plan : Plan) × Meets aim plan × IsDone plan old new) (λ aim meets. (h.0, meets, h.2)) e) h.1.verdict;
   read = λ e. cc;
   write = λ e. cc;
   write_planned = λ e. cc;
   untouched = λ d _. absurd (d refl);
   uncounted = λ _ _. (h.2.files_uncounted, h.2.out_uncounted);
-  complete = λ _ _. told_map old.files.told _ _ (λ m e. inl (ap status_by e)) h.1.verdict;
+  complete = λ _ _. told_map (known_to command old.files).told _ _ (λ m e. inl (aimed_status (judged command m) (λ aim. Meets aim h.0) e)) h.1.verdict;
 }
-command_causes command old new (Err (Halted (Refused r))) h = refusal_causes (judged command) r old new h.0.0 h.0.1 h.1
+command_causes command old new (Err (Halted (Refused r))) h = refusal_causes (judged command) (known_to command old.files).told r old new h.0.0 (same_faults command old.files new.files h.0.1) h.1
 command_causes command old new (Err (Halted (Unread name))) h = record {
   by_verdict = λ r _ _. absurd (r refl);
   done = λ e. cc;
-  read = λ _. inr h.0.0;
+  read = λ _. inr (rose_known command old.files new.files h.0.0);
   write = λ e. cc;
   write_planned = λ e. cc;
   untouched = λ _ _. h.1;
   uncounted = λ r _. absurd (r refl);
-  complete = λ f _. absurd (f h.0.0);
+  complete = λ f _. absurd (f (rose_known command old.files new.files h.0.0));
 }
-command_causes command old new (Err (Halted NoMemory)) h = memory_causes (judged command) old new h.0 h.1
-command_causes command old new (Err (Cut (File name))) h = cut_causes (judged command) h.0 old new h.1.verdict (inl (cut_rose h.0.writes name old.files new.files h.2.0))
-command_causes command old new (Err (Cut Output)) h = cut_causes (judged command) h.0 old new h.1.verdict (inr h.2.cause)
+command_causes command old new (Err (Halted NoMemory)) h = memory_causes (judged command) (known_to command old.files).told old new (same_faults command old.files new.files h.0) h.1
+command_causes command old new (Err (Cut (File name))) h = cut_causes (judged command) (known_to command old.files).told h.0 old new h.1.verdict (inl (cut_rose h.0.writes name old.files new.files h.2.0))
+command_causes command old new (Err (Cut Output)) h = cut_causes (judged command) (known_to command old.files).told h.0 old new h.1.verdict (inr h.2.cause)
 
 untouched : (old new : World) → new ≡ old → IsUntouched old new
 untouched old new e = record { told = ap (λ w. w.files.told) e; out = ap (λ w. w.out) e }
 
-words_causes : (old new : World) (end : Result (Unit {0}) Stop) → WordsEnd old new end → StatusCauses (judged_or_words None) old new (status_of end)
-words_causes old new end (inl e, h) =
-    let P : Result (Unit {0}) Stop → Type 0 = λ r. StatusCauses (judged_or_words None) old new (status_of r) in
+words_causes : (old new : World) (end : Result (Unit {0}) Stop) → WordsEnd old new end → StatusCauses (judged_or_words None) old.files.told old new (status_of end)
+words_causes old new end (e, h) =
+    let P : Result (Unit {0}) Stop → Type 0 = λ r. StatusCauses (judged_or_words None) old.files.told old new (status_of r) in
     subst P (sym e) record {
       by_verdict = λ _ _ _. told_any old.files.told _ (λ m. refl);
       done = λ d. cc;
@@ -144,17 +154,14 @@ words_causes old new end (inl e, h) =
       uncounted = λ _ _. (ap (λ w. w.files.faults) h, ap (λ w. w.out.faults) h);
       complete = λ _ _. told_any old.files.told _ (λ m. inl refl);
     }
-words_causes old new end (inr e, h) =
-    let P : Result (Unit {0}) Stop → Type 0 = λ r. StatusCauses (judged_or_words None) old new (status_of r) in
-    subst P (sym e) (memory_causes (judged_or_words None) old new (ap (λ w. w.files.faults) h) (untouched old new h))
 
-causes : (command : Option Command) (old new : World) (end : Result (Unit {0}) Stop) → MatchOption command (WordsEnd old new end) (λ c. CommandEnds c old new end) → StatusCauses (judged_or_words command) old new (status_of end)
+causes : (command : Option Command) (old new : World) (end : Result (Unit {0}) Stop) → MatchOption command (WordsEnd old new end) (λ c. CommandEnds c old new end) → StatusCauses (judged_or_words command) (known_by command old.files) old new (status_of end)
 causes None old new end h = words_causes old new end h
 causes (Some c) old new end h = command_causes c old new end h
 
 -- the top call's status is that of its end
-pub causes_at : (command : Option Command) (old new : World) (end : Result (Unit {0}) Stop) (answer : Status) → answer ≡ status_of end → MatchOption command (WordsEnd old new end) (λ c. CommandEnds c old new end) → StatusCauses (judged_or_words command) old new answer
-causes_at command old new end answer e h = let P : Status → Type 0 = λ s. StatusCauses (judged_or_words command) old new s in subst P (sym e) (causes command old new end h)
+pub causes_at : (command : Option Command) (old new : World) (end : Result (Unit {0}) Stop) (answer : Status) → answer ≡ status_of end → MatchOption command (WordsEnd old new end) (λ c. CommandEnds c old new end) → StatusCauses (judged_or_words command) (known_by command old.files) old new answer
+causes_at command old new end answer e h = let P : Status → Type 0 = λ s. StatusCauses (judged_or_words command) (known_by command old.files) old new s in subst P (sym e) (causes command old new end h)
 
 -- only words that are no command are refused as such
 
@@ -172,8 +179,8 @@ not_refused command (Some m) h = never_words command m h
 not_words : (command : Command) (old new : World) (end : Result (Unit {0}) Stop) → CommandEnds command old new end → status_of end ≡ status.Words → ⊥
 not_words command old new (Ok x) h e = cc
 not_words command old new (Err (Halted (Refused r))) h e =
-    let P : Refusal → Type 0 = λ s. IsRefused (judged command) old.files.told s in
-    not_refused command old.files.told (subst P (words_is r e) h.0.0)
+    let P : Refusal → Type 0 = λ s. IsRefused (judged command) (known_to command old.files).told s in
+    not_refused command (known_to command old.files).told (subst P (words_is r e) h.0.0)
 not_words command old new (Err (Halted (Unread name))) h e = cc
 not_words command old new (Err (Halted NoMemory)) h e = cc
 not_words command old new (Err (Cut at)) h e = cc

@@ -2,7 +2,7 @@
 use Rattle.std.proofs.Common.{◌≡◌, ◌<◌, ◌⊎◌, ℕ, List, [], length, codes, ap, refl, sym, subst, ◌∙◌, inl, inr, arith}
 use Rattle.std.specs.Prelude.{Option, None, Some, IfSome, Result, Err, IsErrOf, Vec, unwrap_or}
 use Rattle.std.specs.declared.alloc.Global.{Global}
-use Rattle.std.specs.FinMap.{get, remove}
+use Rattle.std.specs.FinMap.{get}
 use Rattle.cq_space.specs.Space.{Contents, bytes_of}
 use Rattle.cq_space.specs.declared.whole.ReadRefusal.{ReadRefusal}
 use Rattle.cq_space.specs.declared.whole.ReadRefusal.TheVariants.{Fault, Long}

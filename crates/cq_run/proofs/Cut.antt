@@ -1,21 +1,18 @@
 -- A cut that is told from after judging is told from before it: judging that comes to a plan leaves contents and the count of faults as they are.
 use Rattle.std.proofs.Common.{◌≡◌, ℕ, ◌∙◌, List, [], ◌∷◌, take, ap, sym, subst, inl, inr, arith}
 use Rattle.std.specs.Prelude.{Option, Result, Ok, Err, IsErrAnd}
-use Rattle.std.specs.List.{AllByRecursion}
 use Rattle.std.specs.Io.KnownBytes.{append_known}
 use Rattle.cq_space.specs.Causes.{Rose}
 use Rattle.cq_space.specs.Space.{Contents, Space, IsCutAt, replaced}
 use Rattle.cq_run.specs.declared.stop.Unwritten.{Unwritten}
 use Rattle.cq_run.specs.declared.stop.Unwritten.TheVariants.{File, Output}
-use Rattle.cq_run.specs.declared.command.Command.{Command}
+use Rattle.cq_words.specs.declared.command.Command.{Command}
 use Rattle.cq_run.specs.declared.stop.Stop.{Stop}
 use Rattle.cq_run.specs.declared.stop.Stop.TheVariants.{Cut}
 use Rattle.cq_run.specs.Plan.{Plan}
-use Rattle.cq_run.specs.Verdict.{judged, MayWrite}
-use Rattle.cq_run.specs.Judging.{Judges}
-use Rattle.cq_run.specs.Ending.{CommandEnds}
+use Rattle.cq_run.specs.Ending.{CommandEnds, IsPlanned}
 use Rattle.cq_run.specs.World.{World, Taken}
-use Rattle.cq_run.specs.Writing.{IsCut, IsCutAtFile, IsCutShort, all_replaced}
+use Rattle.cq_run.specs.Writing.{IsDone, IsCut, IsCutAtFile, IsCutShort, all_replaced}
 
 rose_from : (old mid new : ℕ) → mid ≡ old → Rose mid new → Rose old new
 rose_from old mid new l r = omega arith
@@ -37,12 +34,26 @@ cut_from plan old mid new (File name) t l o h = (file_from plan.writes name old.
 cut_from plan old mid new Output t l o h = record {
   cause = let P : Taken → Type 0 = λ s. Rose s.faults new.out.faults in subst P o h.cause;
   told = h.told ∙ ap (all_replaced plan.writes) t;
+  files_uncounted = h.files_uncounted ∙ l;
   out = let P : Taken → Type 0 = λ s. (n : ℕ) × (new.out.bytes ≡ append_known s.bytes (take n plan.text)) in subst P o h.out;
 }
 
 -- a command whose plan was cut short ends so
-pub cut_ends : {R : List ℕ → Type 0} (command : Command) (plan : Plan) (old mid new : World) (at : Unwritten) (end : Result (Unit {0}) Stop) → IsErrAnd end (λ stop. stop ≡ Cut at) → Judges (judged command) R old.files mid.files (Ok plan) → AllByRecursion (λ write. MayWrite command write.0) plan.writes → mid.out ≡ old.out → IsCut plan mid new at → CommandEnds command old new end
-cut_ends command plan old mid new at (Ok x) e j n o h = absurd e
-cut_ends command plan old mid new at (Err stop) e j n o h =
+pub cut_ends : (command : Command) (plan : Plan) (old mid new : World) (at : Unwritten) (end : Result (Unit {0}) Stop) → IsErrAnd end (λ stop. stop ≡ Cut at) → IsPlanned command old.files plan → mid.files.told ≡ old.files.told → mid.files.faults ≡ old.files.faults → mid.out ≡ old.out → IsCut plan mid new at → CommandEnds command old new end
+cut_ends command plan old mid new at (Ok x) e j t l o h = absurd e
+cut_ends command plan old mid new at (Err stop) e j t l o h =
     let P : Stop → Type 0 = λ s. CommandEnds command old new (Err s) in
-    subst P (sym e) (plan, record { verdict = j.ok; names = n }, cut_from plan old mid new at j.told j.uncounted o h)
+    subst P (sym e) (plan, j, cut_from plan old mid new at t l o h)
+
+-- a command whose plan is done ends so
+pub done_ends : (command : Command) (plan : Plan) (old mid new : World) (x : Unit {0}) → IsPlanned command old.files plan → mid.files.told ≡ old.files.told → mid.files.faults ≡ old.files.faults → mid.out ≡ old.out → IsDone plan mid new → CommandEnds command old new (Ok x)
+done_ends command plan old mid new x j t l o h = (
+  plan,
+  j,
+  record {
+    told = h.told ∙ ap (all_replaced plan.writes) t;
+    out = h.out ∙ ap (λ s. append_known s.bytes plan.text) o;
+    files_uncounted = h.files_uncounted ∙ l;
+    out_uncounted = h.out_uncounted ∙ ap (λ s. s.faults) o;
+  },
+)

@@ -10,3 +10,7 @@ pub mod Ports
 pub mod Cut
 pub mod Told
 pub mod Causes
+pub mod Planned
+pub mod Crossed
+pub mod Passed
+pub mod Within

@@ -1,5 +1,5 @@
 -- No judgement of contents refuses the words: they are judged before any file is asked for.
-use Rattle.std.proofs.Common.{◌≡◌, ℕ, ◌+◌, Bool, true, false, cond, List, [], ◌∷◌, length, ap, refl}
+use Rattle.std.proofs.Common.{◌≡◌, ℕ, ◌+◌, Bool, true, false, cond, List, [], ◌∷◌, length, ap}
 use Rattle.std.specs.Prelude.{Option, None, Some, Result, Ok, Err, nat_lt}
 use Rattle.std.specs.FinMap.{get}
 use Rattle.cq_space.specs.Space.{Contents}
@@ -15,12 +15,14 @@ use Rattle.cq_route.specs.Plain.{plain_tables}
 use Rattle.cq_simulate.specs.IdealRuns.{ideal_departures}
 use Rattle.cq_tables.specs.Check.{Refused}
 use Rattle.cq_tables.specs.Document.{read_or_refused}
-use Rattle.cq_run.specs.declared.command.Command.{Command}
-use Rattle.cq_run.specs.declared.command.Command.TheVariants.{Pass, Check, Ideal}
+use Rattle.cq_words.specs.declared.command.Command.{Command}
+use Rattle.cq_words.specs.declared.command.Command.TheVariants.{Pass, Check, Ideal, Run, Soak}
 use Rattle.cq_run.specs.declared.refusal.Refusal.{Refusal}
 use Rattle.cq_run.specs.declared.refusal.Refusal.TheVariants.{Words, Capture}
 use Rattle.cq_run.specs.declared.refusal.CaptureFault.TheVariants.{Long}
-use Rattle.cq_run.specs.Plan.{Plan}
+use Rattle.cq_gen.specs.Packets.{soak_captures}
+use Rattle.cq_gen.specs.Tables.{soak_tables}
+use Rattle.cq_run.specs.Aim.{Aim, Exactly, Crossing, Reporting}
 use Rattle.cq_run.specs.Plans.{checked, passed, switched}
 use Rattle.cq_run.specs.Verdict.{◌>>=◌, named, found_or_missing, tables_in, read_or_refused_for, capture_in, capture_of, read_or_faulty, packets_at, captures_from, captures_in, sent_or_tag, ideally_sent, judged}
 
@@ -72,13 +74,27 @@ never_captures limit input (row ∷ rows) m h =
     (λ packets. never_then (captures_from limit (input + 1) rows m) (λ others. Ok (packets ∷ others)) (never_captures limit (input + 1) rows m) (λ others e. cc)) h
 
 -- no command comes to that
+never_switched : (config : List ℕ) (m : Contents) (aim : Tables → List (List Captured) → List Departure → Aim)
+    → IsOfContents (tables_in config m >>= (λ tables. captures_in tables m >>= (λ captures. ideally_sent tables captures >>= (λ sent. Ok (aim tables captures sent)))))
+never_switched config m aim =
+    let last : Tables → List (List Captured) → List Departure → Result Aim Refusal = λ tables captures sent. Ok (aim tables captures sent) in
+    never_then (tables_in config m) (λ tables. captures_in tables m >>= (λ captures. ideally_sent tables captures >>= (λ sent. last tables captures sent))) (never_tables config m)
+    (λ tables. never_then (captures_in tables m) (λ captures. ideally_sent tables captures >>= (λ sent. last tables captures sent)) (never_captures tables.limit_bytes 0 tables.ports m)
+    (λ captures. never_then (ideally_sent tables captures) (λ sent. last tables captures sent) (never_tag (ideal_departures tables.setup (arrivals tables captures))) (λ sent e. cc)))
+
 pub never_words : (command : Command) (m : Contents) → IsOfContents (judged command m)
 never_words (Pass from to) m =
     let tables = plain_tables from to in
-    never_then (capture_in from 0 tables.limit_bytes m) (λ packets. ideally_sent tables (packets ∷ []) >>= (λ sent. Ok (passed from to packets sent))) (never_capture from 0 tables.limit_bytes m)
-    (λ packets. never_then (ideally_sent tables (packets ∷ [])) (λ sent. Ok (passed from to packets sent)) (never_tag (ideal_departures tables.setup (arrivals tables (packets ∷ [])))) (λ sent e. cc))
-never_words (Check config) m = never_then (tables_in config m) (λ tables. Ok (checked tables)) (never_tables config m) (λ tables e. cc)
-never_words (Ideal config) m =
-    never_then (tables_in config m) (λ tables. captures_in tables m >>= (λ captures. ideally_sent tables captures >>= (λ sent. Ok (switched tables captures sent)))) (never_tables config m)
-    (λ tables. never_then (captures_in tables m) (λ captures. ideally_sent tables captures >>= (λ sent. Ok (switched tables captures sent))) (never_captures tables.limit_bytes 0 tables.ports m)
-    (λ captures. never_then (ideally_sent tables captures) (λ sent. Ok (switched tables captures sent)) (never_tag (ideal_departures tables.setup (arrivals tables captures))) (λ sent e. cc)))
+    let aim : List Captured → List Departure → Result Aim Refusal = λ packets sent. Ok (Exactly (passed from to packets sent)) in
+    never_then (capture_in from 0 tables.limit_bytes m) (λ packets. ideally_sent tables (packets ∷ []) >>= (λ sent. aim packets sent)) (never_capture from 0 tables.limit_bytes m)
+    (λ packets. never_then (ideally_sent tables (packets ∷ [])) (λ sent. aim packets sent) (never_tag (ideal_departures tables.setup (arrivals tables (packets ∷ [])))) (λ sent e. cc))
+never_words (Check config) m =
+    let aim : Tables → Result Aim Refusal = λ tables. Ok (Exactly (checked tables)) in
+    never_then (tables_in config m) aim (never_tables config m) (λ tables e. cc)
+never_words (Ideal config) m = never_switched config m (λ tables captures sent. Exactly (switched tables captures sent))
+never_words (Run config) m = never_switched config m (λ tables captures sent. Crossing tables captures sent)
+never_words (Soak seed ports slots) m =
+    let tables = soak_tables ports in
+    let captures = soak_captures seed ports slots in
+    let aim : List Departure → Result Aim Refusal = λ sent. Ok (Reporting tables captures) in
+    never_then (ideally_sent tables captures) aim (never_tag (ideal_departures tables.setup (arrivals tables captures))) (λ sent e. cc)

@@ -1,38 +1,42 @@
 -- How a run may end, what it leaves then, and its status.
-use Rattle.std.specs.Prelude.{◌≡◌, ◌⊎◌, ℕ, List, Option, IfSome, MatchOption, Result, Ok, Err}
+use Rattle.std.specs.Prelude.{◌≡◌, ℕ, List, IfSome, MatchOption, Result, Ok, Err, IsOkAnd}
 use Rattle.std.specs.List.{AllByRecursion}
 use Rattle.cq_base.specs.declared.status.Status.{Status}
 use Rattle.cq_base.specs.declared.status.Status.TheVariants as status
-use Rattle.cq_space.specs.Space.{Contents}
-use Rattle.cq_run.specs.declared.command.Command.{Command}
+use Rattle.cq_space.specs.Space.{Space}
+use Rattle.cq_words.specs.declared.command.Command.{Command}
 use Rattle.cq_run.specs.declared.refusal.Refusal.{Refusal}
 use Rattle.cq_run.specs.declared.refusal.Refusal.TheVariants as refusal
 use Rattle.cq_run.specs.declared.stop.Halt.{Halt}
 use Rattle.cq_run.specs.declared.stop.Halt.TheVariants.{Refused, Unread, NoMemory}
 use Rattle.cq_run.specs.declared.stop.Stop.{Stop}
 use Rattle.cq_run.specs.declared.stop.Stop.TheVariants.{Halted, Cut}
-use Rattle.cq_run.specs.Words.{command_for}
+use Rattle.cq_words.specs.Words.{command_for}
 use Rattle.cq_run.specs.Plan.{Plan}
+use Rattle.cq_run.specs.Aim.{Aim, Meets}
+use Rattle.cq_run.specs.Headline.{Emulates}
+use Rattle.cq_run.specs.Planning.{known_to}
 use Rattle.cq_run.specs.Refusals.{meaning_of}
 use Rattle.cq_run.specs.Verdict.{judged, MayRead, MayWrite}
 use Rattle.cq_run.specs.Judging.{Halts}
 use Rattle.cq_run.specs.World.{World, IsUntouched}
 use Rattle.cq_run.specs.Writing.{IsDone, IsCut}
 
--- the command comes to this plan where contents are told, and in any case the plan writes only names of the command
-pub record IsPlanned (command : Command) (told : Option Contents) (plan : Plan) : Type 0 where
-  pub verdict : IfSome told (λ m. judged command m ≡ Ok plan)
+-- the plan meets what the command aims at where that is known, and in any case it writes only names of the command
+pub record IsPlanned (command : Command) (old : Space) (plan : Plan) : Type 0 where
+  pub verdict : IfSome (known_to command old).told (λ m. IsOkAnd (judged command m) (λ aim. Meets aim plan))
+  pub emulates : IfSome old.told (λ m. Emulates command m plan)
   pub names : AllByRecursion (λ write. MayWrite command write.0) plan.writes
 
 -- how a command may end: its plan is done, nothing was written, or its plan was cut short
 abbrev pub CommandEnds : Command → World → World → Result (Unit {0}) Stop → Type 0
-CommandEnds command old new (Ok x) = (plan : Plan) × IsPlanned command old.files.told plan × IsDone plan old new
-CommandEnds command old new (Err (Halted halt)) = Halts (judged command) (MayRead command) old.files new.files halt × IsUntouched old new
-CommandEnds command old new (Err (Cut at)) = (plan : Plan) × IsPlanned command old.files.told plan × IsCut plan old new at
+CommandEnds command old new (Ok x) = (plan : Plan) × IsPlanned command old.files plan × IsDone plan old new
+CommandEnds command old new (Err (Halted halt)) = Halts (judged command) (MayRead command) (known_to command old.files) (known_to command new.files) halt × IsUntouched old new
+CommandEnds command old new (Err (Cut at)) = (plan : Plan) × IsPlanned command old.files plan × IsCut plan old new at
 
--- words that are no command are refused, unless memory runs out; files and standard output are as before, with their counts of faults
+-- words that are no command are refused; files and standard output are as before, with their counts of faults
 abbrev pub WordsEnd : World → World → Result (Unit {0}) Stop → Type 0
-WordsEnd old new end = ((end ≡ Err (Halted (Refused refusal.Words))) ⊎ (end ≡ Err (Halted NoMemory))) × (new ≡ old)
+WordsEnd old new end = (end ≡ Err (Halted (Refused refusal.Words))) × (new ≡ old)
 
 -- how a run may end: by whether its words are a command
 abbrev pub Ends : List (List ℕ) → World → World → Result (Unit {0}) Stop → Type 0
@@ -55,6 +59,6 @@ status_of (Ok x) = status.Done
 status_of (Err stop) = stop_status stop
 
 -- the status that a verdict calls for
-abbrev pub status_by : Result Plan Refusal → Status
-status_by (Ok plan) = status.Done
+abbrev pub status_by : Result Aim Refusal → Status
+status_by (Ok aim) = status.Done
 status_by (Err refusal) = (meaning_of refusal).status

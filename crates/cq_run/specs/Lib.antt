@@ -1,12 +1,14 @@
-pub mod Words
 pub mod Plan
 pub mod Plans
+pub mod Aim
 pub mod Refusals
 pub mod Verdict
 pub mod Judging
 pub mod Switching
 pub mod World
 pub mod Writing
+pub mod Planning
+pub mod Headline
 pub mod Ending
 pub mod Line
 pub mod Answers

@@ -40,7 +40,7 @@ fault_text (Long limit) = codes "8, limit " ++ decimal limit
 
 -- the forms of the commands
 abbrev pub usage : List ℕ
-usage = codes "usage: cq_switch pass IN OUT | check CONFIG | ideal CONFIG"
+usage = codes "usage: cq_switch pass IN OUT | check CONFIG | ideal CONFIG | run CONFIG | soak SEED PORTS SLOTS"
 
 -- words are judged before any file is asked for, and a name is missed only where contents are told
 abbrev pub meaning_of : Refusal → Meaning

@@ -1,12 +1,38 @@
 -- What is kept of a run until its bytes are built.
 use Rattle.std.specs.Prelude.{◌≡◌, List, Ok}
 use Rattle.cq_cells.specs.Schedule.{first_stamp}
+use Rattle.cq_ideal.specs.IdealRun.{departures_of}
+use Rattle.cq_laws.specs.FabricSlot.{SlotRecord}
+use Rattle.cq_laws.specs.Measures.{figures_of}
+use Rattle.cq_laws.specs.Records.{gone_in, transfers_of_run}
 use Rattle.cq_pcap.specs.Captured.{Captured}
 use Rattle.cq_route.specs.declared.tables.Tables.{Tables}
+use Rattle.cq_route.specs.Tables.{ports_of}
+use Rattle.cq_simulate.specs.declared.refusal.RunRefusal.{RunRefusal}
+use Rattle.cq_simulate.specs.declared.refusal.RunRefusal.TheVariants as run
+use Rattle.cq_run.specs.declared.refusal.Refusal.TheVariants.{Tag}
+use Rattle.cq_run.specs.declared.stop.Halt.{Halt}
+use Rattle.cq_run.specs.declared.stop.Halt.TheVariants.{Refused, NoMemory}
+use Rattle.cq_run.specs.declared.switching.Crossed.{Crossed}
 use Rattle.cq_run.specs.declared.switching.Switched.{Switched}
+use Rattle.cq_run.specs.Headline.{KeepsUp}
 use Rattle.cq_run.specs.Verdict.{ideally_sent}
 
 -- these are the departures of the ideal switch, and the stamp from which their slots are counted
 pub record IsSwitched (t : Tables) (captures : List (List Captured)) (s : Switched) : Type 0 where
   pub sent : ideally_sent t captures ≡ Ok s.sent.items
   pub first_stamp : s.first_stamp ≡ first_stamp captures
+
+-- the same of the crossbar switch, which keeps up, with its transfers and its figures
+pub record IsCrossed (t : Tables) (captures : List (List Captured)) (c : Crossed) : Type 0 where
+  pub switched : IsSwitched t captures c.switched
+  pub records : List SlotRecord
+  pub keeps_up : KeepsUp t captures records
+  pub departed : c.switched.sent.items ≡ departures_of 0 (gone_in records)
+  pub note : c.note.items ≡ transfers_of_run records
+  pub figures : c.figures ≡ figures_of (ports_of t.setup) records
+
+-- why the program stops where a run has no result
+abbrev pub halt_of : RunRefusal → Halt
+halt_of (run.Tag fault) = Refused (Tag fault)
+halt_of run.NoMemory = NoMemory

@@ -1,10 +1,12 @@
--- What words and contents come to: what is to be written, or the refusal that is met first.
+-- What words and contents come to: what is aimed at, or the refusal that is met first.
 use Rattle.std.specs.Prelude.{◌≡◌, ℕ, ◌+◌, if◌then◌else◌, nat_lt, List, [], ◌∷◌, length, Option, None, Some, Result, Ok, Err}
 use Rattle.std.specs.FinMap.{get}
 use Rattle.cq_base.specs.declared.cell.Departure.{Departure}
 use Rattle.cq_base.specs.declared.cell.TagFault.{TagFault}
 use Rattle.cq_cells.specs.Schedule.{arrivals}
 use Rattle.cq_space.specs.Space.{Contents}
+use Rattle.cq_gen.specs.Packets.{soak_captures}
+use Rattle.cq_gen.specs.Tables.{soak_tables}
 use Rattle.cq_pcap.specs.Captured.{Captured}
 use Rattle.cq_pcap.specs.Faults.{Fault}
 use Rattle.cq_pcap.specs.Reading.{packets_of}
@@ -14,13 +16,13 @@ use Rattle.cq_route.specs.Plain.{plain_tables}
 use Rattle.cq_simulate.specs.IdealRuns.{ideal_departures}
 use Rattle.cq_tables.specs.Check.{Refused}
 use Rattle.cq_tables.specs.Document.{read_or_refused}
-use Rattle.cq_run.specs.declared.command.Command.{Command}
-use Rattle.cq_run.specs.declared.command.Command.TheVariants.{Pass, Check, Ideal}
+use Rattle.cq_words.specs.declared.command.Command.{Command}
+use Rattle.cq_words.specs.declared.command.Command.TheVariants.{Pass, Check, Ideal, Run, Soak}
 use Rattle.cq_run.specs.declared.refusal.Refusal.{Refusal}
 use Rattle.cq_run.specs.declared.refusal.Refusal.TheVariants.{Words, Missing, Configuration, Capture, Tag}
 use Rattle.cq_run.specs.declared.refusal.CaptureFault.TheVariants.{Long}
-use Rattle.cq_run.specs.Words.{command_for}
-use Rattle.cq_run.specs.Plan.{Plan}
+use Rattle.cq_words.specs.Words.{command_for}
+use Rattle.cq_run.specs.Aim.{Aim, Exactly, Crossing, Reporting}
 use Rattle.cq_run.specs.Refusals.{capture_fault}
 use Rattle.cq_run.specs.Plans.{checked, passed, switched}
 
@@ -89,28 +91,36 @@ sent_or_tag (Err fault) = Err (Tag fault)
 abbrev pub ideally_sent : Tables → List (List Captured) → Result (List Departure) Refusal
 ideally_sent tables captures = sent_or_tag (ideal_departures tables.setup (arrivals tables captures))
 
--- what a command comes to; a new command is one case here, and one in `MayRead` and in `MayWrite`
-abbrev pub judged : Command → Contents → Result Plan Refusal
+-- what a command comes to; a new command is one case here, in `MayRead` and in `MayWrite`, and in `known_to`, `IsWithinRange` and `Emulates`
+abbrev pub judged : Command → Contents → Result Aim Refusal
 judged (Pass from to) m = do
   packets ← capture_in from 0 (plain_tables from to).limit_bytes m
   sent ← ideally_sent (plain_tables from to) (packets ∷ [])
-  Ok (passed from to packets sent)
+  Ok (Exactly (passed from to packets sent))
 judged (Check config) m = do
   tables ← tables_in config m
-  Ok (checked tables)
+  Ok (Exactly (checked tables))
 judged (Ideal config) m = do
   tables ← tables_in config m
   captures ← captures_in tables m
   sent ← ideally_sent tables captures
-  Ok (switched tables captures sent)
+  Ok (Exactly (switched tables captures sent))
+judged (Run config) m = do
+  tables ← tables_in config m
+  captures ← captures_in tables m
+  sent ← ideally_sent tables captures
+  Ok (Crossing tables captures sent)
+judged (Soak seed ports slots) m = do
+  sent ← ideally_sent (soak_tables ports) (soak_captures seed ports slots)
+  Ok (Reporting (soak_tables ports) (soak_captures seed ports slots))
 
 -- words that are no command are refused before anything is read
-abbrev pub judged_or_words : Option Command → Contents → Result Plan Refusal
+abbrev pub judged_or_words : Option Command → Contents → Result Aim Refusal
 judged_or_words None m = Err Words
 judged_or_words (Some command) m = judged command m
 
 -- what the words come to
-abbrev pub verdict : List (List ℕ) → Contents → Result Plan Refusal
+abbrev pub verdict : List (List ℕ) → Contents → Result Aim Refusal
 verdict words m = judged_or_words (command_for words) m
 
 -- the names that the line of a read fault may have, whatever the contents: where a configuration says what is read, any
@@ -118,9 +128,13 @@ abbrev pub MayRead : Command → List ℕ → Type 0
 MayRead (Pass from to) name = name ≡ from
 MayRead (Check config) name = name ≡ config
 MayRead (Ideal config) name = Unit {0}
+MayRead (Run config) name = Unit {0}
+MayRead (Soak seed ports slots) name = ⊥
 
 -- the names that a command's plan may write, whatever the contents: where a configuration says what is written, any
 abbrev pub MayWrite : Command → List ℕ → Type 0
 MayWrite (Pass from to) name = name ≡ to
 MayWrite (Check config) name = ⊥
 MayWrite (Ideal config) name = Unit {0}
+MayWrite (Run config) name = Unit {0}
+MayWrite (Soak seed ports slots) name = ⊥

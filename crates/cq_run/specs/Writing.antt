@@ -35,10 +35,11 @@ abbrev pub IsCutAtFile : List (List ℕ × List ℕ) → List ℕ → Space → 
 IsCutAtFile [] name old new = ⊥
 IsCutAtFile (w ∷ ws) name old new = ((w.0 ≡ name) × IsCutShort w old new) ⊎ ((mid : Space) × IsWritten w old mid × IsCutAtFile ws name mid new)
 
--- writing stopped at standard output: all files are whole, its count of faults rose, and it took a front of the text
+-- writing stopped at standard output: all files are whole, its count of faults rose and theirs did not, and it took a front of the text
 pub record IsCutAtOutput (plan : Plan) (old new : World) : Type 0 where
   pub cause : Rose old.out.faults new.out.faults
   pub told : new.files.told ≡ all_replaced plan.writes old.files.told
+  pub files_uncounted : new.files.faults ≡ old.files.faults
   pub out : (n : ℕ) × (new.out.bytes ≡ append_known old.out.bytes (take n plan.text))
 
 -- where writing stopped, and what it left; standard output comes after all files

@@ -1,14 +1,16 @@
 //! Building the bytes that a command comes to. Here nothing is read and nothing is written.
-ghost use Rattle.std.specs.Prelude.{◌≡◌, ◌∷◌, ◌++◌, ◌<◌, [], IfOk, OnOk, length};
+ghost use Rattle.std.specs.Prelude.{◌≡◌, ◌∷◌, ◌++◌, ◌<◌, ◌≤◌, [], All, IfOk, OnOk, length};
 ghost use Rattle.cq_route.specs.Tables.{AreTables, ports_of};
-ghost use Rattle.cq_run.specs.Plans.{capture_out, check_line, checked, counted, switched};
+ghost use Rattle.cq_run.specs.Plans.{capture_out, captures_out, check_line, checked, counted, switched};
+ghost use Rattle.cq_report.specs.Report.{report_of};
+ghost use Rattle.cq_base.specs.Texts.{log_of, trace_of};
 ghost use Rattle.cq_run.specs.Switching.{IsSwitched};
 
 use crate::plan::{Work, Write};
-use crate::switching::Switched;
-use cq_base::{Name, NoMemory, Port, digits};
+use crate::switching::{Crossed, Switched};
+use cq_base::{Figures, Name, NoMemory, Port, digits};
 use cq_pcap::{Capture, capture_bytes};
-use cq_report::trace_text;
+use cq_report::{log_text, report_text, trace_text};
 use cq_route::Tables;
 use cq_simulate::packets_of;
 use std::alloc::Global;
@@ -85,16 +87,76 @@ pub fn build_switched(
     requires run { IsSwitched tables.now captures.now run.now }
     ensures { IfOk result (λ plan. plan ≡ switched tables.now captures.now run.now.sent.items) }
 {
+    let mut writes = build_captures(alloc, tables, captures, run)?;
+    let trace = trace_text(alloc, run.sent.items())?;
+    put_write(alloc, &mut writes, &tables.trace, trace)?;
+    Ok(Work::of(writes, Vec::new(alloc)))
+}
+
+/// What leaves each output of the crossbar switch, the trace and the log of its run, and its report.
+pub fn build_crossed(
+    alloc: Global,
+    tables: &Tables,
+    captures: &[Capture],
+    run: &Crossed,
+) -> Result<Work, NoMemory>
+    requires tables { AreTables tables.now }
+    requires captures { length captures.now ≡ ports_of tables.now.setup }
+    requires run { IsSwitched tables.now captures.now run.now.switched }
+    requires reportable { All (λ x. x.cells ≤ run.now.figures.slots) run.now.figures.outputs }
+    ensures writes { IfOk result (λ plan. plan.writes ≡ captures_out tables.now captures.now run.now.switched.sent.items 0 tables.now.ports
+        ++ (tables.now.trace, trace_of run.now.switched.sent.items) ∷ (tables.now.log, log_of run.now.note.items) ∷ []) }
+    ensures text { IfOk result (λ plan. plan.text ≡ report_of run.now.figures) }
+{
+    let mut writes = build_captures(alloc, tables, captures, &run.switched)?;
+    let trace = trace_text(alloc, run.switched.sent.items())?;
+    put_write(alloc, &mut writes, &tables.trace, trace)?;
+    let log = log_text(alloc, run.note.items())?;
+    put_write(alloc, &mut writes, &tables.log, log)?;
+    Ok(Work::of(writes, report_text(alloc, &run.figures)?))
+}
+
+/// The report of a run, where nothing else is written.
+pub fn build_report(alloc: Global, figures: &Figures) -> Result<Work, NoMemory>
+    requires { All (λ x. x.cells ≤ figures.now.slots) figures.now.outputs }
+    ensures writes { IfOk result (λ plan. plan.writes ≡ []) }
+    ensures text { IfOk result (λ plan. plan.text ≡ report_of figures.now) }
+{
+    Ok(Work::of(Vec::new(alloc), report_text(alloc, figures)?))
+}
+
+// The captures of what leaves each output, each under its name, with places for the trace and the log.
+fn build_captures(
+    alloc: Global,
+    tables: &Tables,
+    captures: &[Capture],
+    run: &Switched,
+) -> Result<Vec<Write>, NoMemory>
+    requires tables { AreTables tables.now }
+    requires captures { length captures.now ≡ ports_of tables.now.setup }
+    requires run { IsSwitched tables.now captures.now run.now }
+    ensures { IfOk result (λ writes. writes.items ≡ captures_out tables.now captures.now run.now.sent.items 0 tables.now.ports) }
+{
     let rows = tables.ports.as_slice();
-    let mut writes = Vec::with_capacity(alloc, rows.len() + 1)?;
+    let mut writes = Vec::with_capacity(alloc, rows.len() + 2)?;
     'ports: for (output, row) in rows.iter().enumerate() {
         let bytes = build_capture(alloc, tables, captures, run, output as Port)?;
-        let name = Name::of(alloc, row.write.text())?;
-        writes.push(Write::of(name, bytes))?;
+        put_write(alloc, &mut writes, &row.write, bytes)?;
     }
-    let trace = trace_text(alloc, run.sent.items())?;
-    writes.push(Write::of(Name::of(alloc, tables.trace.text())?, trace))?;
-    Ok(Work::of(writes, Vec::new(alloc)))
+    Ok(writes)
+}
+
+// One more name that is to have these bytes, behind the others.
+fn put_write(
+    alloc: Global,
+    writes: &mut Vec<Write>,
+    name: &Name,
+    bytes: Vec<u8>,
+) -> Result<(), NoMemory>
+    ensures { OnOk result (writes.new.items ≡ writes.old.items ++ (name.now, bytes.items) ∷ []) }
+{
+    writes.push(Write::of(Name::of(alloc, name.text())?, bytes))?;
+    Ok(())
 }
 
 // The capture of what leaves an output.

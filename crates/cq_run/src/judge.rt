@@ -1,39 +1,68 @@
 //! Judging what the words name. Nothing is written here.
-ghost use Rattle.std.specs.Prelude.{◌≡◌, IfOk};
+ghost use Rattle.std.specs.Prelude.{◌≡◌, [], IfErr, IfOk, IfSome, IsOk};
+ghost use Rattle.std.specs.Int.{IsInRange};
 ghost use Rattle.std.specs.List.{AllByRecursion};
 ghost use Rattle.cq_space.specs.Space.{Closed};
-ghost use Rattle.cq_run.specs.Judging.{Judges};
-ghost use Rattle.cq_run.specs.Verdict.{judged, MayRead, MayWrite};
+ghost use Rattle.cq_gen.specs.Packets.{soak_captures};
+ghost use Rattle.cq_gen.specs.Tables.{soak_tables};
+ghost use Rattle.cq_run.specs.Aim.{Meets, Reporting};
+ghost use Rattle.cq_run.specs.Judging.{IsHaltOf};
+ghost use Rattle.cq_run.specs.Headline.{Emulates, IsEmulation};
+ghost use Rattle.cq_run.specs.Planning.{Plans, known_to, IsWithinRange};
+ghost use Rattle.cq_run.specs.Verdict.{ideally_sent, judged, MayRead, MayWrite};
 
-use crate::build::{build_check, build_passed, build_switched};
+use crate::build::{build_check, build_crossed, build_passed, build_report, build_switched};
 use crate::plan::Work;
 use crate::reading::{put_capture, read_configuration, read_input, read_inputs};
-use crate::switching::switch_ideally;
+use crate::switching::{switch_by_crossbar, switch_ideally};
 use crate::{Command, Halt};
 use cq_base::Name;
+use cq_crew::Gate;
+use cq_gen::make;
 use cq_route::Tables;
 use cq_space::Files;
 use std::alloc::Global;
+use std::thread::Threads;
 
 /// What a command comes to: the work to be done, with all its bytes, or the first refusal. It reads
-/// only, and leaves the file space closed.
-pub fn judge<F: Files>(alloc: Global, files: &mut F, command: Command) -> Result<Work, Halt>
-    requires { (F.space files.old).mode ≡ Closed }
-    ensures judges { Judges (judged command) (MayRead command) (F.space files.old) (F.space files.new) result }
+/// only, and leaves the file space closed. The gate is told of the workers' steps, and changes no answer.
+pub fn judge<R: Threads + Sync, F: Files, G: Gate>(
+    rt: &R,
+    alloc: Global,
+    files: &mut F,
+    command: Command,
+    gate: &G,
+) -> Result<Work, Halt>
+    requires closed { (F.space files.old).mode ≡ Closed }
+    requires range { IsWithinRange command }
+    ensures judges { Plans (judged command) (MayRead command)
+        (known_to command (F.space files.old)) (known_to command (F.space files.new)) result }
     ensures names { IfOk result (λ plan. AllByRecursion (λ write. MayWrite command write.0) plan.writes) }
+    ensures emulates { IfOk result (λ plan. IfSome (F.space files.old).told (λ m. Emulates command m plan)) }
+    ensures closed { (F.space files.new).mode ≡ Closed }
+    ensures told { (F.space files.new).told ≡ (F.space files.old).told }
 {
     match command {
-        Command::Pass { from, to } => pass(alloc, files, from, to),
+        Command::Pass { from, to } => pass(rt, alloc, files, from, to, gate),
         Command::Check { config } => check(alloc, files, config),
-        Command::Ideal { config } => ideal(alloc, files, config),
+        Command::Ideal { config } => ideal(rt, alloc, files, config),
+        Command::Run { config } => run(rt, alloc, files, config, gate),
+        Command::Soak { seed, ports, slots } => soak(rt, alloc, seed, ports, slots, gate),
     }
 }
 
 #[tactic(auto, unfolding(cq_route::specs::Plain::plain_tables))]
-fn pass<F: Files>(alloc: Global, files: &mut F, from: Name, to: Name) -> Result<Work, Halt>
+fn pass<R: Threads + Sync, F: Files, G: Gate>(
+    rt: &R,
+    alloc: Global,
+    files: &mut F,
+    from: Name,
+    to: Name,
+    gate: &G,
+) -> Result<Work, Halt>
     requires { (F.space files.old).mode ≡ Closed }
     ensures judges { let command = Command.Pass from to in
-        Judges (judged command) (MayRead command) (F.space files.old) (F.space files.new) result }
+        Plans (judged command) (MayRead command) (F.space files.old) (F.space files.new) result }
     ensures names { let command = Command.Pass from to in
         IfOk result (λ plan. AllByRecursion (λ write. MayWrite command write.0) plan.writes) }
 {
@@ -41,14 +70,15 @@ fn pass<F: Files>(alloc: Global, files: &mut F, from: Name, to: Name) -> Result<
     let capture = read_input(alloc, files, from, 0, tables.limit_bytes)?;
     let mut captures = Vec::new(alloc);
     put_capture(&mut captures, capture)?;
-    let switched = switch_ideally(alloc, &tables, &captures)?;
+    let crossed = switch_by_crossbar(rt, alloc, &tables, &captures, gate)?;
+    let switched = crossed.into_switched();
     Ok(build_passed(alloc, &tables, captures, switched, to)?)
 }
 
 fn check<F: Files>(alloc: Global, files: &mut F, config: Name) -> Result<Work, Halt>
     requires { (F.space files.old).mode ≡ Closed }
     ensures judges { let command = Command.Check config in
-        Judges (judged command) (MayRead command) (F.space files.old) (F.space files.new) result }
+        Plans (judged command) (MayRead command) (F.space files.old) (F.space files.new) result }
     ensures names { let command = Command.Check config in
         IfOk result (λ plan. AllByRecursion (λ write. MayWrite command write.0) plan.writes) }
 {
@@ -56,15 +86,60 @@ fn check<F: Files>(alloc: Global, files: &mut F, config: Name) -> Result<Work, H
     Ok(build_check(alloc, &tables)?)
 }
 
-fn ideal<F: Files>(alloc: Global, files: &mut F, config: Name) -> Result<Work, Halt>
+fn ideal<R: Threads + Sync, F: Files>(
+    rt: &R,
+    alloc: Global,
+    files: &mut F,
+    config: Name,
+) -> Result<Work, Halt>
     requires { (F.space files.old).mode ≡ Closed }
     ensures judges { let command = Command.Ideal config in
-        Judges (judged command) (MayRead command) (F.space files.old) (F.space files.new) result }
+        Plans (judged command) (MayRead command) (F.space files.old) (F.space files.new) result }
     ensures names { let command = Command.Ideal config in
         IfOk result (λ plan. AllByRecursion (λ write. MayWrite command write.0) plan.writes) }
 {
     let tables = read_configuration(alloc, files, config)?;
     let captures = read_inputs(alloc, files, &tables)?;
-    let switched = switch_ideally(alloc, &tables, captures.as_slice())?;
+    let switched = switch_ideally(rt, alloc, &tables, captures.as_slice())?;
     Ok(build_switched(alloc, &tables, captures.as_slice(), &switched)?)
+}
+
+fn run<R: Threads + Sync, F: Files, G: Gate>(
+    rt: &R,
+    alloc: Global,
+    files: &mut F,
+    config: Name,
+    gate: &G,
+) -> Result<Work, Halt>
+    requires { (F.space files.old).mode ≡ Closed }
+    ensures judges { let command = Command.Run config in
+        Plans (judged command) (MayRead command) (F.space files.old) (F.space files.new) result }
+    ensures names { let command = Command.Run config in
+        IfOk result (λ plan. AllByRecursion (λ write. MayWrite command write.0) plan.writes) }
+    ensures emulates { IfOk result (λ plan. IfSome (F.space files.old).told (λ m. IsEmulation config m plan)) }
+{
+    let tables = read_configuration(alloc, files, config)?;
+    let captures = read_inputs(alloc, files, &tables)?;
+    let crossed = switch_by_crossbar(rt, alloc, &tables, captures.as_slice(), gate)?;
+    Ok(build_crossed(alloc, &tables, captures.as_slice(), &crossed)?)
+}
+
+fn soak<R: Threads + Sync, G: Gate>(
+    rt: &R,
+    alloc: Global,
+    seed: u64,
+    ports: u16,
+    slots: u32,
+    gate: &G,
+) -> Result<Work, Halt>
+    requires ports { IsInRange 1 64 ports }
+    requires slots { IsInRange 1 20000 slots }
+    ensures meets { IfOk result (λ plan. Meets (Reporting (soak_tables ports) (soak_captures seed ports slots)) plan) }
+    ensures writes { IfOk result (λ plan. plan.writes ≡ []) }
+    ensures sent { IfOk result (λ _. IsOk (ideally_sent (soak_tables ports) (soak_captures seed ports slots))) }
+    ensures refused { IfErr result (IsHaltOf (ideally_sent (soak_tables ports) (soak_captures seed ports slots))) }
+{
+    let soak = make(alloc, seed, ports, slots)?;
+    let crossed = switch_by_crossbar(rt, alloc, &soak.tables, &soak.captures, gate)?;
+    Ok(build_report(alloc, &crossed.figures)?)
 }

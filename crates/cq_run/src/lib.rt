@@ -7,7 +7,6 @@
 #![tactic(auto)]
 
 mod build;
-mod command;
 mod judge;
 mod perform;
 mod plan;
@@ -18,7 +17,8 @@ mod stop;
 mod switching;
 mod top;
 
-pub use command::{Command, command_of};
+pub use cq_simulate::{FabricRun, IdealRun, RunRefusal, packets_of, run_fabric, run_ideal};
+pub use cq_words::{Command, command_of};
 pub use refusal::{CaptureFault, Refusal};
 pub use stop::{Halt, Stop, Unwritten};
 pub use top::switch_top;

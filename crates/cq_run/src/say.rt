@@ -10,7 +10,8 @@ use crate::{CaptureFault, Halt, Refusal, Stop, Unwritten};
 use cq_base::{Name, TagFault, digits};
 use cq_space::{Sink, WriteFault, put_all};
 
-const USAGE: &[u8; 58] = b"usage: cq_switch pass IN OUT | check CONFIG | ideal CONFIG";
+const USAGE: &[u8; 95] =
+    b"usage: cq_switch pass IN OUT | check CONFIG | ideal CONFIG | run CONFIG | soak SEED PORTS SLOTS";
 
 const READ_FAULT: &[u8; 12] = b"read fault: ";
 

@@ -1,17 +1,19 @@
 //! Running a switch over the captures that were read.
-ghost use Rattle.std.specs.Prelude.{◌≡◌, IfOk, IfErr, length};
+ghost use Rattle.std.specs.Prelude.{◌≡◌, ◌≤◌, All, IfOk, IfErr, length};
 ghost use Rattle.cq_route.specs.Tables.{AreTables, ports_of};
 ghost use Rattle.cq_run.specs.Judging.{IsHaltOf};
-ghost use Rattle.cq_run.specs.Switching.{IsSwitched};
+ghost use Rattle.cq_run.specs.Switching.{IsCrossed, IsSwitched};
 ghost use Rattle.cq_run.specs.Verdict.{ideally_sent};
 
 use crate::{Halt, Refusal};
-use cq_base::{Departure, Room};
+use cq_base::{Departure, Figures, Room, Transfer};
 use cq_cells::Schedule;
+use cq_crew::Gate;
 use cq_pcap::Capture;
 use cq_route::Tables;
-use cq_simulate::{RunRefusal, run_ideal};
+use cq_simulate::{RunRefusal, run_fabric, run_ideal};
 use std::alloc::Global;
+use std::thread::Threads;
 
 /// What was sent, and the stamp from which its slots are counted, in nanoseconds.
 #[derive(Drop)]
@@ -20,8 +22,31 @@ pub struct Switched {
     pub first_stamp: u64,
 }
 
+/// What the crossbar switch sent and transferred, and what was seen of its run.
+#[derive(Drop)]
+pub struct Crossed {
+    pub switched: Switched,
+    pub note: Room<Transfer>,
+    pub figures: Figures,
+}
+
+impl Crossed {
+    /// What was sent. The rest is dropped.
+    pub fn into_switched(self) -> Switched
+        ensures { result ≡ self.switched }
+    {
+        let Crossed {
+            switched,
+            note: _,
+            figures: _,
+        } = self;
+        switched
+    }
+}
+
 /// What the ideal switch sends of these captures, one for each port.
-pub fn switch_ideally(
+pub fn switch_ideally<R: Threads + Sync>(
+    rt: &R,
     alloc: Global,
     tables: &Tables,
     captures: &[Capture],
@@ -31,15 +56,54 @@ pub fn switch_ideally(
     ensures switched { IfOk result (IsSwitched tables.now captures.now) }
     ensures refused { IfErr result (IsHaltOf (ideally_sent tables.now captures.now)) }
 {
-    let schedule = Schedule::of(alloc, captures, tables)?;
-    match run_ideal(alloc, tables, &schedule) {
-        Ok(run) => Ok(Switched {
-            sent: run.sent,
-            first_stamp: schedule.t0(),
-        }),
-        Err(RunRefusal::Tag(fault)) => Err(Halt::Refused {
-            refusal: Refusal::Tag { fault },
-        }),
-        Err(RunRefusal::NoMemory) => Err(Halt::NoMemory),
+    let schedule = Schedule::of(rt, alloc, captures, tables)?;
+    let run = run_ideal(alloc, tables, &schedule)?;
+    Ok(Switched {
+        sent: run.sent,
+        first_stamp: schedule.t0(),
+    })
+}
+
+/// What the crossbar switch does with these captures, one for each port. It sends what the ideal switch
+/// sends, whoever proposes first.
+pub fn switch_by_crossbar<R: Threads + Sync, G: Gate>(
+    rt: &R,
+    alloc: Global,
+    tables: &Tables,
+    captures: &[Capture],
+    gate: &G,
+) -> Result<Crossed, Halt>
+    requires tables { AreTables tables.now }
+    requires captures { length captures.now ≡ ports_of tables.now.setup }
+    ensures crossed { IfOk result (IsCrossed tables.now captures.now) }
+    ensures reportable { IfOk result (λ crossed. All (λ x. x.cells ≤ crossed.figures.slots) crossed.figures.outputs) }
+    ensures refused { IfErr result (IsHaltOf (ideally_sent tables.now captures.now)) }
+{
+    let schedule = Schedule::of(rt, alloc, captures, tables)?;
+    let run = run_fabric(rt, alloc, tables, &schedule, gate)?;
+    let switched = Switched {
+        sent: run.sent,
+        first_stamp: schedule.t0(),
+    };
+    Ok(Crossed {
+        switched,
+        note: run.note,
+        figures: run.figures,
+    })
+}
+
+impl From<RunRefusal> for Halt {
+    ghost use Rattle.std.specs.Prelude.{◌≡◌};
+    ghost use Rattle.cq_run.specs.Switching.{halt_of};
+
+    ghost from_gives = { λ refusal halt. halt ≡ halt_of refusal };
+
+    fn from(refusal: RunRefusal) -> Self {
+        match refusal {
+            RunRefusal::Tag(fault) => Halt::Refused {
+                refusal: Refusal::Tag { fault },
+            },
+            RunRefusal::NoMemory => Halt::NoMemory,
+        }
     }
 }

@@ -1,8 +1,12 @@
 // The top call.
-ghost use Rattle.std.specs.Prelude.{◌≡◌, ◌⊎◌, None, map, string_bytes};
+ghost use Rattle.std.specs.Prelude.{◌≡◌, ℕ, List, None, Some, IfSome, map, string_bytes};
 ghost use Rattle.cq_space.specs.Space.{Closed};
-ghost use Rattle.cq_run.specs.Words.{command_for};
+ghost use Rattle.cq_words.specs.Words.{command_for};
+ghost use Rattle.cq_run.specs.Headline.{IsEmulation};
+ghost use Rattle.cq_run.specs.Plan.{Plan};
+ghost use Rattle.cq_run.specs.Planning.{IsWithinRange, known_by};
 ghost use Rattle.cq_run.specs.Verdict.{verdict};
+ghost use Rattle.cq_run.specs.Writing.{IsDone};
 ghost use Rattle.cq_run.specs.World.{world, taken_by};
 ghost use Rattle.cq_run.specs.Ending.{Ends, CommandEnds};
 ghost use Rattle.cq_run.specs.Answers.{Answers};
@@ -13,31 +17,37 @@ use crate::perform::perform;
 use crate::say::say;
 use crate::{Command, Halt, Refusal, Stop, command_of};
 use cq_base::Status;
+use cq_crew::Gate;
 use cq_space::{Files, Sink};
 use std::alloc::Global;
+use std::thread::Threads;
 
 /// Does all that the program does: it judges the words and what they name, writes what that comes to,
 /// and, where it stops before that is done, tells `err` why in one line.
 ///
 /// - `Done`: all is written, and `err` is as before.
 /// - `Words`: the words are no command.
-/// - `Capture`: the capture of an input is at fault.
+/// - `Configuration`: the configuration is refused, for the first check that does not hold.
+/// - `Capture`: the capture of an input is at fault, that of the lowest input.
+/// - `Tag`: a rank of the ideal run does not fit 128 bits.
 /// - `ReadFault`: the name of the line is to be read and is not there, or the count of faults of the file
 ///   space rose in this call.
 /// - `WriteFault`: the count of faults of the file space rose once the files before the one of the line
 ///   were whole, or that of `out` rose once all files were. The file of the line is as before or has a
 ///   front of its bytes, and those after it are as before.
-/// - `NoMemory`: there was not the memory to judge the words, or to build all that is to be written.
+/// - `NoMemory`: there was not the memory to keep the words of a command, or to build all that is to be written.
 ///
 /// All bytes are ready before the first is written, so with every status but `Done` and `WriteFault` no
 /// file is started and `out` is as before. The file space has to be closed, and is closed again. A
 /// failing `err` changes no status.
-pub fn switch_top<F: Files, O: Sink, E: Sink>(
+pub fn switch_top<R: Threads + Sync, F: Files, O: Sink, E: Sink, G: Gate>(
+    rt: &R,
     alloc: Global,
     words: &[String],
     files: &mut F,
     out: &mut O,
     err: &mut E,
+    gate: &G,
 ) -> Status
     requires { (F.space files.old).mode ≡ Closed }
     ensures answer { Answers (map string_bytes words.now)
@@ -45,16 +55,21 @@ pub fn switch_top<F: Files, O: Sink, E: Sink>(
         (world F.space O.taken O.faults files.new out.new)
         (taken_by E.taken E.faults err.old) (taken_by E.taken E.faults err.new) result }
     ensures causes { StatusCauses (verdict (map string_bytes words.now))
+        (known_by (command_for (map string_bytes words.now)) (F.space files.old))
         (world F.space O.taken O.faults files.old out.old)
         (world F.space O.taken O.faults files.new out.new) result }
 
+    // The headline, of `run CONFIG`.
+    ensures headline { (config : List ℕ) → command_for (map string_bytes words.now) ≡ Some (Command.Run config) →
+        result ≡ Status.Done → IfSome (F.space files.old).told (λ m. (plan : Plan) × IsEmulation config m plan
+        × IsDone plan (world F.space O.taken O.faults files.old out.old) (world F.space O.taken O.faults files.new out.new)) }
+
     // Also over files that tell nothing.
-    ensures no_command { command_for (map string_bytes words.now) ≡ None
-        → (result ≡ Status.Words) ⊎ (result ≡ Status.NoMemory) }
+    ensures no_command { command_for (map string_bytes words.now) ≡ None → result ≡ Status.Words }
     ensures words_only { result ≡ Status.Words → command_for (map string_bytes words.now) ≡ None }
     ensures closed { (F.space files.new).mode ≡ Closed }
 {
-    match run(alloc, words, files, out) {
+    match run(rt, alloc, words, files, out, gate) {
         Ok(()) => Status::Done,
         Err(stop) => {
             let _ = say(err, &stop);
@@ -63,11 +78,13 @@ pub fn switch_top<F: Files, O: Sink, E: Sink>(
     }
 }
 
-fn run<F: Files, O: Sink>(
+fn run<R: Threads + Sync, F: Files, O: Sink, G: Gate>(
+    rt: &R,
     alloc: Global,
     words: &[String],
     files: &mut F,
     out: &mut O,
+    gate: &G,
 ) -> Result<(), Stop>
     requires { (F.space files.old).mode ≡ Closed }
     ensures ends { Ends (map string_bytes words.now)
@@ -76,26 +93,29 @@ fn run<F: Files, O: Sink>(
     ensures closed { (F.space files.new).mode ≡ Closed }
 {
     match command_of(alloc, words)? {
-        Some(command) => obey(alloc, files, out, command),
+        Some(command) => obey(rt, alloc, files, out, command, gate),
         None => Err(Stop::from(Halt::Refused {
             refusal: Refusal::Words,
         })),
     }
 }
 
-fn obey<F: Files, O: Sink>(
+fn obey<R: Threads + Sync, F: Files, O: Sink, G: Gate>(
+    rt: &R,
     alloc: Global,
     files: &mut F,
     out: &mut O,
     command: Command,
+    gate: &G,
 ) -> Result<(), Stop>
-    requires { (F.space files.old).mode ≡ Closed }
+    requires closed { (F.space files.old).mode ≡ Closed }
+    requires range { IsWithinRange command }
     ensures ends { CommandEnds command
         (world F.space O.taken O.faults files.old out.old)
         (world F.space O.taken O.faults files.new out.new) result }
     ensures closed { (F.space files.new).mode ≡ Closed }
 {
-    let work = judge(alloc, files, command)?;
+    let work = judge(rt, alloc, files, command, gate)?;
     perform(files, out, work)?;
     Ok(())
 }

@@ -1,6 +1,13 @@
 pub mod Coming
 pub mod Departed
+pub mod FabricComing
+pub mod FabricCounts
+pub mod FabricLaws
+pub mod FabricOpening
+pub mod FabricRunning
+pub mod FabricSteps
 pub mod Joining
+pub mod OnceASlot
 pub mod Opening
 pub mod Packed
 pub mod Running

@@ -162,7 +162,7 @@ running_first ms came first first_sent ready =
       early = let e : slots_of first_sent.items ≡ 0 = ap slots_of ready.nothing in omega arith;
     }
 
-come_here : (came : List Arrival) (slot n : ℕ) → come_count (rest_of came slot (suc n)) ≡ length (present (arriving came slot)) + come_count (rest_of came (slot + 1) n)
+pub come_here : (came : List Arrival) (slot n : ℕ) → come_count (rest_of came slot (suc n)) ≡ length (present (arriving came slot)) + come_count (rest_of came (slot + 1) n)
 unfolding rest_of come_count
 come_here came slot n = refl
 

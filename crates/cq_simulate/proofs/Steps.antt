@@ -48,7 +48,7 @@ arriving_fits ports classes came t k cell all is =
     (all_from (IsInRange ports classes) (λ a. a.slot ≡ t → a.cell.id.input ≡ k → Fits ports classes k a.cell)
     (λ a r _ same. record { input = subst (λ (i : ℕ). i < ports) same r.input; output = r.output; class = r.class }) came all)) is
 
-place_of : (came : List Arrival) (t input inputs : ℕ) (cell : Cell) → inputs ≡ 64 → arrival_at (arriving came t) input ≡ Some cell → arriving_at came t input ≡ Some cell
+pub place_of : (came : List Arrival) (t input inputs : ℕ) (cell : Cell) → inputs ≡ 64 → arrival_at (arriving came t) input ≡ Some cell → arriving_at came t input ≡ Some cell
 place_of came t input inputs cell are at =
     let none : Option Cell = None in
     let cells : List (Option Cell) = map (arriving_at came t) (range_with_len 0 inputs) in
@@ -77,7 +77,7 @@ departures_are : (x : Result Ran TagFault) → departures_ran x ≡ sent_from 0 
 departures_are (Ok ran) = refl
 departures_are (Err fault) = refl
 
-whole_run : (ms : List Machine) (came : List Arrival) (state : IdealState) → departures_ran (ideal_run ms 0 (traffic_of came) state) ≡ run_from ms came 0 (enough came) state
+pub whole_run : (ms : List Machine) (came : List Arrival) (state : IdealState) → departures_ran (ideal_run ms 0 (traffic_of came) state) ≡ run_from ms came 0 (enough came) state
 unfolding run_from rest_of traffic_of
 whole_run ms came state = departures_are (ideal_run ms 0 (traffic_of came) state)
 

@@ -1,3 +1,5 @@
+pub mod FabricReady
+pub mod FabricRuns
 pub mod IdealRuns
 pub mod Packets
 pub mod Pieces

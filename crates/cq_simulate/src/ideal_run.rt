@@ -1,5 +1,5 @@
 //! The run of the ideal switch.
-ghost use Rattle.std.specs.Prelude.{◌≡◌, ◌↔◌, ◌+◌, ◌<◌, ◌≤◌, ◌^◌, IsTrue, All, Ok, Err, IfOk, IfErr, OnOk, [], length, map};
+ghost use Rattle.std.specs.Prelude.{◌≡◌, ◌↔◌, ◌+◌, ◌<◌, ◌≤◌, ◌^◌, IsTrue, All, Ok, Err, IfOk, IfErr, OnOk, [], map};
 ghost use Rattle.std.specs.List.{range_with_len};
 ghost use Rattle.cq_base.specs.Arriving.{end_of, traffic_of};
 ghost use Rattle.cq_cells.specs.Traffic.{IsTraffic, IsShort, is_to, number_of};
@@ -55,7 +55,7 @@ pub fn run_ideal(
 }
 
 // How many cells arrive for each output.
-fn rooms_of(alloc: Global, schedule: &Schedule, ports: u16) -> Result<Vec<u64>, NoMemory>
+pub fn rooms_of(alloc: Global, schedule: &Schedule, ports: u16) -> Result<Vec<u64>, NoMemory>
     requires { ports ≤ schedule.now.ports }
     ensures { IfOk result (λ rooms. rooms.items ≡ map (λ j. number_of (is_to j) schedule.now.came) (range_with_len 0 ports)) }
 {

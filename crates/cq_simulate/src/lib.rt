@@ -1,12 +1,18 @@
 //! Whole runs of a configured switch over the cells that arrive, and the packets that leave it.
 #![tactic(auto)]
 
+mod fabric_run;
 mod ideal_run;
+mod idle;
+mod laws;
 mod packets;
 mod refusal;
 #[cfg(test)]
 mod tests;
 
+pub use fabric_run::{FabricRun, run_fabric};
 pub use ideal_run::{IdealRun, run_ideal};
+pub use idle::outputs_send_once_a_slot;
+pub use laws::fabric_sends_as_the_ideal_switch;
 pub use packets::packets_of;
 pub use refusal::RunRefusal;

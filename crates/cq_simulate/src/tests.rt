@@ -2,13 +2,15 @@
 ghost use Rattle.std.specs.Prelude.{◌≡◌, ◌<◌, IfOk, length};
 ghost use Rattle.cq_route.specs.Tables.{AreTables, ports_of};
 
-use crate::{RunRefusal, packets_of, run_ideal};
-use cq_base::{ClassRow, Kind, Name, NoMemory, Port, Sequence, TagFault};
+use crate::{FabricRun, RunRefusal, packets_of, run_fabric, run_ideal};
+use cq_base::{ClassRow, Departure, Kind, Name, NoMemory, Port, Sequence, TagFault};
 use cq_cells::Schedule;
+use cq_crew::OpenGate;
 use cq_pcap::{Capture, PcapRefusal, read_capture};
 use cq_route::{AddressRow, PortRow, Tables};
 use std::alloc::Global;
 use std::test::Fail;
+use std::thread::Threads;
 
 // Little-endian with nanoseconds.
 const HEADER: [u8; 24] = [
@@ -64,7 +66,8 @@ fn three_files(alloc: Global) -> Result<Vec<PortRow>, NoMemory>
     Ok(files)
 }
 
-// Three ports that send in the order of arrival. Frames to address one go to output one, all others to output zero.
+// Three ports that send in the order of arrival, and two workers. Frames to address one go to output one, all others to
+// output zero.
 #[tactic(auto, unfolding(cq_route::specs::Plain::plain_tables))]
 fn three_ports(alloc: Global) -> Result<Tables, NoMemory>
     ensures in_range { IfOk result (λ tables. AreTables tables) }
@@ -78,6 +81,7 @@ fn three_ports(alloc: Global) -> Result<Tables, NoMemory>
     tables.setup.kinds = Sequence::of(Vec::from_array(alloc, [Kind::FirstCome; 3])?);
     tables.ports = Sequence::of(three_files(alloc)?);
     tables.addresses = Sequence::of(Vec::from_array(alloc, [one])?);
+    tables.workers = 2;
     Ok(tables)
 }
 
@@ -106,8 +110,22 @@ fn dear_port(alloc: Global) -> Result<Tables, NoMemory>
     Ok(tables)
 }
 
-// What a run comes to: its slots, and of each departure the slot, the output, and the cell by input, packet and number.
-fn trace_of(
+// Of each departure the slot, the output, and the cell by input, packet and number.
+fn lines_of(
+    alloc: Global,
+    departures: &[Departure],
+) -> Result<Vec<(u64, u16, u16, u32, u32)>, NoMemory> {
+    let mut lines = Vec::new(alloc);
+    for d in departures {
+        let id = d.queued.cell.id;
+        lines.push((d.slot, d.output, id.input, id.packet, id.index))?;
+    }
+    Ok(lines)
+}
+
+// What a run comes to: its slots, and its departures.
+fn trace_of<R: Threads + Sync>(
+    rt: &R,
     alloc: Global,
     tables: &Tables,
     captures: &[Capture],
@@ -115,20 +133,63 @@ fn trace_of(
     requires tables { AreTables tables.now }
     requires captures { length captures.now ≡ ports_of tables.now.setup }
 {
-    let schedule = Schedule::of(alloc, captures, tables)?;
+    let schedule = Schedule::of(rt, alloc, captures, tables)?;
     let run = run_ideal(alloc, tables, &schedule)?;
+    Ok((run.slots, lines_of(alloc, run.sent.items())?))
+}
+
+// The run of the fabric.
+fn crossed<R: Threads + Sync>(
+    rt: &R,
+    alloc: Global,
+    tables: &Tables,
+    captures: &[Capture],
+) -> Result<FabricRun, RunRefusal>
+    requires tables { AreTables tables.now }
+    requires captures { length captures.now ≡ ports_of tables.now.setup }
+{
+    let schedule = Schedule::of(rt, alloc, captures, tables)?;
+    run_fabric(rt, alloc, tables, &schedule, &OpenGate)
+}
+
+// What the fabric sends: its slots, and its departures.
+fn fabric_trace_of<R: Threads + Sync>(
+    rt: &R,
+    alloc: Global,
+    tables: &Tables,
+    captures: &[Capture],
+) -> Result<(u64, Vec<(u64, u16, u16, u32, u32)>), RunRefusal>
+    requires tables { AreTables tables.now }
+    requires captures { length captures.now ≡ ports_of tables.now.setup }
+{
+    let run = crossed(rt, alloc, tables, captures)?;
+    Ok((run.figures.slots, lines_of(alloc, run.sent.items())?))
+}
+
+// What crosses the fabric: the proposals, and of each transfer the slot, the phase, the input, the output and the
+// packet.
+fn log_of<R: Threads + Sync>(
+    rt: &R,
+    alloc: Global,
+    tables: &Tables,
+    captures: &[Capture],
+) -> Result<(u64, Vec<(u64, u8, u16, u16, u32)>), RunRefusal>
+    requires tables { AreTables tables.now }
+    requires captures { length captures.now ≡ ports_of tables.now.setup }
+{
+    let run = crossed(rt, alloc, tables, captures)?;
     let mut lines = Vec::new(alloc);
-    for d in run.sent.items() {
-        let id = d.queued.cell.id;
+    for t in run.note.items() {
         lines
-            .push((d.slot, d.output, id.input, id.packet, id.index))
+            .push((t.slot, t.phase, t.input, t.output, t.id.packet))
             .map_err(NoMemory::from)?;
     }
-    Ok((run.slots, lines))
+    Ok((run.figures.proposals, lines))
 }
 
 // The packets that leave an output: of each the stamp, the length on the wire, and how many bytes were captured.
-fn packets_at(
+fn packets_at<R: Threads + Sync>(
+    rt: &R,
     alloc: Global,
     tables: &Tables,
     captures: &[Capture],
@@ -138,7 +199,7 @@ fn packets_at(
     requires captures { length captures.now ≡ ports_of tables.now.setup }
     requires output { output < ports_of tables.now.setup }
 {
-    let schedule = Schedule::of(alloc, captures, tables)?;
+    let schedule = Schedule::of(rt, alloc, captures, tables)?;
     let run = run_ideal(alloc, tables, &schedule)?;
     let packets = packets_of(
         alloc,
@@ -161,12 +222,12 @@ fn one_line_passes_as_it_came(rt: HostRuntime) -> Result<(), Fail> {
     let alloc = rt.alloc();
     let tables = one_port(alloc)?;
     let captures = [capture_of(alloc, &[(0, 64, 0), (0, 65, 0), (0, 128, 0)])?];
-    let seen = packets_at(alloc, &tables, &captures, 0);
+    let seen = packets_at(&rt, alloc, &tables, &captures, 0);
     let left = [(0, 68, 64), (1024, 69, 65), (2048, 132, 128)];
     assert_eq!(rt; seen.as_deref(), Ok(&left[..]));
 
     let none = [capture_of(alloc, &[])?];
-    let seen = trace_of(alloc, &tables, &none);
+    let seen = trace_of(&rt, alloc, &tables, &none);
     assert_eq!(rt; seen, Ok((0, Vec::new(alloc))));
     Ok(())
 }
@@ -186,17 +247,32 @@ fn cells_wait_for_their_output_after_the_last_has_arrived(rt: HostRuntime) -> Re
         (1, 1, 2, 1, 0),
         (2, 0, 2, 0, 0),
     ];
-    let seen = trace_of(alloc, &tables, &captures);
+    let seen = trace_of(&rt, alloc, &tables, &captures);
     assert_eq!(rt; seen.map(|(slots, _)| slots), Ok(3));
-    let seen = trace_of(alloc, &tables, &captures);
+    let seen = trace_of(&rt, alloc, &tables, &captures);
     assert_eq!(rt; seen.map(|(_, lines)| lines).as_deref(), Ok(&trace[..]));
 
+    let log = [
+        (0, 1, 0, 0, 0),
+        (0, 2, 1, 0, 0),
+        (1, 1, 2, 1, 1),
+        (1, 2, 2, 0, 0),
+    ];
+    let seen = fabric_trace_of(&rt, alloc, &tables, &captures);
+    assert_eq!(rt; seen.map(|(slots, _)| slots), Ok(3));
+    let seen = fabric_trace_of(&rt, alloc, &tables, &captures);
+    assert_eq!(rt; seen.map(|(_, lines)| lines).as_deref(), Ok(&trace[..]));
+    let seen = log_of(&rt, alloc, &tables, &captures);
+    assert_eq!(rt; seen.map(|(proposals, _)| proposals), Ok(7));
+    let seen = log_of(&rt, alloc, &tables, &captures);
+    assert_eq!(rt; seen.map(|(_, lines)| lines).as_deref(), Ok(&log[..]));
+
     let first = [(0, 64, 60), (512, 64, 60), (1024, 64, 60)];
-    let seen = packets_at(alloc, &tables, &captures, 0);
+    let seen = packets_at(&rt, alloc, &tables, &captures, 0);
     assert_eq!(rt; seen.as_deref(), Ok(&first[..]));
-    let seen = packets_at(alloc, &tables, &captures, 1);
+    let seen = packets_at(&rt, alloc, &tables, &captures, 1);
     assert_eq!(rt; seen.as_deref(), Ok(&[(512, 64, 60)][..]));
-    let seen = packets_at(alloc, &tables, &captures, 2);
+    let seen = packets_at(&rt, alloc, &tables, &captures, 2);
     assert_eq!(rt; seen.as_deref(), Ok(&[][..]));
     Ok(())
 }
@@ -211,7 +287,7 @@ fn packets_leave_by_their_last_cells(rt: HostRuntime) -> Result<(), Fail> {
         capture_of(alloc, &[])?,
     ];
     let left = [(1512, 64, 60), (3048, 204, 200)];
-    let seen = packets_at(alloc, &tables, &captures, 0);
+    let seen = packets_at(&rt, alloc, &tables, &captures, 0);
     assert_eq!(rt; seen.as_deref(), Ok(&left[..]));
     Ok(())
 }
@@ -226,10 +302,12 @@ fn a_rank_that_does_not_fit_stops_the_run(rt: HostRuntime) -> Result<(), Fail> {
         output: 0,
     });
     let together = [capture_of(alloc, &[(0, 60, 0), (512, 60, 0)])?];
-    let seen = trace_of(alloc, &tables, &together);
+    let seen = trace_of(&rt, alloc, &tables, &together);
+    assert_eq!(rt; seen.map(|(slots, _)| slots), Err(fault));
+    let seen = fabric_trace_of(&rt, alloc, &tables, &together);
     assert_eq!(rt; seen.map(|(slots, _)| slots), Err(fault));
     let apart = [capture_of(alloc, &[(0, 60, 0), (1024, 60, 0)])?];
-    let seen = trace_of(alloc, &tables, &apart);
+    let seen = trace_of(&rt, alloc, &tables, &apart);
     assert_eq!(rt; seen.map(|(slots, _)| slots), Ok(3));
     Ok(())
 }

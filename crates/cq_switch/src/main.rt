@@ -8,6 +8,7 @@
 #[cfg(test)]
 mod tests;
 
+use cq_crew::OpenGate;
 use cq_run::switch_top;
 use cq_space::{HostFiles, HostSink};
 use std::alloc::Global;
@@ -40,6 +41,14 @@ fn main(rt: HostRuntime) -> ExitCode {
     let mut files = HostFiles::new(&rt);
     let mut out = HostSink::new(rt.stdout());
     let mut err = HostSink::new(rt.stderr());
-    let status = switch_top(rt.alloc(), &words, &mut files, &mut out, &mut err);
+    let status = switch_top(
+        &rt,
+        rt.alloc(),
+        &words,
+        &mut files,
+        &mut out,
+        &mut err,
+        &OpenGate,
+    );
     ExitCode::from(status.code())
 }

@@ -3,13 +3,20 @@ ghost use Rattle.std.specs.Prelude.{◌≡◌, IfOk};
 ghost use Rattle.cq_space.specs.Space.{Closed};
 
 mod configured;
+mod crossed;
 mod made;
+mod meeting;
+mod office;
 mod plain;
+mod soak;
 
+use cq_crew::OpenGate;
 use cq_run::{Command, command_of, switch_top};
 use cq_space::{HostFiles, MemFiles, MemSink};
+use made::{Ended, put_packet, watched};
 use std::alloc::Global;
 use std::test::Fail;
+use std::thread::Threads;
 use std::{env, fs, process};
 
 /// A capture's header: little-endian, microseconds.
@@ -22,7 +29,8 @@ const NANOSECONDS: [u8; 24] = [
     0x4d, 0x3c, 0xb2, 0xa1, 2, 0, 4, 0, 0, 0, 0, 0, 0, 0, 0, 0, 0, 0, 4, 0, 1, 0, 0, 0,
 ];
 
-const USAGE: &str = "usage: cq_switch pass IN OUT | check CONFIG | ideal CONFIG\n";
+const USAGE: &str =
+    "usage: cq_switch pass IN OUT | check CONFIG | ideal CONFIG | run CONFIG | soak SEED PORTS SLOTS\n";
 
 /// Seconds, subseconds, captured length and original length.
 type Packet = (u32, u32, u32, u32);
@@ -34,21 +42,11 @@ const EMPTY_FRAME_WRITTEN: Packet = (1, 5000, 0, 60);
 /// The first bytes of a frame: two addresses and a type. Zeros follow.
 const FRAME: [u8; 14] = [2, 0, 0, 0, 0, 0, 2, 0, 0, 0, 0, 0xaa, 0x88, 0xb5];
 
-fn put_packet(capture: &mut Vec<u8>, packet: Packet) -> Result<(), Fail> {
-    let (seconds, subseconds, captured, original) = packet;
-    for number in [seconds, subseconds, captured, original] {
-        capture.extend_from_slice(&number.to_le_bytes())?;
-    }
-    for i in 0..captured as usize {
-        capture.push(if i < FRAME.len() { FRAME[i] } else { 0 })?;
-    }
-    Ok(())
-}
-
 fn capture_of(alloc: Global, header: &[u8], packets: &[Packet]) -> Result<Vec<u8>, Fail> {
     let mut capture = header.to_vec(alloc)?;
-    for packet in packets {
-        put_packet(&mut capture, *packet)?;
+    for (seconds, subseconds, captured, original) in packets {
+        let numbers = [*seconds, *subseconds, *captured, *original];
+        put_packet(&mut capture, numbers, &FRAME)?;
     }
     Ok(capture)
 }
@@ -72,7 +70,8 @@ fn files_with(alloc: Global, name: &str, bytes: &[u8]) -> Result<MemFiles, Fail>
 
 /// The code of the words' status over these files, and what was said, where standard error takes
 /// `room` bytes. Standard output takes none.
-fn answer(
+fn answer<R: Threads + Sync>(
+    rt: &R,
     alloc: Global,
     words: &[&str],
     files: &mut MemFiles,
@@ -80,13 +79,8 @@ fn answer(
 ) -> Result<(u8, MemSink), Fail>
     requires { files.old.mode ≡ Closed }
 {
-    let words = words_of(alloc, words)?;
-    let mut out = MemSink::new(alloc);
-    let mut err = MemSink::new(alloc);
-    out.fail_after(0);
-    err.fail_after(room);
-    let status = switch_top(alloc, &words, files, &mut out, &mut err);
-    Ok((status.code(), err))
+    let Ended { code, out: _, err } = watched(rt, alloc, words, files, (0, room), &OpenGate)?;
+    Ok((code, err))
 }
 
 #[test]
@@ -135,7 +129,7 @@ fn a_packet_leaves_in_the_slot_of_its_last_cell(rt: HostRuntime) -> Result<(), F
         let input = capture_of(rt.alloc(), header, packets)?;
         let output = capture_of(rt.alloc(), &NANOSECONDS, written)?;
         let mut files = files_with(rt.alloc(), "a", &input)?;
-        let (code, _) = answer(rt.alloc(), &["pass", "a", "b"], &mut files, 0)?;
+        let (code, _) = answer(&rt, rt.alloc(), &["pass", "a", "b"], &mut files, 0)?;
         assert_eq!(rt; code, 0, "{case}");
         assert_eq!(rt; files.bytes("b"), Some(output.as_slice()), "{case}");
         assert_eq!(rt; files.bytes("a"), Some(input.as_slice()), "{case}");
@@ -177,7 +171,7 @@ fn every_form_of_a_capture_passes_alike(rt: HostRuntime) -> Result<(), Fail> {
     ];
     for input in forms {
         let mut files = files_with(rt.alloc(), "a", &input)?;
-        let (code, _) = answer(rt.alloc(), &["pass", "a", "b"], &mut files, 0)?;
+        let (code, _) = answer(&rt, rt.alloc(), &["pass", "a", "b"], &mut files, 0)?;
         assert_eq!(rt; code, 0, "{input:?}");
         assert_eq!(rt; files.bytes("b"), Some(written.as_slice()), "{input:?}");
     }
@@ -226,7 +220,7 @@ fn a_damaged_capture_is_refused_by_number_and_place(rt: HostRuntime) -> Result<(
         let mut input = capture_of(rt.alloc(), &header, packets)?;
         input.truncate(len);
         let mut files = files_with(rt.alloc(), "a", &input)?;
-        let (code, err) = answer(rt.alloc(), &["pass", "a", "b"], &mut files, 100)?;
+        let (code, err) = answer(&rt, rt.alloc(), &["pass", "a", "b"], &mut files, 100)?;
         let line = format!(in rt.alloc(); "capture of input 0: {said}\n")?;
         assert_eq!(rt; code, 3, "{said}");
         assert_eq!(rt; err.bytes(), line.as_bytes(), "{said}");
@@ -240,7 +234,7 @@ fn one_name_for_both_is_replaced(rt: HostRuntime) -> Result<(), Fail> {
     let input = capture_of(rt.alloc(), &MICROSECONDS, &[EMPTY_FRAME])?;
     let output = capture_of(rt.alloc(), &NANOSECONDS, &[EMPTY_FRAME_WRITTEN])?;
     let mut files = files_with(rt.alloc(), "a", &input)?;
-    let (code, _) = answer(rt.alloc(), &["pass", "a", "a"], &mut files, 0)?;
+    let (code, _) = answer(&rt, rt.alloc(), &["pass", "a", "a"], &mut files, 0)?;
     assert_eq!(rt; code, 0);
     assert_eq!(rt; files.bytes("a"), Some(output.as_slice()));
     Ok(())
@@ -248,22 +242,10 @@ fn one_name_for_both_is_replaced(rt: HostRuntime) -> Result<(), Fail> {
 
 #[test]
 fn a_refusal_says_why_and_starts_no_file(rt: HostRuntime) -> Result<(), Fail> {
-    let cases: [(&[&str], u8, &str); 17] = [
+    let cases: [(&[&str], u8, &str); 5] = [
         (&[], 1, USAGE),
-        (&["check"], 1, USAGE),
-        (&["check", "-c"], 1, USAGE),
-        (&["ideal", "a", "b"], 1, USAGE),
-        (&["ideal", ""], 1, USAGE),
-        (&["pass"], 1, USAGE),
-        (&["pass", "a"], 1, USAGE),
-        (&["pass", "-a", "b"], 1, USAGE),
-        (&["pass", "a", "-b"], 1, USAGE),
         (&["pass", "a", "b", "c"], 1, USAGE),
-        (&["pass", "", "b"], 1, USAGE),
-        (&["pass", "a", ""], 1, USAGE),
-        (&["Pass", "a", "b"], 1, USAGE),
-        (&["help"], 1, USAGE),
-        (&["--help"], 1, USAGE),
+        (&["soak", "1", "65", "10"], 1, USAGE),
         (&["pass", "c", "b"], 3, "capture of input 0: 1\n"),
         (&["pass", "d", "b"], 5, "read fault: d\n"),
     ];
@@ -275,7 +257,7 @@ fn a_refusal_says_why_and_starts_no_file(rt: HostRuntime) -> Result<(), Fail> {
             if let Some(bytes) = before {
                 files.set("b", bytes)?;
             }
-            let (code, err) = answer(rt.alloc(), words, &mut files, room)?;
+            let (code, err) = answer(&rt, rt.alloc(), words, &mut files, room)?;
             assert_eq!(rt; code, wanted, "{words:?}");
             let said = &line.as_bytes()[..line.len().min(room as usize)];
             assert_eq!(rt; err.bytes(), said, "{words:?}");
@@ -286,12 +268,58 @@ fn a_refusal_says_why_and_starts_no_file(rt: HostRuntime) -> Result<(), Fail> {
 }
 
 #[test]
+fn words_that_are_no_command_get_the_usage(rt: HostRuntime) -> Result<(), Fail> {
+    let cases = [
+        "",
+        "help",
+        "--help",
+        "Pass a b",
+        "pass",
+        "pass a",
+        "pass a ",
+        "pass  b",
+        "pass -a b",
+        "pass a -b",
+        "pass -- a b",
+        "pass a b c",
+        "check",
+        "check -c",
+        "ideal ",
+        "ideal a b",
+        "run",
+        "run -",
+        "run a b",
+        "soak 1 8",
+        "soak +1 8 10",
+        "soak 1 0 10",
+        "soak 1 65 10",
+        "soak 1 8 0",
+        "soak 1 8 20001",
+        "soak 1 8 10 1",
+        "soak 18446744073709551616 8 10",
+        "soak 1 8 000000000000000000010",
+    ];
+    let alloc = rt.alloc();
+    for case in cases {
+        let mut words = Vec::new(alloc);
+        for word in case.split(' ') {
+            words.push(word)?;
+        }
+        let mut files = MemFiles::new(alloc);
+        let (code, err) = answer(&rt, alloc, &words, &mut files, 100)?;
+        assert_eq!(rt; code, 1, "{case}");
+        assert_eq!(rt; err.bytes(), USAGE.as_bytes(), "{case}");
+    }
+    Ok(())
+}
+
+#[test]
 fn a_failing_read_is_told_and_starts_no_file(rt: HostRuntime) -> Result<(), Fail> {
     // At 24 every byte has been read, and the look for more fails.
     for after in [0, 10, 24] {
         let mut files = files_with(rt.alloc(), "a", &MICROSECONDS)?;
         files.fail_read("a", after)?;
-        let (code, err) = answer(rt.alloc(), &["pass", "a", "b"], &mut files, 100)?;
+        let (code, err) = answer(&rt, rt.alloc(), &["pass", "a", "b"], &mut files, 100)?;
         assert_eq!(rt; code, 5, "after {after}");
         assert_eq!(rt; err.bytes(), b"read fault: a\n".as_slice(), "after {after}");
         assert_eq!(rt; files.bytes("b"), None, "after {after}");
@@ -307,7 +335,7 @@ fn a_failing_write_is_told_and_leaves_the_first_bytes(rt: HostRuntime) -> Result
         let mut files = files_with(rt.alloc(), "a", &MICROSECONDS)?;
         files.set("b", b"lost")?;
         files.fail_write("b", after)?;
-        let (code, err) = answer(rt.alloc(), &["pass", "a", "b"], &mut files, room)?;
+        let (code, err) = answer(&rt, rt.alloc(), &["pass", "a", "b"], &mut files, room)?;
         assert_eq!(rt; code, 6, "after {after}");
         let said = &line[..line.len().min(room as usize)];
         assert_eq!(rt; err.bytes(), said, "after {after}");
@@ -322,7 +350,7 @@ fn a_capture_above_the_limit_is_told(rt: HostRuntime) -> Result<(), Fail> {
     let mut bytes = Vec::new(rt.alloc());
     bytes.resize(67_108_865, 0)?;
     let mut files = files_with(rt.alloc(), "a", &bytes)?;
-    let (code, err) = answer(rt.alloc(), &["pass", "a", "b"], &mut files, 100)?;
+    let (code, err) = answer(&rt, rt.alloc(), &["pass", "a", "b"], &mut files, 100)?;
     assert_eq!(rt; code, 3);
     assert_eq!(rt;
         err.bytes(),
@@ -356,7 +384,9 @@ fn files_of_the_system_are_read_and_written(rt: HostRuntime) -> Result<(), Fail>
         let mut out = MemSink::new(alloc);
         let mut err = MemSink::new(alloc);
         let words = words_of(alloc, &["pass", from, to])?;
-        let status = switch_top(alloc, &words, &mut files, &mut out, &mut err);
+        let status = switch_top(
+            &rt, alloc, &words, &mut files, &mut out, &mut err, &OpenGate,
+        );
         assert_eq!(rt; status.code(), code);
         assert_eq!(rt; err.bytes(), line.as_bytes());
     }

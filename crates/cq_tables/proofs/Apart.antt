@@ -1,5 +1,5 @@
 -- The names of files, port by port.
-use Rattle.std.proofs.Common.{◌≡◌, ℕ, zero, suc, ◌+◌, ◌<◌, ◌≤◌, Bool, true, false, not, ◌&&◌, ◌||◌, List, [], ◌∷◌, ◌++◌, length, get_or, take, drop, map, Option, Some, None, Result, IfErr, option_map, unwrap_or, codes, refl, ap, ◌∙◌, sym, arith, add-one, append_assoc, append-nil}
+use Rattle.std.proofs.Common.{◌≡◌, ℕ, zero, suc, ◌+◌, ◌<◌, ◌≤◌, Bool, true, false, not, ◌&&◌, ◌||◌, List, [], ◌∷◌, ◌++◌, length, get_or, take, drop, Option, Some, None, Result, IfErr, codes, refl, ap, ◌∙◌, sym, arith, add-one, append_assoc, append-nil}
 use Rattle.std.specs.List.{list_any}
 use Rattle.std.specs.Str.{bytes_eq}
 use Rattle.cq_route.specs.declared.tables.PortRow.{PortRow}
@@ -10,8 +10,8 @@ use Rattle.cq_tables.specs.declared.place.Array.TheVariants.{Ports}
 use Rattle.cq_tables.specs.declared.place.Place.TheVariants.{Element, Top}
 use Rattle.cq_tables.specs.Check.{Check, Refuses, at, first, otherwise, refused, unless}
 use Rattle.cq_tables.specs.Place.{path}
-use Rattle.cq_tables.specs.Document.{Named, apart_from, clash, file_check, files_before, files_in, files_of, is_named, is_taken, names_of, read_at, read_clashes, read_of, write_clashes, written_at}
-use Rattle.cq_tables.proofs.Checks.{first-append, here_in, later_in, first_none}
+use Rattle.cq_tables.specs.Document.{Named, apart_from, clash, file_check, files_before, files_of, is_named, is_taken, names_of, read_at, read_clashes, write_clashes, written_at}
+use Rattle.cq_tables.proofs.Checks.{first-append, here_in, first_none}
 
 or_assoc : (a b c : Bool) → ((a || b) || c) ≡ (a || (b || c))
 or_assoc true b c = refl

@@ -1,5 +1,5 @@
 -- Checks in order: where one holds, the next ones decide, and where one does not, it is the first.
-use Rattle.std.proofs.Common.{◌≡◌, ℕ, suc, ◌+◌, ◌<◌, List, [], ◌∷◌, ◌++◌, length, get_or, take, drop, map, Option, Some, None, Result, Ok, Err, IfErr, IfOk, refl, ap, ◌∙◌, sym, arith}
+use Rattle.std.proofs.Common.{◌≡◌, ℕ, List, [], ◌∷◌, ◌++◌, Some, None, Result, Ok, Err, IfErr, IfOk, refl, ◌∙◌}
 use Rattle.cq_tables.specs.declared.refusal.TableRefusal.{TableRefusal}
 use Rattle.cq_tables.specs.declared.refusal.TableRefusal.TheVariants as refusal
 use Rattle.toml.specs.Data.{Data, Members}
@@ -9,7 +9,7 @@ use Rattle.cq_tables.specs.declared.place.Place.TheVariants.{Element}
 use Rattle.cq_tables.specs.Document.{element_check}
 use Rattle.cq_tables.specs.Key.{Key, table_checks}
 use Rattle.cq_tables.specs.Value.{members, table_type}
-use Rattle.cq_tables.specs.Check.{Check, Refuses, Refused, first, each, otherwise}
+use Rattle.cq_tables.specs.Check.{Check, Refuses, first, otherwise}
 
 pub first_none : first [] ≡ None
 unfolding first

@@ -1,15 +1,14 @@
 -- Addresses that are known: a set of them has those of the rows so far, and they differ.
-use Rattle.std.proofs.Common.{◌≡◌, ◌≢◌, ℕ, zero, suc, ◌+◌, ◌<◌, Bool, true, false, not, ◌||◌, List, [], ◌∷◌, ◌++◌, length, get_or, take, map, Option, Some, None, Result, IfErr, Ordering, Less, Equal, Greater, nat_cmp, All, refl, ap, ◌∙◌, sym, arith, inl, inr}
+use Rattle.std.proofs.Common.{◌≡◌, ◌≢◌, ℕ, zero, suc, ◌+◌, ◌<◌, Bool, true, false, not, ◌||◌, List, [], ◌∷◌, ◌++◌, length, get_or, take, map, Option, Some, None, Result, IfErr, Ordering, Less, Equal, Greater, nat_cmp, refl, ap, ◌∙◌, sym, arith}
 use Rattle.std.specs.Cmp.Lexicographic.{slice_cmp}
 use Rattle.std.specs.List.{AllPairs, list_any}
 use Rattle.std.specs.Ordering.{is_eq, match_ordering}
 use Rattle.std.specs.BTreeSet.{insert_key}
 use Rattle.std.specs.Str.{bytes_eq}
-use Rattle.std.proofs.lemmas.Bool.{cases_Bool}
 use Rattle.std.proofs.lemmas.Map.Text.{is_eq-slice_cmp}
 use Rattle.std.proofs.lemmas.Slice.Eq.{bytes_eq-Decides}
 use Rattle.std.proofs.lemmas.List.Quantifiers.{all_pairs_push}
-use Rattle.toml.specs.Data.{Data, Members, get_member}
+use Rattle.toml.specs.Data.{Data, get_member}
 use Rattle.toml.specs.View.{view}
 use Rattle.toml.specs.declared.value.Value.{Value}
 use Rattle.cq_route.specs.declared.tables.AddressRow.{AddressRow}
@@ -20,7 +19,7 @@ use Rattle.cq_tables.specs.declared.place.Array.TheVariants.{Addresses}
 use Rattle.cq_tables.specs.declared.place.Place.TheVariants.{Element}
 use Rattle.cq_tables.specs.Check.{Check, Refuses, at, each, first, otherwise}
 use Rattle.cq_tables.specs.Document.{address_keys, address_row, and_then, element_check, is_new, mac_in, number_below}
-use Rattle.cq_tables.specs.Key.{Key, key_check, no_other, required}
+use Rattle.cq_tables.specs.Key.{key_check, no_other, required}
 use Rattle.cq_tables.specs.Place.{element_path, path}
 use Rattle.cq_tables.specs.Value.{address, address_value, members, table_type}
 use Rattle.cq_tables.proofs.Walk.{Walked, rows_of, walked_more, walked_none, walked_stop}

@@ -1,5 +1,5 @@
 -- The document that a text is, and the verdict on it.
-use Rattle.std.proofs.Common.{◌≡◌, ℕ, Bool, true, false, nat_le, ◌<◌, ◌≤◌, List, [], ◌∷◌, ◌++◌, Option, Some, None, Result, Ok, Err, IfErr, codes, length, is_some, unwrap_or, subst, refl, ap, ◌∙◌, sym, inl, inr}
+use Rattle.std.proofs.Common.{◌≡◌, ℕ, false, nat_le, ◌<◌, ◌≤◌, List, [], ◌∷◌, ◌++◌, Option, Some, None, Result, Ok, Err, IfErr, codes, length, is_some, unwrap_or, subst, ap, ◌∙◌, sym, inl, inr}
 use Rattle.std.specs.Prelude.{IsUtf8}
 use Rattle.std.specs.Str.{is_utf8}
 use Rattle.std.proofs.lemmas.Bool.{cases_Bool}
@@ -11,7 +11,7 @@ use Rattle.toml.specs.Parse.{parse_document}
 use Rattle.cq_route.specs.declared.tables.Tables.{Tables}
 use Rattle.cq_tables.specs.declared.refusal.TableRefusal.{TableRefusal}
 use Rattle.cq_tables.specs.declared.refusal.TableRefusal.TheVariants as refusal
-use Rattle.cq_tables.specs.Check.{Check, Refused, Refuses, at, first, refused, unless}
+use Rattle.cq_tables.specs.Check.{Check, Refuses, at, first, refused, unless}
 use Rattle.cq_tables.specs.declared.refusal.Wrong.TheVariants.{NotToml, TooLong}
 use Rattle.cq_tables.specs.declared.place.Place.TheVariants.{Top}
 use Rattle.cq_tables.specs.Key.{table_checks}

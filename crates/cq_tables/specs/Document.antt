@@ -1,6 +1,6 @@
 -- A configuration: its checks, in order, and the tables that it gives where they all hold.
 use Rattle.std.specs.Prelude.{◌≡◌, ℕ, suc, Bool, true, false, not, ◌&&◌, ◌||◌, if◌then◌else◌, nat_le, nat_lt, List, [], ◌∷◌, ◌++◌, codes, length, take, map, is_some, Option, None, Some, option_map, unwrap_or, Result, Ok, Err}
-use Rattle.std.specs.List.{list_any, flat_map}
+use Rattle.std.specs.List.{list_any}
 use Rattle.std.specs.Str.{bytes_eq, is_utf8}
 use Rattle.toml.specs.Data.{Data, Members, no_members, get_member}
 use Rattle.toml.specs.Parse.{parse_document}
@@ -23,7 +23,7 @@ use Rattle.cq_tables.specs.declared.place.Place.TheVariants.{Top, Element}
 use Rattle.cq_tables.specs.Check.{Check, Refused, at, each, first, otherwise, unless}
 use Rattle.cq_tables.specs.Place.{array_key, element_path, path}
 use Rattle.cq_tables.specs.Value.{integer_in, integer_value, wide_from, wide_value, file_name, text_value, discipline, kind_value, address, address_value, array_of, elements, table_type, members}
-use Rattle.cq_tables.specs.Key.{Key, key, required, optional, table_checks, checks_of, found, found_or}
+use Rattle.cq_tables.specs.Key.{Key, key, required, optional, table_checks, found, found_or}
 
 -- the rule, and then that what the value says meets a condition
 abbrev pub and_then : {A : Type 0} → (Data → Option Wrong) → (Data → A) → (A → Bool) → Wrong → Data → Option Wrong
@@ -150,7 +150,7 @@ figure_keys place =
     ∷ key place (codes "cell_bytes") (optional (integer_in 1 65535))
     ∷ key place (codes "slot_ns") (optional (integer_in 1 1000000000))
     ∷ key place (codes "limit_bytes") (optional (integer_in 24 268435456))
-    ∷ key place (codes "workers") (optional (integer_in 1 1))
+    ∷ key place (codes "workers") (optional (integer_in 1 64))
     ∷ key place (codes "default_output") (optional (integer_in 0 63))
     ∷ key place (codes "default_class") (optional (integer_in 0 15))
     ∷ []

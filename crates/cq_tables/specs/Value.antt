@@ -1,11 +1,11 @@
 -- What is wrong with a value, kind by kind, and what it says where nothing is.
-use Rattle.std.specs.Prelude.{ℕ, ℤ, pos, negsuc, ◌+◌, ◌*◌, ◌-◌, ◌%◌, ◌^◌, Bool, false, ◌&&◌, ◌==◌, nat_le, nat_lt, if◌then◌else◌, List, [], ◌∷◌, codes, length, slice_index, map, is_some, Option, None, Some, option_map, option_and_then, unwrap_or}
+use Rattle.std.specs.Prelude.{ℕ, ℤ, pos, negsuc, ◌+◌, ◌*◌, ◌-◌, ◌%◌, ◌^◌, Bool, false, ◌&&◌, ◌==◌, nat_le, nat_lt, if◌then◌else◌, List, [], ◌∷◌, codes, length, slice_index, is_some, Option, None, Some, option_map, option_and_then, unwrap_or}
 use Rattle.std.specs.Option.{option_or}
 use Rattle.std.specs.Str.{all_ascii_digits, bytes_eq}
 use Rattle.std.specs.Str.Parse.{digits_value}
 use Rattle.toml.specs.Data.{Data, Items, no_items, item, Members, no_members, as_str, as_integer, as_array, as_table}
 use Rattle.cq_base.specs.declared.setup.Kind.{Kind}
-use Rattle.cq_base.specs.declared.setup.Kind.TheVariants.{FirstCome}
+use Rattle.cq_base.specs.declared.setup.Kind.TheVariants.{FirstCome, Priority, Fair}
 use Rattle.cq_tables.specs.declared.refusal.Wrong.{Wrong}
 use Rattle.cq_tables.specs.declared.refusal.Wrong.TheVariants.{WrongType, OutOfRange, BadAddress}
 use Rattle.cq_tables.specs.Check.{unless}
@@ -63,7 +63,11 @@ text_value d = unwrap_or (as_str d) []
 
 -- the disciplines that a port may have, by their names
 unfoldable pub discipline_of : List ℕ → Option Kind
-discipline_of text = if bytes_eq text (codes "first-come") then Some FirstCome else None
+discipline_of text =
+    if bytes_eq text (codes "first-come") then Some FirstCome
+    else if bytes_eq text (codes "priority") then Some Priority
+    else if bytes_eq text (codes "fair") then Some Fair
+    else None
 
 abbrev pub discipline : Data → Option Wrong
 discipline d = typed (as_str d) (λ text. unless (is_some (discipline_of text)) OutOfRange)

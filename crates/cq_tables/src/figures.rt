@@ -35,7 +35,7 @@ pub fn figures_in(entries: Entries) -> Result<Figures, TableRefusal>
     let cell_bytes = entries.integer_or("cell_bytes", 1, 65_535, 64)?;
     let slot_ns = entries.integer_or("slot_ns", 1, 1_000_000_000, 512)?;
     let limit_bytes = entries.integer_or("limit_bytes", 24, 268_435_456, 67_108_864)?;
-    let workers = entries.integer_or("workers", 1, 1, 1)?;
+    let workers = entries.integer_or("workers", 1, 64, 1)?;
     let default_output = entries.integer_or("default_output", 0, 63, 0)?;
     let default_class = entries.integer_or("default_class", 0, 15, 0)?;
     Ok(Figures {

@@ -21,14 +21,15 @@ fn said_of(alloc: Global, bytes: &[u8]) -> Result<String, Fail> {
 
 #[test]
 fn the_first_check_that_fails_is_told(rt: HostRuntime) -> Result<(), Fail> {
-    let cases: [(&str, &str); 10] = [
+    let cases: [(&str, &str); 11] = [
         ("version =", "C1 at -"),
         ("version = 1", "C2 at trace"),
         ("version = \"1\"", "C3 at version"),
         ("version = 2", "C4 at version"),
         ("versoin = 1", "C5 at versoin"),
         ("zz = 1\nversion = 2\naa = 1", "C5 at aa"),
-        ("version = 1\nworkers = 2", "C4 at workers"),
+        ("version = 1\nworkers = 0", "C4 at workers"),
+        ("version = 1\nworkers = 65", "C4 at workers"),
         ("version = 1\ncell_bytes = 0", "C4 at cell_bytes"),
         ("version = 1\nlimit_bytes = 23", "C4 at limit_bytes"),
         ("version = 1\ntrace = \"\"", "C4 at trace"),
@@ -98,7 +99,7 @@ fn a_change_of_a_good_configuration_is_told_at_its_key(rt: HostRuntime) -> Resul
         ),
         (
             "\"out1.pcap\"\n",
-            "\"out1.pcap\"\ndiscipline = \"fair\"\n",
+            "\"out1.pcap\"\ndiscipline = \"fifo\"\n",
             "C4 at port[1].discipline",
         ),
     ];
@@ -177,6 +178,31 @@ fn a_good_configuration_gives_its_tables(rt: HostRuntime) -> Result<(), Fail> {
         (Some(1), Some(7), Some(65_535))
     );
     assert_eq!(rt; (rule.dscp, rule.class), (Some(63), 1));
+    Ok(())
+}
+
+#[test]
+fn a_port_has_the_discipline_of_its_name(rt: HostRuntime) -> Result<(), Fail> {
+    let cases: [(&str, Kind); 3] = [
+        ("first-come", Kind::FirstCome),
+        ("priority", Kind::Priority),
+        ("fair", Kind::Fair),
+    ];
+    for (name, kind) in cases {
+        let text = format!(in rt.alloc();
+            "workers = 64\n{TWO_PORTS}[[port]]\nwrite = \"out2.pcap\"\ndiscipline = \"{name}\"\n"
+        )?;
+        let Ok(tables) = read_tables(rt.alloc(), text.as_bytes()) else {
+            assert!(rt; false, "{name} is read");
+            return Ok(());
+        };
+        assert_eq!(rt; tables.workers, 64);
+        assert_eq!(rt;
+            tables.setup.kinds.as_slice(),
+            [Kind::FirstCome, Kind::FirstCome, kind].as_slice(),
+            "{name}"
+        );
+    }
     Ok(())
 }
 

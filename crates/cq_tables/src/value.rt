@@ -125,6 +125,8 @@ fn discipline_of(name: &str) -> Option<Kind>
 {
     match name {
         "first-come" => Some(Kind::FirstCome),
+        "priority" => Some(Kind::Priority),
+        "fair" => Some(Kind::Fair),
         _ => None,
     }
 }

@@ -5,11 +5,12 @@
 //! sorts a list whenever a cell comes. Slots, cells and outputs are those of `made::configuration`.
 ghost use Rattle.std.specs.Prelude.{◌<◌};
 
-use super::configured::RUNS;
-use super::made::{Frame, answer, files_of};
+use super::crossed::RUNS;
+use super::made::{DEFAULTS, Frame, answer, files_of};
 use std::alloc::Global;
 use std::process::Abort;
 use std::test::Fail;
+use std::thread::Threads;
 
 /// The slot of its arrival, its input, its packet, and its number in the packet. So the order of these
 /// four is the order in which a first-come output sends.
@@ -213,18 +214,20 @@ const LINES: [Line; 3] = [
     ("a busy line", &[(0, 0, 0, 200), (0, 512, 0, 60)], &[0, 4]),
 ];
 
-/// That the program writes the plain switch's trace.
-fn assert_agreement(
+/// That the program writes the plain switch's trace, by either switch.
+fn assert_agreement<R: Abort + Threads + Sync>(
+    rt: &R,
     alloc: Global,
-    rt: &impl Abort,
     case: &str,
     inputs: &[&[Frame]],
 ) -> Result<(), Fail> {
-    let mut files = files_of(alloc, inputs)?;
-    let (code, _, _) = answer(alloc, &["ideal", "c.toml"], &mut files)?;
     let trace = trace_of(alloc, inputs)?;
-    assert_eq!(rt; code, 0, "{case}");
-    assert_eq!(rt; files.bytes("trace.txt"), Some(trace.as_bytes()), "{case}");
+    for command in ["ideal", "run"] {
+        let mut files = files_of(alloc, inputs, 1, DEFAULTS)?;
+        let done = answer(rt, alloc, &[command, "c.toml"], &mut files)?;
+        assert_eq!(rt; done.code, 0, "{case}");
+        assert_eq!(rt; files.bytes("trace.txt"), Some(trace.as_bytes()), "{case}");
+    }
     Ok(())
 }
 
@@ -234,15 +237,15 @@ fn one_line_is_as_in_the_plain_switch(rt: HostRuntime) -> Result<(), Fail> {
         let inputs = [frames];
         let plain = starts_of(rt.alloc(), frames, origin_of(&inputs))?;
         assert_eq!(rt; plain.as_slice(), starts, "{case}");
-        assert_agreement(rt.alloc(), &rt, case, &inputs)?;
+        assert_agreement(&rt, rt.alloc(), case, &inputs)?;
     }
     Ok(())
 }
 
 #[test]
 fn worked_runs_are_as_in_the_plain_switch(rt: HostRuntime) -> Result<(), Fail> {
-    for (case, inputs, _, _) in RUNS {
-        assert_agreement(rt.alloc(), &rt, case, inputs)?;
+    for run in RUNS {
+        assert_agreement(&rt, rt.alloc(), run.shows, run.inputs)?;
     }
     Ok(())
 }
@@ -257,7 +260,7 @@ fn drawn_traffic_is_as_in_the_plain_switch(rt: HostRuntime) -> Result<(), Fail> 
         for frames in &drawn {
             inputs.push(frames.as_slice())?;
         }
-        assert_agreement(alloc, &rt, &case, &inputs)?;
+        assert_agreement(&rt, alloc, &case, &inputs)?;
     }
     Ok(())
 }

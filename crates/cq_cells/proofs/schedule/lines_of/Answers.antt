@@ -13,14 +13,14 @@ use Rattle.cq_cells.proofs.Packets.{number-append}
 use Rattle.cq_cells.proofs.schedule.lines_of.Goals as goal
 
 pub of-requires-clause-room : goal.of-requires-clause-room
-of-requires-clause-room c j h =
+of-requires-clause-room g c j h =
     let ports = c.inputs.invariant.ports in
     let small = c.inputs.invariant.small j (omega arith) in
     let most = c.requires.tables.setup.ports in
     omega (arith, c.requires.captures, c.inputs-test.true)
 
 pub inputs-preserved : goal.inputs-preserved
-inputs-preserved c =
+inputs-preserved g c =
     let captures = c.args.captures.now in
     let input = c.inputs.input in
     let lines = c.inputs.lines.items in

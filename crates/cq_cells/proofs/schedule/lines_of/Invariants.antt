@@ -6,7 +6,7 @@ use Rattle.cq_cells.specs.Traffic.{IsRecorded}
 use Rattle.cq_cells.proofs.schedule.lines_of.Given as goal
 
 abbrev pub invariant-inputs : goal.invariant-inputs
-invariant-inputs l = record {
+invariant-inputs g l = record {
   lines : l.lines.items ≡ map (arrivals_at l.tables l.captures) (range_with_len 0 l.input);
   filled : vec_len l.lines ≡ l.input;
   room : vec_capacity l.lines ≡ length l.captures;

@@ -1,11 +1,8 @@
-use Rattle.std.proofs.Common.{◌≡◌, ◌∙◌, ap, arith, subst, sym, length, List}
-use Rattle.std.specs.Prelude.{Result, Ok}
+use Rattle.std.proofs.Common.{◌∙◌, ap, arith, sym, length, List}
 use Rattle.std.proofs.lemmas.List.{length-append}
 use Rattle.std.proofs.lemmas.Result.{err_from_is_err_and}
 use Rattle.cq_pcap.specs.Captured.{Captured}
 use Rattle.cq_route.specs.declared.tables.PortRow.{PortRow}
-use Rattle.cq_run.specs.Judging.{Judges}
-use Rattle.cq_run.specs.Verdict.{captures_from}
 use Rattle.cq_run.proofs.Ports.{ends_all, reads_more, reads_all, reads_none}
 use Rattle.cq_run.proofs.reading.read_inputs.Goals as goal
 

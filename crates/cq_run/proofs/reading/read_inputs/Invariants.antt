@@ -1,4 +1,4 @@
-use Rattle.std.proofs.Common.{◌≡◌, length, take, ℕ, List}
+use Rattle.std.proofs.Common.{◌≡◌, length, take}
 use Rattle.std.specs.Prelude.{Ok}
 use Rattle.cq_run.specs.Judging.{Judges}
 use Rattle.cq_run.specs.Verdict.{captures_from}

@@ -15,7 +15,7 @@ overflow_add-total c =
     let same : length (map fixed_of items) ≡ length items = length-map items fixed_of in
     let few = c.requires.tables.setup.ports in
     let cells = few_cells c.args.schedule.now.came in
-    omega (arith, c.requires.short, c.total.ensures, c.len-ports.ensures)
+    omega (arith, c.requires.short, c.total.ensures.cells, c.len-ports.ensures)
 
 pub new-requires-2-clause-rooms : goal.new-requires-2-clause-rooms
 new-requires-2-clause-rooms c =
@@ -39,7 +39,7 @@ run_slots-requires c =
     (sym (length-map items fixed_of) ∙ count)
     (c.in_ok-ideal.ensures.rooms ∙ c.as_slice.ensures.value ∙ c.in_ok-rooms.ensures ∙ ap (λ (n : ℕ). map f (range_with_len 0 n)) len)
     c.requires.traffic c.requires.short c.in_ok-sent.ensures.items
-    (c.in_ok-sent.ensures.spare ∙ omega (arith, len, c.total.ensures))
+    (c.in_ok-sent.ensures.spare ∙ omega (arith, len, c.total.ensures.cells))
 
 pub returns-in_err-run_slots-clause-refused : goal.returns-in_err-run_slots-clause-refused
 returns-in_err-run_slots-clause-refused c =

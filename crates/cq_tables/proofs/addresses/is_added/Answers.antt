@@ -1,4 +1,4 @@
-use Rattle.std.proofs.Common.{◌≡◌, ap, not, ◌∙◌, List, ℕ}
+use Rattle.std.proofs.Common.{ap, not, ◌∙◌, List, ℕ}
 use Rattle.cq_tables.proofs.Macs.{has, has-insert, set_has}
 use Rattle.cq_tables.proofs.addresses.is_added.Goals as goal
 

@@ -1,4 +1,4 @@
-use Rattle.std.proofs.Common.{◌≡◌, ◌+◌, ◌<◌, ◌≤◌, ◌∷◌, ◌++◌, [], length, IfErr, rules, arith}
+use Rattle.std.proofs.Common.{◌≡◌, ◌<◌, ◌≤◌, ◌∷◌, ◌++◌, [], length, IfErr, rules, arith}
 use Rattle.toml.specs.View.{view}
 use Rattle.cq_tables.specs.declared.place.Array.TheVariants.{Rules}
 use Rattle.cq_tables.specs.Check.{Refuses}

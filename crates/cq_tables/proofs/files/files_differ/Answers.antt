@@ -1,6 +1,5 @@
-use Rattle.std.proofs.Common.{◌≡◌, ◌<◌, ◌≤◌, true, false, get_or, length, IfErr, rules, arith, ap}
+use Rattle.std.proofs.Common.{◌≡◌, ◌<◌, ◌≤◌, true, false, get_or, length, IfErr, rules}
 use Rattle.std.specs.Str.{bytes_eq}
-use Rattle.cq_route.specs.declared.tables.PortRow.{PortRow}
 use Rattle.cq_tables.specs.Check.{Refuses, first}
 use Rattle.cq_tables.specs.Document.{apart_from, files_before, names_of}
 use Rattle.cq_tables.proofs.Apart.{apart_all, apart_first, apart_next, apart_stops, log_clashes}

@@ -1,9 +1,7 @@
-use Rattle.std.proofs.Common.{◌≡◌, ◌<◌, ◌≤◌, false, true, length, nat_le, IfErr, rules, arith}
+use Rattle.std.proofs.Common.{IfErr, rules, arith}
 use Rattle.toml.specs.View.{table_view}
 use Rattle.cq_tables.specs.Check.{Refuses}
-use Rattle.cq_tables.specs.Document.{default_checks, document, file_check, tables_of, top_keys}
-use Rattle.cq_tables.specs.Key.{table_checks}
-use Rattle.cq_tables.specs.declared.place.Place.TheVariants.{Top}
+use Rattle.cq_tables.specs.Document.{file_check}
 use Rattle.cq_tables.proofs.Text.{file_fault, long_told, no_document, read_all, table_fault}
 use Rattle.cq_tables.proofs.read.read_tables.Goals as goal
 

@@ -3,7 +3,7 @@ use Rattle.toml.specs.View.{table_view}
 use Rattle.cq_tables.specs.declared.figures.Figures.{Figures}
 use Rattle.cq_tables.specs.declared.place.Place.TheVariants.{Top}
 use Rattle.cq_tables.specs.Check.{Refuses}
-use Rattle.cq_tables.specs.Document.{classes_in, figure_keys, figures_of, is_there, ports_in}
+use Rattle.cq_tables.specs.Document.{classes_in, figure_keys, is_there, ports_in}
 use Rattle.cq_tables.specs.Key.{checks_of, found_or}
 use Rattle.cq_tables.specs.Value.{integer_value}
 use Rattle.cq_tables.proofs.Checks.{all_in, first_all, first_none, here, here_in, later, later_in}

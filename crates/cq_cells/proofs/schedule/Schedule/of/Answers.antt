@@ -9,13 +9,13 @@ use Rattle.cq_cells.proofs.Rising.{own_lines, all_lines, traffic_is, short_is}
 use Rattle.cq_cells.proofs.schedule.Schedule.of.Goals as goal
 
 pub total_of-total-requires : goal.total_of-total-requires
-total_of-total-requires c =
+total_of-total-requires g c =
     let f : ℕ → List Arrival = arrivals_at c.args.tables.now c.args.captures.now in
     let most = c.requires.tables.setup.ports in
     omega (arith, c.requires.captures, ap (λ (ls : List (List Arrival)). length ls) c.deref.ensures.value, ap (λ (ls : List (List Arrival)). length ls) c.in_ok-lines.ensures.lines, length-map-range_with_len f 0 (length c.args.captures.now))
 
 pub invariant_of-result : goal.invariant_of-result
-invariant_of-result c =
+invariant_of-result g c =
     let captures = c.args.captures.now in
     let lines = c.in_ok-lines.lines.items in
     let f : ℕ → List Arrival = arrivals_at c.args.tables.now captures in
@@ -31,7 +31,8 @@ invariant_of-result c =
     let counts : AreCounted lines c.total_of-total.result c.end_of-end.result new = record {
       few = omega (arith, c.requires.captures);
       own = subst (λ (ls : List (List Arrival)). AreOwn 0 ls) (sym laid) (own_lines c.args.tables.now captures 0 (length captures));
-      all = c.total_of-total.ensures ∙ ap (λ (ls : List (List Arrival)). length (all_of ls)) c.deref.ensures.value;
+      small = c.total_of-total.ensures.few;
+      all = c.total_of-total.ensures.cells ∙ ap (λ (ls : List (List Arrival)). length (all_of ls)) c.deref.ensures.value;
       ended = c.end_of-end.ensures ∙ ap (λ (ls : List (List Arrival)). end_of (all_of ls)) c.deref-2.ensures.value;
       outputs = c.lines_of.ensures.outputs ∙ ports ∙ sym many;
       each = λ j h.
@@ -43,7 +44,7 @@ invariant_of-result c =
     rw items counts
 
 pub returns-clause-schedule : goal.returns-clause-schedule
-returns-clause-schedule c =
+returns-clause-schedule g c =
     let captures = c.args.captures.now in
     let f : ℕ → List Arrival = arrivals_at c.args.tables.now captures in
     let many : length c.in_ok-lines.lines.items ≡ length captures = ap (λ (ls : List (List Arrival)). length ls) c.in_ok-lines.ensures.lines ∙ length-map-range_with_len f 0 (length captures) in
@@ -51,13 +52,13 @@ returns-clause-schedule c =
     λ e. record { first_stamp = c.first_stamp-first_stamp.ensures e; ports = many e; came = came e }
 
 pub returns-clause-traffic : goal.returns-clause-traffic
-returns-clause-traffic c =
+returns-clause-traffic g c =
     let captures = c.args.captures.now in
     let came : all_of c.in_ok-lines.lines.items ≡ arrivals c.args.tables.now captures = all_lines c.args.tables.now captures c.in_ok-lines.lines.items c.in_ok-lines.ensures.lines in
     rw came (traffic_is c.args.tables.now captures c.requires.tables c.requires.captures)
 
 pub returns-clause-short : goal.returns-clause-short
-returns-clause-short c =
+returns-clause-short g c =
     let captures = c.args.captures.now in
     let came : all_of c.in_ok-lines.lines.items ≡ arrivals c.args.tables.now captures = all_lines c.args.tables.now captures c.in_ok-lines.lines.items c.in_ok-lines.ensures.lines in
     rw came (short_is c.args.tables.now captures c.requires.tables c.requires.captures c.in_ok-lines.ensures.recorded)

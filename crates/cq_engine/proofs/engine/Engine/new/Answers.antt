@@ -12,8 +12,10 @@ invariant_of-result g c =
     let one : AreForOneSwitch ms = subst (λ (fixed : List (List ℕ)). AreForOneSwitch (map g.R.Rank.machine fixed)) (sym c.of.ensures.fixed) c.requires.machines in
     let ports : length ms ≡ length c.args.ranks.items = length-map c.of.result.fixed g.R.Rank.machine ∙ ap length c.of.ensures.fixed ∙ length-map c.args.ranks.items g.R.Rank.fixed in
     let n : length c.args.from_inputs.now ≡ length c.args.ranks.items = c.requires.from_inputs in
-    let none : List Queued = [] in
-    λ _. keeps_up_first ms (length c.args.ranks.items) c.of.result.states c.in_ok-new.field-0 c.in_ok-no_figures.field-0 one ports
-    (c.in_ok-new.ensures.inputs ∙ ap (λ k. replicate k none) n)
-    (c.in_ok-new.ensures.buffers ∙ ap (λ k. replicate k none) n)
-    (c.in_ok-no_figures.ensures ∙ ap no_figures n)
+    let none : List Queued = [] in (
+      record { some = c.requires.some; few = c.requires.few },
+      λ _. keeps_up_first ms (length c.args.ranks.items) c.of.result.states c.in_ok-new.field-0 c.in_ok-no_figures.field-0 one ports
+          (c.in_ok-new.ensures.inputs ∙ ap (λ k. replicate k none) n)
+          (c.in_ok-new.ensures.buffers ∙ ap (λ k. replicate k none) n)
+          (c.in_ok-no_figures.ensures ∙ ap no_figures n),
+    )

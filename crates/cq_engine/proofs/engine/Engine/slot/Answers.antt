@@ -16,7 +16,7 @@ arrive-requires g c =
     let ms = map g.R.Rank.machine e.ranks.fixed in
     let classes = class_count (map g.R.Rank.machine c.args.self.now.fixed) in
     let cells = c.args.arrivals.now in
-    let up = up_at g.R.Rank.machine c.args.slot c.args.self.now e.ranks.fixed e.ranks.states e.queues e.figures e.next e.stopped c.self.view_is c.requires.running c.requires.next c.self.invariant in
+    let up = up_at g.R.Rank.machine c.args.slot c.args.self.now e.ranks.fixed e.ranks.states e.queues e.figures e.next e.stopped c.self.view_is c.requires.running c.requires.next c.self.invariant.1 in
     let come = come_at g.R.Rank.machine classes cells c.args.self.now e.ranks.fixed e.ranks.states e.queues e.figures e.next e.stopped c.self.view_is c.requires.arrivals in
     fits_lists ms c.args.slot e.figures e.queues e.ranks.states cells classes c.in-Ok.came c.take.new.self.states up come c.in-Ok.ensures.came (subst (HaveListRoom cells) (sym c.self.view_is) c.requires.list_room)
 
@@ -26,7 +26,7 @@ count_inputs-requires-clause-outputs g c =
     let ms = map g.R.Rank.machine e.ranks.fixed in
     let classes = class_count (map g.R.Rank.machine c.args.self.now.fixed) in
     let cells = c.args.arrivals.now in
-    let up = up_at g.R.Rank.machine c.args.slot c.args.self.now e.ranks.fixed e.ranks.states e.queues e.figures e.next e.stopped c.self.view_is c.requires.running c.requires.next c.self.invariant in
+    let up = up_at g.R.Rank.machine c.args.slot c.args.self.now e.ranks.fixed e.ranks.states e.queues e.figures e.next e.stopped c.self.view_is c.requires.running c.requires.next c.self.invariant.1 in
     let come = come_at g.R.Rank.machine classes cells c.args.self.now e.ranks.fixed e.ranks.states e.queues e.figures e.next e.stopped c.self.view_is c.requires.arrivals in
     λ i q is. subst (λ (n : ℕ). q.cell.output < n) (sym c.arrive.ensures.ports) (came_outputs ms c.args.slot e.figures e.queues e.ranks.states cells classes c.in-Ok.came c.take.new.self.states up come c.in-Ok.ensures.came i q is)
 
@@ -36,10 +36,10 @@ cross-first-requires-clause-cells g c =
     let ms = map g.R.Rank.machine e.ranks.fixed in
     let classes = class_count (map g.R.Rank.machine c.args.self.now.fixed) in
     let cells = c.args.arrivals.now in
-    let up = up_at g.R.Rank.machine c.args.slot c.args.self.now e.ranks.fixed e.ranks.states e.queues e.figures e.next e.stopped c.self.view_is c.requires.running c.requires.next c.self.invariant in
+    let up = up_at g.R.Rank.machine c.args.slot c.args.self.now e.ranks.fixed e.ranks.states e.queues e.figures e.next e.stopped c.self.view_is c.requires.running c.requires.next c.self.invariant.1 in
     let come = come_at g.R.Rank.machine classes cells c.args.self.now e.ranks.fixed e.ranks.states e.queues e.figures e.next e.stopped c.self.view_is c.requires.arrivals in
     let room = buffer_room_at g.R.Rank.machine cells c.args.self.now e.ranks.fixed e.ranks.states e.queues e.figures e.next e.stopped c.self.view_is c.requires.buffer_room in
-    can_cross_first ms c.args.slot e.figures e.queues e.ranks.states cells classes c.in-Ok.came c.take.new.self.states up come c.in-Ok.ensures.came c.arrive.new.self c.arrive.ensures.ports c.arrive.ensures.lists c.arrive.ensures.buffers c.arrive.ensures.to_outputs room
+    λ _ _. can_cross_first ms c.args.slot e.figures e.queues e.ranks.states cells classes c.in-Ok.came c.take.new.self.states up come c.in-Ok.ensures.came c.arrive.new.self c.arrive.ensures.ports c.arrive.ensures.lists c.arrive.ensures.buffers c.arrive.ensures.to_outputs room
 
 pub cross-second-requires-clause-cells : goal.cross-second-requires-clause-cells
 cross-second-requires-clause-cells g c =
@@ -47,11 +47,11 @@ cross-second-requires-clause-cells g c =
     let ms = map g.R.Rank.machine e.ranks.fixed in
     let classes = class_count (map g.R.Rank.machine c.args.self.now.fixed) in
     let cells = c.args.arrivals.now in
-    let up = up_at g.R.Rank.machine c.args.slot c.args.self.now e.ranks.fixed e.ranks.states e.queues e.figures e.next e.stopped c.self.view_is c.requires.running c.requires.next c.self.invariant in
+    let up = up_at g.R.Rank.machine c.args.slot c.args.self.now e.ranks.fixed e.ranks.states e.queues e.figures e.next e.stopped c.self.view_is c.requires.running c.requires.next c.self.invariant.1 in
     let come = come_at g.R.Rank.machine classes cells c.args.self.now e.ranks.fixed e.ranks.states e.queues e.figures e.next e.stopped c.self.view_is c.requires.arrivals in
     let room = buffer_room_at g.R.Rank.machine cells c.args.self.now e.ranks.fixed e.ranks.states e.queues e.figures e.next e.stopped c.self.view_is c.requires.buffer_room in
     let told : c.depart.new.ranks.states ≡ all_told ms (fronts c.cross-first.new.self.buffers) c.take.new.self.states = c.depart.ensures.ranks ∙ ap (λ (fixed : List (List ℕ)). all_told (map g.R.Rank.machine fixed) (fronts c.cross-first.new.self.buffers) c.take.new.self.states) c.take.ensures.fixed in
-    can_cross_second ms c.args.slot e.figures e.queues e.ranks.states cells classes c.in-Ok.came c.take.new.self.states up come c.in-Ok.ensures.came c.arrive.new.self c.arrive.ensures.ports c.arrive.ensures.lists c.arrive.ensures.buffers c.arrive.ensures.to_outputs room c.cross-first.result.matching c.cross-first.ensures.best c.cross-first.new.self c.cross-first.ensures.moves c.depart.new.ranks.states c.depart.new.queues c.depart.ensures.inputs c.depart.ensures.buffers told (c.depart.ensures.to_outputs ∙ c.cross-first.ensures.to_outputs)
+    λ _ _. can_cross_second ms c.args.slot e.figures e.queues e.ranks.states cells classes c.in-Ok.came c.take.new.self.states up come c.in-Ok.ensures.came c.arrive.new.self c.arrive.ensures.ports c.arrive.ensures.lists c.arrive.ensures.buffers c.arrive.ensures.to_outputs room c.cross-first.result.matching c.cross-first.ensures.best c.cross-first.new.self c.cross-first.ensures.moves c.depart.new.ranks.states c.depart.new.queues c.depart.ensures.inputs c.depart.ensures.buffers told (c.depart.ensures.to_outputs ∙ c.cross-first.ensures.to_outputs)
 
 pub cross-second-requires-clause-note : goal.cross-second-requires-clause-note
 cross-second-requires-clause-note g c =
@@ -59,7 +59,7 @@ cross-second-requires-clause-note g c =
     let ms = map g.R.Rank.machine e.ranks.fixed in
     let classes = class_count (map g.R.Rank.machine c.args.self.now.fixed) in
     let cells = c.args.arrivals.now in
-    let up = up_at g.R.Rank.machine c.args.slot c.args.self.now e.ranks.fixed e.ranks.states e.queues e.figures e.next e.stopped c.self.view_is c.requires.running c.requires.next c.self.invariant in
+    let up = up_at g.R.Rank.machine c.args.slot c.args.self.now e.ranks.fixed e.ranks.states e.queues e.figures e.next e.stopped c.self.view_is c.requires.running c.requires.next c.self.invariant.1 in
     let come = come_at g.R.Rank.machine classes cells c.args.self.now e.ranks.fixed e.ranks.states e.queues e.figures e.next e.stopped c.self.view_is c.requires.arrivals in
     let few = few_cross c.cross-first.result.matching c.arrive.new.self.inputs c.args.slot 1 c.cross-first.ensures.best in
     let room = c.requires.note in
@@ -78,7 +78,7 @@ invariant_of-self-2 g c =
     let ms = map g.R.Rank.machine e.ranks.fixed in
     let classes = class_count (map g.R.Rank.machine c.args.self.now.fixed) in
     let cells = c.args.arrivals.now in
-    let up = up_at g.R.Rank.machine c.args.slot c.args.self.now e.ranks.fixed e.ranks.states e.queues e.figures e.next e.stopped c.self.view_is c.requires.running c.requires.next c.self.invariant in
+    let up = up_at g.R.Rank.machine c.args.slot c.args.self.now e.ranks.fixed e.ranks.states e.queues e.figures e.next e.stopped c.self.view_is c.requires.running c.requires.next c.self.invariant.1 in
     let come = come_at g.R.Rank.machine classes cells c.args.self.now e.ranks.fixed e.ranks.states e.queues e.figures e.next e.stopped c.self.view_is c.requires.arrivals in
     let room = buffer_room_at g.R.Rank.machine cells c.args.self.now e.ranks.fixed e.ranks.states e.queues e.figures e.next e.stopped c.self.view_is c.requires.buffer_room in
     let told : c.depart.new.ranks.states ≡ all_told ms (fronts c.cross-first.new.self.buffers) c.take.new.self.states = c.depart.ensures.ranks ∙ ap (λ (fixed : List (List ℕ)). all_told (map g.R.Rank.machine fixed) (fronts c.cross-first.new.self.buffers) c.take.new.self.states) c.take.ensures.fixed in
@@ -89,7 +89,7 @@ invariant_of-self-2 g c =
     (c.count_proposals.ensures.most ∙ ap (λ n. max n (max c.cross-first.result.proposals c.cross-second.result.proposals)) c.depart.ensures.most)
     (c.count_proposals.ensures.inputs ∙ c.depart.ensures.input_figures ∙ c.count_inputs.ensures)
     (c.count_proposals.ensures.outputs ∙ c.depart.ensures.output_figures) in
-    λ _. subst (λ (fixed : List (List ℕ)). KeepsUp (map g.R.Rank.machine fixed) (c.args.slot + 1) y (fabric_of c.cross-second.new.self c.depart.new.ranks.states)) (sym (c.depart.ensures.fixed ∙ c.take.ensures.fixed)) whole.keeps_up
+    (c.self.invariant.0, λ _. subst (λ (fixed : List (List ℕ)). KeepsUp (map g.R.Rank.machine fixed) (c.args.slot + 1) y (fabric_of c.cross-second.new.self c.depart.new.ranks.states)) (sym (c.depart.ensures.fixed ∙ c.take.ensures.fixed)) whole.keeps_up)
 
 pub returns-clause-slot : goal.returns-clause-slot
 returns-clause-slot g c =
@@ -97,7 +97,7 @@ returns-clause-slot g c =
     let ms = map g.R.Rank.machine e.ranks.fixed in
     let classes = class_count (map g.R.Rank.machine c.args.self.now.fixed) in
     let cells = c.args.arrivals.now in
-    let up = up_at g.R.Rank.machine c.args.slot c.args.self.now e.ranks.fixed e.ranks.states e.queues e.figures e.next e.stopped c.self.view_is c.requires.running c.requires.next c.self.invariant in
+    let up = up_at g.R.Rank.machine c.args.slot c.args.self.now e.ranks.fixed e.ranks.states e.queues e.figures e.next e.stopped c.self.view_is c.requires.running c.requires.next c.self.invariant.1 in
     let come = come_at g.R.Rank.machine classes cells c.args.self.now e.ranks.fixed e.ranks.states e.queues e.figures e.next e.stopped c.self.view_is c.requires.arrivals in
     let room = buffer_room_at g.R.Rank.machine cells c.args.self.now e.ranks.fixed e.ranks.states e.queues e.figures e.next e.stopped c.self.view_is c.requires.buffer_room in
     let told : c.depart.new.ranks.states ≡ all_told ms (fronts c.cross-first.new.self.buffers) c.take.new.self.states = c.depart.ensures.ranks ∙ ap (λ (fixed : List (List ℕ)). all_told (map g.R.Rank.machine fixed) (fronts c.cross-first.new.self.buffers) c.take.new.self.states) c.take.ensures.fixed in

@@ -6,7 +6,8 @@ use Rattle.cq_prefs.specs.FirstCells.{orders_of, output_order}
 use Rattle.cq_prefs.specs.Moves.{Moves}
 use Rattle.cq_prefs.specs.Orders.{Orders, ports}
 use Rattle.cq_prefs.specs.Pairing.{Partners, IsInputBest, proposals}
-use Rattle.cq_prefs.proofs.Counts.{events_at_most}
+use Rattle.cq_prefs.specs.declared.outcome.Phase.{Phase}
+use Rattle.cq_crew.specs.Settling.{phase_of}
 use Rattle.cq_xbar.specs.Crossbar.{HaveCells, HaveRoom, MovesRoom}
 use Rattle.cq_engine.specs.Parts.{Queues as Held, CanCross, AreSquare, list_room, buffer_room}
 use Rattle.cq_engine.proofs.Queued.{shown, whole, has_cell, have_room, lists_long, buffers_long, crossed_list_rooms, crossed_buffer_rooms, crossed_square}
@@ -32,12 +33,20 @@ have_cells : (lists got : List Waiting) (buffers : List Buffered) (now : Held) (
 have_cells lists got buffers now o m found e view can orders best is =
     has_cell (cells_of lists) (cells_in buffers) (map list_room lists) (map buffer_room buffers) o m (subst CanCross (sym view) can) (orders ∙ ap (λ (ls : List Waiting). orders_of (cells_of ls)) e) (subst (IsInputBest o) (sym is) best)
 
+pub transfer-requires-clause-cells : goal.transfer-requires-clause-cells
+transfer-requires-clause-cells g c =
+    let lists = c.self.inside.lists.items in
+    let buffers = c.self.inside.buffers.items in
+    let m = c.phase-settled.result.matching in
+    let have = have_cells lists c.deref.result.now buffers c.args.self.now c.fill.new.self m (phase_of c.pair_phase.result).matching c.deref.ensures.value c.self.view_is c.requires.cells c.fill.ensures.orders c.pair_phase.ensures.phase.best (ap (λ (p : Phase). p.matching) c.phase-settled.ensures) in
+    subst (λ (ls : List Waiting). HaveCells m (cells_of ls)) (sym c.deref_mut.ensures.value) have
+
 pub transfer-requires-clause-room : goal.transfer-requires-clause-room
 transfer-requires-clause-room g c =
     let lists = c.self.inside.lists.items in
     let buffers = c.self.inside.buffers.items in
-    let m = c.matching-matching.result in
-    let have = have_cells lists c.deref.result.now buffers c.args.self.now c.fill.new.self m c.settle.new.self.matching c.deref.ensures.value c.self.view_is c.requires.cells c.fill.ensures.orders c.settle.ensures.best c.matching-matching.ensures in
+    let m = c.phase-settled.result.matching in
+    let have = have_cells lists c.deref.result.now buffers c.args.self.now c.fill.new.self m (phase_of c.pair_phase.result).matching c.deref.ensures.value c.self.view_is c.requires.cells c.fill.ensures.orders c.pair_phase.ensures.phase.best (ap (λ (p : Phase). p.matching) c.phase-settled.ensures) in
     subst (HaveRoom m) (sym c.deref_mut-2.ensures.value) (have_room lists buffers m (subst CanCross (sym c.self.view_is) c.requires.cells) have)
 
 pub invariant_of-self : goal.invariant_of-self
@@ -46,8 +55,8 @@ invariant_of-self g c =
     let buffers = c.self.inside.buffers.items in
     let new = c.transfer.new.lists in
     let filled = c.transfer.new.buffers in
-    let m = c.matching-matching.result in
-    let have = have_cells lists c.deref.result.now buffers c.args.self.now c.fill.new.self m c.settle.new.self.matching c.deref.ensures.value c.self.view_is c.requires.cells c.fill.ensures.orders c.settle.ensures.best c.matching-matching.ensures in
+    let m = c.phase-settled.result.matching in
+    let have = have_cells lists c.deref.result.now buffers c.args.self.now c.fill.new.self m (phase_of c.pair_phase.result).matching c.deref.ensures.value c.self.view_is c.requires.cells c.fill.ensures.orders c.pair_phase.ensures.phase.best (ap (λ (p : Phase). p.matching) c.phase-settled.ensures) in
     let x = crossed m lists c.deref_mut.result.now buffers c.deref_mut-2.result.now new filled c.deref_mut.ensures.value c.deref_mut-2.ensures.value have c.transfer.ensures.moves c.transfer.ensures.room c.transfer.ensures.outputs in
     let long = lists_long m lists buffers new filled x.have x.moves x.rooms in
     let longer = buffers_long m lists buffers new filled x.have x.moves x.rooms in
@@ -66,18 +75,17 @@ invariant_of-self g c =
 
 pub returns-clause-proposals : goal.returns-clause-proposals
 returns-clause-proposals g c =
-    c.made.ensures ∙ c.settle.ensures.proposals
-    ∙ ap (proposals c.fill.new.self) (sym c.matching-matching.ensures)
-    ∙ ap (λ (o : Orders). proposals o c.matching-matching.result) (c.fill.ensures.orders ∙ ap (λ (ls : List Waiting). orders_of (cells_of ls)) c.deref.ensures.value ∙ ap (λ (q : Held). orders_of q.inputs) c.self.view_is)
+    ap (λ (p : Phase). p.proposals) c.phase-settled.ensures ∙ c.pair_phase.ensures.phase.count
+    ∙ ap (λ (p : Phase). proposals c.fill.new.self p.matching) (sym c.phase-settled.ensures)
+    ∙ ap (λ (o : Orders). proposals o c.phase-settled.result.matching) (c.fill.ensures.orders ∙ ap (λ (ls : List Waiting). orders_of (cells_of ls)) c.deref.ensures.value ∙ ap (λ (q : Held). orders_of q.inputs) c.self.view_is)
 
 pub returns-clause-few : goal.returns-clause-few
 returns-clause-few g c =
-    let r = c.settle.ensures.reached in
-    let most = events_at_most c.fill.new.self c.ports-ports.ensures.offers r.events r.are_events in
     let n : ports c.fill.new.self ≡ length c.args.self.now.inputs =
     ap ports c.fill.ensures.orders ∙ length-map (cells_of c.deref.result.now) output_order ∙ ap (λ (ls : List Waiting). length (cells_of ls)) c.deref.ensures.value ∙ ap (λ (q : Held). length q.inputs) c.self.view_is in
-    let made = c.made.ensures ∙ r.made in
-    subst (λ (k : ℕ). c.made.result ≤ k * k) n (omega arith)
+    let most = c.pair_phase.ensures.phase.few in
+    let made = ap (λ (p : Phase). p.proposals) c.phase-settled.ensures in
+    subst (λ (k : ℕ). c.phase-settled.result.proposals ≤ k * k) n (omega arith)
 
 pub returns-clause-from_inputs : goal.returns-clause-from_inputs
 returns-clause-from_inputs g c =
@@ -85,8 +93,8 @@ returns-clause-from_inputs g c =
     let buffers = c.self.inside.buffers.items in
     let new = c.transfer.new.lists in
     let filled = c.transfer.new.buffers in
-    let m = c.matching-matching.result in
-    let have = have_cells lists c.deref.result.now buffers c.args.self.now c.fill.new.self m c.settle.new.self.matching c.deref.ensures.value c.self.view_is c.requires.cells c.fill.ensures.orders c.settle.ensures.best c.matching-matching.ensures in
+    let m = c.phase-settled.result.matching in
+    let have = have_cells lists c.deref.result.now buffers c.args.self.now c.fill.new.self m (phase_of c.pair_phase.result).matching c.deref.ensures.value c.self.view_is c.requires.cells c.fill.ensures.orders c.pair_phase.ensures.phase.best (ap (λ (p : Phase). p.matching) c.phase-settled.ensures) in
     let x = crossed m lists c.deref_mut.result.now buffers c.deref_mut-2.result.now new filled c.deref_mut.ensures.value c.deref_mut-2.ensures.value have c.transfer.ensures.moves c.transfer.ensures.room c.transfer.ensures.outputs in
     let long = lists_long m lists buffers new filled x.have x.moves x.rooms in
     let size = c.deref_mut.ensures.len in
@@ -100,8 +108,8 @@ returns-clause-to_outputs g c =
     let buffers = c.self.inside.buffers.items in
     let new = c.transfer.new.lists in
     let filled = c.transfer.new.buffers in
-    let m = c.matching-matching.result in
-    let have = have_cells lists c.deref.result.now buffers c.args.self.now c.fill.new.self m c.settle.new.self.matching c.deref.ensures.value c.self.view_is c.requires.cells c.fill.ensures.orders c.settle.ensures.best c.matching-matching.ensures in
+    let m = c.phase-settled.result.matching in
+    let have = have_cells lists c.deref.result.now buffers c.args.self.now c.fill.new.self m (phase_of c.pair_phase.result).matching c.deref.ensures.value c.self.view_is c.requires.cells c.fill.ensures.orders c.pair_phase.ensures.phase.best (ap (λ (p : Phase). p.matching) c.phase-settled.ensures) in
     let x = crossed m lists c.deref_mut.result.now buffers c.deref_mut-2.result.now new filled c.deref_mut.ensures.value c.deref_mut-2.ensures.value have c.transfer.ensures.moves c.transfer.ensures.room c.transfer.ensures.outputs in
     let long = buffers_long m lists buffers new filled x.have x.moves x.rooms in
     let size = c.deref_mut-2.ensures.len in

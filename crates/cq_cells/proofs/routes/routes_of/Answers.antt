@@ -1,0 +1,34 @@
+use Rattle.std.proofs.Common.{◌≡◌, ℕ, ◌<◌, ◌-◌, List, length, map, ap, ◌∙◌, arith}
+use Rattle.std.specs.List.{range_with_len}
+use Rattle.std.proofs.lemmas.Slice.Zip.{AllZip-map}
+use Rattle.rayon.specs.Numbers.{nat_range}
+use Rattle.rayon.proofs.ToStd.{nat_range-All}
+use Rattle.cq_pcap.specs.Captured.{Captured}
+use Rattle.cq_pcap.specs.declared.capture.PacketRow.{PacketRow}
+use Rattle.cq_cells.specs.Schedule.{packet_in}
+use Rattle.cq_route.specs.Route.{route}
+use Rattle.cq_cells.proofs.Routed.{map-packet_in}
+use Rattle.cq_cells.proofs.Stamps.{length-rows_from}
+use Rattle.cq_cells.proofs.routes.routes_of.Goals as goal
+
+-- each number below the number of rows is that of a packet
+pub collect-requires-clause-ready : goal.collect-requires-clause-ready
+collect-requires-clause-ready g c κs within =
+    let ps = c.args.capture.now in
+    let ends = c.into_par_iter.ensures in
+    let many : length c.rows-packets.result.now ≡ length ps = ap (λ (rows : List PacketRow). length rows) c.rows-packets.ensures.rows ∙ length-rows_from 24 ps in
+    let inside = nat_range-All (λ k. k < length ps) 0 (length c.rows-packets.result.now) (λ k low high. omega (arith, many, high)) in
+    rw (c.map.ensures.base, c.map.ensures.f, ends.0, ends.1) (λ k d lt. (inside k d lt, λ y p. tt))
+
+pub returns : goal.returns
+returns g c =
+    let ps = c.args.capture.now in
+    let ends = c.into_par_iter.ensures in
+    let n = length c.rows-packets.result.now in
+    let many : length c.rows-packets.result.now ≡ length ps = ap (λ (rows : List PacketRow). length rows) c.rows-packets.ensures.rows ∙ length-rows_from 24 ps in
+    let whole : n - 0 ≡ length ps = omega arith in
+    let way = λ (k : ℕ). route c.args.tables.now c.args.input (packet_in ps k).body in
+    let given = c.in_ok-routes.ensures in
+    let chain = rw (c.map.ensures.base, c.map.ensures.f) at given.1 in
+    let places = chain.1 ∙ (λ i. nat_range (ends.0 i) (ends.1 i)) ∙ ap (range_with_len 0) whole in
+    given.2 ∙ AllZip-map way chain.0 given.0 chain.2 ∙ ap (map way) places ∙ map-packet_in (λ (p : Captured). route c.args.tables.now c.args.input p.body) ps

@@ -1,0 +1,378 @@
+//! Worked slots, drawn slots against a plain slow fabric, and the call that wants memory, with ample memory.
+ghost use Rattle.std.specs.Prelude.{◌≡◌, ◌+◌, ◌*◌, ◌<◌, ◌≤◌, ℕ, [], ◌∷◌, All, IfOk, OnOk, false, is_err, length, map};
+ghost use Rattle.cq_rank.specs.Switch.{class_count};
+ghost use Rattle.cq_ideal.specs.Ranking.{AreForPorts};
+ghost use Rattle.cq_laws.specs.Fabric.{input};
+ghost use Rattle.cq_engine.specs.Engine.{held_for, ports_of};
+
+mod slow;
+
+use crate::{Engine, Gate, OpenGate};
+use cq_base::{
+    Arrivals, Cell, CellId, ClassRow, Departure, InputFigures, NoMemory, OutputFigures, Port, Room,
+    TagFault, Transfer,
+};
+use cq_rank::{FirstCome, Priority, Rank};
+use slow::{PRIORITIES, Slow};
+use std::alloc::Global;
+use std::test::Fail;
+use std::thread::Threads;
+
+// The arrivals, and a cell that comes to the input.
+#[tactic(auto, using(crate::proofs::Worked::for_ports_with))]
+fn and(mut arrivals: Arrivals, packet: u32, input: Port, output: Port, class: u16) -> Arrivals
+    requires input { input < 4 }
+    requires output { output < 4 }
+    requires class { class < 2 }
+    requires arrivals { AreForPorts 4 2 arrivals }
+    ensures { AreForPorts 4 2 result }
+{
+    let id = CellId {
+        input,
+        packet,
+        index: 0,
+    };
+    let cell = Cell {
+        id,
+        output,
+        class,
+        last: true,
+        at: 0,
+        len: 60,
+    };
+    arrivals.set(input, cell);
+    arrivals
+}
+
+// No cell comes.
+#[tactic(auto, using(crate::proofs::Worked::for_ports_none))]
+fn nothing() -> Arrivals
+    ensures { AreForPorts 4 2 result }
+{
+    Arrivals::none()
+}
+
+// The next of 40 slots of an engine with four ports.
+fn step<R: Rank, T: Threads + Sync, G: Gate>(
+    engine: &mut Engine<R>,
+    rt: &T,
+    alloc: Global,
+    arrivals: &Arrivals,
+    gate: &G,
+    sent: &mut Room<Departure>,
+    note: &mut Room<Transfer>,
+) -> Result<(), TagFault>
+    requires running { engine.old.stopped ≡ false }
+    requires early { engine.old.next < 40 }
+    requires ports { ports_of engine.old ≡ 4 }
+    requires classes { class_count (map R.machine engine.old.fixed) ≡ 2 }
+    requires from_inputs { engine.old.from_inputs ≡ 40 ∷ 40 ∷ 40 ∷ 40 ∷ [] }
+    requires to_outputs { engine.old.to_outputs ≡ 2560 ∷ 2560 ∷ 2560 ∷ 2560 ∷ [] }
+    requires lists { (i : ℕ) → length (input engine.old.fabric i) ≤ engine.old.next }
+    requires held { (j : ℕ) → held_for j engine.old.fabric ≤ 64 * engine.old.next }
+    requires proposals { engine.old.figures.proposals ≤ 32 * engine.old.next }
+    requires arrivals { AreForPorts 4 2 arrivals.now }
+    requires sent { 4 ≤ sent.old.spare }
+    requires note { 8 ≤ note.old.spare }
+    ensures fixed { engine.new.fixed ≡ engine.old.fixed }
+    ensures from_inputs { engine.new.from_inputs ≡ engine.old.from_inputs }
+    ensures to_outputs { engine.new.to_outputs ≡ engine.old.to_outputs }
+    ensures stopped { engine.new.stopped ≡ is_err result }
+    ensures next { OnOk result (engine.new.next ≡ engine.old.next + 1) }
+    ensures lists { OnOk result ((i : ℕ) → length (input engine.new.fabric i) ≤ engine.old.next + 1) }
+    ensures held { OnOk result ((j : ℕ) → held_for j engine.new.fabric ≤ 64 * (engine.old.next + 1)) }
+    ensures proposals { OnOk result (engine.new.figures.proposals ≤ 32 * (engine.old.next + 1)) }
+{
+    let _places = arrivals.at(0);
+    engine.slot(rt, alloc, engine.next(), arrivals, gate, sent, note)
+}
+
+// What is told of a run: of each departure its slot, its output, and the input and the packet of the cell, and of
+// each transfer its slot, its phase, its input, its output and the packet.
+#[derive(Drop)]
+struct Told {
+    sent: Vec<[u64; 4]>,
+    crossed: Vec<[u64; 5]>,
+    fault: Option<TagFault>,
+}
+
+impl Told {
+    fn nothing(alloc: Global) -> Told {
+        Told {
+            sent: Vec::new(alloc),
+            crossed: Vec::new(alloc),
+            fault: None,
+        }
+    }
+
+    // The departures and the transfers of a slot.
+    fn tell(&mut self, sent: &Room<Departure>, note: &Room<Transfer>) -> Result<(), NoMemory> {
+        for departure in sent.items() {
+            let id = departure.queued.cell.id;
+            self.sent.push([
+                departure.slot,
+                departure.output as u64,
+                id.input as u64,
+                id.packet as u64,
+            ])?;
+        }
+        for transfer in note.items() {
+            self.crossed.push([
+                transfer.slot,
+                transfer.phase as u64,
+                transfer.input as u64,
+                transfer.output as u64,
+                transfer.id.packet as u64,
+            ])?;
+        }
+        Ok(())
+    }
+}
+
+// A run of these slots, up to the first tag fault.
+fn run<R: Rank, T: Threads + Sync>(
+    rt: &T,
+    alloc: Global,
+    engine: &mut Engine<R>,
+    slots: &[Arrivals],
+) -> Result<Told, NoMemory>
+    requires running { engine.old.stopped ≡ false }
+    requires next { engine.old.next ≡ 0 }
+    requires ports { ports_of engine.old ≡ 4 }
+    requires classes { class_count (map R.machine engine.old.fixed) ≡ 2 }
+    requires from_inputs { engine.old.from_inputs ≡ 40 ∷ 40 ∷ 40 ∷ 40 ∷ [] }
+    requires to_outputs { engine.old.to_outputs ≡ 2560 ∷ 2560 ∷ 2560 ∷ 2560 ∷ [] }
+    requires lists { (i : ℕ) → length (input engine.old.fabric i) ≤ 0 }
+    requires held { (j : ℕ) → held_for j engine.old.fabric ≤ 0 }
+    requires proposals { engine.old.figures.proposals ≤ 0 }
+    requires slots { All (AreForPorts 4 2) slots.now }
+    requires few { length slots.now ≤ 40 }
+{
+    let mut told = Told::nothing(alloc);
+    'slots: for arrivals in slots {
+        let mut sent = Room::new(alloc, 4)?;
+        let mut note = Room::new(alloc, 8)?;
+        if let Err(fault) = step(engine, rt, alloc, arrivals, &OpenGate, &mut sent, &mut note) {
+            told.fault = Some(fault);
+            return Ok(told);
+        }
+        told.tell(&sent, &note)?;
+    }
+    Ok(told)
+}
+
+// Cells of three inputs come for output 0, and one slot later a cell of input 2 for output 1.
+fn worked_slots() -> [Arrivals; 3]
+    ensures { All (AreForPorts 4 2) result }
+{
+    let all = and(and(and(nothing(), 0, 0, 0, 0), 0, 1, 0, 0), 0, 2, 0, 0);
+    let later = and(nothing(), 1, 2, 1, 0);
+    [all, later, nothing()]
+}
+
+// An engine of four first-come outputs on these slots.
+#[tactic(auto, using(crate::proofs::Worked::lists_first, crate::proofs::Worked::held_first))]
+fn worked<T: Threads + Sync>(
+    rt: &T,
+    alloc: Global,
+    workers: u16,
+) -> Result<(Engine<FirstCome>, Told), NoMemory>
+    requires some { 1 ≤ workers }
+    requires few { workers ≤ 64 }
+{
+    let ranks = vec![in alloc;
+        FirstCome::new(2),
+        FirstCome::new(2),
+        FirstCome::new(2),
+        FirstCome::new(2),
+    ]?;
+    let mut engine = Engine::new(alloc, ranks, &[40; 4], &[2560; 4], workers)?;
+    let told = run(rt, alloc, &mut engine, &worked_slots())?;
+    Ok((engine, told))
+}
+
+// What was seen of an input.
+fn of_input(cells: u64, longest: u64, slack: Option<u64>) -> InputFigures {
+    InputFigures {
+        cells,
+        longest,
+        slack,
+    }
+}
+
+// What was seen of an output.
+fn of_output(cells: u64, wait: Option<u64>) -> OutputFigures {
+    OutputFigures { cells, wait }
+}
+
+#[test]
+fn a_new_cell_goes_ahead_of_an_older_one_for_a_busy_output(rt: HostRuntime) -> Result<(), Fail> {
+    let sent = [[0, 0, 0, 0], [1, 0, 1, 0], [1, 1, 2, 1], [2, 0, 2, 0]];
+    let crossed = [
+        [0, 1, 0, 0, 0],
+        [0, 2, 1, 0, 0],
+        [1, 1, 2, 1, 1],
+        [1, 2, 2, 0, 0],
+    ];
+    for workers in 1..3 {
+        let (engine, told) = worked(&rt, rt.alloc(), workers)?;
+        assert_eq!(rt; told.sent.as_slice(), &sent[..]);
+        assert_eq!(rt; told.crossed.as_slice(), &crossed[..]);
+        assert!(rt; told.fault.is_none());
+        assert!(rt; engine.empty());
+        assert!(rt; !engine.stopped());
+        assert_eq!(rt; engine.next(), 3);
+    }
+    Ok(())
+}
+
+#[test]
+fn figures_count_cells_proposals_slack_and_waits(rt: HostRuntime) -> Result<(), Fail> {
+    let (engine, _) = worked(&rt, rt.alloc(), 2)?;
+    let figures = engine.into_figures();
+    let inputs = [
+        of_input(1, 1, Some(0)),
+        of_input(1, 1, Some(0)),
+        of_input(2, 2, Some(0)),
+        of_input(0, 0, None),
+    ];
+    let outputs = [
+        of_output(3, Some(2)),
+        of_output(1, Some(0)),
+        of_output(0, None),
+        of_output(0, None),
+    ];
+    assert_eq!(rt; [figures.slots, figures.proposals, figures.most], [3, 7, 3]);
+    assert_eq!(rt; figures.inputs.as_slice(), &inputs[..]);
+    assert_eq!(rt; figures.outputs.as_slice(), &outputs[..]);
+    Ok(())
+}
+
+// A linear congruential generator, with the constants of Knuth's MMIX.
+#[derive(Drop)]
+struct Draws {
+    state: u64,
+}
+
+impl Draws {
+    fn below(&mut self, limit: u16) -> u16
+        requires { 0 < limit }
+        ensures { result < limit }
+    {
+        self.state = self
+            .state
+            .wrapping_mul(6_364_136_223_846_793_005)
+            .wrapping_add(1_442_695_040_888_963_407);
+        ((self.state >> 33) % limit as u64) as u16
+    }
+
+    // The arrivals of a slot at some of the first ports, for them. Their packets are numbered by the slot.
+    fn arrivals(&mut self, slot: u32, ports: u16) -> Arrivals
+        requires some { 0 < ports }
+        requires few { ports ≤ 4 }
+        ensures { AreForPorts 4 2 result }
+    {
+        let mut arrivals = nothing();
+        'inputs: for input in 0..ports {
+            if self.below(8) < 7 {
+                let output = self.below(ports);
+                arrivals = and(arrivals, slot, input, output, self.below(2));
+            }
+        }
+        arrivals
+    }
+}
+
+// 30 slots with arrivals at two to four ports, and 10 without.
+fn drawn_slots(alloc: Global, seed: u64) -> Result<Vec<Arrivals>, NoMemory>
+    ensures slots { IfOk result (λ slots. All (AreForPorts 4 2) slots.items) }
+    ensures few { IfOk result (λ slots. length slots.items ≡ 40) }
+{
+    let mut draws = Draws { state: seed };
+    let ports = 2 + draws.below(3);
+    let mut slots = Vec::new(alloc);
+    'slots: for slot in 0..40 {
+        let arrivals = if slot < 30 {
+            draws.arrivals(slot, ports)
+        } else {
+            nothing()
+        };
+        slots.push(arrivals)?;
+    }
+    Ok(slots)
+}
+
+// A discipline of two classes with these priorities.
+fn by_priority(alloc: Global, priorities: [u128; 2]) -> Result<Priority, NoMemory>
+    ensures { IfOk result (λ rank. length rank.fixed ≡ 2) }
+{
+    let classes = [
+        ClassRow {
+            priority: priorities[0],
+            cost: 1,
+        },
+        ClassRow {
+            priority: priorities[1],
+            cost: 1,
+        },
+    ];
+    Priority::new(alloc, &classes)
+}
+
+// An engine of four outputs by priority on these slots.
+#[tactic(auto, using(crate::proofs::Worked::lists_first, crate::proofs::Worked::held_first))]
+fn prioritized<T: Threads + Sync>(
+    rt: &T,
+    alloc: Global,
+    slots: &[Arrivals],
+    workers: u16,
+) -> Result<(Engine<Priority>, Told), NoMemory>
+    requires slots { All (AreForPorts 4 2) slots.now }
+    requires length { length slots.now ≤ 40 }
+    requires some { 1 ≤ workers }
+    requires few { workers ≤ 64 }
+{
+    let ranks = vec![in alloc;
+        by_priority(alloc, PRIORITIES[0])?,
+        by_priority(alloc, PRIORITIES[1])?,
+        by_priority(alloc, PRIORITIES[2])?,
+        by_priority(alloc, PRIORITIES[3])?,
+    ]?;
+    let mut engine = Engine::new(alloc, ranks, &[40; 4], &[2560; 4], workers)?;
+    let told = run(rt, alloc, &mut engine, slots)?;
+    Ok((engine, told))
+}
+
+#[test]
+fn the_plain_slow_fabric_agrees(rt: HostRuntime) -> Result<(), Fail> {
+    for seed in 1..9 {
+        let slots = drawn_slots(rt.alloc(), seed)?;
+        let plain = Slow::run(rt.alloc(), &slots)?;
+        for workers in 1..3 {
+            let (engine, told) = prioritized(&rt, rt.alloc(), &slots, workers)?;
+            let figures = engine.figures();
+            assert_eq!(rt;
+                told.sent.as_slice(),
+                plain.told.sent.as_slice(),
+                "seed {seed}"
+            );
+            assert_eq!(rt;
+                told.crossed.as_slice(),
+                plain.told.crossed.as_slice(),
+                "seed {seed}"
+            );
+            assert_eq!(rt; figures.inputs.as_slice(), &plain.inputs[..], "seed {seed}");
+            assert_eq!(rt;
+                figures.outputs.as_slice(),
+                &plain.outputs[..],
+                "seed {seed}"
+            );
+            assert_eq!(rt;
+                [figures.slots, figures.proposals, figures.most],
+                [plain.slots, plain.proposals, plain.most],
+                "seed {seed}"
+            );
+        }
+    }
+    Ok(())
+}

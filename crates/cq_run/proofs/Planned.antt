@@ -1,0 +1,116 @@
+-- From one judgement after another to a plan that meets what is aimed at.
+use Rattle.std.proofs.Common.{◌≡◌, ◌∙◌, ℕ, List, [], ◌∷◌, refl, sym, ap, subst}
+use Rattle.std.specs.Prelude.{IfSome, Result, Ok, Err, IfOk, IfErr, IsOk, IsOkAnd}
+use Rattle.std.specs.List.{AllByRecursion}
+use Rattle.cq_base.specs.declared.cell.Departure.{Departure}
+use Rattle.cq_pcap.specs.Captured.{Captured}
+use Rattle.cq_route.specs.declared.tables.Tables.{Tables}
+use Rattle.cq_space.specs.Space.{Contents, Space, Closed}
+use Rattle.cq_space.specs.Causes.{Rose}
+use Rattle.cq_words.specs.declared.command.Command.{Command}
+use Rattle.cq_words.specs.declared.command.Command.TheVariants.{Pass, Check, Ideal, Run, Soak}
+use Rattle.cq_run.specs.declared.refusal.Refusal.{Refusal}
+use Rattle.cq_run.specs.declared.stop.Halt.{Halt}
+use Rattle.cq_run.specs.declared.stop.Halt.TheVariants.{Refused, Unread, NoMemory}
+use Rattle.cq_run.specs.Aim.{Aim, Reporting, Meets}
+use Rattle.cq_run.specs.Ending.{IsPlanned}
+use Rattle.cq_run.specs.Headline.{Emulates}
+use Rattle.cq_run.specs.Judging.{IsHaltOf, Judges}
+use Rattle.cq_run.specs.Plan.{Plan}
+use Rattle.cq_run.specs.Planning.{Plans, known_to}
+use Rattle.cq_run.specs.Verdict.{◌>>=◌, ideally_sent, tables_in, captures_in, judged, MayRead, MayWrite}
+use Rattle.cq_run.proofs.Chain.{judges_then, judges_after, judges_both, judges_computed, judges_computed_err}
+use Rattle.cq_run.proofs.Stays.{tables_stay}
+use Rattle.cq_run.proofs.Told.{told_map}
+
+-- what a command knows of a file space has its count of faults
+known_faults : (command : Command) (s : Space) → (known_to command s).faults ≡ s.faults
+known_faults (Pass from to) s = refl
+known_faults (Check config) s = refl
+known_faults (Ideal config) s = refl
+known_faults (Run config) s = refl
+known_faults (Soak seed ports slots) s = refl
+
+pub same_faults : (command : Command) (old new : Space) → (known_to command new).faults ≡ (known_to command old).faults → new.faults ≡ old.faults
+same_faults command old new e = sym (known_faults command new) ∙ e ∙ known_faults command old
+
+pub rose_known : (command : Command) (old new : Space) → Rose (known_to command old).faults (known_to command new).faults → Rose old.faults new.faults
+rose_known command old new r =
+    let P : ℕ → Type 0 = λ n. Rose n new.faults in
+    let Q : ℕ → Type 0 = λ n. Rose (known_to command old).faults n in
+    subst P (known_faults command old) (subst Q (known_faults command new) r)
+
+aimed_at : (v : Result Aim Refusal) (aim : Aim) (plan : Plan) → v ≡ Ok aim → Meets aim plan → IsOkAnd v (λ a. Meets a plan)
+aimed_at v aim plan e h = let P : Result Aim Refusal → Type 0 = λ r. IsOkAnd r (λ a. Meets a plan) in subst P (sym e) h
+
+-- a plan that was judged is one of the command
+pub planned : (command : Command) (old new : Space) (plan : Plan) → Plans (judged command) (MayRead command) (known_to command old) (known_to command new) (Ok plan)
+    → AllByRecursion (λ write. MayWrite command write.0) plan.writes → IfSome old.told (λ m. Emulates command m plan) → IsPlanned command old plan
+planned command old new plan (aim, meets, judges) names emulates = record {
+  verdict = told_map (known_to command old).told _ _ (λ m e. aimed_at (judged command m) aim plan e meets) judges.ok;
+  names = names;
+  emulates = emulates;
+}
+
+-- a plan that is computed from what was read
+pub plans_computed : {A : Type 0} (j : Contents → Result A Refusal) (f : A → Result Aim Refusal) (R S : List ℕ → Type 0) (old mid : Space) (x : A) (aim : Aim) (plan : Plan)
+    → Judges j R old mid (Ok x) → f x ≡ Ok aim → Meets aim plan → Plans (λ (m : Contents). j m >>= f) S old mid (Ok plan)
+plans_computed j f R S old mid x aim plan g e h =
+    (aim, h, judges_both j (λ x (m : Contents). f x) R R S old mid mid x aim g (judges_computed (f x) R mid aim g.closed e))
+
+-- and from what was read after that
+pub plans_then : {A : Type 0} (j : Contents → Result A Refusal) (f : A → Contents → Result Aim Refusal) (Q R S : List ℕ → Type 0) (old mid new : Space) (x : A) (plan : Plan)
+    → Judges j Q old mid (Ok x) → Plans (f x) R mid new (Ok plan) → Plans (λ (m : Contents). j m >>= (λ x. f x m)) S old new (Ok plan)
+plans_then j f Q R S old mid new x plan g (aim, meets, judges) = (aim, meets, judges_both j f Q R S old mid new x aim g judges)
+
+-- judging that comes to a plan counts no fault
+pub plans_uncounted : (command : Command) (R : List ℕ → Type 0) (old new : Space) (plan : Plan) → Plans (judged command) R (known_to command old) (known_to command new) (Ok plan) → new.faults ≡ old.faults
+plans_uncounted command R old new plan (aim, meets, judges) = same_faults command old new judges.uncounted
+
+-- ## Judging a configuration, and then its captures
+
+module _ (aim_of : Tables → List (List Captured) → List Departure → Aim) (config : List ℕ) (old mid new : Space) where
+  abbrev sent_after : Tables → List (List Captured) → Result Aim Refusal
+  sent_after t captures = ideally_sent t captures >>= (λ sent. Ok (aim_of t captures sent))
+
+  abbrev all_of : Contents → Result Aim Refusal
+  all_of m = tables_in config m >>= (λ t. captures_in t m >>= (λ captures. sent_after t captures))
+
+  -- the captures end it
+  pub captures_halt : (t : Tables) (halt : Halt) → Judges (tables_in config) (λ name. name ≡ config) old mid (Ok t) → Judges (captures_in t) (λ _. Unit {0}) mid new (Err halt) → Judges all_of (λ _. Unit {0}) old new (Err halt)
+  captures_halt t halt g h =
+      judges_after (tables_in config) (λ (t : Tables) (m : Contents). captures_in t m >>= (λ captures. sent_after t captures)) (λ name. name ≡ config) (λ _. Unit {0}) (λ _. Unit {0}) old mid new t halt (tables_stay config) (λ name u. u) g
+      (judges_then (captures_in t) (λ (captures : List (List Captured)) (m : Contents). sent_after t captures) (λ _. Unit {0}) (λ _. Unit {0}) mid new halt (λ name u. u) h)
+
+  -- both are read, and the ideal run has no fault
+  pub captures_plan : (t : Tables) (captures : List (List Captured)) (sent : List Departure) (plan : Plan) → Judges (tables_in config) (λ name. name ≡ config) old mid (Ok t) → Judges (captures_in t) (λ _. Unit {0}) mid new (Ok captures)
+      → ideally_sent t captures ≡ Ok sent → Meets (aim_of t captures sent) plan → Plans all_of (λ _. Unit {0}) old new (Ok plan)
+  captures_plan t captures sent plan g h e meets =
+      plans_then (tables_in config) (λ (t : Tables) (m : Contents). captures_in t m >>= (λ captures. sent_after t captures)) (λ name. name ≡ config) (λ _. Unit {0}) (λ _. Unit {0}) old mid new t plan g
+      (plans_computed (captures_in t) (sent_after t) (λ _. Unit {0}) (λ _. Unit {0}) mid new captures (aim_of t captures sent) plan h (ap (λ (r : Result (List Departure) Refusal). r >>= (λ ds. let a : Result Aim Refusal = Ok (aim_of t captures ds) in a)) e) meets)
+
+-- ## Judging made traffic
+
+module _ (t : Tables) (captures : List (List Captured)) (s : Space) (closed : s.mode ≡ Closed) where
+  abbrev report_after : Result (List Departure) Refusal → Result Aim Refusal
+  report_after r = r >>= (λ sent. Ok (Reporting t captures))
+
+  reported_ok : (r : Result (List Departure) Refusal) → IsOk r → report_after r ≡ Ok (Reporting t captures)
+  reported_ok (Ok sent) h = refl
+  reported_ok (Err e) h = absurd (let P : ⊥ = cc in P)
+
+  reported_halt : (r : Result (List Departure) Refusal) (halt : Halt) → IsHaltOf r halt → IsHaltOf (report_after r) halt
+  reported_halt r (Refused refusal) h = (ap report_after h.0, h.1)
+  reported_halt r (Unread name) h = absurd h
+  reported_halt r NoMemory h = h
+
+  -- nothing is read: the run is computed
+  pub plans_reported : (R : List ℕ → Type 0) (result : Result Plan Halt) → IfOk result (Meets (Reporting t captures)) → IfOk result (λ _. IsOk (ideally_sent t captures)) → IfErr result (IsHaltOf (ideally_sent t captures))
+      → Plans (λ (m : Contents). report_after (ideally_sent t captures)) R s s result
+  plans_reported R (Ok plan) meets sent halts = (Reporting t captures, meets, judges_computed (report_after (ideally_sent t captures)) R s (Reporting t captures) closed (reported_ok (ideally_sent t captures) sent))
+  plans_reported R (Err halt) meets sent halts = judges_computed_err (report_after (ideally_sent t captures)) R s halt closed (reported_halt (ideally_sent t captures) halt halts)
+
+-- a plan of any names
+pub all_any : (ws : List (List ℕ × List ℕ)) → AllByRecursion (λ _. Unit {0}) ws
+all_any [] = tt
+all_any (w ∷ ws) = (tt, all_any ws)

@@ -1,0 +1,6 @@
+use Rattle.std.proofs.Common.{map, string_bytes, ◌∙◌, sym}
+use Rattle.cq_run.proofs.Within.{words_within}
+use Rattle.cq_run.proofs.top.run.Goals as goal
+
+pub obey-requires-clause-range : goal.obey-requires-clause-range
+obey-requires-clause-range g c κs within = words_within (map string_bytes c.args.words.now) c.in-Some.command (sym c.in_ok-command.ensures.command ∙ c.in-Some.is)

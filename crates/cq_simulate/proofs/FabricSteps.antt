@@ -1,0 +1,127 @@
+-- What each step of the loop over the slots of the fabric asks for, where so many slots are left as are not yet over.
+use Rattle.std.proofs.Common.{◌≡◌, ◌↔◌, ℕ, suc, ◌+◌, ◌-◌, ◌*◌, ◌<◌, ◌≤◌, ◌^◌, Bool, true, false, List, length, map, Option, Some, Result, Ok, Err, refl, sym, ap, ◌∙◌, subst, arith}
+use Rattle.std.specs.Prelude.{IsTrue, slice_index}
+use Rattle.cq_base.specs.Arrivals.{arrival_at}
+use Rattle.cq_base.specs.Arriving.{Arrival, arriving, end_of, enough, traffic_of}
+use Rattle.cq_base.specs.Room.{RoomView}
+use Rattle.cq_base.specs.declared.cell.Cell.{Cell}
+use Rattle.cq_base.specs.declared.cell.Departure.{Departure}
+use Rattle.cq_base.specs.declared.cell.TagFault.{TagFault}
+use Rattle.cq_base.specs.declared.cell.Transfer.{Transfer}
+use Rattle.cq_cells.specs.Traffic.{number_of, is_from, is_to}
+use Rattle.cq_engine.specs.Engine.{EngineView, HaveBufferRoom, HaveListRoom, SlotDone, answer_to, arriving_for}
+use Rattle.cq_ideal.specs.IdealRun.{empty_ideal, ideal_run}
+use Rattle.cq_ideal.specs.Ranking.{AreForPorts, Ranking, ranking}
+use Rattle.cq_laws.specs.Fabric.{IsEmptyFabric}
+use Rattle.cq_rank.specs.Machine.{Machine}
+use Rattle.cq_rank.specs.Switch.{class_count}
+use Rattle.cq_simulate.proofs.FabricComing.{arrives_found, from_here, same_count}
+use Rattle.cq_simulate.proofs.FabricCounts.{one_if, square_few}
+use Rattle.cq_simulate.proofs.FabricRunning.{Crossing, crossing_fault, crossing_first, crossing_left, crossing_next, crossing_over, switch_of}
+use Rattle.cq_simulate.proofs.Running.{for_here}
+use Rattle.cq_simulate.proofs.Steps.{arrivals_for}
+use Rattle.cq_simulate.specs.FabricReady.{HasRun, IsReadyFabric}
+use Rattle.cq_simulate.specs.IdealRuns.{departures_ran}
+
+pub goes_on : (b : Bool) (end slot : ℕ) (Empty : Type 0) → b ≡ false → (IsTrue b ↔ ((end ≤ slot) × Empty)) → end ≤ slot → Empty → ⊥
+goes_on b end slot Empty going iff le none = let over : b ≡ true = iff.1 (le, none) in let P : ⊥ = cc in P
+
+rank_err : (x : Result Ranking TagFault) (fault : TagFault) → Err fault ≡ answer_to x → x ≡ Err fault
+rank_err (Ok r) fault e = absurd (let P : ⊥ = cc in P)
+rank_err (Err other) fault e = let same : other ≡ fault = cc in ap (λ (f : TagFault). Err f) same
+
+switch_fixed : (came : List Arrival) (first : EngineView) → length (switch_of came first).fixed ≡ length first.fixed
+unfolding switch_of
+switch_fixed came first = refl
+
+module _ (M : List ℕ → Machine) (came : List Arrival) (first : EngineView) (first_sent : RoomView Departure) (first_note : RoomView Transfer) (ready : IsReadyFabric (map M first.fixed) came first first_sent first_note) where
+  abbrev pub Before : ℕ → EngineView → RoomView Departure → RoomView Transfer → Type 0
+  Before slot now sent note = Crossing (map M first.fixed) came first first_sent slot (enough came - slot) now sent note
+
+  pub at_first : Before 0 first first_sent first_note
+  at_first = subst (λ (n : ℕ). Crossing (map M first.fixed) came first first_sent 0 n first first_sent first_note) (omega arith) (crossing_first (map M first.fixed) came first first_sent first_note ready)
+
+  module _ (slot : ℕ) (now : EngineView) (sent : RoomView Departure) (note : RoomView Transfer) (b : Before slot now sent note) (more : end_of came ≤ slot → IsEmptyFabric now.fabric → ⊥) where
+    pub a_slot_left : slot < enough came
+    a_slot_left = let some = crossing_left (map M first.fixed) came first first_sent slot (enough came - slot) now sent note b more in omega arith
+
+    left : ℕ
+    left = enough came - (slot + 1)
+
+    one_more : enough came - slot ≡ suc left
+    unfolding left
+    one_more = let l = a_slot_left in omega arith
+
+    b_next : Crossing (map M first.fixed) came first first_sent slot (suc left) now sent note
+    b_next = subst (λ (n : ℕ). Crossing (map M first.fixed) came first first_sent slot n now sent note) one_more b
+
+    pub early : slot < 2 ^ 64 - 1
+    early = let l = a_slot_left in let short : enough came ≤ 2 ^ 63 + 2 ^ 35 = ready.short in omega arith
+
+    same_ports : length now.fixed ≡ length first.fixed
+    same_ports = ap (λ (l : List (List ℕ)). length l) b.fixed
+
+    for_ports : AreForPorts (length first.fixed) (class_count (map M first.fixed)) (arriving came slot)
+    for_ports = arrivals_for (length first.fixed) (class_count (map M first.fixed)) came slot ready.traffic
+
+    pub arrivals_fit : (cells : List (Option Cell)) → cells ≡ arriving came slot → AreForPorts (length now.fixed) (class_count (map M now.fixed)) cells
+    arrivals_fit cells are =
+        subst (λ (cells : List (Option Cell)). AreForPorts (length now.fixed) (class_count (map M now.fixed)) cells) (sym are)
+        (subst (λ (fixed : List (List ℕ)). AreForPorts (length fixed) (class_count (map M fixed)) (arriving came slot)) (sym b.fixed) for_ports)
+
+    pub list_room : (cells : List (Option Cell)) → cells ≡ arriving came slot → HaveListRoom cells now
+    list_room cells are i cell at =
+        let there : arrival_at (arriving came slot) i ≡ Some cell = ap (λ (l : List (Option Cell)). arrival_at l i) (sym are) ∙ at in
+        let inside : i < length first.fixed = for_ports.inputs i cell there in
+        let had = b_next.lists i inside in
+        let from = from_here i came slot left in
+        let comes = arrives_found came slot i in
+        let one : one_if (arrival_at (arriving came slot) i) ≡ 1 = ap one_if there in
+        let room : slice_index first.from_inputs i ≡ number_of (is_from i) came = ready.from_inputs i inside in
+        let same : slice_index now.from_inputs i ≡ slice_index first.from_inputs i = ap (λ (l : List ℕ). slice_index l i) b.from_inputs in
+        omega arith
+
+    pub buffer_room : (cells : List (Option Cell)) → cells ≡ arriving came slot → HaveBufferRoom cells now
+    buffer_room cells are j within =
+        let ports = same_ports in
+        let inside : j < length first.fixed = omega arith in
+        let had = b_next.buffers j inside in
+        let to = for_here j came slot left in
+        let count = same_count j (arriving came slot) in
+        let here : arriving_for j cells ≡ arriving_for j (arriving came slot) = ap (arriving_for j) are in
+        let room : slice_index first.to_outputs j ≡ number_of (is_to j) came = ready.to_outputs j inside in
+        let same : slice_index now.to_outputs j ≡ slice_index first.to_outputs j = ap (λ (l : List ℕ). slice_index l j) b.to_outputs in
+        omega arith
+
+    pub sent_room : length now.fixed ≤ sent.spare
+    sent_room = let spare = b.beside.spare in let ports = same_ports in let fixed = switch_fixed came first in omega arith
+
+    pub note_room : 2 * length now.fixed ≤ note.spare
+    note_room = let room = b.room in let ports = same_ports in omega arith
+
+    pub proposals_fit : now.figures.proposals + 2 * (length now.fixed * length now.fixed) < 2 ^ 64
+    proposals_fit =
+        let ports = same_ports in
+        let most : length first.fixed ≤ 64 = ready.ports in
+        let square = square_few (length now.fixed) (omega arith) in
+        let few : length came ≤ 2 ^ 34 = ready.few in
+        let proposed = b.proposed in
+        omega arith
+
+    pub at_next : (cells : List (Option Cell)) (after : EngineView) (sent_new : RoomView Departure) (note_new : RoomView Transfer) → cells ≡ arriving came slot → SlotDone (map M now.fixed) slot cells now after sent sent_new note note_new → after.stopped ≡ false → after.next ≡ slot + 1 → after.fixed ≡ now.fixed → after.from_inputs ≡ now.from_inputs → after.to_outputs ≡ now.to_outputs → Before (slot + 1) after sent_new note_new
+    unfolding left
+    at_next cells after sent_new note_new are done running next fixed from_inputs to_outputs =
+        crossing_next (map M first.fixed) came first first_sent slot left now sent note after sent_new note_new (class_count (map M first.fixed)) b_next ready.ports for_ports
+        (subst (λ (fixed : List (List ℕ)). SlotDone (map M fixed) slot (arriving came slot) now after sent sent_new note note_new) b.fixed
+        (subst (λ (cells : List (Option Cell)). SlotDone (map M now.fixed) slot cells now after sent sent_new note note_new) are done))
+        running next fixed from_inputs to_outputs
+
+    pub at_fault : (cells : List (Option Cell)) (fault : TagFault) → cells ≡ arriving came slot → Err fault ≡ answer_to (ranking (map M now.fixed) slot 0 cells now.fabric.ranks) → departures_ran (ideal_run (map M first.fixed) 0 (traffic_of came) (empty_ideal (length first.fixed) first.fabric.ranks)) ≡ Err fault
+    at_fault cells fault are answer =
+        crossing_fault (map M first.fixed) came first first_sent slot left now sent note fault b_next
+        (ap (λ (fixed : List (List ℕ)). ranking (map M fixed) slot 0 (arriving came slot) now.fabric.ranks) (sym b.fixed)
+        ∙ ap (λ (l : List (Option Cell)). ranking (map M now.fixed) slot 0 l now.fabric.ranks) (sym are)
+        ∙ rank_err (ranking (map M now.fixed) slot 0 cells now.fabric.ranks) fault answer)
+
+  pub at_end : (slot : ℕ) (now : EngineView) (sent : RoomView Departure) (note : RoomView Transfer) → Before slot now sent note → end_of came ≤ slot → IsEmptyFabric now.fabric → HasRun (map M first.fixed) came first now sent note
+  at_end slot now sent note b le empty = crossing_over (map M first.fixed) came first first_sent slot (enough came - slot) now sent note b le empty

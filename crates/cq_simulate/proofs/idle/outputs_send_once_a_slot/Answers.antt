@@ -1,0 +1,5 @@
+use Rattle.cq_simulate.proofs.OnceASlot.{once_a_slot}
+use Rattle.cq_simulate.proofs.idle.outputs_send_once_a_slot.Goals as goal
+
+pub returns : goal.returns
+returns c = once_a_slot

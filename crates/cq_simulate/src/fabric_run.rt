@@ -1,0 +1,120 @@
+//! The run of the fabric.
+ghost use Rattle.std.specs.Prelude.{◌≡◌, ◌↔◌, ◌≤◌, IsTrue, IfOk, IfErr, Ok, Err, OnOk, length, map};
+ghost use Rattle.std.specs.List.{range_with_len};
+ghost use Rattle.cq_base.specs.Arriving.{end_of, traffic_of};
+ghost use Rattle.cq_cells.specs.Traffic.{IsTraffic, IsShort, is_from, number_of};
+ghost use Rattle.cq_ideal.specs.IdealRun.{empty_ideal, ideal_run};
+ghost use Rattle.cq_laws.specs.Fabric.{IsEmptyFabric};
+ghost use Rattle.cq_route.specs.Tables.{AreTables, classes_of, ports_of};
+ghost use Rattle.cq_simulate.specs.FabricReady.{HasRun, IsReadyFabric};
+ghost use Rattle.cq_simulate.specs.FabricRuns.{IsKeptOf};
+ghost use Rattle.cq_simulate.specs.IdealRuns.{departures_ran, ideal_departures, IsRefusalOf};
+
+use crate::RunRefusal;
+use crate::ideal_run::rooms_of;
+use cq_base::{Departure, Figures, NoMemory, Room, Slot, TagFault, Transfer};
+use cq_cells::Schedule;
+use cq_crew::Gate;
+use cq_engine::Engine;
+use cq_rank::Rank;
+use cq_route::Tables;
+use cq_scfq::Discipline;
+use std::alloc::Global;
+use std::thread::Threads;
+
+/// What the fabric did.
+#[derive(Drop)]
+pub struct FabricRun {
+    /// The departures, in order of slot, then output.
+    pub sent: Room<Departure>,
+    /// The transfers, in order of slot, then phase, then input.
+    pub note: Room<Transfer>,
+    /// What was seen of the run.
+    pub figures: Figures,
+}
+
+/// Runs the fabric over a schedule of the same ports and classes, from slot 0 until no cell arrives any
+/// more and none waits. As many workers as the tables say propose at once, and `gate` is told of their steps.
+/// Neither changes anything of what is done.
+///
+/// - `Tag`: a rank does not fit 128 bits; the first such fault of the ideal switch.
+/// - `NoMemory`: there was not the memory for the lists, the buffers, the departures and the transfers.
+pub fn run_fabric<R: Threads + Sync, G: Gate>(
+    rt: &R,
+    alloc: Global,
+    tables: &Tables,
+    schedule: &Schedule,
+    gate: &G,
+) -> Result<FabricRun, RunRefusal>
+    requires tables { AreTables tables.now }
+    requires ports { schedule.now.ports ≡ ports_of tables.now.setup }
+    requires traffic { IsTraffic (ports_of tables.now.setup) (classes_of tables.now.setup) schedule.now.came }
+    requires short { IsShort schedule.now.came }
+    ensures run { IfOk result (IsKeptOf tables.now.setup schedule.now.came) }
+    ensures as_ideal { IfOk result (λ run. ideal_departures tables.now.setup schedule.now.came ≡ Ok run.sent.items) }
+    ensures refused { IfErr result (IsRefusalOf (ideal_departures tables.now.setup schedule.now.came)) }
+{
+    let ranks = Discipline::all(alloc, &tables.setup)?;
+    let ports = ranks.len() as u16;
+    let from_inputs = rooms_from(alloc, schedule, ports)?;
+    let to_outputs = rooms_of(alloc, schedule, ports)?;
+    let total = schedule.total();
+    let mut sent = Room::new(alloc, total + ports as u64)?;
+    let mut note = Room::new(alloc, total + 2 * ports as u64)?;
+    let mut engine = Engine::new(
+        alloc,
+        ranks,
+        from_inputs.as_slice(),
+        to_outputs.as_slice(),
+        tables.workers,
+    )?;
+    run_slots(rt, alloc, &mut engine, schedule, gate, &mut sent, &mut note)?;
+    let figures = engine.into_figures();
+    Ok(FabricRun {
+        sent,
+        note,
+        figures,
+    })
+}
+
+// How many cells arrive at each input.
+fn rooms_from(alloc: Global, schedule: &Schedule, ports: u16) -> Result<Vec<u64>, NoMemory>
+    requires { ports ≤ schedule.now.ports }
+    ensures { IfOk result (λ rooms. rooms.items ≡ map (λ i. number_of (is_from i) schedule.now.came) (range_with_len 0 ports)) }
+{
+    let mut rooms = Vec::with_capacity(alloc, ports as usize)?;
+    'inputs: for input in 0..ports {
+        rooms.push_reserved(schedule.from_input(input));
+    }
+    Ok(rooms)
+}
+
+// Whether no cell arrives any more and none waits.
+fn is_over<R: Rank>(engine: &Engine<R>, schedule: &Schedule, slot: Slot) -> bool
+    ensures { IsTrue result ↔ ((end_of schedule.now.came ≤ slot) × IsEmptyFabric engine.now.fabric) }
+{
+    schedule.end() <= slot && engine.empty()
+}
+
+// Runs a fabric over all cells that arrive. The error is the first tag fault of the ideal switch.
+fn run_slots<T: Threads + Sync, R: Rank, G: Gate>(
+    rt: &T,
+    alloc: Global,
+    engine: &mut Engine<R>,
+    schedule: &Schedule,
+    gate: &G,
+    sent: &mut Room<Departure>,
+    note: &mut Room<Transfer>,
+) -> Result<(), TagFault>
+    requires ready { IsReadyFabric (map R.machine engine.old.fixed) schedule.now.came engine.old sent.old note.old }
+    ensures run { OnOk result (HasRun (map R.machine engine.old.fixed) schedule.now.came engine.old engine.new sent.new note.new) }
+    ensures fault { IfErr result (λ fault. departures_ran (ideal_run (map R.machine engine.old.fixed) 0 (traffic_of schedule.now.came) (empty_ideal (length engine.old.fixed) engine.old.fabric.ranks)) ≡ Err fault) }
+{
+    let mut slot = 0;
+    'slots: while !is_over(engine, schedule, slot) {
+        let arrivals = schedule.arrivals_at(slot);
+        engine.slot(rt, alloc, slot, &arrivals, gate, sent, note)?;
+        slot += 1;
+    }
+    Ok(())
+}
