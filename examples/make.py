@@ -1,13 +1,14 @@
 #!/usr/bin/env python3
-"""Makes the captures of the examples and the files that the program is to make of them.
+"""Makes the captures of the examples, but for those of the lab, and the files that the program is to make of them.
 
     make.py
 
-The expected files come from model.py, and so from no run of the program.
+The expected files come from the models beside it, and so from no run of the program.
 """
 
 import os
 
+from fabric_model import Fabric
 from model import SECOND_NS, Packet, captured, cells_of, passed, slots, written
 from switch_model import Switch
 
@@ -23,6 +24,13 @@ THREE_PORTS = (
     ((0, 60, 1), (1, 60, 0)),
     ((0, 128, 1), (2, 60, 1)),
 )
+
+# For each capture of the office: microseconds, bytes captured, the destination, and what stands behind the addresses.
+TELEPHONES, SERVERS, EVERYBODY = "020000000001", "020000000002", "ffffffffffff"
+OFFICE = {
+    "uplink.pcap": ((0, 98, TELEPHONES, "08004500"), (1, 60, TELEPHONES, "8100a00a08004500"), (3, 60, SERVERS, "080045b8")),
+    "phones.pcap": ((0, 200, TELEPHONES, "08004500"), (2, 60, EVERYBODY, "0806"), (3, 60, SERVERS, "08004500")),
+}
 
 
 def frame(number, length):
@@ -41,7 +49,31 @@ def three_ports():
     for number, packets in enumerate(THREE_PORTS):
         with open("in%d.pcap" % number, "wb") as file:
             file.write(captured(Packet(BEGIN + micros * 1000, length, addressed(station, length)) for micros, length, station in packets))
-    Switch("switch.toml").run()
+    switch = Switch.of("switch.toml")
+    switch.write(switch.departures())
+
+
+def write_crossed(config):
+    """What the crossbar switch makes of a configuration and its captures, with the report."""
+    fabric = Fabric(Switch.of(config)).run()
+    fabric.write()
+    with open("report.txt", "w", encoding="ascii") as file:
+        file.write(fabric.report())
+
+
+def lab():
+    """The captures of the lab are real, and stay."""
+    os.chdir(os.path.join(HERE, "lab"))
+    write_crossed("switch.toml")
+
+
+def office():
+    os.chdir(os.path.join(HERE, "office"))
+    for name, packets in OFFICE.items():
+        with open(name, "wb") as file:
+            file.write(captured(Packet(BEGIN + micros * 1000, length, bytes.fromhex(to + "0200000000aa" + rest).ljust(length, b"\0"))
+                                for micros, length, to, rest in packets))
+    write_crossed("office.toml")
 
 
 def one_port():
@@ -59,3 +91,5 @@ def one_port():
 if __name__ == "__main__":
     one_port()
     three_ports()
+    office()
+    lab()

@@ -14,18 +14,22 @@ from typing import NamedTuple
 
 from model import MICROSECONDS, SECOND_NS, Packet, written
 
+TAGS = (0x8100, 0x88A8)
+
 
 class Cell(NamedTuple):
     input: int
     packet: int
     index: int
     output: int
+    kind: int  # its class
     last: bool
 
 
 class Queued(NamedTuple):
+    rank: int
     slot: int
-    input: int  # after the slot, so that queued cells compare by their keys: every rank is 0
+    input: int  # queued cells compare by their keys: rank, slot and input
     cell: Cell
 
 
@@ -44,21 +48,77 @@ def packets_of(name):
     return packets
 
 
+def fields_of(body):
+    """What a rule can ask of a frame: no field that the frame ends before."""
+    def word(at):
+        return int.from_bytes(body[at:at + 2], "big") if at + 2 <= len(body) else None
+
+    fields, at = {}, 12
+    if word(12) in TAGS and len(body) >= 16:
+        fields["pcp"] = body[14] >> 5
+    while at < 20 and word(at) in TAGS:
+        at += 4
+    kind, mark = word(at), word(at + 2)
+    if kind is not None:
+        fields["ether_type"] = kind
+    if kind == 0x0800 and mark is not None:
+        fields["dscp"] = (mark & 0xFF) >> 2
+    if kind == 0x86DD and mark is not None:
+        fields["dscp"] = mark >> 6 & 0x3F
+    return fields
+
+
+class Ranks:
+    """The discipline of one output: it ranks cells, and is told what was sent in each slot."""
+
+    def __init__(self, discipline, classes):
+        self.discipline, self.classes, self.now, self.tags = discipline, classes, 0, {}
+
+    def rank(self, kind):
+        if self.discipline == "first-come":
+            return 0
+        if self.discipline == "priority":
+            return int(self.classes[kind].get("priority", 0))
+        self.tags[kind] = max(self.tags.get(kind, 0), self.now) + int(self.classes[kind].get("cost", 1))
+        return self.tags[kind]
+
+    def tell(self, sent):
+        """What was sent: a queued cell, or None."""
+        if sent is None:
+            self.now, self.tags = 0, {}
+        else:
+            self.now = sent.rank
+
+
 class Switch:
-    def __init__(self, config):
-        with open(config, "rb") as file:
-            tables = tomllib.load(file)
+    def __init__(self, tables, captures):
         self.cell_bytes = tables.get("cell_bytes", 64)
         self.slot_ns = tables.get("slot_ns", 512)
-        self.trace = tables["trace"]
+        self.trace, self.log = tables["trace"], tables["log"]
         self.written = [port["write"] for port in tables["port"]]
-        self.default = tables.get("default_output", 0)
+        self.default, self.default_kind = tables.get("default_output", 0), tables.get("default_class", 0)
         self.outputs = {bytes.fromhex(a["mac"].replace(":", "")): a["output"] for a in tables.get("address", [])}
-        self.captures = [packets_of(port.get("read")) for port in tables["port"]]
-        self.first_stamp = min((p.stamp for packets in self.captures for p in packets), default=0)
+        self.rules = tables.get("rule", [])
+        self.disciplines = [port.get("discipline", "first-come") for port in tables["port"]]
+        self.classes = tables.get("class", [{}])
+        self.captures = captures
+        self.first_stamp = min((p.stamp for packets in captures for p in packets), default=0)
 
-    def output(self, packet):
-        return self.outputs.get(packet.body[:6], self.default) if len(packet.body) >= 6 else self.default
+    @staticmethod
+    def of(config):
+        """The switch of a configuration, with the captures that it names."""
+        with open(config, "rb") as file:
+            tables = tomllib.load(file)
+        return Switch(tables, [packets_of(port.get("read")) for port in tables["port"]])
+
+    def route(self, input, body):
+        """Output and class of a frame."""
+        output = self.outputs.get(body[:6], self.default) if len(body) >= 6 else self.default
+        fields = {"input": input, **fields_of(body)}
+        for rule in self.rules:
+            if all(fields.get(key) == asked for key, asked in rule.items() if key != "class"):
+                return output, rule["class"]
+        return output, self.default_kind
 
     def arrivals(self):
         """The cells that arrive, by slot, and in each slot by input."""
@@ -68,26 +128,32 @@ class Switch:
             for k, packet in enumerate(packets):
                 start = max(free, (packet.stamp - self.first_stamp) // self.slot_ns)
                 cells = max(1, -(-len(packet.body) // self.cell_bytes))
+                output, kind = self.route(i, packet.body)
                 for c in range(cells):
-                    slots.setdefault(start + c, []).append(Cell(i, k, c, self.output(packet), c + 1 == cells))
+                    slots.setdefault(start + c, []).append(Cell(i, k, c, output, kind, c + 1 == cells))
                 free = start + cells
         return slots
 
+    def ranks(self):
+        return [Ranks(discipline, self.classes) for discipline in self.disciplines]
+
     def departures(self):
         """Slot, output and cell, in order of slot and then output."""
-        arrivals, queues, slot, sent = self.arrivals(), [[] for _ in self.written], 0, []
+        arrivals, queues, ranks, slot, sent = self.arrivals(), [[] for _ in self.written], self.ranks(), 0, []
         while arrivals or any(queues):
             for cell in arrivals.pop(slot, []):
-                queues[cell.output].append(Queued(slot, cell.input, cell))
+                queues[cell.output].append(Queued(ranks[cell.output].rank(cell.kind), slot, cell.input, cell))
             for output, queue in enumerate(queues):
-                if queue:
-                    queue.sort()
-                    sent.append((slot, output, queue.pop(0).cell))
+                queue.sort()
+                first = queue.pop(0) if queue else None
+                ranks[output].tell(first)
+                if first:
+                    sent.append((slot, output, first.cell))
             slot += 1
         return sent
 
-    def run(self):
-        sent = self.departures()
+    def write(self, sent):
+        """The captures and the trace of these departures."""
         for output, name in enumerate(self.written):
             packets = [self.captures[cell.input][cell.packet]._replace(stamp=self.first_stamp + slot * self.slot_ns)
                        for slot, at, cell in sent if at == output and cell.last]
@@ -101,4 +167,5 @@ class Switch:
 if __name__ == "__main__":
     if len(sys.argv) != 2:
         sys.exit("usage: switch_model.py CONFIG")
-    Switch(sys.argv[1]).run()
+    switch = Switch.of(sys.argv[1])
+    switch.write(switch.departures())
