@@ -1,20 +1,16 @@
 #!/usr/bin/env python3
 """Measures `cq_switch check` of the largest configuration that is read.
 
-    check.py [--program PROGRAM] [--runs N]
+    check.py [--program PROGRAM] [--runs N] [--fast]
 
-It prints the line of the table in README.md, and ends with status 1 where the configuration is refused.
+It prints the table in README.md, and ends with status 1 where the configuration is refused.
 """
 
-import argparse
 import os
-import statistics
-import subprocess
 import sys
 import tempfile
-import time
 
-from measuring import built_program
+from measuring import instructions, parser, per, program_of, run, table, whole
 
 BYTES, PORTS, ADDRESSES, RULES = 1_048_576, 64, 4096, 256
 
@@ -31,26 +27,23 @@ def configuration():
 
 
 def main():
-    parser = argparse.ArgumentParser(description="Measures `cq_switch check` of the largest configuration.")
-    parser.add_argument("--program", help="the program; by default the proved one, built first where need be")
-    parser.add_argument("--runs", type=int, default=9)
-    options = parser.parse_args()
-    program = os.path.abspath(options.program) if options.program else built_program()
+    options = parser("Measures `cq_switch check` of the largest configuration.", runs=9).parse_args()
+    program = program_of(options)
     with tempfile.TemporaryDirectory() as folder:
         name = os.path.join(folder, "largest.toml")
         with open(name, "w", encoding="ascii") as file:
             file.write(configuration())
-        seconds = []
-        for _ in range(options.runs):
-            start = time.perf_counter()
-            said = subprocess.run([program, "check", name], capture_output=True, text=True, check=False)
-            seconds.append(time.perf_counter() - start)
-        print("| `check`, %d bytes | %.0f ms (median of %d; %.0f to %.0f) |" % (
-            os.path.getsize(name), 1000 * statistics.median(seconds), options.runs, 1000 * min(seconds), 1000 * max(seconds)))
-        wanted = "ok ports %d classes 16 addresses %d rules %d\n" % (PORTS, ADDRESSES, RULES)
-        if said.stdout != wanted:
-            print("check.py: %r %r" % (said.stdout, said.stderr), file=sys.stderr)
-            return 1
+        words = [program, "check", name]
+        spent = [run(words) for _ in range(options.runs)]
+        seconds = sorted(s.seconds for s in spent)
+        counted = None if options.fast else instructions(words)
+        table(("configuration", "`check`", "least", "most", "instructions a byte"),
+              [(whole(BYTES) + " bytes", *("%.0f ms" % (1000 * s) for s in (seconds[len(seconds) // 2], seconds[0], seconds[-1])),
+                per(counted, BYTES))])
+    wanted = "ok ports %d classes 16 addresses %d rules %d\n" % (PORTS, ADDRESSES, RULES)
+    if any(s.said != wanted for s in spent):
+        print("check.py: %r" % spent[0].said, file=sys.stderr)
+        return 1
     return 0
 
 

@@ -1,38 +1,35 @@
 #!/usr/bin/env python3
 """Measures `cq_switch pass` over a large made capture, beside `cp` of the same file.
 
-    pass.py [--program PROGRAM] [--runs N]
+    pass.py [--program PROGRAM] [--runs N] [--scale PART] [--fast]
 
-It prints the lines of the table in README.md: megabytes (10^6 bytes) a second of both, and the peak
-memory of `pass` as a multiple of the capture's size. It ends with status 1 where the answer is not
-that of examples/model.py, or where the memory is more than four times the capture's size.
+It prints the table in README.md. Instructions are counted over a capture of a tenth of the size. It ends
+with status 1 where the answer is not that of examples/model.py, or where the memory is more than four
+times the capture's size.
 """
 
-import argparse
 import filecmp
 import os
 import random
-import statistics
 import subprocess
 import sys
 import tempfile
 
-from measuring import built_program, model, processor, run
+from measuring import SEED, instructions, megabytes, middle, model, parser, per, program_of, run, table, whole
 
-SEED = 1
-BYTES = 60_000_000  # the program takes at most 67,108,864
+BYTES, TENTH = 60_000_000, 10  # the program takes at most 67,108,864
 MOST_MEMORY = 4
 
 
-def make(captured_name, written_name):
+def make(size, captured_name, written_name):
     """Writes a capture of packets of 60 to 1514 bytes, and what is to be made of it. This runs in a
     process of its own, since a child's peak memory can begin with that of its parent."""
     rules, draw = model(), random.Random(SEED)
-    packets, size, stamp = [], 24, 1_700_000_000 * rules.SECOND_NS
+    packets, written, stamp = [], 24, 1_700_000_000 * rules.SECOND_NS
     while True:
         body = draw.randbytes(draw.randint(60, 1514))
-        size += 16 + len(body)
-        if size > BYTES:
+        written += 16 + len(body)
+        if written > size:
             break
         packets.append(rules.Packet(stamp, len(body), body))
         stamp += 1000 * draw.randint(0, 15)
@@ -42,41 +39,45 @@ def make(captured_name, written_name):
         capture.write(rules.written(rules.passed(packets)))
 
 
-def measure(program, runs, folder):
-    capture, wanted, out, copy = (os.path.join(folder, name) for name in ("in", "wanted", "out", "copy"))
-    subprocess.run([sys.executable, os.path.realpath(__file__), "--make", capture, wanted], check=True)
-    size = os.path.getsize(capture)
+def made(size):
+    words = [sys.executable, os.path.realpath(__file__), "--make", str(int(size)), "in", "wanted"]
+    subprocess.run(words, check=True)
+    return os.path.getsize("in")
+
+
+def measure(program, options):
+    words = [program, "pass", "in", "out"]
+    few = made(BYTES * options.scale / TENTH)
+    counted = None if options.fast else instructions(words)
+    size = made(BYTES * options.scale)
     passes, copies = [], []
-    for _ in range(runs):
-        passes.append(run([program, "pass", capture, out]))
-        copies.append(run(["cp", capture, copy]))
-    same = os.path.exists(out) and filecmp.cmp(out, wanted, shallow=False)
-    memory = max(used for _, used in passes) / size
-    print("| processor | %s |" % processor())
-    print("| capture | %d bytes, packets of 60 to 1514 bytes |" % size)
-    for name, measured in (("`cq_switch pass`", passes), ("`cp`", copies)):
-        seconds = [spent for spent, _ in measured]
-        print("| %s | %.0f MB/s (median of %d; %.0f to %.0f) |" % (
-            name, size / statistics.median(seconds) / 1e6, runs, size / max(seconds) / 1e6, size / min(seconds) / 1e6))
-    print("| peak memory of `pass` | %.2f times the capture's size |" % memory)
+    for _ in range(options.runs):
+        passes.append(run(words))
+        copies.append(run(["cp", "in", "copy"]))
+    same = os.path.exists("out") and filecmp.cmp("out", "wanted", shallow=False)
+    passed, copied = middle(passes), middle(copies)
+    memory = passed.peak / size
+    table(("capture", "`pass`", "processor time", "a second", "`cp`", "peak memory", "of the capture", "instructions a byte"),
+          [(megabytes(size), "%.2f s" % passed.seconds, "%.2f s" % passed.busy, megabytes(size / passed.seconds),
+            megabytes(size / copied.seconds) + " a second", megabytes(passed.peak), "%.2f times" % memory, per(counted, few))])
     if not same:
         print("pass.py: the capture that was written is not the model's", file=sys.stderr)
-    if memory > MOST_MEMORY:
+    if memory > MOST_MEMORY and options.scale == 1:
         print("pass.py: the memory is more than %d times the capture's size" % MOST_MEMORY, file=sys.stderr)
-    return 0 if same and memory <= MOST_MEMORY else 1
+        same = False
+    return 0 if same else 1
 
 
 def main():
-    parser = argparse.ArgumentParser(description="Measures `cq_switch pass` beside `cp`.")
-    parser.add_argument("--program", help="the program; by default the proved one, built first where need be")
-    parser.add_argument("--runs", type=int, default=7)
-    parser.add_argument("--make", nargs=2, metavar=("CAPTURE", "WANTED"), help=argparse.SUPPRESS)
-    options = parser.parse_args()
+    words = parser("Measures `cq_switch pass` beside `cp`.", runs=7)
+    words.add_argument("--make", nargs=3, metavar=("SIZE", "CAPTURE", "WANTED"), help="make a capture, and no more")
+    options = words.parse_args()
     if options.make:
-        return make(*options.make)
-    program = os.path.abspath(options.program) if options.program else built_program()
+        return make(int(options.make[0]), *options.make[1:])
+    program = program_of(options)
     with tempfile.TemporaryDirectory() as folder:
-        return measure(program, options.runs, folder)
+        os.chdir(folder)
+        return measure(program, options)
 
 
 if __name__ == "__main__":
