@@ -1,5 +1,5 @@
 //! The buffer of cells that wait at one output.
-ghost use Rattle.std.specs.Prelude.{◌≡◌, ◌+◌, ◌<◌, ◌≤◌, [], Some, IfOk, length, drop, position, slice_get, is_some, if◌then◌else◌};
+ghost use Rattle.std.specs.Prelude.{◌≡◌, ◌+◌, ◌<◌, ◌≤◌, [], Some, IfOk, length, drop, slice_get, is_some, if◌then◌else◌};
 ghost use Rattle.std.specs.List.{position_or_len};
 ghost use Rattle.cq_base.specs.Key.{is_before};
 ghost use Rattle.cq_base.specs.Cells.{HasOtherKey, IsRising, cushion, put};
@@ -30,29 +30,21 @@ impl Model for OutputBuffer {
     ghost invariant = { λ b. IsRising b.cells.items × (vec_len b.cells ≤ b.room) × (b.room ≤ vec_capacity b.cells) };
 }
 
-// How many cells have a lesser key.
-#[tactic(auto, unfolding(cq_base::specs::Key::is_before))]
+// How many cells have a lesser key. They stand before all others, so halving finds where they end.
 fn count_before(cells: &[Queued], key: Key) -> usize
+    requires { IsRising cells.now }
     ensures { result ≡ cushion key cells.now }
 {
-    cells.iter().filter(|waiting| waiting.key < key).count()
+    cells.partition_point(|waiting| waiting.key < key)
 }
 
-// The place of the first cell with a greater key.
-#[tactic(auto, unfolding(cq_base::specs::Key::is_before))]
-fn first_after(cells: &[Queued], key: Key) -> Option<usize>
-    ensures { result ≡ position (λ x. is_before key x.key) cells.now }
-{
-    cells.iter().position(|waiting| key < waiting.key)
-}
-
-// The same, or the end of the buffer.
-#[tactic(auto, using(cq_base::proofs::Lists::place_found, cq_base::proofs::Lists::first_inside))]
+// The place of the first cell with a greater key, or the end of the buffer, by halving too.
 fn place_among(cells: &[Queued], key: Key) -> usize
+    requires { IsRising cells.now }
     ensures inside { result ≤ length cells.now }
     ensures place { result ≡ position_or_len (λ x. is_before key x.key) cells.now }
 {
-    first_after(cells, key).unwrap_or(cells.len())
+    cells.partition_point(|waiting| waiting.key <= key)
 }
 
 impl OutputBuffer {

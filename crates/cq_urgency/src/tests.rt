@@ -1,4 +1,4 @@
-//! A worked buffer, and the call that wants memory, with ample memory.
+//! A worked buffer, drawn keys compared with a plain list of them, and the call that wants memory, with ample memory.
 ghost use Rattle.std.specs.Prelude.{◌≡◌, ◌+◌, ◌<◌, IfOk, length};
 ghost use Rattle.cq_base.specs.Cells.{ArrivedBefore};
 
@@ -70,5 +70,26 @@ fn equal_ranks_wait_in_the_order_of_their_arrival(rt: HostRuntime) -> Result<(),
     assert_eq!(rt; buffer.cushion(waiting(5, 3).key), 3);
     assert_eq!(rt; buffer.pop().map(|sent| sent.key.slot), Some(1));
     assert_eq!(rt; buffer.len(), 3);
+    Ok(())
+}
+
+#[test]
+fn drawn_keys_wait_as_in_a_plain_list(rt: HostRuntime) -> Result<(), Fail> {
+    let mut buffer = OutputBuffer::new(rt.alloc(), 200)?;
+    let mut plain: Vec<Key> = Vec::new(rt.alloc());
+    let mut drawn = 1u64;
+    for slot in 0..200 {
+        drawn = drawn.wrapping_mul(75) % 65_537;
+        let queued = waiting((drawn % 9) as u128, slot);
+        let lesser = plain.iter().filter(|key| **key < queued.key).count();
+        assert_eq!(rt; buffer.cushion(queued.key), lesser as u64);
+        come(&mut buffer, queued);
+        plain.push(queued.key)?;
+    }
+    plain.sort()?;
+    for key in plain.iter() {
+        assert_eq!(rt; buffer.pop().map(|sent| sent.key), Some(*key));
+    }
+    assert_eq!(rt; buffer.len(), 0);
     Ok(())
 }
