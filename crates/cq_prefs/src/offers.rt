@@ -5,7 +5,7 @@ ghost use Rattle.cq_prefs.specs.FirstCells.{AreOrdersOf, FirstKeysDiffer, orders
 ghost use Rattle.cq_prefs.specs.Orders.{AreOffers, IsOffered, no_offers, ports, outputs_of, inputs_of, place_of, position_of};
 
 use crate::by_key::inputs_by_key;
-use crate::input_offers::{InputOffers, keys_for, offers_of};
+use crate::input_offers::{InputOffers, offers_of};
 use crate::preference::Preference;
 use cq_base::{NoMemory, Port};
 use cq_list::InputList;
@@ -86,8 +86,7 @@ impl Offers {
     {
         offers_of(&mut self.by_input, lists);
         for output in 0..lists.len() {
-            let keys = keys_for(&self.by_input, output as Port);
-            self.by_output[output] = inputs_by_key(&keys[..lists.len()]);
+            self.by_output[output] = inputs_by_key(&self.by_input, output as Port);
         }
     }
 

@@ -1,4 +1,4 @@
-use Rattle.std.proofs.Common.{◌≡◌, Option, length, take, map, ap, sym, ◌∙◌, subst, arith}
+use Rattle.std.proofs.Common.{◌≡◌, Option, length, map, ap, sym, ◌∙◌, subst, arith}
 use Rattle.std.proofs.lemmas.List.{length-map}
 use Rattle.cq_base.specs.declared.key.Key.{Key}
 use Rattle.cq_list.specs.InputList.{Waiting, cells_of}
@@ -33,7 +33,7 @@ loop-output-preserved c =
     let read = ap (map key) c.deref.ensures.value in
     let size : length c.args.lists.now ≡ length c.deref.result.now =
     sym (length-map c.args.lists.now (λ (w : Waiting). first_key j w.cells)) ∙ ap length (sym (inv.keys j (omega arith)) ∙ sym read) ∙ length-map c.deref.result.now key in
-    let keys = ap (λ n. take n c.keys_for-keys.result) size ∙ c.keys_for-keys.ensures ∙ read ∙ inv.keys j (omega arith) in
+    let keys = read ∙ inv.keys j (omega arith) in
     record {
       outputs = inv.outputs;
       keys = inv.keys;
