@@ -51,6 +51,7 @@ def three_ports():
             file.write(captured(Packet(BEGIN + micros * 1000, length, addressed(station, length)) for micros, length, station in packets))
     switch = Switch.of("switch.toml")
     switch.write(switch.departures())
+    write_crossed("switch.toml")
 
 
 def write_crossed(config):
