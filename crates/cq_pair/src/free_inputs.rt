@@ -1,5 +1,5 @@
 //! The free inputs in order of number.
-ghost use Rattle.std.specs.Prelude.{◌≡◌, ◌<◌, ◌≤◌, [], length, nat_lt, position};
+ghost use Rattle.std.specs.Prelude.{◌≡◌, ◌<◌, ◌≤◌, length, nat_lt, position};
 ghost use Rattle.std.specs.List.{position_or_len};
 ghost use Rattle.cq_prefs.specs.Orders.{ports};
 ghost use Rattle.cq_pair.specs.FreeInputs.{with_input, without_input, inputs_with_offers};

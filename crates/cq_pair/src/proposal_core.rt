@@ -1,8 +1,8 @@
 //! Proposals, one at a time.
 ghost use Rattle.std.specs.Prelude.{◌≡◌, ◌≢◌, ◌<◌, ◌≤◌, ◌+◌, [], length, None};
-ghost use Rattle.cq_prefs.specs.Orders.{AreOffers, IsOffered, ports, outputs_of, position_of};
+ghost use Rattle.cq_prefs.specs.Orders.{ports, outputs_of, position_of};
 ghost use Rattle.cq_prefs.specs.Pairing.{IsFreeInput, IsFreeOutput, IsInputBest, partner_of, proposals};
-ghost use Rattle.cq_prefs.specs.Proposals.{IsFree, next_output, next_place, outcome_of, position_held, propose, start};
+ghost use Rattle.cq_prefs.specs.Proposals.{IsFree, next_output, next_place, outcome_of, propose, start};
 ghost use Rattle.cq_pair.specs.Progress.{IsAsk, IsReached, MovesOn, Parts, ShowsWaiting, Takes};
 
 use crate::free_inputs::FreeInputs;
@@ -105,6 +105,7 @@ impl Core {
         ensures best { IsInputBest offers.now self.new.matching }
         ensures proposals { self.new.made ≡ proposals offers.now self.new.matching }
     {
+        // Its contract tells that the orders of both sides fit together.
         let _ports = offers.ports();
         while !self.free().is_empty() {
             let chosen = order.choose(self.free());
@@ -133,6 +134,7 @@ impl Core {
         requires free { IsFree offers.now self.now.state input }
         ensures { result ≡ next_output offers.now self.now.state input }
     {
+        // Its contract tells that the orders of both sides fit together.
         let _ports = offers.ports();
         offers.outputs_of(input)[self.places.at(input) as usize]
     }
@@ -144,6 +146,7 @@ impl Core {
         ensures ask { IsAsk offers.now self.now input result.output result.position result.held }
         ensures few { ports offers.now ≤ 64 }
     {
+        // Its contract tells that the orders of both sides fit together, and that there are 64 ports at most.
         let _ports = offers.ports();
         let output = self.next_output(offers, input);
         let position = match offers.position_of(output, input) {

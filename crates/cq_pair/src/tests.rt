@@ -106,6 +106,7 @@ fn proposed(core: &mut Core, offers: &Offers, input: Port) -> Option<Outcome>
     requires { IsReached offers.now core.old }
     ensures { IsReached offers.now core.new }
 {
+    // Its contract tells that the orders of both sides fit together.
     let _ports = offers.ports();
     let place = place_among(core.free(), input)?;
     let input = core.free()[place];
