@@ -34,6 +34,7 @@ pub record IsProposal (m : Seated) (i p found : ℕ) (m' : Seated) : Type 0 wher
   pub few : IsFew m'.0
   pub word : IsOtherWord m.0.offers i p found
 
+-- what a proposal tells its seat
 abbrev pub proposal : Step (Unit {0}) → Seated → ℕ → Seated → Type 0
 proposal st m found m' = (i p : ℕ) → m.0.hand ≡ Some (i, p) → IsProposal m i p found m'
 
@@ -45,6 +46,7 @@ pub record IsClaim (m : Seated) (i found : ℕ) (m' : Seated) : Type 0 where
   pub claimed : HasClaimed m.0 i → bit found i ≡ 1
   pub seen : HasSeen m.0 i → bit found i ≡ 1
 
+-- what a claim tells its seat
 abbrev pub claim : Step (Unit {0}) → Seated → ℕ → Seated → Type 0
 claim st m found m' = (i : ℕ) → st.first ≡ 2 ^ i → IsClaim m i found m'
 
@@ -53,5 +55,6 @@ pub record IsLook (m m' : Seated) : Type 0 where
   pub same : m' ≡ m
   pub few : IsFew m.0
 
+-- what a look tells its seat
 abbrev pub look : Step (Unit {0}) → Seated → ℕ → Seated → Type 0
 look st m found m' = IsLook m m'

@@ -32,6 +32,7 @@ next_by o i (Some p) output claimed = p
 next_by o i None (Some j) claimed = place_of o i j + 1
 next_by o i None None claimed = if nat_eq claimed 0 then 0 else length (outputs_of o i)
 
+-- where input i proposes next, by the words and the views
 unfoldable pub next_shown : Orders → List ℕ → List View → ℕ → ℕ
 next_shown o words views i = next_by o i (place_in_hands views i) (output_of o words i) (bit (claim_word words) i)
 

@@ -39,6 +39,7 @@ pub(crate) fn asked_by(offers: &Offers, input: Port, place: u16) -> Asked
     ensures offered { IsOffered offers.now input result.output }
     ensures offers { AreOffers offers.now }
 {
+    // Its contract tells that the orders of both sides fit together, and that there are 64 ports at most.
     let _ports = offers.ports();
     let output = offers.outputs_of(input)[place as usize];
     let position = match offers.position_of(output, input) {
@@ -85,6 +86,7 @@ pub(crate) fn hand_next(
     requires output { output ≡ output_at offers.now input place }
     ensures { result ≡ hand_after offers.now input place answer }
 {
+    // Its contract tells that the orders of both sides fit together, and that there are 64 ports at most.
     let _ports = offers.ports();
     match answer {
         Outcome::Held => None,
@@ -98,6 +100,7 @@ pub(crate) fn hand_next(
 fn hand_behind(offers: &Offers, input: Port, output: Port) -> Hand
     ensures { result ≡ hand_at offers.now input (place_of offers.now input output + 1) }
 {
+    // Its contract tells that the orders of both sides fit together, and that there are 64 ports at most.
     let _ports = offers.ports();
     let place = offers.place_of(input, output)?;
     hand_from(offers, input, place + 1)

@@ -1,5 +1,5 @@
 //! The shared words, and the calls on them.
-ghost use Rattle.std.specs.Prelude.{◌≡◌, ℕ, ◌+◌, ◌*◌, ◌<◌, ◌≤◌, Some, None, IsSome, IsTrue, IsFalse, IfOk};
+ghost use Rattle.std.specs.Prelude.{◌≡◌, ℕ, ◌+◌, ◌<◌, Some, None, IsSome, IsTrue, IsFalse, IfOk};
 ghost use Rattle.cq_prefs.specs.Orders.{ports};
 ghost use Rattle.cq_prefs.specs.Pairing.{IsInputBest, proposals};
 ghost use Rattle.cq_ledger.specs.Plays.{IsFew};
@@ -73,6 +73,7 @@ impl Ledger {
         ensures claimed { HasClaimed seat.old.view input → IsFalse result }
         ensures seen { HasSeen seat.old.view input → IsFalse result }
     {
+        // Its contract tells that there are 64 ports at most.
         let _ports = self.offers.ports();
         let bit = bit_of(input);
         let found = self.table.shared.fetch_or::<Claim>(&mut seat.seat, 0, bit);
@@ -140,6 +141,7 @@ impl Ledger {
             hand: _,
             made,
         } = other;
+        // Its contract tells that there are 64 ports at most.
         let _ports = self.offers.ports();
         self.table.shared.join_seat::<Both>(&mut into.seat, seat);
         // A join tells nothing of the table. A look at it tells that the sum is in range.

@@ -1,5 +1,5 @@
 //! What one worker has done on a ledger.
-ghost use Rattle.std.specs.Prelude.{◌≡◌, ◌<◌, ◌≤◌, ◌*◌, ◌↔◌, IsTrue, IfSome, option_map, ℕ, []};
+ghost use Rattle.std.specs.Prelude.{◌≡◌, ◌<◌, ◌↔◌, IsTrue, IfSome, option_map, ℕ, []};
 ghost use Rattle.cq_prefs.specs.Orders.{Orders, ports};
 ghost use Rattle.cq_ledger.specs.Plays.{IsFew};
 ghost use Rattle.cq_ledger.specs.Steps.{blank};
