@@ -1,5 +1,4 @@
 //! A gate for tests, at which two workers meet. It shows that both are at work at once.
-ghost use Rattle.std.specs.Prelude.{◌≡◌};
 
 use crate::{Gate, LedgerSeat, Outcome};
 use cq_base::Port;

@@ -60,6 +60,7 @@ fn count_offering(offers: &Offers) -> u16
 fn settle_alone(offers: &Offers) -> Phase
     ensures { IsBestPhase offers.now result }
 {
+    // Its contract tells that the orders of both sides fit together.
     let _ports = offers.ports();
     let mut core = Core::begin(offers);
     core.settle(offers, &mut LowestFirst);
@@ -90,6 +91,7 @@ fn settle_shared<R: Threads + Sync, G: Gate>(
     if !has_claimed_all(&seat, inputs) {
         return None;
     }
+    // Its contract tells how many proposals there can be.
     let _made = seat.made();
     Some(ledger.close(seat))
 }
