@@ -2,15 +2,13 @@
 use Rattle.std.proofs.Common.{◌≡◌, ℕ, ◌+◌, ◌<◌, ◌≤◌, ◌^◌, List, [], ◌∷◌, ◌++◌, length, set, take, drop, Option, Some, None, Result, Ok, Err, refl, sym, ap, ◌∙◌, arith}
 use Rattle.std.proofs.lemmas.Bool.{cond_below, cond_above}
 use Rattle.std.proofs.lemmas.List.{drop_more, drop_all, take_all, take_more_set}
-use Rattle.std.proofs.lemmas.Option.{unwrap_or-slice_get, slice_get-get_or}
+use Rattle.std.proofs.lemmas.Option.{unwrap_or-slice_get}
 use Rattle.cq_base.specs.declared.cell.Cell.{Cell}
 use Rattle.cq_base.specs.declared.cell.Queued.{Queued}
 use Rattle.cq_base.specs.declared.cell.TagFault.{TagFault}
 use Rattle.cq_base.specs.Arrivals.{arrival_at}
-use Rattle.cq_base.proofs.Lists.{all_at}
-use Rattle.cq_rank.specs.Machine.{Machine, machine_at, first_come}
-use Rattle.cq_rank.specs.Switch.{AreForOneSwitch, class_count}
-use Rattle.cq_ideal.specs.Ranking.{Ranking, AreForPorts, after_input, keyed, ranking}
+use Rattle.cq_rank.specs.Machine.{Machine}
+use Rattle.cq_ideal.specs.Ranking.{Ranking, after_input, keyed, ranking}
 use Rattle.cq_engine.specs.Parts.{rank_at, given_at, after_inputs}
 
 -- a cell at the end of those that came
@@ -76,10 +74,3 @@ came_all ms slot input cells came states whole places long past so_far =
     ∙ ap (λ l. after_inputs (take input came) (ranking ms slot input l states)) (drop_all input cells (omega arith))
     ∙ after_inputs-end (take input came) states
     ∙ ap (λ (l : List (Option Queued)). Ok (record { came = l; ranks = states })) (take_all input came (omega arith))
-
--- a cell that arrives is for one of the outputs, whose machine knows its class
-pub knows_class : (ms : List Machine) (cells : List (Option Cell)) (input : ℕ) (cell : Cell) → AreForOneSwitch ms → AreForPorts (length ms) (class_count ms) cells → arrival_at cells input ≡ Some cell → cell.class < (machine_at ms cell.output).classes
-knows_class ms cells input cell one come at =
-    let out = come.outputs input cell at in
-    let class = come.classes input cell at in
-    let same = all_at (λ m. m.classes ≡ class_count ms) ms cell.output (machine_at ms cell.output) one.same (slice_get-get_or ms cell.output (first_come 0) out) in omega arith

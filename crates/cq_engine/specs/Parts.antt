@@ -70,6 +70,7 @@ pub record CanCross (q : Queues) : Type 0 where
 
 -- ## One list and one buffer
 
+-- a list without cells, room or outputs
 abbrev pub no_list : Waiting
 no_list = record { cells = []; outputs = 0; spare = 0 }
 
@@ -94,10 +95,11 @@ pub record Fits (buffers : List (List Queued)) (list : Waiting) (c : Queued) : T
 abbrev pub FitEach : List (List Queued) → List (Option Queued) → List Waiting → Type 0
 FitEach buffers came lists = (i : ℕ) (c : Queued) → i < length lists → came_to came i ≡ Some c → Fits buffers (list_at lists i) c
 
--- the first cell of a buffer, and the buffer without it
+-- the first cell of a buffer
 abbrev pub front_of : Buffered → Option Queued
 front_of buffer = slice_get buffer.cells 0
 
+-- the buffer without its first cell
 abbrev pub popped : Buffered → Buffered
 popped buffer = record { cells = drop 1 buffer.cells; spare = buffer.spare + (if is_some (front_of buffer) then 1 else 0) }
 

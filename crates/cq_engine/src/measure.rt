@@ -1,5 +1,5 @@
 //! The figures of a run, slot by slot.
-ghost use Rattle.std.specs.Prelude.{◌≡◌, ℕ, ◌+◌, ◌-◌, ◌<◌, ◌≤◌, ◌^◌, Option, length, map, max, min, slice_get, Some, is_some, if◌then◌else◌};
+ghost use Rattle.std.specs.Prelude.{◌≡◌, ℕ, ◌-◌, ◌<◌, ◌^◌, length, map, max, min, slice_get, Some, is_some, if◌then◌else◌};
 ghost use Rattle.std.specs.List.{enumerate_from};
 ghost use Rattle.cq_base.specs.declared.cell.Queued.{Queued};
 ghost use Rattle.cq_base.specs.declared.figures.InputFigures.{InputFigures as OfInput};

@@ -1,5 +1,5 @@
 //! The rank machines of all outputs.
-ghost use Rattle.std.specs.Prelude.{◌≡◌, ◌↔◌, ◌+◌, ◌<◌, ◌≤◌, ◌^◌, ◌∷◌, List, Option, Ok, Err, IfErr, IfOk, IsErr, OnErr, OnOk, length, map, replicate, slice_index_or, slice_set, []};
+ghost use Rattle.std.specs.Prelude.{◌≡◌, ◌↔◌, ◌+◌, ◌<◌, ◌≤◌, ◌^◌, ◌∷◌, List, Option, Ok, Err, IfErr, IfOk, IsErr, OnErr, OnOk, length, map, slice_index_or, slice_set, []};
 ghost use Rattle.cq_base.specs.declared.cell.Cell.{Cell};
 ghost use Rattle.cq_rank.specs.Machine.{machine_at, told};
 ghost use Rattle.cq_rank.specs.Switch.{AreForOneSwitch, class_count};
