@@ -15,14 +15,14 @@ use Rattle.cq_laws.specs.Measures.{no_figures}
 use Rattle.cq_laws.proofs.WholeRuns.{empty_agree}
 use Rattle.cq_laws.proofs.LeastRun.{more_at_first}
 use Rattle.cq_engine.specs.Parts.{Queues, fabric_of}
-use Rattle.cq_engine.specs.Engine.{KeepsUp}
+use Rattle.cq_engine.specs.Engine.{IsInStep}
 
 replicated : {X : Type 0} (n i : ℕ) (x y : X) → slice_get (replicate n x) i ≡ Some y → y ≡ x
 replicated zero i x y h = absurd (let P : ⊥ = cc in P)
 replicated (suc n) zero x y h = sym (same_Some x y h)
 replicated (suc n) (suc i) x y h = replicated n i x y h
 
-first_up : (ms : List Machine) (n : ℕ) (ranks : List (List ℕ)) → AreForOneSwitch ms → length ms ≡ n → KeepsUp ms 0 (no_figures n) (empty_fabric n ranks)
+first_up : (ms : List Machine) (n : ℕ) (ranks : List (List ℕ)) → AreForOneSwitch ms → length ms ≡ n → IsInStep ms 0 (no_figures n) (empty_fabric n ranks)
 first_up ms n ranks one ports =
     let none : List Queued = [] in
     let no_wait : Option ℕ = None in
@@ -41,9 +41,9 @@ first_up ms n ranks one ports =
       };
     }
 
-pub keeps_up_first : (ms : List Machine) (n : ℕ) (ranks : List (List ℕ)) (q : Queues) (x : Figures) → AreForOneSwitch ms → length ms ≡ n → q.inputs ≡ replicate n [] → q.buffers ≡ replicate n [] → x ≡ no_figures n → KeepsUp ms 0 x (fabric_of q ranks)
-keeps_up_first ms n ranks q x one ports inputs buffers figures =
+pub in_step_first : (ms : List Machine) (n : ℕ) (ranks : List (List ℕ)) (q : Queues) (x : Figures) → AreForOneSwitch ms → length ms ≡ n → q.inputs ≡ replicate n [] → q.buffers ≡ replicate n [] → x ≡ no_figures n → IsInStep ms 0 x (fabric_of q ranks)
+in_step_first ms n ranks q x one ports inputs buffers figures =
     let had : Fabric = fabric_of q ranks in
     let want : Fabric = empty_fabric n ranks in
     let fabric : had ≡ want = cc in
-    subst (λ (f : Fabric). KeepsUp ms 0 x f) (sym fabric) (subst (λ (y : Figures). KeepsUp ms 0 y (empty_fabric n ranks)) (sym figures) (first_up ms n ranks one ports))
+    subst (λ (f : Fabric). IsInStep ms 0 x f) (sym fabric) (subst (λ (y : Figures). IsInStep ms 0 y (empty_fabric n ranks)) (sym figures) (first_up ms n ranks one ports))

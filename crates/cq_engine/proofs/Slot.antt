@@ -44,7 +44,7 @@ use Rattle.cq_laws.proofs.InputBest.{stable_slot}
 use Rattle.cq_laws.proofs.LeastSlack.{by_arrivals, more_after}
 use Rattle.cq_laws.proofs.OneSlot.{same_slot, sound_from}
 use Rattle.cq_engine.specs.Parts.{Queues, FitLists, CanCross, fabric_of}
-use Rattle.cq_engine.specs.Engine.{KeepsUp, CountsFit, waiting_for, arriving_for}
+use Rattle.cq_engine.specs.Engine.{IsInStep, CountsFit, waiting_for, arriving_for}
 use Rattle.cq_engine.specs.Measuring.{arriving_slack, input_counted, output_counted}
 use Rattle.cq_engine.proofs.Changed.{length-by_place}
 use Rattle.cq_engine.proofs.Queued.{has_cell}
@@ -173,7 +173,7 @@ pub record Whole (ms : List Machine) (slot : ℕ) (cells : List (Option Cell)) (
   pub gone : of_slot.gone ≡ left
   pub crossed : transfers_in of_slot ≡ noted
   pub figures : y ≡ figures_after x of_slot
-  pub keeps_up : KeepsUp ms (slot + 1) y g
+  pub in_step : IsInStep ms (slot + 1) y g
 
 -- how many transfers a matching has
 pub few_cross : (m : Partners) (lists : List (List Queued)) (slot phase : ℕ) → IsInputBest (orders_of lists) m → length (transfers_of m lists slot phase) ≤ length lists
@@ -183,7 +183,7 @@ few_cross m lists slot phase best =
     let size = best.stable.matching.size ∙ length-map lists output_order in
     omega arith
 
-module _ (ms : List Machine) (slot : ℕ) (x : Figures) (q0 : Queues) (ranks0 : List (List ℕ)) (cells : List (Option Cell)) (class_count : ℕ) (came : List (Option Queued)) (ranks1 : List (List ℕ)) (up : KeepsUp ms slot x (fabric_of q0 ranks0)) (for_ports : AreForPorts (length ms) class_count cells) (ranked : ranking ms slot 0 cells ranks0 ≡ Ok (record { came = came; ranks = ranks1 })) where
+module _ (ms : List Machine) (slot : ℕ) (x : Figures) (q0 : Queues) (ranks0 : List (List ℕ)) (cells : List (Option Cell)) (class_count : ℕ) (came : List (Option Queued)) (ranks1 : List (List ℕ)) (up : IsInStep ms slot x (fabric_of q0 ranks0)) (for_ports : AreForPorts (length ms) class_count cells) (ranked : ranking ms slot 0 cells ranks0 ≡ Ok (record { came = came; ranks = ranks1 })) where
   f0 : Fabric
   f0 = fabric_of q0 ranks0
 
@@ -329,8 +329,8 @@ module _ (ms : List Machine) (slot : ℕ) (x : Figures) (q0 : Queues) (ranks0 : 
           pub counted_outputs : map (λ at. output_counted slot (came_to (fronts q2.buffers) at.0) at.1) (enumerate_from 0 x.outputs) ≡ map (λ at. output_after recorded at.0 at.1) (enumerate_from 0 x.outputs)
           counted_outputs = by_place_same (λ k. output_counted slot (came_to (fronts q2.buffers) k)) (output_after recorded) 0 x.outputs (λ i y k e at. output_told k y)
 
-          pub keeps_up : KeepsUp ms (slot + 1) (figures_after x recorded) (fabric_of q4 ranks2)
-          keeps_up =
+          pub in_step : IsInStep ms (slot + 1) (figures_after x recorded) (fabric_of q4 ranks2)
+          in_step =
               let alike = same_slot ms slot class_count cells (fabric_of q0 ranks0) (fabric_of q4 ranks2) up.ideal recorded up.agrees come stable in
               record {
                 machines = up.machines;
@@ -355,5 +355,5 @@ module _ (ms : List Machine) (slot : ℕ) (x : Figures) (q0 : Queues) (ranks0 : 
                 gone = refl;
                 crossed = refl;
                 figures = figures;
-                keeps_up = subst (λ z. KeepsUp ms (slot + 1) z (fabric_of q4 ranks2)) (sym figures) keeps_up;
+                in_step = subst (λ z. IsInStep ms (slot + 1) z (fabric_of q4 ranks2)) (sym figures) in_step;
               }

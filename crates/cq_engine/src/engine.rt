@@ -1,5 +1,5 @@
 //! The engine: a fabric, slot by slot.
-ghost use Rattle.std.specs.Prelude.{◌≡◌, ◌↔◌, ◌+◌, ◌-◌, ◌*◌, ◌^◌, ◌<◌, ◌≤◌, ◌++◌, IsTrue, false, is_err, IfOk, OnOk, OnErr, [], length, map, max};
+ghost use Rattle.std.specs.Prelude.{◌≡◌, ◌↔◌, ◌+◌, ◌-◌, ◌*◌, ◌^◌, ◌<◌, ◌≤◌, IsTrue, false, is_err, IfOk, OnOk, OnErr, length, map, max};
 ghost use Rattle.cq_rank.specs.Switch.{AreForOneSwitch, class_count};
 ghost use Rattle.cq_ideal.specs.Ranking.{AreForPorts, ranking};
 ghost use Rattle.cq_laws.specs.Fabric.{empty_fabric, IsEmptyFabric};
@@ -39,7 +39,7 @@ pub struct Engine<R: Rank> {
 
 impl<R: Rank> Model for Engine<R> {
     ghost use Rattle.std.specs.Prelude.{◌≡◌, false, map};
-    ghost use Rattle.cq_engine.specs.Engine.{AreWorkers, EngineView, KeepsUp};
+    ghost use Rattle.cq_engine.specs.Engine.{AreWorkers, EngineView, IsInStep};
     ghost use Rattle.cq_engine.specs.Parts.{fabric_of};
 
     ghost Value = { EngineView };
@@ -54,7 +54,7 @@ impl<R: Rank> Model for Engine<R> {
       stopped = a.stopped;
     } };
 
-    ghost invariant = { λ a. AreWorkers a.workers × (a.stopped ≡ false → KeepsUp (map R.machine a.ranks.fixed) a.next a.figures (fabric_of a.queues a.ranks.states)) };
+    ghost invariant = { λ a. AreWorkers a.workers × (a.stopped ≡ false → IsInStep (map R.machine a.ranks.fixed) a.next a.figures (fabric_of a.queues a.ranks.states)) };
 }
 
 // Nothing was seen yet of so many inputs and outputs.
@@ -143,7 +143,7 @@ impl<R: Rank> Engine<R> {
     /// by one thread where there is none.
     ///
     /// The error is the first rank, in order of input, that does not fit 128 bits. Then `sent`, `note`, the
-    /// figures, the lists and the buffers are as before, and the engine is stopped.
+    /// figures, the lists, the buffers and the next slot are as before, and the engine is stopped.
     pub fn slot<T: Threads + Sync, G: Gate>(
         &mut self,
         rt: &T,

@@ -83,6 +83,7 @@ fn step<R: Rank, T: Threads + Sync, G: Gate>(
     ensures held { OnOk result ((j : ℕ) → held_for j engine.new.fabric ≤ 64 * (engine.old.next + 1)) }
     ensures proposals { OnOk result (engine.new.figures.proposals ≤ 32 * (engine.old.next + 1)) }
 {
+    // Its contract tells that there are 64 places.
     let _places = arrivals.at(0);
     engine.slot(rt, alloc, engine.next(), arrivals, gate, sent, note)
 }
@@ -344,7 +345,7 @@ fn prioritized<T: Threads + Sync>(
 }
 
 #[test]
-fn the_plain_slow_fabric_agrees(rt: HostRuntime) -> Result<(), Fail> {
+fn drawn_slots_are_as_in_the_plain_slow_fabric(rt: HostRuntime) -> Result<(), Fail> {
     for seed in 1..9 {
         let slots = drawn_slots(rt.alloc(), seed)?;
         let plain = Slow::run(rt.alloc(), &slots)?;

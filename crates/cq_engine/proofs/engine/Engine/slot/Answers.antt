@@ -4,7 +4,7 @@ use Rattle.std.proofs.lemmas.List.{length-map}
 use Rattle.cq_rank.specs.Switch.{class_count}
 use Rattle.cq_ideal.specs.IdealSlot.{all_told, fronts, departures_in}
 use Rattle.cq_prefs.specs.Moves.{transfers_of}
-use Rattle.cq_engine.specs.Engine.{EngineView, KeepsUp, HaveListRoom, SlotDone}
+use Rattle.cq_engine.specs.Engine.{EngineView, IsInStep, HaveListRoom, SlotDone}
 use Rattle.cq_engine.specs.Parts.{fabric_of}
 use Rattle.cq_engine.proofs.Slot.{came_outputs, fits_lists, can_cross_first, can_cross_second, few_cross, whole_slot}
 use Rattle.cq_engine.proofs.Seen.{up_at, come_at, buffer_room_at}
@@ -89,7 +89,7 @@ invariant_of-self-2 g c =
     (c.count_proposals.ensures.most ∙ ap (λ n. max n (max c.cross-first.result.proposals c.cross-second.result.proposals)) c.depart.ensures.most)
     (c.count_proposals.ensures.inputs ∙ c.depart.ensures.input_figures ∙ c.count_inputs.ensures)
     (c.count_proposals.ensures.outputs ∙ c.depart.ensures.output_figures) in
-    (c.self.invariant.0, λ _. subst (λ (fixed : List (List ℕ)). KeepsUp (map g.R.Rank.machine fixed) (c.args.slot + 1) y (fabric_of c.cross-second.new.self c.depart.new.ranks.states)) (sym (c.depart.ensures.fixed ∙ c.take.ensures.fixed)) whole.keeps_up)
+    (c.self.invariant.0, λ _. subst (λ (fixed : List (List ℕ)). IsInStep (map g.R.Rank.machine fixed) (c.args.slot + 1) y (fabric_of c.cross-second.new.self c.depart.new.ranks.states)) (sym (c.depart.ensures.fixed ∙ c.take.ensures.fixed)) whole.in_step)
 
 pub returns-clause-slot : goal.returns-clause-slot
 returns-clause-slot g c =
