@@ -10,6 +10,7 @@ use Rattle.cq_simulate.specs.FabricRuns.{IsFabricRun}
 use Rattle.cq_run.specs.Plan.{Plan}
 use Rattle.cq_run.specs.Plans.{crossed, reported}
 
+-- what a command that is not refused aims at
 pub data Aim : Type 0 where
   -- this plan
   Exactly : Plan → Aim

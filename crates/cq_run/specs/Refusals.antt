@@ -9,6 +9,7 @@ use Rattle.cq_run.specs.declared.refusal.CaptureFault.TheVariants.{NoHeader, Mag
 use Rattle.cq_run.specs.declared.refusal.Refusal.{Refusal}
 use Rattle.cq_run.specs.declared.refusal.Refusal.TheVariants.{Words, Missing, Configuration, Capture, Tag}
 
+-- what a refusal comes to
 pub record Meaning : Type 0 where
   -- the status of a run that ends with it
   pub status : Status

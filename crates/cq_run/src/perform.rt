@@ -1,4 +1,4 @@
-// Writing what is planned.
+//! Writing what is planned.
 ghost use Rattle.std.specs.Prelude.{◌≡◌, IfErr, OnOk};
 ghost use Rattle.cq_space.specs.Space.{Closed};
 ghost use Rattle.cq_run.specs.World.{world};

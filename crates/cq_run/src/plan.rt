@@ -1,4 +1,4 @@
-// What is to be written.
+//! What is to be written.
 ghost use Rattle.std.specs.Prelude.{◌≡◌};
 
 use cq_base::Name;

@@ -1,4 +1,4 @@
-// What words and files are refused for.
+//! What words and files are refused for.
 ghost use Rattle.std.specs.Prelude.{◌≡◌};
 ghost use Rattle.std.specs.Option.{option_map};
 ghost use Rattle.cq_pcap.specs.Faults.{fault_of};

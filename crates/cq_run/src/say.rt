@@ -1,4 +1,4 @@
-// The line that tells why a run stopped. Nothing here takes memory.
+//! The line that tells why a run stopped. Nothing here takes memory.
 ghost use Rattle.std.specs.Prelude.{◌++◌};
 ghost use Rattle.std.specs.List.{flat_map};
 ghost use Rattle.cq_base.specs.Decimal.{decimal};

@@ -1,4 +1,4 @@
-// Why a run stops before its work is done.
+//! Why a run stops before its work is done.
 ghost use Rattle.std.specs.Prelude.{◌≡◌};
 ghost use Rattle.cq_run.specs.Ending.{halt_status, stop_status};
 

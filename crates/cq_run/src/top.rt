@@ -1,4 +1,4 @@
-// The top call.
+//! The top call.
 ghost use Rattle.std.specs.Prelude.{◌≡◌, ℕ, List, None, Some, IfSome, map, string_bytes};
 ghost use Rattle.cq_space.specs.Space.{Closed};
 ghost use Rattle.cq_words.specs.Words.{command_for};
