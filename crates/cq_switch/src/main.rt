@@ -15,7 +15,8 @@ use std::alloc::Global;
 use std::process::ExitCode;
 use std::{env, io};
 
-/// The code where the system does not give the words. It is the code of no status.
+/// The code where the words could not be had: the system did not give them, or there was no memory to
+/// keep them. It is the code of no status.
 const NO_WORDS: u8 = 10;
 
 /// The words after the program's name. Where one is not UTF-8 there are none: the empty list is no
