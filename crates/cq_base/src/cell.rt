@@ -17,7 +17,7 @@ pub type Slot = u64;
 #[derive(Clone, Copy, Debug, PartialEq, Eq)]
 pub struct CellId {
     /// The input that it comes to.
-    pub input: u16,
+    pub input: Port,
     /// The number of its packet in the capture of that input, from 0.
     pub packet: u32,
     /// Its number in the packet, from 0.
@@ -66,7 +66,7 @@ pub struct Departure {
 pub struct Transfer {
     /// The slot in which it crosses.
     pub slot: Slot,
-    /// The matching of the slot that lets it cross, the first or the second.
+    /// The matching of the slot that lets it cross: 1 for the first, 2 for the second.
     pub phase: u8,
     /// The input that it leaves.
     pub input: Port,

@@ -5,6 +5,8 @@
 ghost use Rattle.std.specs.Prelude.{◌≡◌};
 ghost use Rattle.cq_base.specs.Key.{KeyLaws, key_cmp};
 
+use crate::{Port, Slot};
+
 /// How urgent a cell is: by its rank, then by the slot of its arrival, then by its input. The lesser
 /// key is the more urgent.
 ///
@@ -14,9 +16,9 @@ pub struct Key {
     /// The rank that the cell's output gave it.
     pub rank: u128,
     /// The slot in which it arrived.
-    pub slot: u64,
+    pub slot: Slot,
     /// The input that it came to.
-    pub input: u16,
+    pub input: Port,
 }
 
 /// Keys are compared by rank, then slot, then input, and this is a strict total order. It does

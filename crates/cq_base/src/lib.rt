@@ -23,7 +23,7 @@ pub use cell::{Cell, CellId, Class, Departure, Port, Queued, Slot, TagFault, Tra
 pub use figures::{Figures, InputFigures, OutputFigures};
 pub use key::{Key, keys_are_ordered};
 pub use name::Name;
-pub use number::digits;
+pub use number::{MOST_DIGITS, digits};
 pub use room::Room;
 pub use sequence::Sequence;
 pub use setup::{ClassRow, Kind, Setup};

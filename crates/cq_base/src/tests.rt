@@ -1,9 +1,9 @@
 //! Values from outside, and the calls that want memory, with ample memory.
-use crate::{Key, Name, Room, Sequence, Status, digits};
+use crate::{Key, MOST_DIGITS, Name, Room, Sequence, Status, digits};
 use std::test::Fail;
 
 #[test]
-fn numbers_keys_and_codes_are_the_outside_ones(rt: HostRuntime) {
+fn numbers_are_written_in_decimal_digits(rt: HostRuntime) {
     let numbers = [
         (0, "0"),
         (9, "9"),
@@ -11,17 +11,23 @@ fn numbers_keys_and_codes_are_the_outside_ones(rt: HostRuntime) {
         (u128::MAX, "340282366920938463463374607431768211455"),
     ];
     for (number, text) in numbers {
-        let mut to = [0; 39];
+        let mut to = [0; MOST_DIGITS];
         let count = digits(number, &mut to);
         assert_eq!(rt; &to[..count], text.as_bytes(), "of {number}");
     }
+}
 
+#[test]
+fn keys_rise_by_rank_then_slot_then_input(rt: HostRuntime) {
     let rising = [(0, 9, 9), (1, 0, 9), (1, 1, 0), (1, 1, 1)];
     let keys = rising.map(|(rank, slot, input)| Key { rank, slot, input });
     for (urgent, later) in keys.iter().zip(&keys[1..]) {
         assert!(rt; urgent < later, "{urgent:?} comes before {later:?}");
     }
+}
 
+#[test]
+fn each_status_has_its_own_code(rt: HostRuntime) {
     let codes = [
         (Status::Done, 0),
         (Status::Words, 1),
