@@ -1,15 +1,9 @@
-// Words that are a command.
-ghost use Rattle.std.specs.Prelude.{◌≡◌, IfErr, IfOk, codes, is_some, map, string_bytes, option_and_then, true};
-ghost use Rattle.clap.specs.Words.{first_of, found_of, rows_of, subcommand_rows_of};
-ghost use Rattle.cq_words.specs.Words.{command_for, numbered, with_config as config_command};
-ghost use Rattle.cq_words.specs.Line.{captures_in, command_found, numbers_in};
+// The commands, and the reading of the numbers of one.
+ghost use Rattle.std.specs.Prelude.{◌≡◌};
+ghost use Rattle.cq_words.specs.Words.{numbered};
 
-use crate::judge::is_command;
 use crate::number::number;
-use crate::split::{split, value};
-use clap::ArgMatches;
-use cq_base::{Name, NoMemory};
-use std::alloc::Global;
+use cq_base::Name;
 
 /// What the program is asked to do.
 #[derive(Drop)]
@@ -24,87 +18,6 @@ pub enum Command {
     Run { config: Name },
     /// Runs the fabric with made traffic from a seed: 1 to 64 ports, and 1 to 20,000 slots.
     Soak { seed: u64, ports: u16, slots: u32 },
-}
-
-/// The command that the words are, or None where they are no command. The error is want of memory, and comes
-/// only for words that are a command: judging them takes none.
-pub fn command_of(alloc: Global, words: &[String]) -> Result<Option<Command>, NoMemory>
-    ensures command { IfOk result (λ command. command ≡ command_for (map string_bytes words.now)) }
-    ensures judged { IfErr result (λ _. is_some (command_for (map string_bytes words.now)) ≡ true) }
-{
-    if !is_command(words) {
-        return Ok(None);
-    }
-    match split(alloc, words) {
-        Ok(matches) => found(alloc, &matches),
-        Err(_no_memory) => Err(NoMemory),
-    }
-}
-
-// The command of what `clap` found.
-fn found(alloc: Global, matches: &ArgMatches) -> Result<Option<Command>, NoMemory>
-    ensures { IfOk result (λ command. command ≡ command_found (subcommand_rows_of matches.now)) }
-{
-    let Some((word, values)) = matches.subcommand() else {
-        return Ok(None);
-    };
-    match word {
-        "pass" => with_captures(alloc, values),
-        "soak" => Ok(with_numbers(values)),
-        _ => with_config(alloc, word, values),
-    }
-}
-
-// The command of a word with the name of a configuration.
-fn with_config(alloc: Global, word: &str, values: &ArgMatches) -> Result<Option<Command>, NoMemory>
-    ensures { IfOk result (λ command. command ≡ option_and_then (config_command word.now)
-        (first_of (codes "CONFIG") (rows_of (found_of values.now)))) }
-{
-    let Some(config) = value(values, "CONFIG") else {
-        return Ok(None);
-    };
-    match word {
-        "check" => {
-            let config = Name::of(alloc, config)?;
-            Ok(Some(Command::Check { config }))
-        }
-        "ideal" => {
-            let config = Name::of(alloc, config)?;
-            Ok(Some(Command::Ideal { config }))
-        }
-        "run" => {
-            let config = Name::of(alloc, config)?;
-            Ok(Some(Command::Run { config }))
-        }
-        _ => Ok(None),
-    }
-}
-
-// The command of the names of two captures.
-fn with_captures(alloc: Global, values: &ArgMatches) -> Result<Option<Command>, NoMemory>
-    ensures { IfOk result (λ command. let rows = rows_of (found_of values.now) in
-        command ≡ captures_in (first_of (codes "IN") rows) (first_of (codes "OUT") rows)) }
-{
-    let Some(from) = value(values, "IN") else {
-        return Ok(None);
-    };
-    let Some(to) = value(values, "OUT") else {
-        return Ok(None);
-    };
-    let from = Name::of(alloc, from)?;
-    let to = Name::of(alloc, to)?;
-    Ok(Some(Command::Pass { from, to }))
-}
-
-// The command of three numbers.
-fn with_numbers(values: &ArgMatches) -> Option<Command>
-    ensures { let rows = rows_of (found_of values.now) in result ≡ numbers_in
-        (first_of (codes "SEED") rows) (first_of (codes "PORTS") rows) (first_of (codes "SLOTS") rows) }
-{
-    let seed = value(values, "SEED")?;
-    let ports = value(values, "PORTS")?;
-    let slots = value(values, "SLOTS")?;
-    soak(seed, ports, slots)
 }
 
 // The command of the texts of three numbers, where each is in its range.

@@ -1,7 +1,7 @@
 //! The words of the program's command line, and which command they are.
 //!
 //! Words are judged by a grammar of five forms, in `specs/Words.antt`. What is no command is answered
-//! by None, and nothing of it is parsed. The words of a command are split into its values by `clap`,
+//! by None, and `clap` sees nothing of it. The words of a command are split into its values by `clap`,
 //! and the numbers among them are read here. `proofs/Splitting.antt` shows that `clap` refuses no
 //! command and hands out the words as they are, so want of memory is the only error.
 #![tactic(auto)]
@@ -12,5 +12,7 @@ mod number;
 mod split;
 #[cfg(test)]
 mod tests;
+mod words;
 
-pub use command::{Command, command_of};
+pub use command::Command;
+pub use words::command_of;

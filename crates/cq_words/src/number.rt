@@ -1,6 +1,6 @@
 // Numbers in words.
-ghost use Rattle.std.specs.Prelude.{◌≡◌, ◌≤◌, IfSome};
-ghost use Rattle.cq_words.specs.Numbers.{number_from};
+ghost use Rattle.std.specs.Prelude.{◌≡◌, ◌≤◌, IfSome, None, Some, if◌then◌else◌};
+ghost use Rattle.cq_words.specs.Numbers.{is_numeral, number_from, value_of};
 
 // The number that the text writes, where it is 1 to 20 digits with a value from `least` to `most`.
 pub fn number(text: &str, least: u64, most: u64) -> Option<u64>
@@ -13,9 +13,6 @@ pub fn number(text: &str, least: u64, most: u64) -> Option<u64>
     }
     Some(value as u64)
 }
-
-ghost use Rattle.std.specs.Prelude.{if◌then◌else◌, Some, None};
-ghost use Rattle.cq_words.specs.Numbers.{is_numeral, value_of};
 
 // The value of a text of 1 to 20 digits, and None of any other text.
 fn numeral(text: &[u8]) -> Option<u128>
