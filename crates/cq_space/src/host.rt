@@ -1,6 +1,6 @@
 // The system's files and writers.
 ghost use Rattle.std.specs.Prelude.{◌≡◌, None};
-ghost use Rattle.cq_space.specs.Space.{Closed, Space};
+ghost use Rattle.cq_space.specs.Space.{Closed};
 ghost use Rattle.cq_space.specs.Host.{host_mode};
 
 use crate::fault::raise;

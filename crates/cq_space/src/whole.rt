@@ -56,18 +56,17 @@ pub fn read_whole<F: Files>(
         let room = limit + 1 - bytes.len() as u64;
         let most = room.min(PIECE as u64) as usize;
         let window = &mut buf[..most];
-        match files.read(window) {
+        let count = match files.read(window) {
             Ok(0) => {
                 files.end_read();
                 return Ok(bytes);
             }
-            Ok(count) => {
-                if bytes.extend_from_slice(&window[..count]).is_err() {
-                    files.end_read();
-                    return Err(ReadRefusal::NoMemory);
-                }
-            }
+            Ok(count) => count,
             Err(Failed) => return Err(ReadRefusal::Fault),
+        };
+        if bytes.extend_from_slice(&window[..count]).is_err() {
+            files.end_read();
+            return Err(ReadRefusal::NoMemory);
         }
     }
     files.end_read();
