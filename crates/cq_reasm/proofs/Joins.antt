@@ -1,11 +1,10 @@
 -- What a cell changes of a joiner: what is open of its pair, and nothing else.
 use Rattle.std.proofs.Common.{◌≡◌, ◌≢◌, ◌⊎◌, ⊎_elim, ℕ, zero, suc, ◌+◌, ◌*◌, ◌/◌, ◌<◌, true, cond, arith, List, [], ◌∷◌, set, get_or, Option, None, Some, refl, sym, ap, ◌∙◌}
-use Rattle.std.specs.Prelude.{replicate}
 use Rattle.std.proofs.lemmas.Nat.{div-mul-add}
 use Rattle.std.proofs.lemmas.List.{get_or-set_other}
 use Rattle.cq_base.specs.declared.cell.Cell.{Cell}
 use Rattle.cq_reasm.specs.Open.{Open, cells_taken, with_piece}
-use Rattle.cq_reasm.specs.Joining.{JoinerView, IsNext, IsOtherPair, place_of, open_at, with_open, nothing_open, open_after}
+use Rattle.cq_reasm.specs.Joining.{JoinerView, IsNext, IsOtherPair, place_of, open_at, with_open, open_after}
 
 -- as many cells were taken as stand before it in its packet
 pub taken_before : (o : Option Open) (cell : Cell) → IsNext o cell → cells_taken o ≡ cell.id.index
@@ -48,11 +47,3 @@ pub others_kept : (inputs classes : ℕ) (packets left : List (Option Open)) (jo
 others_kept inputs classes packets left joiner cell place now e p h inside input class l differs =
     ap (λ (v : JoinerView). open_at v input class) (left_is inputs classes packets left joiner cell.id.input cell.class place now e p h)
     ∙ open_of_others joiner cell now input class inside l differs
-
-pub nothing_at : (inputs classes input class : ℕ) → open_at (nothing_open inputs classes) input class ≡ None
-nothing_at inputs classes input class = empty_at (inputs * classes) (input * classes + class)
-  where
-    empty_at : (n i : ℕ) → get_or (let empty : List (Option Open) = replicate n None in empty) i None ≡ None
-    empty_at zero i = refl
-    empty_at (suc n) zero = refl
-    empty_at (suc n) (suc i) = empty_at n i

@@ -37,10 +37,6 @@ seen_alike : (old new : Slab OpenPacket) (k : Option ℕ) → ((key : ℕ) → k
 seen_alike old new None h = refl
 seen_alike old new (Some key) h = let e = h key refl in cc
 
--- all is seen as before
-pub all_as_before : (old new : Slab OpenPacket) (keys : List (Option ℕ)) → ((key : ℕ) → get new key ≡ get old key) → map (packet_under new) keys ≡ map (packet_under old) keys
-all_as_before old new keys h = sym (same_seen (packet_under old) (packet_under new) keys None (λ q l. seen_alike old new _ (λ key e. h key)))
-
 seen_empty : (packets : Slab OpenPacket) (places : ℕ) → map (packet_under packets) (replicate places None) ≡ replicate places None
 seen_empty packets zero = refl
 seen_empty packets (suc places) = let rest = seen_empty packets places in cc

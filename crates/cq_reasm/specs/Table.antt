@@ -4,6 +4,7 @@ use Rattle.slab.specs.Slab.{Slab, get, ContainsKey}
 use Rattle.cq_reasm.specs.declared.open_packets.OpenPacket.{OpenPacket}
 use Rattle.cq_reasm.specs.Open.{Open}
 
+-- what is open in a packet of the slab
 abbrev pub open_of : OpenPacket → Open
 open_of packet = record { packet = packet.number; taken = packet.taken; body = packet.body.items }
 

@@ -48,6 +48,7 @@ abbrev pub given_or : Option Joined → List Joined → List Joined
 given_or None later = later
 given_or (Some joined) later = joined ∷ later
 
+-- all that is given while these cells are taken
 abbrev pub given : Option Open → List Piece → List Joined
 given was [] = []
 given was (x ∷ rest) = given_or (joined_at was x.cell x.bytes) (given (open_after was x.cell x.bytes) rest)
@@ -63,5 +64,6 @@ pub record TakesWhole (input : ℕ) (packets : List Packet) : Type 0 where
   pub gives : given None (cells_in packets) ≡ map (whole input) packets
   pub closes : open_after_all None (cells_in packets) ≡ None
 
+-- so it is of every run of whole packets
 abbrev pub WholeAreTaken : Type 0
 WholeAreTaken = (input class : ℕ) (packets : List Packet) → AreWhole input class packets → TakesWhole input packets

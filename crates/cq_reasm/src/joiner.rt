@@ -1,5 +1,5 @@
 //! Packets put together from the cells of an output.
-ghost use Rattle.std.specs.Prelude.{◌≡◌, ◌≢◌, ◌<◌, ◌≤◌, ℕ, length, IfOk, OnOk, OnErr, None};
+ghost use Rattle.std.specs.Prelude.{◌≡◌, ◌<◌, ◌≤◌, ℕ, length, IfOk, OnOk, OnErr, None};
 ghost use Rattle.cq_reasm.specs.Joining.{nothing_open, open_at, with_open, IsNext, IsOtherPair, joined_at, open_after};
 
 use crate::open_packets::OpenPackets;

@@ -1,7 +1,7 @@
-// The open packets, each at the place of its pair.
-//
-// The packets themselves lie in a slab, which uses the place of a packet that was closed again, and a
-// table tells under which key.
+//! The open packets, each at the place of its pair.
+//!
+//! The packets themselves lie in a slab, which uses the place of a packet that was closed again, and a
+//! table tells under which key.
 ghost use Rattle.std.specs.Prelude.{◌≡◌, ◌<◌, length, replicate, slice_index_or, slice_set, option_map, IfOk, OnOk, OnErr, ℕ, ◌≢◌};
 ghost use Rattle.slab.specs.Slab.{get, ContainsKey};
 ghost use Rattle.cq_reasm.specs.Open.{with_piece, grown, cells_taken};
