@@ -1,21 +1,28 @@
 // The packets that come to an input.
 ghost use Rattle.std.specs.Prelude.{◌≡◌, ◌*◌, ◌<◌, ◌≤◌, length, map, IfOk};
 ghost use Rattle.std.specs.Int.{IsInRange};
-ghost use Rattle.cq_gen.specs.Packets.{frame_of, packet_of, packets_to};
+ghost use Rattle.cq_gen.specs.Packets.{frame_of, output_address, packet_of, packets_to};
 ghost use Rattle.cq_pcap.specs.Written.{read_again};
 
 use cq_base::{NoMemory, Port, Sequence};
 use cq_pcap::OutPacket;
 use std::alloc::Global;
 
-// The bytes of a frame.
+// How many bytes a frame has.
 const FRAME: usize = 60;
 
-// The zeros with which a frame ends.
+// The zeros at the end of a frame.
 const PADDING: [u8; 42] = [0; 42];
 
 // The nanoseconds of a slot.
-const SLOT: u128 = 512;
+pub const SLOT: u64 = 512;
+
+// The address of an output.
+pub fn output_address(output: u8) -> [u8; 6]
+    ensures { result ≡ output_address output }
+{
+    [0x02, 0, 0, 0, 0, output]
+}
 
 // The frame of a packet.
 #[tactic(auto, unfolding(crate::specs::Packets::frame_of))]
@@ -23,7 +30,7 @@ fn frame_of(alloc: Global, output: u8, input: u8, priority: u8) -> Result<Vec<u8
     requires { priority < 8 }
     ensures { IfOk result (λ bytes. bytes.items ≡ frame_of output input priority) }
 {
-    let to = [0x02, 0, 0, 0, 0, output];
+    let to = output_address(output);
     let from = [0x02, 0, 0, 0, 1, input];
     let tag = [0x81, 0, priority * 32, 0, 0x88, 0xb5];
     let mut bytes = Vec::with_capacity(alloc, FRAME)?;
@@ -51,7 +58,7 @@ fn packet_of(
     let priority = word >> 29;
     let body = frame_of(alloc, output as u8, input as u8, priority as u8)?;
     Ok(OutPacket {
-        stamp: u128::from(slot) * SLOT,
+        stamp: u128::from(slot) * u128::from(SLOT),
         original: FRAME as u32,
         body: Sequence::of(body),
     })

@@ -3,6 +3,7 @@ ghost use Rattle.std.specs.Prelude.{◌≡◌, ◌≤◌, map, replicate, IfOk};
 ghost use Rattle.std.specs.List.{range_with_len};
 ghost use Rattle.cq_gen.specs.Tables.{soak_address, soak_class, soak_kind, soak_port, soak_rule, soak_setup, soak_tables};
 
+use crate::packets::{SLOT, output_address};
 use cq_base::{ClassRow, Kind, Name, NoMemory, Port, Sequence, Setup};
 use cq_route::{AddressRow, PortRow, RuleRow, Tables};
 use std::alloc::{AllocError, Global};
@@ -18,7 +19,7 @@ pub fn soak_tables(alloc: Global, ports: Port) -> Result<Tables, NoMemory>
 {
     Ok(Tables {
         cell_bytes: 64,
-        slot_ns: 512,
+        slot_ns: SLOT,
         limit_bytes: 67_108_864,
         workers: 2,
         default_output: 0,
@@ -95,7 +96,7 @@ fn addresses(alloc: Global, ports: Port) -> Result<Vec<AddressRow>, NoMemory>
     let mut rows = Vec::with_capacity(alloc, ports as usize)?;
     'outputs: for output in 0..ports {
         rows.push(AddressRow {
-            mac: [0x02, 0, 0, 0, 0, output as u8],
+            mac: output_address(output as u8),
             output,
         })?;
     }
