@@ -58,50 +58,53 @@ fn each_form_is_read(rt: HostRuntime) -> Result<(), Fail> {
     Ok(())
 }
 
+const LITTLE: [u8; 4] = [0xd4, 0xc3, 0xb2, 0xa1];
+
+const BIG: [u8; 4] = [0xa1, 0xb2, 0xc3, 0xd4];
+
+// The magic, the version, the network field, and what is read.
+const HEADERS: [([u8; 4], [u8; 4], [u8; 4], Result<usize, PcapRefusal>); 10] = [
+    (LITTLE, [2, 0, 4, 0], [1, 0, 0xff, 0xff], Ok(0)),
+    (BIG, [0, 2, 0, 4], [0xff, 0xff, 0, 1], Ok(0)),
+    // The block type of pcapng, and the magic of modified pcap.
+    (
+        [0x0a, 0x0d, 0x0d, 0x0a],
+        [2, 0, 4, 0],
+        [1, 0, 0, 0],
+        Err(PcapRefusal::Magic),
+    ),
+    (
+        [0x34, 0xcd, 0xb2, 0xa1],
+        [2, 0, 4, 0],
+        [1, 0, 0, 0],
+        Err(PcapRefusal::Magic),
+    ),
+    ([0; 4], [0; 4], [0; 4], Err(PcapRefusal::Magic)),
+    (
+        LITTLE,
+        [0, 2, 0, 4],
+        [1, 0, 0, 0],
+        Err(PcapRefusal::Version),
+    ),
+    (BIG, [0, 2, 0, 3], [0; 4], Err(PcapRefusal::Version)),
+    (
+        LITTLE,
+        [2, 0, 4, 0],
+        [0, 0, 1, 0],
+        Err(PcapRefusal::LinkType),
+    ),
+    (BIG, [0, 2, 0, 4], [1, 0, 0, 0], Err(PcapRefusal::LinkType)),
+    (
+        BIG,
+        [0, 2, 0, 4],
+        [0, 1, 0, 101],
+        Err(PcapRefusal::LinkType),
+    ),
+];
+
 #[test]
 fn a_header_is_refused_by_its_first_fault(rt: HostRuntime) -> Result<(), Fail> {
-    let little = [0xd4, 0xc3, 0xb2, 0xa1];
-    let big = [0xa1, 0xb2, 0xc3, 0xd4];
-    // The magic, the version, the network field, and what is read.
-    let cases: [([u8; 4], [u8; 4], [u8; 4], Result<usize, PcapRefusal>); 10] = [
-        (little, [2, 0, 4, 0], [1, 0, 0xff, 0xff], Ok(0)),
-        (big, [0, 2, 0, 4], [0xff, 0xff, 0, 1], Ok(0)),
-        // The block type of pcapng, and the magic of modified pcap.
-        (
-            [0x0a, 0x0d, 0x0d, 0x0a],
-            [2, 0, 4, 0],
-            [1, 0, 0, 0],
-            Err(PcapRefusal::Magic),
-        ),
-        (
-            [0x34, 0xcd, 0xb2, 0xa1],
-            [2, 0, 4, 0],
-            [1, 0, 0, 0],
-            Err(PcapRefusal::Magic),
-        ),
-        ([0; 4], [0; 4], [0; 4], Err(PcapRefusal::Magic)),
-        (
-            little,
-            [0, 2, 0, 4],
-            [1, 0, 0, 0],
-            Err(PcapRefusal::Version),
-        ),
-        (big, [0, 2, 0, 3], [0; 4], Err(PcapRefusal::Version)),
-        (
-            little,
-            [2, 0, 4, 0],
-            [0, 0, 1, 0],
-            Err(PcapRefusal::LinkType),
-        ),
-        (big, [0, 2, 0, 4], [1, 0, 0, 0], Err(PcapRefusal::LinkType)),
-        (
-            big,
-            [0, 2, 0, 4],
-            [0, 1, 0, 101],
-            Err(PcapRefusal::LinkType),
-        ),
-    ];
-    for (magic, version, network, read) in cases {
+    for (magic, version, network, read) in HEADERS {
         // Zone, sigfigs and snaplen are ignored.
         let mut header = Vec::new(rt.alloc());
         for field in [magic, version, [9; 4], [9; 4], [9; 4], network] {
