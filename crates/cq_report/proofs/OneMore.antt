@@ -1,8 +1,7 @@
--- Lines of numbers and texts of lines. A line is its first number, then each other behind a blank, then the line feed, so
--- one number more goes on where those before it ended. In a text one line more stands behind the lines before it.
+-- Lines of numbers and texts of lines. A line is its first number, then each other behind a blank, then the line feed. In a
+-- text one line more stands behind the lines before it.
 use Rattle.std.proofs.Common.{◌≡◌, ℕ, ◌+◌, ◌<◌, List, [], ◌∷◌, ◌++◌, length, take, get_or, ap, sym, ◌∙◌, append_assoc, arith}
 use Rattle.std.specs.List.{flat_map}
-use Rattle.std.proofs.lemmas.Grind.{flat_map-append}
 use Rattle.std.proofs.lemmas.List.{append-nil, take_more, length-take-le}
 use Rattle.cq_base.specs.Decimal.{decimal}
 use Rattle.cq_base.specs.Texts.{line_of}
@@ -22,19 +21,6 @@ line_is_parted n (m ∷ ns) = append_assoc (decimal n) (32 ∷ parted m ns) (10 
 -- the whole line behind a text
 pub line_ended : (n : ℕ) (ns start text : List ℕ) → text ≡ start ++ parted n ns → text ++ 10 ∷ [] ≡ start ++ line_of (n ∷ ns)
 line_ended n ns start text e = ap (λ ys. ys ++ 10 ∷ []) e ∙ append_assoc start (parted n ns) (10 ∷ []) ∙ ap (λ ys. start ++ ys) (line_is_parted n ns)
-
-one_more_behind : {X : Type 0} (line : X → List ℕ) (xs : List X) (i : ℕ) (x : X) → i < length xs → flat_map line (take i xs) ++ line (get_or xs i x) ≡ flat_map line (take (i + 1) xs)
-one_more_behind line xs i x h =
-    sym (ap (flat_map line) (take_more xs i x h) ∙ flat_map-append line (take i xs) (get_or xs i x ∷ []) ∙ ap (λ ys. flat_map line (take i xs) ++ ys) (append-nil (line (get_or xs i x))))
-
--- one number more
-pub parted_more : (n : ℕ) (ns : List ℕ) (i : ℕ) (start text : List ℕ) → i < length ns → text ≡ start ++ parted n (take i ns) → (text ++ 32 ∷ []) ++ decimal (get_or ns i 0) ≡ start ++ parted n (take (i + 1) ns)
-parted_more n ns i start text h e =
-    let more = one_more_behind behind_blank ns i 0 h in
-    append_assoc text (32 ∷ []) (decimal (get_or ns i 0))
-    ∙ ap (λ ys. ys ++ behind_blank (get_or ns i 0)) e
-    ∙ append_assoc start (parted n (take i ns)) (behind_blank (get_or ns i 0))
-    ∙ ap (λ ys. start ++ ys) (append_assoc (decimal n) (flat_map behind_blank (take i ns)) (behind_blank (get_or ns i 0)) ∙ ap (λ ys. decimal n ++ ys) more)
 
 numbered_end : {X : Type 0} (line : ℕ → X → List ℕ) (n : ℕ) (xs : List X) (x : X) (m : ℕ) → m ≡ n + length xs → numbered_lines line n (xs ++ x ∷ []) ≡ numbered_lines line n xs ++ line m x
 numbered_end line n [] x m e = append-nil (line n x) ∙ ap (λ (k : ℕ). line k x) (let same : n ≡ m = omega arith in same)

@@ -1,15 +1,15 @@
-// Lines of a text, put at the end of what is built so far. The error of each is want of memory.
+//! Lines of a text, put at the end of what is built so far. The error of each is want of memory.
 ghost use Rattle.std.specs.Prelude.{◌≡◌, ◌∷◌, ◌++◌, [], OnOk};
 ghost use Rattle.cq_base.specs.Decimal.{decimal};
 ghost use Rattle.cq_base.specs.Texts.{line_of};
 ghost use Rattle.cq_report.specs.Report.{figure, named};
 
-use cq_base::{NoMemory, digits};
+use cq_base::{MOST_DIGITS, NoMemory, digits};
 
 pub fn put_number(text: &mut Vec<u8>, number: u64) -> Result<(), NoMemory>
     ensures { OnOk result (text.new.items ≡ text.old.items ++ decimal number) }
 {
-    let mut places = [0; 39];
+    let mut places = [0; MOST_DIGITS];
     let count = digits(u128::from(number), &mut places);
     text.extend_from_slice(&places[..count])?;
     Ok(())

@@ -102,15 +102,17 @@ fn a_log_has_a_line_for_each_transfer(rt: HostRuntime) -> Result<(), Fail> {
     Ok(())
 }
 
-// The report of a run: its slots, its proposals and the most of one phase; of each input its cells, the
-// greatest length of its list and the least slack; of each output its cells and the longest wait.
-fn report(
+// The report of a run has these lines. Of the run are told its slots, its proposals and the most of one
+// phase; of each input its cells, the greatest length of its list and the least slack; of each output its
+// cells and the longest wait.
+fn has_lines(
     rt: &impl Abort,
     alloc: Global,
     run: (u64, u64, u64),
     inputs: &[(u64, u64, Option<u64>)],
     outputs: &[(u64, Option<u64>)],
-) -> Result<Vec<u8>, Fail> {
+    lines: &[&str],
+) -> Result<(), Fail> {
     let (slots, proposals, most) = run;
     let inputs = inputs.iter().map(|row| InputFigures {
         cells: row.0,
@@ -135,100 +137,106 @@ fn report(
             .iter()
             .all(|x| x.cells <= figures.slots)
     );
-    Ok(report_text(alloc, &figures)?)
+    let text = report_text(alloc, &figures)?;
+    assert_eq!(rt; text.as_slice(), lines.concat(alloc)?.as_bytes());
+    Ok(())
 }
+
+const NOTHING_CAME: [&str; 5] = [
+    "slots 0\n",
+    "proposals 0\n",
+    "most 0\n",
+    "input 0 cells 0 longest 0 slack -\n",
+    "output 0 cells 0 idle 0 wait -\n",
+];
+
+const CONTENTION: [&str; 7] = [
+    "slots 2\n",
+    "proposals 3\n",
+    "most 2\n",
+    "input 0 cells 1 longest 1 slack 0\n",
+    "input 1 cells 1 longest 1 slack 0\n",
+    "output 0 cells 2 idle 0 wait 1\n",
+    "output 1 cells 0 idle 2 wait -\n",
+];
+
+const FAIR: [&str; 7] = [
+    "slots 3\n",
+    "proposals 4\n",
+    "most 2\n",
+    "input 0 cells 2 longest 1 slack 0\n",
+    "input 1 cells 1 longest 1 slack 0\n",
+    "output 0 cells 3 idle 0 wait 1\n",
+    "output 1 cells 0 idle 3 wait -\n",
+];
+
+const GOES_AHEAD: [&str; 9] = [
+    "slots 3\n",
+    "proposals 7\n",
+    "most 3\n",
+    "input 0 cells 1 longest 1 slack 0\n",
+    "input 1 cells 1 longest 1 slack 0\n",
+    "input 2 cells 2 longest 2 slack 0\n",
+    "output 0 cells 3 idle 0 wait 2\n",
+    "output 1 cells 1 idle 2 wait 0\n",
+    "output 2 cells 0 idle 3 wait -\n",
+];
+
+const OFFICE: [&str; 11] = [
+    "slots 7\n",
+    "proposals 14\n",
+    "most 2\n",
+    "input 0 cells 4 longest 1 slack 0\n",
+    "input 1 cells 6 longest 1 slack 0\n",
+    "input 2 cells 0 longest 0 slack -\n",
+    "input 3 cells 0 longest 0 slack -\n",
+    "output 0 cells 1 idle 6 wait 0\n",
+    "output 1 cells 7 idle 0 wait 3\n",
+    "output 2 cells 2 idle 5 wait 1\n",
+    "output 3 cells 0 idle 7 wait -\n",
+];
 
 #[test]
 fn a_report_has_the_figures_behind_their_names(rt: HostRuntime) -> Result<(), Fail> {
-    let nothing_came = report(&rt, rt.alloc(), (0, 0, 0), &[(0, 0, None)], &[(0, None)])?;
-    let lines = [
-        "slots 0\n",
-        "proposals 0\n",
-        "most 0\n",
-        "input 0 cells 0 longest 0 slack -\n",
-        "output 0 cells 0 idle 0 wait -\n",
-    ];
-    assert_eq!(rt;
-        nothing_came.as_slice(),
-        lines.concat(rt.alloc())?.as_bytes()
-    );
-
-    let contention = report(
+    has_lines(
+        &rt,
+        rt.alloc(),
+        (0, 0, 0),
+        &[(0, 0, None)],
+        &[(0, None)],
+        &NOTHING_CAME,
+    )?;
+    has_lines(
         &rt,
         rt.alloc(),
         (2, 3, 2),
         &[(1, 1, Some(0)), (1, 1, Some(0))],
         &[(2, Some(1)), (0, None)],
+        &CONTENTION,
     )?;
-    let lines = [
-        "slots 2\n",
-        "proposals 3\n",
-        "most 2\n",
-        "input 0 cells 1 longest 1 slack 0\n",
-        "input 1 cells 1 longest 1 slack 0\n",
-        "output 0 cells 2 idle 0 wait 1\n",
-        "output 1 cells 0 idle 2 wait -\n",
-    ];
-    assert_eq!(rt; contention.as_slice(), lines.concat(rt.alloc())?.as_bytes());
-
-    let fair = report(
+    has_lines(
         &rt,
         rt.alloc(),
         (3, 4, 2),
         &[(2, 1, Some(0)), (1, 1, Some(0))],
         &[(3, Some(1)), (0, None)],
+        &FAIR,
     )?;
-    let lines = [
-        "slots 3\n",
-        "proposals 4\n",
-        "most 2\n",
-        "input 0 cells 2 longest 1 slack 0\n",
-        "input 1 cells 1 longest 1 slack 0\n",
-        "output 0 cells 3 idle 0 wait 1\n",
-        "output 1 cells 0 idle 3 wait -\n",
-    ];
-    assert_eq!(rt; fair.as_slice(), lines.concat(rt.alloc())?.as_bytes());
-
-    let goes_ahead = report(
+    has_lines(
         &rt,
         rt.alloc(),
         (3, 7, 3),
         &[(1, 1, Some(0)), (1, 1, Some(0)), (2, 2, Some(0))],
         &[(3, Some(2)), (1, Some(0)), (0, None)],
+        &GOES_AHEAD,
     )?;
-    let lines = [
-        "slots 3\n",
-        "proposals 7\n",
-        "most 3\n",
-        "input 0 cells 1 longest 1 slack 0\n",
-        "input 1 cells 1 longest 1 slack 0\n",
-        "input 2 cells 2 longest 2 slack 0\n",
-        "output 0 cells 3 idle 0 wait 2\n",
-        "output 1 cells 1 idle 2 wait 0\n",
-        "output 2 cells 0 idle 3 wait -\n",
-    ];
-    assert_eq!(rt; goes_ahead.as_slice(), lines.concat(rt.alloc())?.as_bytes());
-
-    let office = report(
+    has_lines(
         &rt,
         rt.alloc(),
         (7, 14, 2),
         &[(4, 1, Some(0)), (6, 1, Some(0)), (0, 0, None), (0, 0, None)],
         &[(1, Some(0)), (7, Some(3)), (2, Some(1)), (0, None)],
+        &OFFICE,
     )?;
-    let lines = [
-        "slots 7\n",
-        "proposals 14\n",
-        "most 2\n",
-        "input 0 cells 4 longest 1 slack 0\n",
-        "input 1 cells 6 longest 1 slack 0\n",
-        "input 2 cells 0 longest 0 slack -\n",
-        "input 3 cells 0 longest 0 slack -\n",
-        "output 0 cells 1 idle 6 wait 0\n",
-        "output 1 cells 7 idle 0 wait 3\n",
-        "output 2 cells 2 idle 5 wait 1\n",
-        "output 3 cells 0 idle 7 wait -\n",
-    ];
-    assert_eq!(rt; office.as_slice(), lines.concat(rt.alloc())?.as_bytes());
     Ok(())
 }
