@@ -40,6 +40,7 @@ otherwise (Some wrong) second = Some wrong
 abbrev pub refused : List ℕ → Wrong → Refused
 refused path wrong = record { code = code_of wrong; path = path }
 
+-- the check of what may be wrong at a path
 abbrev pub at : List ℕ → Option Wrong → Check
 at path wrong = option_map (refused path) wrong
 

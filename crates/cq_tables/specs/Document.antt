@@ -50,35 +50,42 @@ array name rule keys = record {
   check = λ d. otherwise (at (array_key name) (rule d)) (first (each (element_check name keys) 0 (elements_at d)));
 }
 
--- ---- what the rows of the arrays say
+-- ## What the rows of the arrays say
 
+-- the class that there is where none is stated
 abbrev pub default_class_row : ClassRow
 default_class_row = record { priority = 0; cost = 1 }
 
+-- the class that a table states: priority 0 and cost 1 where they are left out
 abbrev pub class_row : Members → ClassRow
 class_row table = record {
   priority = found_or 0 wide_value (codes "priority") table;
   cost = found_or 1 wide_value (codes "cost") table;
 }
 
+-- the files that the table of a port names: the one that it reads, if any, and the one that it writes
 abbrev pub port_row : Members → PortRow
 port_row table = record {
   read = found text_value (codes "read") table;
   write = found_or [] text_value (codes "write") table;
 }
 
+-- the discipline that the table of a port names: first-come where it is left out
 abbrev pub port_kind : Members → Kind
 port_kind table = found_or FirstCome kind_value (codes "discipline") table
 
+-- the address that a table states
 abbrev pub mac_in : Members → List ℕ
 mac_in table = found_or [] address_value (codes "mac") table
 
+-- the address that a table states, with the output to which frames for it go
 abbrev pub address_row : Members → AddressRow
 address_row table = record {
   mac = mac_in table;
   output = found_or 0 integer_value (codes "output") table;
 }
 
+-- the rule that a table states: what a packet has to have, where that is not left out, and the class that it goes to
 abbrev pub rule_row : Members → RuleRow
 rule_row table = record {
   input = found integer_value (codes "input") table;
@@ -88,14 +95,16 @@ rule_row table = record {
   class = found_or 0 integer_value (codes "class") table;
 }
 
--- ---- the keys of the arrays' elements
+-- ## The keys of the arrays' elements
 
+-- the keys of a class: both may be left out, and the cost is at least 1
 abbrev pub class_keys : Place → List Key
 class_keys place =
     key place (codes "priority") (optional (wide_from 0))
     ∷ key place (codes "cost") (optional (wide_from 1))
     ∷ []
 
+-- the keys of a port: only the file that it writes has to be there
 abbrev pub port_keys : Place → List Key
 port_keys place =
     key place (codes "read") (optional file_name)
@@ -107,12 +116,14 @@ port_keys place =
 abbrev pub is_new : List (List ℕ) → List ℕ → Bool
 is_new earlier mac = not (list_any (bytes_eq mac) earlier)
 
+-- the keys of an address, among so many ports: both have to be there, and the address is none of the earlier ones
 abbrev pub address_keys : ℕ → List (List ℕ) → Place → List Key
 address_keys ports earlier place =
     key place (codes "mac") (required (and_then address address_value (is_new earlier) DuplicateAddress))
     ∷ key place (codes "output") (required (number_below 63 ports))
     ∷ []
 
+-- the keys of a rule, among so many ports and classes: only the class has to be there
 abbrev pub rule_keys : ℕ → ℕ → Place → List Key
 rule_keys ports classes place =
     key place (codes "input") (optional (number_below 63 ports))
@@ -122,24 +133,26 @@ rule_keys ports classes place =
     ∷ key place (codes "class") (required (number_below 15 classes))
     ∷ []
 
--- ---- the top table
+-- ## The top table
 
 -- the tables of an array
 abbrev pub rows_in : Array → Members → List Members
 rows_in array top = map members (elements_at (get_member (array_key array) top))
 
--- the classes: one with the defaults where none is stated
+-- these classes, or one with the defaults where there are none
 abbrev pub or_one : List ClassRow → List ClassRow
 or_one [] = default_class_row ∷ []
 or_one (row ∷ rows) = row ∷ rows
 
+-- the classes: one with the defaults where none is stated
 abbrev pub class_rows : Members → List ClassRow
 class_rows top = or_one (map class_row (rows_in Classes top))
 
--- how many classes and ports there are
+-- how many classes there are
 abbrev pub classes_in : Members → ℕ
 classes_in top = length (class_rows top)
 
+-- how many ports there are
 abbrev pub ports_in : Members → ℕ
 ports_in top = length (rows_in Ports top)
 
@@ -162,27 +175,33 @@ file_keys place =
     ∷ key place (codes "log") (required file_name)
     ∷ []
 
--- the arrays
+-- the array of classes: 1 to 16, where it is not left out
 abbrev pub class_array : Key
 class_array = array Classes (optional (array_of 1 16)) (λ i. class_keys)
 
+-- the array of ports, which has to be there: 1 to 64
 abbrev pub port_array : Key
 port_array = array Ports (required (array_of 1 64)) (λ i. port_keys)
 
+-- the array of addresses: at most 4096, each of them unlike those before it
 abbrev pub address_array : Members → Key
 address_array top = array Addresses (optional (array_of 0 4096)) (λ i. address_keys (ports_in top) (take i (map mac_in (rows_in Addresses top))))
 
+-- the array of rules: at most 256
 abbrev pub rule_array : Members → Key
 rule_array top = array Rules (optional (array_of 0 256)) (λ i. rule_keys (ports_in top) (classes_in top))
 
+-- the arrays, in the order of their checks
 abbrev pub array_keys : Members → List Key
 array_keys top = class_array ∷ port_array ∷ address_array top ∷ rule_array top ∷ []
 
+-- all keys of the top table, in the order of their checks
 abbrev pub top_keys : Members → List Key
 top_keys top = figure_keys Top ++ (file_keys Top ++ array_keys top)
 
--- ---- the tables
+-- ## The tables
 
+-- the figures that the top table states, and the defaults of those that are left out
 abbrev pub figures_of : Members → Figures
 figures_of top = record {
   cell_bytes = found_or 64 integer_value (codes "cell_bytes") top;
@@ -193,6 +212,7 @@ figures_of top = record {
   default_class = found_or 0 integer_value (codes "default_class") top;
 }
 
+-- the tables that the top table gives
 unfoldable pub tables_of : Members → Tables
 tables_of top = record {
   cell_bytes = (figures_of top).cell_bytes;
@@ -209,7 +229,7 @@ tables_of top = record {
   rules = map rule_row (rows_in Rules top);
 }
 
--- ---- what is checked across the keys
+-- ## What is checked across the keys
 
 -- a key that names a port or a class which may not be there
 abbrev pub is_there : List ℕ → ℕ → ℕ → Check
@@ -225,19 +245,23 @@ pub record Named : Type 0 where
 abbrev pub clash : Named → Named → Bool
 clash a b = not (b.is_read && a.is_read) && bytes_eq a.file b.file
 
+-- a file to be written, which a key names
 abbrev pub written_at : Place → List ℕ → List ℕ → Named
 written_at place name file = record { path = path place name; file = file; is_read = false }
 
+-- a file to be read, which a key names
 abbrev pub read_at : Place → List ℕ → List ℕ → Named
 read_at place name file = record { path = path place name; file = file; is_read = true }
 
--- the files that a port names, in order
+-- the file that a port reads, if it names one
 abbrev pub read_of : ℕ → PortRow → List Named
 read_of i row = unwrap_or (option_map (λ file. read_at (Element Ports i) (codes "read") file ∷ []) row.read) []
 
+-- the files that a port names, in order
 abbrev pub names_of : ℕ → PortRow → List Named
 names_of i row = read_of i row ++ (written_at (Element Ports i) (codes "write") row.write ∷ [])
 
+-- the files that ports name, in order, the first port having this index
 abbrev pub files_of : ℕ → List PortRow → List Named
 files_of i [] = []
 files_of i (row ∷ rows) = names_of i row ++ files_of (suc i) rows
@@ -250,13 +274,15 @@ files_before t i = written_at Top (codes "trace") t.trace ∷ written_at Top (co
 abbrev pub is_named : List ℕ → Bool → PortRow → Bool
 is_named file is_read row = unwrap_or (option_map (λ read. not is_read && bytes_eq file read) row.read) false || bytes_eq file row.write
 
--- whether the file that a port reads clashes with those before it, and the one that it writes
+-- whether the whole run or one of its first ports names the file, where that clashes
 abbrev pub is_taken : Tables → ℕ → List ℕ → Bool → Bool
 is_taken t i file is_read = bytes_eq file t.trace || (bytes_eq file t.log || list_any (is_named file is_read) (take i t.ports))
 
+-- whether the file that a port reads clashes with one that is named before it
 abbrev pub read_clashes : Tables → ℕ → PortRow → Bool
 read_clashes t i row = unwrap_or (option_map (λ read. is_taken t i read true) row.read) false
 
+-- whether the file that a port writes clashes with one that is named before it
 abbrev pub write_clashes : Tables → ℕ → PortRow → Bool
 write_clashes t i row = is_taken t i row.write false || unwrap_or (option_map (λ read. bytes_eq row.write read) row.read) false
 
@@ -280,12 +306,13 @@ default_checks top =
 abbrev pub file_check : Tables → Check
 file_check t = first (apart_from [] (files_in t))
 
--- ---- the whole text
+-- ## The whole text
 
 -- the document that the text is, if it is one
 unfoldable pub document : List ℕ → Option Members
 document text = if is_utf8 text then parse_document text else None
 
+-- the path of what is wrong with the whole text
 abbrev pub whole : List ℕ
 whole = codes "-"
 
@@ -297,17 +324,20 @@ checks_in text top =
     ∷ table_checks Top (top_keys top) top
     ++ (default_checks top ++ (file_check (tables_of top) ∷ []))
 
+-- the top table of the document that the text is: an empty one where it is none
 abbrev pub top_of : List ℕ → Members
 top_of text = unwrap_or (document text) no_members
 
+-- the first check of a text that does not hold
 abbrev pub verdict : List ℕ → Check
 verdict text = first (checks_in text (top_of text))
 
--- what a text is read as: the tables where each check holds, or the first check that does not
+-- the tables where the check holds, or what it refuses them for
 abbrev pub judged : Check → Tables → Result Tables Refused
 judged None tables = Ok tables
 judged (Some refused) tables = Err refused
 
+-- what a text is read as: the tables where each check holds, or the first check that does not
 unfoldable pub read_or_refused : List ℕ → Result Tables Refused
 read_or_refused text = judged (verdict text) (tables_of (top_of text))
 

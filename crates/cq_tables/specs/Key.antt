@@ -11,11 +11,12 @@ use Rattle.cq_tables.specs.declared.place.Place.{Place}
 use Rattle.cq_tables.specs.Check.{Check, at, refused}
 use Rattle.cq_tables.specs.Place.{path}
 
--- what is wrong with the value of a key: it may have to be there
+-- what is wrong with the value of a key that has to be there
 abbrev pub required : (Data → Option Wrong) → Option Data → Option Wrong
 required rule None = Some Missing
 required rule (Some d) = rule d
 
+-- what is wrong with the value of a key that may be left out
 abbrev pub optional : (Data → Option Wrong) → Option Data → Option Wrong
 optional rule None = None
 optional rule (Some d) = rule d
@@ -47,13 +48,15 @@ unfoldable pub least_unknown : List (List ℕ) → Members → Option (List ℕ)
 least_unknown names no_members = None
 least_unknown names (member k d ms) = if is_among names k then least_unknown names ms else lesser k (least_unknown names ms)
 
+-- a table has no key but these, or else the least other one is told
 abbrev pub no_other : Place → List (List ℕ) → Members → Check
 no_other place names table = option_map (λ name. refused (path place name) UnknownKey) (least_unknown names table)
 
--- the check of a key, and the checks of several
+-- the check of a key in a table
 abbrev pub check_of : Members → Key → Check
 check_of table k = k.check (get_member k.name table)
 
+-- the checks of several keys in a table, in order
 abbrev pub checks_of : Members → List Key → List Check
 checks_of table keys = map (check_of table) keys
 
@@ -65,5 +68,6 @@ table_checks place keys table = no_other place (map (λ k. k.name) keys) table �
 abbrev pub found : {A : Type 0} → (Data → A) → List ℕ → Members → Option A
 found value name table = option_map value (get_member name table)
 
+-- what a key holds, or the default where it is left out
 abbrev pub found_or : {A : Type 0} → A → (Data → A) → List ℕ → Members → A
 found_or default value name table = unwrap_or (found value name table) default

@@ -33,6 +33,7 @@ natural (negsuc n) = None
 abbrev pub integer_in : ℕ → ℕ → Data → Option Wrong
 integer_in least most d = typed (as_integer d) (λ z. unless (is_within least most (natural z)) OutOfRange)
 
+-- what an integer that is not below zero says; any other value says 0
 abbrev pub integer_value : Data → ℕ
 integer_value d = unwrap_or (option_and_then natural (as_integer d)) 0
 
@@ -40,17 +41,20 @@ integer_value d = unwrap_or (option_and_then natural (as_integer d)) 0
 unfoldable pub written : List ℕ → Option ℕ
 written text = if is_from 1 39 (length text) && all_ascii_digits text && nat_lt (digits_value 10 text) (2 ^ 128) then Some (digits_value 10 text) else None
 
--- wide numbers from a least one on, below 2^128: integers, or texts of digits
+-- an integer or a text of digits as a wide number, which is below 2^128; the inner None is one that writes no such number
 abbrev pub wide_number : Data → Option (Option ℕ)
 wide_number d = option_or (option_map natural (as_integer d)) (option_map written (as_str d))
 
+-- the number is there, and not below the least
 abbrev pub is_at_least : ℕ → Option ℕ → Bool
 is_at_least least None = false
 is_at_least least (Some n) = nat_le least n
 
+-- wide numbers from a least one on
 abbrev pub wide_from : ℕ → Data → Option Wrong
 wide_from least d = typed (wide_number d) (λ n. unless (is_at_least least n) OutOfRange)
 
+-- what a wide number says; any other value says 0
 abbrev pub wide_value : Data → ℕ
 wide_value d = unwrap_or (unwrap_or (wide_number d) None) 0
 
@@ -58,6 +62,7 @@ wide_value d = unwrap_or (unwrap_or (wide_number d) None) 0
 abbrev pub file_name : Data → Option Wrong
 file_name d = typed (as_str d) (λ text. unless (is_from 1 4096 (length text)) OutOfRange)
 
+-- what a text says; any other value says the empty text
 abbrev pub text_value : Data → List ℕ
 text_value d = unwrap_or (as_str d) []
 
@@ -69,9 +74,11 @@ discipline_of text =
     else if bytes_eq text (codes "fair") then Some Fair
     else None
 
+-- texts: names of disciplines
 abbrev pub discipline : Data → Option Wrong
 discipline d = typed (as_str d) (λ text. unless (is_some (discipline_of text)) OutOfRange)
 
+-- the discipline that a text names; any other value says first-come
 abbrev pub kind_value : Data → Kind
 kind_value d = unwrap_or (discipline_of (text_value d)) FirstCome
 
@@ -95,6 +102,7 @@ group text k =
     else if slice_index text (3 * k + 2) == 58 then hex_pair (hex_digit (slice_index text (3 * k))) (hex_digit (slice_index text (3 * k + 1)))
     else None
 
+-- the second step, on what the first gives, if it gives something
 infixl 10 ◌>>=◌
 abbrev ◌>>=◌ : {A B : Type 0} → Option A → (A → Option B) → Option B
 o >>= f = option_and_then f o
@@ -110,20 +118,24 @@ address_of text = if length text == 17 then (do
   f ← group text 5
   if a % 2 == 0 then Some (a ∷ b ∷ c ∷ d ∷ e ∷ f ∷ []) else None) else None
 
+-- texts: addresses of one station
 abbrev pub address : Data → Option Wrong
 address d = typed (as_str d) (λ text. unless (is_some (address_of text)) BadAddress)
 
+-- the address that a text writes; any other value says the empty list
 abbrev pub address_value : Data → List ℕ
 address_value d = unwrap_or (address_of (text_value d)) []
 
--- arrays of so many elements
+-- the elements of an array, as a list
 abbrev pub listed : Items → List Data
 listed no_items = []
 listed (item d ds) = d ∷ listed ds
 
+-- arrays that have from the least to the most elements
 abbrev pub array_of : ℕ → ℕ → Data → Option Wrong
 array_of least most d = typed (as_array d) (λ items. unless (is_from least most (length (listed items))) OutOfRange)
 
+-- the elements of an array; any other value has none
 abbrev pub elements : Data → List Data
 elements d = listed (unwrap_or (as_array d) no_items)
 
@@ -131,5 +143,6 @@ elements d = listed (unwrap_or (as_array d) no_items)
 abbrev pub table_type : Data → Option Wrong
 table_type d = unless (is_some (as_table d)) WrongType
 
+-- the members of a table; any other value has none
 abbrev pub members : Data → Members
 members d = unwrap_or (as_table d) no_members
