@@ -1,5 +1,5 @@
 // The figures of a configuration: one integer each.
-ghost use Rattle.std.specs.Prelude.{◌≡◌, ◌≤◌, None, IfOk, IfErr};
+ghost use Rattle.std.specs.Prelude.{◌≡◌, None, IfOk, IfErr};
 ghost use Rattle.std.specs.Int.{IsInRange};
 ghost use Rattle.toml.specs.View.{table_view};
 ghost use Rattle.cq_tables.specs.Check.{Refuses, first};

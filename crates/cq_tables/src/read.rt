@@ -1,9 +1,9 @@
 // The tables that a configuration gives.
-ghost use Rattle.std.specs.Prelude.{◌≡◌, ◌<◌, ◌++◌, ◌∷◌, [], None, Some, Ok, IfOk, IfErr, is_some};
+ghost use Rattle.std.specs.Prelude.{◌≡◌, ◌<◌, ◌++◌, None, Some, Ok, IfOk, IfErr, is_some};
 ghost use Rattle.cq_route.specs.Tables.{AreTables};
 ghost use Rattle.toml.specs.View.{table_view};
 ghost use Rattle.cq_tables.specs.Check.{Refuses, at, first, unless};
-ghost use Rattle.cq_tables.specs.Document.{IsRefusedFor, default_checks, document, file_check, is_there, read_or_refused, tables_of, top_keys, whole};
+ghost use Rattle.cq_tables.specs.Document.{IsRefusedFor, default_checks, document, is_there, read_or_refused, tables_of, top_keys, whole};
 ghost use Rattle.cq_tables.specs.Key.{table_checks};
 
 use crate::entries::Entries;

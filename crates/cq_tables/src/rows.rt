@@ -1,10 +1,8 @@
 // The rows of the arrays, each read from one element.
-ghost use Rattle.std.specs.Prelude.{◌≡◌, ◌≤◌, ◌<◌, ℕ, List, None, IfOk, IfErr, IfSome, map, take};
-ghost use Rattle.std.specs.Str.{bytes_eq};
-ghost use Rattle.std.specs.BTreeSet.{contains};
+ghost use Rattle.std.specs.Prelude.{◌≡◌, ◌≤◌, ◌<◌, None, IfOk, IfErr, IfSome};
 ghost use Rattle.toml.specs.View.{view, table_view};
 ghost use Rattle.cq_tables.specs.Check.{Refuses, at, first};
-ghost use Rattle.cq_tables.specs.Document.{address_keys, address_row, class_keys, class_row, element_check, port_keys, port_kind, port_row, rule_keys, rule_row};
+ghost use Rattle.cq_tables.specs.Document.{class_keys, class_row, port_keys, port_kind, port_row, rule_keys, rule_row};
 ghost use Rattle.cq_tables.specs.Key.{table_checks};
 ghost use Rattle.cq_tables.specs.Place.{element_path};
 ghost use Rattle.cq_tables.specs.Value.{members, table_type};
@@ -13,9 +11,8 @@ use crate::entries::Entries;
 use crate::place::{Array, Place};
 use crate::refusal::{TableRefusal, Wrong, element_refusal};
 use cq_base::{ClassRow, Kind};
-use cq_route::{AddressRow, PortRow, RuleRow};
+use cq_route::{PortRow, RuleRow};
 use std::alloc::Global;
-use std::collections::BTreeSet;
 use toml::Value;
 
 /// The table that an element of an array is.

@@ -3,7 +3,7 @@ ghost use Rattle.std.specs.Prelude.{◌≡◌, ◌≢◌, ◌≤◌, ◌<◌, No
 ghost use Rattle.std.specs.Int.{IsInRange};
 ghost use Rattle.std.specs.List.{AllPairs};
 ghost use Rattle.toml.specs.View.{table_view};
-ghost use Rattle.cq_tables.specs.Check.{Refuses, first};
+ghost use Rattle.cq_tables.specs.Check.{Refuses};
 ghost use Rattle.cq_tables.specs.Document.{address_array, address_row, class_array, class_rows, classes_in, port_array, port_kind, port_row, ports_in, rows_in, rule_array, rule_row};
 ghost use Rattle.cq_tables.specs.Key.{check_of};
 
