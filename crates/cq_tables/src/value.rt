@@ -154,8 +154,8 @@ fn hex_digit(byte: u8) -> Option<u8>
 {
     match byte {
         b'0'..=b'9' => Some(byte - b'0'),
-        b'A'..=b'F' => Some(byte - 55),
-        b'a'..=b'f' => Some(byte - 87),
+        b'A'..=b'F' => Some(byte - b'A' + 10),
+        b'a'..=b'f' => Some(byte - b'a' + 10),
         _ => None,
     }
 }
