@@ -10,6 +10,7 @@ ghost use Rattle.cq_tables.specs.Key.{key_check, required, table_checks};
 ghost use Rattle.cq_tables.specs.Value.{address, address_value, members};
 
 use crate::entries::Entries;
+use crate::limits::GREATEST_PORT;
 use crate::place::Array;
 use crate::refusal::{TableRefusal, Wrong};
 use crate::rows::element;
@@ -68,7 +69,7 @@ fn address_row(
 {
     entries.only(&ADDRESS_KEYS)?;
     let mac = new_address(entries, known)?;
-    let output = entries.required_number("output", 63, ports)?;
+    let output = entries.required_number("output", GREATEST_PORT, ports)?;
     Ok(AddressRow { mac, output })
 }
 

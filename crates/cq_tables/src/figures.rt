@@ -7,6 +7,11 @@ ghost use Rattle.cq_tables.specs.Document.{figure_keys, figures_of};
 ghost use Rattle.cq_tables.specs.Key.{checks_of};
 
 use crate::entries::Entries;
+use crate::limits::{
+    DEFAULT_CELL_BYTES, DEFAULT_LIMIT_BYTES, DEFAULT_SLOT_NS, DEFAULT_WORKERS, GREATEST_CLASS,
+    GREATEST_PORT, LEAST_LIMIT_BYTES, MOST_CELL_BYTES, MOST_LIMIT_BYTES, MOST_SLOT_NS,
+    MOST_WORKERS, VERSION,
+};
 use crate::refusal::TableRefusal;
 use cq_base::{Class, Port};
 
@@ -31,13 +36,18 @@ pub fn figures_in(entries: Entries) -> Result<Figures, TableRefusal>
     ensures workers { IfOk result (λ figures. IsInRange 1 64 figures.workers) }
     ensures refused { IfErr result (Refuses (first (checks_of (table_view entries.entry.table.now) (figure_keys entries.entry.place)))) }
 {
-    let _version = entries.required_integer("version", 1, 1)?;
-    let cell_bytes = entries.integer_or("cell_bytes", 1, 65_535, 64)?;
-    let slot_ns = entries.integer_or("slot_ns", 1, 1_000_000_000, 512)?;
-    let limit_bytes = entries.integer_or("limit_bytes", 24, 268_435_456, 67_108_864)?;
-    let workers = entries.integer_or("workers", 1, 64, 1)?;
-    let default_output = entries.integer_or("default_output", 0, 63, 0)?;
-    let default_class = entries.integer_or("default_class", 0, 15, 0)?;
+    let _version = entries.required_integer("version", VERSION, VERSION)?;
+    let cell_bytes = entries.integer_or("cell_bytes", 1, MOST_CELL_BYTES, DEFAULT_CELL_BYTES)?;
+    let slot_ns = entries.integer_or("slot_ns", 1, MOST_SLOT_NS, DEFAULT_SLOT_NS)?;
+    let limit_bytes = entries.integer_or(
+        "limit_bytes",
+        LEAST_LIMIT_BYTES,
+        MOST_LIMIT_BYTES,
+        DEFAULT_LIMIT_BYTES,
+    )?;
+    let workers = entries.integer_or("workers", 1, MOST_WORKERS, DEFAULT_WORKERS)?;
+    let default_output = entries.integer_or("default_output", 0, GREATEST_PORT as u64, 0)?;
+    let default_class = entries.integer_or("default_class", 0, GREATEST_CLASS as u64, 0)?;
     Ok(Figures {
         cell_bytes: cell_bytes as u32,
         slot_ns,

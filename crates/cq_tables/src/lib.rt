@@ -11,6 +11,7 @@ mod entries;
 mod figures;
 mod files;
 mod known;
+mod limits;
 mod place;
 mod read;
 mod refusal;

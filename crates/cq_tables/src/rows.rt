@@ -8,6 +8,10 @@ ghost use Rattle.cq_tables.specs.Place.{element_path};
 ghost use Rattle.cq_tables.specs.Value.{members, table_type};
 
 use crate::entries::Entries;
+use crate::limits::{
+    DEFAULT_COST, DEFAULT_PRIORITY, GREATEST_CLASS, GREATEST_DSCP, GREATEST_ETHER_TYPE,
+    GREATEST_PCP, GREATEST_PORT, LEAST_COST,
+};
 use crate::place::{Array, Place};
 use crate::refusal::{TableRefusal, Wrong, element_refusal};
 use cq_base::{ClassRow, Kind};
@@ -47,8 +51,8 @@ pub fn class_row(entries: Entries) -> Result<ClassRow, TableRefusal>
     ensures refused { IfErr result (Refuses (first (table_checks entries.entry.place (class_keys entries.entry.place) (table_view entries.entry.table.now)))) }
 {
     entries.only(&CLASS_KEYS)?;
-    let priority = entries.wide_or("priority", 0, 0)?;
-    let cost = entries.wide_or("cost", 1, 1)?;
+    let priority = entries.wide_or("priority", 0, DEFAULT_PRIORITY)?;
+    let cost = entries.wide_or("cost", LEAST_COST, DEFAULT_COST)?;
     Ok(ClassRow { priority, cost })
 }
 
@@ -89,11 +93,11 @@ pub fn rule_row(entries: Entries, ports: usize, classes: usize) -> Result<RuleRo
     ensures refused { IfErr result (Refuses (first (table_checks entries.entry.place (rule_keys ports classes entries.entry.place) (table_view entries.entry.table.now)))) }
 {
     entries.only(&RULE_KEYS)?;
-    let input = entries.number("input", 63, ports)?;
-    let pcp = entries.integer("pcp", 0, 7)?;
-    let ether_type = entries.integer("ether_type", 0, 65_535)?;
-    let dscp = entries.integer("dscp", 0, 63)?;
-    let class = entries.required_number("class", 15, classes)?;
+    let input = entries.number("input", GREATEST_PORT, ports)?;
+    let pcp = entries.integer("pcp", 0, GREATEST_PCP)?;
+    let ether_type = entries.integer("ether_type", 0, GREATEST_ETHER_TYPE)?;
+    let dscp = entries.integer("dscp", 0, GREATEST_DSCP)?;
+    let class = entries.required_number("class", GREATEST_CLASS, classes)?;
     Ok(RuleRow {
         input,
         pcp: pcp.map(|n| n as u8),

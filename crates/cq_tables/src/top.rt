@@ -10,6 +10,9 @@ ghost use Rattle.cq_tables.specs.Key.{check_of};
 use crate::addresses::address_rows;
 use crate::arrays::{PortEntries, class_rows, port_rows, rule_rows};
 use crate::entries::Entries;
+use crate::limits::{
+    DEFAULT_COST, DEFAULT_PRIORITY, MOST_ADDRESSES, MOST_CLASSES, MOST_PORTS, MOST_RULES,
+};
 use crate::place::{Array, Place};
 use crate::refusal::TableRefusal;
 use cq_base::{ClassRow, NoMemory};
@@ -31,12 +34,12 @@ pub fn classes(alloc: Global, top: &Table) -> Result<Vec<ClassRow>, TableRefusal
         place,
         table: top,
     };
-    let values = entries.elements("class", 1, 16)?;
+    let values = entries.elements("class", 1, MOST_CLASSES)?;
     let mut rows = class_rows(alloc, values)?;
     if rows.is_empty() {
         let default = ClassRow {
-            priority: 0,
-            cost: 1,
+            priority: DEFAULT_PRIORITY,
+            cost: DEFAULT_COST,
         };
         rows.push(default).map_err(NoMemory::from)?;
     }
@@ -59,7 +62,7 @@ pub fn ports(alloc: Global, top: &Table) -> Result<PortEntries, TableRefusal>
         place,
         table: top,
     };
-    let values = entries.required_elements("port", 1, 64)?;
+    let values = entries.required_elements("port", 1, MOST_PORTS)?;
     port_rows(alloc, values)
 }
 
@@ -78,7 +81,7 @@ pub fn addresses(alloc: Global, top: &Table, ports: usize) -> Result<Vec<Address
         place,
         table: top,
     };
-    let values = entries.elements("address", 0, 4096)?;
+    let values = entries.elements("address", 0, MOST_ADDRESSES)?;
     address_rows(alloc, values, ports)
 }
 
@@ -103,6 +106,6 @@ pub fn rules(
         place,
         table: top,
     };
-    let values = entries.elements("rule", 0, 256)?;
+    let values = entries.elements("rule", 0, MOST_RULES)?;
     rule_rows(alloc, values, ports, classes)
 }

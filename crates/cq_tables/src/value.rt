@@ -7,6 +7,7 @@ ghost use Rattle.std.specs.Int.{IsInRange};
 ghost use Rattle.cq_tables.specs.Document.{number_below};
 ghost use Rattle.cq_tables.specs.Value.{is_from, wide_from, wide_value, address, address_of, address_value, array_of, discipline, discipline_of, elements, file_name, group, hex_digit, integer_in, integer_value, kind_value, natural, text_value, written};
 
+use crate::limits::{ADDRESS_TEXT_BYTES, LONGEST_FILE_NAME, MOST_DIGITS};
 use crate::refusal::Wrong;
 use cq_base::Kind;
 use toml::{Table, Value};
@@ -55,7 +56,7 @@ fn is_all_digits(text: &str) -> bool
 fn is_numeral(text: &str) -> bool
     ensures { result ≡ (is_from 1 39 (length text.now) && all_ascii_digits text.now) }
 {
-    is_from(1, 39, text.len()) && is_all_digits(text)
+    is_from(1, MOST_DIGITS, text.len()) && is_all_digits(text)
 }
 
 /// The number of a port or a class, which is below the count.
@@ -113,7 +114,7 @@ pub fn file_name<'a>(value: &'a Value) -> Result<&'a str, Wrong>
 {
     match value.as_str() {
         None => Err(Wrong::WrongType),
-        Some(text) if is_from(1, 4096, text.len()) => Ok(text),
+        Some(text) if is_from(1, LONGEST_FILE_NAME, text.len()) => Ok(text),
         Some(_) => Err(Wrong::OutOfRange),
     }
 }
@@ -180,7 +181,7 @@ fn group(text: &[u8], k: usize) -> Option<u8>
 fn address_of(text: &[u8]) -> Option<[u8; 6]>
     ensures { result ≡ address_of text.now }
 {
-    if text.len() != 17 {
+    if text.len() != ADDRESS_TEXT_BYTES {
         return None;
     }
     let a = group(text, 0)?;

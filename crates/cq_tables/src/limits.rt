@@ -1,0 +1,76 @@
+// The limits of what a configuration says, and what stands where it says nothing.
+
+/// The version that a configuration states.
+pub const VERSION: u64 = 1;
+
+/// The most bytes of a packet that one cell carries.
+pub const MOST_CELL_BYTES: u64 = 65_535;
+
+/// The bytes of a cell where none are stated.
+pub const DEFAULT_CELL_BYTES: u64 = 64;
+
+/// The most nanoseconds of a slot: one second.
+pub const MOST_SLOT_NS: u64 = 1_000_000_000;
+
+/// The nanoseconds of a slot where none are stated.
+pub const DEFAULT_SLOT_NS: u64 = 512;
+
+/// The least limit of a capture in bytes: the header of its file.
+pub const LEAST_LIMIT_BYTES: u64 = 24;
+
+/// The greatest limit of a capture in bytes.
+pub const MOST_LIMIT_BYTES: u64 = 268_435_456;
+
+/// The limit of a capture in bytes where none is stated.
+pub const DEFAULT_LIMIT_BYTES: u64 = 67_108_864;
+
+/// The most workers.
+pub const MOST_WORKERS: u64 = 64;
+
+/// The workers where none are stated.
+pub const DEFAULT_WORKERS: u64 = 1;
+
+/// The most classes.
+pub const MOST_CLASSES: usize = 16;
+
+/// The greatest number of a class, since they count from 0.
+pub const GREATEST_CLASS: u16 = 15;
+
+/// The most ports.
+pub const MOST_PORTS: usize = 64;
+
+/// The greatest number of a port, since they count from 0.
+pub const GREATEST_PORT: u16 = 63;
+
+/// The most addresses.
+pub const MOST_ADDRESSES: usize = 4096;
+
+/// The most rules.
+pub const MOST_RULES: usize = 256;
+
+/// The priority of a class where none is stated.
+pub const DEFAULT_PRIORITY: u128 = 0;
+
+/// The least cost of a class.
+pub const LEAST_COST: u128 = 1;
+
+/// The cost of a class where none is stated.
+pub const DEFAULT_COST: u128 = 1;
+
+/// The greatest priority code point (IEEE 802.1Q), of three bits.
+pub const GREATEST_PCP: u64 = 7;
+
+/// The greatest EtherType (IEEE 802.3), of two bytes.
+pub const GREATEST_ETHER_TYPE: u64 = 65_535;
+
+/// The greatest code point of differentiated services (RFC 2474), of six bits.
+pub const GREATEST_DSCP: u64 = 63;
+
+/// The most bytes of a file name.
+pub const LONGEST_FILE_NAME: usize = 4096;
+
+/// The most digits of a wide number: as many as the greatest number below 2^128 has.
+pub const MOST_DIGITS: usize = 39;
+
+/// The bytes of an address as text: six groups of two digits, and five colons.
+pub const ADDRESS_TEXT_BYTES: usize = 17;
