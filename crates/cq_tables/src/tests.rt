@@ -1,5 +1,5 @@
 //! Configurations from outside, each with the tables or the refusal that it gives.
-use crate::{TableRefusal, read_tables};
+use crate::{TableRefusal, Tables, read_tables};
 use cq_base::Kind;
 use std::alloc::Global;
 use std::test::Fail;
@@ -41,69 +41,71 @@ fn the_first_check_that_fails_is_told(rt: HostRuntime) -> Result<(), Fail> {
     Ok(())
 }
 
+/// Changes of the configuration of two ports: what is replaced, by what, and what it is refused for.
+const CHANGES: [(&str, &str, &str); 18] = [
+    ("00:01\"", "00:00\"", "C6 at address[1].mac"),
+    ("\"log.txt\"", "\"trace.txt\"", "C7 at log"),
+    (
+        "\"02:00:00:00:00:00\"",
+        "\"03:00:00:00:00:00\"",
+        "C8 at address[0].mac",
+    ),
+    (
+        "version = 1\n",
+        "version = 1\ndefault_output = 2\n",
+        "C9 at default_output",
+    ),
+    (
+        "version = 1\n",
+        "version = 1\ndefault_class = 1\n",
+        "C9 at default_class",
+    ),
+    ("trace = \"trace.txt\"\n", "zzz = 1\n", "C5 at zzz"),
+    ("version = 1\n", "version = 1\nclass = []\n", "C4 at class"),
+    ("00:01\"", "00:1\"", "C8 at address[1].mac"),
+    ("\"out1.pcap\"", "\"in0.pcap\"", "C7 at port[1].write"),
+    ("\"in1.pcap\"", "\"out0.pcap\"", "C7 at port[1].read"),
+    ("output = 1", "output = 2", "C9 at address[1].output"),
+    (
+        "output = 1\n",
+        "output = 1\n[[rule]]\nclass = 1\n",
+        "C9 at rule[0].class",
+    ),
+    (
+        "output = 1\n",
+        "output = 1\n[[rule]]\npcp = 8\n",
+        "C4 at rule[0].pcp",
+    ),
+    (
+        "output = 1\n",
+        "output = 1\n[[class]]\ncost = \"0\"\n",
+        "C4 at class[0].cost",
+    ),
+    (
+        "output = 1\n",
+        "output = 1\n[[class]]\ncost = -1\n",
+        "C4 at class[0].cost",
+    ),
+    (
+        "output = 1\n",
+        "output = 1\n[[class]]\ncost = \"340282366920938463463374607431768211456\"\n",
+        "C4 at class[0].cost",
+    ),
+    (
+        "output = 1\n",
+        "output = 1\n[[class]]\npriority = 1.5\n",
+        "C3 at class[0].priority",
+    ),
+    (
+        "\"out1.pcap\"\n",
+        "\"out1.pcap\"\ndiscipline = \"fifo\"\n",
+        "C4 at port[1].discipline",
+    ),
+];
+
 #[test]
 fn a_change_of_a_good_configuration_is_told_at_its_key(rt: HostRuntime) -> Result<(), Fail> {
-    let cases: [(&str, &str, &str); 18] = [
-        ("00:01\"", "00:00\"", "C6 at address[1].mac"),
-        ("\"log.txt\"", "\"trace.txt\"", "C7 at log"),
-        (
-            "\"02:00:00:00:00:00\"",
-            "\"03:00:00:00:00:00\"",
-            "C8 at address[0].mac",
-        ),
-        (
-            "version = 1\n",
-            "version = 1\ndefault_output = 2\n",
-            "C9 at default_output",
-        ),
-        (
-            "version = 1\n",
-            "version = 1\ndefault_class = 1\n",
-            "C9 at default_class",
-        ),
-        ("trace = \"trace.txt\"\n", "zzz = 1\n", "C5 at zzz"),
-        ("version = 1\n", "version = 1\nclass = []\n", "C4 at class"),
-        ("00:01\"", "00:1\"", "C8 at address[1].mac"),
-        ("\"out1.pcap\"", "\"in0.pcap\"", "C7 at port[1].write"),
-        ("\"in1.pcap\"", "\"out0.pcap\"", "C7 at port[1].read"),
-        ("output = 1", "output = 2", "C9 at address[1].output"),
-        (
-            "output = 1\n",
-            "output = 1\n[[rule]]\nclass = 1\n",
-            "C9 at rule[0].class",
-        ),
-        (
-            "output = 1\n",
-            "output = 1\n[[rule]]\npcp = 8\n",
-            "C4 at rule[0].pcp",
-        ),
-        (
-            "output = 1\n",
-            "output = 1\n[[class]]\ncost = \"0\"\n",
-            "C4 at class[0].cost",
-        ),
-        (
-            "output = 1\n",
-            "output = 1\n[[class]]\ncost = -1\n",
-            "C4 at class[0].cost",
-        ),
-        (
-            "output = 1\n",
-            "output = 1\n[[class]]\ncost = \"340282366920938463463374607431768211456\"\n",
-            "C4 at class[0].cost",
-        ),
-        (
-            "output = 1\n",
-            "output = 1\n[[class]]\npriority = 1.5\n",
-            "C3 at class[0].priority",
-        ),
-        (
-            "\"out1.pcap\"\n",
-            "\"out1.pcap\"\ndiscipline = \"fifo\"\n",
-            "C4 at port[1].discipline",
-        ),
-    ];
-    for (old, new, said) in cases {
+    for (old, new, said) in CHANGES {
         let text = TWO_PORTS.replacen(rt.alloc(), old, new, 1)?;
         let answer = said_of(rt.alloc(), text.as_bytes())?;
         assert_eq!(rt; answer.as_str(), said, "{new}");
@@ -131,13 +133,21 @@ fn a_text_without_ports_and_one_that_is_too_long_are_told(rt: HostRuntime) -> Re
     Ok(())
 }
 
-#[test]
-fn a_good_configuration_gives_its_tables(rt: HostRuntime) -> Result<(), Fail> {
+/// The tables of a good configuration of two ports, two classes, two addresses and a rule.
+fn good_tables(alloc: Global) -> Result<Option<Tables>, Fail> {
     let more =
         "[[class]]\npriority = \"007\"\n[[class]]\ncost = \"340282366920938463463374607431768211455\"\n[[rule]]\ninput = 1\npcp = 7\nether_type = 65535\ndscp = 63\nclass = 1\n";
-    let text = format!(in rt.alloc(); "slot_ns = 3\n{TWO_PORTS}{more}")?;
-    let text = text.replacen(rt.alloc(), "00:00:00:01", "aA:Bb:00:01", 1)?;
-    let Ok(tables) = read_tables(rt.alloc(), text.as_bytes()) else {
+    let text = format!(in alloc; "slot_ns = 3\n{TWO_PORTS}{more}")?;
+    let text = text.replacen(alloc, "00:00:00:01", "aA:Bb:00:01", 1)?;
+    match read_tables(alloc, text.as_bytes()) {
+        Ok(tables) => Ok(Some(tables)),
+        Err(_) => Ok(None),
+    }
+}
+
+#[test]
+fn a_good_configuration_gives_its_figures_and_classes(rt: HostRuntime) -> Result<(), Fail> {
+    let Some(tables) = good_tables(rt.alloc())? else {
         assert!(rt; false, "the configuration is read");
         return Ok(());
     };
@@ -157,6 +167,15 @@ fn a_good_configuration_gives_its_tables(rt: HostRuntime) -> Result<(), Fail> {
         tables.setup.kinds.as_slice(),
         [Kind::FirstCome, Kind::FirstCome].as_slice()
     );
+    Ok(())
+}
+
+#[test]
+fn a_good_configuration_gives_its_ports_addresses_and_rules(rt: HostRuntime) -> Result<(), Fail> {
+    let Some(tables) = good_tables(rt.alloc())? else {
+        assert!(rt; false, "the configuration is read");
+        return Ok(());
+    };
     let ports = tables.ports.as_slice();
     assert_eq!(rt; ports.len(), 2);
     assert_eq!(rt; ports[1].write.text(), "out1.pcap");
