@@ -69,3 +69,21 @@ fn a_cell_goes_ahead_of_less_urgent_ones_for_its_output(rt: HostRuntime) -> Resu
     assert_eq!(rt; slots_after(rt.alloc(), 1, 5)?, [0, 1, 2]);
     Ok(())
 }
+
+#[test]
+fn a_cell_is_found_by_its_output_and_by_its_id(rt: HostRuntime) -> Result<(), Fail> {
+    let mut list = InputList::new(rt.alloc(), 3, 3)?;
+    arrive(&mut list, waiting(0, 3, 0));
+    arrive(&mut list, waiting(1, 0, 1));
+    arrive(&mut list, waiting(0, 1, 2));
+    assert_eq!(rt; list.front_for(0), Some(waiting(0, 1, 2)));
+    assert_eq!(rt; list.front_for(1), Some(waiting(1, 0, 1)));
+    assert_eq!(rt; list.front_for(2), None);
+    assert_eq!(rt; list.place_for(0), Some(0));
+    assert_eq!(rt; list.place_for(1), Some(2));
+    assert_eq!(rt; list.place_for(2), None);
+    assert_eq!(rt; list.thread_of(waiting(0, 3, 0).cell.id), Some(1));
+    assert_eq!(rt; list.thread_of(waiting(1, 0, 1).cell.id), Some(2));
+    assert_eq!(rt; list.thread_of(waiting(0, 3, 3).cell.id), None);
+    Ok(())
+}
