@@ -26,9 +26,6 @@ own_at k (suc i) j (line ∷ lines) own h e = own_at (k + 1) i j lines own.1 (om
 pub own_line_at : (i : ℕ) (lines : List (List Arrival)) → AreOwn 0 lines → i < length lines → AllFrom i (slice_index_or lines i [])
 own_line_at i lines own h = own_at 0 i i lines own h (omega arith)
 
-cell_in : ℕ → List Arrival → Option Cell
-cell_in slot line = option_map (λ a. a.cell) (find (is_in slot) line)
-
 -- another input is as before
 others_stay : (slot i j : ℕ) (lines : List (List Arrival)) → AreOwn 0 lines → i < length lines → j ≢ i → arriving_at (all_of (take (i + 1) lines)) slot j ≡ arriving_at (all_of (take i lines)) slot j
 others_stay slot i j lines own h other =

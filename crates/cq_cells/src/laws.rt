@@ -1,6 +1,5 @@
 // Laws of what arrives.
 ghost use Rattle.std.specs.Prelude.{◌≡◌, ℕ, ◌<◌, List, length};
-ghost use Rattle.cq_base.specs.Arriving.{Arrival, arriving_at};
 ghost use Rattle.cq_cells.specs.Schedule.{arrivals, packets_of};
 ghost use Rattle.cq_cells.specs.Traffic.{IsRecorded, IsShort, IsTraffic};
 ghost use Rattle.cq_pcap.specs.Captured.{Captured};

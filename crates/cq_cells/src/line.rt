@@ -4,7 +4,7 @@ ghost use Rattle.std.specs.Prelude.{◌≡◌, ℕ, ◌+◌, ◌-◌, ◌/◌, �
 ghost use Rattle.std.specs.List.Sorted.{IsNonDecreasingBy};
 ghost use Rattle.cq_base.specs.Arriving.{end_of};
 ghost use Rattle.cq_cells.specs.Lines.{AreAdded, IsBegun, row_cell};
-ghost use Rattle.cq_cells.specs.Schedule.{arrivals_at, cells_of, first_stamp, packets_of};
+ghost use Rattle.cq_cells.specs.Schedule.{arrivals_at, cells_of, first_stamp as first_stamp_of, packets_of};
 ghost use Rattle.cq_cells.specs.Traffic.{IsRecorded};
 ghost use Rattle.cq_route.specs.Route.{route};
 ghost use Rattle.cq_route.specs.Tables.{AreTables, ports_of};
@@ -93,13 +93,13 @@ impl Line {
         input: Port,
         captures: &[Capture],
         tables: &Tables,
-        origin: u64,
+        first_stamp: u64,
         routes: &[(Port, Class)],
         to_output: &mut [u64],
     ) -> Result<Line, NoMemory>
         requires tables { AreTables tables.now }
         requires place { input < length captures.now }
-        requires origin { origin ≡ first_stamp captures.now }
+        requires first_stamp { first_stamp ≡ first_stamp_of captures.now }
         requires routes { routes.now ≡ map (λ p. route tables.now input p.body) (packets_of captures.now input) }
         requires outputs { length to_output.old ≡ ports_of tables.now.setup }
         requires room { (j : ℕ) → j < length to_output.old → slice_index_or to_output.old j 0 + 2 ^ 28 < 2 ^ 64 }
@@ -115,7 +115,7 @@ impl Line {
         let mut free = 0;
         let mut cells = 0;
         'packets: for k in 0..packets.len() {
-            let row = row_of(tables, origin, free, packets[k], routes[k]);
+            let row = row_of(tables, first_stamp, free, packets[k], routes[k]);
             free = row.start + u64::from(row.cells);
             cells += u64::from(row.cells);
             to_output[row.output as usize] += u64::from(row.cells);
@@ -141,15 +141,21 @@ fn begun(rows: &[Row], slot: Slot) -> usize
 }
 
 // The row of a packet that can begin in this slot at the earliest.
-fn row_of(tables: &Tables, origin: u64, free: u64, packet: PacketRow, way: (Port, Class)) -> Row
+fn row_of(
+    tables: &Tables,
+    first_stamp: u64,
+    free: u64,
+    packet: PacketRow,
+    way: (Port, Class),
+) -> Row
     requires tables { AreTables tables.now }
-    ensures start { result.start ≡ max ((packet.stamp - origin) / tables.now.slot_ns) free }
+    ensures start { result.start ≡ max ((packet.stamp - first_stamp) / tables.now.slot_ns) free }
     ensures cells { result.cells ≡ cells_of packet.len tables.now.cell_bytes }
     ensures route { (result.output, result.class) ≡ way }
     ensures len { result.len ≡ packet.len }
 {
     let (output, class) = way;
-    let slot = packet.stamp.saturating_sub(origin) / tables.slot_ns;
+    let slot = packet.stamp.saturating_sub(first_stamp) / tables.slot_ns;
     Row {
         start: slot.max(free),
         cells: cells_of(packet.len, tables.cell_bytes),

@@ -3,7 +3,7 @@ ghost use Rattle.std.specs.Prelude.{◌≡◌, ℕ, ◌^◌, ◌<◌, ◌≤◌,
 ghost use Rattle.std.specs.List.{range_with_len};
 ghost use Rattle.cq_base.specs.Arriving.{arriving, arriving_at, end_of};
 ghost use Rattle.cq_cells.specs.Lines.{AreAdded, AreOwn, all_of};
-ghost use Rattle.cq_cells.specs.Schedule.{arrivals_at, first_stamp, packets_of};
+ghost use Rattle.cq_cells.specs.Schedule.{arrivals_at, first_stamp as first_stamp_of, packets_of};
 ghost use Rattle.cq_cells.specs.Scheduled.{schedule_of};
 ghost use Rattle.cq_cells.specs.Traffic.{IsRecorded, IsShort, IsTraffic, is_from, is_to, number_of};
 ghost use Rattle.cq_route.specs.Tables.{AreTables, classes_of, ports_of};
@@ -144,12 +144,12 @@ fn lines_of<R: Threads + Sync>(
     alloc: Global,
     captures: &[Capture],
     tables: &Tables,
-    origin: u64,
+    first_stamp: u64,
     to_output: &mut [u64],
 ) -> Result<Vec<Line>, NoMemory>
     requires tables { AreTables tables.now }
     requires captures { length captures.now ≡ ports_of tables.now.setup }
-    requires origin { origin ≡ first_stamp captures.now }
+    requires first_stamp { first_stamp ≡ first_stamp_of captures.now }
     requires outputs { to_output.old ≡ replicate (ports_of tables.now.setup) 0 }
     ensures lines { IfOk result (λ lines. lines.items ≡ map (arrivals_at tables.now captures.now) (range_with_len 0 (length captures.now))) }
     ensures recorded { IfOk result (λ _. (i : ℕ) → i < length captures.now → IsRecorded (packets_of captures.now i)) }
@@ -160,7 +160,7 @@ fn lines_of<R: Threads + Sync>(
     'inputs: for input in 0..captures.len() {
         let at = input as Port;
         let routes = routes_of(rt, alloc, at, &captures[input], tables)?;
-        let line = Line::of(alloc, at, captures, tables, origin, &routes, to_output)?;
+        let line = Line::of(alloc, at, captures, tables, first_stamp, &routes, to_output)?;
         lines.push_reserved(line);
     }
     Ok(lines)

@@ -48,7 +48,7 @@ overflow_add-free c =
     let within : c.packets.k < length (packets_of captures c.args.input) = omega (arith, ap (λ (qs : List Captured). length qs) same) in
     let row = c.row_of-row.ensures in
     let is : c.row_of-row.result ≡ row_of c.args.tables.now captures c.args.input c.packets.k =
-    next_row c.args.tables.now captures c.args.input c.packets.k ps c.rows-packets.result.now c.args.routes.now c.row_of-row.result c.args.origin c.packets.free same c.rows-packets.ensures.rows inside c.requires.routes c.requires.origin c.packets.invariant.so_far.ended row.start row.cells row.route row.len in
+    next_row c.args.tables.now captures c.args.input c.packets.k ps c.rows-packets.result.now c.args.routes.now c.row_of-row.result c.args.first_stamp c.packets.free same c.rows-packets.ensures.rows inside c.requires.routes c.requires.first_stamp c.packets.invariant.so_far.ended row.start row.cells row.route row.len in
     let small : AreSmall c.row_of-row.result c.packets.cells c.args.to_output.now c.packets.to_output =
     still_small c.args.tables.now captures c.args.input c.packets.k c.packets.rows.items c.packets.free c.packets.cells c.args.to_output.now c.packets.to_output c.row_of-row.result c.requires.tables.cell_bytes.0 r within c.packets.invariant.so_far is in
     let ends = small.ends in
@@ -64,7 +64,7 @@ overflow_add-cells c =
     let within : c.packets.k < length (packets_of captures c.args.input) = omega (arith, ap (λ (qs : List Captured). length qs) same) in
     let row = c.row_of-row.ensures in
     let is : c.row_of-row.result ≡ row_of c.args.tables.now captures c.args.input c.packets.k =
-    next_row c.args.tables.now captures c.args.input c.packets.k ps c.rows-packets.result.now c.args.routes.now c.row_of-row.result c.args.origin c.packets.free same c.rows-packets.ensures.rows inside c.requires.routes c.requires.origin c.packets.invariant.so_far.ended row.start row.cells row.route row.len in
+    next_row c.args.tables.now captures c.args.input c.packets.k ps c.rows-packets.result.now c.args.routes.now c.row_of-row.result c.args.first_stamp c.packets.free same c.rows-packets.ensures.rows inside c.requires.routes c.requires.first_stamp c.packets.invariant.so_far.ended row.start row.cells row.route row.len in
     let small : AreSmall c.row_of-row.result c.packets.cells c.args.to_output.now c.packets.to_output =
     still_small c.args.tables.now captures c.args.input c.packets.k c.packets.rows.items c.packets.free c.packets.cells c.args.to_output.now c.packets.to_output c.row_of-row.result c.requires.tables.cell_bytes.0 r within c.packets.invariant.so_far is in
     let all = small.all in
@@ -80,7 +80,7 @@ overflow_add-to_output c =
     let within : c.packets.k < length (packets_of captures c.args.input) = omega (arith, ap (λ (qs : List Captured). length qs) same) in
     let row = c.row_of-row.ensures in
     let is : c.row_of-row.result ≡ row_of c.args.tables.now captures c.args.input c.packets.k =
-    next_row c.args.tables.now captures c.args.input c.packets.k ps c.rows-packets.result.now c.args.routes.now c.row_of-row.result c.args.origin c.packets.free same c.rows-packets.ensures.rows inside c.requires.routes c.requires.origin c.packets.invariant.so_far.ended row.start row.cells row.route row.len in
+    next_row c.args.tables.now captures c.args.input c.packets.k ps c.rows-packets.result.now c.args.routes.now c.row_of-row.result c.args.first_stamp c.packets.free same c.rows-packets.ensures.rows inside c.requires.routes c.requires.first_stamp c.packets.invariant.so_far.ended row.start row.cells row.route row.len in
     let small : AreSmall c.row_of-row.result c.packets.cells c.args.to_output.now c.packets.to_output =
     still_small c.args.tables.now captures c.args.input c.packets.k c.packets.rows.items c.packets.free c.packets.cells c.args.to_output.now c.packets.to_output c.row_of-row.result c.requires.tables.cell_bytes.0 r within c.packets.invariant.so_far is in
     let own : c.row_of-row.result.output < length c.args.to_output.now = omega (arith, c.requires.outputs, way_to_port c.args.tables.now captures c.args.input c.packets.k c.args.routes.now c.row_of-row.result.output c.row_of-row.result.class c.requires.tables within c.requires.routes row.route) in
@@ -104,7 +104,7 @@ packets-preserved c =
     let within : c.packets.k < length (packets_of captures c.args.input) = omega (arith, ap (λ (qs : List Captured). length qs) same) in
     let row = c.row_of-row.ensures in
     let is : c.row_of-row.result ≡ row_of c.args.tables.now captures c.args.input c.packets.k =
-    next_row c.args.tables.now captures c.args.input c.packets.k ps c.rows-packets.result.now c.args.routes.now c.row_of-row.result c.args.origin c.packets.free same c.rows-packets.ensures.rows inside c.requires.routes c.requires.origin c.packets.invariant.so_far.ended row.start row.cells row.route row.len in
+    next_row c.args.tables.now captures c.args.input c.packets.k ps c.rows-packets.result.now c.args.routes.now c.row_of-row.result c.args.first_stamp c.packets.free same c.rows-packets.ensures.rows inside c.requires.routes c.requires.first_stamp c.packets.invariant.so_far.ended row.start row.cells row.route row.len in
     let more = so_far_more c.args.tables.now captures c.args.input c.packets.k c.packets.rows.items c.packets.free c.packets.cells c.args.to_output.now c.packets.to_output c.row_of-row.result (slice_index_or c.packets.to_output c.row_of-row.result.output 0 + c.from-in-packets.result) c.packets.invariant.so_far is (ap (λ (n : ℕ). slice_index_or c.packets.to_output c.row_of-row.result.output 0 + n) c.from-in-packets.ensures) in
     record {
       so_far = rw (c.push_reserved.ensures.items, c.from.ensures, c.from-cells.ensures) more;
