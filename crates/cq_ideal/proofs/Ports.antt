@@ -1,6 +1,6 @@
 -- Arrivals at the ports of a switch. No arrivals are for any ports, and one cell more, for one of the ports, is for them
 -- too. And no more cells come for an output than there are places.
-use Rattle.std.proofs.Common.{◌≡◌, ◌≢◌, ℕ, zero, suc, replicate, Result, Ok, Err, ◌+◌, ◌<◌, ◌≤◌, eqb, Bool, true, false, cond, List, [], ◌∷◌, length, get_or, set, Option, Some, None, refl, sym, ap, ◌∙◌, inl, inr, ◌⊎◌, arith, get_or-set_same, get_or-set_other}
+use Rattle.std.proofs.Common.{◌≡◌, ◌≢◌, ℕ, Result, Ok, Err, ◌+◌, ◌<◌, ◌≤◌, eqb, Bool, true, false, cond, List, [], ◌∷◌, length, get_or, set, Option, Some, None, sym, ap, ◌∙◌, inl, inr, ◌⊎◌, arith, get_or-set_same, get_or-set_other}
 use Rattle.std.specs.Prelude.{IfOk, OnOk}
 use Rattle.std.proofs.lemmas.Bool.{cases_Bool, cases_lt, eqb-true, eq-eqb}
 use Rattle.std.proofs.lemmas.List.{set_past, get_or-replicate, get_or_past, length-replicate}
@@ -8,10 +8,8 @@ use Rattle.std.proofs.lemmas.Option.{unwrap_or-slice_get, same_Some}
 use Rattle.cq_base.specs.declared.cell.Cell.{Cell}
 use Rattle.cq_base.specs.Arrivals.{arrival_at, no_arrivals, with_arrival}
 use Rattle.cq_base.specs.declared.cell.TagFault.{TagFault}
-use Rattle.cq_ideal.specs.Ideal.{IdealSwitch, answer_to, count_for, spare_at}
-use Rattle.cq_ideal.specs.IdealRun.{empty_ideal}
-use Rattle.cq_ideal.specs.IdealSlot.{IdealState, Sent}
-use Rattle.cq_ideal.specs.Parts.{list_at}
+use Rattle.cq_ideal.specs.Ideal.{answer_to, count_for}
+use Rattle.cq_ideal.specs.IdealSlot.{Sent}
 use Rattle.cq_ideal.specs.Ranking.{AreForPorts}
 
 -- nothing comes where nothing came
@@ -81,16 +79,3 @@ after_ok (Ok sent) (Ok done) P Q e p follows = follows sent p
 after_ok (Ok sent) (Err fault) P Q e p follows = tt
 after_ok (Err fault) (Ok done) P Q e p follows = absurd (let clash : ⊥ = cc in clash)
 after_ok (Err fault) (Err other) P Q e p follows = tt
-
--- at first the spare of each list is its room
-pub opening_spare : (s : IdealSwitch) (n : ℕ) (ranks : List (List ℕ)) (rooms : List ℕ) → s.rooms ≡ rooms → s.state ≡ empty_ideal n ranks → (j : ℕ) → spare_at s j ≡ get_or rooms j 0
-opening_spare s n ranks rooms r e j =
-    let room = ap (λ (l : List ℕ). get_or l j 0) r in
-    let list = ap (λ (t : IdealState). length (list_at t.lists j)) e in
-    let none = empty_list n j in
-    omega arith
-  where
-    empty_list : (n j : ℕ) → length (list_at (replicate n []) j) ≡ 0
-    empty_list zero j = refl
-    empty_list (suc n) zero = refl
-    empty_list (suc n) (suc j) = empty_list n j

@@ -7,11 +7,11 @@ use Rattle.cq_base.specs.Arriving.{Arrival, traffic_of}
 use Rattle.cq_rank.specs.Machine.{Machine, KeepsLaws, machine_at}
 use Rattle.cq_ideal.specs.IdealRun.{Ran, ideal_run, empty_ideal, departures_of}
 
--- whether it leaves output j and its cell is of input i and class c
+-- whether the departure is at output j and its cell of input i and class c
 abbrev pub leaves_in_flow : ℕ → ℕ → ℕ → Departure → Bool
 leaves_in_flow i c j d = d.output == j && (d.queued.cell.id.input == i && d.queued.cell.class == c)
 
--- whether its cell is for output j, and of input i and class c
+-- whether the arrival's cell is for output j, of input i and of class c
 abbrev pub comes_in_flow : ℕ → ℕ → ℕ → Arrival → Bool
 comes_in_flow i c j a = a.cell.output == j && (a.cell.id.input == i && a.cell.class == c)
 

@@ -1,5 +1,5 @@
 //! The ideal switch, slot by slot.
-ghost use Rattle.std.specs.Prelude.{◌≡◌, ◌↔◌, ◌+◌, ◌-◌, ◌^◌, ◌<◌, ◌≤◌, ◌++◌, IsTrue, false, is_err, All, IfOk, OnOk, OnErr, [], length, map};
+ghost use Rattle.std.specs.Prelude.{◌≡◌, ◌↔◌, ◌+◌, ◌-◌, ◌^◌, ◌<◌, ◌≤◌, IsTrue, false, is_err, All, IfOk, OnOk, OnErr, [], length, map};
 ghost use Rattle.cq_rank.specs.Switch.{AreForOneSwitch, class_count};
 ghost use Rattle.cq_ideal.specs.Ideal.{HasRoomFor, HaveLeft, SpareFollows, answer_to};
 ghost use Rattle.cq_ideal.specs.IdealRun.{empty_ideal};
@@ -65,8 +65,8 @@ impl<R: Rank> Ideal<R> {
     /// are put at the end of `sent`, in order of output. Each cell that arrives lowers the spare of its list
     /// by one, and each that leaves raises it by one. It takes no memory.
     ///
-    /// The error is the first rank, in order of input, that does not fit 128 bits. Then `sent` is as before
-    /// and the switch is stopped.
+    /// The error is the first rank, in order of input, that does not fit 128 bits. Then `sent` and the next
+    /// slot are as before, and the switch is stopped.
     pub fn slot(
         &mut self,
         slot: Slot,
@@ -88,6 +88,7 @@ impl<R: Rank> Ideal<R> {
         ensures rooms { self.new.rooms ≡ self.old.rooms }
         ensures stopped { self.new.stopped ≡ is_err result }
         ensures unsent { OnErr result (sent.new ≡ sent.old) }
+        ensures next_stays { OnErr result (self.new.next ≡ self.old.next) }
     {
         if let Err(fault) = take_in(&mut self.ranks, &mut self.queues, slot, arrivals) {
             self.stopped = true;

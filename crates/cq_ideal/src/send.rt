@@ -1,5 +1,5 @@
 //! How the outputs of an ideal switch send.
-ghost use Rattle.std.specs.Prelude.{◌≡◌, ◌+◌, ◌<◌, ◌≤◌, ◌++◌, length, map};
+ghost use Rattle.std.specs.Prelude.{◌≡◌, ◌+◌, ◌≤◌, ◌++◌, length, map};
 ghost use Rattle.cq_ideal.specs.IdealSlot.{all_told, departures_in, fronts, rests};
 ghost use Rattle.cq_ideal.specs.Parts.{FitTogether};
 

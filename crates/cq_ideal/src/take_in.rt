@@ -1,6 +1,5 @@
 //! How cells arrive at an ideal switch.
-ghost use Rattle.std.specs.Prelude.{◌≡◌, ◌+◌, ◌<◌, ◌≤◌, ◌^◌, nat_lt, Ok, Err, IfErr, IfOk, OnOk, OnErr, length, map, slice_index};
-ghost use Rattle.cq_base.specs.Arrivals.{AreArrivals};
+ghost use Rattle.std.specs.Prelude.{◌≡◌, ◌<◌, Ok, Err, IfErr, OnOk, OnErr, length, map, slice_index};
 ghost use Rattle.cq_rank.specs.Machine.{machine_at};
 ghost use Rattle.cq_rank.specs.Switch.{class_count};
 ghost use Rattle.cq_ideal.specs.Parts.{AreWithinRooms, FitTogether, HaveRoomFor, arrived, state_of, taken_in, list_at};

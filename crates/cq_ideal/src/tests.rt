@@ -1,5 +1,5 @@
 //! Worked slots, the tag fault, and the call that wants memory, with ample memory.
-ghost use Rattle.std.specs.Prelude.{◌≡◌, ◌+◌, ◌*◌, ◌-◌, ◌<◌, ◌≤◌, ℕ, All, OnOk, false, is_err, length, map};
+ghost use Rattle.std.specs.Prelude.{◌≡◌, ◌+◌, ◌<◌, ◌≤◌, ℕ, All, OnOk, false, is_err, length, map};
 ghost use Rattle.cq_rank.specs.Switch.{AreForOneSwitch, class_count};
 ghost use Rattle.cq_ideal.specs.Ideal.{spare_at};
 ghost use Rattle.cq_ideal.specs.Ranking.{AreForPorts};
