@@ -2,6 +2,7 @@
 use Rattle.std.proofs.Common.{ℕ, List, refl, arith}
 use Rattle.cq_rank.specs.Machine.{KeepsLaws, first_come, priority}
 
+-- first come, first served, of so many classes keeps the laws
 pub first_come_laws : (classes : ℕ) → KeepsLaws (first_come classes)
 first_come_laws classes = record {
   given_length = λ s c h l. h;
@@ -14,6 +15,7 @@ first_come_laws classes = record {
   idle_once = λ s h. refl;
 }
 
+-- strict priority, with these priorities of the classes, keeps the laws
 pub priority_laws : (priorities : List ℕ) → KeepsLaws (priority priorities)
 priority_laws priorities = record {
   given_length = λ s c h l. h;

@@ -26,6 +26,7 @@ machine_from (zero ∷ numbers) = first_come (slice_index numbers 0)
 machine_from (suc zero ∷ numbers) = priority numbers
 machine_from (suc (suc kind) ∷ numbers) = fair numbers
 
+-- the machine that the numbers give keeps the laws, whichever numbers they are
 pub machine_laws : (numbers : List ℕ) → KeepsLaws (machine_from numbers)
 machine_laws [] = first_come_laws 0
 machine_laws (zero ∷ numbers) = first_come_laws (slice_index numbers 0)

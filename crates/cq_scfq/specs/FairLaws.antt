@@ -4,6 +4,7 @@ use Rattle.std.proofs.lemmas.List.{length-set, length-replicate, get_or-set_same
 use Rattle.cq_rank.specs.Machine.{KeepsLaws}
 use Rattle.cq_scfq.specs.Fair.{fair, fair_rank}
 
+-- the fair machine with these costs of the classes keeps the laws
 pub fair_laws : (costs : List ℕ) → KeepsLaws (fair costs)
 fair_laws costs = record {
   given_length = λ s c h l. length-set s c (fair_rank costs s c) ∙ h;
