@@ -1,12 +1,11 @@
 -- How a run of a setup begins: the machines are those of the setup's disciplines, each in its opening state, and there is
 -- room for all cells that arrive.
-use Rattle.std.proofs.Common.{◌≡◌, ℕ, zero, suc, ◌+◌, ◌<◌, ◌≤◌, false, List, [], ◌∷◌, length, map, sym, ap, ◌∙◌, subst, arith}
-use Rattle.std.specs.Prelude.{All, slice_index}
-use Rattle.std.specs.List.{AllByRecursion, range_with_len}
+use Rattle.std.proofs.Common.{◌≡◌, ℕ, ◌+◌, ◌≤◌, false, List, [], length, map, sym, ap, ◌∙◌, subst, arith}
+use Rattle.std.specs.Prelude.{slice_index}
+use Rattle.std.specs.List.{range_with_len}
 use Rattle.std.proofs.lemmas.List.{length-map}
 use Rattle.std.proofs.lemmas.List.FromFn.{get_or-map-range_with_len, length-map-range_with_len}
 use Rattle.cq_base.specs.declared.cell.Departure.{Departure}
-use Rattle.cq_base.specs.declared.setup.ClassRow.{ClassRow}
 use Rattle.cq_base.specs.declared.setup.Setup.{Setup}
 use Rattle.cq_base.specs.Arriving.{Arrival, enough, traffic_of}
 use Rattle.cq_base.specs.Room.{RoomView}
@@ -14,20 +13,12 @@ use Rattle.cq_cells.specs.Traffic.{IsShort, IsTraffic, is_to, number_of}
 use Rattle.cq_ideal.specs.Ideal.{IdealSwitch}
 use Rattle.cq_ideal.specs.IdealSlot.{IdealState}
 use Rattle.cq_ideal.specs.IdealRun.{ideal_run, empty_ideal}
-use Rattle.cq_rank.specs.Classes.{AreClasses}
 use Rattle.cq_rank.specs.Machine.{Machine}
 use Rattle.cq_rank.specs.Switch.{class_count}
 use Rattle.cq_route.specs.Tables.{IsSetup, classes_of, ports_of}
 use Rattle.cq_scfq.specs.Disciplines.{machine_of, machines_of, openings_of}
 use Rattle.cq_simulate.specs.IdealRuns.{departures_ran, ideal_departures, ran_ideal}
 use Rattle.cq_simulate.specs.Ready.{IsReady}
-
-costs_from : (rows : List ClassRow) → All (λ row. 1 ≤ row.cost) rows → AllByRecursion (λ row. 0 < row.cost) rows
-costs_from [] all = tt
-costs_from (row ∷ rows) all = (let first : 1 ≤ row.cost = all zero row (omega arith) in omega arith, costs_from rows (λ k d inside. all (suc k) d (omega arith)))
-
-pub are_classes : (setup : Setup) → IsSetup setup → AreClasses setup.classes
-are_classes setup is = let few = is.classes in record { some = omega arith; few = omega arith; cost = costs_from setup.classes is.costs }
 
 -- as many machines as kinds
 pub machine_count : (M : List ℕ → Machine) (fixed : List (List ℕ)) (setup : Setup) → map M fixed ≡ machines_of setup → length fixed ≡ length setup.kinds
