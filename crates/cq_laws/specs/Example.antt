@@ -14,16 +14,19 @@ abbrev pub lone_cell : ℕ → ℕ → ℕ → Cell
 lone_cell input packet output =
     record { id = record { input = input; packet = packet; index = 0 }; output = output; class = 0; last = true; at = 0; len = 60 }
 
--- the cells: one from each input for output 0, and then the one for output 1
+-- the cell of input 0, for output 0
 abbrev pub from_input0 : Queued
 from_input0 = keyed (lone_cell 0 0 0) 0 0 0
 
+-- the cell of input 1, for output 0
 abbrev pub from_input1 : Queued
 from_input1 = keyed (lone_cell 1 0 0) 0 0 1
 
+-- the older cell of input 2, for output 0
 abbrev pub from_input2 : Queued
 from_input2 = keyed (lone_cell 2 0 0) 0 0 2
 
+-- the later cell of input 2, for output 1
 abbrev pub for_output1 : Queued
 for_output1 = keyed (lone_cell 2 1 1) 0 1 2
 
@@ -78,16 +81,17 @@ slot2 =
       second = None ∷ None ∷ None ∷ [];
     }
 
--- what crosses
+-- the transfer of the only cell of a packet
 abbrev pub crossing : ℕ → ℕ → ℕ → ℕ → ℕ → Transfer
 crossing slot phase input output packet =
     record { slot = slot; phase = phase; input = input; output = output; id = record { input = input; packet = packet; index = 0 } }
 
+-- what crosses
 abbrev pub worked_transfers : List Transfer
 worked_transfers = crossing 0 1 0 0 0 ∷ crossing 0 2 1 0 0 ∷ crossing 1 1 2 1 1 ∷ crossing 1 2 2 0 0 ∷ []
 
--- the cell of input 1 waits one slot, the older one of input 2 two. Each matching takes as many proposals as inputs that have a cell, while they all have it for the
--- same output: 3 and 2 in slot 0, then 1 and 1
+-- the cell of input 1 waits one slot, the older one of input 2 two. Each matching takes as many proposals as inputs that have
+-- a cell, while they all have it for the same output: 3 and 2 in slot 0, then 1 and 1
 abbrev pub worked_figures : Figures
 worked_figures =
     record {
@@ -102,6 +106,6 @@ worked_figures =
 abbrev pub worked_records : List SlotRecord
 worked_records = slot0 ∷ slot1 ∷ slot2 ∷ []
 
--- no lists, of three ports
+-- the states of three rank machines that have nothing to remember
 abbrev pub three_empty : List (List ℕ)
 three_empty = [] ∷ [] ∷ [] ∷ []

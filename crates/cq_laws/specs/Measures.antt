@@ -73,6 +73,7 @@ either_by f None b = b
 either_by f (Some a) None = Some a
 either_by f (Some a) (Some b) = Some (f a b)
 
+-- the figures of input i with one record more
 unfoldable pub input_after : SlotRecord → ℕ → InputFigures → InputFigures
 input_after r i x =
     record {
@@ -81,6 +82,7 @@ input_after r i x =
       slack = either_by min x.slack (reduce min (slacks r.arrived i));
     }
 
+-- the figures of output j with one record more
 unfoldable pub output_after : SlotRecord → ℕ → OutputFigures → OutputFigures
 output_after r j x =
     record {

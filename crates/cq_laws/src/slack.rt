@@ -1,6 +1,6 @@
 //! What each phase of a slot does to the slack of the cells that wait at the inputs. Each law is the contract
 //! of a function that does nothing.
-ghost use Rattle.std.specs.Prelude.{◌≡◌, ℕ, List, Option};
+ghost use Rattle.std.specs.Prelude.{ℕ, List, Option};
 ghost use Rattle.cq_base.specs.declared.cell.Cell.{Cell};
 ghost use Rattle.cq_base.specs.declared.cell.Queued.{Queued};
 ghost use Rattle.cq_rank.specs.Machine.{Machine};
