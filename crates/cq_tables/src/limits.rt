@@ -69,8 +69,5 @@ pub const GREATEST_DSCP: u64 = 63;
 /// The most bytes of a file name.
 pub const LONGEST_FILE_NAME: usize = 4096;
 
-/// The most digits of a wide number: as many as the greatest number below 2^128 has.
-pub const MOST_DIGITS: usize = 39;
-
 /// The bytes of an address as text: six groups of two digits, and five colons.
 pub const ADDRESS_TEXT_BYTES: usize = 17;

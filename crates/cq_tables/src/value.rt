@@ -7,9 +7,9 @@ ghost use Rattle.std.specs.Int.{IsInRange};
 ghost use Rattle.cq_tables.specs.Document.{number_below};
 ghost use Rattle.cq_tables.specs.Value.{is_from, wide_from, wide_value, address, address_of, address_value, array_of, discipline, discipline_of, elements, file_name, group, hex_digit, integer_in, integer_value, kind_value, natural, text_value, written};
 
-use crate::limits::{ADDRESS_TEXT_BYTES, LONGEST_FILE_NAME, MOST_DIGITS};
+use crate::limits::{ADDRESS_TEXT_BYTES, LONGEST_FILE_NAME};
 use crate::refusal::Wrong;
-use cq_base::Kind;
+use cq_base::{Kind, MOST_DIGITS};
 use toml::{Table, Value};
 
 // An integer that is not below zero.
