@@ -100,7 +100,7 @@ pub record AreWorkers (workers : ℕ) : Type 0 where
   pub some : 1 ≤ workers
   pub few : workers ≤ 64
 
--- the fabric keeps up with an ideal switch: there is a state of one with which it agrees before this slot. And its figures are
+-- the fabric is in step with an ideal switch: there is a state of one with which it agrees before this slot. And its figures are
 -- of its ports, and have a least slack below that of each cell that waits
 pub record IsInStep (ms : List Machine) (next : ℕ) (x : Figures) (f : Fabric) : Type 0 where
   pub machines : AreForOneSwitch ms

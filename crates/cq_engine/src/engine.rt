@@ -20,7 +20,7 @@ use std::alloc::Global;
 use std::marker::Model;
 use std::thread::Threads;
 
-/// A fabric, which keeps up with an ideal switch (Chuang, Goel, McKeown and Prabhakar 1999). In a slot the
+/// A fabric, which is in step with an ideal switch (Chuang, Goel, McKeown and Prabhakar 1999). In a slot the
 /// arriving cells are ranked and go into the lists of their inputs, a matching is transferred, each output
 /// sends the most urgent cell of its buffer, and a second matching is transferred. Both matchings are the
 /// ones that are best for the inputs, whichever worker proposes first.

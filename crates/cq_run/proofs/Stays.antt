@@ -9,11 +9,10 @@ use Rattle.std.proofs.lemmas.Map.Views.{tells_apart}
 use Rattle.cq_space.specs.Space.{Contents}
 use Rattle.cq_pcap.specs.Captured.{Captured}
 use Rattle.cq_route.specs.declared.tables.PortRow.{PortRow}
-use Rattle.cq_route.specs.declared.tables.Tables.{Tables}
 use Rattle.cq_tables.specs.Document.{read_or_refused}
 use Rattle.cq_run.specs.declared.refusal.Refusal.{Refusal}
 use Rattle.cq_run.specs.declared.refusal.Refusal.TheVariants.{Missing}
-use Rattle.cq_run.specs.Verdict.{◌>>=◌, named, found_or_missing, tables_in, read_or_refused_for, capture_in, capture_of, packets_at, captures_from, captures_in}
+use Rattle.cq_run.specs.Verdict.{◌>>=◌, named, found_or_missing, tables_in, read_or_refused_for, capture_in, capture_of, packets_at, captures_from}
 
 -- without a name the judgement comes to the same, or misses that name
 unfoldable pub Stays : {A : Type 0} → (Contents → Result A Refusal) → Type 0
@@ -65,6 +64,3 @@ captures_from_stay limit input [] = pure_stays _
 captures_from_stay limit input (row ∷ rows) =
     then_stays (packets_at input limit row.read) (λ (packets : List Captured) (m : Contents). captures_from limit (input + 1) rows m >>= (λ others. Ok (packets ∷ others))) (packets_stay input limit row.read)
     (λ packets. then_stays (captures_from limit (input + 1) rows) (λ (others : List (List Captured)) (m : Contents). Ok (packets ∷ others)) (captures_from_stay limit (input + 1) rows) (λ others. pure_stays _))
-
-pub captures_stay : (tables : Tables) → Stays (captures_in tables)
-captures_stay tables = captures_from_stay tables.limit_bytes 0 tables.ports

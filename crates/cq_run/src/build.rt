@@ -8,7 +8,7 @@ ghost use Rattle.cq_run.specs.Switching.{IsSwitched};
 
 use crate::plan::{Work, Write};
 use crate::switching::{Crossed, Switched};
-use cq_base::{Figures, Name, NoMemory, Port, digits};
+use cq_base::{Figures, MOST_DIGITS, Name, NoMemory, Port, digits};
 use cq_pcap::{Capture, capture_bytes};
 use cq_report::{log_text, report_text, trace_text};
 use cq_route::Tables;
@@ -44,7 +44,7 @@ fn check_text(alloc: Global, tables: &Tables) -> Result<Vec<u8>, NoMemory>
 fn put_counted(text: &mut Vec<u8>, name: &[u8], count: usize) -> Result<(), NoMemory>
     ensures { OnOk result (text.new.items ≡ text.old.items ++ counted name.now count) }
 {
-    let mut places = [0u8; 39];
+    let mut places = [0u8; MOST_DIGITS];
     let used = digits(count as u128, &mut places);
     text.extend_from_slice(name)?;
     text.extend_from_slice(&places[..used])?;

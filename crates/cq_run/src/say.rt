@@ -7,7 +7,7 @@ ghost use Rattle.cq_run.specs.Refusals.{meaning_of, fault_text};
 ghost use Rattle.cq_run.specs.Line.{Puts, line, halt_text, unwritten_text, stop_text};
 
 use crate::{CaptureFault, Halt, Refusal, Stop, Unwritten};
-use cq_base::{Name, TagFault, digits};
+use cq_base::{MOST_DIGITS, Name, TagFault, digits};
 use cq_space::{Sink, WriteFault, put_all};
 
 const USAGE: &[u8; 95] =
@@ -67,7 +67,7 @@ fn say_configuration<S: Sink>(sink: &mut S, code: u8, path: &Name) -> Result<(),
     ensures { Puts (line (meaning_of (Refusal.Configuration code path.now)).text)
         (taken_by S.taken S.faults sink.old) (taken_by S.taken S.faults sink.new) result }
 {
-    let mut places = [0u8; 39];
+    let mut places = [0u8; MOST_DIGITS];
     let count = digits(u128::from(code), &mut places);
     put_pieces(
         sink,
@@ -85,11 +85,11 @@ fn say_tag<S: Sink>(sink: &mut S, fault: TagFault) -> Result<(), WriteFault>
     ensures { Puts (line (meaning_of (Refusal.Tag fault)).text)
         (taken_by S.taken S.faults sink.old) (taken_by S.taken S.faults sink.new) result }
 {
-    let mut slot = [0u8; 39];
+    let mut slot = [0u8; MOST_DIGITS];
     let slot_count = digits(u128::from(fault.slot), &mut slot);
-    let mut input = [0u8; 39];
+    let mut input = [0u8; MOST_DIGITS];
     let input_count = digits(u128::from(fault.input), &mut input);
-    let mut output = [0u8; 39];
+    let mut output = [0u8; MOST_DIGITS];
     let output_count = digits(u128::from(fault.output), &mut output);
     put_pieces(
         sink,
@@ -109,7 +109,7 @@ fn say_capture<S: Sink>(sink: &mut S, input: u16, fault: CaptureFault) -> Result
     ensures { Puts (line (meaning_of (Refusal.Capture input fault)).text)
         (taken_by S.taken S.faults sink.old) (taken_by S.taken S.faults sink.new) result }
 {
-    let mut places = [0u8; 39];
+    let mut places = [0u8; MOST_DIGITS];
     let count = digits(u128::from(input), &mut places);
     put_pieces(sink, &[b"capture of input ", &places[..count], b": "])?;
     say_fault(sink, fault)
@@ -135,9 +135,9 @@ fn say_long_record<S: Sink>(sink: &mut S, offset: u64, length: u32) -> Result<()
     ensures { Puts (line (fault_text (CaptureFault.LongRecord offset length)))
         (taken_by S.taken S.faults sink.old) (taken_by S.taken S.faults sink.new) result }
 {
-    let mut place = [0u8; 39];
+    let mut place = [0u8; MOST_DIGITS];
     let place_count = digits(u128::from(offset), &mut place);
-    let mut stated = [0u8; 39];
+    let mut stated = [0u8; MOST_DIGITS];
     let stated_count = digits(u128::from(length), &mut stated);
     put_pieces(
         sink,
@@ -169,7 +169,7 @@ fn say_number<S: Sink>(sink: &mut S, head: &[u8], number: u64) -> Result<(), Wri
     ensures { Puts (line (head.now ++ decimal number)) (taken_by S.taken S.faults sink.old)
         (taken_by S.taken S.faults sink.new) result }
 {
-    let mut places = [0u8; 39];
+    let mut places = [0u8; MOST_DIGITS];
     let count = digits(u128::from(number), &mut places);
     put_pieces(sink, &[head, &places[..count], b"\n"])
 }

@@ -11,7 +11,6 @@ mod tests;
 use cq_crew::OpenGate;
 use cq_run::switch_top;
 use cq_space::{HostFiles, HostSink};
-use std::alloc::Global;
 use std::process::ExitCode;
 use std::{env, io};
 

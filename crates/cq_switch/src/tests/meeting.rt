@@ -1,5 +1,4 @@
 //! Two workers of one phase meet in a run of the whole program. It shows that both are at work at once.
-ghost use Rattle.std.specs.Prelude.{◌≡◌};
 
 use super::crossed::{RUNS, assert_done, assert_sent};
 use super::made::{files_of, watched};
