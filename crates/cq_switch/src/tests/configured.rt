@@ -6,8 +6,10 @@ use super::made::{
 };
 use cq_crew::OpenGate;
 use cq_space::MemFiles;
+use std::alloc::Global;
 use std::process::Abort;
 use std::test::Fail;
+use std::thread::Threads;
 
 /// Two inputs with a packet of one cell each, for one output.
 const TWO: [&[Frame]; 2] = [&[(0, 0, 0, 60)], &[(0, 0, 0, 60)]];
@@ -69,61 +71,72 @@ fn a_missing_configuration_is_a_read_fault(rt: HostRuntime) -> Result<(), Fail> 
     Ok(())
 }
 
+// What the two inputs have, where they have it.
+type Inputs<'a> = [Option<&'a [u8]>; 2];
+
+// `ideal` and `run` end with the status and the line, and write nothing.
+fn assert_refused<R: Threads + Sync + Abort>(
+    rt: &R,
+    alloc: Global,
+    keys: Keys,
+    inputs: Inputs,
+    code: u8,
+    line: &str,
+) -> Result<(), Fail> {
+    for command in ["ideal", "run"] {
+        let text = configuration(alloc, 2, 1, keys)?;
+        let mut files = configured(alloc, &text)?;
+        set_if_there(&mut files, "in0.pcap", inputs[0])?;
+        set_if_there(&mut files, "in1.pcap", inputs[1])?;
+        let refused = answer(rt, alloc, &[command, "c.toml"], &mut files)?;
+        assert_eq!(rt; refused.err.bytes(), line.as_bytes());
+        assert_eq!(rt; refused.code, code, "{line}");
+        assert_unwritten(rt, &files, line);
+    }
+    Ok(())
+}
+
 #[test]
 fn the_lowest_input_at_fault_is_told(rt: HostRuntime) -> Result<(), Fail> {
     let alloc = rt.alloc();
     let mut cut = NANOSECONDS.to_vec(alloc)?;
     cut.resize(34, 0)?;
     let whole = capture_of(alloc, &[])?;
+    let cases: [(Inputs, u8, &str); 4] = [
+        ([Some(&cut), None], 3, "capture of input 0: 5 at 24\n"),
+        ([None, Some(&cut)], 5, "read fault: in0.pcap\n"),
+        (
+            [Some(&whole), Some(&cut)],
+            3,
+            "capture of input 1: 5 at 24\n",
+        ),
+        ([Some(&whole), None], 5, "read fault: in1.pcap\n"),
+    ];
+    for (inputs, code, line) in cases {
+        assert_refused(&rt, alloc, DEFAULTS, inputs, code, line)?;
+    }
+    Ok(())
+}
+
+#[test]
+fn the_lowest_input_over_the_limit_is_told(rt: HostRuntime) -> Result<(), Fail> {
+    let alloc = rt.alloc();
+    let mut long = NANOSECONDS.to_vec(alloc)?;
+    long.resize(25, 0)?;
+    let whole = capture_of(alloc, &[])?;
     let small = Keys {
         first: "limit_bytes = 24\n",
         ..DEFAULTS
     };
-    // The keys, what the two inputs have, the status and the line.
-    type Case<'a> = (Keys, Option<&'a [u8]>, Option<&'a [u8]>, u8, &'a str);
-    let cases: [Case; 6] = [
+    let cases: [(Inputs, &str); 2] = [
         (
-            DEFAULTS,
-            Some(&cut),
-            None,
-            3,
-            "capture of input 0: 5 at 24\n",
-        ),
-        (DEFAULTS, None, Some(&cut), 5, "read fault: in0.pcap\n"),
-        (
-            DEFAULTS,
-            Some(&whole),
-            Some(&cut),
-            3,
-            "capture of input 1: 5 at 24\n",
-        ),
-        (DEFAULTS, Some(&whole), None, 5, "read fault: in1.pcap\n"),
-        (
-            small,
-            Some(&whole),
-            Some(&cut),
-            3,
+            [Some(&whole), Some(&long)],
             "capture of input 1: 8, limit 24\n",
         ),
-        (
-            small,
-            Some(&cut[..25]),
-            None,
-            3,
-            "capture of input 0: 8, limit 24\n",
-        ),
+        ([Some(&long), None], "capture of input 0: 8, limit 24\n"),
     ];
-    for (keys, first, second, code, line) in cases {
-        for command in ["ideal", "run"] {
-            let text = configuration(alloc, 2, 1, keys)?;
-            let mut files = configured(alloc, &text)?;
-            set_if_there(&mut files, "in0.pcap", first)?;
-            set_if_there(&mut files, "in1.pcap", second)?;
-            let refused = answer(&rt, alloc, &[command, "c.toml"], &mut files)?;
-            assert_eq!(rt; refused.err.bytes(), line.as_bytes());
-            assert_eq!(rt; refused.code, code, "{line}");
-            assert_unwritten(&rt, &files, line);
-        }
+    for (inputs, line) in cases {
+        assert_refused(&rt, alloc, small, inputs, 3, line)?;
     }
     Ok(())
 }
