@@ -5,6 +5,7 @@ use Rattle.std.proofs.Common.{◌≡◌, ◌≢◌, ℕ, zero, suc, ◌+◌, ◌
 use Rattle.std.specs.Prelude.{max}
 use Rattle.std.specs.List.{AllByRecursion, range_with_len}
 use Rattle.std.proofs.lemmas.Bool.{cases_eq}
+use Rattle.std.proofs.lemmas.List.FromFn.{length-map-range_with_len}
 use Rattle.cq_base.specs.declared.cell.Cell.{Cell}
 use Rattle.cq_base.specs.Arriving.{Arrival, arriving_at, arriving, end_of, enough, traffic_of}
 use Rattle.cq_ideal.proofs.FlowPut.{all_from}
@@ -113,3 +114,7 @@ quiet_at_end came = quiet_from 64 refl came (end_of came) (end_of came) 0 (enoug
 pub come_count-traffic_of : (came : List Arrival) → come_count (traffic_of came) ≤ length came
 unfolding traffic_of
 come_count-traffic_of came = let count = count_from 64 refl came 0 (enough came) in let few = no_more_than 64 refl came (enough came) in omega arith
+
+pub length-traffic_of : (came : List Arrival) → length (traffic_of came) ≡ end_of came + length came
+unfolding traffic_of enough
+length-traffic_of came = length-map-range_with_len (arriving came) 0 (end_of came + length came)

@@ -1,29 +1,26 @@
 -- Flows leave as they came. At a port the run begins with an empty list, so what came of a flow in its slots is what the
 -- port sent of it and then what its list shows at the end. There are slots enough, so at the end the list is empty. And
 -- what came in the slots is the flow's arrivals in their order. At what is no port nothing leaves, and nothing comes for it.
-use Rattle.std.proofs.Common.{◌≡◌, ℕ, zero, suc, ◌+◌, ◌<◌, ◌≤◌, false, List, [], ◌∷◌, ◌++◌, length, map, replicate, Option, Ok, refl, sym, ap, ◌∙◌, subst, ⊎_elim, arith}
-use Rattle.std.specs.Prelude.{◌&&◌, ◌==◌, slice_index_or}
+use Rattle.std.proofs.Common.{◌≡◌, ℕ, zero, suc, ◌+◌, ◌<◌, ◌≤◌, false, List, [], ◌∷◌, ◌++◌, length, map, replicate, Option, Result, Ok, refl, sym, ap, ◌∙◌, subst, ⊎_elim, arith}
+use Rattle.std.specs.Prelude.{◌&&◌, ◌==◌, slice_index_or, All, IfOk}
 use Rattle.std.specs.List.{AllByRecursion, filter, range_with_len}
 use Rattle.std.proofs.lemmas.Bool.{cases_lt, ne_eqb, and_left, cond-false}
-use Rattle.std.proofs.lemmas.List.{append-nil, length-replicate, get_or-replicate, nil_from_length}
-use Rattle.std.proofs.lemmas.List.FromFn.{length-map-range_with_len}
+use Rattle.std.proofs.lemmas.List.{append-nil, length-replicate, get_or-replicate, get_or_past}
 use Rattle.cq_base.specs.declared.cell.Cell.{Cell}
 use Rattle.cq_base.specs.declared.cell.Queued.{Queued}
 use Rattle.cq_base.specs.Arriving.{Arrival, arriving, end_of, enough, traffic_of}
-use Rattle.cq_rank.specs.Machine.{Machine, machine_at}
+use Rattle.cq_base.specs.declared.cell.TagFault.{TagFault}
+use Rattle.cq_rank.specs.Machine.{Machine, KeepsLaws, machine_at}
 use Rattle.cq_ideal.specs.IdealRun.{Ran, ideal_run, empty_ideal, departures_of}
 use Rattle.cq_ideal.specs.Flows.{comes_in_flow, left_in_flow, came_in_flow, IsForSwitch, IsRunnable, FlowsLeaveAsTheyCame}
 use Rattle.cq_ideal.proofs.FlowPut.{all_from}
 use Rattle.cq_ideal.proofs.FlowStands.{Stands, shown}
 use Rattle.cq_ideal.proofs.FlowRank.{present, AreOfClasses}
-use Rattle.cq_ideal.proofs.FlowRun.{flow_came, come_count, passed, no_port}
+use Rattle.cq_ideal.proofs.FlowRun.{flow_came, passed, no_port}
 use Rattle.cq_ideal.proofs.FlowFound.{all_found, all_present, arriving_is}
 use Rattle.cq_ideal.proofs.FlowTraffic.{came_in_order}
-use Rattle.cq_ideal.proofs.FlowCount.{before_end, quiet_at_end, come_count-traffic_of}
-
-length-traffic_of : (came : List Arrival) → length (traffic_of came) ≡ end_of came + length came
-unfolding traffic_of enough
-length-traffic_of came = length-map-range_with_len (arriving came) 0 (end_of came + length came)
+use Rattle.cq_ideal.proofs.FlowCount.{before_end}
+use Rattle.cq_ideal.proofs.Whole.{empty_at_end}
 
 -- ## The classes of what comes
 
@@ -40,18 +37,57 @@ class_in_slot ms ports j came inputs e all t =
     (all_from (IsForSwitch ms ports) (λ a. a.slot ≡ t → a.cell.id.input ≡ k → a.cell.output ≡ j → a.cell.class < (machine_at ms j).classes)
     (λ a is _ _ same. subst (λ (o : ℕ). a.cell.class < (machine_at ms o).classes) same is.class) came all)))
 
-classes : (ms : List Machine) (ports j : ℕ) (came : List Arrival) → AllByRecursion (IsForSwitch ms ports) came → AllByRecursion (λ cells. AreOfClasses (machine_at ms j) j (present cells)) (traffic_of came)
+pub classes : (ms : List Machine) (ports j : ℕ) (came : List Arrival) →
+    AllByRecursion (IsForSwitch ms ports) came →
+    AllByRecursion (λ cells. AreOfClasses (machine_at ms j) j (present cells)) (traffic_of came)
 unfolding traffic_of
 classes ms ports j came all = all_in_range (λ cells. AreOfClasses (machine_at ms j) j (present cells)) came 0 (enough came) (class_in_slot ms ports j came 64 refl all)
 
 -- nothing comes for what is no port
-none_came : (ms : List Machine) (ports i c j : ℕ) (came : List Arrival) → AllByRecursion (IsForSwitch ms ports) came → ports ≤ j → came_in_flow i c j came ≡ []
+pub none_came : (ms : List Machine) (ports i c j : ℕ) (came : List Arrival) →
+    AllByRecursion (IsForSwitch ms ports) came → ports ≤ j → came_in_flow i c j came ≡ []
 none_came ms ports i c j [] all le = refl
 none_came ms ports i c j (a ∷ came) all le =
     let inside : a.cell.output < ports = all.0.output in
     let other : (a.cell.output == j) ≡ false = ne_eqb a.cell.output j (λ e. omega arith) in
     ap (map (λ (x : Arrival). x.cell)) (cond-false (comes_in_flow i c j a) (a ∷ filter (comes_in_flow i c j) came) (filter (comes_in_flow i c j) came) (and_left (a.cell.output == j) (a.cell.id.input == i && a.cell.class == c) other))
     ∙ none_came ms ports i c j came all.1 le
+
+-- ## Any traffic
+
+-- a list that is empty, by its place
+empty_at : (lists : List (List Queued)) (j : ℕ) → All (λ cells. cells ≡ []) lists → slice_index_or lists j [] ≡ []
+empty_at lists j over =
+    ⊎_elim (λ inside. over j [] inside) (λ beyond. get_or_past lists j [] beyond) (cases_lt j (length lists))
+
+-- what a port sent of a flow is what came of it, where the run leaves nothing
+pub left_as_came : (ms : List Machine) (ports : ℕ) (openings : List (List ℕ)) (j : ℕ)
+    (laws : KeepsLaws (machine_at ms j)) → length openings ≡ ports →
+    length (slice_index_or openings j []) ≡ (machine_at ms j).size → j < ports → (i c : ℕ)
+    (traffic : List (List (Option Cell))) (ran : Ran) →
+    ideal_run ms 0 traffic (empty_ideal ports openings) ≡ Ok ran →
+    AllByRecursion (λ cells. AreOfClasses (machine_at ms j) j (present cells)) traffic →
+    All (λ cells. cells ≡ []) ran.after.lists →
+    left_in_flow i c j (departures_of 0 ran.gone) ≡ flow_came i c j traffic
+left_as_came ms ports openings j laws opened sized inside i c traffic ran is are over =
+    let nil : List Queued = [] in
+    let lists : List (List Queued) = replicate ports nil in
+    let many : length lists ≡ ports = length-replicate ports nil in
+    let empty : slice_index_or lists j nil ≡ nil = get_or-replicate ports j nil nil inside in
+    let stands = subst (λ (xs : List Queued). Stands (machine_at ms j) (slice_index_or openings j []) 0 0 xs)
+    (sym empty) (record { size = sized; order = tt; waited = tt }) in
+    let p = passed ms j laws i c traffic 0 (empty_ideal ports openings) ran is (omega arith)
+    (omega arith) stands are in
+    let left : List Cell = left_in_flow i c j (departures_of 0 ran.gone) in
+    sym (append-nil left)
+    ∙ ap (λ (xs : List Queued). left ++ shown i c xs) (sym (empty_at ran.after.lists j over))
+    ∙ sym p.shows
+    ∙ ap (λ (xs : List Queued). shown i c xs ++ flow_came i c j traffic) empty
+
+all_left : (x : Result Ran TagFault) (ran : Ran) → x ≡ Ok ran →
+    IfOk x (λ end. All (λ cells. cells ≡ []) end.after.lists) → All (λ cells. cells ≡ []) ran.after.lists
+all_left x ran is over =
+    subst (λ (y : Result Ran TagFault). IfOk y (λ end. All (λ cells. cells ≡ []) end.after.lists)) is over
 
 -- ## The law
 
@@ -66,23 +102,10 @@ module _ (ms : List Machine) (ports : ℕ) (openings : List (List ℕ)) (came : 
 
   at_port : j < ports → left_in_flow i c j (departures_of 0 ran.gone) ≡ came_in_flow i c j came
   at_port inside =
-      let nil : List Queued = [] in
-      let lists : List (List Queued) = replicate ports nil in
-      let many : length lists ≡ ports = length-replicate ports nil in
-      let empty : slice_index_or lists j nil ≡ nil = get_or-replicate ports j nil nil inside in
-      let opened : length openings ≡ ports = runs.ports_are in
-      let stands = subst (λ (xs : List Queued). Stands (machine_at ms j) (slice_index_or openings j []) 0 0 xs) (sym empty) (record { size = runs.sizes j inside; order = tt; waited = tt }) in
-      let p = passed ms j (runs.machines j inside) i c (traffic_of came) 0 (empty_ideal ports openings) ran is (omega arith) (omega arith) stands (classes ms ports j came runs.for_switch) in
-      let none : length (slice_index_or lists j nil) ≡ 0 = ap length empty in
-      let few : come_count (traffic_of came) ≤ length came = come_count-traffic_of came in
-      let slots : length (traffic_of came) ≡ end_of came + length came = length-traffic_of came in
-      let over : slice_index_or ran.after.lists j nil ≡ nil = nil_from_length (slice_index_or ran.after.lists j nil) (p.empties (end_of came) (quiet_at_end came) (omega arith)) in
-      let left : List Cell = left_in_flow i c j (departures_of 0 ran.gone) in
-      sym (append-nil left)
-      ∙ ap (λ (xs : List Queued). left ++ shown i c xs) (sym over)
-      ∙ sym p.shows
-      ∙ ap (λ (xs : List Queued). shown i c xs ++ flow_came i c j (traffic_of came)) empty
-      ∙ in_slots
+      let over = all_left (ideal_run ms 0 (traffic_of came) (empty_ideal ports openings)) ran is
+      (empty_at_end ms ports openings came) in
+      left_as_came ms ports openings j (runs.machines j inside) runs.ports_are (runs.sizes j inside) inside i c
+      (traffic_of came) ran is (classes ms ports j came runs.for_switch) over ∙ in_slots
 
   elsewhere : ports ≤ j → left_in_flow i c j (departures_of 0 ran.gone) ≡ came_in_flow i c j came
   elsewhere le =

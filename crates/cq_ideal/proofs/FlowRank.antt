@@ -1,7 +1,7 @@
 -- The arrivals of a slot at one output, ranked and put into its list from input to input. A cell for the output is put
 -- behind all that wait of its flow, and a cell for another output changes neither the list nor the machine's state here.
 -- So of each flow the list shows what it showed before, and then what arrives of it.
-use Rattle.std.proofs.Common.{◌≡◌, ℕ, ◌+◌, ◌<◌, ◌≤◌, ◌^◌, Bool, true, false, cond, List, [], ◌∷◌, ◌++◌, length, Option, Some, None, Result, Ok, Err, refl, sym, ap, ◌∙◌, subst, ⊎_elim, arith}
+use Rattle.std.proofs.Common.{◌≡◌, ℕ, ◌+◌, ◌<◌, ◌^◌, Bool, true, false, cond, List, [], ◌∷◌, ◌++◌, length, Option, Some, None, Result, Ok, Err, refl, sym, ap, ◌∙◌, subst, ⊎_elim, arith}
 use Rattle.std.specs.Prelude.{◌&&◌, ◌==◌, nat_lt, slice_index_or, slice_set}
 use Rattle.std.specs.List.{AllByRecursion}
 use Rattle.std.proofs.lemmas.Bool.{cases_eq, eq-eqb, ne_eqb, and_left, cond-true, cond-false}
@@ -13,7 +13,6 @@ use Rattle.cq_base.specs.Cells.{put, is_for}
 use Rattle.cq_rank.specs.Machine.{Machine, KeepsLaws, machine_at}
 use Rattle.cq_ideal.specs.Ranking.{Ranking, ranking, after_input, keyed}
 use Rattle.cq_ideal.specs.IdealSlot.{put_all}
-use Rattle.cq_ideal.proofs.FlowPut.{length-put}
 use Rattle.cq_ideal.proofs.FlowStands.{Stands, shown, is_of_flow, of_flow, of_flow-cons, stands_on, stands_next, stands_put, shown-put}
 
 -- the cells that arrive in a slot
@@ -43,7 +42,6 @@ module _ (ms : List Machine) (j slot : ℕ) (laws : KeepsLaws (machine_at ms j))
     pub stands : Stands (machine_at ms j) (slice_index_or new j []) (slot + 1) 0 ys
     pub ports : length new ≡ length old
     pub shows : shown i c ys ≡ shown i c xs ++ of_flow i c j come
-    pub holds : length ys ≤ length xs + length come
 
   -- the rank that the cell gets, its machine's state after that, and the rank states with this one
   abbrev ranked_in : List (List ℕ) → Cell → ℕ
@@ -75,7 +73,6 @@ module _ (ms : List Machine) (j slot : ℕ) (laws : KeepsLaws (machine_at ms j))
           stands = f.stands;
           ports = f.ports ∙ length-set ranks cell.output (state_given ranks cell);
           shows = f.shows ∙ ap (λ l. shown i c xs ++ l) (sym (cond-false (is_of_flow i c j cell) (cell ∷ of_flow i c j come) (of_flow i c j come) out));
-          holds = let held = f.holds in omega arith;
         })
 
     -- a cell for this output
@@ -98,7 +95,6 @@ module _ (ms : List Machine) (j slot : ℕ) (laws : KeepsLaws (machine_at ms j))
               ∙ ap (λ l. l ++ of_flow i c j come) (shown-put (machine_at ms j) laws state slot input xs stands new_cell known rank_is refl refl i c j e)
               ∙ append_assoc (shown i c xs) (of_flow i c j (cell ∷ [])) (of_flow i c j come)
               ∙ ap (λ l. shown i c xs ++ l) (of_flow-cons i c j cell come);
-          holds = let held = f.holds in let put_is = length-put new_cell xs in omega arith;
         })
 
     of_either : (cell.output ≡ j → cell.class < (machine_at ms j).classes) → FilledByOne
@@ -119,7 +115,7 @@ module _ (ms : List Machine) (j slot : ℕ) (laws : KeepsLaws (machine_at ms j))
       let made : Ranking = record { came = []; ranks = ranks } in
       let same : made ≡ r = cc in
       subst (λ (q : Ranking). Filled [] xs (put_all j q.came xs) ranks q.ranks) same
-      (record { stands = stands_next (machine_at ms j) laws (slice_index_or ranks j []) slot input xs stands; ports = refl; shows = sym (append-nil (shown i c xs)); holds = omega arith })
+      (record { stands = stands_next (machine_at ms j) laws (slice_index_or ranks j []) slot input xs stands; ports = refl; shows = sym (append-nil (shown i c xs)) })
   filled_from (None ∷ cells) input ranks xs r h inside stands are =
       after_ok (λ q. Filled (present cells) xs (put_all j q.came xs) ranks q.ranks) None (ranking ms slot (input + 1) cells ranks) r h
       (λ rest is. filled_from cells (input + 1) ranks xs rest is inside (stands_on (machine_at ms j) laws (slice_index_or ranks j []) slot input xs stands) are)

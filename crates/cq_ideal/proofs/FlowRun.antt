@@ -82,7 +82,7 @@ QuietAfter zero (cells ∷ traffic) = (length (present cells) ≡ 0) × QuietAft
 QuietAfter (suc e) (cells ∷ traffic) = QuietAfter e traffic
 
 -- a list that gets what comes and then loses one cell is empty once the slots are over
-drained : (e : ℕ) (cells : List (Option Cell)) (traffic : List (List (Option Cell))) (before after end : ℕ) → QuietAfter e (cells ∷ traffic) → before + come_count (cells ∷ traffic) + e ≤ length (cells ∷ traffic) → after ≤ before + length (present cells) - 1 → ((e' : ℕ) → QuietAfter e' traffic → after + come_count traffic + e' ≤ length traffic → end ≡ 0) → end ≡ 0
+pub drained : (e : ℕ) (cells : List (Option Cell)) (traffic : List (List (Option Cell))) (before after end : ℕ) → QuietAfter e (cells ∷ traffic) → before + come_count (cells ∷ traffic) + e ≤ length (cells ∷ traffic) → after ≤ before + length (present cells) - 1 → ((e' : ℕ) → QuietAfter e' traffic → after + come_count traffic + e' ≤ length traffic → end ≡ 0) → end ≡ 0
 unfolding come_count
 drained zero cells traffic before after end quiet enough less go = let none : length (present cells) ≡ 0 = quiet.0 in let total = quiet_count traffic quiet.1 in go zero quiet.1 (omega arith)
   where
@@ -109,7 +109,6 @@ module _ (ms : List Machine) (j : ℕ) (laws : KeepsLaws (machine_at ms j)) (i c
   -- what a run over these slots made of the flow and of the output's list
   pub record Passed (slot : ℕ) (traffic : List (List (Option Cell))) (state : IdealState) (ran : Ran) : Type 0 where
     pub shows : shown i c (slice_index_or state.lists j []) ++ flow_came i c j traffic ≡ left_in_flow i c j (departures_of slot ran.gone) ++ shown i c (slice_index_or ran.after.lists j [])
-    pub empties : (e : ℕ) → QuietAfter e traffic → length (slice_index_or state.lists j []) + come_count traffic + e ≤ length traffic → length (slice_index_or ran.after.lists j []) ≡ 0
 
   passed_step : (slot : ℕ) (cells : List (Option Cell)) (traffic : List (List (Option Cell))) (state : IdealState) (sent : Sent) (rest : Ran) → Served ms j slot laws i c (present cells) state sent → Passed (slot + 1) traffic sent.after rest → Passed slot (cells ∷ traffic) state (record { gone = sent.gone ∷ rest.gone; after = rest.after })
   unfolding flow_came come_count departures_of
@@ -130,7 +129,6 @@ module _ (ms : List Machine) (j : ℕ) (laws : KeepsLaws (machine_at ms j)) (i c
             ∙ ap (λ (l : List Cell). gone ++ l) p.shows
             ∙ sym (append_assoc gone left end)
             ∙ ap (λ (l : List Cell). l ++ end) (sym (left_later i c j slot sent.gone (departures_of (slot + 1) rest.gone)));
-        empties = λ e quiet enough. drained e cells traffic (length (slice_index_or state.lists j [])) (length (slice_index_or sent.after.lists j [])) (length (slice_index_or rest.after.lists j [])) quiet enough s.drains p.empties;
       }
 
   pub passed : (traffic : List (List (Option Cell))) (slot : ℕ) (state : IdealState) (ran : Ran) → ideal_run ms slot traffic state ≡ Ok ran → j < length state.lists → j < length state.ranks → Stands (machine_at ms j) (slice_index_or state.ranks j []) slot 0 (slice_index_or state.lists j []) → AllByRecursion (λ cells. AreOfClasses (machine_at ms j) j (present cells)) traffic → Passed slot traffic state ran
@@ -138,7 +136,7 @@ module _ (ms : List Machine) (j : ℕ) (laws : KeepsLaws (machine_at ms j)) (i c
   passed [] slot state ran h in_lists in_ranks stands are =
       let made : Ran = record { gone = []; after = state } in
       let same : made ≡ ran = cc in
-      subst (Passed slot [] state) same (record { shows = append-nil (shown i c (slice_index_or state.lists j [])); empties = λ e quiet enough. omega arith })
+      subst (Passed slot [] state) same (record { shows = append-nil (shown i c (slice_index_or state.lists j [])) })
   passed (cells ∷ traffic) slot state ran h in_lists in_ranks stands are =
       run_ok (Passed slot (cells ∷ traffic) state) ms slot traffic (ideal_slot ms slot cells state) ran h
       (λ sent rest slot_is rest_is.

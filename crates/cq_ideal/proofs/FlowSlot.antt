@@ -1,10 +1,10 @@
 -- One slot at one output. After its arrivals the output sends the first cell of its list, and a sending lowers no floor;
 -- where it sends nothing its list is empty. So what is known of the list stays known. And what the list showed of a flow,
 -- and then what arrived of it, is what the output sent of it, and then what the list shows afterwards.
-use Rattle.std.proofs.Common.{◌≡◌, ℕ, ◌+◌, ◌-◌, ◌<◌, ◌≤◌, Bool, true, false, cond, List, [], ◌∷◌, ◌++◌, length, map, drop, Option, Some, None, Result, Ok, Err, refl, sym, ap, ◌∙◌, subst, arith}
+use Rattle.std.proofs.Common.{◌≡◌, ℕ, ◌+◌, ◌<◌, Bool, true, false, cond, List, [], ◌∷◌, ◌++◌, length, map, drop, Option, Some, None, Result, Ok, Err, refl, sym, ap, ◌∙◌, subst, arith}
 use Rattle.std.specs.Prelude.{slice_get, slice_index_or}
 use Rattle.std.specs.List.{filter}
-use Rattle.std.proofs.lemmas.List.{get_or-map, length-map, length-drop}
+use Rattle.std.proofs.lemmas.List.{get_or-map, length-map}
 use Rattle.std.proofs.lemmas.List.FromFn.{get_or-map-range_with_len, length-map-range_with_len}
 use Rattle.cq_base.specs.declared.cell.Cell.{Cell}
 use Rattle.cq_base.specs.declared.cell.Queued.{Queued}
@@ -72,7 +72,6 @@ module _ (ms : List Machine) (j slot : ℕ) (laws : KeepsLaws (machine_at ms j))
     pub states : length sent.after.ranks ≡ length old.ranks
     pub ports : length sent.after.lists ≡ length old.lists
     pub shows : shown i c (slice_index_or old.lists j []) ++ of_flow i c j come ≡ shown i c (listed (slice_index_or sent.gone j None)) ++ shown i c (slice_index_or sent.after.lists j [])
-    pub drains : length (slice_index_or sent.after.lists j []) ≤ length (slice_index_or old.lists j []) + length come - 1
 
   served_from : (come : List Cell) (old : IdealState) (r : Ranking) → j < length old.lists → j < length old.ranks → Filled ms j slot laws i c come (slice_index_or old.lists j []) (put_all j r.came (slice_index_or old.lists j [])) old.ranks r.ranks → Served come old (record { gone = fronts (filled r.came old.lists); after = record { lists = rests (filled r.came old.lists); ranks = all_told ms (fronts (filled r.came old.lists)) r.ranks } })
   served_from come old r in_lists in_ranks f =
@@ -101,7 +100,6 @@ module _ (ms : List Machine) (j slot : ℕ) (laws : KeepsLaws (machine_at ms j))
             sym f.shows ∙ shown_sent i c ys
             ∙ ap (λ (o : Option Queued). shown i c (listed o) ++ shown i c (drop 1 ys)) (sym gone)
             ∙ ap (λ (zs : List Queued). shown i c (listed (slice_index_or (fronts lists) j none)) ++ shown i c zs) (sym left);
-        drains = subst (λ (zs : List Queued). length zs ≤ length xs + length come - 1) (sym left) (let held = f.holds in let is = length-drop 1 ys in omega arith);
       }
 
   pub served : (cells : List (Option Cell)) (old : IdealState) (sent : Sent) → ideal_slot ms slot cells old ≡ Ok sent → j < length old.lists → j < length old.ranks → Stands (machine_at ms j) (slice_index_or old.ranks j []) slot 0 (slice_index_or old.lists j []) → AreOfClasses (machine_at ms j) j (present cells) → Served (present cells) old sent

@@ -1,5 +1,10 @@
+pub mod Admitted
+pub mod LimitedRuns
+pub mod Packets
+pub mod EnoughSlots
 pub mod FlowCount
 pub mod FlowFound
+pub mod FlowLimits
 pub mod FlowLaw
 pub mod FlowPut
 pub mod FlowRank

@@ -7,7 +7,7 @@ use Rattle.std.specs.Prelude.{◌&&◌, nat_lt, All, IfOk, find, slice_set}
 use Rattle.std.specs.Option.{option_map}
 use Rattle.std.specs.List.{range_with_len}
 use Rattle.std.proofs.Math.Bool.{and-false}
-use Rattle.std.proofs.lemmas.Bool.{cases_Bool, cases_lt, eqb-true, eq-eqb}
+use Rattle.std.proofs.lemmas.Bool.{cases_Bool, eqb-true, eq-eqb}
 use Rattle.std.proofs.lemmas.Bool.Decides.{nat_tests}
 use Rattle.std.proofs.lemmas.List.{nil_from_length}
 use Rattle.std.proofs.lemmas.List.FromFn.{length-map-range_with_len}
@@ -21,6 +21,9 @@ use Rattle.cq_rank.specs.Machine.{Machine, machine_at}
 use Rattle.cq_ideal.specs.IdealSlot.{IdealState, Sent, ideal_slot, ideal_sends, filled, rests, put_all}
 use Rattle.cq_ideal.specs.IdealRun.{Ran, ideal_run, empty_ideal, then_ran}
 use Rattle.cq_ideal.specs.Ranking.{Ranking, ranking, after_input, keyed}
+use Rattle.cq_ideal.proofs.FlowCount.{come_count-traffic_of, length-traffic_of, quiet_at_end}
+use Rattle.cq_ideal.proofs.FlowRank.{present}
+use Rattle.cq_ideal.proofs.FlowRun.{come_count, QuietAfter, drained}
 use Rattle.cq_ideal.proofs.TakenIn.{length-put}
 
 -- ## Sums over a range
@@ -75,10 +78,6 @@ cells_in-map f (i ∷ is) = ap (λ n. here (f i) + n) (cells_in-map f is)
 abbrev to_come : ℕ → List Arrival → ℕ
 to_come slot [] = 0
 to_come slot (a ∷ came) = bit (leb slot a.slot) + to_come slot came
-
-to_come_all : (came : List Arrival) → to_come 0 came ≡ length came
-to_come_all [] = refl
-to_come_all (a ∷ came) = let e : leb 0 a.slot ≡ true = grind arith in ap (λ (b : Bool). bit b + to_come 0 came) e ∙ omega (arith, to_come_all came)
 
 to_come_none : (came : List Arrival) (t : ℕ) → end_of came ≤ t → to_come t came ≡ 0
 to_come_none [] t h = refl
@@ -138,7 +137,7 @@ cells_arriving came t = omega (arith, cells_in-map (arriving_at came t) (range_w
 
 -- ## The cells that wait
 
-abbrev waiting : List (List Queued) → ℕ
+abbrev pub waiting : List (List Queued) → ℕ
 waiting [] = 0
 waiting (xs ∷ lists) = length xs + waiting lists
 
@@ -232,31 +231,57 @@ slot_less ms slot cells s = go (ranking ms slot 0 cells s.ranks) (ranked_all ms 
 
 -- ## A run
 
--- one slot, in numbers
-step : (waits came later coming left e t n : ℕ) → came + later ≤ coming → left ≤ waits + came - 1 → (e ≤ t → coming ≡ 0) → waits + coming + (e - t) ≤ suc n → left + later + (e - (t + 1)) ≤ n
-step waits came later coming left e t n split sent over h = elim (cases_lt t e) [ inl before ↦ omega arith | inr after ↦ let none : coming ≡ 0 = over after in omega arith ]
-
 then_empty : (gone : List (Option Queued)) (r : Result Ran TagFault) → IfOk r (λ ran. waiting ran.after.lists ≡ 0) → IfOk (then_ran gone r) (λ ran. waiting ran.after.lists ≡ 0)
 then_empty gone (Ok ran) e = e
 then_empty gone (Err fault) e = tt
 
--- each slot is one of those before the end, or sends a cell that waits
-empties : (ms : List Machine) (came : List Arrival) (n t : ℕ) (s : IdealState) → waiting s.lists + to_come t came + (end_of came - t) ≤ n → IfOk (ideal_run ms t (map (arriving came) (range_with_len t n)) s) (λ ran. waiting ran.after.lists ≡ 0)
-unfolding ideal_run
-empties ms came zero t s h = omega arith
-empties ms came (suc n) t s h =
-    go (ideal_slot ms t (arriving came t) s) (slot_less ms t (arriving came t) s)
-    (λ sent less. empties ms came n (t + 1) sent.after (step (waiting s.lists) (cells_in (arriving came t)) (to_come (t + 1) came) (to_come t came) (waiting sent.after.lists) (end_of came) t n (cells_arriving came t) less (to_come_none came t) h))
-  where
-    go : (r : Result Sent TagFault) → IfOk r (λ sent. waiting sent.after.lists ≤ waiting s.lists + cells_in (arriving came t) - 1) → ((sent : Sent) → waiting sent.after.lists ≤ waiting s.lists + cells_in (arriving came t) - 1 → IfOk (ideal_run ms (t + 1) (map (arriving came) (range_with_len (t + 1) n)) sent.after) (λ ran. waiting ran.after.lists ≡ 0)) → IfOk (elim r [ Ok sent ↦ then_ran sent.gone (ideal_run ms (t + 1) (map (arriving came) (range_with_len (t + 1) n)) sent.after) | Err fault ↦ Err fault ]) (λ ran. waiting ran.after.lists ≡ 0)
-    go (Ok sent) less next = then_empty sent.gone (ideal_run ms (t + 1) (map (arriving came) (range_with_len (t + 1) n)) sent.after) (next sent less)
-    go (Err fault) less next = tt
+-- Where after some slot nothing comes any more, and as many slots follow as cells came in all, each of these takes one cell that
+-- waits, so none is left.
+count_present : (cells : List (Option Cell)) → cells_in cells ≡ length (present cells)
+count_present [] = refl
+count_present (None ∷ cells) = let rest = count_present cells in omega arith
+count_present (Some cell ∷ cells) = let rest = count_present cells in omega arith
 
-waiting-empty : (ports : ℕ) → waiting (replicate ports []) ≡ 0
+pub empties : (ms : List Machine) (traffic : List (List (Option Cell))) (slot e : ℕ) (s : IdealState) →
+    QuietAfter e traffic → waiting s.lists + come_count traffic + e ≤ length traffic →
+    IfOk (ideal_run ms slot traffic s) (λ ran. waiting ran.after.lists ≡ 0)
+unfolding ideal_run come_count
+empties ms [] slot e s quiet enough = omega arith
+empties ms (cells ∷ traffic) slot e s quiet enough =
+    go (ideal_slot ms slot cells s) (slot_less ms slot cells s)
+    (λ after e' quiet' enough'. empties ms traffic (slot + 1) e' after quiet' enough')
+  where
+    go : (r : Result Sent TagFault) →
+        IfOk r (λ sent. waiting sent.after.lists ≤ waiting s.lists + cells_in cells - 1) →
+        ((after : IdealState) (e' : ℕ) → QuietAfter e' traffic →
+        waiting after.lists + come_count traffic + e' ≤ length traffic →
+        IfOk (ideal_run ms (slot + 1) traffic after) (λ ran. waiting ran.after.lists ≡ 0)) →
+        IfOk (elim r [
+          | Ok sent ↦ then_ran sent.gone (ideal_run ms (slot + 1) traffic sent.after)
+          | Err fault ↦ Err fault
+        ])
+        (λ ran. waiting ran.after.lists ≡ 0)
+    go (Ok sent) less rest =
+        then_empty sent.gone (ideal_run ms (slot + 1) traffic sent.after)
+        (after_slot sent less (ideal_run ms (slot + 1) traffic sent.after) (rest sent.after))
+      where
+        after_slot : (sent : Sent) → waiting sent.after.lists ≤ waiting s.lists + cells_in cells - 1 →
+            (x : Result Ran TagFault) →
+            ((e' : ℕ) → QuietAfter e' traffic → waiting sent.after.lists + come_count traffic + e' ≤ length traffic →
+            IfOk x (λ ran. waiting ran.after.lists ≡ 0)) →
+            IfOk x (λ ran. waiting ran.after.lists ≡ 0)
+        after_slot sent less (Ok ran) rest = let same =
+            count_present cells in
+            drained e cells traffic (waiting s.lists) (waiting sent.after.lists)
+            (waiting ran.after.lists) quiet enough (omega arith) rest
+        after_slot sent less (Err fault) rest = tt
+    go (Err fault) less rest = tt
+
+pub waiting-empty : (ports : ℕ) → waiting (replicate ports []) ≡ 0
 waiting-empty zero = refl
 waiting-empty (suc ports) = let rest = waiting-empty ports in omega arith
 
-none_wait : (lists : List (List Queued)) → waiting lists ≡ 0 → All (λ cells. cells ≡ []) lists
+pub none_wait : (lists : List (List Queued)) → waiting lists ≡ 0 → All (λ cells. cells ≡ []) lists
 none_wait [] e k d inside = absurd (omega arith)
 none_wait (xs ∷ lists) e zero d inside = nil_from_length xs (omega arith)
 none_wait (xs ∷ lists) e (suc k) d inside = none_wait lists (omega arith) k d (omega arith)
@@ -266,10 +291,12 @@ none_wait_after (Ok ran) e = none_wait ran.after.lists e
 none_wait_after (Err fault) e = tt
 
 pub empty_at_end : (ms : List Machine) (ports : ℕ) (ranks : List (List ℕ)) (came : List Arrival) → IfOk (ideal_run ms 0 (traffic_of came) (empty_ideal ports ranks)) (λ ran. All (λ cells. cells ≡ []) ran.after.lists)
-unfolding traffic_of enough
 empty_at_end ms ports ranks came =
+    let few = come_count-traffic_of came in
+    let slots = length-traffic_of came in
+    let none = waiting-empty ports in
     none_wait_after (ideal_run ms 0 (traffic_of came) (empty_ideal ports ranks))
-    (empties ms came (end_of came + length came) 0 (empty_ideal ports ranks) (omega (arith, to_come_all came, waiting-empty ports)))
+    (empties ms (traffic_of came) 0 (end_of came) (empty_ideal ports ranks) (quiet_at_end came) (omega arith))
 
 -- ## After the run
 

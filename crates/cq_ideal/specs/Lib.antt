@@ -1,6 +1,11 @@
+pub mod Admission
 pub mod Flows
 pub mod Ideal
 pub mod IdealRun
 pub mod IdealSlot
+pub mod LimitedExample
+pub mod LimitedFlows
+pub mod LimitedIdeal
 pub mod Parts
 pub mod Ranking
+pub mod WholePackets

@@ -8,6 +8,7 @@
 mod flows;
 mod ideal;
 mod laws;
+mod limits;
 mod queue;
 mod queues;
 mod ranks;
@@ -19,3 +20,7 @@ mod tests;
 pub use flows::flows_leave_as_they_came;
 pub use ideal::Ideal;
 pub use laws::ideal_run_is_whole;
+pub use limits::{
+    flows_leave_in_packets, limited_run_is_run_of_admitted, limited_run_is_whole,
+    nothing_is_refused_without_limits, whole_packets_are_admitted, worked_discard,
+};

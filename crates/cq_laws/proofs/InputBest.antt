@@ -1,12 +1,15 @@
 -- A run with input-best matchings is a run with stable ones, for each input-best matching is stable.
-use Rattle.std.proofs.Common.{ℕ, ◌+◌, List, [], ◌∷◌, Option}
+use Rattle.std.proofs.Common.{ℕ, List, Option}
 use Rattle.cq_base.specs.declared.cell.Cell.{Cell}
 use Rattle.cq_base.specs.declared.cell.TagFault.{TagFault}
 use Rattle.cq_rank.specs.Machine.{Machine}
+use Rattle.cq_ideal.specs.Admission.{Marked}
 use Rattle.cq_prefs.specs.Pairing.{IsStable, IsInputBest}
 use Rattle.cq_laws.specs.Fabric.{Fabric}
 use Rattle.cq_laws.specs.FabricSlot.{SlotRecord, FabricSlot}
-use Rattle.cq_laws.specs.FabricRun.{FabricRun, FabricStops}
+use Rattle.cq_laws.specs.FabricRun.{FabricRun, FabricStops, IsFault}
+use Rattle.cq_laws.specs.LimitedFabric.{LimitedRecord, LimitedFabricSlot, LimitedFabricRun, LimitedFabricStops, IsLimitedFault}
+use Rattle.cq_laws.proofs.Weaker.{each_run, each_stop}
 
 module _ (ms : List Machine) where
   pub stable_slot : (slot : ℕ) (cells : List (Option Cell)) (f g : Fabric) (r : SlotRecord) → FabricSlot IsInputBest ms slot cells f r g → FabricSlot IsStable ms slot cells f r g
@@ -22,12 +25,35 @@ module _ (ms : List Machine) where
       }
 
   pub stable_run : (slot : ℕ) (traffic : List (List (Option Cell))) (f g : Fabric) (rs : List SlotRecord) → FabricRun IsInputBest ms slot traffic f rs g → FabricRun IsStable ms slot traffic f rs g
-  stable_run slot [] f g [] run = run
-  stable_run slot [] f g (r ∷ rs) run = run
-  stable_run slot (cells ∷ traffic) f g [] run = run
-  stable_run slot (cells ∷ traffic) f g (r ∷ rs) run = (run.0, stable_slot slot cells f run.0 r run.1, stable_run (slot + 1) traffic run.0 g rs run.2)
+  stable_run = each_run (FabricSlot IsInputBest ms) (FabricSlot IsStable ms) (IsFault ms) stable_slot
 
   pub stable_stop : (slot : ℕ) (traffic : List (List (Option Cell))) (f : Fabric) (rs : List SlotRecord) (fault : TagFault) → FabricStops IsInputBest ms slot traffic f rs fault → FabricStops IsStable ms slot traffic f rs fault
-  stable_stop slot [] f rs fault run = run
-  stable_stop slot (cells ∷ traffic) f [] fault run = run
-  stable_stop slot (cells ∷ traffic) f (r ∷ rs) fault run = (run.0, stable_slot slot cells f run.0 r run.1, stable_stop (slot + 1) traffic run.0 rs fault run.2)
+  stable_stop = each_stop (FabricSlot IsInputBest ms) (FabricSlot IsStable ms) (IsFault ms) stable_slot
+
+  -- ## The same with limits
+
+  module _ (limits : List (Option ℕ)) where
+    pub stable_limited_slot : (slot : ℕ) (cells : List (Option Cell)) (f g : Marked Fabric)
+        (r : LimitedRecord) → LimitedFabricSlot IsInputBest limits ms slot cells f r g →
+        LimitedFabricSlot IsStable limits ms slot cells f r g
+    stable_limited_slot slot cells f g r s =
+        record {
+          admits = s.admits;
+          runs = stable_slot slot r.admission.cells f.state g.state r.of_slot s.runs;
+          marks = s.marks;
+        }
+
+    pub stable_limited_run : (slot : ℕ) (traffic : List (List (Option Cell))) (f g : Marked Fabric)
+        (rs : List LimitedRecord) → LimitedFabricRun IsInputBest limits ms slot traffic f rs g →
+        LimitedFabricRun IsStable limits ms slot traffic f rs g
+    stable_limited_run =
+        each_run (LimitedFabricSlot IsInputBest limits ms) (LimitedFabricSlot IsStable limits ms)
+        (IsLimitedFault limits ms) stable_limited_slot
+
+    pub stable_limited_stop : (slot : ℕ) (traffic : List (List (Option Cell))) (f : Marked Fabric)
+        (rs : List LimitedRecord) (fault : TagFault) →
+        LimitedFabricStops IsInputBest limits ms slot traffic f rs fault →
+        LimitedFabricStops IsStable limits ms slot traffic f rs fault
+    stable_limited_stop =
+        each_stop (LimitedFabricSlot IsInputBest limits ms) (LimitedFabricSlot IsStable limits ms)
+        (IsLimitedFault limits ms) stable_limited_slot

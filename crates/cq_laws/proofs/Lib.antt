@@ -10,8 +10,14 @@ pub mod Came
 pub mod IdealLists
 pub mod Fronts
 pub mod OneSlot
+pub mod Held
+pub mod LimitedSlots
 pub mod WholeRuns
+pub mod LimitedWhole
+pub mod Weaker
+pub mod NothingRefused
 pub mod InputBest
+pub mod NoChoice
 pub mod OneRun
 pub mod AddingUp
 pub mod LeastSlack

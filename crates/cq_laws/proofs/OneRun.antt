@@ -1,13 +1,14 @@
 -- There is one run with input-best matchings. The cells of a slot have one ranking, and it says what each list is after they
 -- arrived. The offers of a state have one input-best matching, and a transfer says what each list and each buffer is after it, as
 -- does a departure. So each state of a slot is one, and by induction the states and records of a run.
-use Rattle.std.proofs.Common.{◌≡◌, ℕ, zero, suc, ◌+◌, List, [], ◌∷◌, length, Option, Some, Result, Ok, Err, refl, sym, ap, ◌∙◌, subst, ⊎_elim}
+use Rattle.std.proofs.Common.{◌≡◌, ℕ, zero, suc, List, [], ◌∷◌, length, Option, Some, Result, Ok, Err, refl, sym, ap, ◌∙◌, subst, ⊎_elim}
 use Rattle.std.proofs.lemmas.List.{ext_get_or}
 use Rattle.cq_base.specs.declared.cell.Cell.{Cell}
 use Rattle.cq_base.specs.declared.cell.Queued.{Queued}
 use Rattle.cq_base.specs.declared.cell.TagFault.{TagFault}
 use Rattle.cq_rank.specs.Machine.{Machine}
-use Rattle.cq_ideal.specs.Ranking.{Ranking}
+use Rattle.cq_ideal.specs.Admission.{Admission, Marked}
+use Rattle.cq_ideal.specs.Ranking.{Ranking, ranking}
 use Rattle.cq_ideal.specs.IdealSlot.{fronts, rests, all_told}
 use Rattle.cq_prefs.specs.Orders.{outputs_of, IsListed}
 use Rattle.cq_prefs.specs.Pairing.{Partners, partner_of, IsStable, IsInputBest}
@@ -17,7 +18,10 @@ use Rattle.cq_prefs.proofs.Best.{one_input_best}
 use Rattle.cq_laws.specs.Fabric.{Fabric, input}
 use Rattle.cq_laws.specs.Phases.{Arrives, Transfers, Departs}
 use Rattle.cq_laws.specs.FabricSlot.{SlotRecord, FabricSlot}
-use Rattle.cq_laws.specs.FabricRun.{FabricRun, FabricStops}
+use Rattle.cq_laws.specs.FabricRun.{FabricRun, IsFault}
+use Rattle.cq_laws.specs.SlotBySlot.{IsOneRun}
+use Rattle.cq_laws.specs.LimitedFabric.{LimitedRecord, LimitedFabricSlot, IsLimitedFault, fabric_admission}
+use Rattle.cq_laws.proofs.NoChoice.{LeavesNoChoice, one_of_each}
 use Rattle.cq_laws.proofs.Rises.{sender}
 
 same_fabric : (a b : Fabric) → a.inputs ≡ b.inputs → a.buffers ≡ b.buffers → a.ranks ≡ b.ranks → a ≡ b
@@ -91,22 +95,7 @@ one_slot ms slot cells f g g' r r' x y =
 
 -- ## One run
 
-same_cons : (r s : SlotRecord) (rs ss : List SlotRecord) → r ≡ s → rs ≡ ss → r ∷ rs ≡ s ∷ ss
-same_cons r s rs ss e f = ap (λ (q : SlotRecord). q ∷ rs) e ∙ ap (λ q. s ∷ q) f
-
 module _ (ms : List Machine) where
-  pub one_run : (slot : ℕ) (traffic : List (List (Option Cell))) (f g g' : Fabric) (rs rs' : List SlotRecord) → FabricRun IsInputBest ms slot traffic f rs g → FabricRun IsInputBest ms slot traffic f rs' g' → (rs ≡ rs') × (g ≡ g')
-  one_run slot [] f g g' [] [] x y = (refl, x ∙ sym y)
-  one_run slot [] f g g' [] (s ∷ ss) x y = absurd y
-  one_run slot [] f g g' (r ∷ rs) ss x y = absurd x
-  one_run slot (cells ∷ traffic) f g g' [] ss x y = absurd x
-  one_run slot (cells ∷ traffic) f g g' (r ∷ rs) [] x y = absurd y
-  one_run slot (cells ∷ traffic) f g g' (r ∷ rs) (s ∷ ss) x y =
-      let one = one_slot ms slot cells f x.0 y.0 r s x.1 y.1 in
-      let y' : FabricRun IsInputBest ms (slot + 1) traffic x.0 ss g' = subst (λ (h : Fabric). FabricRun IsInputBest ms (slot + 1) traffic h ss g') (sym one.1) y.2 in
-      let rest = one_run (slot + 1) traffic x.0 g g' rs ss x.2 y' in
-      (same_cons r s rs ss one.0 rest.0, rest.1)
-
   -- what ranks has no fault
   never_both : (a : Ranking) (fault : TagFault) (x : Result Ranking TagFault) → x ≡ Ok a → x ≡ Err fault → ⊥
   never_both a fault x e f = let no : ◌≡◌ {A = Result Ranking TagFault} (Ok a) (Err fault) = sym e ∙ f in cc
@@ -114,22 +103,43 @@ module _ (ms : List Machine) where
   one_fault : (u v : TagFault) (x : Result Ranking TagFault) → x ≡ Err u → x ≡ Err v → u ≡ v
   one_fault u v x e f = let ok : ◌≡◌ {A = Result Ranking TagFault} (Err u) (Err v) = sym e ∙ f in cc
 
-  pub one_stop : (slot : ℕ) (traffic : List (List (Option Cell))) (f : Fabric) (rs rs' : List SlotRecord) (u v : TagFault) → FabricStops IsInputBest ms slot traffic f rs u → FabricStops IsInputBest ms slot traffic f rs' v → (rs ≡ rs') × (u ≡ v)
-  one_stop slot [] f rs ss u v x y = absurd x
-  one_stop slot (cells ∷ traffic) f [] [] u v x y = (refl, one_fault u v _ x y)
-  one_stop slot (cells ∷ traffic) f [] (s ∷ ss) u v x y = absurd (never_both _ u _ y.1.arrive.ranked x)
-  one_stop slot (cells ∷ traffic) f (r ∷ rs) [] u v x y = absurd (never_both _ v _ x.1.arrive.ranked y)
-  one_stop slot (cells ∷ traffic) f (r ∷ rs) (s ∷ ss) u v x y =
-      let one = one_slot ms slot cells f x.0 y.0 r s x.1 y.1 in
-      let y' : FabricStops IsInputBest ms (slot + 1) traffic x.0 ss v = subst (λ (h : Fabric). FabricStops IsInputBest ms (slot + 1) traffic h ss v) (sym one.1) y.2 in
-      let rest = one_stop (slot + 1) traffic x.0 rs ss u v x.2 y' in
-      (same_cons r s rs ss one.0 rest.0, rest.1)
+  pub no_choice : LeavesNoChoice (FabricSlot IsInputBest ms) (IsFault ms)
+  no_choice =
+      record {
+        slot = one_slot ms;
+        fault = λ slot cells f u v x y. one_fault u v (ranking ms slot 0 cells f.ranks) x y;
+        never_both = λ slot cells f g r u x y. never_both _ u (ranking ms slot 0 cells f.ranks) x.arrive.ranked y;
+      }
 
-  pub run_or_stop : (slot : ℕ) (traffic : List (List (Option Cell))) (f g : Fabric) (rs rs' : List SlotRecord) (fault : TagFault) → FabricRun IsInputBest ms slot traffic f rs g → FabricStops IsInputBest ms slot traffic f rs' fault → ⊥
-  run_or_stop slot [] f g rs ss fault x y = absurd y
-  run_or_stop slot (cells ∷ traffic) f g [] ss fault x y = absurd x
-  run_or_stop slot (cells ∷ traffic) f g (r ∷ rs) [] fault x y = never_both _ fault _ x.1.arrive.ranked y
-  run_or_stop slot (cells ∷ traffic) f g (r ∷ rs) (s ∷ ss) fault x y =
-      let one = one_slot ms slot cells f x.0 y.0 r s x.1 y.1 in
-      let y' : FabricStops IsInputBest ms (slot + 1) traffic x.0 ss fault = subst (λ (h : Fabric). FabricStops IsInputBest ms (slot + 1) traffic h ss fault) (sym one.1) y.2 in
-      run_or_stop (slot + 1) traffic x.0 g rs ss fault x.2 y'
+  pub only_run : IsOneRun (FabricSlot IsInputBest ms) (IsFault ms)
+  only_run = one_of_each (FabricSlot IsInputBest ms) (IsFault ms) no_choice
+
+  pub one_run : (slot : ℕ) (traffic : List (List (Option Cell))) (f g h : Fabric) (rs ss : List SlotRecord) →
+      FabricRun IsInputBest ms slot traffic f rs g → FabricRun IsInputBest ms slot traffic f ss h →
+      (rs ≡ ss) × (g ≡ h)
+  one_run = only_run.run
+
+  -- ## The same with limits
+
+  module _ (limits : List (Option ℕ)) where
+    one_limited_slot : (slot : ℕ) (cells : List (Option Cell)) (f g h : Marked Fabric) (r s : LimitedRecord) →
+        LimitedFabricSlot IsInputBest limits ms slot cells f r g →
+        LimitedFabricSlot IsInputBest limits ms slot cells f s h → (r ≡ s) × (g ≡ h)
+    one_limited_slot slot cells f g h r s x y =
+        let admission = x.admits ∙ sym y.admits in
+        let y' : FabricSlot IsInputBest ms slot r.admission.cells f.state s.of_slot h.state =
+        subst (λ (a : Admission). FabricSlot IsInputBest ms slot a.cells f.state s.of_slot h.state)
+        (sym admission) y.runs in
+        let one = one_slot ms slot r.admission.cells f.state g.state h.state r.of_slot s.of_slot x.runs y' in
+        let marks = x.marks ∙ ap (λ (a : Admission). a.marks) admission ∙ sym y.marks in
+        (λ k. record { admission = admission k; of_slot = one.0 k }, λ k. record { state = one.1 k; marks = marks k })
+
+    pub only_limited_run : IsOneRun (LimitedFabricSlot IsInputBest limits ms) (IsLimitedFault limits ms)
+    only_limited_run =
+        one_of_each (LimitedFabricSlot IsInputBest limits ms) (IsLimitedFault limits ms)
+        (record {
+          slot = one_limited_slot;
+          fault = λ slot cells f u v x y. no_choice.fault slot
+              (fabric_admission limits cells f).cells f.state u v x y;
+          never_both = λ slot cells f g r u x y. no_choice.never_both slot r.admission.cells f.state g.state r.of_slot u x.runs (subst (λ (a : Admission). IsFault ms slot a.cells f.state u) (sym x.admits) y);
+        })

@@ -66,7 +66,7 @@ early_from slot f before =
 
 -- ## And back
 
-not_before_itself : (c : Queued) → IsBefore c c → ⊥
+pub not_before_itself : (c : Queued) → IsBefore c c → ⊥
 not_before_itself c h = true≢false (sym h ∙ key_laws.never_itself c.key)
 
 -- where no cell is related to itself, none stands at two places

@@ -8,21 +8,19 @@ use Rattle.cq_prefs.specs.Orders.{Orders}
 use Rattle.cq_prefs.specs.Pairing.{Partners}
 use Rattle.cq_laws.specs.Fabric.{Fabric}
 use Rattle.cq_laws.specs.FabricSlot.{SlotRecord, FabricSlot}
+use Rattle.cq_laws.specs.SlotBySlot.{RunBy, StopBy}
 
 -- one record a slot, from this slot on, each from the state in which the one before it ended
 abbrev pub FabricRun : (Orders → Partners → Type 0) → List Machine → ℕ → List (List (Option Cell)) → Fabric → List SlotRecord → Fabric → Type 0
-FabricRun MayChoose ms slot [] old [] new = new ≡ old
-FabricRun MayChoose ms slot [] old (r ∷ rs) new = ⊥
-FabricRun MayChoose ms slot (cells ∷ traffic) old [] new = ⊥
-FabricRun MayChoose ms slot (cells ∷ traffic) old (r ∷ rs) new =
-    (next : Fabric) × FabricSlot MayChoose ms slot cells old r next × FabricRun MayChoose ms (slot + 1) traffic next rs new
+FabricRun MayChoose ms slot traffic old rs new = RunBy (FabricSlot MayChoose ms) slot traffic old rs new
+
+-- the first rank that does not fit is the tag fault of the slot
+abbrev pub IsFault : List Machine → ℕ → List (Option Cell) → Fabric → TagFault → Type 0
+IsFault ms slot cells f fault = ranking ms slot 0 cells f.ranks ≡ Err fault
 
 -- the records of some slots, and then a slot with a tag fault
 abbrev pub FabricStops : (Orders → Partners → Type 0) → List Machine → ℕ → List (List (Option Cell)) → Fabric → List SlotRecord → TagFault → Type 0
-FabricStops MayChoose ms slot [] old rs fault = ⊥
-FabricStops MayChoose ms slot (cells ∷ traffic) old [] fault = ranking ms slot 0 cells old.ranks ≡ Err fault
-FabricStops MayChoose ms slot (cells ∷ traffic) old (r ∷ rs) fault =
-    (next : Fabric) × FabricSlot MayChoose ms slot cells old r next × FabricStops MayChoose ms (slot + 1) traffic next rs fault
+FabricStops MayChoose ms slot traffic old rs fault = StopBy (FabricSlot MayChoose ms) (IsFault ms) slot traffic old rs fault
 
 -- runs on end are a run: where one ended another goes on, or one slot more, or a run that stops
 pub record RunsGoOn (MayChoose : Orders → Partners → Type 0) : Type 0 where

@@ -1,11 +1,16 @@
+pub mod SlotBySlot
 pub mod Fabric
 pub mod Places
 pub mod Slack
 pub mod Phases
+pub mod Holding
 pub mod FabricSlot
 pub mod FabricRun
 pub mod Records
 pub mod Agreement
+pub mod LimitedFabric
+pub mod LimitedAgreement
+pub mod LimitedQuiet
 pub mod Measures
 pub mod Quiet
 pub mod Example

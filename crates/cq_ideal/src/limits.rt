@@ -1,0 +1,66 @@
+//! Switches whose outputs have limits. Each law is the contract of a function that does nothing.
+ghost use Rattle.std.specs.Prelude.{◌≡◌, ℕ, Bool, List, [], ◌∷◌, Option, Ok, All, IfOk, flat_map};
+ghost use Rattle.cq_base.specs.declared.cell.Cell.{Cell};
+ghost use Rattle.cq_base.specs.Arrivals.{no_arrivals, arrival_at};
+ghost use Rattle.cq_base.specs.Arriving.{Arrival, traffic_of};
+ghost use Rattle.cq_rank.specs.Machine.{Machine};
+ghost use Rattle.cq_ideal.specs.Admission.{Admission, Limits, Marked, Traffic, NoLimits, RefusesNone, admission, admitted_in, cells_refused, mark_at, marks_down, packets_refused, unless, unmarked};
+ghost use Rattle.cq_ideal.specs.IdealRun.{ideal_run};
+ghost use Rattle.cq_ideal.specs.IdealSlot.{IdealState};
+ghost use Rattle.cq_ideal.specs.LimitedExample.{discard_admissions, discard_ran, discard_slots, first_come_all, limit_one};
+ghost use Rattle.cq_ideal.specs.LimitedFlows.{FlowsLeaveInPackets};
+ghost use Rattle.cq_ideal.specs.LimitedIdeal.{empty_limited, IsRunOfAdmitted, LimitedRan, limited_run, unlimited};
+ghost use Rattle.cq_ideal.specs.WholePackets.{AreJudged, AreOfPackets, AreWholePackets, cells_at};
+
+/// A run with limits is the run without limits of the arrivals that it admits, slot by slot. So what is said of
+/// runs without limits is said of admitted cells.
+pub fn limited_run_is_run_of_admitted()
+    ensures { IsRunOfAdmitted }
+{}
+
+/// Packets are admitted or refused whole: a mark stays as it is from a packet's first cell to its last. So of
+/// the cells that come to an input those that are admitted are all cells of some of the packets.
+pub fn whole_packets_are_admitted()
+    // in one slot the mark of an input after it says what became of its arrival
+    ensures by_mark { (limits : Limits) (held : List ℕ) (marks : List Bool) (cells : List (Option Cell)) (i : ℕ) →
+        arrival_at (admission limits held marks cells).cells i ≡ unless (mark_at (admission limits held marks cells).marks i) (arrival_at cells i) }
+    // whole runs
+    ensures run { (limits : Limits) (ms : List Machine) (slot : ℕ) (traffic : Traffic) (old : Marked IdealState) (ran : LimitedRan) (i : ℕ) →
+        limited_run limits ms slot traffic old ≡ Ok ran → AreOfPackets 0 (cells_at i traffic) →
+        AreWholePackets (cells_at i traffic) (cells_at i (admitted_in ran.admissions)) }
+    // and whatever the outputs hold as the arrivals are judged
+    ensures judged { (limits : Limits) (marks : List Bool) (traffic : Traffic) (i : ℕ) →
+        (admissions : List Admission) → AreJudged limits marks traffic admissions → AreOfPackets 0 (cells_at i traffic) →
+        AreWholePackets (cells_at i traffic) (cells_at i (admitted_in admissions)) }
+{}
+
+/// A run with limits has enough slots where the run without has: where no rank is a tag fault, all lists are
+/// empty at its end.
+pub fn limited_run_is_whole()
+    ensures { (limits : Limits) (ms : List Machine) (ports : ℕ) (ranks : List (List ℕ)) (came : List Arrival) →
+        IfOk (limited_run limits ms 0 (traffic_of came) (empty_limited ports ranks)) (λ ran. All (λ cells. cells ≡ []) ran.after.state.lists) }
+{}
+
+/// The cells of one input and class for one output leave it in the order in which they came, and none is lost
+/// but those of the packets that were refused whole, in every run that ends without a tag fault.
+pub fn flows_leave_in_packets()
+    ensures { FlowsLeaveInPackets }
+{}
+
+/// Where no output has a limit and no mark is up nothing is refused, nor where no cell arrives. So a run in
+/// which no output has a limit is the run that it was before there were limits.
+pub fn nothing_is_refused_without_limits()
+    ensures no_limits { (limits : Limits) (ports : ℕ) (cells : List (Option Cell)) → NoLimits limits → RefusesNone limits (marks_down ports) cells }
+    ensures no_arrivals { (limits : Limits) (marks : List Bool) → RefusesNone limits marks no_arrivals }
+    ensures run { (limits : Limits) (ms : List Machine) (slot ports : ℕ) (traffic : Traffic) (state : IdealState) → NoLimits limits →
+        unlimited (limited_run limits ms slot traffic (unmarked ports state)) ≡ ideal_run ms slot traffic state }
+{}
+
+/// Three slots worked out by hand, with limit 1 at output 0. It is full for a packet that comes in the same slot
+/// behind one that it admitted, a packet that is refused is refused to its last cell though the output is
+/// empty again, and the next packet is judged anew.
+pub fn worked_discard()
+    ensures run { limited_run limit_one first_come_all 0 discard_slots (empty_limited 3 ([] ∷ [] ∷ [] ∷ [])) ≡ Ok discard_ran }
+    ensures packets { packets_refused 0 (flat_map (λ a. a.refused) discard_admissions) ≡ 2 }
+    ensures cells { cells_refused 0 (flat_map (λ a. a.refused) discard_admissions) ≡ 3 }
+{}
