@@ -7,7 +7,7 @@ use Rattle.std.proofs.lemmas.Int.Digits.{digits_of_step, length-digits_of-le}
 use Rattle.std.proofs.lemmas.List.{map-append, length-map, length-drop, drop-drop}
 use Rattle.cq_base.specs.Decimal.{decimal}
 
-decimal_above : (n : ℕ) → 0 < n → decimal n ≡ map (λ d. 48 + d) (digits_of 10 n)
+pub decimal_above : (n : ℕ) → 0 < n → decimal n ≡ map (λ d. 48 + d) (digits_of 10 n)
 unfolding decimal
 decimal_above n h = let e : eqb n 0 ≡ false = grind arith in ap (λ b. map (λ d. 48 + d) (cond b (0 ∷ []) (digits_of 10 n))) e
 
@@ -19,7 +19,7 @@ decimal_small (suc k) h =
     let z : suc k / 10 ≡ 0 = omega arith in
     decimal_above (suc k) a ∙ ap (map (λ d. 48 + d)) (digits_of_step 10 (suc k) (lit≤ tt) a ∙ ap (λ q. digits_of 10 q ++ (suc k % 10) ∷ []) z)
 
-decimal_more : (n : ℕ) → 10 ≤ n → decimal n ≡ decimal (n / 10) ++ (48 + n % 10) ∷ []
+pub decimal_more : (n : ℕ) → 10 ≤ n → decimal n ≡ decimal (n / 10) ++ (48 + n % 10) ∷ []
 decimal_more n h =
     let a : 0 < n = omega arith in
     let b : 0 < n / 10 = omega arith in

@@ -1,0 +1,12 @@
+use Rattle.std.proofs.Common.{None, Some}
+use Rattle.cq_base.specs.Texts.{log_line}
+use Rattle.cq_lines.proofs.Going.{one_line_more}
+use Rattle.cq_audit.specs.Log.{Comes}
+use Rattle.cq_audit.proofs.log.read_log.Goals as goal
+
+pub lines-preserved : goal.lines-preserved
+lines-preserved c =
+    let next = c.in-Some.ensures.found in
+    one_line_more log_line (Comes c.args.ports) None c.args.log.now c.lines.note.items c.put.new.note.items
+    c.lines.last (Some c.in-Some.transfer) c.lines.rest.now c.in-Some.behind.now c.in-Some.transfer
+    c.lines.invariant next.0 next.1 c.in_ok-put.ensures

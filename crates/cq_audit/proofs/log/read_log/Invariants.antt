@@ -1,0 +1,11 @@
+use Rattle.std.proofs.Common.{None, length}
+use Rattle.cq_base.specs.Texts.{log_line}
+use Rattle.cq_lines.proofs.Going.{SoFar}
+use Rattle.cq_audit.specs.Log.{Comes}
+use Rattle.cq_audit.proofs.log.read_log.Given as goal
+
+abbrev pub invariant-lines : goal.invariant-lines
+invariant-lines l = SoFar log_line (Comes l.ports) None l.log l.note.items l.last l.rest
+
+abbrev pub decreases-lines : goal.decreases-lines
+decreases-lines l = length l.rest

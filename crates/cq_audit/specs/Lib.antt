@@ -1,0 +1,5 @@
+pub mod Log
+pub mod Refusals
+pub mod Audit
+pub mod Trace
+pub mod Matchings

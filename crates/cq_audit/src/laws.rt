@@ -1,0 +1,18 @@
+//! What a log says.
+ghost use Rattle.std.specs.Prelude.{ℕ};
+ghost use Rattle.cq_audit.specs.Matchings.{TransfersTellMatching};
+ghost use Rattle.cq_audit.specs.Log.{IsLogExact};
+
+/// A log is read in one way, or refused at one line, and never both. It does nothing: its contract is the
+/// claim.
+#[tactic(auto, using(crate::proofs::LogLines::log_is_exact))]
+pub fn logs_are_exact()
+    ensures { (ports : ℕ) → IsLogExact ports }
+{}
+
+/// The transfers of a phase tell its matching: where two stable matchings of the same lists move the same cells,
+/// they are one. It does nothing: its contract is the claim.
+#[tactic(auto, using(crate::proofs::Told::transfers_tell))]
+pub fn transfers_tell_the_matching()
+    ensures { TransfersTellMatching }
+{}

@@ -1,0 +1,11 @@
+//! Checks the log and the trace of any maker.
+#![tactic(auto)]
+
+mod laws;
+mod log;
+mod trace;
+mod transfer;
+
+pub use laws::{logs_are_exact, transfers_tell_the_matching};
+pub use log::{LogRefusal, read_log};
+pub use trace::audit_trace;

@@ -1,0 +1,57 @@
+-- Why a text is read in one way. At a place one line at most stands at the front, and it leads to one place. So of
+-- two readings neither parts from the other: they have the same lines as long as both go on, and where one finds no
+-- line that may come, or the end, so does the other.
+use Rattle.std.proofs.Common.{◌≡◌, ◌≢◌, ℕ, ◌+◌, List, [], ◌∷◌, ◌++◌, length, refl, ap, sym, subst, ◌∙◌, append_assoc}
+use Rattle.std.specs.List.{flat_map}
+use Rattle.std.proofs.lemmas.List.{append-nil}
+use Rattle.cq_lines.specs.Texts.{Leads, IsExact}
+
+-- At a sound place one line at most stands at the front, it leads to one place, which is sound, and it has a letter
+-- at least.
+pub record OneWay {P X : Type 0} (spelling : X → List ℕ) (Rule : P → X → P → Type 0) (IsSound : P →
+    Type 0) : Type 0 where
+  pub same : (p q r : P) (x y : X) (a b : List ℕ) → IsSound p → Rule p x q → Rule p y r →
+      spelling x ++ a ≡ spelling y ++ b → (x ≡ y) × (q ≡ r) × (a ≡ b)
+  pub sound : (p q : P) (x : X) → IsSound p → Rule p x q → IsSound q
+  pub some : (p q : P) (x : X) (a : List ℕ) → Rule p x q → spelling x ++ a ≢ []
+
+module _ {P X : Type 0} (spelling : X → List ℕ) (Rule : P → X → P → Type 0) (IsSound : P →
+    Type 0) (way : OneWay spelling Rule IsSound) where
+  abbrev NoLine : P → List ℕ → Type 0
+  NoLine p rest = (x : X) (more : List ℕ) (q : P) → Rule p x q → rest ≢ spelling x ++ more
+
+  -- two readings that both stop have the same lines, and stop at one place, with the same rest
+  same_stop : (p : P) (xs ys : List X) (q r : P) (a b : List ℕ) → IsSound p → Leads Rule p xs q → Leads Rule p ys r →
+      flat_map spelling xs ++ a ≡ flat_map spelling ys ++ b → NoLine q a → NoLine r b → (xs ≡ ys) × (q ≡ r) × (a ≡ b)
+  same_stop p [] [] q r a b sound l m e none_a none_b = (refl, sym l ∙ m, e)
+  same_stop p [] (y ∷ ys) q r a b sound l m e none_a none_b =
+      absurd (none_a y (flat_map spelling ys ++ b) m.0 (subst (λ s. Rule s y m.0) l m.1) (e
+      ∙ append_assoc (spelling y) (flat_map spelling ys) b))
+  same_stop p (x ∷ xs) [] q r a b sound l m e none_a none_b =
+      absurd (none_b x (flat_map spelling xs ++ a) l.0 (subst (λ s. Rule s x l.0) m l.1) (sym e
+      ∙ append_assoc (spelling x) (flat_map spelling xs) a))
+  same_stop p (x ∷ xs) (y ∷ ys) q r a b sound l m e none_a none_b =
+      let first = way.same p l.0 m.0 x y (flat_map spelling xs ++ a) (flat_map spelling ys ++ b) sound l.1 m.1
+      (sym (append_assoc (spelling x) (flat_map spelling xs) a) ∙ e
+      ∙ append_assoc (spelling y) (flat_map spelling ys) b) in
+      let rest = same_stop l.0 xs ys q r a b (way.sound p l.0 x sound l.1) l.2 (subst (λ s. Leads Rule s ys r) (sym
+      first.1) m.2) first.2 none_a none_b in
+      (ap (λ z. z ∷ xs) first.0 ∙ ap (λ zs. y ∷ zs) rest.0, rest.1, rest.2)
+
+  nothing_left : (p : P) → NoLine p []
+  nothing_left p x more q step e = way.some p q x more step (sym e)
+
+  pub exact : (start : P) (MayEnd : P → Type 0) → IsSound start → IsExact spelling Rule start MayEnd
+  exact start MayEnd sound = record {
+    one_reading = λ xs ys text f g.
+        (same_stop start xs ys f.last g.last [] [] sound f.allowed g.allowed (ap (λ t. t ++ []) (sym f.spelled
+        ∙ g.spelled)) (nothing_left f.last) (nothing_left g.last)).0;
+    one_fault = λ text m n f g.
+        let same = same_stop start f.before g.before f.last g.last f.rest g.rest sound f.allowed g.allowed (sym
+        f.spelled ∙ g.spelled) f.no_line g.no_line in
+        f.number ∙ ap (λ xs. length xs + 1) same.0 ∙ sym g.number;
+    never_both = λ xs text n f g.
+        let same = same_stop start xs g.before f.last g.last [] g.rest sound f.allowed g.allowed (append-nil
+        (flat_map spelling xs) ∙ sym f.spelled ∙ g.spelled) (nothing_left f.last) g.no_line in
+        g.no_end (sym same.2) (subst MayEnd same.1 f.ended);
+  }

@@ -1,0 +1,35 @@
+-- Reading a text line by line. What was read so far leads from the start to the place where the next line comes, and
+-- its spelling stands at the front of the text. One line more keeps this. At the end of the text it is a whole text
+-- or lacks a line.
+use Rattle.std.proofs.Common.{◌≡◌, ℕ, List, [], ◌∷◌, ◌++◌, refl, ap, sym, subst, ◌∙◌, append_assoc}
+use Rattle.std.specs.List.{flat_map}
+use Rattle.std.proofs.lemmas.List.{append-nil}
+use Rattle.std.proofs.lemmas.List.Concat.{flat_map-append}
+use Rattle.cq_lines.specs.Texts.{Leads}
+
+pub record SoFar {P X : Type 0} (spelling : X → List ℕ) (Rule : P → X → P →
+    Type 0) (start : P) (text : List ℕ) (before : List X) (last : P) (rest : List ℕ) : Type 0 where
+  pub allowed : Leads Rule start before last
+  pub spelled : text ≡ flat_map spelling before ++ rest
+
+leads_more : {P X : Type 0} (Rule : P → X → P → Type 0) (p : P) (xs : List X) (q : P) (x : X) (r : P) →
+    Leads Rule p xs q → Rule q x r → Leads Rule p (xs ++ x ∷ []) r
+leads_more Rule p [] q x r e step = (r, subst (λ s. Rule s x r) (sym e) step, refl)
+leads_more Rule p (y ∷ xs) q x r l step = (l.0, l.1, leads_more Rule l.0 xs q x r l.2 step)
+
+flat_map_more : {X : Type 0} (spelling : X → List ℕ) (xs : List X) (x : X) →
+    flat_map spelling (xs ++ x ∷ []) ≡ flat_map spelling xs ++ spelling x
+flat_map_more spelling xs x = flat_map-append spelling xs (x ∷ [])
+    ∙ ap (λ t. flat_map spelling xs ++ t) (append-nil (spelling x))
+
+module _ {P X : Type 0} (spelling : X → List ℕ) (Rule : P → X → P → Type 0) (start : P) (text : List ℕ) where
+  pub one_line_more : (before after : List X) (last next : P) (rest more : List ℕ) (x : X) →
+      SoFar spelling Rule start text before last rest → Rule last x next → rest ≡ spelling x ++ more →
+      after ≡ before ++ x ∷ [] → SoFar spelling Rule start text after next more
+  one_line_more before after last next rest more x had step e longer = record {
+    allowed = subst (λ xs. Leads Rule start xs next) (sym longer) (leads_more Rule start before last x next
+        had.allowed step);
+    spelled = had.spelled ∙ ap (λ t. flat_map spelling before ++ t) e
+        ∙ sym (append_assoc (flat_map spelling before) (spelling x) more)
+        ∙ ap (λ t. t ++ more) (sym (ap (flat_map spelling) longer ∙ flat_map_more spelling before x));
+  }

@@ -1,0 +1,4 @@
+pub mod Spelling
+pub mod Walk
+pub mod Going
+pub mod Exact

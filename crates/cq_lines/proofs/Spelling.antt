@@ -1,0 +1,189 @@
+-- A number has one spelling, and a spelling is read in one way. The digits of a number say its value, so two numbers
+-- with the same digits are one. Digits with more digits behind them say a greater number, and 0 stands at the front
+-- of no other digit. So a text that goes on with digits behind those of one number begins with no lesser number, and
+-- with none at all behind a 0.
+use Rattle.std.proofs.Common.{◌≡◌, ℕ, zero, suc, ◌+◌, ◌-◌, ◌*◌, ◌/◌, ◌%◌, ◌^◌, ◌<◌, ◌≤◌, ◌⊎◌, List, [], ◌∷◌, ◌++◌, map, drop, get_or, Option, None, Some, refl, ap, sym, subst, ◌∙◌, arith, lit≤, ⊎_elim, append_assoc}
+use Rattle.std.specs.Int.{IsInRange}
+use Rattle.std.specs.Int.Digits.{digits_of, number_from_digits_after, AllBelowBase}
+use Rattle.std.specs.List.{AllByRecursion}
+use Rattle.std.proofs.lemmas.List.{append-nil}
+use Rattle.std.proofs.lemmas.Int.Digits.{number_digits_of, all_below_base_digits_of, first_digits_of}
+use Rattle.cq_base.specs.Decimal.{decimal}
+use Rattle.cq_base.proofs.Decimals.{decimal_small, decimal_above, decimal_more}
+use Rattle.std.proofs.Math.ListN.{get_or-map}
+use Rattle.cq_lines.specs.Lines.{EndsDigits, BeginsWith, Fits}
+
+abbrev pub AreDigits : List ℕ → Type 0
+AreDigits ds = AllByRecursion (IsInRange 48 57) ds
+
+digits_from_values : (ds : List ℕ) → AllBelowBase 10 ds → AreDigits (map (λ d. 48 + d) ds)
+digits_from_values [] a = tt
+digits_from_values (d ∷ ds) a = let small : d < 10 = a.0 in ((omega arith, omega arith), digits_from_values ds a.1)
+
+pub decimal_digits : (n : ℕ) → AreDigits (decimal n)
+decimal_digits zero = let e : decimal 0 ≡ 48 ∷ [] = decimal_small 0 (lit≤ tt) in
+    subst AreDigits (sym e) ((lit≤ tt, lit≤ tt), tt)
+decimal_digits (suc k) = subst AreDigits (sym (decimal_above (suc k) (omega arith))) (digits_from_values _
+    (all_below_base_digits_of 10 (suc k) (lit≤ tt)))
+
+-- ## What digits say
+
+-- the number that digits say behind those of another
+abbrev pub said_after : ℕ → List ℕ → ℕ
+said_after n [] = n
+said_after n (c ∷ cs) = said_after (n * 10 + (c - 48)) cs
+
+said_by_values : (n : ℕ) (ds : List ℕ) → said_after n (map (λ d. 48 + d) ds) ≡ number_from_digits_after 10 n ds
+said_by_values n [] = refl
+said_by_values n (d ∷ ds) = let e : n * 10 + ((48 + d) - 48) ≡ n * 10 + d = omega arith in
+    ap (λ m. said_after m (map (λ d. 48 + d) ds)) e ∙ said_by_values (n * 10 + d) ds
+
+pub said_decimal : (n : ℕ) → said_after 0 (decimal n) ≡ n
+said_decimal zero = ap (said_after 0) (decimal_small 0 (lit≤ tt))
+said_decimal (suc k) =
+    ap (said_after 0) (decimal_above (suc k) (omega arith)) ∙ said_by_values 0 (digits_of 10 (suc k))
+    ∙ number_digits_of 10 (suc k) (lit≤ tt)
+
+said_append : (n : ℕ) (xs ys : List ℕ) → said_after n (xs ++ ys) ≡ said_after (said_after n xs) ys
+said_append n [] ys = refl
+said_append n (c ∷ xs) ys = said_append (n * 10 + (c - 48)) xs ys
+
+said_ge : (n : ℕ) (cs : List ℕ) → n ≤ said_after n cs
+said_ge n [] = omega arith
+said_ge n (c ∷ cs) = let rest = said_ge (n * 10 + (c - 48)) cs in omega arith
+
+pub decimal_injective : (m n : ℕ) → decimal m ≡ decimal n → m ≡ n
+decimal_injective m n e = sym (said_decimal m) ∙ ap (said_after 0) e ∙ said_decimal n
+
+-- ## Where digits end
+
+pub digits_go_on : (a b x y : List ℕ) → AreDigits a → AreDigits b → EndsDigits y → a ++ x ≡ b ++ y →
+    (ds : List ℕ) × (b ≡ a ++ ds) × (x ≡ ds ++ y)
+digits_go_on [] b x y p q ends e = (b, refl, e)
+digits_go_on (c ∷ a) [] x y p q ends e = absurd (subst EndsDigits (sym e) ends p.0)
+digits_go_on (c ∷ a) (d ∷ b) x y p q ends e =
+    let same : c ≡ d = cc in
+    let rest : a ++ x ≡ b ++ y = cc in
+    let more = digits_go_on a b x y p.1 q.1 ends rest in
+    (more.0, ap (λ h. h ∷ b) (sym same) ∙ ap (λ t. c ∷ t) more.1, more.2)
+
+all_behind : (xs ys : List ℕ) → AreDigits (xs ++ ys) → AreDigits ys
+all_behind [] ys a = a
+all_behind (x ∷ xs) ys a = all_behind xs ys a.1
+
+nothing_goes_on : (ds x y : List ℕ) → AreDigits ds → EndsDigits x → x ≡ ds ++ y → ds ≡ []
+nothing_goes_on [] x y p ends e = refl
+nothing_goes_on (d ∷ ds) x y p ends e = absurd (subst EndsDigits e ends p.0)
+
+-- the first digit of a number above 0 is not 0
+first_digit : (n : ℕ) → 0 < n → 48 < get_or (decimal n) 0 48
+first_digit n h =
+    let first = first_digits_of 10 n (lit≤ tt) h in
+    let e = ap (λ ds. get_or ds 0 48) (decimal_above n h) ∙ get_or-map (λ d. 48 + d) (digits_of 10 n) 0 0 in
+    omega arith
+
+decimal_is_some : (n : ℕ) → decimal n ≡ [] → ⊥
+decimal_is_some n e =
+    let zero_said : n ≡ 0 = sym (said_decimal n) ∙ ap (said_after 0) e in
+    let none : List ℕ = [] in
+    let clash : 48 ∷ [] ≡ none = sym (decimal_small 0 (lit≤ tt)) ∙ ap decimal (sym zero_said) ∙ e in
+    absurd (let P : ⊥ = cc in P)
+
+alone_behind_zero : (n d : ℕ) (ds : List ℕ) → decimal n ≡ 48 ∷ d ∷ ds → ⊥
+alone_behind_zero zero d ds e = let none : List ℕ = [] in
+    let clash : none ≡ d ∷ ds = ap (drop 1) (sym (decimal_small 0 (lit≤ tt)) ∙ e) in absurd (let P : ⊥ = cc in P)
+alone_behind_zero (suc k) d ds e = let first = first_digit (suc k) (omega arith) in
+    let is = ap (λ cs. get_or cs 0 48) e in omega arith
+
+above_zero : (m n d : ℕ) (ds : List ℕ) → decimal n ≡ decimal m ++ (48 + d) ∷ ds → 0 < m
+above_zero zero n d ds e = absurd (alone_behind_zero n (48 + d) ds (e
+    ∙ ap (λ cs. cs ++ (48 + d) ∷ ds) (decimal_small 0 (lit≤ tt))))
+above_zero (suc m) n d ds e = omega arith
+
+-- digits with one more digit behind them say ten times their number at least, and are not those of 0
+more_digits : (m n d : ℕ) (ds : List ℕ) → decimal n ≡ decimal m ++ (48 + d) ∷ ds → (0 < m) × (m * 10 + d ≤ n)
+more_digits m n d ds e =
+    let said = sym (said_decimal n) ∙ ap (said_after 0) e ∙ said_append 0 (decimal m) ((48 + d) ∷ ds)
+    ∙ ap (λ k. said_after (k * 10 + ((48 + d) - 48)) ds) (said_decimal m) in
+    let ge = said_ge (m * 10 + ((48 + d) - 48)) ds in
+    (above_zero m n d ds e, omega arith)
+
+-- ## What a text begins with
+
+pub no_number : (text : List ℕ) → EndsDigits text → (n : ℕ) (rest : List ℕ) → BeginsWith text (Some n) rest → ⊥
+no_number text ends n rest begins = decimal_is_some n (nothing_goes_on (decimal n) text rest (decimal_digits n) ends
+    begins.spelled)
+
+pub one_number : (text x y : List ℕ) (m n : ℕ) → BeginsWith text (Some m) x → BeginsWith text (Some n) y →
+    (m ≡ n) × (x ≡ y)
+one_number text x y m n a b = same more.0 more.1 more.2
+  where
+    more : (ds : List ℕ) × (decimal n ≡ decimal m ++ ds) × (x ≡ ds ++ y)
+    more = digits_go_on (decimal m) (decimal n) x y (decimal_digits m) (decimal_digits n) b.ended (sym a.spelled
+        ∙ b.spelled)
+
+    digit_behind : (ds : List ℕ) (d : ℕ) → decimal n ≡ decimal m ++ d ∷ ds → IsInRange 48 57 d
+    digit_behind ds d e = (all_behind (decimal m) (d ∷ ds) (subst AreDigits e (decimal_digits n))).0
+
+    same : (ds : List ℕ) → decimal n ≡ decimal m ++ ds → x ≡ ds ++ y → (m ≡ n) × (x ≡ y)
+    same [] e f = (decimal_injective m n (sym (append-nil (decimal m)) ∙ sym e), f)
+    same (d ∷ ds) e f = absurd (subst EndsDigits f a.ended (digit_behind ds d e))
+
+-- a text that goes on with a digit behind those of one number
+pub goes_on : (text after : List ℕ) (m d : ℕ) → d < 10 → text ≡ decimal m ++ (48 + d) ∷ after →
+    (n : ℕ) (rest : List ℕ) → BeginsWith text (Some n) rest → (0 < m) × (m * 10 + d ≤ n)
+goes_on text after m d small e n rest begins = from more.0 more.1 more.2
+  where
+    more : (ds : List ℕ) × (decimal n ≡ decimal m ++ ds) × ((48 + d) ∷ after ≡ ds ++ rest)
+    more = digits_go_on (decimal m) (decimal n) ((48 + d) ∷ after) rest (decimal_digits m) (decimal_digits n)
+        begins.ended (sym e ∙ begins.spelled)
+
+    from : (ds : List ℕ) → decimal n ≡ decimal m ++ ds → (48 + d) ∷ after ≡ ds ++ rest → (0 < m) × (m * 10 + d ≤ n)
+    from [] f g = absurd (subst EndsDigits (sym g) begins.ended (omega arith, omega arith))
+    from (c ∷ ds) f g = let same : c ≡ 48 + d = cc in more_digits m n d ds (f ∙ ap (λ h. decimal m ++ h ∷ ds) same)
+
+pub digit_alone : (text rest : List ℕ) (n d : ℕ) → d < 10 → n ≡ d → text ≡ (48 + d) ∷ rest → text ≡ decimal n ++ rest
+digit_alone text rest n d small is e =
+    let digit : 48 + d ≡ 48 + n % 10 = omega arith in
+    e ∙ ap (λ c. c ∷ rest) digit ∙ ap (λ ds. ds ++ rest) (sym (decimal_small n (omega arith)))
+
+pub one_digit_more : (text rest after : List ℕ) (m n d : ℕ) → d < 10 → 0 < m → n ≡ m * 10 + d →
+    text ≡ decimal m ++ rest → rest ≡ (48 + d) ∷ after → text ≡ decimal n ++ after
+one_digit_more text rest after m n d small above is e f =
+    let whole : n / 10 ≡ m = omega arith in
+    let last : 48 + n % 10 ≡ 48 + d = omega arith in
+    let longer : decimal n ≡ decimal m ++ (48 + d) ∷ [] =
+    decimal_more n (omega arith) ∙ ap (λ k. decimal k ++ (48 + n % 10) ∷ []) whole
+    ∙ ap (λ c. decimal m ++ c ∷ []) last in
+    e ∙ ap (λ r. decimal m ++ r) f ∙ sym (append_assoc (decimal m) ((48 + d) ∷ []) after)
+    ∙ ap (λ ds. ds ++ after) (sym longer)
+
+-- no number of 128 bits is spelled so: another digit stands behind a 0, or behind digits that say too much with it
+pub none_goes_on : (text rest after : List ℕ) (m d : ℕ) → d < 10 → text ≡ decimal m ++ rest →
+    rest ≡ (48 + d) ∷ after → (m ≡ 0) ⊎ (2 ^ 128 ≤ m * 10 + d) → (n : ℕ) (end : List ℕ) → n < 2 ^ 128 →
+    BeginsWith text (Some n) end → ⊥
+none_goes_on text rest after m d small e f why n end fits begins =
+    let more = goes_on text after m d small (e ∙ ap (λ r. decimal m ++ r) f) n end begins in
+    ⊎_elim (λ none. absurd (omega arith)) (λ much. absurd (omega arith)) why
+
+-- ## Fields
+
+minus_is_no_number : (rest x : List ℕ) (n : ℕ) → 45 ∷ rest ≡ decimal n ++ x → ⊥
+minus_is_no_number rest x n e = head (decimal n) (decimal_is_some n) (decimal_digits n) e
+  where
+    head : (ds : List ℕ) → (ds ≡ [] → ⊥) → AreDigits ds → 45 ∷ rest ≡ ds ++ x → ⊥
+    head [] some digits e = some refl
+    head (d ∷ ds) some digits e = let is : 45 ≡ d = cc in let low = digits.0.0 in omega arith
+
+-- one text begins with one field
+pub one_field : (text x y : List ℕ) (f g : Option ℕ) → BeginsWith text f x → BeginsWith text g y → (f ≡ g) × (x ≡ y)
+one_field text x y None None a b = (refl, let e : 45 ∷ x ≡ 45 ∷ y = sym a.spelled ∙ b.spelled in ap (drop 1) e)
+one_field text x y None (Some n) a b = absurd (minus_is_no_number x y n (sym a.spelled ∙ b.spelled))
+one_field text x y (Some m) None a b = absurd (minus_is_no_number y x m (sym b.spelled ∙ a.spelled))
+one_field text x y (Some m) (Some n) a b = let same = one_number text x y m n a b in (ap Some same.0, same.1)
+
+-- where no `-` and no number stands there is no field
+pub no_field : (text : List ℕ) → ((rest : List ℕ) → text ≡ 45 ∷ rest → ⊥) → ((n : ℕ) (rest : List ℕ) → n < 2 ^ 128 →
+    BeginsWith text (Some n) rest → ⊥) → (f : Option ℕ) (rest : List ℕ) → Fits f → BeginsWith text f rest → ⊥
+no_field text minus number None rest fits begins = minus rest begins.spelled
+no_field text minus number (Some n) rest fits begins = number n rest fits begins

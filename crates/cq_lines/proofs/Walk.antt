@@ -1,0 +1,198 @@
+-- Reading a line field by field. What was read so far stands at the front of the text, and whoever reads a whole line
+-- there reads the same fields first, and the rest of his line from the rest of the text. So where no field can go on,
+-- no line stands there.
+use Rattle.std.proofs.Common.{◌≡◌, ◌≢◌, ℕ, suc, ◌+◌, ◌<◌, ◌≤◌, List, [], ◌∷◌, ◌++◌, length, take, drop, set, get_or, Option, None, Some, refl, ap, sym, subst, ◌∙◌, arith, append_assoc, length-set}
+use Rattle.std.proofs.lemmas.List.{append-nil, append_cancel_left, take_more_set, take_more, take_all}
+use Rattle.cq_lines.specs.Lines.{field, ending, line, EndsDigits, MayFollow, BeginsWith, Fits, AllFit}
+use Rattle.cq_lines.specs.declared.range.Range.{Range}
+use Rattle.cq_lines.specs.Ranges.{InRange, Within, any_number}
+use Rattle.cq_lines.proofs.Spelling.{one_field}
+
+-- fields, each behind one blank, with no end yet
+abbrev pub begun : List (Option ℕ) → List ℕ
+begun [] = []
+begun (f ∷ fs) = 32 ∷ field f ++ begun fs
+
+pub record ReadSoFar (text : List ℕ) (to : List (Option ℕ)) (count : ℕ) (rest : List ℕ) : Type 0 where
+  pub placed : count ≤ length to
+  pub spelled : text ≡ begun (take count to) ++ rest
+  pub alone : (fs : List (Option ℕ)) (more : List ℕ) → text ≡ ending fs ++ more →
+      (gs : List (Option ℕ)) × (fs ≡ take count to ++ gs) × (rest ≡ ending gs ++ more)
+
+pub ending_ends : (fs : List (Option ℕ)) (more : List ℕ) → EndsDigits (ending fs ++ more)
+ending_ends [] more = λ digit. omega arith
+ending_ends (f ∷ fs) more = λ digit. omega arith
+
+may_follow : (f : Option ℕ) (rest : List ℕ) → EndsDigits rest → MayFollow f rest
+may_follow None rest ends = tt
+may_follow (Some n) rest ends = ends
+
+pub begun_more : (fs : List (Option ℕ)) (f : Option ℕ) → begun (fs ++ f ∷ []) ≡ begun fs ++ 32 ∷ field f
+begun_more [] f = ap (λ t. 32 ∷ t) (append-nil (field f))
+begun_more (g ∷ fs) f = ap (λ t. 32 ∷ field g ++ t) (begun_more fs f)
+    ∙ ap (λ t. 32 ∷ t) (sym (append_assoc (field g) (begun fs) (32 ∷ field f)))
+
+pub ending_begun : (fs : List (Option ℕ)) (after : List ℕ) → begun fs ++ 10 ∷ after ≡ ending fs ++ after
+ending_begun [] after = refl
+ending_begun (f ∷ fs) after =
+    ap (λ t. 32 ∷ t) (append_assoc (field f) (begun fs) (10 ∷ after)
+    ∙ ap (λ t. field f ++ t) (ending_begun fs after) ∙ sym (append_assoc (field f) (ending fs) after))
+
+-- the next field of whoever reads a whole line, where a blank stands next
+next_field : (gs : List (Option ℕ)) (rest after more : List ℕ) → rest ≡ 32 ∷ after → rest ≡ ending gs ++ more →
+    (g : Option ℕ) × (hs : List (Option ℕ)) × (gs ≡ g ∷ hs) × BeginsWith after g (ending hs ++ more)
+next_field [] rest after more e h = absurd (let clash : 32 ∷ after ≡ 10 ∷ more = sym e ∙ h in
+    let P : 32 ≡ 10 = ap head clash in omega arith)
+  where
+    head : List ℕ → ℕ
+    head [] = 0
+    head (x ∷ xs) = x
+next_field (g ∷ hs) rest after more e h =
+    let same : 32 ∷ after ≡ 32 ∷ (field g ++ ending hs) ++ more = sym e ∙ h in (
+      g,
+      hs,
+      refl,
+      record {
+        spelled = ap (drop 1) same
+            ∙ append_assoc (field g) (ending hs) more;
+        ended = may_follow g _ (ending_ends hs more);
+      },
+    )
+
+pub one_read_more : (text : List ℕ) (to : List (Option ℕ)) (count : ℕ) (rest after next : List ℕ) (f : Option ℕ) →
+    ReadSoFar text to count rest → count < length to → rest ≡ 32 ∷ after → BeginsWith after f next →
+    ReadSoFar text (set to count f) (count + 1) next
+one_read_more text to count rest after next f had room e begins = record {
+  placed = omega (arith, length-set to count f);
+  spelled = had.spelled ∙ ap (λ r. begun (take count to) ++ r) (e ∙ ap (λ t. 32 ∷ t) begins.spelled)
+      ∙ sym (append_assoc (begun (take count to)) (32 ∷ field f) next)
+      ∙ ap (λ t. t ++ next) (sym (begun_more (take count to) f) ∙ ap begun (sym taken));
+  alone = λ fs more h. go more (had.alone fs more h);
+}
+  where
+    taken : take (count + 1) (set to count f) ≡ take count to ++ f ∷ []
+    taken = take_more_set to count f room
+
+    go : {fs : List (Option ℕ)} (more : List ℕ) →
+        (gs : List (Option ℕ)) × (fs ≡ take count to ++ gs) × (rest ≡ ending gs ++ more) →
+        (gs : List (Option ℕ)) × (fs ≡ take (count + 1) (set to count f) ++ gs) × (next ≡ ending gs ++ more)
+    go more w =
+        let field_next = next_field w.0 rest after more e w.2 in
+        let same = one_field after next (ending field_next.1 ++ more) f field_next.0 begins field_next.3 in (
+          field_next.1,
+          w.1 ∙ ap (λ gs. take count to ++ gs) (field_next.2
+              ∙ ap (λ g. g ∷ field_next.1) (sym same.0)) ∙ sym (append_assoc (take count to) (f ∷ []) field_next.1)
+              ∙ ap (λ t. t ++ field_next.1) (sym taken),
+          same.1,
+        )
+
+-- ## No line stands there
+
+all_fit_behind : (fs gs : List (Option ℕ)) → AllFit (fs ++ gs) → AllFit gs
+all_fit_behind [] gs a = a
+all_fit_behind (f ∷ fs) gs a = all_fit_behind fs gs a.1
+
+-- there is no field behind the blank
+pub no_next : (text : List ℕ) (to : List (Option ℕ)) (count : ℕ) (rest after : List ℕ) →
+    ReadSoFar text to count rest → rest ≡ 32 ∷ after → ((f : Option ℕ) (next : List ℕ) → Fits f →
+    BeginsWith after f next → ⊥) → (fs : List (Option ℕ)) (more : List ℕ) → AllFit fs → text ≡ ending fs ++ more → ⊥
+no_next text to count rest after had e none fs more fit h =
+    let w = had.alone fs more h in
+    let next = next_field w.0 rest after more e w.2 in
+    let fits = all_fit_behind (take count to) (next.0 ∷ next.1) (subst AllFit (w.1
+    ∙ ap (λ gs. take count to ++ gs) next.2) fit) in
+    none next.0 (ending next.1 ++ more) fits.0 next.3
+
+-- there is neither a blank nor a line feed
+pub no_end : (text : List ℕ) (to : List (Option ℕ)) (count : ℕ) (rest : List ℕ) → ReadSoFar text to count rest →
+    ((after : List ℕ) → rest ≡ 32 ∷ after → ⊥) → ((after : List ℕ) → rest ≡ 10 ∷ after → ⊥) →
+    (fs : List (Option ℕ)) (more : List ℕ) → text ≡ ending fs ++ more → ⊥
+no_end text to count rest had blank feed fs more h = go w.0 w.2
+  where
+    w : (gs : List (Option ℕ)) × (fs ≡ take count to ++ gs) × (rest ≡ ending gs ++ more)
+    w = had.alone fs more h
+
+    go : (gs : List (Option ℕ)) → rest ≡ ending gs ++ more → ⊥
+    go [] e = feed more e
+    go (g ∷ gs) e = blank ((field g ++ ending gs) ++ more) e
+
+-- the line is at its end
+pub line_read : (text : List ℕ) (to : List (Option ℕ)) (count : ℕ) (rest after : List ℕ) →
+    ReadSoFar text to count rest → rest ≡ 10 ∷ after → (count ≤ length to) × (text ≡ ending (take count to) ++ after)
+line_read text to count rest after had e = (
+  had.placed,
+  had.spelled ∙ ap (λ r. begun (take count to) ++ r) e
+      ∙ ending_begun (take count to) after,
+)
+
+-- ## One reading
+
+-- one text begins with one line end
+pub one_ending : (fs gs : List (Option ℕ)) (x y : List ℕ) → ending fs ++ x ≡ ending gs ++ y → (fs ≡ gs) × (x ≡ y)
+one_ending [] [] x y e = (refl, ap (drop 1) e)
+one_ending [] (g ∷ gs) x y e = let next = next_field [] (32 ∷ (field g ++ ending gs) ++ y) _ x refl (sym e) in
+    let none : List (Option ℕ) = [] in absurd (let clash : none ≡ next.0 ∷ next.1 = next.2 in let P : ⊥ = cc in P)
+one_ending (f ∷ fs) [] x y e = let next = next_field [] (32 ∷ (field f ++ ending fs) ++ x) _ y refl e in
+    let none : List (Option ℕ) = [] in absurd (let clash : none ≡ next.0 ∷ next.1 = next.2 in let P : ⊥ = cc in P)
+one_ending (f ∷ fs) (g ∷ gs) x y e =
+    let inner : field f ++ (ending fs ++ x) ≡ field g ++ (ending gs ++ y) = sym (append_assoc (field f) (ending fs)
+    x) ∙ ap (drop 1) e ∙ append_assoc (field g) (ending gs) y in
+    let text = field f ++ (ending fs ++ x) in
+    let first = one_field text (ending fs ++ x) (ending gs ++ y) f g (record {
+      spelled = refl;
+      ended = may_follow f _
+          (ending_ends fs x);
+    }) (record { spelled = inner; ended = may_follow g _ (ending_ends gs y) }) in
+    let rest = one_ending fs gs x y first.1 in
+    (ap (λ h. h ∷ fs) first.0 ∙ ap (λ t. g ∷ t) rest.0, rest.1)
+
+pub one_line : (word x y : List ℕ) (fs gs : List (Option ℕ)) → line word fs ++ x ≡ line word gs ++ y →
+    (fs ≡ gs) × (x ≡ y)
+one_line word x y fs gs e =
+    one_ending fs gs x y (append_cancel_left word _ _ (sym (append_assoc word (ending fs) x) ∙ e
+    ∙ append_assoc word (ending gs) y))
+
+-- ## Writing
+
+pub line_goes_on : (start text blank new : List ℕ) (fs : List (Option ℕ)) (i : ℕ) (d : Option ℕ) → i < length fs →
+    text ≡ start ++ begun (take i fs) → blank ≡ text ++ 32 ∷ [] → new ≡ blank ++ field (get_or fs i d) →
+    new ≡ start ++ begun (take (i + 1) fs)
+line_goes_on start text blank new fs i d inside e f g =
+    let last = field (get_or fs i d) in
+    g ∙ ap (λ t. t ++ last) f ∙ append_assoc text (32 ∷ []) last ∙ ap (λ t. t ++ 32 ∷ last) e
+    ∙ append_assoc start (begun (take i fs)) (32 ∷ last)
+    ∙ ap (λ t. start ++ t) (sym (begun_more (take i fs) (get_or fs i d)) ∙ ap begun (sym (take_more fs i d inside)))
+
+pub line_ends : (start word text new : List ℕ) (fs : List (Option ℕ)) (i : ℕ) → length fs ≤ i →
+    text ≡ (start ++ word) ++ begun (take i fs) → new ≡ text ++ 10 ∷ [] → new ≡ start ++ line word fs
+line_ends start word text new fs i past e f =
+    f ∙ ap (λ t. t ++ 10 ∷ []) (e ∙ ap (λ gs. (start ++ word) ++ begun gs) (take_all i fs past))
+    ∙ append_assoc (start ++ word) (begun fs) (10 ∷ [])
+    ∙ ap (λ t. (start ++ word) ++ t) (ending_begun fs [] ∙ append-nil (ending fs)) ∙ append_assoc start word (ending fs)
+
+-- ## Within ranges
+
+-- what is within ranges fits
+pub within_fits : (ranges : List Range) (further : ℕ) (fs : List (Option ℕ)) → Within ranges further fs → AllFit fs
+within_fits ranges further fs within = go fs (λ i inside. fits (get_or ranges i any_number) (get_or fs i None)
+    (within.each i inside))
+  where
+    fits : (r : Range) (f : Option ℕ) → InRange r f → Fits f
+    fits r None is = tt
+    fits r (Some n) is = is.2
+
+    go : (gs : List (Option ℕ)) → ((i : ℕ) → i < length gs → Fits (get_or gs i None)) → AllFit gs
+    go [] each = tt
+    go (g ∷ gs) each = (each 0 (omega arith), go gs (λ i inside. each (suc i) (omega arith)))
+
+pub few_within : (ranges : List Range) (further : ℕ) (to fs : List (Option ℕ)) →
+    length ranges + further ≤ length to → Within ranges further fs → length fs ≤ length to
+few_within ranges further to fs room within = let few = within.few in omega arith
+
+starts : (c : ℕ) (text : List ℕ) → c ∷ text ≢ []
+starts c text e = let none : List ℕ = [] in let clash : c ∷ text ≡ none = e in absurd (let P : ⊥ = cc in P)
+
+pub line_is_some : (word : List ℕ) (fs : List (Option ℕ)) (more : List ℕ) → line word fs ++ more ≢ []
+line_is_some [] [] more e = starts 10 more e
+line_is_some [] (f ∷ fs) more e = starts 32 ((field f ++ ending fs) ++ more) e
+line_is_some (c ∷ word) fs more e = starts c (line word fs ++ more) e

@@ -1,0 +1,9 @@
+use Rattle.std.proofs.Common.{◌≡◌, ◌++◌, length}
+use Rattle.cq_base.specs.Decimal.{decimal}
+use Rattle.cq_lines.proofs.number.take_number.Given as goal
+
+abbrev pub invariant-digits : goal.invariant-digits
+invariant-digits l = l.text ≡ decimal l.number ++ l.rest
+
+abbrev pub decreases-digits : goal.decreases-digits
+decreases-digits l = length l.rest

@@ -1,0 +1,4 @@
+pub mod Due
+pub mod OneReading
+pub mod Longer
+pub mod Written

@@ -1,0 +1,4 @@
+pub mod StateText
+pub mod Places
+pub mod Refusals
+pub mod State
