@@ -1,5 +1,5 @@
 -- Made packets are small: each fits a record, and all records of an input fit a file. So the file that is written is read again as the same packets, and no fault of a file can come.
-use Rattle.std.proofs.Common.{◌≡◌, ℕ, ◌+◌, ◌*◌, ◌<◌, ◌≤◌, ◌^◌, List, [], ◌∷◌, ◌++◌, length, map, All, Ok, Err, IfSome, refl, ap, sym, subst, ◌∙◌, arith, length-append}
+use Rattle.std.proofs.Common.{◌≡◌, ℕ, ◌+◌, ◌*◌, ◌<◌, ◌≤◌, ◌^◌, List, [], ◌∷◌, ◌++◌, length, map, false, All, Ok, Err, IfSome, refl, ap, sym, subst, ◌∙◌, arith, length-append}
 use Rattle.std.proofs.lemmas.List.{length-map}
 use Rattle.std.proofs.lemmas.List.Elements.{All-from_recursion}
 use Rattle.std.proofs.lemmas.List.FromFn.{length-map-range_with_len}
@@ -9,7 +9,6 @@ use Rattle.cq_pcap.specs.Faults.{fault_of}
 use Rattle.cq_pcap.specs.Reading.{packets_of}
 use Rattle.cq_pcap.specs.Record.{Record, spelling}
 use Rattle.cq_pcap.specs.Written.{IsWritable, read_again, written, written_header, written_record}
-use Rattle.cq_pcap.specs.declared.form.Order.TheVariants.{Little}
 use Rattle.cq_pcap.specs.declared.read.PcapRefusal.{PcapRefusal}
 use Rattle.cq_pcap.specs.declared.read.PcapRefusal.TheVariants as refusal
 use Rattle.cq_pcap.specs.declared.write.OutPacket.{OutPacket}
@@ -51,12 +50,12 @@ short : (ps : List OutPacket) → AllByRecursion IsSmall (map read_again ps) →
 short [] small = tt
 short (p ∷ ps) small = let body : length p.body ≡ 60 = small.0.body in (omega arith, short ps small.1)
 
-length-spelling : (r : Record) (rest : List ℕ) → length (spelling Little r ++ rest) ≡ 16 + (length r.body + length rest)
+length-spelling : (r : Record) (rest : List ℕ) → length (spelling false r ++ rest) ≡ 16 + (length r.body + length rest)
 length-spelling r rest = omega (arith, length-append r.body rest)
 
 -- the records of packets
 abbrev spelt : List OutPacket → List ℕ
-spelt ps = flat_map (λ p. spelling Little (written_record p)) ps
+spelt ps = flat_map (λ p. spelling false (written_record p)) ps
 
 length-spelt : (ps : List OutPacket) → AllByRecursion IsSmall (map read_again ps) → length (spelt ps) ≡ 76 * length ps
 length-spelt [] small = refl

@@ -10,7 +10,7 @@ use Rattle.cq_pcap.specs.Reading.{first_packet}
 
 -- the captured length that the record at the front states
 abbrev pub stated : Form → List ℕ → ℕ
-stated form xs = number_at form.order 4 xs 8
+stated form xs = number_at form.big 4 xs 8
 
 -- a whole record stands at the front
 pub record IsWhole (form : Form) (xs : List ℕ) : Type 0 where
@@ -20,7 +20,7 @@ pub record IsWhole (form : Form) (xs : List ℕ) : Type 0 where
 
 -- its packet
 abbrev pub front_packet : Form → List ℕ → Captured
-front_packet form xs = record { stamp = number_at form.order 4 xs 0 * 1000000000 + number_at form.order 4 xs 4 * unit form.precision; original = number_at form.order 4 xs 12; body = take (stated form xs) (drop 16 xs) }
+front_packet form xs = record { stamp = number_at form.big 4 xs 0 * 1000000000 + number_at form.big 4 xs 4 * unit form.nano; original = number_at form.big 4 xs 12; body = take (stated form xs) (drop 16 xs) }
 
 -- the answer by the three tests
 abbrev answer : Form → ℕ → List ℕ → Bool → Bool → Bool → Result Captured Fault

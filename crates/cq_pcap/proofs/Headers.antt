@@ -9,13 +9,10 @@ use Rattle.std.proofs.lemmas.Bool.Decides.{Decides-and, Decides-eqb, Decides-lik
 use Rattle.std.proofs.lemmas.List.{take-append-le}
 use Rattle.std.proofs.lemmas.Slice.Eq.{bytes_eq-Decides}
 use Rattle.cq_pcap.specs.declared.form.Form.{Form}
-use Rattle.cq_pcap.specs.declared.form.Order.{Order}
-use Rattle.cq_pcap.specs.declared.form.Order.TheVariants.{Little, Big}
-use Rattle.cq_pcap.specs.declared.form.Precision.{Precision}
-use Rattle.cq_pcap.specs.declared.form.Precision.TheVariants.{Microseconds, Nanoseconds}
 use Rattle.cq_pcap.specs.Form.{form_at, forms, magic, magic_in, number_at}
 use Rattle.cq_pcap.specs.Faults.{Fault, NoHeader, Magic, Version, LinkType, IsFaulty}
 use Rattle.cq_pcap.specs.Reading.{◌>>=◌, checked_form, has_link_type, has_version, header_form}
+use Rattle.cq_pcap.specs.Rows.{offset_of}
 use Rattle.cq_pcap.specs.Record.{HasMagic, HasVersion, HasLinkType, IsHeader}
 use Rattle.cq_pcap.proofs.Numbers.{number_at-append}
 
@@ -23,16 +20,16 @@ use Rattle.cq_pcap.proofs.Numbers.{number_at-append}
 abbrev form_with : List ℕ → Option Form
 form_with first = find (λ form. bytes_eq first (magic form)) forms
 
-found_with : (o : Order) (p : Precision) → form_with (magic_in o p) ≡ Some (record { order = o; precision = p })
-found_with Big Microseconds = refl
-found_with Little Microseconds = refl
-found_with Big Nanoseconds = refl
-found_with Little Nanoseconds = refl
+found_with : (o : Bool) (p : Bool) → form_with (magic_in o p) ≡ Some (record { big = o; nano = p })
+found_with true false = refl
+found_with false false = refl
+found_with true true = refl
+found_with false true = refl
 
 -- a form is found by its magic
 form_found : (form : Form) (bytes : List ℕ) → HasMagic form bytes → form_at bytes ≡ Some form
 unfolding form_at
-form_found form bytes h = ap form_with h ∙ found_with form.order form.precision
+form_found form bytes h = ap form_with h ∙ found_with form.big form.nano
 
 -- what is found passes the test
 found_or_later : {X : Type 0} (p : X → Bool) (x y : X) (b : Bool) (later : Option X) → p y ≡ b → cond b (Some y) later ≡ Some x → (later ≡ Some x → p x ≡ true) → p x ≡ true
@@ -53,10 +50,10 @@ version-Decides form bytes =
     Decides-like (has_version form bytes)
     (λ parts. record { major = parts.0; minor = parts.1 })
     (λ v. (v.major, v.minor))
-    (Decides-and _ _ (Decides-eqb (number_at form.order 2 bytes 4) 2) (Decides-eqb (number_at form.order 2 bytes 6) 4))
+    (Decides-and _ _ (Decides-eqb (number_at form.big 2 bytes 4) 2) (Decides-eqb (number_at form.big 2 bytes 6) 4))
 
 link-Decides : (form : Form) (bytes : List ℕ) → Decides (has_link_type form bytes) (HasLinkType form bytes)
-link-Decides form bytes = Decides-eqb (number_at form.order 4 bytes 20 % 2 ^ 16) 1
+link-Decides form bytes = Decides-eqb (number_at form.big 4 bytes 20 % 2 ^ 16) 1
 
 -- a test of what is not so
 is_false : {P : Type 0} (b : Bool) → Decides b P → ¬ P → b ≡ false
@@ -116,13 +113,32 @@ header_ok bytes form e = let P : Result Form Fault → Type 0 = Says bytes in su
 pub header_err : (bytes : List ℕ) (fault : Fault) → header_form bytes ≡ Err fault → IsFaulty bytes fault
 header_err bytes fault e = let P : Result Form Fault → Type 0 = Says bytes in subst P e (header_says bytes)
 
+-- a fault of the header has no place
+abbrev Placeless : Result Form Fault → Type 0
+Placeless (Ok form) = Unit {0}
+Placeless (Err fault) = offset_of fault ≡ None
+
+checked_place : (form : Form) (version link : Bool) → Placeless (checked form version link)
+checked_place form true true = tt
+checked_place form true false = refl
+checked_place form false link = refl
+
+answer_place : (bytes : List ℕ) (short : Bool) (found : Option Form) → Placeless (answer bytes short found)
+answer_place bytes true found = refl
+answer_place bytes false None = refl
+answer_place bytes false (Some form) = checked_place form (has_version form bytes) (has_link_type form bytes)
+
+pub header_place : (bytes : List ℕ) (fault : Fault) → header_form bytes ≡ Err fault → offset_of fault ≡ None
+unfolding header_form
+header_place bytes fault e = let P : Result Form Fault → Type 0 = Placeless in subst P e (answer_place bytes (ltb (length bytes) 24) (form_at bytes))
+
 -- and what is so is answered: a header of a form, whatever follows it, and each fault of a header
 pub header_read : (form : Form) (header rest : List ℕ) → IsHeader form header → header_form (header ++ rest) ≡ Ok form
 header_read form header rest h =
     let len = h.len in
-    let major : number_at form.order 2 (header ++ rest) 4 ≡ 2 = number_at-append form.order 2 header rest 4 (omega (arith, len)) ∙ h.version.major in
-    let minor : number_at form.order 2 (header ++ rest) 6 ≡ 4 = number_at-append form.order 2 header rest 6 (omega (arith, len)) ∙ h.version.minor in
-    let link : HasLinkType form (header ++ rest) = ap (λ n. n % 2 ^ 16) (number_at-append form.order 4 header rest 20 (omega (arith, len))) ∙ h.link in
+    let major : number_at form.big 2 (header ++ rest) 4 ≡ 2 = number_at-append form.big 2 header rest 4 (omega (arith, len)) ∙ h.version.major in
+    let minor : number_at form.big 2 (header ++ rest) 6 ≡ 4 = number_at-append form.big 2 header rest 6 (omega (arith, len)) ∙ h.version.minor in
+    let link : HasLinkType form (header ++ rest) = ap (λ n. n % 2 ^ 16) (number_at-append form.big 4 header rest 20 (omega (arith, len))) ∙ h.link in
     judged_by form (header ++ rest) true true (omega (arith, len, length-append header rest)) (take-append-le 4 header rest (omega (arith, len)) ∙ h.magic)
     ((version-Decides form (header ++ rest)).1 (record { major = major; minor = minor })) ((link-Decides form (header ++ rest)).1 link)
 

@@ -15,42 +15,42 @@ use Rattle.cq_pcap.proofs.Firsts.{IsWhole, Says, first_says, first_whole, front_
 use Rattle.cq_pcap.proofs.Records.{packets_from-cons, packets_from-fault, packets_from-nil}
 
 -- the record at the front
-abbrev front_record : Form → List ℕ → Record
-front_record form xs = record { seconds = number_at form.order 4 xs 0; subseconds = number_at form.order 4 xs 4; original = number_at form.order 4 xs 12; body = take (stated form xs) (drop 16 xs) }
+abbrev pub front_record : Form → List ℕ → Record
+front_record form xs = record { seconds = number_at form.big 4 xs 0; subseconds = number_at form.big 4 xs 4; original = number_at form.big 4 xs 12; body = take (stated form xs) (drop 16 xs) }
 
 module _ (form : Form) (xs : List ℕ) (fits : AreBytes xs) (w : IsWhole form xs) where
-  body_length : length (take (stated form xs) (drop 16 xs)) ≡ stated form xs
+  pub body_length : length (take (stated form xs) (drop 16 xs)) ≡ stated form xs
   body_length = let k : stated form xs ≤ length (drop 16 xs) = omega (arith, w.body, length-drop 16 xs) in length-take-le (stated form xs) (drop 16 xs) k
 
-  record_fits : Fits (front_record form xs)
+  pub record_fits : Fits (front_record form xs)
   record_fits = record {
-    seconds = number_at-lt form.order xs 0 fits;
-    subseconds = number_at-lt form.order xs 4 fits;
-    original = number_at-lt form.order xs 12 fits;
+    seconds = number_at-lt form.big xs 0 fits;
+    subseconds = number_at-lt form.big xs 4 fits;
+    original = number_at-lt form.big xs 12 fits;
     body = omega (arith, body_length, w.most);
   }
 
-  record_spelt : xs ≡ spelling form.order (front_record form xs) ++ drop (16 + stated form xs) xs
+  pub record_spelt : xs ≡ spelling form.big (front_record form xs) ++ drop (16 + stated form xs) xs
   record_spelt =
       let h = w.figures in
       let len = stated form xs in
       let rest = drop (16 + len) xs in
-      let word : ℕ → List ℕ = λ at. bytes_in form.order 4 (number_at form.order 4 xs at) in
-      let a : xs ≡ word 0 ++ drop 4 xs = number_at-spelt form.order xs 0 4 fits refl (omega (arith, h)) in
-      let b : drop 4 xs ≡ word 4 ++ drop 8 xs = number_at-spelt form.order xs 4 8 fits refl (omega (arith, h)) in
-      let c : drop 8 xs ≡ word 8 ++ drop 12 xs = number_at-spelt form.order xs 8 12 fits refl (omega (arith, h)) in
-      let d : drop 12 xs ≡ word 12 ++ drop 16 xs = number_at-spelt form.order xs 12 16 fits refl h in
+      let word : ℕ → List ℕ = λ at. bytes_in form.big 4 (number_at form.big 4 xs at) in
+      let a : xs ≡ word 0 ++ drop 4 xs = number_at-spelt form.big xs 0 4 fits refl (omega (arith, h)) in
+      let b : drop 4 xs ≡ word 4 ++ drop 8 xs = number_at-spelt form.big xs 4 8 fits refl (omega (arith, h)) in
+      let c : drop 8 xs ≡ word 8 ++ drop 12 xs = number_at-spelt form.big xs 8 12 fits refl (omega (arith, h)) in
+      let d : drop 12 xs ≡ word 12 ++ drop 16 xs = number_at-spelt form.big xs 12 16 fits refl h in
       let body : drop 16 xs ≡ take len (drop 16 xs) ++ rest = sym (take-append-drop len (drop 16 xs)) ∙ ap (λ ys. take len (drop 16 xs) ++ ys) (drop-drop len 16 xs) in
       let on : (n : ℕ) (ys zs : List ℕ) → ys ≡ zs → word n ++ ys ≡ word n ++ zs = λ n ys zs e. ap (λ us. word n ++ us) e in
       let whole : word 0 ++ (word 4 ++ (word 8 ++ (word 12 ++ (take len (drop 16 xs) ++ rest)))) ≡ (word 0 ++ word 4 ++ word 8 ++ word 12 ++ take len (drop 16 xs)) ++ rest = simp append_assoc in
       a ∙ on 0 _ _ (b ∙ on 4 _ _ (c ∙ on 8 _ _ (d ∙ on 12 _ _ body))) ∙ whole
-      ∙ ap (λ n. (word 0 ++ word 4 ++ bytes_in form.order 4 n ++ word 12 ++ take len (drop 16 xs)) ++ rest) (sym body_length)
+      ∙ ap (λ n. (word 0 ++ word 4 ++ bytes_in form.big 4 n ++ word 12 ++ take len (drop 16 xs)) ++ rest) (sym body_length)
 
 -- these records, whose packets are kept, spell the bytes
 record SpellRecords (form : Form) (xs : List ℕ) (packets : List Captured) : Type 0 where
   records : List Record
   fit : AllByRecursion Fits records
-  whole : xs ≡ flat_map (spelling form.order) records
+  whole : xs ≡ flat_map (spelling form.big) records
   kept : map (captured_of form) records ≡ packets
 
 -- after these records there are bytes, which begin with a fault
@@ -58,9 +58,9 @@ record StopsAfter (form : Form) (place : ℕ) (xs : List ℕ) (fault : Fault) : 
   records : List Record
   rest : List ℕ
   fit : AllByRecursion Fits records
-  whole : xs ≡ flat_map (spelling form.order) records ++ rest
+  whole : xs ≡ flat_map (spelling form.big) records ++ rest
   some : 0 < length rest
-  first : first_packet form (place + length (flat_map (spelling form.order) records)) rest ≡ Err fault
+  first : first_packet form (place + length (flat_map (spelling form.big) records)) rest ≡ Err fault
 
 -- what an answer says of the bytes from a place on
 abbrev Walked : Form → ℕ → List ℕ → Result (List Captured) Fault → Type 0
@@ -71,23 +71,23 @@ one_more : (form : Form) (place : ℕ) (xs : List ℕ) (left : Result (List Capt
 one_more form place xs (Ok ps) fits w s = record {
   records = front_record form xs ∷ s.records;
   fit = (record_fits form xs fits w, s.fit);
-  whole = record_spelt form xs fits w ∙ ap (λ ys. spelling form.order (front_record form xs) ++ ys) s.whole;
+  whole = record_spelt form xs fits w ∙ ap (λ ys. spelling form.big (front_record form xs) ++ ys) s.whole;
   kept = ap (λ qs. front_packet form xs ∷ qs) s.kept;
 }
 one_more form place xs (Err fault) fits w s =
     let r = front_record form xs in
-    let spelt = flat_map (spelling form.order) s.records in
+    let spelt = flat_map (spelling form.big) s.records in
     let whole = record_spelt form xs fits w in
-    let len : 16 + stated form xs ≡ length (spelling form.order r) =
-    let all = ap length whole ∙ length-append (spelling form.order r) (drop (16 + stated form xs) xs) in
+    let len : 16 + stated form xs ≡ length (spelling form.big r) =
+    let all = ap length whole ∙ length-append (spelling form.big r) (drop (16 + stated form xs) xs) in
     let b = w.body in
     omega (arith, all, length-drop (16 + stated form xs) xs) in
-    let ends : place + (16 + stated form xs) + length spelt ≡ place + length (spelling form.order r ++ spelt) = omega (arith, len, length-append (spelling form.order r) spelt) in
+    let ends : place + (16 + stated form xs) + length spelt ≡ place + length (spelling form.big r ++ spelt) = omega (arith, len, length-append (spelling form.big r) spelt) in
     record {
       records = r ∷ s.records;
       rest = s.rest;
       fit = (record_fits form xs fits w, s.fit);
-      whole = whole ∙ ap (λ ys. spelling form.order r ++ ys) s.whole ∙ sym (append_assoc (spelling form.order r) spelt s.rest);
+      whole = whole ∙ ap (λ ys. spelling form.big r ++ ys) s.whole ∙ sym (append_assoc (spelling form.big r) spelt s.rest);
       some = s.some;
       first = ap (λ n. first_packet form n s.rest) (sym ends) ∙ s.first;
     }
@@ -121,12 +121,12 @@ module _ (form : Form) (bytes : List ℕ) (long : 24 ≤ length bytes) (m : HasM
   header_length : length (take 24 bytes) ≡ 24
   header_length = length-take-le 24 bytes long
 
-  in_header : (n at : ℕ) → at + n ≤ 24 → number_at form.order n (take 24 bytes) at ≡ number_at form.order n bytes at
+  in_header : (n at : ℕ) → at + n ≤ 24 → number_at form.big n (take 24 bytes) at ≡ number_at form.big n bytes at
   in_header n at h =
-      sym (number_at-append form.order n (take 24 bytes) (drop 24 bytes) at (omega (arith, header_length)))
-      ∙ ap (λ ys. number_at form.order n ys at) (take-append-drop 24 bytes)
+      sym (number_at-append form.big n (take 24 bytes) (drop 24 bytes) at (omega (arith, header_length)))
+      ∙ ap (λ ys. number_at form.big n ys at) (take-append-drop 24 bytes)
 
-  begins : IsHeader form (take 24 bytes)
+  pub begins : IsHeader form (take 24 bytes)
   begins = record {
     len = header_length;
     magic = sym (take-append-le 4 (take 24 bytes) (drop 24 bytes) (omega (arith, header_length))) ∙ ap (take 4) (take-append-drop 24 bytes) ∙ m;
@@ -135,9 +135,9 @@ module _ (form : Form) (bytes : List ℕ) (long : 24 ≤ length bytes) (m : HasM
   }
 
   -- where the bytes after the header are walked to a fault, the bytes before it are a capture
-  spelt_up_to : (fault : Fault) (s : StopsAfter form 24 (drop 24 bytes) fault) → IsSpeltUpTo form bytes (24 + length (flat_map (spelling form.order) s.records))
+  spelt_up_to : (fault : Fault) (s : StopsAfter form 24 (drop 24 bytes) fault) → IsSpeltUpTo form bytes (24 + length (flat_map (spelling form.big) s.records))
   spelt_up_to fault s =
-      let spelt = flat_map (spelling form.order) s.records in
+      let spelt = flat_map (spelling form.big) s.records in
       let some = s.some in
       let whole : bytes ≡ (take 24 bytes ++ spelt) ++ s.rest = sym (take-append-drop 24 bytes) ∙ ap (λ ys. take 24 bytes ++ ys) s.whole ∙ sym (append_assoc (take 24 bytes) spelt s.rest) in
       let len : length (take 24 bytes ++ spelt) ≡ 24 + length spelt = omega (arith, header_length, length-append (take 24 bytes) spelt) in
@@ -155,9 +155,9 @@ module _ (form : Form) (bytes : List ℕ) (long : 24 ≤ length bytes) (m : HasM
       }
 
   -- and the fault stands there
-  rest_is : (fault : Fault) (s : StopsAfter form 24 (drop 24 bytes) fault) → drop (24 + length (flat_map (spelling form.order) s.records)) bytes ≡ s.rest
+  rest_is : (fault : Fault) (s : StopsAfter form 24 (drop 24 bytes) fault) → drop (24 + length (flat_map (spelling form.big) s.records)) bytes ≡ s.rest
   rest_is fault s =
-      let spelt = flat_map (spelling form.order) s.records in
+      let spelt = flat_map (spelling form.big) s.records in
       sym (drop-drop (length spelt) 24 bytes) ∙ ap (drop (length spelt)) s.whole ∙ drop_at spelt s.rest (length spelt) refl
 
 -- what an answer says of the file
@@ -166,7 +166,7 @@ Comes bytes (Ok packets) = Spells bytes packets
 Comes bytes (Err fault) = IsFaulty bytes fault
 
 -- a fault at a place where the bytes before it are a capture
-faulty_at : (form : Form) (bytes : List ℕ) (offset : ℕ) (fault : Fault) → IsSpeltUpTo form bytes offset → Says form offset (drop offset bytes) (Err fault) → IsFaulty bytes fault
+pub faulty_at : (form : Form) (bytes : List ℕ) (offset : ℕ) (fault : Fault) → IsSpeltUpTo form bytes offset → Says form offset (drop offset bytes) (Err fault) → IsFaulty bytes fault
 faulty_at form bytes offset (CutHeader o) u h =
     let P : ℕ → Type 0 = λ n. IsFaulty bytes (CutHeader n) in
     let cut = h.1 in
@@ -174,13 +174,13 @@ faulty_at form bytes offset (CutHeader o) u h =
 faulty_at form bytes offset (LongRecord o len) u h =
     let P : ℕ → Type 0 = λ n. IsFaulty bytes (LongRecord n len) in
     let there = h.1 in
-    subst P (sym h.0) (form, u, omega (arith, length-drop offset bytes), h.2 ∙ number_at-drop form.order 4 bytes offset 8, h.3)
+    subst P (sym h.0) (form, u, omega (arith, length-drop offset bytes), h.2 ∙ number_at-drop form.big 4 bytes offset 8, h.3)
 faulty_at form bytes offset (CutBody o) u h =
     let P : ℕ → Type 0 = λ n. IsFaulty bytes (CutBody n) in
     let there = h.1 in
     let most = h.2 in
     let cut = h.3 in
-    let is = number_at-drop form.order 4 bytes offset 8 in
+    let is = number_at-drop form.big 4 bytes offset 8 in
     subst P (sym h.0) (form, u, omega (arith, length-drop offset bytes), omega arith, omega (arith, length-drop offset bytes))
 faulty_at form bytes offset NoHeader u h = absurd h
 faulty_at form bytes offset Magic u h = absurd h
@@ -200,7 +200,7 @@ comes_after form bytes (Ok packets) long m v l s = (
   },
 )
 comes_after form bytes (Err fault) long m v l s =
-    let offset = 24 + length (flat_map (spelling form.order) s.records) in
+    let offset = 24 + length (flat_map (spelling form.big) s.records) in
     let there : first_packet form offset (drop offset bytes) ≡ Err fault = ap (first_packet form offset) (rest_is form bytes long m v l fault s) ∙ s.first in
     let P : Result Captured Fault → Type 0 = Says form offset (drop offset bytes) in
     faulty_at form bytes offset fault (spelt_up_to form bytes long m v l fault s) (subst P there (first_says form offset (drop offset bytes)))

@@ -1,12 +1,49 @@
--- What is known of the fault that a refusal names passes on to what follows from it.
-use Rattle.std.specs.Prelude.{Option, None, Some, IfSome, Result, Ok, Err, IfErr}
+-- What is known of the fault that a refusal names.
+use Rattle.std.specs.Prelude.{◌≡◌, ℕ, List, Option, None, Some, Result, Ok, Err, option_map, IfErr, IfNone, IfOk, IfSome}
+use Rattle.std.proofs.Common.{refl, sym, subst}
 use Rattle.cq_pcap.specs.declared.read.PcapRefusal.{PcapRefusal}
-use Rattle.cq_pcap.specs.Faults.{Fault, fault_of}
+use Rattle.cq_pcap.specs.Faults.{Fault, IsFaulty, fault_of}
+use Rattle.cq_pcap.specs.Rows.{IsFaultAt}
 
-some_map : (named : Option Fault) (P Q : Fault → Type 0) → ((fault : Fault) → P fault → Q fault) → IfSome named P → IfSome named Q
+-- where a refusal names the answer, it names a fault, which is the answer
+pub named_fault : {A : Type 0} (named : Option Fault) (answer : Result A Fault) → option_map Err named ≡ Some answer
+    → (fault : Fault) × (named ≡ Some fault) × (answer ≡ Err fault)
+named_fault None answer e = cc
+named_fault (Some fault) answer e = let same : answer ≡ Err fault = cc e in (fault, refl, same)
+
+-- what is known of an error passes on to what follows from it
+pub err_map : {A E : Type 0} (result : Result A E) (P Q : E → Type 0) → ((e : E) → P e → Q e) → IfErr result P
+    → IfErr result Q
+err_map (Ok x) P Q f h = tt
+err_map (Err e) P Q f h = f e h
+
+pub ok_map : {A E : Type 0} (result : Result A E) (P Q : A → Type 0) → ((x : A) → P x → Q x) → IfOk result P
+    → IfOk result Q
+ok_map (Ok x) P Q f h = f x h
+ok_map (Err e) P Q f h = tt
+
+-- what is known of a thing that may have been found
+pub some_is : {A : Type 0} (found : Option A) (x : A) (P : A → Type 0) → found ≡ Some x → IfSome found P → P x
+some_is {A = A} found x P e h = let Q : Option A → Type 0 = λ f. IfSome f P in subst Q e h
+
+pub none_is : {A : Type 0} (found : Option A) (P : Type 0) → found ≡ None → IfNone found P → P
+none_is {A = A} found P e h = let Q : Option A → Type 0 = λ f. IfNone f P in subst Q e h
+
+some_map : (named : Option Fault) (P Q : Fault → Type 0) → ((fault : Fault) → P fault → Q fault) → IfSome named P
+    → IfSome named Q
 some_map None P Q f h = tt
 some_map (Some fault) P Q f h = f fault h
 
-pub refused_map : {A : Type 0} (result : Result A PcapRefusal) (P Q : Fault → Type 0) → ((fault : Fault) → P fault → Q fault) → IfErr result (λ refusal. IfSome (fault_of refusal) P) → IfErr result (λ refusal. IfSome (fault_of refusal) Q)
-refused_map (Ok x) P Q f h = tt
-refused_map (Err refusal) P Q f h = some_map (fault_of refusal) P Q f h
+pub refused_map : {A : Type 0} (result : Result A PcapRefusal) (P Q : Fault → Type 0)
+    → ((fault : Fault) → P fault → Q fault) → IfErr result (λ refusal. IfSome (fault_of refusal) P)
+    → IfErr result (λ refusal. IfSome (fault_of refusal) Q)
+refused_map result P Q f h =
+    err_map result (λ refusal. IfSome (fault_of refusal) P) (λ refusal. IfSome (fault_of refusal) Q)
+    (λ refusal. some_map (fault_of refusal) P Q f) h
+
+-- the fault of the file at a place is one of the file
+pub faulty_some : (bytes : List ℕ) (place : Option ℕ) (refusal : PcapRefusal) → IsFaultAt bytes place refusal
+    → IfSome (fault_of refusal) (IsFaulty bytes)
+faulty_some bytes place refusal h =
+    let P : Option Fault → Type 0 = λ named. IfSome named (IsFaulty bytes) in
+    subst P (sym h.named) h.faulty

@@ -1,27 +1,30 @@
--- The rows of the records that were read, while the reader stands at a place: they lie one after another from the header on, they end at that place, and their packets joined with the answer on what is left are the answer on the whole file.
-use Rattle.std.proofs.Common.{◌≡◌, ℕ, ◌+◌, ◌-◌, ◌<◌, ◌≤◌, ◌^◌, List, [], ◌∷◌, ◌++◌, length, take, drop, refl, ap, sym, subst, ◌∙◌, arith, add-zero}
-use Rattle.std.proofs.lemmas.List.{map-append, length-drop, length-take-le, drop-drop, take_rest, drop_all}
+-- The rows of the records that were read, while the reader stands at a place: they lie one after another from the
+-- header on, they end at that place, and the bytes before it are a capture of their packets. A whole record at that
+-- place goes on so: the record read there is spelt by the bytes up to its end. A fault there is the file's, and where
+-- no byte is left the file is a capture.
+use Rattle.std.proofs.Common.{◌≡◌, ℕ, ◌+◌, ◌-◌, ◌<◌, ◌≤◌, ◌^◌, List, [], ◌∷◌, ◌++◌, length, take, drop, refl, ap, sym, subst, ◌∙◌, arith, add-zero, append_assoc, length-append}
+use Rattle.std.proofs.lemmas.List.{append-nil, map-append, length-drop, length-take-le, drop-drop, take-append-drop, take_all, take_at, take_rest}
 use Rattle.std.proofs.lemmas.List.Elements.{All-push}
 use Rattle.std.proofs.lemmas.List.Sums.{sum_by-cons, sum_by_push}
-use Rattle.std.specs.Prelude.{Result, Ok, Err, sum_by, All}
-use Rattle.std.specs.List.{AllByRecursion}
+use Rattle.std.proofs.lemmas.Grind.{flat_map-append}
+use Rattle.std.specs.Prelude.{Result, Ok, Err, Some, None, sum_by, All, option_map}
+use Rattle.std.specs.List.{AllByRecursion, flat_map}
 use Rattle.cq_pcap.specs.declared.capture.PacketRow.{PacketRow}
 use Rattle.cq_pcap.specs.declared.form.Form.{Form}
+use Rattle.cq_pcap.specs.declared.read.PcapRefusal.{PcapRefusal}
 use Rattle.cq_pcap.specs.Captured.{Captured, rows_from, file_length}
-use Rattle.cq_pcap.specs.Faults.{Fault}
-use Rattle.cq_pcap.specs.Reading.{◌>>=◌, first_packet, header_form, packets_from, packets_of}
-use Rattle.cq_pcap.specs.Rows.{AreRowsOf, IsRowOf, packet_at, packets_at}
-use Rattle.cq_pcap.proofs.Headers.{header_ok}
-use Rattle.cq_pcap.proofs.Records.{joined, joined-end, joined-more, joined-nil, packets_from-cons, packets_from-fault, packets_from-nil}
+use Rattle.cq_pcap.specs.Faults.{Fault, NoHeader, Magic, Version, LinkType, CutHeader, LongRecord, CutBody, fault_of}
+use Rattle.cq_pcap.specs.Reading.{first_packet, header_form}
+use Rattle.cq_pcap.specs.Record.{Record, spelling, Fits, SpellsIn, captured_of}
+use Rattle.cq_pcap.specs.Rows.{AreRowsOf, AreRowsTo, AreSpelt, IsFaultAt, IsRowOf, offset_of, packet_at, packets_at}
+use Rattle.cq_pcap.proofs.Firsts.{IsWhole, Says, first_says, front_packet, stated}
+use Rattle.cq_pcap.proofs.Headers.{header_err, header_ok, header_place}
+use Rattle.cq_pcap.proofs.Numbers.{AreBytes, AreBytes-drop}
+use Rattle.cq_pcap.proofs.Refused.{named_fault}
+use Rattle.cq_pcap.proofs.ReadIsSpelt.{begins, body_length, faulty_at, front_record, record_fits, record_spelt}
 
--- what the reader knows at a place of the file
-pub record ReadsTo (form : Form) (bytes : List ℕ) (rows : List PacketRow) (at : ℕ) : Type 0 where
-  pub within : at ≤ length bytes
-  pub ends : at ≡ file_length (packets_at bytes rows)
-  pub rows_stand : AreRowsOf bytes rows
-  pub joins : joined (packets_at bytes rows) (packets_from form at (drop at bytes)) ≡ packets_of bytes
-
-AllByRecursion-push : {X : Type 0} (P : X → Type 0) (xs : List X) (y : X) → AllByRecursion P xs → P y → AllByRecursion P (xs ++ y ∷ [])
+AllByRecursion-push : {X : Type 0} (P : X → Type 0) (xs : List X) (y : X) → AllByRecursion P xs → P y
+    → AllByRecursion P (xs ++ y ∷ [])
 AllByRecursion-push P [] y h p = (p, tt)
 AllByRecursion-push P (x ∷ xs) y h p = (h.0, AllByRecursion-push P xs y h.1 p)
 
@@ -30,82 +33,211 @@ abbrev records_length : List Captured → ℕ
 records_length ps = sum_by (λ p. 16 + length p.body) ps
 
 -- the row of a packet whose record begins at a place
-abbrev row_at : Captured → ℕ → PacketRow
-row_at p place = record { stamp = p.stamp; original = p.original; at = place + 16; len = length p.body }
+abbrev row_of : Captured → ℕ → PacketRow
+row_of p place = record { stamp = p.stamp; original = p.original; at = place + 16; len = length p.body }
 
-rows_from-push : (place : ℕ) (ps : List Captured) (p : Captured) → rows_from place (ps ++ p ∷ []) ≡ rows_from place ps ++ row_at p (place + records_length ps) ∷ []
-rows_from-push place [] p = ap (λ n. row_at p n ∷ []) (sym (add-zero place))
+rows_from-push : (place : ℕ) (ps : List Captured) (p : Captured)
+    → rows_from place (ps ++ p ∷ []) ≡ rows_from place ps ++ row_of p (place + records_length ps) ∷ []
+rows_from-push place [] p = ap (λ n. row_of p n ∷ []) (sym (add-zero place))
 rows_from-push place (q ∷ ps) p =
     let after = place + 16 + length q.body in
-    let e : after + records_length ps ≡ place + records_length (q ∷ ps) = omega (arith, sum_by-cons (λ (r : Captured). 16 + length r.body) q ps) in
-    ap (λ rs. row_at q place ∷ rs) (rows_from-push after ps p ∙ ap (λ n. rows_from after ps ++ row_at p n ∷ []) e)
+    let e : after + records_length ps ≡ place + records_length (q ∷ ps) =
+    omega (arith, sum_by-cons (λ (r : Captured). 16 + length r.body) q ps) in
+    ap (λ rs. row_of q place ∷ rs) (rows_from-push after ps p ∙ ap (λ n. rows_from after ps ++ row_of p n ∷ []) e)
 
 module _ (form : Form) (bytes : List ℕ) (at : ℕ) (row : PacketRow) (r : IsRowOf form (drop at bytes) at row) where
   packet_is : first_packet form at (drop at bytes) ≡ Ok (packet_at bytes row)
   packet_is =
-      let body : take row.len (drop 16 (drop at bytes)) ≡ take row.len (drop row.at bytes) = ap (take row.len) (drop-drop 16 at bytes ∙ ap (λ n. drop n bytes) (sym r.at)) in
+      let body : take row.len (drop 16 (drop at bytes)) ≡ take row.len (drop row.at bytes) =
+      ap (take row.len) (drop-drop 16 at bytes ∙ ap (λ n. drop n bytes) (sym r.at)) in
       r.read ∙ ap (λ body. Ok (record { stamp = row.stamp; original = row.original; body = body })) body
 
   inside_is : row.at + row.len ≤ length bytes
   inside_is = omega (arith, r.fits, r.at, length-drop at bytes)
 
   length_is : length (take row.len (drop row.at bytes)) ≡ row.len
-  length_is = let k : row.len ≤ length (drop row.at bytes) = omega (arith, inside_is, length-drop row.at bytes) in length-take-le row.len (drop row.at bytes) k
+  length_is =
+      let k : row.len ≤ length (drop row.at bytes) =
+      omega (arith, inside_is, length-drop row.at bytes) in length-take-le row.len (drop row.at bytes) k
 
--- no row yet, where the header is one of a form
-pub reads_none : (form : Form) (bytes : List ℕ) → length bytes ≤ 2 ^ 28 → header_form bytes ≡ Ok form → ReadsTo form bytes [] 24
-unfolding packets_of
-reads_none form bytes small e =
-    let long = (header_ok bytes form e).0 in
+-- the header alone, where it is one of a form
+pub rows_none : (form : Form) (bytes : List ℕ) → header_form bytes ≡ Ok form → AreRowsTo form bytes 24 []
+rows_none form bytes e =
+    let h = header_ok bytes form e in
     record {
-      within = long;
+      within = h.0;
       ends = refl;
-      rows_stand = record { places = refl; inside = tt; stamps = tt; small = omega arith; bodies = λ k d h. absurd (omega arith) };
-      joins = joined-nil (packets_from form 24 (drop 24 bytes)) ∙ sym (ap (λ (r : Result Form Fault). r >>= (λ f. packets_from f 24 (drop 24 bytes))) e);
+      stand =
+          record {
+            places = refl;
+            inside = tt;
+            stamps = tt;
+            small = omega arith;
+            bodies = λ k d h. absurd (omega arith);
+          };
+      spelt =
+          record {
+            header = take 24 bytes;
+            records = [];
+            begins = begins form bytes h.0 h.1 h.2 h.3;
+            fit = tt;
+            whole = sym (append-nil (take 24 bytes));
+            kept = refl;
+          };
     }
 
--- one more row
-pub reads_more : (form : Form) (bytes : List ℕ) (rows : List PacketRow) (at : ℕ) (row : PacketRow) → at < length bytes → length bytes ≤ 2 ^ 28 → ReadsTo form bytes rows at → IsRowOf form (take (length bytes - at) (drop at bytes)) at row → ReadsTo form bytes (rows ++ row ∷ []) (at + (16 + row.len))
-reads_more form bytes rows at row left small so_far is_row =
-    let P : List ℕ → Type 0 = λ ys. IsRowOf form ys at row in
-    let r : IsRowOf form (drop at bytes) at row = subst P (take_rest bytes at) is_row in
+-- the places of one row more
+places_more : (form : Form) (bytes : List ℕ) (rows : List PacketRow) (at : ℕ) (row : PacketRow)
+    → length bytes ≤ 2 ^ 28 → at ≡ file_length (packets_at bytes rows) → AreRowsOf bytes rows
+    → IsRowOf form (drop at bytes) at row
+    → (row.at + row.len ≡ file_length (packets_at bytes (rows ++ row ∷ []))) × AreRowsOf bytes (rows ++ row ∷ [])
+places_more form bytes rows at row small so_far s r =
     let front = packets_at bytes rows in
     let p = packet_at bytes row in
     let pushed : packets_at bytes (rows ++ row ∷ []) ≡ front ++ p ∷ [] = map-append (packet_at bytes) rows (row ∷ []) in
     let len : length p.body ≡ row.len = length_is form bytes at row r in
-    let ends : at + (16 + row.len) ≡ file_length (packets_at bytes (rows ++ row ∷ [])) = omega (arith, so_far.ends, len, ap file_length pushed, sum_by_push (λ (q : Captured). 16 + length q.body) front p) in
-    let within : at + (16 + row.len) ≤ length bytes = omega (arith, r.fits, length-drop at bytes) in
-    let s = so_far.rows_stand in
-    let place : 24 + records_length front + 16 ≡ row.at = omega (arith, so_far.ends, r.at) in
-    let row_is : row_at p (24 + records_length front) ≡ row = λ i. record { stamp = row.stamp; original = row.original; at = place i; len = len i } in
-    let some : 0 < length (drop at bytes) = omega (arith, length-drop at bytes) in
-    let after : packets_from form (at + (16 + length p.body)) (drop (16 + length p.body) (drop at bytes)) ≡ packets_from form (at + (16 + row.len)) (drop (at + (16 + row.len)) bytes) =
-    ap (λ n. packets_from form (at + (16 + n)) (drop (16 + n) (drop at bytes))) len ∙ ap (packets_from form (at + (16 + row.len))) (drop-drop (16 + row.len) at bytes) in
-    record {
-      within = within;
-      ends = ends;
-      rows_stand = record {
-        places = ap (λ rs. rs ++ row ∷ []) s.places ∙ ap (λ q. rows_from 24 front ++ q ∷ []) (sym row_is) ∙ sym (rows_from-push 24 front p) ∙ ap (rows_from 24) (sym pushed);
-        inside = AllByRecursion-push (λ (q : PacketRow). q.at + q.len ≤ length bytes) rows row s.inside (inside_is form bytes at row r);
-        stamps = let Q : List Captured → Type 0 = AllByRecursion (λ q. q.stamp < 2 ^ 63) in subst Q (sym pushed) (AllByRecursion-push (λ (q : Captured). q.stamp < 2 ^ 63) front p s.stamps r.early);
+    let ends : row.at + row.len ≡ file_length (packets_at bytes (rows ++ row ∷ [])) =
+    omega (arith, so_far, len, r.at, ap file_length pushed, sum_by_push (λ (q : Captured). 16 + length q.body) front p) in
+    let within = inside_is form bytes at row r in
+    let place : 24 + records_length front + 16 ≡ row.at = omega (arith, so_far, r.at) in
+    let row_is : row_of p (24 + records_length front) ≡ row =
+    λ i. record { stamp = row.stamp; original = row.original; at = place i; len = len i } in
+    let Q : List Captured → Type 0 = AllByRecursion (λ q. q.stamp < 2 ^ 63) in
+    let R : List Captured → Type 0 = All (λ q. length q.body ≤ 262144) in (
+      ends,
+      record {
+        places =
+            ap (λ rs. rs ++ row ∷ []) s.places ∙ ap (λ q. rows_from 24 front ++ q ∷ []) (sym row_is)
+            ∙ sym (rows_from-push 24 front p) ∙ ap (rows_from 24) (sym pushed);
+        inside = AllByRecursion-push (λ (q : PacketRow). q.at + q.len ≤ length bytes) rows row s.inside within;
+        stamps =
+            subst Q (sym pushed) (AllByRecursion-push (λ (q : Captured). q.stamp < 2 ^ 63) front p s.stamps r.early);
         small = omega (arith, within, ends);
-        bodies = let Q : List Captured → Type 0 = All (λ q. length q.body ≤ 262144) in subst Q (sym pushed) (All-push (λ (q : Captured). length q.body ≤ 262144) front p s.bodies (omega (arith, len, r.short)));
-      };
-      joins =
-          ap (λ ps. joined ps (packets_from form (at + (16 + row.len)) (drop (at + (16 + row.len)) bytes))) pushed
-          ∙ sym (joined-more front p (packets_from form (at + (16 + row.len)) (drop (at + (16 + row.len)) bytes)))
-          ∙ ap (λ (left : Result (List Captured) Fault). joined front (left >>= (λ ps. Ok (p ∷ ps)))) (sym after)
-          ∙ ap (joined front) (sym (packets_from-cons form at (drop at bytes) p some (packet_is form bytes at row r)))
-          ∙ so_far.joins;
+        bodies =
+            subst R (sym pushed) (All-push (λ (q : Captured). length q.body ≤ 262144) front p s.bodies (omega (arith, len, r.short)));
+      },
+    )
+
+-- a record at the front of what follows a capture goes on with it
+module _ (form : Form) (bytes : List ℕ) (at : ℕ) (packets : List Captured) (fits : AreBytes bytes)
+    (within : at ≤ length bytes) (s : SpellsIn form (take at bytes) packets) (w : IsWhole form (drop at bytes)) where
+  abbrev xs : List ℕ
+  xs = drop at bytes
+
+  abbrev next : Record
+  next = front_record form xs
+
+  spelt_next : xs ≡ spelling form.big next ++ drop (16 + stated form xs) xs
+  spelt_next = record_spelt form xs (AreBytes-drop bytes at fits) w
+
+  next_length : length (spelling form.big next) ≡ 16 + stated form xs
+  next_length =
+      let all = ap length spelt_next ∙ length-append (spelling form.big next) (drop (16 + stated form xs) xs) in
+      let b = w.body in
+      omega (arith, all, length-drop (16 + stated form xs) xs)
+
+  front_is : take (at + (16 + stated form xs)) bytes ≡ take at bytes ++ spelling form.big next
+  front_is =
+      let rest = drop (16 + stated form xs) xs in
+      let whole : bytes ≡ (take at bytes ++ spelling form.big next) ++ rest =
+      sym (take-append-drop at bytes) ∙ ap (λ ys. take at bytes ++ ys) spelt_next
+      ∙ sym (append_assoc (take at bytes) (spelling form.big next) rest) in
+      let len : length (take at bytes ++ spelling form.big next) ≡ at + (16 + stated form xs) =
+      omega (arith, length-append (take at bytes) (spelling form.big next), length-take-le at bytes within, next_length) in
+      ap (take (at + (16 + stated form xs))) whole
+      ∙ take_at (take at bytes ++ spelling form.big next) rest (at + (16 + stated form xs)) len
+
+  spelt_more : SpellsIn form (take (at + (16 + stated form xs)) bytes) (packets ++ front_packet form xs ∷ [])
+  spelt_more = record {
+    header = s.header;
+    records = s.records ++ next ∷ [];
+    begins = s.begins;
+    fit = AllByRecursion-push Fits s.records next s.fit (record_fits form xs (AreBytes-drop bytes at fits) w);
+    whole =
+        front_is ∙ ap (λ ys. ys ++ spelling form.big next) s.whole
+        ∙ append_assoc s.header (flat_map (spelling form.big) s.records) (spelling form.big next)
+        ∙ ap (λ ys. s.header ++ (flat_map (spelling form.big) s.records ++ ys)) (sym (append-nil (spelling form.big next)))
+        ∙ ap (λ ys. s.header ++ ys) (sym (flat_map-append (spelling form.big) s.records (next ∷ [])));
+    kept = map-append (captured_of form) s.records (next ∷ []) ∙ ap (λ ps. ps ++ front_packet form xs ∷ []) s.kept;
+  }
+
+-- one more row
+pub rows_more : (form : Form) (bytes : List ℕ) (rows : List PacketRow) (at : ℕ) (row : PacketRow) → AreBytes bytes
+    → length bytes ≤ 2 ^ 28 → IsRowOf form (take (length bytes - at) (drop at bytes)) at row
+    → AreRowsTo form bytes at rows → AreRowsTo form bytes (row.at + row.len) (rows ++ row ∷ [])
+rows_more form bytes rows at row fits small is_row so_far =
+    let P : List ℕ → Type 0 = λ ys. IsRowOf form ys at row in
+    let r : IsRowOf form (drop at bytes) at row = subst P (take_rest bytes at) is_row in
+    let Q : Result Captured Fault → Type 0 = Says form at (drop at bytes) in
+    let says : Q (Ok (packet_at bytes row)) =
+    subst Q (packet_is form bytes at row r) (first_says form at (drop at bytes)) in
+    let w = says.0 in
+    let more = places_more form bytes rows at row small so_far.ends so_far.stand r in
+    let len : row.len ≡ stated form (drop at bytes) =
+    sym (length_is form bytes at row r) ∙ ap (λ (q : Captured). length q.body) says.1
+    ∙ body_length form (drop at bytes) (AreBytes-drop bytes at fits) w in
+    let place : at + (16 + stated form (drop at bytes)) ≡ row.at + row.len = omega (arith, len, r.at) in
+    let pushed : packets_at bytes rows ++ front_packet form (drop at bytes) ∷ [] ≡ packets_at bytes (rows ++ row ∷ []) =
+    ap (λ q. packets_at bytes rows ++ q ∷ []) (sym says.1) ∙ sym (map-append (packet_at bytes) rows (row ∷ [])) in
+    let R : ℕ → List Captured → Type 0 = λ n ps. SpellsIn form (take n bytes) ps in
+    let S : ℕ → Type 0 = λ n. R n (packets_at bytes rows ++ front_packet form (drop at bytes) ∷ []) in
+    record {
+      within = inside_is form bytes at row r;
+      ends = more.0;
+      stand = more.1;
+      spelt =
+          subst (R (row.at + row.len)) pushed
+          (subst S place (spelt_more form bytes at (packets_at bytes rows) fits so_far.within so_far.spelt w));
     }
 
--- a fault where bytes are left
-pub reads_fault : (form : Form) (bytes : List ℕ) (rows : List PacketRow) (at : ℕ) (fault : Fault) → at < length bytes → first_packet form at (take (length bytes - at) (drop at bytes)) ≡ Err fault → ReadsTo form bytes rows at → packets_of bytes ≡ Err fault
-reads_fault form bytes rows at fault left e so_far =
-    let some : 0 < length (drop at bytes) = omega (arith, length-drop at bytes) in
-    sym so_far.joins ∙ ap (joined (packets_at bytes rows)) (packets_from-fault form at (drop at bytes) fault some (ap (first_packet form at) (sym (take_rest bytes at)) ∙ e))
+-- a fault at the place is the file's, whatever refusal names it
+place_of : (form : Form) (at : ℕ) (ys : List ℕ) (fault : Fault) → Says form at ys (Err fault)
+    → offset_of fault ≡ Some at
+place_of form at ys NoHeader h = absurd h
+place_of form at ys Magic h = absurd h
+place_of form at ys Version h = absurd h
+place_of form at ys LinkType h = absurd h
+place_of form at ys (CutHeader offset) h = ap Some h.0
+place_of form at ys (LongRecord offset len) h = ap Some h.0
+place_of form at ys (CutBody offset) h = ap Some h.0
+
+pub rows_fault : (form : Form) (bytes : List ℕ) (rows : List PacketRow) (at : ℕ) (refusal : PcapRefusal)
+    → at < length bytes
+    → option_map Err (fault_of refusal) ≡ Some (first_packet form at (take (length bytes - at) (drop at bytes)))
+    → AreRowsTo form bytes at rows → IsFaultAt bytes (Some at) refusal
+rows_fault form bytes rows at refusal left e so_far =
+    let ys = drop at bytes in
+    let Q : Result Captured Fault → Type 0 = Says form at ys in
+    let named = named_fault (fault_of refusal) (first_packet form at (take (length bytes - at) ys)) e in
+    let says : Q (Err named.0) =
+    subst Q (ap (first_packet form at) (sym (take_rest bytes at)) ∙ named.2) (first_says form at ys) in
+    record {
+      fault = named.0;
+      named = named.1;
+      faulty =
+          faulty_at form bytes at named.0 (record {
+            packets = packets_at bytes rows;
+            spelt = so_far.spelt;
+            left = left;
+          }) says;
+      there = place_of form at ys named.0 says;
+    }
+
+-- and so is a fault of the header
+pub header_fault : (bytes : List ℕ) (refusal : PcapRefusal)
+    → option_map Err (fault_of refusal) ≡ Some (header_form bytes) → IsFaultAt bytes None refusal
+header_fault bytes refusal e =
+    let named = named_fault (fault_of refusal) (header_form bytes) e in
+    record {
+      fault = named.0;
+      named = named.1;
+      faulty = header_err bytes named.0 named.2;
+      there = header_place bytes named.0 named.2;
+    }
 
 -- no byte is left
-pub reads_all : (form : Form) (bytes : List ℕ) (rows : List PacketRow) (at : ℕ) → length bytes ≤ at → ReadsTo form bytes rows at → packets_of bytes ≡ Ok (packets_at bytes rows)
-reads_all form bytes rows at h so_far =
-    sym so_far.joins ∙ joined-end (packets_at bytes rows) _ (ap (packets_from form at) (drop_all at bytes h) ∙ packets_from-nil form at)
+pub rows_all : (form : Form) (bytes : List ℕ) (rows : List PacketRow) (at : ℕ) → at ≡ length bytes
+    → AreRowsTo form bytes at rows → AreSpelt bytes rows
+rows_all form bytes rows at e so_far =
+    let P : List ℕ → Type 0 = λ ys. SpellsIn form ys (packets_at bytes rows) in
+    record { stand = so_far.stand; spelt = (form, subst P (take_all at bytes (omega (arith, e))) so_far.spelt) }

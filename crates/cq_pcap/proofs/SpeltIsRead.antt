@@ -1,11 +1,9 @@
 -- What is spelt is read: each number reads back from its four bytes, so the record at the front is the one that was put there, and the bytes after it are the rest.
-use Rattle.std.proofs.Common.{◌≡◌, ℕ, ◌+◌, ◌*◌, ◌<◌, ◌^◌, List, [], ◌∷◌, ◌++◌, length, map, take, drop, refl, ap, sym, ◌∙◌, add-zero, arith, append_assoc, length-append}
+use Rattle.std.proofs.Common.{◌≡◌, ℕ, ◌+◌, ◌*◌, ◌<◌, ◌^◌, List, [], ◌∷◌, ◌++◌, length, map, take, drop, refl, ap, sym, ◌∙◌, add-zero, arith, append_assoc, length-append, Bool, true, false}
 use Rattle.std.proofs.lemmas.List.{append-nil, drop-drop, drop_at, length-drop, length-take-le, take-append-drop, take_at}
 use Rattle.std.specs.Prelude.{Result, Ok, Err}
 use Rattle.std.specs.List.{flat_map, AllByRecursion}
 use Rattle.cq_pcap.specs.declared.form.Form.{Form}
-use Rattle.cq_pcap.specs.declared.form.Order.{Order}
-use Rattle.cq_pcap.specs.declared.form.Order.TheVariants.{Little, Big}
 use Rattle.cq_pcap.specs.Form.{number_at, unit}
 use Rattle.cq_pcap.specs.Captured.{Captured}
 use Rattle.cq_pcap.specs.Faults.{Fault, NoHeader, Magic, Version, LinkType, CutHeader, LongRecord, CutBody, IsFaulty, IsSpeltUpTo}
@@ -17,7 +15,7 @@ use Rattle.cq_pcap.proofs.Firsts.{stated, first_whole, first_cut_header, first_l
 use Rattle.cq_pcap.proofs.Records.{joined, joined-end, joined-nil, packets_from-cons, packets_from-fault, packets_from-nil}
 
 -- what stands in the bytes of a record, whatever follows it
-record Stands (order : Order) (r : Record) (xs rest : List ℕ) : Type 0 where
+record Stands (order : Bool) (r : Record) (xs rest : List ℕ) : Type 0 where
   seconds : number_at order 4 xs 0 ≡ r.seconds
   subseconds : number_at order 4 xs 4 ≡ r.subseconds
   len : number_at order 4 xs 8 ≡ length r.body
@@ -25,60 +23,60 @@ record Stands (order : Order) (r : Record) (xs rest : List ℕ) : Type 0 where
   left : drop 16 xs ≡ r.body ++ rest
   long : length xs ≡ 16 + (length r.body + length rest)
 
-stands : (order : Order) (r : Record) (rest : List ℕ) → Fits r → Stands order r (spelling order r ++ rest) rest
+stands : (order : Bool) (r : Record) (rest : List ℕ) → Fits r → Stands order r (spelling order r ++ rest) rest
 unfolding number_at
-stands Little r rest fit = record {
-  seconds = number_in-reads_back Little r.seconds (drop 4 (spelling Little r ++ rest)) fit.seconds;
-  subseconds = number_in-reads_back Little r.subseconds (drop 8 (spelling Little r ++ rest)) fit.subseconds;
-  len = let b : length r.body < 2 ^ 32 = omega (arith, fit.body) in number_in-reads_back Little (length r.body) (drop 12 (spelling Little r ++ rest)) b;
-  original = number_in-reads_back Little r.original (r.body ++ rest) fit.original;
+stands false r rest fit = record {
+  seconds = number_in-reads_back false r.seconds (drop 4 (spelling false r ++ rest)) fit.seconds;
+  subseconds = number_in-reads_back false r.subseconds (drop 8 (spelling false r ++ rest)) fit.subseconds;
+  len = let b : length r.body < 2 ^ 32 = omega (arith, fit.body) in number_in-reads_back false (length r.body) (drop 12 (spelling false r ++ rest)) b;
+  original = number_in-reads_back false r.original (r.body ++ rest) fit.original;
   left = refl;
   long = omega (arith, length-append r.body rest);
 }
-stands Big r rest fit = record {
-  seconds = number_in-reads_back Big r.seconds (drop 4 (spelling Big r ++ rest)) fit.seconds;
-  subseconds = number_in-reads_back Big r.subseconds (drop 8 (spelling Big r ++ rest)) fit.subseconds;
-  len = let b : length r.body < 2 ^ 32 = omega (arith, fit.body) in number_in-reads_back Big (length r.body) (drop 12 (spelling Big r ++ rest)) b;
-  original = number_in-reads_back Big r.original (r.body ++ rest) fit.original;
+stands true r rest fit = record {
+  seconds = number_in-reads_back true r.seconds (drop 4 (spelling true r ++ rest)) fit.seconds;
+  subseconds = number_in-reads_back true r.subseconds (drop 8 (spelling true r ++ rest)) fit.subseconds;
+  len = let b : length r.body < 2 ^ 32 = omega (arith, fit.body) in number_in-reads_back true (length r.body) (drop 12 (spelling true r ++ rest)) b;
+  original = number_in-reads_back true r.original (r.body ++ rest) fit.original;
   left = refl;
   long = omega (arith, length-append r.body rest);
 }
 
 module _ (form : Form) (r : Record) (rest : List ℕ) (fit : Fits r) where
-  first_is : (place : ℕ) → first_packet form place (spelling form.order r ++ rest) ≡ Ok (captured_of form r)
+  first_is : (place : ℕ) → first_packet form place (spelling form.big r ++ rest) ≡ Ok (captured_of form r)
   first_is place =
-      let s = stands form.order r rest fit in
+      let s = stands form.big r rest fit in
       let len = s.len in
       let long = s.long in
       let most = fit.body in
-      let body : take (number_at form.order 4 (spelling form.order r ++ rest) 8) (drop 16 (spelling form.order r ++ rest)) ≡ r.body =
-      ap (λ n. take n (drop 16 (spelling form.order r ++ rest))) s.len ∙ ap (take (length r.body)) s.left ∙ take_at r.body rest (length r.body) refl in
-      first_whole form place (spelling form.order r ++ rest) (record { figures = omega arith; most = omega arith; body = omega arith })
-      ∙ (λ i. Ok (record { stamp = s.seconds i * 1000000000 + s.subseconds i * unit form.precision; original = s.original i; body = body i }))
+      let body : take (number_at form.big 4 (spelling form.big r ++ rest) 8) (drop 16 (spelling form.big r ++ rest)) ≡ r.body =
+      ap (λ n. take n (drop 16 (spelling form.big r ++ rest))) s.len ∙ ap (take (length r.body)) s.left ∙ take_at r.body rest (length r.body) refl in
+      first_whole form place (spelling form.big r ++ rest) (record { figures = omega arith; most = omega arith; body = omega arith })
+      ∙ (λ i. Ok (record { stamp = s.seconds i * 1000000000 + s.subseconds i * unit form.nano; original = s.original i; body = body i }))
 
-  after_is : drop (16 + length r.body) (spelling form.order r ++ rest) ≡ rest
+  after_is : drop (16 + length r.body) (spelling form.big r ++ rest) ≡ rest
   after_is =
-      let s = stands form.order r rest fit in
-      sym (drop-drop (length r.body) 16 (spelling form.order r ++ rest)) ∙ ap (drop (length r.body)) s.left ∙ drop_at r.body rest (length r.body) refl
+      let s = stands form.big r rest fit in
+      sym (drop-drop (length r.body) 16 (spelling form.big r ++ rest)) ∙ ap (drop (length r.body)) s.left ∙ drop_at r.body rest (length r.body) refl
 
-  length_is : length (spelling form.order r ++ rest) ≡ 16 + (length r.body + length rest)
-  length_is = (stands form.order r rest fit).long
+  length_is : length (spelling form.big r ++ rest) ≡ 16 + (length r.body + length rest)
+  length_is = (stands form.big r rest fit).long
 
 joined-cons : (p : Captured) (ps : List Captured) (left : Result (List Captured) Fault) → (joined ps left >>= (λ qs. Ok (p ∷ qs))) ≡ joined (p ∷ ps) left
 joined-cons p ps (Ok qs) = refl
 joined-cons p ps (Err e) = refl
 
 -- records that are spelt are read, whatever follows them
-records_read : (form : Form) (place : ℕ) (rs : List Record) (rest : List ℕ) → AllByRecursion Fits rs → packets_from form place (flat_map (spelling form.order) rs ++ rest) ≡ joined (map (captured_of form) rs) (packets_from form (place + length (flat_map (spelling form.order) rs)) rest)
+records_read : (form : Form) (place : ℕ) (rs : List Record) (rest : List ℕ) → AllByRecursion Fits rs → packets_from form place (flat_map (spelling form.big) rs ++ rest) ≡ joined (map (captured_of form) rs) (packets_from form (place + length (flat_map (spelling form.big) rs)) rest)
 records_read form place [] rest fits = ap (λ n. packets_from form n rest) (sym (add-zero place)) ∙ sym (joined-nil (packets_from form (place + 0) rest))
 records_read form place (r ∷ rs) rest fits =
-    let spelt = flat_map (spelling form.order) rs in
+    let spelt = flat_map (spelling form.big) rs in
     let more = spelt ++ rest in
     let p = captured_of form r in
-    let some : 0 < length (spelling form.order r ++ more) = omega (arith, length_is form r more fits.0) in
-    let ends : place + (16 + length r.body) + length spelt ≡ place + length (spelling form.order r ++ spelt) = omega (arith, length_is form r spelt fits.0) in
-    ap (packets_from form place) (append_assoc (spelling form.order r) spelt rest)
-    ∙ packets_from-cons form place (spelling form.order r ++ more) p some (first_is form r more fits.0 place)
+    let some : 0 < length (spelling form.big r ++ more) = omega (arith, length_is form r more fits.0) in
+    let ends : place + (16 + length r.body) + length spelt ≡ place + length (spelling form.big r ++ spelt) = omega (arith, length_is form r spelt fits.0) in
+    ap (packets_from form place) (append_assoc (spelling form.big r) spelt rest)
+    ∙ packets_from-cons form place (spelling form.big r ++ more) p some (first_is form r more fits.0 place)
     ∙ ap (λ (ys : List ℕ). packets_from form (place + (16 + length r.body)) ys >>= (λ ps. Ok (p ∷ ps))) (after_is form r more fits.0)
     ∙ ap (λ (left : Result (List Captured) Fault). left >>= (λ ps. Ok (p ∷ ps))) (records_read form (place + (16 + length r.body)) rs rest fits.1)
     ∙ joined-cons p (map (captured_of form) rs) (packets_from form (place + (16 + length r.body) + length spelt) rest)
@@ -88,7 +86,7 @@ records_read form place (r ∷ rs) rest fits =
 capture_read : (form : Form) (front rest : List ℕ) (packets : List Captured) → SpellsIn form front packets → packets_of (front ++ rest) ≡ joined packets (packets_from form (length front) rest)
 unfolding packets_of
 capture_read form front rest packets s =
-    let spelt = flat_map (spelling form.order) s.records in
+    let spelt = flat_map (spelling form.big) s.records in
     let whole : front ++ rest ≡ s.header ++ (spelt ++ rest) = ap (λ ys. ys ++ rest) s.whole ∙ append_assoc s.header spelt rest in
     let len = s.begins.len in
     let ends : 24 + length spelt ≡ length front = omega (arith, len, ap length s.whole, length-append s.header spelt) in
@@ -129,7 +127,7 @@ fault_is_read bytes (CutHeader offset) h =
     record_fault_read h.0 bytes offset (CutHeader offset) h.1 (first_cut_header h.0 offset (drop offset bytes) (let left = h.1.left in omega (arith, length-drop offset bytes)))
 fault_is_read bytes (LongRecord offset len) h =
     let there = h.2 in
-    let is = number_at-drop h.0.order 4 bytes offset 8 in
+    let is = number_at-drop h.0.big 4 bytes offset 8 in
     let same = h.3 in
     let long : 262144 < stated h.0 (drop offset bytes) = let l = h.4 in omega arith in
     let e : stated h.0 (drop offset bytes) ≡ len = is ∙ sym same in
@@ -137,7 +135,7 @@ fault_is_read bytes (LongRecord offset len) h =
     (first_long h.0 offset (drop offset bytes) (omega (arith, length-drop offset bytes)) long ∙ ap (λ n. Err (LongRecord offset n)) e)
 fault_is_read bytes (CutBody offset) h =
     let there = h.2 in
-    let is = number_at-drop h.0.order 4 bytes offset 8 in
+    let is = number_at-drop h.0.big 4 bytes offset 8 in
     let most = h.3 in
     let cut = h.4 in
     record_fault_read h.0 bytes offset (CutBody offset) h.1

@@ -1,9 +1,7 @@
 -- What is written is spelt: the header is one of the form, each record fits, and the seconds and nanoseconds of a stamp below 2^32 seconds make the stamp again.
-use Rattle.std.proofs.Common.{◌≡◌, ◌+◌, ◌*◌, ◌/◌, ◌%◌, ◌^◌, List, [], ◌∷◌, ◌++◌, map, refl, ap, ◌∙◌, arith}
+use Rattle.std.proofs.Common.{◌≡◌, ◌+◌, ◌*◌, ◌/◌, ◌%◌, ◌^◌, List, [], ◌∷◌, ◌++◌, map, refl, ap, ◌∙◌, arith, true, false}
 use Rattle.std.specs.List.{flat_map, AllByRecursion}
 use Rattle.cq_pcap.specs.declared.form.Form.{Form}
-use Rattle.cq_pcap.specs.declared.form.Order.TheVariants.{Little}
-use Rattle.cq_pcap.specs.declared.form.Precision.TheVariants.{Nanoseconds}
 use Rattle.cq_pcap.specs.declared.write.OutPacket.{OutPacket}
 use Rattle.cq_pcap.specs.Form.{number_at}
 use Rattle.cq_pcap.specs.Record.{Fits, IsHeader, Spells, captured_of, spelling}
@@ -11,7 +9,7 @@ use Rattle.cq_pcap.specs.Written.{IsWritable, read_again, written, written_heade
 
 -- the form that is written
 abbrev little_nanos : Form
-little_nanos = record { order = Little; precision = Nanoseconds }
+little_nanos = record { big = false; nano = true }
 
 record_fits : (p : OutPacket) → IsWritable p → Fits (written_record p)
 record_fits p w = record { seconds = omega arith; subseconds = omega arith; original = w.original; body = w.body }
@@ -29,9 +27,9 @@ records_kept : (ps : List OutPacket) → AllByRecursion IsWritable ps → map (c
 records_kept [] w = refl
 records_kept (p ∷ ps) w = ap (λ q. q ∷ map (captured_of little_nanos) (map written_record ps)) (stamp_again p w.0) ∙ ap (λ qs. read_again p ∷ qs) (records_kept ps w.1)
 
-records_spelt : (ps : List OutPacket) → flat_map (λ p. spelling Little (written_record p)) ps ≡ flat_map (spelling Little) (map written_record ps)
+records_spelt : (ps : List OutPacket) → flat_map (λ p. spelling false (written_record p)) ps ≡ flat_map (spelling false) (map written_record ps)
 records_spelt [] = refl
-records_spelt (p ∷ ps) = ap (λ bytes. spelling Little (written_record p) ++ bytes) (records_spelt ps)
+records_spelt (p ∷ ps) = ap (λ bytes. spelling false (written_record p) ++ bytes) (records_spelt ps)
 
 begins : IsHeader little_nanos written_header
 unfolding number_at

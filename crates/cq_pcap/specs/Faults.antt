@@ -25,7 +25,7 @@ pub record IsSpeltUpTo (form : Form) (bytes : List ℕ) (offset : ℕ) : Type 0 
 
 -- the captured length that a record at a place states
 abbrev pub stated_length : Form → List ℕ → ℕ → ℕ
-stated_length form bytes offset = number_at form.order 4 bytes (offset + 8)
+stated_length form bytes offset = number_at form.big 4 bytes (offset + 8)
 
 -- the fault is the first of the file: before it the header is as it should be, and each record is whole
 abbrev pub IsFaulty : List ℕ → Fault → Type 0

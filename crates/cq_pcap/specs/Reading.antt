@@ -14,11 +14,11 @@ abbrev pub ◌>>=◌ : {A B : Type 0} → Result A Fault → (A → Result B Fau
 
 -- whether the version is 2.4
 abbrev pub has_version : Form → List ℕ → Bool
-has_version form bytes = number_at form.order 2 bytes 4 == 2 && number_at form.order 2 bytes 6 == 4
+has_version form bytes = number_at form.big 2 bytes 4 == 2 && number_at form.big 2 bytes 6 == 4
 
 -- whether the link type is Ethernet
 abbrev pub has_link_type : Form → List ℕ → Bool
-has_link_type form bytes = number_at form.order 4 bytes 20 % 2 ^ 16 == 1
+has_link_type form bytes = number_at form.big 4 bytes 20 % 2 ^ 16 == 1
 
 -- the form, unless the header has another version or link type
 abbrev pub checked_form : List ℕ → Form → Result Form Fault
@@ -31,13 +31,13 @@ header_form bytes = if nat_lt (length bytes) 24 then Err NoHeader else ok_or (fo
 -- the packet of the record at the front, which begins at a place of the file
 unfoldable pub first_packet : Form → ℕ → List ℕ → Result Captured Fault
 first_packet form place bytes =
-    let len = number_at form.order 4 bytes 8 in
+    let len = number_at form.big 4 bytes 8 in
     if nat_lt (length bytes) 16 then Err (CutHeader place)
     else if nat_lt 262144 len then Err (LongRecord place len)
     else if nat_lt (length bytes) (16 + len) then Err (CutBody place)
     else Ok (record {
-      stamp = number_at form.order 4 bytes 0 * 1000000000 + number_at form.order 4 bytes 4 * unit form.precision;
-      original = number_at form.order 4 bytes 12;
+      stamp = number_at form.big 4 bytes 0 * 1000000000 + number_at form.big 4 bytes 4 * unit form.nano;
+      original = number_at form.big 4 bytes 12;
       body = take len (drop 16 bytes);
     })
 

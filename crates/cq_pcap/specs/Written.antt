@@ -1,9 +1,8 @@
 -- The capture that is written: little-endian with nanoseconds.
-use Rattle.std.specs.Prelude.{ℕ, ◌/◌, ◌%◌, ◌^◌, ◌*◌, ◌<◌, ◌≤◌, List, [], ◌∷◌, ◌++◌, length}
+use Rattle.std.specs.Prelude.{ℕ, ◌/◌, ◌%◌, ◌^◌, ◌*◌, ◌<◌, ◌≤◌, List, [], ◌∷◌, ◌++◌, length, false}
 use Rattle.std.specs.List.{flat_map}
 use Rattle.cq_pcap.specs.Captured.{Captured}
 use Rattle.cq_pcap.specs.Record.{Record, spelling}
-use Rattle.cq_pcap.specs.declared.form.Order.TheVariants.{Little}
 use Rattle.cq_pcap.specs.declared.write.OutPacket.{OutPacket}
 
 -- the magic, version 2.4, zone and sigfigs 0, at most 262,144 bytes a packet, Ethernet
@@ -16,7 +15,7 @@ written_record p = record { seconds = p.stamp / 1000000000 % 2 ^ 32; subseconds 
 
 -- the file of these packets
 abbrev pub written : List OutPacket → List ℕ
-written ps = written_header ++ flat_map (λ p. spelling Little (written_record p)) ps
+written ps = written_header ++ flat_map (λ p. spelling false (written_record p)) ps
 
 -- a packet that is written is read as this
 abbrev pub read_again : OutPacket → Captured

@@ -1,9 +1,11 @@
 // A capture that was read: the bytes of its file, and where the packets stand in them. No body is
 // copied.
-ghost use Rattle.std.specs.Prelude.{◌≡◌, ◌<◌, ◌≤◌, ◌^◌, [], All, length, slice_get, IfSome};
+ghost use Rattle.std.specs.Prelude.{◌≡◌, ◌<◌, ◌≤◌, ◌^◌, [], Ok, All, length, slice_get, IfSome};
 ghost use Rattle.std.specs.List.{AllByRecursion};
 ghost use Rattle.cq_pcap.specs.Captured.{file_length, rows_from};
-ghost use Rattle.cq_pcap.specs.Rows.{AreRowsOf, packets_at};
+ghost use Rattle.cq_pcap.specs.Reading.{packets_of};
+ghost use Rattle.cq_pcap.specs.Record.{Spells};
+ghost use Rattle.cq_pcap.specs.Rows.{AreSpelt, packets_at};
 
 use std::alloc::Global;
 use std::marker::Model;
@@ -52,10 +54,12 @@ impl Capture {
         }
     }
 
-    /// The capture of a file whose packets have these rows.
-    pub(crate) fn of_rows(bytes: Vec<u8>, rows: Vec<PacketRow>) -> Capture
-        requires { AreRowsOf bytes.items rows.items }
-        ensures { result ≡ packets_at bytes.items rows.items }
+    /// The capture of a file whose packets have these rows: that which `read_capture` gives for the bytes.
+    pub fn of_rows(bytes: Vec<u8>, rows: Vec<PacketRow>) -> Capture
+        requires { AreSpelt bytes.items rows.items }
+        ensures packets { result ≡ packets_at bytes.items rows.items }
+        ensures spelt { Spells bytes.items result }
+        ensures read { packets_of bytes.items ≡ Ok result }
     {
         Capture { bytes, rows }
     }

@@ -15,6 +15,7 @@ mod tests;
 mod write;
 
 pub use capture::{Capture, PacketRow};
+pub use form::Form;
 pub use laws::{a_file_has_packets_or_a_fault, reading_is_by_the_grammar, written_is_spelt};
-pub use read::{PcapRefusal, read_capture};
+pub use read::{PcapRefusal, form_of, read_capture, row_at};
 pub use write::{OutPacket, capture_bytes};

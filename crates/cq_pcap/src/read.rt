@@ -1,9 +1,9 @@
 // Captures that are read, in one pass over the bytes.
-ghost use Rattle.std.specs.Prelude.{◌≡◌, ◌+◌, ◌≤◌, ◌^◌, Ok, Err, length, IfErr, IfOk, IfSome};
+ghost use Rattle.std.specs.Prelude.{◌≡◌, ◌+◌, ◌≤◌, ◌^◌, Ok, Err, Some, None, List, [], ◌∷◌, ◌++◌, length, option_map, IfErr, IfNone, IfOk, IfSome};
 ghost use Rattle.cq_pcap.specs.Faults.{IsFaulty, fault_of};
 ghost use Rattle.cq_pcap.specs.Reading.{first_packet, header_form, packets_of};
 ghost use Rattle.cq_pcap.specs.Record.{Spells};
-ghost use Rattle.cq_pcap.specs.Rows.{AreRowsOf, IsRowOf, packets_at};
+ghost use Rattle.cq_pcap.specs.Rows.{AreRowsTo, AreSpelt, GoesOn, IsFaultAt, IsRowOf};
 
 use crate::form::Form;
 use crate::{Capture, PacketRow};
@@ -68,11 +68,23 @@ const LONGEST: u32 = 262_144;
 // In nanoseconds.
 const SECOND: u64 = 1_000_000_000;
 
-// The form of a file, by its header.
+/// The form of a file, by its header: the order of the bytes that its magic tells, and the unit of its
+/// subseconds.
+///
+/// The refusals are those of the header alone, the first in the order of `PcapRefusal`, and never want
+/// of memory.
+pub fn form_of(bytes: &[u8]) -> Result<Form, PcapRefusal>
+    ensures form { IfOk result (λ form. AreRowsTo form bytes.now 24 []) }
+    ensures fault { IfErr result (IsFaultAt bytes.now None) }
+{
+    header_of(bytes)
+}
+
+// The same, by the function that reads a file from its front.
 #[tactic(auto, using(std::proofs::lemmas::Bool::Decides::nat_tests), unfolding(crate::specs::Reading::header_form))]
-fn form_of(bytes: &[u8]) -> Result<Form, PcapRefusal>
+fn header_of(bytes: &[u8]) -> Result<Form, PcapRefusal>
     ensures form { IfOk result (λ form. header_form bytes.now ≡ Ok form) }
-    ensures fault { IfErr result (λ refusal. IfSome (fault_of refusal) (λ fault. header_form bytes.now ≡ Err fault)) }
+    ensures fault { IfErr result (λ refusal. option_map Err (fault_of refusal) ≡ Some (header_form bytes.now)) }
 {
     if bytes.len() < FILE_HEADER {
         return Err(PcapRefusal::NoHeader);
@@ -80,11 +92,11 @@ fn form_of(bytes: &[u8]) -> Result<Form, PcapRefusal>
     let Some(form) = Form::at(bytes) else {
         return Err(PcapRefusal::Magic);
     };
-    if form.order.short(bytes, 4) != MAJOR || form.order.short(bytes, 6) != MINOR {
+    if form.short(bytes, 4) != MAJOR || form.short(bytes, 6) != MINOR {
         return Err(PcapRefusal::Version);
     }
     // The link type is the lower half of its field.
-    if form.order.word(bytes, 20) % (1 << 16) != ETHERNET {
+    if form.word(bytes, 20) % (1 << 16) != ETHERNET {
         return Err(PcapRefusal::LinkType);
     }
     Ok(form)
@@ -95,13 +107,13 @@ fn form_of(bytes: &[u8]) -> Result<Form, PcapRefusal>
 fn row_of(form: Form, bytes: &[u8], place: usize) -> Result<PacketRow, PcapRefusal>
     requires { place + length bytes.now ≤ 2 ^ 28 }
     ensures row { IfOk result (λ row. IsRowOf form bytes.now place row) }
-    ensures fault { IfErr result (λ refusal. IfSome (fault_of refusal) (λ fault. first_packet form place bytes.now ≡ Err fault)) }
+    ensures fault { IfErr result (λ refusal. option_map Err (fault_of refusal) ≡ Some (first_packet form place bytes.now)) }
 {
     let offset = place as u64;
     if bytes.len() < RECORD_HEADER {
         return Err(PcapRefusal::CutHeader { offset });
     }
-    let len = form.order.word(bytes, 8);
+    let len = form.word(bytes, 8);
     if len > LONGEST {
         return Err(PcapRefusal::LongRecord {
             offset,
@@ -111,29 +123,47 @@ fn row_of(form: Form, bytes: &[u8], place: usize) -> Result<PacketRow, PcapRefus
     if bytes.len() - RECORD_HEADER < len as usize {
         return Err(PcapRefusal::CutBody { offset });
     }
-    let seconds = u64::from(form.order.word(bytes, 0));
-    let subseconds = u64::from(form.order.word(bytes, 4));
+    let seconds = u64::from(form.word(bytes, 0));
+    let subseconds = u64::from(form.word(bytes, 4));
     Ok(PacketRow {
-        stamp: seconds * SECOND + subseconds * form.precision.nanoseconds(),
-        original: form.order.word(bytes, 12),
+        stamp: seconds * SECOND + subseconds * form.subsecond(),
+        original: form.word(bytes, 12),
         at: offset + RECORD_HEADER as u64,
         len,
     })
 }
 
+/// The row of the record that begins at a place of a file of at most 2^28 bytes, where the bytes before
+/// it are a capture of this form. `None` says that the file ends there.
+///
+/// The refusals are those of a record, with the place as their offset, and never want of memory.
+pub fn row_at(bytes: &[u8], form: Form, at: u64) -> Result<Option<PacketRow>, PcapRefusal>
+    requires small { length bytes.now ≤ 2 ^ 28 }
+    requires before { (rows : List PacketRow) × AreRowsTo form bytes.now at rows }
+    ensures end { IfOk result (λ found. IfNone found (at ≡ length bytes.now)) }
+    ensures begins { IfOk result (λ found. IfSome found (λ row. row.at ≡ at + 16)) }
+    ensures inside { IfOk result (λ found. IfSome found (λ row. row.at + row.len ≤ length bytes.now)) }
+    ensures more { IfOk result (λ found. IfSome found (GoesOn form bytes.now at)) }
+    ensures fault { IfErr result (IsFaultAt bytes.now (Some at)) }
+{
+    if at == bytes.len() as u64 {
+        return Ok(None);
+    }
+    let place = at as usize;
+    Ok(Some(row_of(form, &bytes[place..], place)?))
+}
+
 // The rows of the records, which fill the file from its header on.
 fn rows_of(alloc: Global, bytes: &[u8]) -> Result<Vec<PacketRow>, PcapRefusal>
     requires { length bytes.now ≤ 2 ^ 28 }
-    ensures rows { IfOk result (λ rows. AreRowsOf bytes.now rows.items) }
-    ensures spelt { IfOk result (λ rows. Spells bytes.now (packets_at bytes.now rows.items)) }
+    ensures rows { IfOk result (λ rows. AreSpelt bytes.now rows.items) }
     ensures faulty { IfErr result (λ refusal. IfSome (fault_of refusal) (IsFaulty bytes.now)) }
 {
     let form = form_of(bytes)?;
     let mut rows = Vec::new(alloc);
-    let mut at = FILE_HEADER;
-    'records: while at < bytes.len() {
-        let row = row_of(form, &bytes[at..], at)?;
-        at += RECORD_HEADER + row.len as usize;
+    let mut at = FILE_HEADER as u64;
+    'records: while let Some(row) = row_at(bytes, form, at)? {
+        at = row.at + u64::from(row.len);
         rows.push(row).map_err(NoMemory::from)?;
     }
     Ok(rows)

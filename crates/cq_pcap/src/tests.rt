@@ -1,7 +1,9 @@
 // Captures of the format's own values, byte by byte.
 ghost use Rattle.std.specs.Prelude.{◌≤◌, ◌^◌, length};
 
-use crate::{Capture, OutPacket, PcapRefusal, capture_bytes, read_capture};
+use crate::{
+    Capture, Form, OutPacket, PacketRow, PcapRefusal, capture_bytes, form_of, read_capture, row_at,
+};
 use cq_base::Sequence;
 use std::alloc::Global;
 use std::test::Fail;
@@ -218,6 +220,29 @@ fn a_refusal_says_why(rt: HostRuntime) -> Result<(), Fail> {
     for (refusal, text) in cases {
         let told = refusal.to_string(rt.alloc())?;
         assert_eq!(rt; told.as_str(), text);
+    }
+    Ok(())
+}
+
+// The form of a file, and the row of its first record.
+fn first_found(bytes: &[u8]) -> Result<(Form, Option<PacketRow>), PcapRefusal>
+    requires { length bytes.now ≤ 2 ^ 28 }
+{
+    let form = form_of(bytes)?;
+    Ok((form, row_at(bytes, form, 24)?))
+}
+
+#[test]
+fn the_first_record_is_found_by_the_form(rt: HostRuntime) -> Result<(), Fail> {
+    let forms = [(false, false), (false, true), (true, false), (true, true)];
+    for k in 0..4 {
+        let (big, nano) = forms[k];
+        let (form, found) = first_found(&FORMS[k])?;
+        assert_eq!(rt; form, Form { big, nano }, "{k}");
+        let Some(row) = found else {
+            return Err(Fail::new("no record"));
+        };
+        assert_eq!(rt; (row.stamp, row.len), (7_000_250_000, 2), "{k}");
     }
     Ok(())
 }

@@ -1,7 +1,6 @@
 // Captures that are written.
-ghost use Rattle.std.specs.Prelude.{◌≡◌, ◌≤◌, ◌++◌, length, All, IfOk, OnOk};
+ghost use Rattle.std.specs.Prelude.{◌≡◌, ◌≤◌, ◌++◌, false, length, All, IfOk, OnOk};
 ghost use Rattle.cq_pcap.specs.Record.{spelling};
-ghost use Rattle.cq_pcap.specs.declared.form.Order.TheVariants.{Little};
 ghost use Rattle.cq_pcap.specs.Written.{written, written_record};
 
 use byteorder::{ByteOrder, LittleEndian};
@@ -33,7 +32,7 @@ const SECOND: u128 = 1_000_000_000;
 #[tactic(auto, using(std::proofs::Common::append_assoc))]
 fn put_record(out: &mut Vec<u8>, packet: &OutPacket) -> Result<(), NoMemory>
     requires { length packet.now.body ≤ 262144 }
-    ensures { OnOk result (out.new.items ≡ out.old.items ++ spelling Little (written_record packet.now)) }
+    ensures { OnOk result (out.new.items ≡ out.old.items ++ spelling false (written_record packet.now)) }
 {
     let body = packet.body.as_slice();
     let figures = [

@@ -10,7 +10,8 @@ pub returns-in_err-rows-clause-unread : goal.returns-in_err-rows-clause-unread
 returns-in_err-rows-clause-unread c =
     let bytes = c.args.bytes.items in
     let faulty : IfErr c.from_residual.result (λ refusal. IfSome (fault_of refusal) (IsFaulty bytes)) = search rules in
-    refused_map c.from_residual.result (IsFaulty bytes) (λ fault. packets_of bytes ≡ Err fault) (fault_is_read bytes) faulty
+    refused_map c.from_residual.result (IsFaulty bytes) (λ fault. packets_of bytes ≡ Err fault) (fault_is_read bytes)
+    faulty
 
 pub returns-clause-read : goal.returns-clause-read
 returns-clause-read c =

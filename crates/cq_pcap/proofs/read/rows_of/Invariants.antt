@@ -1,9 +1,10 @@
+-- proofs/read/rows_of/Invariants.antt
 use Rattle.std.proofs.Common.{◌-◌, length}
-use Rattle.cq_pcap.proofs.Rows.{ReadsTo}
+use Rattle.cq_pcap.specs.Rows.{AreRowsTo}
 use Rattle.cq_pcap.proofs.read.rows_of.Given as goal
 
 abbrev pub invariant-records : goal.invariant-records
-invariant-records l = ReadsTo l.form l.bytes l.rows.items l.at
+invariant-records l = AreRowsTo l.form l.bytes l.at l.rows.items
 
 abbrev pub decreases-records : goal.decreases-records
 decreases-records l = length l.bytes - l.at

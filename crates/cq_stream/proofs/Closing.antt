@@ -1,0 +1,57 @@
+-- Both ends of the ring in one thread show that what was taken, and what still waits, is what was sent. The last item
+-- that was taken says that there are no more, and only the last one sent says so. So nothing waits, and the rows
+-- taken are the rows sent. Where nothing was sent, nothing was taken either.
+use Rattle.std.proofs.Common.{◌≡◌, ℕ, List, [], ◌∷◌, ◌++◌, refl, ap, sym, subst, ◌∙◌}
+use Rattle.std.specs.Prelude.{Err, IfSome, Option, Some}
+use Rattle.rtrb.specs.Ring.{sent}
+use Rattle.cq_pcap.specs.declared.capture.PacketRow.{PacketRow}
+use Rattle.cq_pcap.specs.declared.read.PcapRefusal.{PcapRefusal}
+use Rattle.cq_pcap.specs.Faults.{Fault, fault_of}
+use Rattle.cq_pcap.specs.Reading.{packets_of}
+use Rattle.cq_pcap.specs.Rows.{AreRowsUntil}
+use Rattle.cq_pcap.proofs.SpeltIsRead.{fault_is_read}
+use Rattle.cq_stream.specs.declared.item.Item.{Item}
+use Rattle.cq_stream.specs.declared.item.Order.{Order}
+use Rattle.cq_stream.specs.declared.item.Order.TheVariants.{Send, Alone}
+use Rattle.cq_stream.specs.declared.outcome.Done.{Done}
+use Rattle.cq_stream.specs.Stream.{HasObeyed, HasRun, items_of}
+
+-- the fault of a file is read
+pub unread : (bytes : List ℕ) (refusal : PcapRefusal) (rows : List PacketRow)
+    → AreRowsUntil bytes (Some refusal) rows → IfSome (fault_of refusal) (λ fault. packets_of bytes ≡ Err fault)
+unread bytes refusal rows until =
+    let there = until.1 in
+    let P : Option Fault → Type 0 = λ named. IfSome named (λ fault. packets_of bytes ≡ Err fault) in
+    subst P (sym there.named) (fault_is_read bytes there.fault there.faulty)
+
+-- the items of a file have one end
+one_end : (rows others : List PacketRow) (rest : List Item)
+    → items_of rows ++ rest ≡ items_of others → rows ≡ others
+one_end [] [] rest e = refl
+one_end [] (o ∷ others) rest e = absurd (let P : ⊥ = cc e in P)
+one_end (r ∷ rows) [] rest e = absurd (let P : ⊥ = cc e in P)
+one_end (r ∷ rows) (o ∷ others) rest e =
+    let head : r ≡ o = cc e in
+    let tail : items_of rows ++ rest ≡ items_of others = cc e in
+    ap (λ x. x ∷ rows) head ∙ ap (λ xs. o ∷ xs) (one_end rows others rest tail)
+
+some_item : (rows : List PacketRow) (rest : List Item) → items_of rows ++ rest ≡ [] → ⊥
+some_item [] rest e = cc e
+some_item (r ∷ rows) rest e = cc e
+
+sent_are_taken : (order : Order) (bytes : List ℕ) (fault : Option PcapRefusal) (sent waiting : List Item)
+    (rows : List PacketRow)
+    → HasObeyed order bytes fault sent → items_of rows ++ waiting ≡ sent → AreRowsUntil bytes fault rows
+sent_are_taken Send bytes fault sent waiting rows h e =
+    let same : rows ≡ h.rows = one_end rows h.rows waiting (e ∙ h.sent) in
+    let P : List PacketRow → Type 0 = AreRowsUntil bytes fault in
+    subst P (sym same) h.until
+sent_are_taken Alone bytes fault sent waiting rows h e = absurd (some_item rows waiting (e ∙ h.1))
+
+-- the rows that were taken are those of the file, where its reader left this
+pub closes : (done : Done) (rows : List PacketRow) (taken after all waiting : List Item) → HasRun done
+    → taken ≡ items_of rows → after ≡ taken → all ≡ sent done.items → after ++ waiting ≡ all
+    → AreRowsUntil done.bytes.items done.fault rows
+closes done rows taken after all waiting ran t a s fifo =
+    sent_are_taken ran.order done.bytes.items done.fault (sent done.items) waiting rows ran.obeyed
+    (ap (λ items. items ++ waiting) (sym t ∙ sym a) ∙ fifo ∙ s)

@@ -1,0 +1,65 @@
+-- What a reader has sent while it stands at a place of the file: a row for each record before that place, after what
+-- had been sent before. Each row that is found goes on with it. At the end of the bytes, or at their fault, these are
+-- the rows of the file.
+use Rattle.std.proofs.Common.{◌≡◌, ℕ, List, [], ◌∷◌, ◌++◌, length, map, refl, ap, sym, ◌∙◌, append_assoc}
+use Rattle.std.proofs.lemmas.List.{append-nil, map-append}
+use Rattle.std.specs.Prelude.{Option, None, Some}
+use Rattle.cq_pcap.specs.declared.capture.PacketRow.{PacketRow}
+use Rattle.cq_pcap.specs.declared.form.Form.{Form}
+use Rattle.cq_pcap.specs.declared.read.PcapRefusal.{PcapRefusal}
+use Rattle.cq_pcap.specs.Rows.{AreRowsTo, IsFaultAt}
+use Rattle.cq_pcap.proofs.Rows.{rows_all}
+use Rattle.cq_stream.specs.declared.item.Item.{Item}
+use Rattle.cq_stream.specs.declared.item.Item.TheVariants.{Row, Ended}
+use Rattle.cq_stream.specs.Stream.{HasEnded, HasSent}
+
+-- a row for each record before the place was sent
+pub record SendsTo (form : Form) (bytes : List ℕ) (at : ℕ) (before after : List Item) : Type 0 where
+  pub rows : List PacketRow
+  pub stand : AreRowsTo form bytes at rows
+  pub sent : after ≡ before ++ map Row rows
+
+pub sends_none : (form : Form) (bytes : List ℕ) (before : List Item) → AreRowsTo form bytes 24 []
+    → SendsTo form bytes 24 before before
+sends_none form bytes before h = record { rows = []; stand = h; sent = sym (append-nil before) }
+
+-- one more row
+pub sends_more : (form : Form) (bytes : List ℕ) (at next : ℕ) (row : PacketRow) (before so_far after : List Item)
+    → after ≡ so_far ++ Row row ∷ []
+    → ((rows : List PacketRow) → AreRowsTo form bytes at rows → AreRowsTo form bytes next (rows ++ row ∷ []))
+    → SendsTo form bytes at before so_far → SendsTo form bytes next before after
+sends_more form bytes at next row before so_far after e goes_on s = record {
+  rows = s.rows ++ row ∷ [];
+  stand = goes_on s.rows s.stand;
+  sent =
+      e ∙ ap (λ items. items ++ Row row ∷ []) s.sent ∙ append_assoc before (map Row s.rows) (Row row ∷ [])
+      ∙ ap (λ items. before ++ items) (sym (map-append Row s.rows (row ∷ [])));
+}
+
+-- no byte is left
+pub sends_all : (form : Form) (bytes : List ℕ) (at : ℕ) (before after : List Item) → at ≡ length bytes
+    → SendsTo form bytes at before after → HasSent bytes None before after
+sends_all form bytes at before after e s =
+    record { rows = s.rows; until = rows_all form bytes s.rows at e s.stand; sent = s.sent }
+
+-- a fault of a record
+pub sends_fault : (form : Form) (bytes : List ℕ) (at : ℕ) (before after : List Item) (refusal : PcapRefusal)
+    → IsFaultAt bytes (Some at) refusal → SendsTo form bytes at before after
+    → HasSent bytes (Some refusal) before after
+sends_fault form bytes at before after refusal fault s =
+    record { rows = s.rows; until = (Some at, fault, (form, s.stand)); sent = s.sent }
+
+-- a fault of the header
+pub sends_header_fault : (bytes : List ℕ) (before : List Item) (refusal : PcapRefusal) → IsFaultAt bytes None refusal
+    → HasSent bytes (Some refusal) before before
+sends_header_fault bytes before refusal fault =
+    record { rows = []; until = (None, fault, refl); sent = sym (append-nil before) }
+
+-- and then that there are no more
+pub sends_end : (bytes : List ℕ) (fault : Option PcapRefusal) (before so_far after : List Item)
+    → after ≡ so_far ++ Ended ∷ [] → HasSent bytes fault before so_far → HasEnded bytes fault before after
+sends_end bytes fault before so_far after e s = record {
+  rows = s.rows;
+  until = s.until;
+  sent = e ∙ ap (λ items. items ++ Ended ∷ []) s.sent ∙ append_assoc before (map Row s.rows) (Ended ∷ []);
+}

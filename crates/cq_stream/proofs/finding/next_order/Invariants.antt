@@ -1,0 +1,7 @@
+-- proofs/finding/next_order/Invariants.antt
+use Rattle.std.proofs.Common.{◌≡◌}
+use Rattle.rtrb.specs.Ring.{received}
+use Rattle.cq_stream.proofs.finding.next_order.Given as goal
+
+abbrev pub invariant-turns : goal.invariant-turns
+invariant-turns g l = received l.orders ≡ received l.initial.orders

@@ -1,0 +1,8 @@
+-- proofs/finding/push/Invariants.antt
+use Rattle.std.proofs.Common.{◌≡◌}
+use Rattle.rtrb.specs.Ring.{SameProducer, sent}
+use Rattle.cq_stream.proofs.finding.push.Given as goal
+
+abbrev pub invariant-turns : goal.invariant-turns
+invariant-turns g l =
+    (sent l.items ≡ sent l.initial.items) × (l.item ≡ l.initial.item) × SameProducer l.initial.items l.items

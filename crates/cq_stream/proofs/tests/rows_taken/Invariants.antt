@@ -1,0 +1,8 @@
+-- proofs/tests/rows_taken/Invariants.antt
+use Rattle.std.proofs.Common.{◌≡◌, map}
+use Rattle.cq_stream.specs.declared.item.Item.TheVariants.{Row}
+use Rattle.cq_stream.specs.Rings.{SameReader, taken}
+use Rattle.cq_stream.proofs.tests.rows_taken.Given as goal
+
+abbrev pub invariant-turns : goal.invariant-turns
+invariant-turns l = (taken l.intake ≡ map Row l.rows.items) × SameReader l.initial.intake l.intake

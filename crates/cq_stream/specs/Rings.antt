@@ -1,0 +1,31 @@
+-- What contracts see of a reader and of its intake.
+use Rattle.std.specs.Prelude.{ℕ, List}
+use Rattle.rtrb.specs.Ring.{IsPair, SameConsumer, known_items, received, sent}
+use Rattle.cq_stream.specs.declared.item.Item.{Item}
+use Rattle.cq_stream.specs.declared.item.Order.{Order}
+use Rattle.cq_stream.specs.declared.reader.Reader.{Reader}
+use Rattle.cq_stream.specs.declared.intake.Intake.{Intake}
+
+-- the two were made together: their ring of items is the same
+abbrev pub IsPairOf : Reader → Intake → Type 0
+IsPairOf reader intake = IsPair reader.items intake.items
+
+-- the intake is of the same reader as before
+abbrev pub SameReader : Intake → Intake → Type 0
+SameReader old new = SameConsumer old.items new.items
+
+-- the bytes that the reader is to decode
+abbrev pub bytes_to_read : Reader → List ℕ
+bytes_to_read reader = reader.bytes.items
+
+-- the items that were taken, oldest first
+abbrev pub taken : Intake → List Item
+taken intake = received intake.items
+
+-- the items that are known to wait in the ring
+abbrev pub waiting : Intake → List Item
+waiting intake = known_items intake.items
+
+-- what the reader was told
+abbrev pub told : Intake → List Order
+told intake = sent intake.orders

@@ -1,0 +1,89 @@
+//! The caller's ends of the two rings.
+ghost use Rattle.std.specs.Prelude.{◌≡◌, ◌+◌, length};
+ghost use Rattle.rtrb.specs.Ring.{known_free, sent};
+
+use crate::answer::answer;
+use crate::{Done, Item, Order};
+use cq_pcap::{Capture, PacketRow, PcapRefusal};
+use rtrb::{Consumer, Producer};
+
+/// Gives a reader its order and takes what it sends.
+#[derive(Drop)]
+pub struct Intake {
+    pub(crate) items: Consumer<Item>,
+    pub(crate) orders: Producer<Order>,
+    // There is room for the one order.
+    ghost slot: { known_free orders + length (sent orders) ≡ 1 },
+}
+
+impl Intake {
+    ghost use Rattle.std.specs.Prelude.{◌≡◌, [], ◌∷◌, ◌++◌, Ok, Err, IfErr, IfNone, IfOk, IfSome};
+    ghost use Rattle.cq_pcap.specs.Faults.{IsFaulty, fault_of};
+    ghost use Rattle.cq_pcap.specs.Reading.{packets_of};
+    ghost use Rattle.cq_pcap.specs.Record.{Spells};
+    ghost use Rattle.cq_pcap.specs.Rows.{AreRowsUntil};
+    ghost use Rattle.cq_stream.specs.declared.item.Order.TheVariants as order;
+    ghost use Rattle.cq_stream.specs.Rings.{SameReader, taken, told, waiting};
+    ghost use Rattle.cq_stream.specs.Stream.{HasRun, IsLeftTo, bytes_of, fault_found, items_of};
+
+    /// Tells the reader to send. It has been told nothing before.
+    pub fn send(&mut self)
+        requires { told self.old ≡ [] }
+        ensures told { told self.new ≡ order.Send ∷ [] }
+        ensures taken { taken self.new ≡ taken self.old }
+        ensures reader { SameReader self.old self.new }
+    {
+        self.orders.push_reserved(Order::Send);
+    }
+
+    /// Tells the reader to send nothing. It has been told nothing before.
+    pub fn alone(&mut self)
+        requires { told self.old ≡ [] }
+        ensures told { told self.new ≡ order.Alone ∷ [] }
+        ensures taken { taken self.new ≡ taken self.old }
+        ensures reader { SameReader self.old self.new }
+    {
+        self.orders.push_reserved(Order::Alone);
+    }
+
+    /// The next item. `None` says that the ring held none at this step.
+    pub fn take(&mut self) -> Option<Item>
+        ensures some { IfSome result (λ item. taken self.new ≡ taken self.old ++ item ∷ []) }
+        ensures none { IfNone result ((taken self.new ≡ taken self.old) × (waiting self.new ≡ [])) }
+        ensures told { told self.new ≡ told self.old }
+        ensures reader { SameReader self.old self.new }
+    {
+        match self.items.pop() {
+            Ok(item) => Some(item),
+            Err(_) => None,
+        }
+    }
+
+    /// What `read_capture` answers on the reader's bytes, where the last item taken was `Ended` and
+    /// these are the rows taken. They are those of the capture, or of the records before the fault, in
+    /// order, whole and once.
+    pub fn close(self, done: Done, rows: Vec<PacketRow>) -> Result<Capture, PcapRefusal>
+        requires done { IsLeftTo self done }
+        requires ran { HasRun done }
+        requires taken { taken self ≡ items_of rows.items }
+        ensures spelt { IfOk result (λ packets. Spells (bytes_of done) packets) }
+        ensures faulty { IfErr result (λ refusal. IfSome (fault_of refusal) (IsFaulty (bytes_of done))) }
+        ensures read { IfOk result (λ packets. packets_of (bytes_of done) ≡ Ok packets) }
+        ensures unread { IfErr result (λ refusal. IfSome (fault_of refusal) (λ fault. packets_of (bytes_of done) ≡ Err fault)) }
+        ensures rows { AreRowsUntil (bytes_of done) (fault_found done) rows.items }
+    {
+        let Intake {
+            mut items,
+            orders: _,
+        } = self;
+        let Done {
+            bytes,
+            fault,
+            items: mut sent,
+            orders: _,
+        } = done;
+        // Both ends of the ring stand here: what was taken is all that was sent.
+        items.slots_beside(&mut sent);
+        answer(bytes, fault, rows)
+    }
+}

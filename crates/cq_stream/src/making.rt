@@ -1,0 +1,32 @@
+// Readers and intakes are made in pairs.
+ghost use Rattle.std.specs.Prelude.{◌≡◌, ◌≤◌, ◌^◌, [], length, IfOk};
+ghost use Rattle.cq_stream.specs.Rings.{IsPairOf, bytes_to_read, taken, told};
+
+use crate::{Intake, Reader};
+use cq_base::NoMemory;
+use rtrb::RingBuffer;
+use std::alloc::Global;
+
+/// A reader of the bytes, at most 2^28 of them, and the intake of its items, with room for as many items
+/// between them. Nothing is sent or taken. Want of memory drops the bytes.
+pub fn pair(alloc: Global, bytes: Vec<u8>, room: u16) -> Result<(Reader, Intake), NoMemory>
+    requires small { length bytes.items ≤ 2 ^ 28 }
+    requires room { 1 ≤ room }
+    ensures pair { IfOk result (λ r. IsPairOf r.0 r.1) }
+    ensures bytes { IfOk result (λ r. bytes_to_read r.0 ≡ bytes.items) }
+    ensures taken { IfOk result (λ r. taken r.1 ≡ []) }
+    ensures told { IfOk result (λ r. told r.1 ≡ []) }
+{
+    let (items, taken) = RingBuffer::new(alloc, usize::from(room))?;
+    let (told, orders) = RingBuffer::new(alloc, 1)?;
+    let reader = Reader {
+        bytes,
+        items,
+        orders,
+    };
+    let intake = Intake {
+        items: taken,
+        orders: told,
+    };
+    Ok((reader, intake))
+}
