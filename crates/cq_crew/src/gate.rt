@@ -1,5 +1,7 @@
 //! Watching the workers.
 
+ghost use Rattle.std.specs.Prelude.{◌≡◌, Some};
+
 use cq_base::Port;
 use cq_ledger::{LedgerSeat, Outcome};
 
@@ -10,7 +12,8 @@ pub trait Gate: Sync {
     fn claimed(&self, worker: u16, input: Port);
 
     /// An input has proposed, and this came of it. `seat` is the seat of the worker that made the proposal.
-    fn proposed(&self, worker: u16, input: Port, outcome: Outcome, seat: &LedgerSeat);
+    fn proposed(&self, worker: u16, input: Port, outcome: Outcome, seat: &LedgerSeat)
+        requires told { seat.now.view.told ≡ Some outcome };
 }
 
 /// A gate that does nothing.

@@ -98,6 +98,7 @@ impl Ledger {
         ensures proposed { (i p : ℕ) → seat.old.view.hand ≡ Some (i, p) → IsProposed seat.old.view i p result seat.new.view }
         ensures made { seat.new.view.made ≡ seat.old.view.made + 1 }
         ensures few { IsFew seat.new.view }
+        ensures told { seat.new.view.told ≡ Some result }
     {
         let (input, place) = match seat.hand {
             Some(hand) => hand,

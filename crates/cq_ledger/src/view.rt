@@ -2,6 +2,7 @@
 ghost use Rattle.std.specs.Borrow.{ftrue};
 ghost use Rattle.std.specs.Prelude.{ℕ, Option};
 ghost use Rattle.cq_prefs.specs.Orders.{Orders};
+ghost use Rattle.cq_prefs.specs.declared.outcome.Outcome.{Outcome};
 
 use std::marker::Model;
 
@@ -15,6 +16,8 @@ pub struct View {
     pub ghost made: { ℕ },
     /// A bit for each input that the seat has found claimed.
     pub ghost seen: { ℕ },
+    /// What the last proposal came to.
+    pub ghost told: { Option Outcome },
     /// The offers of the ledger.
     pub ghost offers: { Orders },
 }
