@@ -1,1 +1,15 @@
+pub mod BlockWalk
+pub mod Blocks
+pub mod Chain
+pub mod Counts
+pub mod Kept
+pub mod Left
+pub mod Linked
+pub mod Nth
+pub mod Put
+pub mod Queues
+pub mod Relink
+pub mod Search
+pub mod Split
 pub mod Waiting
+pub mod Walk

@@ -1,1 +1,5 @@
+pub mod Block
 pub mod InputList
+pub mod Places
+pub mod Pool
+pub mod Split

@@ -1,9 +1,14 @@
 //! The list of cells that wait at one input.
 ghost use Rattle.std.specs.Prelude.{◌≡◌, ◌+◌, ◌<◌, ◌≤◌, ◌&&◌, [], Some, IfOk, length, position, slice_get, is_some, if◌then◌else◌};
+ghost use Rattle.std.specs.List.{position_or_len};
 ghost use Rattle.cq_base.specs.Key.{is_before};
-ghost use Rattle.cq_base.specs.Cells.{HasOtherKey, MoreUrgentAhead, is_for, has_id, first_for, without_first, place_of_later, place_of_arrival, with_arrival};
+ghost use Rattle.cq_base.specs.Cells.{HasOtherKey, MoreUrgentAhead, is_for, has_id, first_for, without_first, with_arrival};
+ghost use Rattle.cq_list.specs.Split.{is_output, place_of_nth, count_of};
+ghost use Rattle.cq_list.specs.Pool.{queue_of};
 ghost use Rattle.cq_list.specs.InputList.{AreWaiting};
 
+use crate::places::Places;
+use crate::pool::Pool;
 use cq_base::{CellId, NoMemory, Port, Queued};
 use std::alloc::Global;
 use std::marker::Model;
@@ -14,64 +19,31 @@ use std::marker::Model;
 /// The cells for one output stand in the order of their keys, and no two cells have the same key.
 #[derive(Drop)]
 pub struct InputList {
-    cells: Vec<Queued>,
+    places: Places,
+    pool: Pool,
     outputs: u16,
-    room: u64,
 }
 
 impl Model for InputList {
-    ghost use Rattle.std.specs.Prelude.{◌-◌, ◌≤◌, vec_len, vec_capacity};
-    ghost use Rattle.cq_list.specs.InputList.{Waiting, AreWaiting};
+    ghost use Rattle.cq_list.specs.InputList.{Waiting, StandFor, cells_in};
 
     ghost Value = { Waiting };
 
-    ghost view = { λ l. record { cells = l.cells.items; outputs = l.outputs; spare = l.room - vec_len l.cells } };
+    ghost view = { λ l. record { cells = cells_in l.places l.pool; outputs = l.outputs; spare = l.pool.spare } };
 
-    ghost invariant = { λ l. AreWaiting l.outputs l.cells.items × (vec_len l.cells ≤ l.room) × (l.room ≤ vec_capacity l.cells) };
+    ghost invariant = { λ l. StandFor l.outputs l.places l.pool (cells_in l.places l.pool) };
 }
 
-// The place of the first cell with an id.
-fn place_of_id(cells: &[Queued], id: CellId) -> Option<usize>
-    ensures { result ≡ position (has_id id) cells.now }
+// The place of an output that has so many of its places ahead, which is the end where it has no more of them.
+#[tactic(auto, using(crate::proofs::BlockWalk::nth_end))]
+fn place_behind(places: &Places, output: Port, ahead: usize, all: usize) -> usize
+    requires { all ≡ count_of output places.now.outputs }
+    ensures { result ≡ place_of_nth (is_output output) ahead places.now.outputs }
 {
-    cells.iter().position(|waiting| waiting.cell.id == id)
-}
-
-// The place of the first cell for an output.
-fn place_for(cells: &[Queued], output: Port) -> Option<usize>
-    ensures { result ≡ position (is_for output) cells.now }
-{
-    cells
-        .iter()
-        .position(|waiting| waiting.cell.output == output)
-}
-
-// The place of the first less urgent cell for the same output.
-#[tactic(auto, unfolding(cq_base::specs::Key::is_before))]
-fn place_of_less_urgent(cells: &[Queued], queued: &Queued) -> Option<usize>
-    ensures { result ≡ position (λ x. is_for queued.now.cell.output x && is_before queued.now.key x.key) cells.now }
-{
-    cells.iter().position(|waiting| {
-        waiting.cell.output == queued.cell.output && queued.key < waiting.key
-    })
-}
-
-// The same, or the end of the list.
-#[tactic(auto, using(cq_base::proofs::Lists::place_found, cq_base::proofs::Lists::first_inside))]
-fn place_of_later(cells: &[Queued], queued: &Queued) -> usize
-    ensures inside { result ≤ length cells.now }
-    ensures place { result ≡ place_of_later queued.now cells.now }
-{
-    place_of_less_urgent(cells, queued).unwrap_or(cells.len())
-}
-
-// The least of the three places where an arriving cell may go in.
-fn place_of_arrival(cells: &[Queued], queued: &Queued, cushion: u64) -> usize
-    ensures inside { result ≤ length cells.now }
-    ensures place { result ≡ place_of_arrival cushion queued.now cells.now }
-{
-    let later = place_of_later(cells, queued);
-    (cushion as usize).min(later.min(cells.len()))
+    if ahead == all {
+        return places.len();
+    }
+    places.place_of(output, ahead)
 }
 
 impl InputList {
@@ -83,9 +55,9 @@ impl InputList {
         ensures spare { IfOk result (λ list. list.spare ≡ room) }
     {
         Ok(InputList {
-            cells: Vec::with_capacity(alloc, room as usize)?,
+            places: Places::new(alloc, room)?,
+            pool: Pool::new(alloc, outputs, room)?,
             outputs,
-            room,
         })
     }
 
@@ -101,18 +73,19 @@ impl InputList {
         ensures spare { self.new.spare + 1 ≡ self.old.spare }
         ensures outputs { self.new.outputs ≡ self.old.outputs }
     {
-        let place = place_of_arrival(&self.cells, &queued, cushion);
-        self.cells.insert(place, queued).unwrap();
+        let output = queued.cell.output;
+        let all = self.pool.len_of(output);
+        let ahead = self.pool.put(queued);
+        let later = place_behind(&self.places, output, ahead, all);
+        let place = (cushion as usize).min(later.min(self.places.len()));
+        self.places.insert(place, output);
     }
 
     /// The first cell for an output, or None where none waits for it.
     pub fn front_for(&self, output: Port) -> Option<Queued>
         ensures { result ≡ first_for output self.now.cells }
     {
-        self.cells
-            .iter()
-            .copied()
-            .find(|waiting| waiting.cell.output == output)
+        self.pool.first(output)
     }
 
     /// Takes the first cell for an output out, which gives its room back. It is None where none waits for it,
@@ -123,9 +96,12 @@ impl InputList {
         ensures spare { self.new.spare ≡ self.old.spare + (if is_some result then 1 else 0) }
         ensures outputs { self.new.outputs ≡ self.old.outputs }
     {
-        match place_for(&self.cells, output) {
+        match self.pool.first(output) {
             None => None,
-            Some(place) => Some(self.cells.remove(place)),
+            Some(_) => {
+                self.places.remove_first(output);
+                Some(self.pool.take(output))
+            }
         }
     }
 
@@ -133,15 +109,24 @@ impl InputList {
     pub fn place_for(&self, output: Port) -> Option<u64>
         ensures { result ≡ position (is_for output) self.now.cells }
     {
-        place_for(&self.cells, output).map(|place| place as u64)
+        match self.pool.first(output) {
+            None => None,
+            Some(_) => Some(self.places.place_of(output, 0) as u64),
+        }
     }
 
     /// How many cells stand ahead of the cell with this id, or None where no cell has it. Where several have
     /// it, this is the place of the first.
+    #[tactic(auto, using(crate::proofs::Search::found_here, crate::proofs::Search::not_here))]
     pub fn thread_of(&self, id: CellId) -> Option<u64>
         ensures { result ≡ position (has_id id) self.now.cells }
     {
-        place_of_id(&self.cells, id).map(|place| place as u64)
+        'places: for place in 0..self.len() {
+            if self.at(place).cell.id == id {
+                return Some(place);
+            }
+        }
+        None
     }
 
     /// How many cells wait.
@@ -149,7 +134,7 @@ impl InputList {
         ensures len { result ≡ length self.now.cells }
         ensures waiting { AreWaiting self.now.outputs self.now.cells }
     {
-        self.cells.len() as u64
+        self.places.len() as u64
     }
 
     /// The cell at a place, counted from 0.
@@ -157,6 +142,8 @@ impl InputList {
         requires { place < length self.now.cells }
         ensures { slice_get self.now.cells place ≡ Some result }
     {
-        self.cells[place as usize]
+        let output = self.places.at(place as usize);
+        let ahead = self.places.count_ahead(output, place as usize);
+        self.pool.at(output, ahead)
     }
 }

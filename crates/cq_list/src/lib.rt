@@ -5,7 +5,10 @@
 //! one, so the contract says the place exactly.
 #![tactic(auto)]
 
+mod block;
 mod input_list;
+mod places;
+mod pool;
 #[cfg(test)]
 mod tests;
 

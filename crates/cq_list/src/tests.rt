@@ -1,5 +1,5 @@
 //! Worked insertions, and the call that wants memory, with ample memory.
-ghost use Rattle.std.specs.Prelude.{◌≡◌, ◌+◌, ◌<◌, length};
+ghost use Rattle.std.specs.Prelude.{◌≡◌, ◌+◌, ◌<◌, ◌≤◌, length};
 ghost use Rattle.cq_base.specs.Cells.{ArrivedBefore};
 
 use crate::InputList;
@@ -85,5 +85,62 @@ fn a_cell_is_found_by_its_output_and_by_its_id(rt: HostRuntime) -> Result<(), Fa
     assert_eq!(rt; list.thread_of(waiting(0, 3, 0).cell.id), Some(1));
     assert_eq!(rt; list.thread_of(waiting(1, 0, 1).cell.id), Some(2));
     assert_eq!(rt; list.thread_of(waiting(0, 3, 3).cell.id), None);
+    Ok(())
+}
+
+// The place in a plain list at which a cell goes in that comes behind all others but less urgent ones for its output.
+fn place_in(cells: &[Queued], queued: &Queued) -> usize
+    ensures { result ≤ length cells.now }
+{
+    for (place, other) in cells.iter().enumerate() {
+        if other.cell.output == queued.cell.output && queued.key < other.key {
+            return place;
+        }
+    }
+    cells.len()
+}
+
+// The first cell for an output leaves.
+fn depart(list: &mut InputList, output: u16, slot: u32) -> Option<Queued>
+    requires { ArrivedBefore slot list.old.cells }
+    ensures arrived { ArrivedBefore (slot + 1) list.new.cells }
+    ensures room { list.new.spare + length list.new.cells ≡ list.old.spare + length list.old.cells }
+    ensures outputs { list.new.outputs ≡ list.old.outputs }
+{
+    list.take(output)
+}
+
+// Takes the first cell for an output out of a plain list.
+fn take_plain(cells: &mut Vec<Queued>, output: u16) -> Option<Queued> {
+    let place = cells
+        .iter()
+        .position(|waiting| waiting.cell.output == output)?;
+    Some(cells.remove(place))
+}
+
+#[test]
+fn drawn_calls_answer_as_a_plain_list_does(rt: HostRuntime) -> Result<(), Fail> {
+    let mut list = InputList::new(rt.alloc(), 3, 300)?;
+    let mut plain = Vec::new(rt.alloc());
+    let mut draw: u64 = 1;
+    'calls: for slot in 0..2000_u32 {
+        draw = (draw * 1103515245 + 12345) % 2147483648;
+        let output = (draw / 256 % 3) as u16;
+        if list.len() < 300 && draw / 65536 % 5 < 3 {
+            let queued = waiting(output, (draw / 16 % 40) as u128, slot);
+            arrive(&mut list, queued);
+            let place = place_in(&plain, &queued);
+            plain.insert(place, queued)?;
+        } else {
+            assert_eq!(rt;
+                depart(&mut list, output, slot),
+                take_plain(&mut plain, output)
+            );
+        }
+    }
+    assert_eq!(rt; list.len(), plain.len() as u64);
+    for place in 0..list.len() {
+        assert_eq!(rt; Some(list.at(place)), plain.get(place as usize).copied());
+    }
     Ok(())
 }

@@ -1,23 +1,36 @@
-use Rattle.std.proofs.Common.{◌≡◌, ◌<◌, ap, sym, ◌∙◌, arith, subst}
+use Rattle.std.proofs.Common.{◌∙◌, ◌≡◌, ◌<◌, ap, min, arith}
 use Rattle.std.specs.Prelude.{insert}
-use Rattle.cq_base.specs.Cells.{place_of_arrival, HasOtherKey, MoreUrgentAhead}
-use Rattle.cq_list.specs.InputList.{Waiting, AreWaiting}
-use Rattle.cq_list.proofs.Waiting.{are_waiting_arrived, left_by_ok}
+use Rattle.cq_base.specs.Cells.{with_arrival}
+use Rattle.cq_list.specs.InputList.{Waiting, StandFor}
+use Rattle.cq_list.proofs.Kept.{seen, kept, cells_are, queue_has_other_key, place_is, arrived, counted}
 use Rattle.cq_list.proofs.input_list.InputList.insert.Goals as goal
 
+pub put-ahead-requires-clause-other_key : goal.put-ahead-requires-clause-other_key
+put-ahead-requires-clause-other_key c =
+    let had = seen _ _ _ _ c.self.invariant c.self.view_is in
+    queue_has_other_key _ _ _ _ had c.args.queued c.args.queued.cell.output c.requires.other_key
+
+pub place_behind-later-requires : goal.place_behind-later-requires
+place_behind-later-requires c =
+    let had = seen _ _ _ _ c.self.invariant c.self.view_is in
+    c.len_of-all.ensures ∙ counted _ _ _ _ had c.args.queued.cell.output
+
+-- what the new places and the new pool stand for
+now : (c : goal.After-insert) → StandFor c.self.inside.outputs c.insert.new.self c.put-ahead.new.self (with_arrival c.args.cushion c.args.queued c.args.self.now.cells)
+now c =
+    let had = seen _ _ _ _ c.self.invariant c.self.view_is in
+    let least = c.min-place.ensures ∙ ap (min c.args.cushion) (c.min.ensures ∙ ap (min c.place_behind-later.result) c.len.ensures) in
+    let place = place_is _ _ _ _ had c.args.cushion c.args.queued _ _ _ c.put-ahead.ensures.place c.place_behind-later.ensures least in
+    let range : c.args.queued.cell.output < c.self.inside.outputs =
+    let outputs = ap (λ (w : Waiting). w.outputs) c.self.view_is in let range = c.requires.in_range in omega arith in
+    let spare : c.insert.new.self.spare ≡ c.put-ahead.new.self.spare =
+    let same = had.spare in let places = c.insert.ensures.spare in let pool = c.put-ahead.ensures.spare in omega arith in
+    arrived _ _ _ _ had c.args.cushion c.args.queued _ _ range c.requires.other_key c.requires.ahead
+    (c.insert.ensures.outputs ∙ ap (λ p. insert c.self.inside.places.outputs p c.args.queued.cell.output) place)
+    c.put-ahead.ensures.queues spare
+
 pub invariant_of-self : goal.invariant_of-self
-invariant_of-self c =
-    let q = c.args.queued in
-    let cells : c.self.inside.cells.items ≡ c.args.self.now.cells = ap (λ (w : Waiting). w.cells) c.self.view_is in
-    let place = c.place_of_arrival-place.ensures.place ∙ ap (place_of_arrival c.args.cushion q) c.deref.ensures.value in
-    let items = left_by_ok c.insert.result c.unwrap.result _ _ _ c.insert.ensures.items c.unwrap.ensures ∙ ap (λ p. insert c.self.inside.cells.items p q) place in
-    let len = left_by_ok c.insert.result c.unwrap.result _ _ _ c.insert.ensures.len c.unwrap.ensures in
-    let range : q.cell.output < c.self.inside.outputs = let outputs = ap (λ (w : Waiting). w.outputs) c.self.view_is in let r = c.requires.in_range in omega arith in
-    let spare = ap (λ (w : Waiting). w.spare) c.self.view_is in
-    let want = c.requires.spare in
-    let kept = c.insert.ensures.capacity in
-    let had = c.self.invariant in (
-      subst (AreWaiting c.self.inside.outputs) (sym items) (are_waiting_arrived _ _ q c.args.cushion had.0 range (subst (HasOtherKey q) (sym cells) c.requires.other_key) (subst (MoreUrgentAhead c.args.cushion q) (sym cells) c.requires.ahead)),
-      omega arith,
-      omega arith,
-    )
+invariant_of-self c = kept _ _ _ _ (now c)
+
+pub returns-clause-cells : goal.returns-clause-cells
+returns-clause-cells c = cells_are _ _ _ _ (now c)

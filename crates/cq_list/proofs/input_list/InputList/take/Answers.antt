@@ -1,39 +1,40 @@
-use Rattle.std.proofs.Common.{sym, ap, ◌∙◌, position, arith, subst}
-use Rattle.cq_base.specs.Cells.{is_for, first_for, without_first}
-use Rattle.cq_base.proofs.Lists.{taken_none, taken_some}
-use Rattle.cq_list.specs.InputList.{Waiting, AreWaiting}
-use Rattle.cq_list.proofs.Waiting.{are_waiting_left}
+use Rattle.std.proofs.Common.{◌∙◌, ◌≡◌, sym, arith}
+use Rattle.cq_base.specs.Cells.{without_first}
+use Rattle.cq_base.proofs.Lists.{taken_none}
+use Rattle.cq_list.specs.InputList.{StandFor}
+use Rattle.cq_list.proofs.Kept.{seen, kept, cells_are, position-none, place_inside, first_is, left}
 use Rattle.cq_list.proofs.input_list.InputList.take.Goals as goal
-
-pub invariant_of-self : goal.invariant_of-self
-invariant_of-self c =
-    let found = ap (position (is_for c.args.output)) (sym c.deref.ensures.value) ∙ sym c.place_for.ensures ∙ c.in-Some.is in
-    let items = c.remove.ensures.items ∙ (taken_some c.args.output c.self.inside.cells.items c.in-Some.place c.remove.result found c.remove.ensures.value).1 in
-    let had = c.self.invariant in
-    let len = c.remove.ensures.len in
-    let kept = c.remove.ensures.capacity in
-    (subst (AreWaiting c.self.inside.outputs) (sym items) (are_waiting_left _ _ c.args.output had.0), omega arith, omega arith)
 
 pub returns-in-None-clause-first : goal.returns-in-None-clause-first
 returns-in-None-clause-first c =
-    let cells = ap (λ (w : Waiting). w.cells) c.self.view_is in
-    let found = ap (position (is_for c.args.output)) (sym cells ∙ sym c.deref.ensures.value) ∙ sym c.place_for.ensures ∙ c.in-None.is in
-    (taken_none c.args.output c.args.self.now.cells found).0
+    let had = seen _ _ _ _ c.self.invariant c.self.view_is in
+    (taken_none c.args.output c.args.self.now.cells (position-none _ _ _ _ had c.args.output (sym c.first.ensures ∙ c.in-None.is))).0
 
 pub returns-in-None-clause-cells : goal.returns-in-None-clause-cells
 returns-in-None-clause-cells c =
-    let cells = ap (λ (w : Waiting). w.cells) c.self.view_is in
-    let found = ap (position (is_for c.args.output)) (sym cells ∙ sym c.deref.ensures.value) ∙ sym c.place_for.ensures ∙ c.in-None.is in
-    (taken_none c.args.output c.args.self.now.cells found).1
+    let had = seen _ _ _ _ c.self.invariant c.self.view_is in
+    (taken_none c.args.output c.args.self.now.cells (position-none _ _ _ _ had c.args.output (sym c.first.ensures ∙ c.in-None.is))).1
+
+pub remove_first-requires : goal.remove_first-requires
+remove_first-requires c =
+    let had = seen _ _ _ _ c.self.invariant c.self.view_is in
+    place_inside _ _ _ _ had c.args.output _ (sym c.first.ensures ∙ c.in-Some.is)
+
+-- what the new places and the new pool stand for
+now : (c : goal.After-take) → StandFor c.self.inside.outputs c.remove_first.new.self c.take.new.self (without_first c.args.output c.args.self.now.cells)
+now c =
+    let had = seen _ _ _ _ c.self.invariant c.self.view_is in
+    let spare : c.remove_first.new.self.spare ≡ c.take.new.self.spare =
+    let same = had.spare in let places = c.remove_first.ensures.spare in let pool = c.take.ensures.spare in omega arith in
+    left _ _ _ _ had c.args.output _ _ _ c.take.ensures.first c.remove_first.ensures.outputs c.take.ensures.queues spare
+
+pub invariant_of-self : goal.invariant_of-self
+invariant_of-self c = kept _ _ _ _ (now c)
 
 pub returns-in-Some-clause-first : goal.returns-in-Some-clause-first
 returns-in-Some-clause-first c =
-    let cells = ap (λ (w : Waiting). w.cells) c.self.view_is in
-    let found = ap (position (is_for c.args.output)) (sym c.deref.ensures.value) ∙ sym c.place_for.ensures ∙ c.in-Some.is in
-    (taken_some c.args.output c.self.inside.cells.items c.in-Some.place c.remove.result found c.remove.ensures.value).0 ∙ ap (first_for c.args.output) cells
+    let had = seen _ _ _ _ c.self.invariant c.self.view_is in
+    sym c.take.ensures.first ∙ first_is _ _ _ _ had c.args.output
 
 pub returns-in-Some-clause-cells : goal.returns-in-Some-clause-cells
-returns-in-Some-clause-cells c =
-    let cells = ap (λ (w : Waiting). w.cells) c.self.view_is in
-    let found = ap (position (is_for c.args.output)) (sym c.deref.ensures.value) ∙ sym c.place_for.ensures ∙ c.in-Some.is in
-    c.remove.ensures.items ∙ (taken_some c.args.output c.self.inside.cells.items c.in-Some.place c.remove.result found c.remove.ensures.value).1 ∙ ap (without_first c.args.output) cells
+returns-in-Some-clause-cells c = cells_are _ _ _ _ (now c)

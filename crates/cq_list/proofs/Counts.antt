@@ -1,0 +1,132 @@
+-- The counts of a block, where a place is put in or taken out: the count of its output changes by one, and the others
+-- stay. A place that is taken out can be put back, so the one follows from the other.
+use Rattle.std.proofs.Common.{◌≡◌, ◌≢◌, ℕ, zero, suc, ◌+◌, ◌-◌, ◌<◌, ◌≤◌, List, [], ◌∷◌, ◌++◌, length, replicate, get_or, set, take, drop, refl, sym, ap, ◌∙◌, subst, ⊎_elim, arith, length-set, length-append, get_or-set_same, get_or-set_other}
+use Rattle.std.specs.Prelude.{insert, remove, filter, slice_get, Some}
+use Rattle.std.proofs.lemmas.Option.{same_Some}
+use Rattle.std.specs.List.{AllByRecursion}
+use Rattle.std.proofs.lemmas.Bool.{eq-eqb, ne_eqb, cases_eq}
+use Rattle.std.proofs.lemmas.List.{get_or-replicate, length-replicate}
+use Rattle.std.proofs.lemmas.List.Edits.{length-insert, length-remove}
+use Rattle.std.proofs.lemmas.List.Sums.{length-filter, count_by-le-length}
+use Rattle.cq_list.specs.Split.{is_output, count_of}
+use Rattle.cq_list.specs.Block.{AreCounts}
+use Rattle.cq_list.proofs.Nth.{fails}
+use Rattle.cq_list.proofs.Split.{filter-insert, filter-insert-other, filter-parts}
+
+count_of-own : (xs : List ℕ) (i y j : ℕ) → y ≡ j → count_of j (insert xs i y) ≡ count_of j xs + 1
+count_of-own xs i y j own =
+    let more = ap length (filter-insert (is_output j) xs i y (eq-eqb y j own)) ∙ length-append (filter (is_output j) (take i xs)) (y ∷ filter (is_output j) (drop i xs)) in
+    let parts = ap length (filter-parts (is_output j) xs i) ∙ length-append (filter (is_output j) (take i xs)) (filter (is_output j) (drop i xs)) in
+    omega arith
+
+count_of-other : (xs : List ℕ) (i y j : ℕ) → y ≢ j → count_of j (insert xs i y) ≡ count_of j xs
+count_of-other xs i y j ne = ap length (filter-insert-other (is_output j) xs i y (ne_eqb y j ne))
+
+pub count_le : (j : ℕ) (xs : List ℕ) → count_of j xs ≤ length xs
+count_le j xs = let same = length-filter (is_output j) xs in let le = count_by-le-length (is_output j) xs in omega arith
+
+pub put_back : (xs : List ℕ) (i y : ℕ) → i < length xs → y ≡ get_or xs i y → insert (remove xs i) i y ≡ xs
+put_back [] i y inside read = absurd (omega arith)
+put_back (x ∷ xs) zero y inside read = ap (λ z. z ∷ xs) read
+put_back (x ∷ xs) (suc i) y inside read = ap (λ l. x ∷ l) (put_back xs i y (omega arith) read)
+
+all_insert : (P : ℕ → Type 0) (xs : List ℕ) (i y : ℕ) → P y → AllByRecursion P xs → AllByRecursion P (insert xs i y)
+all_insert P xs zero y own all = (own, all)
+all_insert P [] (suc i) y own all = (own, tt)
+all_insert P (x ∷ xs) (suc i) y own all = (all.0, all_insert P xs i y own all.1)
+
+all_remove : (P : ℕ → Type 0) (xs : List ℕ) (i : ℕ) → AllByRecursion P xs → AllByRecursion P (remove xs i)
+all_remove P [] zero all = tt
+all_remove P [] (suc i) all = tt
+all_remove P (x ∷ xs) zero all = all.1
+all_remove P (x ∷ xs) (suc i) all = (all.0, all_remove P xs i all.1)
+
+-- an output beyond the last
+pub count_beyond : (xs : List ℕ) (j : ℕ) → AllByRecursion (λ i. i < 64) xs → 64 ≤ j → 0 ≡ count_of j xs
+count_beyond [] j all beyond = refl
+count_beyond (x ∷ xs) j all beyond =
+    let here = all.0 in
+    count_beyond xs j all.1 beyond ∙ ap length (sym (fails (is_output j) x xs (ne_eqb x j (λ same. omega arith))))
+
+pub no_places : (places counts : List ℕ) → places ≡ [] → counts ≡ replicate 64 0 → AreCounts places counts
+no_places places counts none zeros =
+    record {
+      counted = λ j inside. ap (λ l. get_or l j 0) zeros ∙ get_or-replicate 64 j 0 0 inside ∙ ap (count_of j) (sym none);
+      in_range = subst (AllByRecursion (λ j. j < 64)) (sym none) tt;
+      short = let len = ap length none in omega arith;
+      each = ap length zeros ∙ length-replicate {A = ℕ} 64 0;
+    }
+
+module _ (places counts : List ℕ) (had : AreCounts places counts) where
+  pub count_fits : (j : ℕ) → j < 64 → get_or counts j 0 ≤ 64
+  count_fits j inside = let same = had.counted j inside in let le = count_le j places in let short = had.short in omega arith
+
+  pub counts_insert : (i j : ℕ) → i ≤ length places → length places < 64 → j < 64 → AreCounts (insert places i j) (set counts j (get_or counts j 0 + 1))
+  counts_insert i j inside room in_range =
+      let within : j < length counts = let each = had.each in omega arith in
+      record {
+        counted = λ k inside_k.
+            ⊎_elim
+            (λ same.
+            ap (λ n. get_or (set counts j (get_or counts j 0 + 1)) n 0) same
+            ∙ get_or-set_same counts j (get_or counts j 0 + 1) 0 within
+            ∙ ap (λ n. n + 1) (had.counted j in_range)
+            ∙ ap (λ n. count_of n places + 1) (sym same)
+            ∙ sym (count_of-own places i j k (sym same)))
+            (λ ne.
+            get_or-set_other counts j k (get_or counts j 0 + 1) 0 ne
+            ∙ had.counted k inside_k
+            ∙ sym (count_of-other places i j k (λ same. ne (sym same))))
+            (cases_eq k j);
+        in_range = all_insert (λ k. k < 64) places i j in_range had.in_range;
+        short = let len = length-insert places i j inside in omega arith;
+        each = length-set counts j (get_or counts j 0 + 1) ∙ had.each;
+      }
+
+  module _ (i j : ℕ) (inside : i < length places) (read : j ≡ get_or places i j) where
+    again : insert (remove places i) i j ≡ places
+    again = put_back places i j inside read
+
+    pub in_range_at : j < 64
+    in_range_at = subst (λ k. k < 64) (sym read) (go places i inside had.in_range)
+      where
+        go : (xs : List ℕ) (k : ℕ) → k < length xs → AllByRecursion (λ x. x < 64) xs → get_or xs k j < 64
+        go [] k l all = absurd (omega arith)
+        go (x ∷ xs) zero l all = all.0
+        go (x ∷ xs) (suc k) l all = go xs k (omega arith) all.1
+
+    pub count_some : 1 ≤ get_or counts j 0
+    count_some =
+        let same = had.counted j in_range_at in
+        let more = sym (ap (count_of j) again) ∙ count_of-own (remove places i) i j j refl in
+        omega arith
+
+    pub counts_remove : AreCounts (remove places i) (set counts j (get_or counts j 0 - 1))
+    counts_remove =
+        let within : j < length counts = let each = had.each in let in_range = in_range_at in omega arith in
+        record {
+          counted = λ k inside_k.
+              ⊎_elim
+              (λ same.
+              ap (λ n. get_or (set counts j (get_or counts j 0 - 1)) n 0) same
+              ∙ get_or-set_same counts j (get_or counts j 0 - 1) 0 within
+              ∙ (let own = had.counted j in_range_at in let more = sym (ap (count_of j) again) ∙ count_of-own (remove places i) i j j refl in let less : get_or counts j 0 - 1 ≡ count_of j (remove places i) = omega arith in less)
+              ∙ ap (λ n. count_of n (remove places i)) (sym same))
+              (λ ne.
+              get_or-set_other counts j k (get_or counts j 0 - 1) 0 ne
+              ∙ had.counted k inside_k
+              ∙ ap (count_of k) (sym again)
+              ∙ count_of-other (remove places i) i j k (λ same. ne (sym same)))
+              (cases_eq k j);
+          in_range = all_remove (λ k. k < 64) places i had.in_range;
+          short = let len = length-remove places i inside in let short = had.short in omega arith;
+          each = length-set counts j (get_or counts j 0 - 1) ∙ had.each;
+        }
+
+-- ## The last place goes over to the front of another block
+
+pub moved_over : (xs back : List ℕ) (i x : ℕ) → i + 1 ≡ length xs → slice_get xs i ≡ Some x → remove xs i ++ insert back 0 x ≡ xs ++ back
+moved_over [] back i x last at = absurd (omega arith)
+moved_over (y ∷ []) back zero x last at = ap (λ z. z ∷ back) (sym (same_Some y x at))
+moved_over (y ∷ z ∷ xs) back zero x last at = absurd (omega arith)
+moved_over (y ∷ xs) back (suc i) x last at = ap (λ l. y ∷ l) (moved_over xs back i x (omega arith) at)

@@ -1,0 +1,103 @@
+-- A walk along a queue, node by node. Where it has come the rest of the chain begins at the place that it looks at, none
+-- of the cells behind it is less urgent, and it knows the place of the last of them.
+use Rattle.std.proofs.Common.{◌≡◌, ℕ, zero, suc, ◌+◌, ◌-◌, ◌<◌, ◌≤◌, true, false, List, [], ◌∷◌, length, drop, Some, sym, ap, ◌∙◌, arith, length-drop}
+use Rattle.std.specs.Prelude.{slice_get}
+use Rattle.std.specs.Option.{option_map}
+use Rattle.std.specs.List.{position_or_len}
+use Rattle.std.proofs.lemmas.List.{drop-drop, drop_all, length-map}
+use Rattle.std.proofs.lemmas.Option.{slice_get-map}
+use Rattle.cq_base.specs.declared.cell.Queued.{Queued}
+use Rattle.cq_base.specs.declared.key.Key.{Key}
+use Rattle.cq_base.specs.Key.{is_before}
+use Rattle.cq_base.proofs.Lists.{first_here}
+use Rattle.cq_list.specs.declared.pool.Node.{Node}
+use Rattle.cq_list.specs.declared.pool.Queue.{Queue}
+use Rattle.cq_list.specs.Pool.{Nodes, chain, linked, places, cells, EndsAt, IsChained}
+use Rattle.cq_list.proofs.Chain.{chain-at, begins}
+use Rattle.cq_list.proofs.Put.{is_later}
+use Rattle.cq_list.proofs.Search.{not_here, drop_shown}
+
+shown_at : {X : Type 0} (xs : List X) (i : ℕ) (x : X) (ys : List X) → drop i xs ≡ x ∷ ys → slice_get xs i ≡ Some x
+shown_at [] zero x ys e = cc
+shown_at [] (suc i) x ys e = cc
+shown_at (y ∷ xs) zero x ys e = cc
+shown_at (y ∷ xs) (suc i) x ys e = shown_at xs i x ys e
+
+-- it has come past so many nodes and looks at this place
+abbrev pub HasReached : Nodes → Queue → ℕ → ℕ → Type 0
+HasReached nodes queue count place = drop count (linked nodes queue) ≡ chain nodes (queue.len - count) place
+
+pub reached_first : (nodes : Nodes) (queue : Queue) → HasReached nodes queue 0 queue.first
+reached_first nodes queue = let all : queue.len ≡ queue.len - 0 = omega arith in ap (λ n. chain nodes n queue.first) all
+
+module _ (nodes : Nodes) (queue : Queue) (count place : ℕ) (had : IsChained nodes queue) (reached : HasReached nodes queue count place) (inside : count < queue.len) where
+  left : queue.len - count ≡ suc (queue.len - (count + 1))
+  left = omega arith
+
+  pub node_there : (node : Node) × (nodes place ≡ Some node)
+  node_there =
+      let long = length-drop count (linked nodes queue) in
+      let whole = had.whole in
+      let same = ap length reached in
+      let all : length (chain nodes (queue.len - count) place) ≡ suc (queue.len - (count + 1)) = omega arith in
+      begins nodes (queue.len - (count + 1)) place (ap (λ n. length (chain nodes n place)) (sym left) ∙ all)
+
+  module _ (node : Node) (here : nodes place ≡ Some node) where
+    rest_is : drop count (linked nodes queue) ≡ (place, node.queued) ∷ chain nodes (queue.len - (count + 1)) node.next
+    rest_is = reached ∙ ap (λ n. chain nodes n place) left ∙ chain-at nodes (queue.len - (count + 1)) place node here
+
+    pub reached_next : HasReached nodes queue (count + 1) node.next
+    reached_next = sym (drop-drop 1 count (linked nodes queue)) ∙ ap (drop 1) rest_is
+
+    pub node_shown : slice_get (linked nodes queue) count ≡ Some (place, node.queued)
+    node_shown = shown_at (linked nodes queue) count _ _ rest_is
+
+    pub cell_shown : slice_get (cells (linked nodes queue)) count ≡ Some node.queued
+    cell_shown = slice_get-map (λ (e : ℕ × Queued). e.1) (linked nodes queue) count ∙ ap (option_map (λ (e : ℕ × Queued). e.1)) node_shown
+
+-- the head of a queue
+pub head_there : (nodes : Nodes) (queue : Queue) → IsChained nodes queue → 0 < queue.len → (node : Node) × (nodes queue.first ≡ Some node)
+head_there nodes queue had some = node_there nodes queue 0 queue.first had (reached_first nodes queue) some
+
+pub head_shown : (nodes : Nodes) (queue : Queue) (node : Node) → IsChained nodes queue → 0 < queue.len → nodes queue.first ≡ Some node → slice_get (cells (linked nodes queue)) 0 ≡ Some node.queued
+head_shown nodes queue node had some here = cell_shown nodes queue 0 queue.first had (reached_first nodes queue) some node here
+
+-- and none of the cells behind it is less urgent, and it knows the place of the last of them
+pub record HasWalked (nodes : Nodes) (queue : Queue) (key : Key) (count last place : ℕ) : Type 0 where
+  pub reached : HasReached nodes queue count place
+  pub behind : position_or_len (is_later key) (cells (linked nodes queue)) ≡ count + position_or_len (is_later key) (drop count (cells (linked nodes queue)))
+  pub ends : EndsAt (linked nodes queue) count last
+
+pub walk_starts : (nodes : Nodes) (queue : Queue) (key : Key) → HasWalked nodes queue key 0 queue.last queue.first
+walk_starts nodes queue key =
+    record { reached = reached_first nodes queue; behind = omega arith; ends = λ m is. absurd (omega arith) }
+
+module _ (nodes : Nodes) (queue : Queue) (key : Key) (count last place : ℕ) (had : IsChained nodes queue) (walked : HasWalked nodes queue key count last place) (inside : count < queue.len) (node : Node) (here : nodes place ≡ Some node) where
+  shown : slice_get (cells (linked nodes queue)) count ≡ Some node.queued
+  shown = cell_shown nodes queue count place had walked.reached inside node here
+
+  pub walk_ends : is_before key node.queued.key ≡ true → count ≡ position_or_len (is_later key) (cells (linked nodes queue))
+  walk_ends later =
+      let here = ap (position_or_len (is_later key)) (drop_shown (cells (linked nodes queue)) count node.queued shown) ∙ first_here (is_later key) node.queued (drop (count + 1) (cells (linked nodes queue))) later in
+      let behind = walked.behind in
+      omega arith
+
+  pub walk_on : is_before key node.queued.key ≡ false → HasWalked nodes queue key (count + 1) place node.next
+  walk_on sooner =
+      record {
+        reached = reached_next nodes queue count place had walked.reached inside node here;
+        behind = not_here (is_later key) (cells (linked nodes queue)) count node.queued walked.behind shown sooner;
+        ends = λ m is.
+            let at : m ≡ count = omega arith in
+            ap (slice_get (places (linked nodes queue))) at
+            ∙ slice_get-map (λ (e : ℕ × Queued). e.0) (linked nodes queue) count
+            ∙ ap (option_map (λ (e : ℕ × Queued). e.0)) (node_shown nodes queue count place had walked.reached inside node here);
+      }
+
+pub walked_all : (nodes : Nodes) (queue : Queue) (key : Key) (count last place : ℕ) → IsChained nodes queue → HasWalked nodes queue key count last place → queue.len ≤ count → count ≡ position_or_len (is_later key) (cells (linked nodes queue))
+walked_all nodes queue key count last place had walked past =
+    let many = length-map (linked nodes queue) (λ (e : ℕ × Queued). e.1) in
+    let whole = had.whole in
+    let none = ap (position_or_len (is_later key)) (drop_all count (cells (linked nodes queue)) (omega arith)) in
+    let behind = walked.behind in
+    omega arith

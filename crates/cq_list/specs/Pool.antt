@@ -1,0 +1,86 @@
+-- A pool of cells that are linked into a queue for each output, and what clauses see of it.
+use Rattle.std.specs.Prelude.{◌≡◌, ◌≢◌, ℕ, zero, suc, ◌+◌, ◌≤◌, List, [], ◌∷◌, length, map, Option, None, Some, slice_get, slice_index_or}
+use Rattle.std.specs.List.{AllByRecursion, sum_by}
+use Rattle.slab.specs.Slab.{Slab, get, slab_len}
+use Rattle.cq_base.specs.declared.cell.Queued.{Queued}
+use Rattle.cq_base.specs.Cells.{IsRising}
+use Rattle.cq_list.specs.declared.pool.Node.{Node}
+use Rattle.cq_list.specs.declared.pool.Queue.{Queue}
+use Rattle.cq_list.specs.Split.{Queues}
+
+-- the queue of each output, and how many more cells there is room for
+pub record PoolView : Type 0 where
+  pub queues : List (List Queued)
+  pub spare : ℕ
+
+-- the queue of an output, where an output beyond the last has none
+abbrev pub queue_of : List (List Queued) → Queues
+queue_of queues j = slice_index_or queues j []
+
+-- ## The links
+
+-- the node at each place of the pool that is in use
+abbrev pub Nodes : Type 0
+Nodes = ℕ → Option Node
+
+-- the place of a node with its cell, and then what the next place gives
+abbrev pub followed : ℕ → Option Node → (ℕ → List (ℕ × Queued)) → List (ℕ × Queued)
+followed place None rest = []
+followed place (Some node) rest = (place, node.queued) ∷ rest node.next
+
+-- so many nodes from this place on: the place and the cell of each
+abbrev pub chain : Nodes → ℕ → ℕ → List (ℕ × Queued)
+chain nodes zero place = []
+chain nodes (suc n) place = followed place (nodes place) (chain nodes n)
+
+-- the nodes of a queue
+abbrev pub linked : Nodes → Queue → List (ℕ × Queued)
+linked nodes queue = chain nodes queue.len queue.first
+
+abbrev pub places : List (ℕ × Queued) → List ℕ
+places chained = map (λ e. e.0) chained
+
+abbrev pub cells : List (ℕ × Queued) → List Queued
+cells chained = map (λ e. e.1) chained
+
+-- the last of the first so many nodes stands at this place
+abbrev pub EndsAt : List (ℕ × Queued) → ℕ → ℕ → Type 0
+EndsAt chained count place = (m : ℕ) → count ≡ m + 1 → slice_get (places chained) m ≡ Some place
+
+-- all nodes of the queue are there, its cells rise in their keys, and it knows the place of its last node
+pub record IsChained (nodes : Nodes) (queue : Queue) : Type 0 where
+  pub whole : length (linked nodes queue) ≡ queue.len
+  pub rising : IsRising (cells (linked nodes queue))
+  pub last : EndsAt (linked nodes queue) queue.len queue.last
+
+-- and its cells are for output j
+pub record IsLinked (nodes : Nodes) (j : ℕ) (queue : Queue) : Type 0 where
+  pub chained : IsChained nodes queue
+  pub own : AllByRecursion (λ c. c.cell.output ≡ j) (cells (linked nodes queue))
+
+-- the queue with no cell
+abbrev pub no_queue : Queue
+no_queue = record { first = 0; last = 0; len = 0 }
+
+-- the queue of an output
+abbrev pub queue_at : List Queue → ℕ → Queue
+queue_at queues j = slice_index_or queues j no_queue
+
+-- each queue is linked
+abbrev pub AreLinked : Nodes → List Queue → Type 0
+AreLinked nodes queues = (j : ℕ) → IsLinked nodes j (queue_at queues j)
+
+-- the cells of each queue
+abbrev pub cells_in_queues : Nodes → List Queue → List (List Queued)
+cells_in_queues nodes queues = map (λ queue. cells (linked nodes queue)) queues
+
+-- the nodes with cells for other outputs than j stay
+abbrev pub OthersStay : ℕ → Nodes → Nodes → Type 0
+OthersStay j old new = (i : ℕ) (node : Node) → old i ≡ Some node → node.queued.cell.output ≢ j → new i ≡ Some node
+
+-- what holds of each pool: the queues are linked, they have all of its nodes, and there is memory for its room
+pub record IsPool (nodes : Slab Node) (queues : List Queue) (room : ℕ) : Type 0 where
+  pub linked : AreLinked (get nodes) queues
+  pub counted : sum_by (λ queue. queue.len) queues ≡ slab_len nodes
+  pub fits : slab_len nodes ≤ room
+  pub memory : room ≤ nodes.capacity

@@ -1,0 +1,147 @@
+//! A few places of a list, with their counts.
+ghost use Rattle.std.specs.Prelude.{◌≡◌, ◌+◌, ◌<◌, ◌≤◌, ◌∷◌, ◌++◌, [], Some, length, replicate, take, insert, remove, slice_get};
+ghost use Rattle.cq_list.specs.Split.{is_output, place_of_nth, count_of};
+
+use arrayvec::ArrayVec;
+use cq_base::Port;
+use std::marker::Model;
+
+/// At most 64 places of a list, each with its output, and how many of them are each output's. Contracts see the outputs.
+#[derive(Drop)]
+pub struct Block {
+    places: ArrayVec<Port, 64>,
+    counts: [u8; 64],
+}
+
+impl Model for Block {
+    ghost use Rattle.std.specs.Prelude.{ℕ, List};
+
+    ghost Value = { List ℕ };
+
+    ghost use Rattle.cq_list.specs.Block.{AreCounts};
+
+    ghost view = { λ b. b.places.items };
+
+    ghost invariant = { λ b. AreCounts b.places.items b.counts };
+}
+
+// The place of an output that has so many of its places ahead, or the number of places where there is none.
+#[tactic(auto, using(crate::proofs::Nth::nth_past_other, crate::proofs::Nth::nth_past_own, crate::proofs::Nth::nth_found, crate::proofs::Nth::nth_none_left))]
+fn nth(places: &[Port], output: Port, ahead: usize) -> usize
+    ensures { result ≡ place_of_nth (is_output output) ahead places.now }
+{
+    let mut left = ahead;
+    'places: for (place, other) in places.iter().enumerate() {
+        if *other == output {
+            if left == 0 {
+                return place;
+            }
+            left -= 1;
+        }
+    }
+    places.len()
+}
+
+// No place is any output's.
+fn no_counts() -> [u8; 64]
+    ensures { result ≡ replicate 64 0 }
+{
+    [0; 64]
+}
+
+impl Block {
+    /// No place.
+    pub fn new() -> Block
+        ensures { result ≡ [] }
+    {
+        Block {
+            places: ArrayVec::new(),
+            counts: no_counts(),
+        }
+    }
+
+    /// How many places there are.
+    pub fn len(&self) -> usize
+        ensures len { result ≡ length self.now }
+        ensures fits { result ≤ 64 }
+    {
+        self.places.len()
+    }
+
+    /// The output of a place.
+    pub fn at(&self, place: usize) -> Port
+        requires { place < length self.now }
+        ensures { slice_get self.now place ≡ Some result }
+    {
+        self.places.as_slice()[place]
+    }
+
+    /// How many of the places are an output's.
+    #[tactic(auto, using(crate::proofs::Counts::count_beyond))]
+    pub fn count(&self, output: Port) -> usize
+        ensures { result ≡ count_of output self.now }
+    {
+        match self.counts.get(output as usize) {
+            None => 0,
+            Some(count) => *count as usize,
+        }
+    }
+
+    /// How many of the places ahead of this one are an output's.
+    pub fn count_ahead(&self, output: Port, place: usize) -> usize
+        requires { place ≤ length self.now }
+        ensures { result ≡ count_of output (take place self.now) }
+    {
+        self.places.as_slice()[..place]
+            .iter()
+            .filter(|other| **other == output)
+            .count()
+    }
+
+    /// The place of an output that has so many of its places ahead, or the number of places where there is none.
+    pub fn place_of(&self, output: Port, ahead: usize) -> usize
+        ensures { result ≡ place_of_nth (is_output output) ahead self.now }
+    {
+        nth(self.places.as_slice(), output, ahead)
+    }
+
+    /// Puts a place of an output in.
+    #[tactic(auto, using(crate::proofs::Counts::count_fits))]
+    pub fn insert(&mut self, place: usize, output: Port)
+        requires inside { place ≤ length self.old }
+        requires room { length self.old < 64 }
+        requires in_range { output < 64 }
+        ensures { self.new ≡ insert self.old place output }
+    {
+        self.counts[output as usize] += 1;
+        self.places.insert(place, output);
+    }
+
+    /// Takes a place out, and answers its output.
+    #[tactic(auto, using(crate::proofs::Counts::count_some, crate::proofs::Counts::in_range_at))]
+    pub fn remove(&mut self, place: usize) -> Port
+        requires { place < length self.old }
+        ensures output { slice_get self.old place ≡ Some result }
+        ensures in_range { result < 64 }
+        ensures rest { self.new ≡ remove self.old place }
+    {
+        let output = self.places.remove(place);
+        self.counts[output as usize] -= 1;
+        output
+    }
+
+    /// Takes the last 32 places of a full block out, into a block of their own.
+    pub fn split_off(&mut self) -> Block
+        requires { length self.old ≡ 64 }
+        ensures whole { self.old ≡ self.new ++ result }
+        ensures front { length self.new ≡ 32 }
+        ensures back { length result ≡ 32 }
+    {
+        let mut back = Block::new();
+        'moved: for _ in 0..32_usize {
+            let output = self.remove(self.len() - 1);
+            back.insert(0, output);
+        }
+        back
+    }
+}

@@ -1,0 +1,255 @@
+//! The outputs of the cells of a list, in order.
+ghost use Rattle.std.specs.Prelude.{◌≡◌, ◌+◌, ◌<◌, ◌≤◌, ◌++◌, ◌^◌, [], Some, IfOk, length, take, drop, insert, remove, slice_get, slice_set, slice_index_or, vec_len, vec_capacity};
+ghost use Rattle.std.specs.List.{AllByRecursion, position_or_len, concat};
+ghost use Rattle.cq_list.specs.Split.{is_output, place_of_nth, count_of};
+ghost use Rattle.cq_list.specs.Places.{IsSpot, HaveSome};
+
+use crate::block::Block;
+use cq_base::{NoMemory, Port};
+use std::alloc::Global;
+use std::marker::Model;
+
+/// The output of each place of a list. Contracts see the outputs, and how many more places there is room for.
+///
+/// The places stand in blocks, none of which is empty. A place is found by the blocks' lengths and an output's by
+/// their counts, so a call reads two numbers of each block ahead and searches one block.
+#[derive(Drop)]
+pub struct Places {
+    blocks: Vec<Block>,
+    len: usize,
+    room: u64,
+}
+
+impl Model for Places {
+    ghost use Rattle.std.specs.Prelude.{◌-◌, vec_capacity};
+    ghost use Rattle.std.specs.List.{concat};
+    ghost use Rattle.cq_list.specs.Places.{PlacesView, AreBlocks};
+
+    ghost Value = { PlacesView };
+
+    ghost view = { λ p. record { outputs = concat p.blocks.items; spare = p.room - p.len } };
+
+    ghost invariant = { λ p. AreBlocks p.blocks.items p.len p.room (vec_capacity p.blocks) };
+}
+
+// The block of a place, and where it stands in this block.
+#[derive(Clone, Copy)]
+struct Spot {
+    block: usize,
+    within: usize,
+}
+
+// Where a place stands.
+#[tactic(auto, using(crate::proofs::Blocks::ahead_more, crate::proofs::Blocks::whole_is))]
+fn spot_of(blocks: &[Block], place: usize) -> Spot
+    requires { place < length (concat blocks.now) }
+    ensures { IsSpot blocks.now place result.block result.within }
+{
+    let mut within = place;
+    'each: for (block, places) in blocks.iter().enumerate() {
+        let len = places.len();
+        if within < len {
+            return Spot { block, within };
+        }
+        within -= len;
+    }
+    unreachable!()
+}
+
+// The place of an output that has so many of its places ahead, or the number of places where there is none.
+fn place_in(blocks: &[Block], output: Port, ahead: usize) -> usize
+    requires { length (concat blocks.now) < 2 ^ 64 }
+    ensures { result ≡ place_of_nth (is_output output) ahead (concat blocks.now) }
+{
+    let mut left = ahead;
+    let mut first = 0;
+    'each: for places in blocks {
+        let count = places.count(output);
+        if left < count {
+            return first + places.place_of(output, left);
+        }
+        left -= count;
+        first += places.len();
+    }
+    first
+}
+
+// How many of the places ahead of this one are an output's.
+fn count_in(blocks: &[Block], output: Port, place: usize) -> usize
+    requires inside { place ≤ length (concat blocks.now) }
+    ensures { result ≡ count_of output (take place (concat blocks.now)) }
+{
+    let mut left = place;
+    let mut count = 0;
+    'each: for places in blocks {
+        let len = places.len();
+        if left <= len {
+            return count + places.count_ahead(output, left);
+        }
+        count += places.count(output);
+        left -= len;
+    }
+    count
+}
+
+// Where it stands once its block was split into two of 32.
+fn in_halves(spot: Spot) -> Spot
+    requires { spot.block + 1 < 2 ^ 64 }
+    ensures front { spot.within < 32 → result ≡ spot }
+    ensures back { 32 ≤ spot.within → (result.block ≡ spot.block + 1) × (result.within + 32 ≡ spot.within) }
+{
+    if spot.within < 32 {
+        return spot;
+    }
+    Spot {
+        block: spot.block + 1,
+        within: spot.within - 32,
+    }
+}
+
+// Where a place stands in a block with room: a full block is split in two.
+fn spot_with_room(blocks: &mut Vec<Block>, place: usize) -> Spot
+    requires some { HaveSome blocks.old.items }
+    requires memory { length (concat blocks.old.items) < vec_capacity blocks.old }
+    requires inside { place < length (concat blocks.old.items) }
+    ensures places { concat blocks.new.items ≡ concat blocks.old.items }
+    ensures some { HaveSome blocks.new.items }
+    ensures spot { IsSpot blocks.new.items place result.block result.within }
+    ensures room { length (slice_index_or blocks.new.items result.block []) < 64 }
+    ensures capacity { vec_capacity blocks.new ≡ vec_capacity blocks.old }
+{
+    let spot = spot_of(blocks, place);
+    let block = &mut blocks[spot.block];
+    if block.len() < 64 {
+        return spot;
+    }
+    let back = block.split_off();
+    blocks.insert(spot.block + 1, back).unwrap();
+    in_halves(spot)
+}
+
+// A place at the end.
+fn append(blocks: &mut Vec<Block>, output: Port)
+    requires some { HaveSome blocks.old.items }
+    requires memory { length (concat blocks.old.items) < vec_capacity blocks.old }
+    requires in_range { output < 64 }
+    ensures places { concat blocks.new.items ≡ insert (concat blocks.old.items) (length (concat blocks.old.items)) output }
+    ensures some { HaveSome blocks.new.items }
+    ensures capacity { vec_capacity blocks.new ≡ vec_capacity blocks.old }
+{
+    let count = blocks.len();
+    if count > 0 && blocks[count - 1].len() < 64 {
+        let last = &mut blocks[count - 1];
+        last.insert(last.len(), output);
+    } else {
+        let mut block = Block::new();
+        block.insert(0, output);
+        blocks.push_reserved(block);
+    }
+}
+
+// A place ahead of another one.
+fn insert_inside(blocks: &mut Vec<Block>, place: usize, output: Port)
+    requires some { HaveSome blocks.old.items }
+    requires memory { length (concat blocks.old.items) < vec_capacity blocks.old }
+    requires inside { place < length (concat blocks.old.items) }
+    requires in_range { output < 64 }
+    ensures places { concat blocks.new.items ≡ insert (concat blocks.old.items) place output }
+    ensures some { HaveSome blocks.new.items }
+    ensures capacity { vec_capacity blocks.new ≡ vec_capacity blocks.old }
+{
+    let spot = spot_with_room(blocks, place);
+    let block = &mut blocks[spot.block];
+    block.insert(spot.within, output);
+}
+
+// A place taken out, with its block where it was the last one of it.
+fn remove_inside(blocks: &mut Vec<Block>, place: usize)
+    requires some { HaveSome blocks.old.items }
+    requires inside { place < length (concat blocks.old.items) }
+    ensures places { concat blocks.new.items ≡ remove (concat blocks.old.items) place }
+    ensures some { HaveSome blocks.new.items }
+    ensures capacity { vec_capacity blocks.new ≡ vec_capacity blocks.old }
+{
+    let spot = spot_of(blocks, place);
+    let block = &mut blocks[spot.block];
+    if block.len() == 1 {
+        blocks.remove(spot.block);
+    } else {
+        block.remove(spot.within);
+    }
+}
+
+impl Places {
+    /// No place, and room for so many. The error is want of memory.
+    pub fn new(alloc: Global, room: u64) -> Result<Places, NoMemory>
+        ensures outputs { IfOk result (λ places. places.outputs ≡ []) }
+        ensures spare { IfOk result (λ places. places.spare ≡ room) }
+    {
+        Ok(Places {
+            blocks: Vec::with_capacity(alloc, room as usize)?,
+            len: 0,
+            room,
+        })
+    }
+
+    /// How many places there are.
+    pub fn len(&self) -> usize
+        ensures { result ≡ length self.now.outputs }
+    {
+        self.len
+    }
+
+    /// The output of a place.
+    pub fn at(&self, place: usize) -> Port
+        requires { place < length self.now.outputs }
+        ensures { slice_get self.now.outputs place ≡ Some result }
+    {
+        let spot = spot_of(&self.blocks, place);
+        self.blocks[spot.block].at(spot.within)
+    }
+
+    /// How many of the places ahead of this one are an output's.
+    pub fn count_ahead(&self, output: Port, place: usize) -> usize
+        requires { place ≤ length self.now.outputs }
+        ensures { result ≡ count_of output (take place self.now.outputs) }
+    {
+        count_in(&self.blocks, output, place)
+    }
+
+    /// The place of an output that has so many of its places ahead, or the number of places where there is none.
+    pub fn place_of(&self, output: Port, ahead: usize) -> usize
+        ensures { result ≡ place_of_nth (is_output output) ahead self.now.outputs }
+    {
+        let _len = self.len;
+        place_in(&self.blocks, output, ahead)
+    }
+
+    /// Puts a place of an output in. It takes room for one place and no memory.
+    pub fn insert(&mut self, place: usize, output: Port)
+        requires inside { place ≤ length self.old.outputs }
+        requires spare { 0 < self.old.spare }
+        requires in_range { output < 64 }
+        ensures outputs { self.new.outputs ≡ insert self.old.outputs place output }
+        ensures spare { self.new.spare + 1 ≡ self.old.spare }
+    {
+        if place == self.len {
+            append(&mut self.blocks, output);
+        } else {
+            insert_inside(&mut self.blocks, place, output);
+        }
+        self.len += 1;
+    }
+
+    /// Takes the first place of an output out, which gives its room back.
+    #[tactic(auto, using(crate::proofs::Nth::nth_is_first))]
+    pub fn remove_first(&mut self, output: Port)
+        requires { position_or_len (is_output output) self.old.outputs < length self.old.outputs }
+        ensures outputs { self.new.outputs ≡ remove self.old.outputs (position_or_len (is_output output) self.old.outputs) }
+        ensures spare { self.new.spare ≡ self.old.spare + 1 }
+    {
+        let place = self.place_of(output, 0);
+        remove_inside(&mut self.blocks, place);
+        self.len -= 1;
+    }
+}

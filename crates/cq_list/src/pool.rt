@@ -1,0 +1,269 @@
+//! The cells that wait, in a queue for each output.
+ghost use Rattle.std.specs.Prelude.{◌≡◌, ◌≢◌, ℕ, ◌-◌, ◌+◌, ◌<◌, ◌≤◌, ◌==◌, ◌^◌, [], ◌∷◌, Some, IfOk, length, replicate, drop, insert, slice_get, slice_set, is_some, if◌then◌else◌};
+ghost use Rattle.std.specs.List.{position_or_len};
+ghost use Rattle.cq_base.specs.Key.{is_before};
+ghost use Rattle.cq_base.specs.Cells.{IsRising, HasOtherKey, put};
+ghost use Rattle.cq_list.specs.Pool.{queue_of, chain, linked, places, cells, EndsAt, IsChained, IsLinked, OthersStay};
+ghost use Rattle.slab.specs.Slab.{get, slab_len, HasRoomFor};
+
+use cq_base::{Key, NoMemory, Port, Queued};
+use slab::Slab;
+use std::alloc::Global;
+use std::marker::Model;
+
+// A cell in the pool, with the place of the next one of its queue. The last one's next place is not read.
+#[derive(Clone, Copy)]
+struct Node {
+    queued: Queued,
+    next: usize,
+}
+
+// The places of the first and of the last node of a queue, which are not read where it has none, and how many it has.
+#[derive(Clone, Copy)]
+struct Queue {
+    first: usize,
+    last: usize,
+    len: usize,
+}
+
+// How many nodes of a queue stand ahead, and the place of the last of these.
+#[derive(Clone, Copy)]
+struct Ahead {
+    count: usize,
+    last: usize,
+}
+
+/// A queue of cells for each output. Contracts see the queues, and how many more cells there is room for.
+///
+/// The cells stand in one pool, and each has the place of the next one of its queue. A place that was freed is used
+/// before a new one.
+#[derive(Drop)]
+pub struct Pool {
+    nodes: Slab<Node>,
+    queues: Vec<Queue>,
+    room: u64,
+}
+
+impl Model for Pool {
+    ghost use Rattle.std.specs.Prelude.{◌-◌};
+    ghost use Rattle.slab.specs.Slab.{get, slab_len};
+    ghost use Rattle.cq_list.specs.Pool.{PoolView, IsPool, cells_in_queues};
+
+    ghost Value = { PoolView };
+
+    ghost view = { λ p. record { queues = cells_in_queues (get p.nodes) p.queues.items; spare = p.room - slab_len p.nodes } };
+
+    ghost invariant = { λ p. IsPool p.nodes p.queues.items p.room };
+}
+
+// Whether the one key is the more urgent.
+#[tactic(auto, unfolding(cq_base::specs::Key::is_before))]
+fn precedes(key: Key, other: Key) -> bool
+    ensures { result ≡ is_before key other }
+{
+    key < other
+}
+
+// How many cells of a queue are more urgent, cell by cell.
+fn walk(nodes: &Slab<Node>, queue: Queue, key: Key) -> Ahead
+    requires { IsChained (get nodes.now) queue }
+    ensures count { result.count ≡ position_or_len (λ x. is_before key x.key) (cells (linked (get nodes.now) queue)) }
+    ensures last { EndsAt (linked (get nodes.now) queue) result.count result.last }
+{
+    let mut last = queue.last;
+    let mut place = queue.first;
+    'nodes: for count in 0..queue.len {
+        let node = nodes[place];
+        if precedes(key, node.queued.key) {
+            return Ahead { count, last };
+        }
+        last = place;
+        place = node.next;
+    }
+    Ahead {
+        count: queue.len,
+        last,
+    }
+}
+
+// The same, but a last cell that is more urgent tells it at once.
+fn ahead_of(nodes: &Slab<Node>, queue: Queue, key: Key) -> Ahead
+    requires { IsChained (get nodes.now) queue }
+    ensures count { result.count ≡ position_or_len (λ x. is_before key x.key) (cells (linked (get nodes.now) queue)) }
+    ensures last { EndsAt (linked (get nodes.now) queue) result.count result.last }
+{
+    if queue.len > 0 && precedes(nodes[queue.last].queued.key, key) {
+        return Ahead {
+            count: queue.len,
+            last: queue.last,
+        };
+    }
+    walk(nodes, queue, key)
+}
+
+// The cell of a queue that has so many ahead.
+fn cell_at(nodes: &Slab<Node>, queue: Queue, ahead: usize) -> Queued
+    requires chained { IsChained (get nodes.now) queue }
+    requires inside { ahead < queue.len }
+    ensures { slice_get (cells (linked (get nodes.now) queue)) ahead ≡ Some result }
+{
+    let mut place = queue.first;
+    'nodes: for _ in 0..ahead {
+        place = nodes[place].next;
+    }
+    nodes[place].queued
+}
+
+// A node ahead of a queue's, and its place.
+fn put_first(nodes: &mut Slab<Node>, queue: Queue, queued: Queued) -> usize
+    requires room { HasRoomFor nodes.old 1 }
+    requires linked { IsLinked (get nodes.old) queued.cell.output queue }
+    ensures chained { chain (get nodes.new) (queue.len + 1) result ≡ (result, queued) ∷ linked (get nodes.old) queue }
+    ensures others { OthersStay queued.cell.output (get nodes.old) (get nodes.new) }
+    ensures len { slab_len nodes.new ≡ slab_len nodes.old + 1 }
+    ensures capacity { nodes.new.capacity ≡ nodes.old.capacity }
+{
+    nodes.insert_reserved(Node {
+        queued,
+        next: queue.first,
+    })
+}
+
+// A node behind one of a queue's, and its place.
+fn put_behind(nodes: &mut Slab<Node>, queue: Queue, queued: Queued, ahead: Ahead) -> usize
+    requires room { HasRoomFor nodes.old 1 }
+    requires linked { IsLinked (get nodes.old) queued.cell.output queue }
+    requires some { 0 < ahead.count }
+    requires last { EndsAt (linked (get nodes.old) queue) ahead.count ahead.last }
+    ensures chained { chain (get nodes.new) (queue.len + 1) queue.first ≡ insert (linked (get nodes.old) queue) ahead.count (result, queued) }
+    ensures others { OthersStay queued.cell.output (get nodes.old) (get nodes.new) }
+    ensures len { slab_len nodes.new ≡ slab_len nodes.old + 1 }
+    ensures capacity { nodes.new.capacity ≡ nodes.old.capacity }
+{
+    let next = nodes[ahead.last].next;
+    let place = nodes.insert_reserved(Node { queued, next });
+    nodes[ahead.last].next = place;
+    place
+}
+
+// The place of the last node, where a node was put at this place.
+fn last_of(queue: Queue, ahead: Ahead, place: usize) -> usize
+    ensures { result ≡ (if ahead.count == queue.len then place else queue.last) }
+{
+    if ahead.count == queue.len {
+        place
+    } else {
+        queue.last
+    }
+}
+
+// The queue with a cell more, behind so many of its cells.
+fn put_into(nodes: &mut Slab<Node>, queue: Queue, queued: Queued, ahead: Ahead) -> Queue
+    requires room { HasRoomFor nodes.old 1 }
+    requires linked { IsLinked (get nodes.old) queued.cell.output queue }
+    requires other_key { HasOtherKey queued (cells (linked (get nodes.old) queue)) }
+    requires count { ahead.count ≡ position_or_len (λ x. is_before queued.key x.key) (cells (linked (get nodes.old) queue)) }
+    requires last { EndsAt (linked (get nodes.old) queue) ahead.count ahead.last }
+    requires fits { queue.len + 1 < 2 ^ 64 }
+    ensures linked { IsLinked (get nodes.new) queued.cell.output result }
+    ensures cells { cells (linked (get nodes.new) result) ≡ put queued (cells (linked (get nodes.old) queue)) }
+    ensures others { OthersStay queued.cell.output (get nodes.old) (get nodes.new) }
+    ensures len { slab_len nodes.new ≡ slab_len nodes.old + 1 }
+    ensures capacity { nodes.new.capacity ≡ nodes.old.capacity }
+    ensures longer { result.len ≡ queue.len + 1 }
+{
+    let len = queue.len + 1;
+    if ahead.count == 0 {
+        let first = put_first(nodes, queue, queued);
+        let last = last_of(queue, ahead, first);
+        return Queue { first, last, len };
+    }
+    let place = put_behind(nodes, queue, queued, ahead);
+    let last = last_of(queue, ahead, place);
+    Queue {
+        first: queue.first,
+        last,
+        len,
+    }
+}
+
+impl Pool {
+    /// No cell waits for any of so many outputs, and there is room for so many cells. The error is want of memory.
+    #[tactic(auto, using(crate::proofs::Queues::no_cells))]
+    pub fn new(alloc: Global, outputs: u16, room: u64) -> Result<Pool, NoMemory>
+        ensures queues { IfOk result (λ pool. pool.queues ≡ replicate outputs []) }
+        ensures spare { IfOk result (λ pool. pool.spare ≡ room) }
+    {
+        let nobody = Queue {
+            first: 0,
+            last: 0,
+            len: 0,
+        };
+        Ok(Pool {
+            nodes: Slab::with_capacity(alloc, room as usize)?,
+            queues: vec![in alloc; nobody; outputs as usize]?,
+            room,
+        })
+    }
+
+    /// Puts a cell into the queue of its output, at its place by key, and answers how many cells stand ahead of it. It
+    /// takes room for one cell and no memory.
+    pub fn put(&mut self, queued: Queued) -> usize
+        requires spare { 0 < self.old.spare }
+        requires in_range { queued.cell.output < length self.old.queues }
+        requires other_key { HasOtherKey queued (queue_of self.old.queues queued.cell.output) }
+        ensures place { result ≡ position_or_len (λ x. is_before queued.key x.key) (queue_of self.old.queues queued.cell.output) }
+        ensures queues { self.new.queues ≡ slice_set self.old.queues queued.cell.output (put queued (queue_of self.old.queues queued.cell.output)) }
+        ensures spare { self.new.spare + 1 ≡ self.old.spare }
+    {
+        let output = queued.cell.output as usize;
+        let queue = self.queues[output];
+        let ahead = ahead_of(&self.nodes, queue, queued.key);
+        self.queues[output] = put_into(&mut self.nodes, queue, queued, ahead);
+        ahead.count
+    }
+
+    /// The first cell of a queue, if it has one.
+    pub fn first(&self, output: Port) -> Option<Queued>
+        ensures { result ≡ slice_get (queue_of self.now.queues output) 0 }
+    {
+        let queue = *self.queues.get(output as usize)?;
+        if queue.len == 0 {
+            return None;
+        }
+        Some(self.nodes[queue.first].queued)
+    }
+
+    /// How many cells are in a queue.
+    pub fn len_of(&self, output: Port) -> usize
+        requires { output < length self.now.queues }
+        ensures { result ≡ length (queue_of self.now.queues output) }
+    {
+        self.queues[output as usize].len
+    }
+
+    /// The cell of a queue that has so many ahead.
+    pub fn at(&self, output: Port, ahead: usize) -> Queued
+        requires { ahead < length (queue_of self.now.queues output) }
+        ensures { slice_get (queue_of self.now.queues output) ahead ≡ Some result }
+    {
+        cell_at(&self.nodes, self.queues[output as usize], ahead)
+    }
+
+    /// Takes the first cell of a queue out, which gives its room back.
+    pub fn take(&mut self, output: Port) -> Queued
+        requires { 0 < length (queue_of self.old.queues output) }
+        ensures first { slice_get (queue_of self.old.queues output) 0 ≡ Some result }
+        ensures queues { self.new.queues ≡ slice_set self.old.queues output (drop 1 (queue_of self.old.queues output)) }
+        ensures spare { self.new.spare ≡ self.old.spare + 1 }
+    {
+        let queue = self.queues[output as usize];
+        let node = self.nodes.remove(queue.first);
+        self.queues[output as usize] = Queue {
+            first: node.next,
+            last: queue.last,
+            len: queue.len - 1,
+        };
+        node.queued
+    }
+}
