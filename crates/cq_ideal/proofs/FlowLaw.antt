@@ -37,15 +37,12 @@ class_in_slot ms ports j came inputs e all t =
     (all_from (IsForSwitch ms ports) (λ a. a.slot ≡ t → a.cell.id.input ≡ k → a.cell.output ≡ j → a.cell.class < (machine_at ms j).classes)
     (λ a is _ _ same. subst (λ (o : ℕ). a.cell.class < (machine_at ms o).classes) same is.class) came all)))
 
-pub classes : (ms : List Machine) (ports j : ℕ) (came : List Arrival) →
-    AllByRecursion (IsForSwitch ms ports) came →
-    AllByRecursion (λ cells. AreOfClasses (machine_at ms j) j (present cells)) (traffic_of came)
+pub classes : (ms : List Machine) (ports j : ℕ) (came : List Arrival) → AllByRecursion (IsForSwitch ms ports) came → AllByRecursion (λ cells. AreOfClasses (machine_at ms j) j (present cells)) (traffic_of came)
 unfolding traffic_of
 classes ms ports j came all = all_in_range (λ cells. AreOfClasses (machine_at ms j) j (present cells)) came 0 (enough came) (class_in_slot ms ports j came 64 refl all)
 
 -- nothing comes for what is no port
-pub none_came : (ms : List Machine) (ports i c j : ℕ) (came : List Arrival) →
-    AllByRecursion (IsForSwitch ms ports) came → ports ≤ j → came_in_flow i c j came ≡ []
+pub none_came : (ms : List Machine) (ports i c j : ℕ) (came : List Arrival) → AllByRecursion (IsForSwitch ms ports) came → ports ≤ j → came_in_flow i c j came ≡ []
 none_came ms ports i c j [] all le = refl
 none_came ms ports i c j (a ∷ came) all le =
     let inside : a.cell.output < ports = all.0.output in
@@ -57,37 +54,25 @@ none_came ms ports i c j (a ∷ came) all le =
 
 -- a list that is empty, by its place
 empty_at : (lists : List (List Queued)) (j : ℕ) → All (λ cells. cells ≡ []) lists → slice_index_or lists j [] ≡ []
-empty_at lists j over =
-    ⊎_elim (λ inside. over j [] inside) (λ beyond. get_or_past lists j [] beyond) (cases_lt j (length lists))
+empty_at lists j over = ⊎_elim (λ inside. over j [] inside) (λ beyond. get_or_past lists j [] beyond) (cases_lt j (length lists))
 
 -- what a port sent of a flow is what came of it, where the run leaves nothing
-pub left_as_came : (ms : List Machine) (ports : ℕ) (openings : List (List ℕ)) (j : ℕ)
-    (laws : KeepsLaws (machine_at ms j)) → length openings ≡ ports →
-    length (slice_index_or openings j []) ≡ (machine_at ms j).size → j < ports → (i c : ℕ)
-    (traffic : List (List (Option Cell))) (ran : Ran) →
-    ideal_run ms 0 traffic (empty_ideal ports openings) ≡ Ok ran →
-    AllByRecursion (λ cells. AreOfClasses (machine_at ms j) j (present cells)) traffic →
-    All (λ cells. cells ≡ []) ran.after.lists →
-    left_in_flow i c j (departures_of 0 ran.gone) ≡ flow_came i c j traffic
+pub left_as_came : (ms : List Machine) (ports : ℕ) (openings : List (List ℕ)) (j : ℕ) (laws : KeepsLaws (machine_at ms j)) → length openings ≡ ports → length (slice_index_or openings j []) ≡ (machine_at ms j).size → j < ports → (i c : ℕ) (traffic : List (List (Option Cell))) (ran : Ran) → ideal_run ms 0 traffic (empty_ideal ports openings) ≡ Ok ran → AllByRecursion (λ cells. AreOfClasses (machine_at ms j) j (present cells)) traffic → All (λ cells. cells ≡ []) ran.after.lists → left_in_flow i c j (departures_of 0 ran.gone) ≡ flow_came i c j traffic
 left_as_came ms ports openings j laws opened sized inside i c traffic ran is are over =
     let nil : List Queued = [] in
     let lists : List (List Queued) = replicate ports nil in
     let many : length lists ≡ ports = length-replicate ports nil in
     let empty : slice_index_or lists j nil ≡ nil = get_or-replicate ports j nil nil inside in
-    let stands = subst (λ (xs : List Queued). Stands (machine_at ms j) (slice_index_or openings j []) 0 0 xs)
-    (sym empty) (record { size = sized; order = tt; waited = tt }) in
-    let p = passed ms j laws i c traffic 0 (empty_ideal ports openings) ran is (omega arith)
-    (omega arith) stands are in
+    let stands = subst (λ (xs : List Queued). Stands (machine_at ms j) (slice_index_or openings j []) 0 0 xs) (sym empty) (record { size = sized; order = tt; waited = tt }) in
+    let p = passed ms j laws i c traffic 0 (empty_ideal ports openings) ran is (omega arith) (omega arith) stands are in
     let left : List Cell = left_in_flow i c j (departures_of 0 ran.gone) in
     sym (append-nil left)
     ∙ ap (λ (xs : List Queued). left ++ shown i c xs) (sym (empty_at ran.after.lists j over))
     ∙ sym p.shows
     ∙ ap (λ (xs : List Queued). shown i c xs ++ flow_came i c j traffic) empty
 
-all_left : (x : Result Ran TagFault) (ran : Ran) → x ≡ Ok ran →
-    IfOk x (λ end. All (λ cells. cells ≡ []) end.after.lists) → All (λ cells. cells ≡ []) ran.after.lists
-all_left x ran is over =
-    subst (λ (y : Result Ran TagFault). IfOk y (λ end. All (λ cells. cells ≡ []) end.after.lists)) is over
+all_left : (x : Result Ran TagFault) (ran : Ran) → x ≡ Ok ran → IfOk x (λ end. All (λ cells. cells ≡ []) end.after.lists) → All (λ cells. cells ≡ []) ran.after.lists
+all_left x ran is over = subst (λ (y : Result Ran TagFault). IfOk y (λ end. All (λ cells. cells ≡ []) end.after.lists)) is over
 
 -- ## The law
 
@@ -102,10 +87,8 @@ module _ (ms : List Machine) (ports : ℕ) (openings : List (List ℕ)) (came : 
 
   at_port : j < ports → left_in_flow i c j (departures_of 0 ran.gone) ≡ came_in_flow i c j came
   at_port inside =
-      let over = all_left (ideal_run ms 0 (traffic_of came) (empty_ideal ports openings)) ran is
-      (empty_at_end ms ports openings came) in
-      left_as_came ms ports openings j (runs.machines j inside) runs.ports_are (runs.sizes j inside) inside i c
-      (traffic_of came) ran is (classes ms ports j came runs.for_switch) over ∙ in_slots
+      let over = all_left (ideal_run ms 0 (traffic_of came) (empty_ideal ports openings)) ran is (empty_at_end ms ports openings came) in
+      left_as_came ms ports openings j (runs.machines j inside) runs.ports_are (runs.sizes j inside) inside i c (traffic_of came) ran is (classes ms ports j came runs.for_switch) over ∙ in_slots
 
   elsewhere : ports ≤ j → left_in_flow i c j (departures_of 0 ran.gone) ≡ came_in_flow i c j came
   elsewhere le =

@@ -1,3 +1,4 @@
+pub mod Judging
 pub mod Admitted
 pub mod LimitedRuns
 pub mod Packets

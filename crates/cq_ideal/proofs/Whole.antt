@@ -79,6 +79,10 @@ abbrev to_come : ℕ → List Arrival → ℕ
 to_come slot [] = 0
 to_come slot (a ∷ came) = bit (leb slot a.slot) + to_come slot came
 
+to_come_all : (came : List Arrival) → to_come 0 came ≡ length came
+to_come_all [] = refl
+to_come_all (a ∷ came) = let e : leb 0 a.slot ≡ true = grind arith in ap (λ (b : Bool). bit b + to_come 0 came) e ∙ omega (arith, to_come_all came)
+
 to_come_none : (came : List Arrival) (t : ℕ) → end_of came ≤ t → to_come t came ≡ 0
 to_come_none [] t h = refl
 to_come_none (a ∷ came) t h = let e : leb t a.slot ≡ false = grind arith in ap (λ (b : Bool). bit b + to_come t came) e ∙ omega (arith, to_come_none came t (omega arith))
@@ -242,38 +246,17 @@ count_present [] = refl
 count_present (None ∷ cells) = let rest = count_present cells in omega arith
 count_present (Some cell ∷ cells) = let rest = count_present cells in omega arith
 
-pub empties : (ms : List Machine) (traffic : List (List (Option Cell))) (slot e : ℕ) (s : IdealState) →
-    QuietAfter e traffic → waiting s.lists + come_count traffic + e ≤ length traffic →
-    IfOk (ideal_run ms slot traffic s) (λ ran. waiting ran.after.lists ≡ 0)
+pub empties : (ms : List Machine) (traffic : List (List (Option Cell))) (slot e : ℕ) (s : IdealState) → QuietAfter e traffic → waiting s.lists + come_count traffic + e ≤ length traffic → IfOk (ideal_run ms slot traffic s) (λ ran. waiting ran.after.lists ≡ 0)
 unfolding ideal_run come_count
 empties ms [] slot e s quiet enough = omega arith
 empties ms (cells ∷ traffic) slot e s quiet enough =
-    go (ideal_slot ms slot cells s) (slot_less ms slot cells s)
-    (λ after e' quiet' enough'. empties ms traffic (slot + 1) e' after quiet' enough')
+    go (ideal_slot ms slot cells s) (slot_less ms slot cells s) (λ after e' quiet' enough'. empties ms traffic (slot + 1) e' after quiet' enough')
   where
-    go : (r : Result Sent TagFault) →
-        IfOk r (λ sent. waiting sent.after.lists ≤ waiting s.lists + cells_in cells - 1) →
-        ((after : IdealState) (e' : ℕ) → QuietAfter e' traffic →
-        waiting after.lists + come_count traffic + e' ≤ length traffic →
-        IfOk (ideal_run ms (slot + 1) traffic after) (λ ran. waiting ran.after.lists ≡ 0)) →
-        IfOk (elim r [
-          | Ok sent ↦ then_ran sent.gone (ideal_run ms (slot + 1) traffic sent.after)
-          | Err fault ↦ Err fault
-        ])
-        (λ ran. waiting ran.after.lists ≡ 0)
-    go (Ok sent) less rest =
-        then_empty sent.gone (ideal_run ms (slot + 1) traffic sent.after)
-        (after_slot sent less (ideal_run ms (slot + 1) traffic sent.after) (rest sent.after))
+    go : (r : Result Sent TagFault) → IfOk r (λ sent. waiting sent.after.lists ≤ waiting s.lists + cells_in cells - 1) → ((after : IdealState) (e' : ℕ) → QuietAfter e' traffic → waiting after.lists + come_count traffic + e' ≤ length traffic → IfOk (ideal_run ms (slot + 1) traffic after) (λ ran. waiting ran.after.lists ≡ 0)) → IfOk (elim r [ Ok sent ↦ then_ran sent.gone (ideal_run ms (slot + 1) traffic sent.after) | Err fault ↦ Err fault ]) (λ ran. waiting ran.after.lists ≡ 0)
+    go (Ok sent) less rest = then_empty sent.gone (ideal_run ms (slot + 1) traffic sent.after) (after_slot sent less (ideal_run ms (slot + 1) traffic sent.after) (rest sent.after))
       where
-        after_slot : (sent : Sent) → waiting sent.after.lists ≤ waiting s.lists + cells_in cells - 1 →
-            (x : Result Ran TagFault) →
-            ((e' : ℕ) → QuietAfter e' traffic → waiting sent.after.lists + come_count traffic + e' ≤ length traffic →
-            IfOk x (λ ran. waiting ran.after.lists ≡ 0)) →
-            IfOk x (λ ran. waiting ran.after.lists ≡ 0)
-        after_slot sent less (Ok ran) rest = let same =
-            count_present cells in
-            drained e cells traffic (waiting s.lists) (waiting sent.after.lists)
-            (waiting ran.after.lists) quiet enough (omega arith) rest
+        after_slot : (sent : Sent) → waiting sent.after.lists ≤ waiting s.lists + cells_in cells - 1 → (x : Result Ran TagFault) → ((e' : ℕ) → QuietAfter e' traffic → waiting sent.after.lists + come_count traffic + e' ≤ length traffic → IfOk x (λ ran. waiting ran.after.lists ≡ 0)) → IfOk x (λ ran. waiting ran.after.lists ≡ 0)
+        after_slot sent less (Ok ran) rest = let same = count_present cells in drained e cells traffic (waiting s.lists) (waiting sent.after.lists) (waiting ran.after.lists) quiet enough (omega arith) rest
         after_slot sent less (Err fault) rest = tt
     go (Err fault) less rest = tt
 
@@ -295,8 +278,7 @@ empty_at_end ms ports ranks came =
     let few = come_count-traffic_of came in
     let slots = length-traffic_of came in
     let none = waiting-empty ports in
-    none_wait_after (ideal_run ms 0 (traffic_of came) (empty_ideal ports ranks))
-    (empties ms (traffic_of came) 0 (end_of came) (empty_ideal ports ranks) (quiet_at_end came) (omega arith))
+    none_wait_after (ideal_run ms 0 (traffic_of came) (empty_ideal ports ranks)) (empties ms (traffic_of came) 0 (end_of came) (empty_ideal ports ranks) (quiet_at_end came) (omega arith))
 
 -- ## After the run
 

@@ -1,35 +1,23 @@
--- Which of a slot's arrivals are taken in where outputs have limits, and which are refused. A packet is refused
--- whole, by what its output holds as its first cell arrives: a mark at its input then stays up to its last cell.
--- Admission stands ahead of the ranking: a refused cell gets no rank.
+-- Which of a slot's arrivals are taken in where outputs have limits, and which are refused. A packet is refused whole, by
+-- what its output holds as its first cell arrives: a mark at its input then stays up to its last cell. Admission stands
+-- ahead of the ranking: a refused cell gets no rank.
 use Rattle.std.specs.Prelude.{◌≡◌, ℕ, ◌+◌, ◌&&◌, ◌==◌, nat_le, Bool, true, false, if◌then◌else◌, List, [], ◌∷◌, length, map, filter, replicate, Option, Some, None, slice_set, slice_index_or}
 use Rattle.cq_base.specs.declared.cell.Cell.{Cell}
-
--- per output its limit, if it has one: it takes in no packet while it holds so many cells
-abbrev pub Limits : Type 0
-Limits = List (Option ℕ)
-
--- what arrives in each slot of a run, by input
-abbrev pub Traffic : Type 0
-Traffic = List (List (Option Cell))
 
 -- whether an output with this limit, or with none, is full when it holds so many cells
 abbrev pub is_full : Option ℕ → ℕ → Bool
 is_full None held = false
 is_full (Some limit) held = nat_le limit held
 
--- the same of output j, where the outputs have these limits and hold so many cells
-abbrev pub is_full_at : Limits → List ℕ → ℕ → Bool
-is_full_at limits held j = is_full (slice_index_or limits j None) (slice_index_or held j 0)
-
 -- whether it is the first cell of its packet
 abbrev pub is_first : Cell → Bool
 is_first cell = cell.id.index == 0
 
--- The mark of an input after its arrival of the slot. The first cell of a packet puts it up where the cell's output
--- is full, and down where it is not; nothing else moves it.
-abbrev pub mark_after : Limits → List ℕ → Bool → Option Cell → Bool
+-- The mark of an input after its arrival of the slot. The first cell of a packet puts it up where the cell's output is full,
+-- and down where it is not; nothing else moves it.
+abbrev pub mark_after : List (Option ℕ) → List ℕ → Bool → Option Cell → Bool
 mark_after limits held mark None = mark
-mark_after limits held mark (Some cell) = if is_first cell then is_full_at limits held cell.output else mark
+mark_after limits held mark (Some cell) = if is_first cell then is_full (slice_index_or limits cell.output None) (slice_index_or held cell.output 0) else mark
 
 -- how many cells each output holds after this arrival, which the mark refuses where it is up
 abbrev pub held_after : Bool → List ℕ → Option Cell → List ℕ
@@ -37,9 +25,9 @@ held_after true held cell = held
 held_after false held None = held
 held_after false held (Some cell) = slice_set held cell.output (slice_index_or held cell.output 0 + 1)
 
--- The marks after a slot, whose arrivals are judged in order of input: what an output holds takes in the cells that
--- were admitted for it ahead of this one.
-abbrev pub marks_after : Limits → List ℕ → List Bool → List (Option Cell) → List Bool
+-- The marks after a slot, whose arrivals are judged in order of input: what an output holds takes in the cells that were
+-- admitted for it ahead of this one.
+abbrev pub marks_after : List (Option ℕ) → List ℕ → List Bool → List (Option Cell) → List Bool
 marks_after limits held [] cells = []
 marks_after limits held (mark ∷ marks) [] = mark ∷ marks
 marks_after limits held (mark ∷ marks) (cell ∷ cells) =
@@ -66,15 +54,14 @@ pub record Admission : Type 0 where
   pub refused : List Cell
   pub marks : List Bool
 
--- the arrivals of a slot are judged by the limits of the outputs, by how many cells each of them holds, and by the
--- marks
-unfoldable pub admission : Limits → List ℕ → List Bool → List (Option Cell) → Admission
+-- the arrivals of a slot are judged by the limits of the outputs, by how many cells each of them holds, and by the marks
+unfoldable pub admission : List (Option ℕ) → List ℕ → List Bool → List (Option Cell) → Admission
 admission limits held marks cells =
     let after = marks_after limits held marks cells in
     record { cells = admitted after cells; refused = refused after cells; marks = after }
 
 -- what is admitted in each slot of a run
-abbrev pub admitted_in : List Admission → Traffic
+abbrev pub admitted_in : List Admission → List (List (Option Cell))
 admitted_in admissions = map (λ a. a.cells) admissions
 
 -- ## What holds of an input
@@ -106,7 +93,7 @@ pub record Marked (S : Type 0) : Type 0 where
   pub marks : List Bool
 
 -- no output has a limit
-abbrev pub NoLimits : Limits → Type 0
+abbrev pub NoLimits : List (Option ℕ) → Type 0
 NoLimits limits = (j : ℕ) → slice_index_or limits j None ≡ None
 
 -- all marks are down, at so many inputs
@@ -126,5 +113,5 @@ abbrev pub nothing_refused : List Bool → List (Option Cell) → Admission
 nothing_refused marks cells = record { cells = cells; refused = []; marks = marks }
 
 -- that is what becomes of these arrivals, however many cells the outputs hold
-abbrev pub RefusesNone : Limits → List Bool → List (Option Cell) → Type 0
+abbrev pub RefusesNone : List (Option ℕ) → List Bool → List (Option Cell) → Type 0
 RefusesNone limits marks cells = (held : List ℕ) → admission limits held marks cells ≡ nothing_refused marks cells

@@ -1,9 +1,9 @@
 -- A worked run of the ideal switch with limits: three ports, first come, first served, of which output 0 has limit 1. All cells
 -- are for output 0.
-use Rattle.std.specs.Prelude.{ℕ, Bool, true, false, List, [], ◌∷◌, Some, None}
+use Rattle.std.specs.Prelude.{ℕ, Bool, true, false, List, [], ◌∷◌, Option, Some, None}
 use Rattle.cq_base.specs.declared.cell.Cell.{Cell}
 use Rattle.cq_rank.specs.Machine.{Machine, first_come}
-use Rattle.cq_ideal.specs.Admission.{Limits, Traffic, Admission}
+use Rattle.cq_ideal.specs.Admission.{Admission}
 use Rattle.cq_ideal.specs.LimitedIdeal.{LimitedRan}
 use Rattle.cq_ideal.specs.Ranking.{keyed}
 
@@ -32,14 +32,14 @@ d0 = cell_of 1 1 0 true
 abbrev pub c0 : Cell
 c0 = cell_of 2 0 0 true
 
-abbrev pub limit_one : Limits
+abbrev pub limit_one : List (Option ℕ)
 limit_one = Some 1 ∷ None ∷ None ∷ []
 
 abbrev pub first_come_all : List Machine
 first_come_all = first_come 1 ∷ first_come 1 ∷ first_come 1 ∷ []
 
 -- what arrives in the three slots
-abbrev pub discard_slots : Traffic
+abbrev pub discard_slots : List (List (Option Cell))
 discard_slots = (Some a0 ∷ Some b0 ∷ None ∷ []) ∷ (Some a1 ∷ Some b1 ∷ Some c0 ∷ []) ∷ (None ∷ Some d0 ∷ None ∷ []) ∷ []
 
 -- In slot 0 the packet of input 0 is admitted and then fills output 0, so that of input 1 is refused. In slot 1 its second cell

@@ -1,11 +1,10 @@
--- The ideal switch where outputs have limits: what is admitted of a slot's arrivals goes through the slot without
--- limits.
+-- The ideal switch where outputs have limits: what is admitted of a slot's arrivals goes through the slot without limits.
 use Rattle.std.specs.Prelude.{◌≡◌, ℕ, ◌+◌, List, [], ◌∷◌, length, map, Option, Result, Ok, Err}
 use Rattle.cq_base.specs.declared.cell.Cell.{Cell}
 use Rattle.cq_base.specs.declared.cell.Queued.{Queued}
 use Rattle.cq_base.specs.declared.cell.TagFault.{TagFault}
 use Rattle.cq_rank.specs.Machine.{Machine}
-use Rattle.cq_ideal.specs.Admission.{Limits, Traffic, Admission, Marked, admission, unmarked}
+use Rattle.cq_ideal.specs.Admission.{Admission, Marked, admission, unmarked}
 use Rattle.cq_ideal.specs.IdealSlot.{IdealState, Sent, ideal_slot}
 use Rattle.cq_ideal.specs.IdealRun.{Ran, ideal_run, empty_ideal}
 
@@ -14,7 +13,7 @@ abbrev pub ideal_held : IdealState → List ℕ
 ideal_held s = map length s.lists
 
 -- what the switch admits of a slot's arrivals
-abbrev pub ideal_admission : Limits → List (Option Cell) → Marked IdealState → Admission
+abbrev pub ideal_admission : List (Option ℕ) → List (Option Cell) → Marked IdealState → Admission
 ideal_admission limits cells old = admission limits (ideal_held old.state) old.marks cells
 
 -- what a slot comes to: the admission, the cell that each output sent, if it sent one, and the state after it
@@ -25,18 +24,16 @@ pub record LimitedSent : Type 0 where
 
 -- a slot of the admitted cells, with the admission's marks
 abbrev pub with_admission : Admission → Result Sent TagFault → Result LimitedSent TagFault
-with_admission a (Ok sent) =
-    Ok (record { admission = a; gone = sent.gone; after = record { state = sent.after; marks = a.marks } })
+with_admission a (Ok sent) = Ok (record { admission = a; gone = sent.gone; after = record { state = sent.after; marks = a.marks } })
 with_admission a (Err fault) = Err fault
 
 -- one slot with these arrivals
-unfoldable pub limited_slot : Limits → List Machine → ℕ → List (Option Cell) → Marked IdealState →
-    Result LimitedSent TagFault
+unfoldable pub limited_slot : List (Option ℕ) → List Machine → ℕ → List (Option Cell) → Marked IdealState → Result LimitedSent TagFault
 limited_slot limits ms slot cells old =
     let a = ideal_admission limits cells old in with_admission a (ideal_slot ms slot a.cells old.state)
 
--- what came of a run: per slot the admission, and per slot and output the cell that was sent, if one was, and the
--- state at its end
+-- what came of a run: per slot the admission, and per slot and output the cell that was sent, if one was, and the state at
+-- its end
 pub record LimitedRan : Type 0 where
   pub admissions : List Admission
   pub gone : List (List (Option Queued))
@@ -44,17 +41,14 @@ pub record LimitedRan : Type 0 where
 
 -- a slot, and then the slots that follow
 abbrev pub then_limited : LimitedSent → Result LimitedRan TagFault → Result LimitedRan TagFault
-then_limited sent (Ok ran) =
-    Ok (record { admissions = sent.admission ∷ ran.admissions; gone = sent.gone ∷ ran.gone; after = ran.after })
+then_limited sent (Ok ran) = Ok (record { admissions = sent.admission ∷ ran.admissions; gone = sent.gone ∷ ran.gone; after = ran.after })
 then_limited sent (Err fault) = Err fault
 
 -- the run over the slots from this one on; it ends at the first tag fault
-unfoldable pub limited_run : Limits → List Machine → ℕ → Traffic →
-    Marked IdealState → Result LimitedRan TagFault
+unfoldable pub limited_run : List (Option ℕ) → List Machine → ℕ → List (List (Option Cell)) → Marked IdealState → Result LimitedRan TagFault
 limited_run limits ms slot [] old = Ok (record { admissions = []; gone = []; after = old })
 limited_run limits ms slot (cells ∷ traffic) old =
-    elim (limited_slot limits ms slot cells old)
-    [ Ok sent ↦ then_limited sent (limited_run limits ms (slot + 1) traffic sent.after) | Err fault ↦ Err fault ]
+    elim (limited_slot limits ms slot cells old) [ Ok sent ↦ then_limited sent (limited_run limits ms (slot + 1) traffic sent.after) | Err fault ↦ Err fault ]
 
 -- nothing waits, all marks are down, and the rank machines are in these states
 abbrev pub empty_limited : ℕ → List (List ℕ) → Marked IdealState
@@ -63,12 +57,10 @@ empty_limited ports ranks = unmarked ports (empty_ideal ports ranks)
 -- ## The run without limits that it is
 
 -- what is admitted in the slots from this one on, up to the first tag fault
-unfoldable pub admitted_traffic : Limits → List Machine → ℕ → Traffic →
-    Marked IdealState → Traffic
+unfoldable pub admitted_traffic : List (Option ℕ) → List Machine → ℕ → List (List (Option Cell)) → Marked IdealState → List (List (Option Cell))
 admitted_traffic limits ms slot [] old = []
 admitted_traffic limits ms slot (cells ∷ traffic) old =
-    (ideal_admission limits cells old).cells ∷ elim (limited_slot limits ms slot cells old)
-    [ Ok sent ↦ admitted_traffic limits ms (slot + 1) traffic sent.after | Err fault ↦ [] ]
+    (ideal_admission limits cells old).cells ∷ elim (limited_slot limits ms slot cells old) [ Ok sent ↦ admitted_traffic limits ms (slot + 1) traffic sent.after | Err fault ↦ [] ]
 
 -- the run without what is said of limits
 abbrev pub unlimited : Result LimitedRan TagFault → Result Ran TagFault
@@ -78,6 +70,5 @@ unlimited (Err fault) = Err fault
 -- A run with limits is the run without limits of the admitted arrivals.
 abbrev pub IsRunOfAdmitted : Type 0
 IsRunOfAdmitted =
-    (limits : Limits) (ms : List Machine) (slot : ℕ) (traffic : Traffic) (old : Marked IdealState) →
-    unlimited (limited_run limits ms slot traffic old)
-    ≡ ideal_run ms slot (admitted_traffic limits ms slot traffic old) old.state
+    (limits : List (Option ℕ)) (ms : List Machine) (slot : ℕ) (traffic : List (List (Option Cell))) (old : Marked IdealState) →
+    unlimited (limited_run limits ms slot traffic old) ≡ ideal_run ms slot (admitted_traffic limits ms slot traffic old) old.state

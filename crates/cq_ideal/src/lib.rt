@@ -7,6 +7,7 @@
 
 mod flows;
 mod ideal;
+mod judge;
 mod laws;
 mod limits;
 mod queue;

@@ -4,7 +4,7 @@ ghost use Rattle.cq_base.specs.declared.cell.Cell.{Cell};
 ghost use Rattle.cq_base.specs.Arrivals.{no_arrivals, arrival_at};
 ghost use Rattle.cq_base.specs.Arriving.{Arrival, traffic_of};
 ghost use Rattle.cq_rank.specs.Machine.{Machine};
-ghost use Rattle.cq_ideal.specs.Admission.{Admission, Limits, Marked, Traffic, NoLimits, RefusesNone, admission, admitted_in, cells_refused, mark_at, marks_down, packets_refused, unless, unmarked};
+ghost use Rattle.cq_ideal.specs.Admission.{Admission, Marked, NoLimits, RefusesNone, admission, admitted_in, cells_refused, mark_at, marks_down, packets_refused, unless, unmarked};
 ghost use Rattle.cq_ideal.specs.IdealRun.{ideal_run};
 ghost use Rattle.cq_ideal.specs.IdealSlot.{IdealState};
 ghost use Rattle.cq_ideal.specs.LimitedExample.{discard_admissions, discard_ran, discard_slots, first_come_all, limit_one};
@@ -22,14 +22,14 @@ pub fn limited_run_is_run_of_admitted()
 /// the cells that come to an input those that are admitted are all cells of some of the packets.
 pub fn whole_packets_are_admitted()
     // in one slot the mark of an input after it says what became of its arrival
-    ensures by_mark { (limits : Limits) (held : List ℕ) (marks : List Bool) (cells : List (Option Cell)) (i : ℕ) →
+    ensures by_mark { (limits : List (Option ℕ)) (held : List ℕ) (marks : List Bool) (cells : List (Option Cell)) (i : ℕ) →
         arrival_at (admission limits held marks cells).cells i ≡ unless (mark_at (admission limits held marks cells).marks i) (arrival_at cells i) }
     // whole runs
-    ensures run { (limits : Limits) (ms : List Machine) (slot : ℕ) (traffic : Traffic) (old : Marked IdealState) (ran : LimitedRan) (i : ℕ) →
+    ensures run { (limits : List (Option ℕ)) (ms : List Machine) (slot : ℕ) (traffic : List (List (Option Cell))) (old : Marked IdealState) (ran : LimitedRan) (i : ℕ) →
         limited_run limits ms slot traffic old ≡ Ok ran → AreOfPackets 0 (cells_at i traffic) →
         AreWholePackets (cells_at i traffic) (cells_at i (admitted_in ran.admissions)) }
     // and whatever the outputs hold as the arrivals are judged
-    ensures judged { (limits : Limits) (marks : List Bool) (traffic : Traffic) (i : ℕ) →
+    ensures judged { (limits : List (Option ℕ)) (marks : List Bool) (traffic : List (List (Option Cell))) (i : ℕ) →
         (admissions : List Admission) → AreJudged limits marks traffic admissions → AreOfPackets 0 (cells_at i traffic) →
         AreWholePackets (cells_at i traffic) (cells_at i (admitted_in admissions)) }
 {}
@@ -37,7 +37,7 @@ pub fn whole_packets_are_admitted()
 /// A run with limits has enough slots where the run without has: where no rank is a tag fault, all lists are
 /// empty at its end.
 pub fn limited_run_is_whole()
-    ensures { (limits : Limits) (ms : List Machine) (ports : ℕ) (ranks : List (List ℕ)) (came : List Arrival) →
+    ensures { (limits : List (Option ℕ)) (ms : List Machine) (ports : ℕ) (ranks : List (List ℕ)) (came : List Arrival) →
         IfOk (limited_run limits ms 0 (traffic_of came) (empty_limited ports ranks)) (λ ran. All (λ cells. cells ≡ []) ran.after.state.lists) }
 {}
 
@@ -50,9 +50,9 @@ pub fn flows_leave_in_packets()
 /// Where no output has a limit and no mark is up nothing is refused, nor where no cell arrives. So a run in
 /// which no output has a limit is the run that it was before there were limits.
 pub fn nothing_is_refused_without_limits()
-    ensures no_limits { (limits : Limits) (ports : ℕ) (cells : List (Option Cell)) → NoLimits limits → RefusesNone limits (marks_down ports) cells }
-    ensures no_arrivals { (limits : Limits) (marks : List Bool) → RefusesNone limits marks no_arrivals }
-    ensures run { (limits : Limits) (ms : List Machine) (slot ports : ℕ) (traffic : Traffic) (state : IdealState) → NoLimits limits →
+    ensures no_limits { (limits : List (Option ℕ)) (ports : ℕ) (cells : List (Option Cell)) → NoLimits limits → RefusesNone limits (marks_down ports) cells }
+    ensures no_arrivals { (limits : List (Option ℕ)) (marks : List Bool) → RefusesNone limits marks no_arrivals }
+    ensures run { (limits : List (Option ℕ)) (ms : List Machine) (slot ports : ℕ) (traffic : List (List (Option Cell))) (state : IdealState) → NoLimits limits →
         unlimited (limited_run limits ms slot traffic (unmarked ports state)) ≡ ideal_run ms slot traffic state }
 {}
 

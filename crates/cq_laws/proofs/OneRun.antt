@@ -114,22 +114,16 @@ module _ (ms : List Machine) where
   pub only_run : IsOneRun (FabricSlot IsInputBest ms) (IsFault ms)
   only_run = one_of_each (FabricSlot IsInputBest ms) (IsFault ms) no_choice
 
-  pub one_run : (slot : ℕ) (traffic : List (List (Option Cell))) (f g h : Fabric) (rs ss : List SlotRecord) →
-      FabricRun IsInputBest ms slot traffic f rs g → FabricRun IsInputBest ms slot traffic f ss h →
-      (rs ≡ ss) × (g ≡ h)
+  pub one_run : (slot : ℕ) (traffic : List (List (Option Cell))) (f g h : Fabric) (rs ss : List SlotRecord) → FabricRun IsInputBest ms slot traffic f rs g → FabricRun IsInputBest ms slot traffic f ss h → (rs ≡ ss) × (g ≡ h)
   one_run = only_run.run
 
   -- ## The same with limits
 
   module _ (limits : List (Option ℕ)) where
-    one_limited_slot : (slot : ℕ) (cells : List (Option Cell)) (f g h : Marked Fabric) (r s : LimitedRecord) →
-        LimitedFabricSlot IsInputBest limits ms slot cells f r g →
-        LimitedFabricSlot IsInputBest limits ms slot cells f s h → (r ≡ s) × (g ≡ h)
+    one_limited_slot : (slot : ℕ) (cells : List (Option Cell)) (f g h : Marked Fabric) (r s : LimitedRecord) → LimitedFabricSlot IsInputBest limits ms slot cells f r g → LimitedFabricSlot IsInputBest limits ms slot cells f s h → (r ≡ s) × (g ≡ h)
     one_limited_slot slot cells f g h r s x y =
         let admission = x.admits ∙ sym y.admits in
-        let y' : FabricSlot IsInputBest ms slot r.admission.cells f.state s.of_slot h.state =
-        subst (λ (a : Admission). FabricSlot IsInputBest ms slot a.cells f.state s.of_slot h.state)
-        (sym admission) y.runs in
+        let y' : FabricSlot IsInputBest ms slot r.admission.cells f.state s.of_slot h.state = subst (λ (a : Admission). FabricSlot IsInputBest ms slot a.cells f.state s.of_slot h.state) (sym admission) y.runs in
         let one = one_slot ms slot r.admission.cells f.state g.state h.state r.of_slot s.of_slot x.runs y' in
         let marks = x.marks ∙ ap (λ (a : Admission). a.marks) admission ∙ sym y.marks in
         (λ k. record { admission = admission k; of_slot = one.0 k }, λ k. record { state = one.1 k; marks = marks k })
@@ -139,7 +133,6 @@ module _ (ms : List Machine) where
         one_of_each (LimitedFabricSlot IsInputBest limits ms) (IsLimitedFault limits ms)
         (record {
           slot = one_limited_slot;
-          fault = λ slot cells f u v x y. no_choice.fault slot
-              (fabric_admission limits cells f).cells f.state u v x y;
+          fault = λ slot cells f u v x y. no_choice.fault slot (fabric_admission limits cells f).cells f.state u v x y;
           never_both = λ slot cells f g r u x y. no_choice.never_both slot r.admission.cells f.state g.state r.of_slot u x.runs (subst (λ (a : Admission). IsFault ms slot a.cells f.state u) (sym x.admits) y);
         })

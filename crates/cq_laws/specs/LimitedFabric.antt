@@ -1,10 +1,10 @@
--- The fabric where outputs have limits: what is admitted of a slot's arrivals goes through the slot without limits.
--- It differs from the ideal switch only in where it counts what an output holds.
+-- The fabric where outputs have limits: what is admitted of a slot's arrivals goes through the slot without limits. It differs
+-- from the ideal switch only in where it counts what an output holds.
 use Rattle.std.specs.Prelude.{◌≡◌, ℕ, Bool, List, [], ◌∷◌, map, Option}
 use Rattle.cq_base.specs.declared.cell.Cell.{Cell}
 use Rattle.cq_base.specs.declared.cell.TagFault.{TagFault}
 use Rattle.cq_rank.specs.Machine.{Machine}
-use Rattle.cq_ideal.specs.Admission.{Limits, Traffic, Admission, Marked, admission, nothing_refused, unmarked}
+use Rattle.cq_ideal.specs.Admission.{Admission, Marked, admission, nothing_refused, unmarked}
 use Rattle.cq_prefs.specs.Orders.{Orders}
 use Rattle.cq_prefs.specs.Pairing.{Partners}
 use Rattle.cq_laws.specs.Fabric.{Fabric, empty_fabric}
@@ -14,7 +14,7 @@ use Rattle.cq_laws.specs.Holding.{fabric_held}
 use Rattle.cq_laws.specs.SlotBySlot.{RunBy, StopBy}
 
 -- what the fabric admits of a slot's arrivals
-abbrev pub fabric_admission : Limits → List (Option Cell) → Marked Fabric → Admission
+abbrev pub fabric_admission : List (Option ℕ) → List (Option Cell) → Marked Fabric → Admission
 fabric_admission limits cells old = admission limits (fabric_held old.state) old.marks cells
 
 -- what is recorded of a slot: the admission, and the slot of the admitted cells
@@ -23,30 +23,22 @@ pub record LimitedRecord : Type 0 where
   pub of_slot : SlotRecord
 
 -- one slot: the admitted cells go through it, and the admission says which marks are up after it
-pub record LimitedFabricSlot (MayChoose : Orders → Partners → Type 0) (limits : Limits) (ms : List Machine)
-    (slot : ℕ) (cells : List (Option Cell)) (old : Marked Fabric) (r : LimitedRecord)
-    (new : Marked Fabric) : Type 0 where
+pub record LimitedFabricSlot (MayChoose : Orders → Partners → Type 0) (limits : List (Option ℕ)) (ms : List Machine) (slot : ℕ) (cells : List (Option Cell)) (old : Marked Fabric) (r : LimitedRecord) (new : Marked Fabric) : Type 0 where
   pub admits : r.admission ≡ fabric_admission limits cells old
   pub runs : FabricSlot MayChoose ms slot r.admission.cells old.state r.of_slot new.state
   pub marks : new.marks ≡ r.admission.marks
 
 -- the first rank of an admitted cell that does not fit is the tag fault of the slot
-abbrev pub IsLimitedFault : Limits → List Machine → ℕ → List (Option Cell) → Marked Fabric → TagFault →
-    Type 0
-IsLimitedFault limits ms slot cells old fault =
-    IsFault ms slot (fabric_admission limits cells old).cells old.state fault
+abbrev pub IsLimitedFault : List (Option ℕ) → List Machine → ℕ → List (Option Cell) → Marked Fabric → TagFault → Type 0
+IsLimitedFault limits ms slot cells old fault = IsFault ms slot (fabric_admission limits cells old).cells old.state fault
 
 -- one record a slot, from this slot on, each from the state in which the one before it ended
-abbrev pub LimitedFabricRun : (Orders → Partners → Type 0) → Limits → List Machine → ℕ →
-    Traffic → Marked Fabric → List LimitedRecord → Marked Fabric → Type 0
-LimitedFabricRun MayChoose limits ms slot traffic old rs new =
-    RunBy (LimitedFabricSlot MayChoose limits ms) slot traffic old rs new
+abbrev pub LimitedFabricRun : (Orders → Partners → Type 0) → List (Option ℕ) → List Machine → ℕ → List (List (Option Cell)) → Marked Fabric → List LimitedRecord → Marked Fabric → Type 0
+LimitedFabricRun MayChoose limits ms slot traffic old rs new = RunBy (LimitedFabricSlot MayChoose limits ms) slot traffic old rs new
 
 -- the records of some slots, and then a slot with a tag fault
-abbrev pub LimitedFabricStops : (Orders → Partners → Type 0) → Limits → List Machine → ℕ →
-    Traffic → Marked Fabric → List LimitedRecord → TagFault → Type 0
-LimitedFabricStops MayChoose limits ms slot traffic old rs fault =
-    StopBy (LimitedFabricSlot MayChoose limits ms) (IsLimitedFault limits ms) slot traffic old rs fault
+abbrev pub LimitedFabricStops : (Orders → Partners → Type 0) → List (Option ℕ) → List Machine → ℕ → List (List (Option Cell)) → Marked Fabric → List LimitedRecord → TagFault → Type 0
+LimitedFabricStops MayChoose limits ms slot traffic old rs fault = StopBy (LimitedFabricSlot MayChoose limits ms) (IsLimitedFault limits ms) slot traffic old rs fault
 
 -- nothing waits, all marks are down, and the rank machines are in these states
 abbrev pub empty_limited_fabric : ℕ → List (List ℕ) → Marked Fabric
@@ -60,8 +52,7 @@ abbrev pub slots_in : List LimitedRecord → List SlotRecord
 slots_in rs = map (λ r. r.of_slot) rs
 
 -- the records of slots in which nothing was refused, with these marks
-abbrev pub passed : List Bool → Traffic → List SlotRecord → List LimitedRecord
+abbrev pub passed : List Bool → List (List (Option Cell)) → List SlotRecord → List LimitedRecord
 passed marks [] rs = []
 passed marks (cells ∷ traffic) [] = []
-passed marks (cells ∷ traffic) (r ∷ rs) =
-    record { admission = nothing_refused marks cells; of_slot = r } ∷ passed marks traffic rs
+passed marks (cells ∷ traffic) (r ∷ rs) = record { admission = nothing_refused marks cells; of_slot = r } ∷ passed marks traffic rs
