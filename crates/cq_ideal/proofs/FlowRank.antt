@@ -1,7 +1,7 @@
 -- The arrivals of a slot at one output, ranked and put into its list from input to input. A cell for the output is put
 -- behind all that wait of its flow, and a cell for another output changes neither the list nor the machine's state here.
 -- So of each flow the list shows what it showed before, and then what arrives of it.
-use Rattle.std.proofs.Common.{◌≡◌, ℕ, ◌+◌, ◌<◌, ◌≤◌, ◌^◌, Bool, true, false, cond, List, [], ◌∷◌, ◌++◌, length, Option, Some, None, Result, Ok, Err, refl, sym, ap, ◌∙◌, subst, ⊎_elim, arith}
+use Rattle.std.proofs.Common.{◌≡◌, ℕ, ◌+◌, ◌<◌, ◌^◌, Bool, true, false, cond, List, [], ◌∷◌, ◌++◌, length, Option, Some, None, Result, Ok, Err, refl, sym, ap, ◌∙◌, subst, ⊎_elim, arith}
 use Rattle.std.specs.Prelude.{◌&&◌, ◌==◌, nat_lt, slice_index_or, slice_set}
 use Rattle.std.specs.List.{AllByRecursion}
 use Rattle.std.proofs.lemmas.Bool.{cases_eq, eq-eqb, ne_eqb, and_left, cond-true, cond-false}
@@ -13,7 +13,6 @@ use Rattle.cq_base.specs.Cells.{put, is_for}
 use Rattle.cq_rank.specs.Machine.{Machine, KeepsLaws, machine_at}
 use Rattle.cq_ideal.specs.Ranking.{Ranking, ranking, after_input, keyed}
 use Rattle.cq_ideal.specs.IdealSlot.{put_all}
-use Rattle.cq_ideal.proofs.FlowPut.{length-put}
 use Rattle.cq_ideal.proofs.FlowStands.{Stands, shown, is_of_flow, of_flow, of_flow-cons, stands_on, stands_next, stands_put, shown-put}
 
 -- the cells that arrive in a slot

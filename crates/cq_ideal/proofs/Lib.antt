@@ -17,6 +17,7 @@ pub mod Listed
 pub mod Placed
 pub mod Ports
 pub mod Ranked
+pub mod Refusals
 pub mod Sending
 pub mod Slot
 pub mod Spare

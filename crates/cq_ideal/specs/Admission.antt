@@ -1,7 +1,7 @@
 -- Which of a slot's arrivals are taken in where outputs have limits, and which are refused. A packet is refused whole, by
 -- what its output holds as its first cell arrives: a mark at its input then stays up to its last cell. Admission stands
 -- ahead of the ranking: a refused cell gets no rank.
-use Rattle.std.specs.Prelude.{◌≡◌, ℕ, ◌+◌, ◌&&◌, ◌==◌, nat_le, Bool, true, false, if◌then◌else◌, List, [], ◌∷◌, length, map, filter, replicate, Option, Some, None, slice_set, slice_index_or}
+use Rattle.std.specs.Prelude.{◌≡◌, ℕ, ◌+◌, ◌==◌, nat_le, Bool, true, false, if◌then◌else◌, List, [], ◌∷◌, map, replicate, Option, Some, None, slice_set, slice_index_or}
 use Rattle.cq_base.specs.declared.cell.Cell.{Cell}
 
 -- whether an output with this limit, or with none, is full when it holds so many cells
@@ -13,11 +13,15 @@ is_full (Some limit) held = nat_le limit held
 abbrev pub is_first : Cell → Bool
 is_first cell = cell.id.index == 0
 
+-- whether output j is full, by its limit and by how many cells it holds
+abbrev pub is_full_at : List (Option ℕ) → List ℕ → ℕ → Bool
+is_full_at limits held j = is_full (slice_index_or limits j None) (slice_index_or held j 0)
+
 -- The mark of an input after its arrival of the slot. The first cell of a packet puts it up where the cell's output is full,
 -- and down where it is not; nothing else moves it.
 abbrev pub mark_after : List (Option ℕ) → List ℕ → Bool → Option Cell → Bool
 mark_after limits held mark None = mark
-mark_after limits held mark (Some cell) = if is_first cell then is_full (slice_index_or limits cell.output None) (slice_index_or held cell.output 0) else mark
+mark_after limits held mark (Some cell) = if is_first cell then is_full_at limits held cell.output else mark
 
 -- how many cells each output holds after this arrival, which the mark refuses where it is up
 abbrev pub held_after : Bool → List ℕ → Option Cell → List ℕ
@@ -74,16 +78,6 @@ mark_at marks i = slice_index_or marks i false
 abbrev pub unless : Bool → Option Cell → Option Cell
 unless true cell = None
 unless false cell = cell
-
--- ## What was refused at an output
-
--- how many of the refused cells were for output j
-unfoldable pub cells_refused : ℕ → List Cell → ℕ
-cells_refused j cells = length (filter (λ cell. cell.output == j) cells)
-
--- how many packets they were of, by their first cells
-unfoldable pub packets_refused : ℕ → List Cell → ℕ
-packets_refused j cells = length (filter (λ cell. cell.output == j && is_first cell) cells)
 
 -- ## Switches with limits
 

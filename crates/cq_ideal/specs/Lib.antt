@@ -8,4 +8,5 @@ pub mod LimitedFlows
 pub mod LimitedIdeal
 pub mod Parts
 pub mod Ranking
+pub mod Refused
 pub mod WholePackets

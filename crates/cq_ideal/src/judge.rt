@@ -1,8 +1,6 @@
 //! Which marks are up after the arrivals of a slot.
 ghost use Rattle.std.specs.Prelude.{◌≡◌, Some, ◌+◌, ◌<◌, ◌≤◌, ◌^◌, ℕ, IfSome, length, slice_index_or};
 ghost use Rattle.cq_ideal.specs.Admission.{held_after, is_full, mark_after, marks_after};
-
-
 ghost use Rattle.cq_base.specs.declared.cell.Cell.{Cell};
 ghost use Rattle.cq_base.specs.Arrivals.{arrival_at};
 

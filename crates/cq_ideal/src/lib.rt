@@ -13,6 +13,7 @@ mod limits;
 mod queue;
 mod queues;
 mod ranks;
+mod refused;
 mod send;
 mod take_in;
 #[cfg(test)]
@@ -23,5 +24,7 @@ pub use ideal::Ideal;
 pub use laws::ideal_run_is_whole;
 pub use limits::{
     flows_leave_in_packets, limited_run_is_run_of_admitted, limited_run_is_whole,
-    nothing_is_refused_without_limits, whole_packets_are_admitted, worked_discard,
+    nothing_is_refused_without_limits, refused_counts_add_up, whole_packets_are_admitted,
+    worked_discard,
 };
+pub use refused::Refused;

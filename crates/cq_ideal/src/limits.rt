@@ -1,15 +1,17 @@
 //! Switches whose outputs have limits. Each law is the contract of a function that does nothing.
-ghost use Rattle.std.specs.Prelude.{◌≡◌, ℕ, Bool, List, [], ◌∷◌, Option, Ok, All, IfOk, flat_map};
+ghost use Rattle.std.specs.Prelude.{◌≡◌, ℕ, ◌+◌, ◌++◌, Bool, List, [], ◌∷◌, Option, Ok, All, IfOk};
 ghost use Rattle.cq_base.specs.declared.cell.Cell.{Cell};
 ghost use Rattle.cq_base.specs.Arrivals.{no_arrivals, arrival_at};
 ghost use Rattle.cq_base.specs.Arriving.{Arrival, traffic_of};
 ghost use Rattle.cq_rank.specs.Machine.{Machine};
-ghost use Rattle.cq_ideal.specs.Admission.{Admission, Marked, NoLimits, RefusesNone, admission, admitted_in, cells_refused, mark_at, marks_down, packets_refused, unless, unmarked};
+ghost use Rattle.cq_ideal.specs.Admission.{Admission, Marked, NoLimits, RefusesNone, admission, admitted_in, mark_at, marks_down, unless, unmarked};
+ghost use Rattle.cq_ideal.specs.Ideal.{count_for};
 ghost use Rattle.cq_ideal.specs.IdealRun.{ideal_run};
 ghost use Rattle.cq_ideal.specs.IdealSlot.{IdealState};
-ghost use Rattle.cq_ideal.specs.LimitedExample.{discard_admissions, discard_ran, discard_slots, first_come_all, limit_one};
+ghost use Rattle.cq_ideal.specs.LimitedExample.{discard_admissions, discard_ran, discard_refused, discard_slots, first_come_all, limit_one};
 ghost use Rattle.cq_ideal.specs.LimitedFlows.{FlowsLeaveInPackets};
 ghost use Rattle.cq_ideal.specs.LimitedIdeal.{empty_limited, IsRunOfAdmitted, LimitedRan, limited_run, unlimited};
+ghost use Rattle.cq_ideal.specs.Refused.{AreAllZero, cells_refused, refused_counts, refused_in, with_refused};
 ghost use Rattle.cq_ideal.specs.WholePackets.{AreJudged, AreOfPackets, AreWholePackets, cells_at};
 
 /// A run with limits is the run without limits of the arrivals that it admits, slot by slot. So what is said of
@@ -56,11 +58,22 @@ pub fn nothing_is_refused_without_limits()
         unlimited (limited_run limits ms slot traffic (unmarked ports state)) ≡ ideal_run ms slot traffic state }
 {}
 
+/// What was refused in a run, at each output that has a limit, is what was refused in its slots, one after
+/// another. And each cell that comes is admitted, or is counted among those that were refused at its output.
+pub fn refused_counts_add_up()
+    ensures none { (limits : List (Option ℕ)) → AreAllZero (refused_counts limits []) }
+    ensures more { (limits : List (Option ℕ)) (before now : List Cell) →
+        refused_counts limits (before ++ now) ≡ with_refused now (refused_counts limits before) }
+    ensures one_more { (admissions : List Admission) (a : Admission) → refused_in (admissions ++ a ∷ []) ≡ refused_in admissions ++ a.refused }
+    ensures each_once { (limits : List (Option ℕ)) (held : List ℕ) (marks : List Bool) (cells : List (Option Cell)) (j : ℕ) →
+        count_for j cells ≡ count_for j (admission limits held marks cells).cells + cells_refused j (admission limits held marks cells).refused }
+{}
+
 /// Three slots worked out by hand, with limit 1 at output 0. It is full for a packet that comes in the same slot
-/// behind one that it admitted, a packet that is refused is refused to its last cell though the output is
-/// empty again, and the next packet is judged anew.
+/// behind a cell that it admitted. The second cell of that packet is refused too, though the output is empty
+/// again, and the second cell of one that was admitted is admitted, though it is full. The next packet of an
+/// input is judged anew.
 pub fn worked_discard()
     ensures run { limited_run limit_one first_come_all 0 discard_slots (empty_limited 3 ([] ∷ [] ∷ [] ∷ [])) ≡ Ok discard_ran }
-    ensures packets { packets_refused 0 (flat_map (λ a. a.refused) discard_admissions) ≡ 2 }
-    ensures cells { cells_refused 0 (flat_map (λ a. a.refused) discard_admissions) ≡ 3 }
+    ensures refused { refused_counts limit_one (refused_in discard_admissions) ≡ discard_refused }
 {}

@@ -1,4 +1,4 @@
-use Rattle.std.proofs.Common.{◌+◌, arith, sym}
+use Rattle.std.proofs.Common.{arith}
 use Rattle.cq_ideal.proofs.Judging.{judged_next}
 use Rattle.cq_ideal.proofs.TakenIn.{from_input}
 use Rattle.cq_ideal.proofs.judge.judge.Goals as goal
