@@ -17,6 +17,7 @@ pub mod LimitedWhole
 pub mod Weaker
 pub mod NothingRefused
 pub mod InputBest
+pub mod ActingAlike
 pub mod NoChoice
 pub mod OneRun
 pub mod AddingUp

@@ -4,6 +4,8 @@ ghost use Rattle.std.specs.List.{AllByRecursion};
 ghost use Rattle.cq_base.specs.declared.cell.Cell.{Cell};
 ghost use Rattle.cq_base.specs.declared.cell.TagFault.{TagFault};
 ghost use Rattle.cq_rank.specs.Machine.{Machine};
+ghost use Rattle.cq_ideal.specs.Admission.{Marked};
+ghost use Rattle.cq_ideal.specs.LimitedIdeal.{empty_limited};
 ghost use Rattle.cq_ideal.specs.Ranking.{ranking, AreForPorts};
 ghost use Rattle.cq_ideal.specs.IdealSlot.{IdealState, ideal_slot};
 ghost use Rattle.cq_ideal.specs.IdealRun.{ideal_run, empty_ideal};
@@ -13,12 +15,16 @@ ghost use Rattle.cq_laws.specs.Slack.{HasSlack};
 ghost use Rattle.cq_laws.specs.FabricSlot.{SlotRecord, FabricSlot};
 ghost use Rattle.cq_laws.specs.FabricRun.{FabricRun, FabricStops};
 ghost use Rattle.cq_laws.specs.Agreement.{Agrees, SendsAlike, RunsAlike, IsEmptyIdeal};
+ghost use Rattle.cq_laws.specs.LimitedFabric.{LimitedFabricRun, LimitedRecord, empty_limited_fabric};
+ghost use Rattle.cq_laws.specs.LimitedAgreement.{ActAlike, ActAlikeFromEmpty, LimitedAgrees};
 
-/// From states that agree, the ideal switch and the fabric with input-best matchings send the same in a slot
-/// and agree again, or have the same tag fault. So over whole runs, from empty states on, they send the same,
-/// or stop at the same fault.
+/// From states that agree, the ideal switch and the fabric with input-best matchings admit, refuse and send the
+/// same in a slot and agree again, or have the same tag fault. So over whole runs, from empty states on, they
+/// send and refuse the same, or stop at the same fault.
 pub fn same_departures()
-    // a slot, from any states that agree
+    ensures limited { (limits : List (Option ℕ)) (ms : List Machine) → ActAlike IsInputBest limits ms }
+    ensures limited_runs { (limits : List (Option ℕ)) (ms : List Machine) → ActAlikeFromEmpty IsInputBest limits ms }
+    // the same of switches that know no limits: a slot, from any states that agree
     ensures slot { (ms : List Machine) (slot class_count : ℕ) (cells : List (Option Cell)) (f g : Fabric) (ideal : IdealState) (r : SlotRecord) →
         Agrees slot f ideal → AreForPorts (length f.inputs) class_count cells →
         FabricSlot IsInputBest ms slot cells f r g → SendsAlike ms slot cells ideal r.gone g }
@@ -36,6 +42,12 @@ pub fn same_departures()
 /// The same with any stable matchings, input-best or not, and from any states that agree; and after the
 /// arrivals of each slot no cell's input thread exceeds its output cushion.
 pub fn any_stable_matching()
+    ensures limited { (limits : List (Option ℕ)) (ms : List Machine) → ActAlike IsStable limits ms }
+    ensures limited_slack { (limits : List (Option ℕ)) (ms : List Machine) (slot class_count : ℕ) (traffic : List (List (Option Cell))) (f g : Marked Fabric) (ideal : Marked IdealState) (rs : List LimitedRecord) →
+        LimitedAgrees slot f ideal → AllByRecursion (AreForPorts (length f.state.inputs) class_count) traffic →
+        LimitedFabricRun IsStable limits ms slot traffic f rs g → AllByRecursion (λ r. HasSlack 0 r.of_slot.arrived) rs }
+    ensures limited_begin { (ports : ℕ) (ranks : List (List ℕ)) → LimitedAgrees 0 (empty_limited_fabric ports ranks) (empty_limited ports ranks) }
+    // the same of switches that know no limits
     ensures slot { (ms : List Machine) (slot class_count : ℕ) (cells : List (Option Cell)) (f g : Fabric) (ideal : IdealState) (r : SlotRecord) →
         Agrees slot f ideal → AreForPorts (length f.inputs) class_count cells →
         FabricSlot IsStable ms slot cells f r g → SendsAlike ms slot cells ideal r.gone g }

@@ -15,14 +15,14 @@ mod quiet;
 mod runs;
 mod slack;
 
+pub use cq_ideal::Refused;
 pub use emulation::{any_stable_matching, empty_together, same_departures};
 pub use example::worked_run;
 pub use figures::figures_add_up;
 pub use least_slack::{least_slack_is_on_arrival, slack_never_falls};
 pub use limits::{
-    any_stable_matching_with_limits, limited_runs_are_of_admitted, one_run_with_limits,
-    outputs_hold_as_many, quiet_slots_leave_marks, runs_with_limits_go_on,
-    runs_without_limits_are_as_before, same_departures_with_limits,
+    limited_runs_are_of_admitted, outputs_hold_as_many, quiet_slots_leave_marks,
+    runs_without_limits_are_as_before,
 };
 pub use quiet::quiet_slots_add_nothing;
 pub use runs::{input_best_is_stable, one_run, runs_go_on};

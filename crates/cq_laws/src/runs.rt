@@ -7,10 +7,14 @@ ghost use Rattle.cq_prefs.specs.Pairing.{IsStable, IsInputBest};
 ghost use Rattle.cq_laws.specs.Fabric.{Fabric};
 ghost use Rattle.cq_laws.specs.FabricSlot.{SlotRecord, FabricSlot};
 ghost use Rattle.cq_laws.specs.FabricRun.{FabricRun, FabricStops, RunsGoOn};
+ghost use Rattle.cq_laws.specs.LimitedFabric.{IsLimitedFault, LimitedFabricSlot};
+ghost use Rattle.cq_laws.specs.SlotBySlot.{GoOn, IsOneRun};
 
-/// A state and what arrives leave one run with input-best matchings, if there is one: its records, and its
-/// end or its tag fault.
+/// A state, its marks and what arrives leave one run with input-best matchings, if there is one: its records,
+/// and its end or its tag fault.
 pub fn one_run()
+    ensures limited { (limits : List (Option ℕ)) (ms : List Machine) → IsOneRun (LimitedFabricSlot IsInputBest limits ms) (IsLimitedFault limits ms) }
+    // the same of a fabric that knows no limits
     ensures slot { (ms : List Machine) (slot : ℕ) (cells : List (Option Cell)) (f g h : Fabric) (r s : SlotRecord) →
         FabricSlot IsInputBest ms slot cells f r g → FabricSlot IsInputBest ms slot cells f s h → (r ≡ s) × (g ≡ h) }
     ensures run { (ms : List Machine) (slot : ℕ) (traffic : List (List (Option Cell))) (f g h : Fabric) (rs ss : List SlotRecord) →
@@ -33,6 +37,9 @@ pub fn input_best_is_stable()
 
 /// Where a run ended another goes on, whether its matchings are input-best or any stable ones.
 pub fn runs_go_on()
+    ensures limited_input_best { (limits : List (Option ℕ)) (ms : List Machine) → GoOn (LimitedFabricSlot IsInputBest limits ms) (IsLimitedFault limits ms) }
+    ensures limited_stable { (limits : List (Option ℕ)) (ms : List Machine) → GoOn (LimitedFabricSlot IsStable limits ms) (IsLimitedFault limits ms) }
+    // the same of a fabric that knows no limits
     ensures input_best { RunsGoOn IsInputBest }
     ensures stable { RunsGoOn IsStable }
 {}

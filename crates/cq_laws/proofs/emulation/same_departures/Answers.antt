@@ -1,7 +1,14 @@
+use Rattle.cq_laws.proofs.ActingAlike.{best_act_alike, best_act_alike_from_empty}
 use Rattle.cq_laws.proofs.InputBest.{stable_slot, stable_run, stable_stop}
 use Rattle.cq_laws.proofs.OneSlot.{same_slot, same_fault}
 use Rattle.cq_laws.proofs.WholeRuns.{run_from_empty, stop_from_empty}
 use Rattle.cq_laws.proofs.emulation.same_departures.Goals as goal
+
+pub returns-clause-limited : goal.returns-clause-limited
+returns-clause-limited c = best_act_alike
+
+pub returns-clause-limited_runs : goal.returns-clause-limited_runs
+returns-clause-limited_runs c = best_act_alike_from_empty
 
 pub returns-clause-slot : goal.returns-clause-slot
 returns-clause-slot c = λ ms slot class_count cells f g ideal r agrees come step. same_slot ms slot class_count cells f g ideal r agrees come (stable_slot ms slot cells f g r step)

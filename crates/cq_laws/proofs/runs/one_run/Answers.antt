@@ -1,5 +1,8 @@
-use Rattle.cq_laws.proofs.OneRun.{only_run}
+use Rattle.cq_laws.proofs.OneRun.{only_limited_run, only_run}
 use Rattle.cq_laws.proofs.runs.one_run.Goals as goal
+
+pub returns-clause-limited : goal.returns-clause-limited
+returns-clause-limited c = λ limits ms. only_limited_run ms limits
 
 pub returns-clause-slot : goal.returns-clause-slot
 returns-clause-slot c = λ ms. (only_run ms).slot

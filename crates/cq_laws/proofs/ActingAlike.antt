@@ -1,0 +1,71 @@
+-- Both switches act alike, whatever the limits: with stable matchings, and so with input-best ones. From empty states on they
+-- refuse as much at each output, since their admissions are the same.
+use Rattle.std.proofs.Common.{◌≡◌, ℕ, List, Option, Result, Ok, sym, ap, ◌∙◌}
+use Rattle.std.specs.List.{AllByRecursion}
+use Rattle.cq_base.specs.declared.cell.Cell.{Cell}
+use Rattle.cq_base.specs.declared.cell.TagFault.{TagFault}
+use Rattle.cq_rank.specs.Machine.{Machine}
+use Rattle.cq_ideal.specs.Admission.{Admission, Marked}
+use Rattle.cq_ideal.specs.LimitedIdeal.{LimitedRan, empty_limited, limited_run}
+use Rattle.cq_ideal.specs.Ranking.{AreForPorts}
+use Rattle.cq_ideal.specs.Refused.{refused_counts, refused_in}
+use Rattle.cq_prefs.specs.Pairing.{IsInputBest, IsStable}
+use Rattle.cq_laws.specs.LimitedAgreement.{ActAlike, ActAlikeFromEmpty, LimitedRunsAlike}
+use Rattle.cq_laws.specs.Fabric.{Fabric}
+use Rattle.cq_laws.specs.LimitedFabric.{LimitedFabricRun, LimitedRecord, empty_limited_fabric}
+use Rattle.cq_laws.proofs.InputBest.{stable_limited_slot, stable_limited_run, stable_limited_stop}
+use Rattle.cq_laws.proofs.LimitedSlots.{same_limited_slot, same_limited_fault}
+use Rattle.cq_laws.proofs.LimitedWhole.{begin, same_limited_run, same_limited_stop}
+
+same_admissions : (a b : LimitedRan) (x : Result LimitedRan TagFault) → x ≡ Ok a → x ≡ Ok b → a.admissions ≡ b.admissions
+same_admissions a b x e f =
+    let ok : ◌≡◌ {A = Result LimitedRan TagFault} (Ok a) (Ok b) = sym e ∙ f in
+    let is : a ≡ b = cc in ap (λ (r : LimitedRan). r.admissions) is
+
+module _ (limits : List (Option ℕ)) (ms : List Machine) where
+  pub stable_act_alike : ActAlike IsStable limits ms
+  stable_act_alike =
+      record {
+        slot = λ slot class_count cells f g ideal r agrees come step.
+            same_limited_slot limits ms slot class_count cells f g ideal r agrees come step;
+        fault = λ slot cells f ideal fault agrees. same_limited_fault limits ms slot cells f ideal fault agrees;
+        run = λ slot class_count traffic f g ideal rs agrees come run.
+            same_limited_run limits ms class_count slot traffic f g ideal rs (record { agrees = agrees; come = come }) run;
+        stop = λ slot class_count traffic f ideal rs fault agrees come run.
+            same_limited_stop limits ms class_count slot traffic f ideal rs fault (record { agrees = agrees; come = come }) run;
+      }
+
+  pub best_act_alike : ActAlike IsInputBest limits ms
+  best_act_alike =
+      let stable = stable_act_alike in
+      record {
+        slot = λ slot class_count cells f g ideal r agrees come step.
+            stable.slot slot class_count cells f g ideal r agrees come (stable_limited_slot ms limits slot cells f g r step);
+        fault = stable.fault;
+        run = λ slot class_count traffic f g ideal rs agrees come run.
+            stable.run slot class_count traffic f g ideal rs agrees come (stable_limited_run ms limits slot traffic f g rs run);
+        stop = λ slot class_count traffic f ideal rs fault agrees come run.
+            stable.stop slot class_count traffic f ideal rs fault agrees come (stable_limited_stop ms limits slot traffic f rs fault run);
+      }
+
+  runs_from_empty : (ports class_count : ℕ) (ranks : List (List ℕ)) (traffic : List (List (Option Cell))) (rs : List LimitedRecord) (g : Marked Fabric) →
+      AllByRecursion (AreForPorts ports class_count) traffic →
+      LimitedFabricRun IsInputBest limits ms 0 traffic (empty_limited_fabric ports ranks) rs g →
+      LimitedRunsAlike limits ms 0 traffic (empty_limited ports ranks) rs g
+  runs_from_empty ports class_count ranks traffic rs g come run =
+      let start = begin limits ms class_count ports ranks traffic come in
+      best_act_alike.run 0 class_count traffic _ g _ rs start.agrees start.come run
+
+  pub best_act_alike_from_empty : ActAlikeFromEmpty IsInputBest limits ms
+  best_act_alike_from_empty =
+      record {
+        run = runs_from_empty;
+        stop = λ ports class_count ranks traffic rs fault come run.
+            let start = begin limits ms class_count ports ranks traffic come in
+            best_act_alike.stop 0 class_count traffic _ _ rs fault start.agrees start.come run;
+        refused = λ ports class_count ranks traffic rs g ran come run is.
+            let alike = runs_from_empty ports class_count ranks traffic rs g come run in
+            let whole = limited_run limits ms 0 traffic (empty_limited ports ranks) in
+            ap (λ (admissions : List Admission). refused_counts limits (refused_in admissions))
+            (same_admissions _ ran whole alike.ran is);
+      }
