@@ -1,7 +1,7 @@
 -- Admission, input by input. The mark of an input after a slot says what became of its arrival, and without a first cell it is
 -- the mark of before. So what is admitted arrives; and where no mark is up and no output has a limit all is admitted, as where
 -- nothing arrives.
-use Rattle.std.proofs.Common.{◌≡◌, ℕ, zero, suc, Bool, true, false, List, [], ◌∷◌, replicate, Option, Some, None, refl, sym, ap, ◌∙◌}
+use Rattle.std.proofs.Common.{◌≡◌, ℕ, zero, suc, Bool, true, false, List, [], ◌∷◌, length, replicate, Option, Some, None, refl, sym, ap, ◌∙◌}
 use Rattle.std.specs.Prelude.{slice_index_or}
 use Rattle.std.proofs.lemmas.Bool.{cond_both}
 use Rattle.cq_base.specs.declared.cell.Cell.{Cell}
@@ -38,6 +38,12 @@ admitted_for_ports ports classes marks cells are =
       outputs = λ i cell h. are.outputs i cell (admitted_arrives marks cells i cell h);
       classes = λ i cell h. are.classes i cell (admitted_arrives marks cells i cell h);
     }
+
+-- each input keeps one mark
+pub marks_kept : (limits : List (Option ℕ)) (held : List ℕ) (marks : List Bool) (cells : List (Option Cell)) → length (marks_after limits held marks cells) ≡ length marks
+marks_kept limits held [] cells = refl
+marks_kept limits held (mark ∷ marks) [] = refl
+marks_kept limits held (mark ∷ marks) (cell ∷ cells) = ap suc (marks_kept limits (held_after (mark_after limits held mark cell) held cell) marks cells)
 
 -- ## Without limits
 

@@ -33,7 +33,7 @@ module _ (ms : List Machine) (gone : List (Option Queued)) (slot : ℕ) (old new
   same_input : (i : ℕ) (c : Queued) → IsAmong c (input new i) → IsAmong c (input old i)
   same_input i c h = subst (λ l. IsAmong c (list_of l i)) depart.inputs h
 
-  sent_fabric : IsFabric old → IsFabric new
+  pub sent_fabric : IsFabric old → IsFabric new
   unfolding was_crossed same_input
   sent_fabric fabric =
       record {

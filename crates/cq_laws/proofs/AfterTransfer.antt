@@ -34,81 +34,87 @@ order_taken : (p : Option ℕ) (xs : List Queued) → KeepsOrder xs → KeepsOrd
 order_taken None xs e = e
 order_taken (Some k) xs e = each_pair_left _ k xs e
 
-module _ (slot : ℕ) (old new : Fabric) (m : Partners) (sound : Sound slot old) (stable : IsStable (orders_of old.inputs) m) (moves : Transfers m old new) where
+module _ (old new : Fabric) (m : Partners) (fabric : IsFabric old) (order : ListsKeepOrder old) (apart : Apart old) (stable : IsStable (orders_of old.inputs) m) (moves : Transfers m old new) where
   are : AreOrdersOf old.inputs (orders_of old.inputs)
-  are = orders_are old sound.apart
+  are = orders_are old apart
 
   moved_order : ListsKeepOrder new
-  moved_order i = subst KeepsOrder (sym (moves.moves.taken i)) (order_taken (partner_of m i) (input old i) (sound.order i))
+  moved_order i = subst KeepsOrder (sym (moves.moves.taken i)) (order_taken (partner_of m i) (input old i) (order i))
 
   from_buffer : (j : ℕ) (c : Queued) → IsAmong c (buffer new j) → IsAmong c (buffer old j) ⊎ ((i : ℕ) × (partner_of m i ≡ Some j) × (first_for j (input old i) ≡ Some c))
-  from_buffer = buffer_from old new (orders_of old.inputs) m sound.order sound.fabric are stable moves
+  from_buffer = buffer_from old new (orders_of old.inputs) m order fabric are stable moves
 
   was_waiting : (i : ℕ) (c : Queued) → IsAmong c (input new i) → IsAmong c (input old i)
-  was_waiting = input_from old new (orders_of old.inputs) m sound.order sound.fabric are stable moves
+  was_waiting = input_from old new (orders_of old.inputs) m order fabric are stable moves
 
   -- a cell that crossed waits nowhere
   moved_waits : (i r j : ℕ) (c f : Queued) → IsAmong c (input new i) → partner_of m r ≡ Some j → first_for j (input old r) ≡ Some f → c.key ≢ f.key
   unfolding was_waiting
   moved_waits i r j c f h p is e =
-      let same = sound.apart.waiting i r c f (was_waiting i c h) (from_first j (input old r) f is).0 e in
+      let same = apart.waiting i r c f (was_waiting i c h) (from_first j (input old r) f is).0 e in
       let here : IsAmong f (input new r) = subst (λ n. IsAmong f (input new n)) same.0 (subst (λ q. IsAmong q (input new i)) same.1 h) in
-      not_left j (input old r) f (sound.order r) is (subst (IsAmong f) (moves.moves.taken r ∙ ap (λ q. list_taken q (input old r)) p) here)
+      not_left j (input old r) f (order r) is (subst (IsAmong f) (moves.moves.taken r ∙ ap (λ q. list_taken q (input old r)) p) here)
 
   moved_apart : Apart new
   unfolding from_buffer was_waiting moved_waits
   moved_apart =
       record {
-        waiting = λ i k c d a b e. sound.apart.waiting i k c d (was_waiting i c a) (was_waiting k d b) e;
-        between = λ i j c d a b e. ⊎_elim (λ y. sound.apart.between i j c d (was_waiting i c a) y e) (λ y. moved_waits i y.0 j c d a y.1 y.2 e) (from_buffer j d b);
+        waiting = λ i k c d a b e. apart.waiting i k c d (was_waiting i c a) (was_waiting k d b) e;
+        between = λ i j c d a b e. ⊎_elim (λ y. apart.between i j c d (was_waiting i c a) y e) (λ y. moved_waits i y.0 j c d a y.1 y.2 e) (from_buffer j d b);
         crossed = λ j l c d a b e.
             ⊎_elim
-            (λ x. ⊎_elim (λ y. sound.apart.crossed j l c d x y e) (λ y. absurd (sound.apart.between y.0 j d c (from_first l (input old y.0) d y.2).0 x (sym e))) (from_buffer l d b))
+            (λ x. ⊎_elim (λ y. apart.crossed j l c d x y e) (λ y. absurd (apart.between y.0 j d c (from_first l (input old y.0) d y.2).0 x (sym e))) (from_buffer l d b))
             (λ x. ⊎_elim
-            (λ y. absurd (sound.apart.between x.0 l c d (from_first j (input old x.0) c x.2).0 y e))
-            (λ y. (sound.apart.waiting x.0 y.0 c d (from_first j (input old x.0) c x.2).0 (from_first l (input old y.0) d y.2).0 e).1)
+            (λ y. absurd (apart.between x.0 l c d (from_first j (input old x.0) c x.2).0 y e))
+            (λ y. (apart.waiting x.0 y.0 c d (from_first j (input old x.0) c x.2).0 (from_first l (input old y.0) d y.2).0 e).1)
             (from_buffer l d b))
             (from_buffer j c a);
       }
 
-  moved_early : Early slot new
-  unfolding from_buffer was_waiting
-  moved_early =
-      record {
-        waiting = λ i c h. sound.early.waiting i c (was_waiting i c h);
-        crossed = λ j c h. ⊎_elim (λ k. sound.early.crossed j c k) (λ r. sound.early.waiting r.0 c (from_first j (input old r.0) c r.2).0) (from_buffer j c h);
-      }
-
-  moved_fabric : IsFabric new
+  pub moved_fabric : IsFabric new
   unfolding from_buffer was_waiting
   moved_fabric =
       record {
-        square = moves.moves.ports.1 ∙ sound.fabric.square ∙ sym moves.moves.ports.0;
-        outputs = λ i c h. subst (λ n. c.cell.output < n) (sym moves.moves.ports.0) (sound.fabric.outputs i c (was_waiting i c h));
-        own = λ j c h. ⊎_elim (λ k. sound.fabric.own j c k) (λ r. (from_first j (input old r.0) c r.2).1) (from_buffer j c h);
+        square = moves.moves.ports.1 ∙ fabric.square ∙ sym moves.moves.ports.0;
+        outputs = λ i c h. subst (λ n. c.cell.output < n) (sym moves.moves.ports.0) (fabric.outputs i c (was_waiting i c h));
+        own = λ j c h. ⊎_elim (λ k. fabric.own j c k) (λ r. (from_first j (input old r.0) c r.2).1) (from_buffer j c h);
         rising = λ j.
             ⊎_elim
             (λ r.
-            let f = partner_offers old new (orders_of old.inputs) m sound.order sound.fabric are stable moves r.0 j r.1 in
-            subst IsRising (sym (moves.moves.given r.0 j f.0 r.1 f.1)) (rising_put f.0 (buffer old j) (sound.fabric.rising j) (λ d k e. sound.apart.between r.0 j f.0 d (from_first j (input old r.0) f.0 f.1).0 k e)))
-            (λ none. subst IsRising (sym (moves.moves.kept j none)) (sound.fabric.rising j))
+            let f = partner_offers old new (orders_of old.inputs) m order fabric are stable moves r.0 j r.1 in
+            subst IsRising (sym (moves.moves.given r.0 j f.0 r.1 f.1)) (rising_put f.0 (buffer old j) (fabric.rising j) (λ d k e. apart.between r.0 j f.0 d (from_first j (input old r.0) f.0 f.1).0 k e)))
+            (λ none. subst IsRising (sym (moves.moves.kept j none)) (fabric.rising j))
             (sender m j);
       }
 
+module _ (slot : ℕ) (old new : Fabric) (m : Partners) (sound : Sound slot old) (stable : IsStable (orders_of old.inputs) m) (moves : Transfers m old new) where
+  moved_early : Early slot new
+  moved_early =
+      record {
+        waiting = λ i c h. sound.early.waiting i c (was_waiting old new m sound.fabric sound.order sound.apart stable moves i c h);
+        crossed = λ j c h. ⊎_elim (λ k. sound.early.crossed j c k) (λ r. sound.early.waiting r.0 c (from_first j (input old r.0) c r.2).0) (from_buffer old new m sound.fabric sound.order sound.apart stable moves j c h);
+      }
+
   pub moved_sound : Sound slot new
-  moved_sound = record { fabric = moved_fabric; order = moved_order; apart = moved_apart; early = moved_early }
+  moved_sound =
+      record {
+        fabric = moved_fabric old new m sound.fabric sound.order sound.apart stable moves;
+        order = moved_order old new m sound.fabric sound.order sound.apart stable moves;
+        apart = moved_apart old new m sound.fabric sound.order sound.apart stable moves;
+        early = moved_early;
+      }
 
   pub moved_rises : EachRises 1 old new
-  moved_rises = matching_rises old new (orders_of old.inputs) m sound.order sound.fabric are stable moves
+  moved_rises = matching_rises old new (orders_of old.inputs) m sound.order sound.fabric (orders_are old sound.apart) stable moves
 
   pub moved_slack : (n : ℕ) → HasSlack n old → HasSlack (1 + n) new
-  moved_slack n slack = slack_risen old new (orders_of old.inputs) m sound.order sound.fabric are stable moves n slack
+  moved_slack n slack = slack_risen old new (orders_of old.inputs) m sound.order sound.fabric (orders_are old sound.apart) stable moves n slack
 
   pub has_moved : (j : ℕ) (c : Queued) → HasFor old j c → HasFor new j c
-  has_moved = has_after old new (orders_of old.inputs) m sound.order sound.fabric are stable moves
+  has_moved = has_after old new (orders_of old.inputs) m sound.order sound.fabric (orders_are old sound.apart) stable moves
 
   pub moved_has : (j : ℕ) (c : Queued) → HasFor new j c → HasFor old j c
-  moved_has = has_before old new (orders_of old.inputs) m sound.order sound.fabric are stable moves
+  moved_has = has_before old new (orders_of old.inputs) m sound.order sound.fabric (orders_are old sound.apart) stable moves
 
 -- ## The two laws, of states as they are said by places
 

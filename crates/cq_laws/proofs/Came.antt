@@ -1,5 +1,5 @@
 -- What ranking gives: each cell that came has the slot, the input at which it came, and is the one that arrived there.
-use Rattle.std.proofs.Common.{◌≡◌, ℕ, zero, suc, ◌+◌, Bool, true, false, cond, List, [], ◌∷◌, Option, Some, None, Result, Ok, Err, refl, sym, ap, ◌∙◌, arith}
+use Rattle.std.proofs.Common.{◌≡◌, ℕ, zero, suc, ◌+◌, Bool, true, false, cond, List, [], ◌∷◌, length, Option, Some, None, Result, Ok, Err, refl, sym, ap, ◌∙◌, arith, length-set}
 use Rattle.std.proofs.lemmas.Option.{same_Some}
 use Rattle.cq_base.specs.declared.cell.Cell.{Cell}
 use Rattle.cq_base.specs.declared.cell.Queued.{Queued}
@@ -59,3 +59,14 @@ keyed_from ms slot ports class_count cells ranks r h are =
       input_is = λ k q e. let is = (came_from ms slot 0 cells ranks r h k q e).input_is in omega arith;
       outputs = λ k q e. are.outputs k q.cell (came_from ms slot 0 cells ranks r h k q e).cell_is;
     }
+
+-- and there are as many rank states as before
+pub ranks_kept : (ms : List Machine) (slot i : ℕ) (cells : List (Option Cell)) (ranks : List (List ℕ)) (r : Ranking) → ranking ms slot i cells ranks ≡ Ok r → length r.ranks ≡ length ranks
+ranks_kept ms slot i [] ranks r h =
+    let is : record { came = []; ranks = ranks } ≡ r = cc in ap (λ (x : Ranking). length x.ranks) (sym is)
+ranks_kept ms slot i (None ∷ cells) ranks r h =
+    let w = after_input_ok None _ r h in
+    ap (λ (x : Ranking). length x.ranks) (sym w.2) ∙ ranks_kept ms slot (i + 1) cells ranks w.0 w.1
+ranks_kept ms slot i (Some cell ∷ cells) ranks r h =
+    let w = after_input_ok _ _ r (guarded_ok _ _ _ r h) in
+    ap (λ (x : Ranking). length x.ranks) (sym w.2) ∙ ranks_kept ms slot (i + 1) cells _ w.0 w.1 ∙ length-set ranks cell.output _

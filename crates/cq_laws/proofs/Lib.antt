@@ -10,6 +10,7 @@ pub mod Came
 pub mod IdealLists
 pub mod Fronts
 pub mod OneSlot
+pub mod KeptWhole
 pub mod Held
 pub mod LimitedSlots
 pub mod WholeRuns

@@ -33,6 +33,11 @@ pub record IsFabric (f : Fabric) : Type 0 where
   pub own : (j : ℕ) (c : Queued) → IsAmong c (buffer f j) → c.cell.output ≡ j
   pub rising : (j : ℕ) → IsRising (buffer f j)
 
+-- and there is one rank state for each output
+pub record IsWholeFabric (f : Fabric) : Type 0 where
+  pub fabric : IsFabric f
+  pub ranks : length f.ranks ≡ length f.inputs
+
 -- in the list of each input the cells for one output stand in the order of their keys
 abbrev pub ListsKeepOrder : Fabric → Type 0
 ListsKeepOrder f = (i : ℕ) → KeepsOrder (input f i)

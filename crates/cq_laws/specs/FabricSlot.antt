@@ -6,7 +6,7 @@ use Rattle.cq_rank.specs.Machine.{Machine}
 use Rattle.cq_prefs.specs.Orders.{Orders}
 use Rattle.cq_prefs.specs.Pairing.{Partners}
 use Rattle.cq_prefs.specs.FirstCells.{orders_of}
-use Rattle.cq_laws.specs.Fabric.{Fabric}
+use Rattle.cq_laws.specs.Fabric.{Fabric, IsWholeFabric}
 use Rattle.cq_laws.specs.Phases.{Arrives, Transfers, Departs}
 
 -- what is recorded of a slot: the cells that arrived, with their keys, by input; the state after the arrivals; the first
@@ -31,3 +31,11 @@ pub record FabricSlot (MayChoose : Orders → Partners → Type 0) (ms : List Ma
   pub depart : Departs ms r.gone r.filled r.sent
   pub second_chosen : MayChoose (orders_of r.sent.inputs) r.second
   pub finish : Transfers r.second r.sent new
+
+-- the state is a fabric's at each moment of the slot
+pub record EachIsWhole (f : Fabric) (r : SlotRecord) (g : Fabric) : Type 0 where
+  pub old : IsWholeFabric f
+  pub arrived : IsWholeFabric r.arrived
+  pub filled : IsWholeFabric r.filled
+  pub sent : IsWholeFabric r.sent
+  pub new : IsWholeFabric g

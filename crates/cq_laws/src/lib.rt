@@ -11,6 +11,7 @@ mod example;
 mod figures;
 mod least_slack;
 mod limits;
+mod phases;
 mod quiet;
 mod runs;
 mod slack;
@@ -24,6 +25,7 @@ pub use limits::{
     limited_runs_are_of_admitted, outputs_hold_as_many, quiet_slots_leave_marks,
     runs_without_limits_are_as_before,
 };
+pub use phases::phases_keep_the_fabric;
 pub use quiet::quiet_slots_add_nothing;
 pub use runs::{input_best_is_stable, one_run, runs_go_on};
 pub use slack::{head_of_line, slack_after_arrivals, slack_after_departures, slack_after_matching};
