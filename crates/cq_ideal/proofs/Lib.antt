@@ -1,4 +1,6 @@
 pub mod Judging
+pub mod TakenIn
+pub mod Came
 pub mod Admitted
 pub mod LimitedRuns
 pub mod Packets
@@ -21,5 +23,5 @@ pub mod Refusals
 pub mod Sending
 pub mod Slot
 pub mod Spare
-pub mod TakenIn
+pub mod InTurn
 pub mod Whole

@@ -1,6 +1,6 @@
 -- The machine of one output among those of all. What stands at its place is read through the lists of all numbers and of
 -- all states, and a call that changes it changes these at its place alone.
-use Rattle.std.proofs.Common.{◌≡◌, ℕ, ◌<◌, List, [], length, map, get_or, set, sym, ap, ◌∙◌, arith}
+use Rattle.std.proofs.Common.{◌≡◌, ℕ, ◌<◌, List, [], length, map, get_or, set, sym, ap, ◌∙◌, arith, length-set}
 use Rattle.std.proofs.lemmas.List.{get_or-map, length-map, map-set}
 use Rattle.std.proofs.Math.Seq.{map-set_same}
 use Rattle.cq_rank.specs.Machine.{Machine, machine_at, first_come}
@@ -36,3 +36,6 @@ module _ {R : Type 0} (F S : R → List ℕ) (M : List ℕ → Machine) (items :
 
   pub states_same : (s : R) → S s ≡ S r → map S (set items o s) ≡ v.states
   states_same s e = map-set_same S items o s r (e ∙ ap S is) ∙ states_is
+
+  pub many_after : (s : R) → length (map S (set items o s)) ≡ length v.states
+  many_after s = length-map (set items o s) S ∙ length-set items o s ∙ sym (length-map items S) ∙ ap length states_is

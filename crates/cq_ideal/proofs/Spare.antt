@@ -9,11 +9,12 @@ use Rattle.cq_base.specs.declared.cell.TagFault.{TagFault}
 use Rattle.cq_rank.specs.Machine.{Machine, machine_at}
 use Rattle.cq_ideal.specs.Ideal.{IdealSwitch, HasRoomFor, SpareFollows, count_for}
 use Rattle.cq_ideal.specs.IdealSlot.{IdealState, Sent, ideal_slot, ideal_sends, filled, fronts, rests, put_all}
+use Rattle.cq_ideal.specs.Parts.{count_to}
 use Rattle.cq_ideal.specs.Ranking.{Ranking, ranking, after_input, keyed}
-use Rattle.cq_ideal.proofs.Whole.{count_to, length-put_all}
+use Rattle.cq_ideal.proofs.Whole.{length-put_all}
 
 -- the cells that are ranked are those that came
-ranked_for : (ms : List Machine) (slot input : ℕ) (cells : List (Option Cell)) (ranks : List (List ℕ)) (j : ℕ) → IfOk (ranking ms slot input cells ranks) (λ r. count_to j r.came ≡ count_for j cells)
+pub ranked_for : (ms : List Machine) (slot input : ℕ) (cells : List (Option Cell)) (ranks : List (List ℕ)) (j : ℕ) → IfOk (ranking ms slot input cells ranks) (λ r. count_to j r.came ≡ count_for j cells)
 ranked_for ms slot input [] ranks j = refl
 ranked_for ms slot input (None ∷ cells) ranks j = go (ranking ms slot (input + 1) cells ranks) (ranked_for ms slot (input + 1) cells ranks j)
   where
@@ -35,7 +36,7 @@ filled_at : (came : List (Option Queued)) (lists : List (List Queued)) (j : ℕ)
 unfolding filled
 filled_at came lists j inside = get_or-map-range_with_len (λ j. put_all j came (get_or lists j [])) 0 (length lists) j j [] inside (omega arith)
 
-length-filled : (came : List (Option Queued)) (lists : List (List Queued)) → length (filled came lists) ≡ length lists
+pub length-filled : (came : List (Option Queued)) (lists : List (List Queued)) → length (filled came lists) ≡ length lists
 unfolding filled
 length-filled came lists = length-map-range_with_len (λ j. put_all j came (get_or lists j [])) 0 (length lists)
 

@@ -20,6 +20,7 @@ use Rattle.cq_base.specs.Arrivals.{no_arrivals}
 use Rattle.cq_rank.specs.Machine.{Machine, machine_at}
 use Rattle.cq_ideal.specs.IdealSlot.{IdealState, Sent, ideal_slot, ideal_sends, filled, rests, put_all}
 use Rattle.cq_ideal.specs.IdealRun.{Ran, ideal_run, empty_ideal, then_ran}
+use Rattle.cq_ideal.specs.Parts.{count_to}
 use Rattle.cq_ideal.specs.Ranking.{Ranking, ranking, after_input, keyed}
 use Rattle.cq_ideal.proofs.FlowCount.{come_count-traffic_of, length-traffic_of, quiet_at_end}
 use Rattle.cq_ideal.proofs.FlowRank.{present}
@@ -148,12 +149,6 @@ waiting (xs ∷ lists) = length xs + waiting lists
 waiting-map : (f : ℕ → List Queued) (is : List ℕ) → waiting (map f is) ≡ sum_of (λ i. length (f i)) is
 waiting-map f [] = refl
 waiting-map f (i ∷ is) = ap (λ n. length (f i) + n) (waiting-map f is)
-
--- how many of the cells are for output j
-abbrev pub count_to : ℕ → List (Option Queued) → ℕ
-count_to j [] = 0
-count_to j (None ∷ came) = count_to j came
-count_to j (Some q ∷ came) = bit (is_for j q) + count_to j came
 
 pub length-put_all : (j : ℕ) (came : List (Option Queued)) (xs : List Queued) → length (put_all j came xs) ≡ length xs + count_to j came
 length-put_all j [] xs = omega arith

@@ -1,15 +1,13 @@
--- What clauses see of the parts of an ideal switch, and how they take in the cells of a slot, one after another.
-use Rattle.std.specs.Prelude.{◌≡◌, ℕ, ◌+◌, ◌-◌, ◌^◌, ◌<◌, ◌≤◌, length, slice_index, nat_lt, false, if◌then◌else◌, List, [], ◌∷◌, Option, Some, None, Result, Ok, Err, slice_set, slice_index_or}
-use Rattle.cq_base.specs.declared.cell.Cell.{Cell}
+-- What clauses see of the parts of an ideal switch, and of the cells of a slot that go through them.
+use Rattle.std.specs.Prelude.{◌≡◌, ℕ, ◌+◌, ◌-◌, ◌<◌, ◌≤◌, length, slice_index, false, if◌then◌else◌, List, [], ◌∷◌, Option, Some, None, Result, slice_set, slice_index_or}
 use Rattle.cq_base.specs.declared.cell.Queued.{Queued}
 use Rattle.cq_base.specs.declared.cell.TagFault.{TagFault}
-use Rattle.cq_base.specs.Cells.{EachPair, put}
+use Rattle.cq_base.specs.Cells.{EachPair, is_for, put}
 use Rattle.cq_base.specs.Key.{is_before}
 use Rattle.cq_rank.specs.Machine.{Machine, machine_at}
 use Rattle.cq_rank.specs.Switch.{AreForOneSwitch}
-use Rattle.cq_ideal.specs.Ideal.{count_for}
 use Rattle.cq_ideal.specs.IdealSlot.{IdealState}
-use Rattle.cq_ideal.specs.Ranking.{keyed}
+use Rattle.cq_ideal.specs.Ranking.{Ranking, after_input}
 
 -- the rank machines: the numbers that give them, and their states
 pub record RanksView : Type 0 where
@@ -62,24 +60,31 @@ pub record FitTogether (ms : List Machine) (ranks : RanksView) (queues : QueuesV
 abbrev pub AreWithinRooms : QueuesView → Type 0
 AreWithinRooms queues = (j : ℕ) → length (list_at queues.lists j) ≤ slice_index queues.rooms j
 
--- each list has room for the cells that arrive for it
-abbrev pub HaveRoomFor : List (Option Cell) → QueuesView → Type 0
-HaveRoomFor cells queues = (j : ℕ) → j < length queues.rooms → count_for j cells ≤ slice_index queues.rooms j - length (list_at queues.lists j)
+-- ## The cells of a slot
 
--- the state after a cell was ranked and put into the list of its output
-abbrev pub arrived : List Machine → ℕ → ℕ → Cell → IdealState → Result IdealState TagFault
-arrived ms slot input cell s =
-    let rank = rank_at ms s.ranks cell.output cell.class in
-    if nat_lt rank (2 ^ 128) then Ok (record { lists = with_cell (keyed cell rank slot input) s.lists; ranks = given_at ms s.ranks cell.output cell.class })
-    else Err (record { slot = slot; input = input; output = cell.output })
+-- a ranking, with what came to the inputs before it in front
+abbrev pub after_inputs : List (Option Queued) → Result Ranking TagFault → Result Ranking TagFault
+after_inputs [] x = x
+after_inputs (q ∷ came) x = after_input q (after_inputs came x)
 
--- what follows where the first went well
-abbrev pub and_then : Result IdealState TagFault → (IdealState → Result IdealState TagFault) → Result IdealState TagFault
-and_then (Ok s) next = next s
-and_then (Err fault) next = Err fault
+-- the lists with the cell that came to an input, if one did
+abbrev pub with_came : Option Queued → List (List Queued) → List (List Queued)
+with_came None lists = lists
+with_came (Some q) lists = with_cell q lists
 
--- the state after the cells that arrive from this input on were taken in, one after another
-unfoldable pub taken_in : List Machine → ℕ → ℕ → List (Option Cell) → IdealState → Result IdealState TagFault
-taken_in ms slot input [] s = Ok s
-taken_in ms slot input (None ∷ cells) s = taken_in ms slot (input + 1) cells s
-taken_in ms slot input (Some cell ∷ cells) s = and_then (arrived ms slot input cell s) (λ t. taken_in ms slot (input + 1) cells t)
+-- how many of the cells that came are for output j
+abbrev pub count_to : ℕ → List (Option Queued) → ℕ
+count_to j [] = 0
+count_to j (None ∷ came) = count_to j came
+count_to j (Some q ∷ came) = (if is_for j q then 1 else 0) + count_to j came
+
+-- each cell came to one of the ports, and is for one of them
+pub record CameToPorts (ports : ℕ) (came : List (Option Queued)) : Type 0 where
+  pub places : length came ≡ 64
+  pub inputs : (k : ℕ) (q : Queued) → slice_index_or came k None ≡ Some q → k < ports
+  pub outputs : (k : ℕ) (q : Queued) → slice_index_or came k None ≡ Some q → q.cell.output < ports
+
+-- each list has room for the cells that came for it
+abbrev pub HaveRoomFor : List (Option Queued) → QueuesView → Type 0
+HaveRoomFor came queues =
+    (j : ℕ) → j < length queues.rooms → count_to j came ≤ slice_index queues.rooms j - length (list_at queues.lists j)

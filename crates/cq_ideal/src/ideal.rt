@@ -6,10 +6,9 @@ ghost use Rattle.cq_ideal.specs.IdealRun.{empty_ideal};
 ghost use Rattle.cq_ideal.specs.IdealSlot.{ideal_slot};
 ghost use Rattle.cq_ideal.specs.Ranking.{AreForPorts};
 
-use crate::queues::Queues;
+use crate::queues::{Queues, nobody};
 use crate::ranks::Ranks;
 use crate::send::send;
-use crate::take_in::take_in;
 use cq_base::{Arrivals, Departure, NoMemory, Room, Slot, TagFault};
 use cq_rank::Rank;
 use std::alloc::Global;
@@ -65,8 +64,8 @@ impl<R: Rank> Ideal<R> {
     /// are put at the end of `sent`, in order of output. Each cell that arrives lowers the spare of its list
     /// by one, and each that leaves raises it by one. It takes no memory.
     ///
-    /// The error is the first rank, in order of input, that does not fit 128 bits. Then `sent` and the next
-    /// slot are as before, and the switch is stopped.
+    /// The error is the first rank, in order of input, that does not fit 128 bits. Then `sent`, the lists and the
+    /// next slot are as before, and the switch is stopped.
     pub fn slot(
         &mut self,
         slot: Slot,
@@ -88,12 +87,15 @@ impl<R: Rank> Ideal<R> {
         ensures rooms { self.new.rooms ≡ self.old.rooms }
         ensures stopped { self.new.stopped ≡ is_err result }
         ensures unsent { OnErr result (sent.new ≡ sent.old) }
+        ensures lists_stay { OnErr result (self.new.state.lists ≡ self.old.state.lists) }
         ensures next_stays { OnErr result (self.new.next ≡ self.old.next) }
     {
-        if let Err(fault) = take_in(&mut self.ranks, &mut self.queues, slot, arrivals) {
+        let mut came = nobody();
+        if let Err(fault) = self.ranks.take(slot, arrivals, &mut came) {
             self.stopped = true;
             return Err(fault);
         }
+        self.queues.arrive(&came);
         send(&mut self.ranks, &mut self.queues, slot, sent);
         self.next = slot + 1;
         Ok(())

@@ -15,7 +15,6 @@ mod queues;
 mod ranks;
 mod refused;
 mod send;
-mod take_in;
 #[cfg(test)]
 mod tests;
 

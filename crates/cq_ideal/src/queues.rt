@@ -1,7 +1,8 @@
 //! The lists of all outputs.
-ghost use Rattle.std.specs.Prelude.{◌≡◌, ◌<◌, ◌≤◌, ◌==◌, ◌↔◌, IsTrue, All, IfOk, [], drop, length, replicate, slice_get, slice_index, slice_set};
+ghost use Rattle.std.specs.Prelude.{◌≡◌, ◌<◌, ◌≤◌, ◌==◌, ◌↔◌, IsTrue, All, IfOk, IfSome, None, [], drop, length, replicate, slice_get, slice_index, slice_set};
 ghost use Rattle.std.specs.List.{list_all};
-ghost use Rattle.cq_ideal.specs.Parts.{AreWithinRooms, list_at, with_cell};
+ghost use Rattle.cq_ideal.specs.IdealSlot.{filled};
+ghost use Rattle.cq_ideal.specs.Parts.{AreWithinRooms, CameToPorts, HaveRoomFor, list_at, with_came, with_cell};
 
 use crate::queue::Queue;
 use cq_base::{NoMemory, Port, Queued};
@@ -30,6 +31,13 @@ fn none_wait(queues: &[Queue]) -> bool
     ensures { result ≡ list_all (λ q. length q.cells == 0) queues.now }
 {
     queues.iter().all(|queue| queue.is_empty())
+}
+
+/// No cell in any of 64 places.
+pub fn nobody() -> [Option<Queued>; 64]
+    ensures { result ≡ replicate 64 None }
+{
+    [None; 64]
 }
 
 impl Queues {
@@ -62,6 +70,34 @@ impl Queues {
         ensures rooms { self.new.rooms ≡ self.old.rooms }
     {
         self.queues[queued.cell.output as usize].put(queued);
+    }
+
+    // Puts the cell that came to an input into the list of its output, if one came.
+    fn put_if(&mut self, came: Option<Queued>)
+        requires output { IfSome came (λ q. q.cell.output < length self.old.lists) }
+        requires room { IfSome came (λ q. length (list_at self.old.lists q.cell.output) < slice_index self.old.rooms q.cell.output) }
+        ensures lists { self.new.lists ≡ with_came came self.old.lists }
+        ensures rooms { self.new.rooms ≡ self.old.rooms }
+    {
+        if let Some(queued) = came {
+            self.put(queued);
+        }
+    }
+
+    /// The cells that came go into the lists of their outputs, each at its place in the order of keys.
+    pub fn arrive(&mut self, came: &[Option<Queued>; 64])
+        requires few { length self.old.lists ≤ 64 }
+        requires as_many { length self.old.rooms ≡ length self.old.lists }
+        requires ports { CameToPorts (length self.old.lists) came.now }
+        requires room { HaveRoomFor came.now self.old }
+        ensures lists { self.new.lists ≡ filled came.now self.old.lists }
+        ensures rooms { self.new.rooms ≡ self.old.rooms }
+        ensures within { AreWithinRooms self.old }
+    {
+        let ports = self.len();
+        'inputs: for input in 0..ports {
+            self.put_if(came[input as usize]);
+        }
     }
 
     /// Takes the first cell for an output out, if there is one.

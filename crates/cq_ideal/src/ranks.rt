@@ -1,9 +1,12 @@
 //! The rank machines of all outputs.
-ghost use Rattle.std.specs.Prelude.{◌≡◌, ◌↔◌, ◌<◌, ◌≤◌, ◌^◌, IfOk, IsErr, OnErr, OnOk, length, map, slice_index_or, slice_set, []};
+ghost use Rattle.std.specs.Prelude.{◌≡◌, ◌↔◌, ◌+◌, ◌<◌, ◌≤◌, ◌^◌, ◌∷◌, List, Option, Ok, Err, IfErr, IfOk, IsErr, None, OnErr, OnOk, Some, length, map, replicate, slice_index_or, slice_set, []};
+ghost use Rattle.cq_base.specs.declared.cell.Cell.{Cell};
 ghost use Rattle.cq_rank.specs.Machine.{machine_at, told};
+ghost use Rattle.cq_rank.specs.Switch.{AreForOneSwitch, class_count};
 ghost use Rattle.cq_ideal.specs.Parts.{rank_at, given_at};
+ghost use Rattle.cq_ideal.specs.Ranking.{AreForPorts, after_input, keyed, ranking};
 
-use cq_base::{Class, Port, Queued};
+use cq_base::{Arrivals, Cell, Class, Key, Port, Queued, Slot, TagFault};
 use cq_rank::{Rank, TagOverflow};
 use std::marker::Model;
 
@@ -42,17 +45,96 @@ impl<R: Rank> Ranks<R> {
         Ranks { ranks }
     }
 
-    /// The rank of a cell of the class that arrives for an output, whose machine then knows of it.
-    pub fn rank(&mut self, output: Port, class: Class) -> Result<u128, TagOverflow>
+    // How many machines there are.
+    fn len(&self) -> Port
+        requires { length self.now.fixed ≤ 64 }
+        ensures value { result ≡ length self.now.fixed }
+    {
+        self.ranks.len() as Port
+    }
+
+    // The rank of a cell of the class that arrives for an output, whose machine then knows of it.
+    fn rank(&mut self, output: Port, class: Class) -> Result<u128, TagOverflow>
         requires output { output < length self.old.fixed }
         requires class { class < (machine_at (map R.machine self.old.fixed) output).classes }
         ensures fixed { self.new.fixed ≡ self.old.fixed }
         ensures rank { IfOk result (λ rank. rank ≡ rank_at (map R.machine self.old.fixed) self.old.states output class) }
         ensures given { OnOk result (self.new.states ≡ given_at (map R.machine self.old.fixed) self.old.states output class) }
         ensures refused { OnErr result (self.new.states ≡ self.old.states) }
+        ensures many { length self.new.states ≡ length self.old.states }
         ensures overflow { IsErr result ↔ (2 ^ 128 ≤ rank_at (map R.machine self.old.fixed) self.old.states output class) }
     {
         self.ranks[output as usize].rank(class)
+    }
+
+    // A cell arrives for an output. It gets its key by the rank that the output's machine gives it.
+    fn keyed(&mut self, slot: Slot, input: Port, cell: Cell) -> Result<Queued, TagFault>
+        requires output { cell.output < length self.old.fixed }
+        requires class { cell.class < (machine_at (map R.machine self.old.fixed) cell.output).classes }
+        ensures fixed { self.new.fixed ≡ self.old.fixed }
+        ensures keyed { IfOk result (λ q. q ≡ keyed cell (rank_at (map R.machine self.old.fixed) self.old.states cell.output cell.class) slot input) }
+        ensures given { OnOk result (self.new.states ≡ given_at (map R.machine self.old.fixed) self.old.states cell.output cell.class) }
+        ensures many { length self.new.states ≡ length self.old.states }
+        ensures fault { IfErr result (λ fault. fault ≡ record { slot = slot; input = input; output = cell.output }) }
+        ensures overflow { IsErr result ↔ (2 ^ 128 ≤ rank_at (map R.machine self.old.fixed) self.old.states cell.output cell.class) }
+    {
+        match self.rank(cell.output, cell.class) {
+            Err(_) => Err(TagFault {
+                slot,
+                input,
+                output: cell.output,
+            }),
+            Ok(rank) => Ok(Queued {
+                cell,
+                key: Key { rank, slot, input },
+            }),
+        }
+    }
+
+    // What comes to an input is ranked, if it is a cell.
+    fn came(
+        &mut self,
+        slot: Slot,
+        input: Port,
+        cell: Option<Cell>,
+    ) -> Result<Option<Queued>, TagFault>
+        requires output { (c : Cell) → cell ≡ Some c → c.output < length self.old.fixed }
+        requires class { (c : Cell) → cell ≡ Some c → c.class < (machine_at (map R.machine self.old.fixed) c.output).classes }
+        ensures fixed { self.new.fixed ≡ self.old.fixed }
+        ensures came { IfOk result (λ came. (cells : List (Option Cell)) → ranking (map R.machine self.old.fixed) slot input (cell ∷ cells) self.old.states ≡ after_input came (ranking (map R.machine self.old.fixed) slot (input + 1) cells self.new.states)) }
+        ensures many { length self.new.states ≡ length self.old.states }
+        ensures fault { IfErr result (λ fault. (cells : List (Option Cell)) → ranking (map R.machine self.old.fixed) slot input (cell ∷ cells) self.old.states ≡ Err fault) }
+    {
+        match cell {
+            None => Ok(None),
+            Some(cell) => Ok(Some(self.keyed(slot, input, cell)?)),
+        }
+    }
+
+    /// The cells that arrive in a slot are ranked in order of input, each by its output's machine, and put into
+    /// `came` at the places of their inputs. The error is the first rank that does not fit 128 bits.
+    pub fn take(
+        &mut self,
+        slot: Slot,
+        arrivals: &Arrivals,
+        came: &mut [Option<Queued>; 64],
+    ) -> Result<(), TagFault>
+        requires machines { AreForOneSwitch (map R.machine self.old.fixed) }
+        requires some { 0 < length self.old.fixed }
+        requires few { length self.old.fixed ≤ 64 }
+        requires arrivals { AreForPorts (length self.old.fixed) (class_count (map R.machine self.old.fixed)) arrivals.now }
+        requires nobody { came.old ≡ replicate 64 None }
+        ensures fixed { self.new.fixed ≡ self.old.fixed }
+        ensures came { OnOk result (ranking (map R.machine self.old.fixed) slot 0 arrivals.now self.old.states ≡ Ok (record { came = came.new; ranks = self.new.states })) }
+        ensures many { length self.new.states ≡ length self.old.states }
+        ensures long { length came.new ≡ 64 }
+        ensures fault { IfErr result (λ fault. ranking (map R.machine self.old.fixed) slot 0 arrivals.now self.old.states ≡ Err fault) }
+    {
+        let ports = self.len();
+        'inputs: for input in 0..ports {
+            came[input as usize] = self.came(slot, input, arrivals.at(input))?;
+        }
+        Ok(())
     }
 
     /// The output sent this cell in the slot that ends, or nothing.

@@ -1,72 +1,25 @@
--- What ranking gives: each cell that came has the slot, the input at which it came, and is the one that arrived there.
-use Rattle.std.proofs.Common.{◌≡◌, ℕ, zero, suc, ◌+◌, Bool, true, false, cond, List, [], ◌∷◌, length, Option, Some, None, Result, Ok, Err, refl, sym, ap, ◌∙◌, arith, length-set}
-use Rattle.std.proofs.lemmas.Option.{same_Some}
+-- What ranking gives, as the fabric sees it: each cell that came has the slot, the input at which it came, and is the one that
+-- arrived there.
+use Rattle.std.proofs.Common.{◌≡◌, ℕ, ◌+◌, List, Option, Some, Ok, arith}
 use Rattle.cq_base.specs.declared.cell.Cell.{Cell}
 use Rattle.cq_base.specs.declared.cell.Queued.{Queued}
-use Rattle.cq_base.specs.declared.cell.TagFault.{TagFault}
-use Rattle.cq_base.specs.Arrivals.{arrival_at}
 use Rattle.cq_rank.specs.Machine.{Machine}
-use Rattle.cq_ideal.specs.Ranking.{Ranking, ranking, after_input, keyed, AreForPorts}
+use Rattle.cq_ideal.specs.Ranking.{Ranking, ranking, AreForPorts}
+use Rattle.cq_ideal.proofs.Came.{Came, came_from as come_from}
 use Rattle.cq_laws.specs.Phases.{came_to}
 use Rattle.cq_laws.proofs.AfterArrivals.{Keyed}
 
-after_input_ok : (q : Option Queued) (x : Result Ranking TagFault) (r : Ranking) → after_input q x ≡ Ok r → (s : Ranking) × (x ≡ Ok s) × (record { came = q ∷ s.came; ranks = s.ranks } ≡ r)
-after_input_ok q (Ok s) r h = (s, refl, cc)
-after_input_ok q (Err e) r h = cc
-
-guarded_ok : (b : Bool) (x : Result Ranking TagFault) (e : TagFault) (r : Ranking) → cond b x (Err e) ≡ Ok r → x ≡ Ok r
-guarded_ok true x e r h = h
-guarded_ok false x e r h = cc
-
--- a cell that came has this slot, its input, and is the one that arrived there
-pub record Came (slot i : ℕ) (cells : List (Option Cell)) (k : ℕ) (q : Queued) : Type 0 where
-  pub slot_is : q.key.slot ≡ slot
-  pub input_is : q.key.input ≡ i + k
-  pub cell_is : arrival_at cells k ≡ Some q.cell
-
-came_here : (slot i : ℕ) (cell : Cell) (rank : ℕ) (rest : Result Ranking TagFault) (cells : List (Option Cell)) (r : Ranking) (q : Queued) → after_input (Some (keyed cell rank slot i)) rest ≡ Ok r → came_to r.came 0 ≡ Some q → Came slot i (Some cell ∷ cells) 0 q
-came_here slot i cell rank rest cells r q h e =
-    let w = after_input_ok (Some (keyed cell rank slot i)) rest r h in
-    let is : keyed cell rank slot i ≡ q = same_Some (keyed cell rank slot i) q (ap (λ (x : Ranking). came_to x.came 0) w.2 ∙ e) in
-    let input : q.key.input ≡ i = ap (λ (x : Queued). x.key.input) (sym is) in
-    record { slot_is = ap (λ (x : Queued). x.key.slot) (sym is); input_is = omega arith; cell_is = ap (λ (x : Queued). Some x.cell) is }
-
-came_later : (slot i : ℕ) (here : Option Queued) (x : Option Cell) (rest : Result Ranking TagFault) (cells : List (Option Cell)) (r : Ranking) (k : ℕ) (q : Queued) → after_input here rest ≡ Ok r → came_to r.came (suc k) ≡ Some q → ((s : Ranking) → rest ≡ Ok s → came_to s.came k ≡ Some q → Came slot (i + 1) cells k q) → Came slot i (x ∷ cells) (suc k) q
-came_later slot i here x rest cells r k q h e later =
-    let w = after_input_ok here rest r h in
-    let c = later w.0 w.1 (ap (λ (y : Ranking). came_to y.came (suc k)) w.2 ∙ e) in
-    let input : q.key.input ≡ i + 1 + k = c.input_is in
-    record { slot_is = c.slot_is; input_is = omega arith; cell_is = c.cell_is }
-
-pub came_from : (ms : List Machine) (slot i : ℕ) (cells : List (Option Cell)) (ranks : List (List ℕ)) (r : Ranking) → ranking ms slot i cells ranks ≡ Ok r → (k : ℕ) (q : Queued) → came_to r.came k ≡ Some q → Came slot i cells k q
-came_from ms slot i [] ranks r h k q e =
-    let is : record { came = []; ranks = ranks } ≡ r = cc in
-    let no : None ≡ Some q = ap (λ (x : Ranking). came_to x.came k) is ∙ e in cc
-came_from ms slot i (None ∷ cells) ranks r h zero q e =
-    let w = after_input_ok None _ r h in
-    let no : None ≡ Some q = ap (λ (x : Ranking). came_to x.came 0) w.2 ∙ e in cc
-came_from ms slot i (None ∷ cells) ranks r h (suc k) q e =
-    came_later slot i None None _ cells r k q h e (λ s ok at. came_from ms slot (i + 1) cells ranks s ok k q at)
-came_from ms slot i (Some cell ∷ cells) ranks r h zero q e = came_here slot i cell _ _ cells r q (guarded_ok _ _ _ r h) e
-came_from ms slot i (Some cell ∷ cells) ranks r h (suc k) q e =
-    came_later slot i _ (Some cell) _ cells r k q (guarded_ok _ _ _ r h) e (λ s ok at. came_from ms slot (i + 1) cells _ s ok k q at)
+pub came_from : (ms : List Machine) (slot i : ℕ) (cells : List (Option Cell)) (ranks : List (List ℕ)) (r : Ranking) →
+    ranking ms slot i cells ranks ≡ Ok r → (k : ℕ) (q : Queued) → came_to r.came k ≡ Some q → Came slot i cells k q
+came_from = come_from
 
 -- so the cells of a slot that are for the ports of the switch are keyed as arrivals keep it
-pub keyed_from : (ms : List Machine) (slot ports class_count : ℕ) (cells : List (Option Cell)) (ranks : List (List ℕ)) (r : Ranking) → ranking ms slot 0 cells ranks ≡ Ok r → AreForPorts ports class_count cells → Keyed slot ports r.came
+pub keyed_from : (ms : List Machine) (slot ports class_count : ℕ) (cells : List (Option Cell)) (ranks : List (List ℕ))
+    (r : Ranking) → ranking ms slot 0 cells ranks ≡ Ok r → AreForPorts ports class_count cells →
+    Keyed slot ports r.came
 keyed_from ms slot ports class_count cells ranks r h are =
     record {
       slot_is = λ k q e. (came_from ms slot 0 cells ranks r h k q e).slot_is;
       input_is = λ k q e. let is = (came_from ms slot 0 cells ranks r h k q e).input_is in omega arith;
       outputs = λ k q e. are.outputs k q.cell (came_from ms slot 0 cells ranks r h k q e).cell_is;
     }
-
--- and there are as many rank states as before
-pub ranks_kept : (ms : List Machine) (slot i : ℕ) (cells : List (Option Cell)) (ranks : List (List ℕ)) (r : Ranking) → ranking ms slot i cells ranks ≡ Ok r → length r.ranks ≡ length ranks
-ranks_kept ms slot i [] ranks r h =
-    let is : record { came = []; ranks = ranks } ≡ r = cc in ap (λ (x : Ranking). length x.ranks) (sym is)
-ranks_kept ms slot i (None ∷ cells) ranks r h =
-    let w = after_input_ok None _ r h in
-    ap (λ (x : Ranking). length x.ranks) (sym w.2) ∙ ranks_kept ms slot (i + 1) cells ranks w.0 w.1
-ranks_kept ms slot i (Some cell ∷ cells) ranks r h =
-    let w = after_input_ok _ _ r (guarded_ok _ _ _ r h) in
-    ap (λ (x : Ranking). length x.ranks) (sym w.2) ∙ ranks_kept ms slot (i + 1) cells _ w.0 w.1 ∙ length-set ranks cell.output _

@@ -1,7 +1,7 @@
 use Rattle.std.proofs.Common.{◌≡◌, ◌<◌, ◌≤◌, ◌↔◌, ◌^◌, ℕ, subst, sym}
 use Rattle.std.specs.Prelude.{IfOk, IsErr}
 use Rattle.std.proofs.lemmas.Result.{on_ok_weaker, on_err_weaker}
-use Rattle.cq_ideal.proofs.Ranked.{seen, fixed_after, states_after, states_same}
+use Rattle.cq_ideal.proofs.Ranked.{seen, fixed_after, many_after, states_after, states_same}
 use Rattle.cq_ideal.proofs.ranks.Ranks.rank.Goals as goal
 
 pub rank-requires : goal.rank-requires
@@ -22,3 +22,6 @@ returns-clause-overflow g c = subst (λ (n : ℕ). IsErr c.rank.result ↔ (2 ^ 
 
 pub returns-clause-refused : goal.returns-clause-refused
 returns-clause-refused g c = on_err_weaker c.rank.result (λ same. states_same g.R.Rank.fixed g.R.Rank.state g.R.Rank.machine c.self.inside.ranks.items c.args.output c.index_mut.result.now c.args.self.now c.requires.output c.index_mut.ensures.value c.self.view_is c.rank.new.self same) c.rank.ensures.refused
+
+pub returns-clause-many : goal.returns-clause-many
+returns-clause-many g c = many_after g.R.Rank.fixed g.R.Rank.state g.R.Rank.machine c.self.inside.ranks.items c.args.output c.index_mut.result.now c.args.self.now c.requires.output c.index_mut.ensures.value c.self.view_is c.rank.new.self

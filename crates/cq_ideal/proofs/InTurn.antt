@@ -1,0 +1,179 @@
+-- Cells that are ranked one after another. What came so far stands in front of the ranking of the others, and nobody came to the
+-- inputs behind.
+use Rattle.std.proofs.Common.{◌≡◌, ◌≢◌, ℕ, zero, suc, ◌+◌, ◌<◌, ◌≤◌, ◌^◌, List, [], ◌∷◌, ◌++◌, length, map, get_or, set, take, drop, replicate, Option, Some, None, Result, Ok, Err, refl, sym, ap, ◌∙◌, subst, arith, length-set, get_or-set_other}
+use Rattle.std.proofs.lemmas.Bool.{cond_below, cond_above}
+use Rattle.std.proofs.lemmas.List.{ext_get_or, get_or-drop, length-drop, length-replicate, take-append-drop, take_more_set}
+use Rattle.std.proofs.lemmas.Option.{unwrap_or-slice_get}
+use Rattle.cq_base.specs.declared.cell.Cell.{Cell}
+use Rattle.cq_base.specs.declared.cell.Queued.{Queued}
+use Rattle.cq_base.specs.declared.cell.TagFault.{TagFault}
+use Rattle.cq_rank.specs.Machine.{Machine}
+use Rattle.cq_ideal.specs.Parts.{RanksView, rank_at, given_at, after_inputs}
+use Rattle.cq_ideal.specs.Ranking.{Ranking, AreForPorts, after_input, keyed, ranking}
+
+-- a cell at the end of those that came
+after_inputs-snoc : (came : List (Option Queued)) (q : Option Queued) (x : Result Ranking TagFault) →
+    after_inputs (came ++ q ∷ []) x ≡ after_inputs came (after_input q x)
+after_inputs-snoc [] q x = refl
+after_inputs-snoc (c ∷ came) q x = ap (after_input c) (after_inputs-snoc came q x)
+
+-- they stand in front of what came to the others
+after_inputs-ok : (came : List (Option Queued)) (r : Ranking) →
+    after_inputs came (Ok r) ≡ Ok (record { came = came ++ r.came; ranks = r.ranks })
+after_inputs-ok [] r = refl
+after_inputs-ok (c ∷ came) r = ap (after_input c) (after_inputs-ok came r)
+
+-- and nothing changes a fault
+after_inputs-fault : (came : List (Option Queued)) (fault : TagFault) → after_inputs came (Err fault) ≡ Err fault
+after_inputs-fault [] fault = refl
+after_inputs-fault (c ∷ came) fault = ap (after_input c) (after_inputs-fault came fault)
+
+-- ## One input
+
+-- the cell's rank fits
+pub ranking-fits : (ms : List Machine) (slot input : ℕ) (cell : Cell) (cells : List (Option Cell))
+    (states states' : List (List ℕ)) (q : Queued) → rank_at ms states cell.output cell.class < 2 ^ 128 →
+    q ≡ keyed cell (rank_at ms states cell.output cell.class) slot input →
+    states' ≡ given_at ms states cell.output cell.class →
+    ranking ms slot input (Some cell ∷ cells) states ≡ after_input (Some q)
+    (ranking ms slot (input + 1) cells states')
+ranking-fits ms slot input cell cells states states' q fits is given =
+    let rank = rank_at ms states cell.output cell.class in
+    let rest = ranking ms slot (input + 1) cells (given_at ms states cell.output cell.class) in
+    let fault : TagFault = record { slot = slot; input = input; output = cell.output } in
+    sym (cond_below rank (2 ^ 128) (after_input (Some (keyed cell rank slot input)) rest) (Err fault) fits)
+    ∙ ap (λ (p : Queued). after_input (Some p) rest) (sym is)
+    ∙ ap (λ s. after_input (Some q) (ranking ms slot (input + 1) cells s)) (sym given)
+
+-- the cell's rank does not fit
+pub ranking-faults : (ms : List Machine) (slot input : ℕ) (cell : Cell) (cells : List (Option Cell))
+    (states : List (List ℕ)) (fault : TagFault) → 2 ^ 128 ≤ rank_at ms states cell.output cell.class →
+    fault ≡ record { slot = slot; input = input; output = cell.output } →
+    ranking ms slot input (Some cell ∷ cells) states ≡ Err fault
+ranking-faults ms slot input cell cells states fault past is =
+    let rank = rank_at ms states cell.output cell.class in
+    let rest = ranking ms slot (input + 1) cells (given_at ms states cell.output cell.class) in
+    let none : Result Ranking TagFault = Err (record { slot = slot; input = input; output = cell.output }) in
+    sym (cond_above rank (2 ^ 128) (after_input (Some (keyed cell rank slot input)) rest) none none past refl)
+    ∙ ap (λ (f : TagFault). Err f) (sym is)
+
+-- where no cell arrives any more nobody comes
+none_ranked : (ms : List Machine) (slot input : ℕ) (cells : List (Option Cell)) (states : List (List ℕ)) →
+    ((k : ℕ) (cell : Cell) → get_or cells k None ≡ Some cell → ⊥) →
+    ranking ms slot input cells states ≡ Ok (record { came = replicate (length cells) None; ranks = states })
+none_ranked ms slot input [] states h = refl
+none_ranked ms slot input (None ∷ cells) states h =
+    ap (after_input None) (none_ranked ms slot (input + 1) cells states (λ k cell at. h (suc k) cell at))
+none_ranked ms slot input (Some cell ∷ cells) states h = absurd (h zero cell refl)
+
+-- no cell comes to an input that is no port
+none_beyond : (ports class_count input : ℕ) (cells : List (Option Cell)) → AreForPorts ports class_count cells →
+    ports ≤ input → (k : ℕ) (cell : Cell) → get_or (drop input cells) k None ≡ Some cell → ⊥
+none_beyond ports class_count input cells for beyond k cell at =
+    let none : Option Cell = None in
+    let l = for.inputs (input + k) cell
+    (unwrap_or-slice_get cells (input + k) none ∙ sym (get_or-drop input cells k none) ∙ at) in
+    omega arith
+
+-- ## All inputs
+
+pub record InTurn (M : List ℕ → Machine) (slot : ℕ) (cells : List (Option Cell)) (first : RanksView) (input : ℕ) (ranks : RanksView) (came : List (Option Queued)) : Type 0 where
+  pub fixed : ranks.fixed ≡ first.fixed
+  pub many : length ranks.states ≡ length first.states
+  pub places : 0 < input → length cells ≡ 64
+  pub long : length came ≡ 64
+  pub later : (k : ℕ) → input ≤ k → get_or came k None ≡ None
+  pub ranked :
+      after_inputs (take input came) (ranking (map M first.fixed) slot input (drop input cells) ranks.states)
+      ≡ ranking (map M first.fixed) slot 0 cells first.states
+
+none_in : (n k : ℕ) → get_or (replicate n (let none : Option Queued = None in none)) k None ≡ None
+none_in zero k = refl
+none_in (suc n) zero = refl
+none_in (suc n) (suc k) = none_in n k
+
+pub in_turn_first : (M : List ℕ → Machine) (slot : ℕ) (cells : List (Option Cell)) (ranks : RanksView)
+    (came : List (Option Queued)) → came ≡ replicate 64 None → InTurn M slot cells ranks 0 ranks came
+in_turn_first M slot cells ranks came nobody =
+    let none : Option Queued = None in
+    record {
+      fixed = refl;
+      many = refl;
+      places = λ lt. absurd (omega arith);
+      long = ap length nobody ∙ length-replicate 64 none;
+      later = λ k _. ap (λ (l : List (Option Queued)). get_or l k none) nobody ∙ none_in 64 k;
+      ranked = refl;
+    }
+
+-- one input more
+pub in_turn_next : (M : List ℕ → Machine) (slot : ℕ) (cells : List (Option Cell)) (first : RanksView) (input : ℕ)
+    (ranks ranks_new : RanksView) (came : List (Option Queued)) (cell : Option Cell) (q : Option Queued) →
+    InTurn M slot cells first input ranks came → length cells ≡ 64 → input < 64 →
+    drop input cells ≡ cell ∷ drop (input + 1) cells → ranks_new.fixed ≡ ranks.fixed →
+    length ranks_new.states ≡ length ranks.states →
+    ((rest : List (Option Cell)) → ranking (map M ranks.fixed) slot input (cell ∷ rest) ranks.states
+    ≡ after_input q (ranking (map M ranks.fixed) slot (input + 1) rest ranks_new.states)) →
+    InTurn M slot cells first (input + 1) ranks_new (set came input q)
+in_turn_next M slot cells first input ranks ranks_new came cell q so_far places inside next fixed many one =
+    let none : Option Queued = None in
+    let ms = map M first.fixed in
+    let long = so_far.long in
+    let rest = drop (input + 1) cells in
+    let others = ranking ms slot (input + 1) rest ranks_new.states in
+    let here : ranking ms slot input (cell ∷ rest) ranks.states ≡ after_input q others =
+    subst
+    (λ f. ranking (map M f) slot input (cell ∷ rest) ranks.states
+    ≡ after_input q (ranking (map M f) slot (input + 1) rest ranks_new.states))
+    so_far.fixed (one rest) in
+    record {
+      fixed = fixed ∙ so_far.fixed;
+      many = many ∙ so_far.many;
+      places = λ _. places;
+      long = length-set came input q ∙ so_far.long;
+      later = λ k le. let ne : k ≢ input = λ e. omega arith in get_or-set_other came input k q none ne
+          ∙ so_far.later k (omega arith);
+      ranked =
+          ap (λ l. after_inputs l others) (take_more_set came input q (omega arith))
+          ∙ after_inputs-snoc (take input came) q others
+          ∙ ap (after_inputs (take input came)) (sym here ∙ ap (λ l. ranking ms slot input l ranks.states) (sym next))
+          ∙ so_far.ranked;
+    }
+
+-- a fault
+pub in_turn_fault : (M : List ℕ → Machine) (slot : ℕ) (cells : List (Option Cell)) (first : RanksView) (input : ℕ)
+    (ranks : RanksView) (came : List (Option Queued)) (cell : Option Cell) (fault : TagFault) →
+    InTurn M slot cells first input ranks came → drop input cells ≡ cell ∷ drop (input + 1) cells →
+    ((rest : List (Option Cell)) → ranking (map M ranks.fixed) slot input (cell ∷ rest) ranks.states ≡ Err fault) →
+    ranking (map M first.fixed) slot 0 cells first.states ≡ Err fault
+in_turn_fault M slot cells first input ranks came cell fault so_far next one =
+    let ms = map M first.fixed in
+    let rest = drop (input + 1) cells in
+    let here : ranking ms slot input (cell ∷ rest) ranks.states ≡ Err fault = subst
+    (λ f. ranking (map M f) slot input (cell ∷ rest) ranks.states ≡ Err fault) so_far.fixed (one rest) in
+    sym so_far.ranked
+    ∙ ap (after_inputs (take input came)) (ap (λ l. ranking ms slot input l ranks.states) next ∙ here)
+    ∙ after_inputs-fault (take input came) fault
+
+-- no port is left
+pub in_turn_last : (M : List ℕ → Machine) (slot class_count : ℕ) (cells : List (Option Cell)) (first : RanksView)
+    (input : ℕ) (ranks : RanksView) (came : List (Option Queued)) → InTurn M slot cells first input ranks came →
+    AreForPorts (length first.fixed) class_count cells → 0 < length first.fixed → length first.fixed ≤ input →
+    ranking (map M first.fixed) slot 0 cells first.states ≡ Ok (record { came = came; ranks = ranks.states })
+in_turn_last M slot class_count cells first input ranks came so_far for some past =
+    let none : Option Queued = None in
+    let ms = map M first.fixed in
+    let left = length (drop input cells) in
+    let long = so_far.long in
+    let places = so_far.places (omega arith) in
+    let in_cells = length-drop input cells in
+    let in_came = length-drop input came in
+    let in_none = length-replicate left none in
+    let behind : drop input came ≡ replicate left none =
+    ext_get_or none (drop input came) (replicate left none) (omega arith)
+    (λ i inside. get_or-drop input came i none ∙ so_far.later (input + i) (omega arith) ∙ sym (none_in left i)) in
+    sym so_far.ranked
+    ∙ ap (after_inputs (take input came))
+    (none_ranked ms slot input (drop input cells) ranks.states (none_beyond (length first.fixed) class_count input cells for past))
+    ∙ after_inputs-ok (take input came) (record { came = replicate left none; ranks = ranks.states })
+    ∙ ap (λ (l : List (Option Queued)). Ok (record { came = l; ranks = ranks.states }))
+    (ap (λ l. take input came ++ l) (sym behind) ∙ take-append-drop input came)

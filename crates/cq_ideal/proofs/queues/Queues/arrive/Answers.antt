@@ -1,0 +1,33 @@
+use Rattle.std.proofs.Common.{get_or, refl, arith}
+use Rattle.std.specs.Prelude.{None}
+use Rattle.cq_ideal.proofs.TakenIn.{if_some, putting_last, putting_next, putting_room}
+use Rattle.cq_ideal.proofs.queues.Queues.arrive.Goals as goal
+
+pub inputs-init : goal.inputs-init
+inputs-init c = record { rooms = refl; long = refl; room = c.requires.room; filled = refl }
+
+pub put_if-requires-clause-output : goal.put_if-requires-clause-output
+put_if-requires-clause-output c =
+    let ports = c.len-ports.ensures.len in
+    let inside = c.inputs-test.true in
+    if_some (get_or c.args.came.now c.inputs.input None) _
+    (λ q at. (putting_room c.args.came.now c.args.self.now c.inputs.input c.inputs.self c.requires.few c.requires.as_many c.requires.ports (omega arith) c.inputs.invariant q at).0)
+
+pub put_if-requires-clause-room : goal.put_if-requires-clause-room
+put_if-requires-clause-room c =
+    let ports = c.len-ports.ensures.len in
+    let inside = c.inputs-test.true in
+    if_some (get_or c.args.came.now c.inputs.input None) _
+    (λ q at. (putting_room c.args.came.now c.args.self.now c.inputs.input c.inputs.self c.requires.few c.requires.as_many c.requires.ports (omega arith) c.inputs.invariant q at).1)
+
+pub inputs-preserved : goal.inputs-preserved
+inputs-preserved c =
+    let ports = c.len-ports.ensures.len in
+    let inside = c.inputs-test.true in
+    putting_next c.args.came.now c.args.self.now c.inputs.input c.inputs.self c.put_if.new.self c.requires.few c.requires.ports (omega arith) c.inputs.invariant c.put_if.ensures.lists c.put_if.ensures.rooms
+
+pub returns-clause-lists : goal.returns-clause-lists
+returns-clause-lists c =
+    let ports = c.len-ports.ensures.len in
+    let past = c.inputs-test.false in
+    putting_last c.args.came.now c.args.self.now c.inputs.input c.inputs.self c.requires.ports (omega arith) c.inputs.invariant

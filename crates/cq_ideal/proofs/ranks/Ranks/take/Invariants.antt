@@ -1,0 +1,5 @@
+use Rattle.cq_ideal.proofs.InTurn.{InTurn}
+use Rattle.cq_ideal.proofs.ranks.Ranks.take.Given as goal
+
+abbrev pub invariant-inputs : goal.invariant-inputs
+invariant-inputs g l = InTurn g.R.Rank.machine l.slot l.arrivals l.fn.self l.input l.self l.came
