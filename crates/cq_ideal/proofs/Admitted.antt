@@ -11,7 +11,8 @@ use Rattle.cq_ideal.specs.Ranking.{AreForPorts}
 
 -- ## What is admitted
 
-pub admitted_at : (marks : List Bool) (cells : List (Option Cell)) (i : ℕ) → arrival_at (admitted marks cells) i ≡ unless (mark_at marks i) (arrival_at cells i)
+pub admitted_at : (marks : List Bool) (cells : List (Option Cell)) (i : ℕ) →
+    arrival_at (admitted marks cells) i ≡ unless (mark_at marks i) (arrival_at cells i)
 admitted_at [] cells i = refl
 admitted_at (mark ∷ marks) [] i = sym (nothing (mark_at (mark ∷ marks) i))
   where
@@ -28,10 +29,13 @@ of_unless true x cell h = absurd (let P : ⊥ = cc in P)
 of_unless false x cell h = h
 
 -- what is admitted arrives
-pub admitted_arrives : (marks : List Bool) (cells : List (Option Cell)) (i : ℕ) (cell : Cell) → arrival_at (admitted marks cells) i ≡ Some cell → arrival_at cells i ≡ Some cell
-admitted_arrives marks cells i cell h = of_unless (mark_at marks i) (arrival_at cells i) cell (sym (admitted_at marks cells i) ∙ h)
+pub admitted_arrives : (marks : List Bool) (cells : List (Option Cell)) (i : ℕ) (cell : Cell) →
+    arrival_at (admitted marks cells) i ≡ Some cell → arrival_at cells i ≡ Some cell
+admitted_arrives marks cells i cell h =
+    of_unless (mark_at marks i) (arrival_at cells i) cell (sym (admitted_at marks cells i) ∙ h)
 
-pub admitted_for_ports : (ports classes : ℕ) (marks : List Bool) (cells : List (Option Cell)) → AreForPorts ports classes cells → AreForPorts ports classes (admitted marks cells)
+pub admitted_for_ports : (ports classes : ℕ) (marks : List Bool) (cells : List (Option Cell)) →
+    AreForPorts ports classes cells → AreForPorts ports classes (admitted marks cells)
 admitted_for_ports ports classes marks cells are =
     record {
       inputs = λ i cell h. are.inputs i cell (admitted_arrives marks cells i cell h);
@@ -40,25 +44,31 @@ admitted_for_ports ports classes marks cells are =
     }
 
 -- each input keeps one mark
-pub marks_kept : (limits : List (Option ℕ)) (held : List ℕ) (marks : List Bool) (cells : List (Option Cell)) → length (marks_after limits held marks cells) ≡ length marks
+pub marks_kept : (limits : List (Option ℕ)) (held : List ℕ) (marks : List Bool) (cells : List (Option Cell)) →
+    length (marks_after limits held marks cells) ≡ length marks
 marks_kept limits held [] cells = refl
 marks_kept limits held (mark ∷ marks) [] = refl
-marks_kept limits held (mark ∷ marks) (cell ∷ cells) = ap suc (marks_kept limits (held_after (mark_after limits held mark cell) held cell) marks cells)
+marks_kept limits held (mark ∷ marks) (cell ∷ cells) =
+    ap suc (marks_kept limits (held_after (mark_after limits held mark cell) held cell) marks cells)
 
 -- ## Without limits
 
-mark_stays_down : (limits : List (Option ℕ)) (held : List ℕ) (cell : Option Cell) → NoLimits limits → mark_after limits held false cell ≡ false
+mark_stays_down : (limits : List (Option ℕ)) (held : List ℕ) (cell : Option Cell) → NoLimits limits →
+    mark_after limits held false cell ≡ false
 mark_stays_down limits held None none = refl
 mark_stays_down limits held (Some cell) none =
-    cond_both (is_first cell) (is_full (slice_index_or limits cell.output None) (slice_index_or held cell.output 0)) false (λ b. b ≡ false)
+    cond_both (is_first cell)
+    (is_full (slice_index_or limits cell.output None) (slice_index_or held cell.output 0)) false (λ b. b ≡ false)
     (λ _. ap (λ (limit : Option ℕ). is_full limit (slice_index_or held cell.output 0)) (none cell.output))
     (λ _. refl)
 
-pub marks_stay_down : (limits : List (Option ℕ)) (held : List ℕ) (ports : ℕ) (cells : List (Option Cell)) → NoLimits limits → marks_after limits held (marks_down ports) cells ≡ marks_down ports
+pub marks_stay_down : (limits : List (Option ℕ)) (held : List ℕ) (ports : ℕ) (cells : List (Option Cell)) →
+    NoLimits limits → marks_after limits held (marks_down ports) cells ≡ marks_down ports
 marks_stay_down limits held zero cells none = refl
 marks_stay_down limits held (suc ports) [] none = refl
 marks_stay_down limits held (suc ports) (cell ∷ cells) none =
-    ap (λ (up : Bool). up ∷ marks_after limits (held_after up held cell) (marks_down ports) cells) (mark_stays_down limits held cell none)
+    ap (λ (up : Bool). up ∷ marks_after limits (held_after up held cell) (marks_down ports) cells)
+    (mark_stays_down limits held cell none)
     ∙ ap (λ (marks : List Bool). false ∷ marks) (marks_stay_down limits (held_after false held cell) ports cells none)
 
 all_admitted : (ports : ℕ) (cells : List (Option Cell)) → admitted (marks_down ports) cells ≡ cells
@@ -71,7 +81,8 @@ none_refused zero cells = refl
 none_refused (suc ports) [] = refl
 none_refused (suc ports) (cell ∷ cells) = none_refused ports cells
 
-pub no_limits_refuse_none : (limits : List (Option ℕ)) (ports : ℕ) (cells : List (Option Cell)) → NoLimits limits → RefusesNone limits (marks_down ports) cells
+pub no_limits_refuse_none : (limits : List (Option ℕ)) (ports : ℕ) (cells : List (Option Cell)) → NoLimits limits →
+    RefusesNone limits (marks_down ports) cells
 unfolding admission
 no_limits_refuse_none limits ports cells none held =
     let marks = marks_stay_down limits held ports cells none in
@@ -83,7 +94,8 @@ no_limits_refuse_none limits ports cells none held =
 
 -- ## Without arrivals
 
-marks_rest : (limits : List (Option ℕ)) (held : List ℕ) (marks : List Bool) (n : ℕ) → marks_after limits held marks (replicate n None) ≡ marks
+marks_rest : (limits : List (Option ℕ)) (held : List ℕ) (marks : List Bool) (n : ℕ) →
+    marks_after limits held marks (replicate n None) ≡ marks
 marks_rest limits held [] n = refl
 marks_rest limits held (mark ∷ marks) zero = refl
 marks_rest limits held (true ∷ marks) (suc n) = ap (λ (l : List Bool). true ∷ l) (marks_rest limits held marks n)

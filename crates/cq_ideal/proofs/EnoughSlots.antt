@@ -18,7 +18,8 @@ use Rattle.cq_ideal.proofs.Whole.{empties, none_wait, waiting, waiting-empty}
 
 -- ## What is admitted
 
-fewer : (marks : List Bool) (cells : List (Option Cell)) → length (present (admitted marks cells)) ≤ length (present cells)
+fewer : (marks : List Bool) (cells : List (Option Cell)) →
+    length (present (admitted marks cells)) ≤ length (present cells)
 fewer [] cells = omega arith
 fewer (mark ∷ marks) [] = omega arith
 fewer (true ∷ marks) (None ∷ cells) = fewer marks cells
@@ -27,11 +28,15 @@ fewer (true ∷ marks) (Some cell ∷ cells) = let rest = fewer marks cells in o
 fewer (false ∷ marks) (Some cell ∷ cells) = let rest = fewer marks cells in omega arith
 
 module _ (limits : List (Option ℕ)) where
-  few : (held : List ℕ) (marks : List Bool) (cells : List (Option Cell)) (a : Admission) → a ≡ admission limits held marks cells → length (present a.cells) ≤ length (present cells)
+  few : (held : List ℕ) (marks : List Bool) (cells : List (Option Cell)) (a : Admission) →
+      a ≡ admission limits held marks cells → length (present a.cells) ≤ length (present cells)
   unfolding admission
-  few held marks cells a is = subst (λ (x : Admission). length (present x.cells) ≤ length (present cells)) (sym is) (fewer (marks_after limits held marks cells) cells)
+  few held marks cells a is =
+      subst (λ (x : Admission). length (present x.cells) ≤ length (present cells)) (sym is)
+      (fewer (marks_after limits held marks cells) cells)
 
-  pub no_more : (marks : List Bool) (traffic : List (List (Option Cell))) (admissions : List Admission) → AreJudged limits marks traffic admissions → come_count (admitted_in admissions) ≤ come_count traffic
+  pub no_more : (marks : List Bool) (traffic : List (List (Option Cell))) (admissions : List Admission) →
+      AreJudged limits marks traffic admissions → come_count (admitted_in admissions) ≤ come_count traffic
   unfolding come_count
   no_more marks [] [] judged = omega arith
   no_more marks [] (a ∷ admissions) judged = absurd judged
@@ -40,13 +45,16 @@ module _ (limits : List (Option ℕ)) where
       let here = few judged.0.0 marks cells a judged.0.1 in
       let rest = no_more a.marks traffic admissions judged.1 in omega arith
 
-  pub as_many_slots : (marks : List Bool) (traffic : List (List (Option Cell))) (admissions : List Admission) → AreJudged limits marks traffic admissions → length (admitted_in admissions) ≡ length traffic
+  pub as_many_slots : (marks : List Bool) (traffic : List (List (Option Cell))) (admissions : List Admission) →
+      AreJudged limits marks traffic admissions → length (admitted_in admissions) ≡ length traffic
   as_many_slots marks [] [] judged = refl
   as_many_slots marks [] (a ∷ admissions) judged = absurd judged
   as_many_slots marks (cells ∷ traffic) [] judged = absurd judged
-  as_many_slots marks (cells ∷ traffic) (a ∷ admissions) judged = ap suc (as_many_slots a.marks traffic admissions judged.1)
+  as_many_slots marks (cells ∷ traffic) (a ∷ admissions) judged =
+      ap suc (as_many_slots a.marks traffic admissions judged.1)
 
-  pub still_quiet : (e : ℕ) (marks : List Bool) (traffic : List (List (Option Cell))) (admissions : List Admission) → AreJudged limits marks traffic admissions → QuietAfter e traffic → QuietAfter e (admitted_in admissions)
+  pub still_quiet : (e : ℕ) (marks : List Bool) (traffic : List (List (Option Cell))) (admissions : List Admission) →
+      AreJudged limits marks traffic admissions → QuietAfter e traffic → QuietAfter e (admitted_in admissions)
   still_quiet e marks [] [] judged quiet = tt
   still_quiet e marks [] (a ∷ admissions) judged quiet = absurd judged
   still_quiet e marks (cells ∷ traffic) [] judged quiet = absurd judged
@@ -54,7 +62,8 @@ module _ (limits : List (Option ℕ)) where
       let here = few judged.0.0 marks cells a judged.0.1 in
       let none : length (present cells) ≡ 0 = quiet.0 in
       (omega arith, still_quiet zero a.marks traffic admissions judged.1 quiet.1)
-  still_quiet (suc e) marks (cells ∷ traffic) (a ∷ admissions) judged quiet = still_quiet e a.marks traffic admissions judged.1 quiet
+  still_quiet (suc e) marks (cells ∷ traffic) (a ∷ admissions) judged quiet =
+      still_quiet e a.marks traffic admissions judged.1 quiet
 
 -- ## The run of all arrivals
 
@@ -62,7 +71,10 @@ if_ok : {A : Type 0} (P : A → Type 0) (x : Result A TagFault) → ((a : A) →
 if_ok P (Ok a) f = f a refl
 if_ok P (Err fault) f = tt
 
-pub limited_empty_at_end : (limits : List (Option ℕ)) (ms : List Machine) (ports : ℕ) (ranks : List (List ℕ)) (came : List Arrival) → IfOk (limited_run limits ms 0 (traffic_of came) (empty_limited ports ranks)) (λ ran. All (λ cells. cells ≡ []) ran.after.state.lists)
+pub limited_empty_at_end : (limits : List (Option ℕ)) (ms : List Machine) (ports : ℕ) (ranks : List (List ℕ))
+    (came : List Arrival) →
+    IfOk (limited_run limits ms 0 (traffic_of came) (empty_limited ports ranks))
+    (λ ran. All (λ cells. cells ≡ []) ran.after.state.lists)
 limited_empty_at_end limits ms ports ranks came =
     let start = empty_limited ports ranks in
     if_ok (λ ran. All (λ cells. cells ≡ []) ran.after.state.lists) (limited_run limits ms 0 (traffic_of came) start)
@@ -75,4 +87,5 @@ limited_empty_at_end limits ms ports ranks came =
     let slots = length-traffic_of came in
     let none = waiting-empty ports in
     let over = empties ms (admitted_in ran.admissions) 0 (end_of came) start.state quiet (omega arith) in
-    none_wait ran.after.state.lists (subst (λ (x : Result Ran TagFault). IfOk x (λ end. waiting end.after.lists ≡ 0)) (is_run_of limits ms 0 (traffic_of came) start ran is) over))
+    none_wait ran.after.state.lists
+    (subst (λ (x : Result Ran TagFault). IfOk x (λ end. waiting end.after.lists ≡ 0)) (is_run_of limits ms 0 (traffic_of came) start ran is) over))

@@ -32,7 +32,11 @@ use Rattle.cq_ideal.proofs.Packets.{whole_packets}
 
 -- ## What holds of the arrivals of each slot holds of the admitted ones
 
-each_slot : (Q : List (Option Cell) → Type 0) → ((marks : List Bool) (cells : List (Option Cell)) → Q cells → Q (admitted marks cells)) → (limits : List (Option ℕ)) (marks : List Bool) (traffic : List (List (Option Cell))) (admissions : List Admission) → AreJudged limits marks traffic admissions → AllByRecursion Q traffic → AllByRecursion Q (admitted_in admissions)
+each_slot : (Q : List (Option Cell) → Type 0) →
+    ((marks : List Bool) (cells : List (Option Cell)) → Q cells → Q (admitted marks cells)) →
+    (limits : List (Option ℕ)) (marks : List Bool) (traffic : List (List (Option Cell)))
+    (admissions : List Admission) → AreJudged limits marks traffic admissions → AllByRecursion Q traffic →
+    AllByRecursion Q (admitted_in admissions)
 unfolding admission
 each_slot Q keeps limits marks [] [] judged all = tt
 each_slot Q keeps limits marks [] (a ∷ admissions) judged all = absurd judged
@@ -40,7 +44,8 @@ each_slot Q keeps limits marks (cells ∷ traffic) [] judged all = absurd judged
 each_slot Q keeps limits marks (cells ∷ traffic) (a ∷ admissions) judged all =
     (subst (λ (x : Admission). Q x.cells) (sym judged.0.1) (keeps (marks_after limits judged.0.0 marks cells) cells all.0), each_slot Q keeps limits a.marks traffic admissions judged.1 all.1)
 
-all_kept : (P : Cell → Type 0) (marks : List Bool) (cells : List (Option Cell)) → AllByRecursion P (present cells) → AllByRecursion P (present (admitted marks cells))
+all_kept : (P : Cell → Type 0) (marks : List Bool) (cells : List (Option Cell)) → AllByRecursion P (present cells) →
+    AllByRecursion P (present (admitted marks cells))
 all_kept P [] cells all = all
 all_kept P (mark ∷ marks) [] all = tt
 all_kept P (true ∷ marks) (None ∷ cells) all = all_kept P marks cells all
@@ -54,7 +59,8 @@ StandAt a [] = Unit {0}
 StandAt a (None ∷ cells) = StandAt (a + 1) cells
 StandAt a (Some cell ∷ cells) = (cell.id.input ≡ a) × StandAt (a + 1) cells
 
-still_stand : (a : ℕ) (marks : List Bool) (cells : List (Option Cell)) → StandAt a cells → StandAt a (admitted marks cells)
+still_stand : (a : ℕ) (marks : List Bool) (cells : List (Option Cell)) → StandAt a cells →
+    StandAt a (admitted marks cells)
 still_stand a [] cells at = at
 still_stand a (mark ∷ marks) [] at = tt
 still_stand a (true ∷ marks) (None ∷ cells) at = still_stand (a + 1) marks cells at
@@ -65,7 +71,8 @@ still_stand a (false ∷ marks) (Some cell ∷ cells) at = (at.0, still_stand (a
 -- ## A flow comes at its input
 
 module _ (i c j : ℕ) where
-  other : (cell : Cell) (cells : List Cell) → (cell.id.input ≡ i → ⊥) → of_flow i c j (cell ∷ cells) ≡ of_flow i c j cells
+  other : (cell : Cell) (cells : List Cell) → (cell.id.input ≡ i → ⊥) →
+      of_flow i c j (cell ∷ cells) ≡ of_flow i c j cells
   unfolding of_flow
   other cell cells ne =
       cond-false (is_of_flow i c j cell) (cell ∷ filter (is_of_flow i c j) cells) (filter (is_of_flow i c j) cells)
@@ -75,22 +82,28 @@ module _ (i c j : ℕ) where
   unfolding of_flow other
   none_past a [] at lt = refl
   none_past a (None ∷ cells) at lt = none_past (a + 1) cells at (omega arith)
-  none_past a (Some cell ∷ cells) at lt = let here = at.0 in other cell (present cells) (λ e. omega arith) ∙ none_past (a + 1) cells at.1 (omega arith)
+  none_past a (Some cell ∷ cells) at lt =
+      let here = at.0 in other cell (present cells) (λ e. omega arith) ∙ none_past (a + 1) cells at.1 (omega arith)
 
-  at_place : (a k : ℕ) (cells : List (Option Cell)) → StandAt a cells → i ≡ a + k → of_flow i c j (present cells) ≡ of_flow i c j (cell_listed (arrival_at cells k))
+  at_place : (a k : ℕ) (cells : List (Option Cell)) → StandAt a cells → i ≡ a + k →
+      of_flow i c j (present cells) ≡ of_flow i c j (cell_listed (arrival_at cells k))
   unfolding of_flow other none_past
   at_place a k [] at e = refl
   at_place a zero (None ∷ cells) at e = none_past (a + 1) cells at (omega arith)
-  at_place a zero (Some cell ∷ cells) at e = ap (λ (l : List Cell). cond (is_of_flow i c j cell) (cell ∷ l) l) (none_past (a + 1) cells at.1 (omega arith))
+  at_place a zero (Some cell ∷ cells) at e =
+      ap (λ (l : List Cell). cond (is_of_flow i c j cell) (cell ∷ l) l) (none_past (a + 1) cells at.1 (omega arith))
   at_place a (suc k) (None ∷ cells) at e = at_place (a + 1) k cells at (omega arith)
-  at_place a (suc k) (Some cell ∷ cells) at e = let here = at.0 in other cell (present cells) (λ same. omega arith) ∙ at_place (a + 1) k cells at.1 (omega arith)
+  at_place a (suc k) (Some cell ∷ cells) at e =
+      let here = at.0 in other cell (present cells) (λ same. omega arith) ∙ at_place (a + 1) k cells at.1 (omega arith)
 
-  joins : (x : Option Cell) (cells : List Cell) → of_flow i c j (cell_listed x) ++ of_flow i c j cells ≡ of_flow i c j (cons_option x cells)
+  joins : (x : Option Cell) (cells : List Cell) →
+      of_flow i c j (cell_listed x) ++ of_flow i c j cells ≡ of_flow i c j (cons_option x cells)
   unfolding of_flow
   joins None cells = refl
   joins (Some cell) cells = of_flow-cons i c j cell cells
 
-  comes_at_input : (traffic : List (List (Option Cell))) → AllByRecursion (StandAt 0) traffic → flow_came i c j traffic ≡ of_flow i c j (cells_at i traffic)
+  comes_at_input : (traffic : List (List (Option Cell))) → AllByRecursion (StandAt 0) traffic →
+      flow_came i c j traffic ≡ of_flow i c j (cells_at i traffic)
   unfolding flow_came of_flow joins
   comes_at_input [] at = refl
   comes_at_input (cells ∷ traffic) at =
@@ -103,11 +116,16 @@ filter_both : (p q : Cell → Bool) (cells : List Cell) → filter p (filter q c
 filter_both p q [] = refl
 filter_both p q (cell ∷ cells) = go (p cell) (q cell) refl refl (filter_both p q cells)
   where
-    if_first : (r : Cell → Bool) (b : Bool) (rest : List Cell) → r cell ≡ b → filter r (cell ∷ rest) ≡ cond b (cell ∷ filter r rest) (filter r rest)
+    if_first : (r : Cell → Bool) (b : Bool) (rest : List Cell) → r cell ≡ b →
+        filter r (cell ∷ rest) ≡ cond b (cell ∷ filter r rest) (filter r rest)
     if_first r b rest e = ap (λ (t : Bool). cond t (cell ∷ filter r rest) (filter r rest)) e
 
-    go : (b d : Bool) → p cell ≡ b → q cell ≡ d → filter p (filter q cells) ≡ filter q (filter p cells) → filter p (cond d (cell ∷ filter q cells) (filter q cells)) ≡ filter q (cond b (cell ∷ filter p cells) (filter p cells))
-    go true true e f same = if_first p true (filter q cells) e ∙ ap (λ (l : List Cell). cell ∷ l) same ∙ sym (if_first q true (filter p cells) f)
+    go : (b d : Bool) → p cell ≡ b → q cell ≡ d → filter p (filter q cells) ≡ filter q (filter p cells) →
+        filter p (cond d (cell ∷ filter q cells) (filter q cells)) ≡ filter q
+        (cond b (cell ∷ filter p cells) (filter p cells))
+    go true true e f same =
+        if_first p true (filter q cells) e ∙ ap (λ (l : List Cell). cell ∷ l) same ∙ sym
+        (if_first q true (filter p cells) f)
     go true false e f same = same ∙ sym (if_first q false (filter p cells) f)
     go false true e f same = if_first p false (filter q cells) e ∙ same
     go false false e f same = same
@@ -117,13 +135,16 @@ filter_both p q (cell ∷ cells) = go (p cell) (q cell) refl refl (filter_both p
 stand_arriving : (came : List Arrival) (t a n : ℕ) → StandAt a (map (arriving_at came t) (range_with_len a n))
 unfolding found
 stand_arriving came t a zero = tt
-stand_arriving came t a (suc n) = go (arriving_at came t a) (map (arriving_at came t) (range_with_len (a + 1) n)) (all_found (λ cell. cell.id.input ≡ a) came t a (own came)) (stand_arriving came t (a + 1) n)
+stand_arriving came t a (suc n) =
+    go (arriving_at came t a) (map (arriving_at came t) (range_with_len (a + 1) n))
+    (all_found (λ cell. cell.id.input ≡ a) came t a (own came)) (stand_arriving came t (a + 1) n)
   where
     own : (came : List Arrival) → AllByRecursion (λ x. x.slot ≡ t → x.cell.id.input ≡ a → x.cell.id.input ≡ a) came
     own [] = tt
     own (x ∷ came) = (λ _ e. e, own came)
 
-    go : (o : Option Cell) (cells : List (Option Cell)) → AllByRecursion (λ cell. cell.id.input ≡ a) (cell_listed o) → StandAt (a + 1) cells → StandAt a (o ∷ cells)
+    go : (o : Option Cell) (cells : List (Option Cell)) → AllByRecursion (λ cell. cell.id.input ≡ a) (cell_listed o) →
+        StandAt (a + 1) cells → StandAt a (o ∷ cells)
     go None cells is at = at
     go (Some cell) cells is at = (is.0, at)
 
@@ -136,7 +157,8 @@ all_stand : (came : List Arrival) → AllByRecursion (StandAt 0) (traffic_of cam
 unfolding traffic_of
 all_stand came = stand_in came 0 (enough came)
 
-came_at_input : (ms : List Machine) (ports : ℕ) (openings : List (List ℕ)) (came : List Arrival) → IsRunnable ms ports openings came → (i c j : ℕ) → flow_came i c j (traffic_of came) ≡ came_in_flow i c j came
+came_at_input : (ms : List Machine) (ports : ℕ) (openings : List (List ℕ)) (came : List Arrival) →
+    IsRunnable ms ports openings came → (i c j : ℕ) → flow_came i c j (traffic_of came) ≡ came_in_flow i c j came
 unfolding traffic_of enough
 came_at_input ms ports openings came runs i c j =
     came_in_order i c j (enough came) came
@@ -169,24 +191,33 @@ module _ (limits : List (Option ℕ)) (ms : List Machine) (ports : ℕ) (opening
   run = is_run_of limits ms 0 (traffic_of came) (empty_limited ports openings) ran is
 
   nothing_left : All (λ cells. cells ≡ []) ran.after.state.lists
-  nothing_left = subst (λ (x : Result LimitedRan TagFault). IfOk x (λ end. All (λ cells. cells ≡ []) end.after.state.lists)) is (limited_empty_at_end limits ms ports openings came)
+  nothing_left =
+      subst (λ (x : Result LimitedRan TagFault). IfOk x (λ end. All (λ cells. cells ≡ []) end.after.state.lists)) is
+      (limited_empty_at_end limits ms ports openings came)
 
   taken_of_flow : (c j : ℕ) → flow_came i c j (admitted_in ran.admissions) ≡ filter takes (came_in_flow i c j came)
   unfolding of_flow takes
   taken_of_flow c j =
-      comes_at_input i c j (admitted_in ran.admissions) (each_slot (StandAt 0) (still_stand 0) limits marks (traffic_of came) ran.admissions each_judged (all_stand came))
+      comes_at_input i c j (admitted_in ran.admissions)
+      (each_slot (StandAt 0) (still_stand 0) limits marks (traffic_of came) ran.admissions each_judged (all_stand came))
       ∙ ap (filter (is_of_flow i c j)) whole.are
       ∙ filter_both (is_of_flow i c j) takes (cells_at i (traffic_of came))
-      ∙ ap (filter takes) (sym (comes_at_input i c j (traffic_of came) (all_stand came)) ∙ came_at_input ms ports openings came runs i c j)
+      ∙ ap (filter takes)
+      (sym (comes_at_input i c j (traffic_of came) (all_stand came)) ∙ came_at_input ms ports openings came runs i c j)
 
-  at_port : (c j : ℕ) → j < ports → left_in_flow i c j (departures_of 0 ran.gone) ≡ filter takes (came_in_flow i c j came)
+  at_port : (c j : ℕ) → j < ports →
+      left_in_flow i c j (departures_of 0 ran.gone) ≡ filter takes (came_in_flow i c j came)
   unfolding without
   at_port c j inside =
-      let of_classes = each_slot (λ cells. AreOfClasses (machine_at ms j) j (present cells)) (all_kept (λ cell. cell.output ≡ j → cell.class < (machine_at ms j).classes)) limits marks (traffic_of came) ran.admissions each_judged (classes ms ports j came runs.for_switch) in
-      left_as_came ms ports openings j (runs.machines j inside) runs.ports_are (runs.sizes j inside) inside i c (admitted_in ran.admissions) without run of_classes nothing_left
+      let of_classes = each_slot (λ cells. AreOfClasses (machine_at ms j) j (present cells))
+      (all_kept (λ cell. cell.output ≡ j → cell.class < (machine_at ms j).classes)) limits marks
+      (traffic_of came) ran.admissions each_judged (classes ms ports j came runs.for_switch) in
+      left_as_came ms ports openings j (runs.machines j inside) runs.ports_are (runs.sizes j inside) inside i c
+      (admitted_in ran.admissions) without run of_classes nothing_left
       ∙ taken_of_flow c j
 
-  elsewhere : (c j : ℕ) → ports ≤ j → left_in_flow i c j (departures_of 0 ran.gone) ≡ filter takes (came_in_flow i c j came)
+  elsewhere : (c j : ℕ) → ports ≤ j →
+      left_in_flow i c j (departures_of 0 ran.gone) ≡ filter takes (came_in_flow i c j came)
   unfolding without
   elsewhere c j le =
       let nil : List Queued = [] in
@@ -196,7 +227,9 @@ module _ (limits : List (Option ℕ)) (ms : List Machine) (ports : ℕ) (opening
 
   pub in_packets : LeaveInPackets came ran i
   unfolding takes
-  in_packets = record { is_taken = whole.is_taken; admitted = whole.are; left = λ c j. ⊎_elim (λ l. at_port c j l) (λ le. elsewhere c j le) (cases_lt j ports) }
+  in_packets =
+      record { is_taken = whole.is_taken; admitted = whole.are; left = λ c j. ⊎_elim (λ l. at_port c j l) (λ le. elsewhere c j le) (cases_lt j ports) }
 
 pub flows_leave_in_packets : FlowsLeaveInPackets
-flows_leave_in_packets limits ms ports openings came ran runs is i packets = in_packets limits ms ports openings came ran runs is i packets
+flows_leave_in_packets limits ms ports openings came ran runs is i packets =
+    in_packets limits ms ports openings came ran runs is i packets

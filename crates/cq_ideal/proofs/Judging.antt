@@ -10,10 +10,17 @@ pub record Judging (limits : List (Option ℕ)) (cells : List (Option Cell)) (he
   pub outputs : length held ≡ length held₀
   pub few : (j : ℕ) → get_or held j 0 ≤ get_or held₀ j 0 + input
 
-one_more : (limits : List (Option ℕ)) (held : List ℕ) (input : ℕ) (marks : List Bool) (cell : Option Cell) (rest : List (Option Cell)) (up : Bool) → up ≡ mark_after limits held (get_or marks input false) cell → input < length marks → take (suc input) (set marks input up) ++ marks_after limits (held_after up held cell) (drop (suc input) (set marks input up)) rest ≡ take input marks ++ marks_after limits held (drop input marks) (cell ∷ rest)
+one_more : (limits : List (Option ℕ)) (held : List ℕ) (input : ℕ) (marks : List Bool) (cell : Option Cell)
+    (rest : List (Option Cell)) (up : Bool) → up ≡ mark_after limits held (get_or marks input false) cell →
+    input < length marks →
+    take (suc input) (set marks input up) ++ marks_after limits (held_after up held cell)
+    (drop (suc input) (set marks input up)) rest ≡ take input marks ++ marks_after limits held (drop input marks)
+    (cell ∷ rest)
 one_more limits held input [] cell rest up e lt = absurd (omega arith)
-one_more limits held zero (mark ∷ marks) cell rest up e lt = ap (λ (b : Bool). b ∷ marks_after limits (held_after b held cell) marks rest) e
-one_more limits held (suc input) (mark ∷ marks) cell rest up e lt = ap (λ (l : List Bool). mark ∷ l) (one_more limits held input marks cell rest up e (omega arith))
+one_more limits held zero (mark ∷ marks) cell rest up e lt =
+    ap (λ (b : Bool). b ∷ marks_after limits (held_after b held cell) marks rest) e
+one_more limits held (suc input) (mark ∷ marks) cell rest up e lt =
+    ap (λ (l : List Bool). mark ∷ l) (one_more limits held input marks cell rest up e (omega arith))
 
 -- what an output holds grows by one at most
 raised : (held : List ℕ) (o j : ℕ) → get_or (set held o (get_or held o 0 + 1)) j 0 ≤ get_or held j 0 + 1
@@ -23,7 +30,8 @@ raised (n ∷ held) zero (suc j) = omega arith
 raised (n ∷ held) (suc o) zero = omega arith
 raised (n ∷ held) (suc o) (suc j) = raised held o j
 
-one_at_most : (up : Bool) (held : List ℕ) (cell : Option Cell) (j : ℕ) → get_or (held_after up held cell) j 0 ≤ get_or held j 0 + 1
+one_at_most : (up : Bool) (held : List ℕ) (cell : Option Cell) (j : ℕ) →
+    get_or (held_after up held cell) j 0 ≤ get_or held j 0 + 1
 one_at_most true held cell j = omega arith
 one_at_most false held None j = omega arith
 one_at_most false held (Some cell) j = raised held cell.output j
@@ -33,7 +41,11 @@ as_many true held cell = refl
 as_many false held None = refl
 as_many false held (Some cell) = length-set held cell.output (get_or held cell.output 0 + 1)
 
-pub judged_next : (limits : List (Option ℕ)) (cells : List (Option Cell)) (held₀ : List ℕ) (marks₀ : List Bool) (input : ℕ) (held : List ℕ) (marks : List Bool) (cell : Option Cell) (up : Bool) (held' : List ℕ) → Judging limits cells held₀ marks₀ input held marks → input < length marks₀ → drop input cells ≡ cell ∷ drop (input + 1) cells → up ≡ mark_after limits held (get_or marks input false) cell → held' ≡ held_after up held cell → Judging limits cells held₀ marks₀ (input + 1) held' (set marks input up)
+pub judged_next : (limits : List (Option ℕ)) (cells : List (Option Cell)) (held₀ : List ℕ) (marks₀ : List Bool)
+    (input : ℕ) (held : List ℕ) (marks : List Bool) (cell : Option Cell) (up : Bool) (held' : List ℕ) →
+    Judging limits cells held₀ marks₀ input held marks → input < length marks₀ →
+    drop input cells ≡ cell ∷ drop (input + 1) cells → up ≡ mark_after limits held (get_or marks input false) cell →
+    held' ≡ held_after up held cell → Judging limits cells held₀ marks₀ (input + 1) held' (set marks input up)
 judged_next limits cells held₀ marks₀ input held marks cell up held' j lt here e h =
     let inputs = j.inputs in
     let one = one_more limits held input marks cell (drop (input + 1) cells) up e (omega arith) in
@@ -45,5 +57,6 @@ judged_next limits cells held₀ marks₀ input held marks cell up held' j lt he
           (one ∙ ap (λ (l : List (Option Cell)). take input marks ++ marks_after limits held (drop input marks) l) (sym here) ∙ j.judged));
       inputs = length-set marks input up ∙ j.inputs;
       outputs = ap length h ∙ as_many up held cell ∙ j.outputs;
-      few = λ k. let was = j.few k in let now = one_at_most up held cell k in let is = ap (λ (l : List ℕ). get_or l k 0) h in omega arith;
+      few = λ k. let was = j.few k in let now = one_at_most up held cell k in let is = ap
+          (λ (l : List ℕ). get_or l k 0) h in omega arith;
     }

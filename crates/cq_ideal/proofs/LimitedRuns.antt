@@ -8,26 +8,34 @@ use Rattle.cq_rank.specs.Machine.{Machine}
 use Rattle.cq_ideal.specs.Admission.{Admission, Marked, NoLimits, RefusesNone, admitted_in, marked, marks_down}
 use Rattle.cq_ideal.specs.IdealSlot.{IdealState, Sent, ideal_slot}
 use Rattle.cq_ideal.specs.IdealRun.{Ran, then_ran, ideal_run}
-use Rattle.cq_ideal.specs.LimitedIdeal.{LimitedSent, LimitedRan, ideal_held, ideal_admission, with_admission, limited_slot, then_limited, limited_run, admitted_traffic, unlimited}
+use Rattle.cq_ideal.specs.LimitedIdeal.{LimitedSent, LimitedRan, ideal_held, ideal_admission, with_admission, limited_slot, then_limited, in_front, limited_run, admitted_traffic, unlimited}
 use Rattle.cq_ideal.specs.WholePackets.{AreJudged}
 use Rattle.cq_ideal.proofs.Admitted.{no_limits_refuse_none}
 
 -- a slot, and what follows where it had no fault
 then_run : List Machine → ℕ → List (List (Option Cell)) → Result Sent TagFault → Result Ran TagFault
-then_run ms slot traffic x = elim x [ Ok sent ↦ then_ran sent.gone (ideal_run ms (slot + 1) traffic sent.after) | Err fault ↦ Err fault ]
+then_run ms slot traffic x =
+    elim x [ Ok sent ↦ then_ran sent.gone (ideal_run ms (slot + 1) traffic sent.after) | Err fault ↦ Err fault ]
 
 module _ (limits : List (Option ℕ)) (ms : List Machine) where
   goes_on : ℕ → List (List (Option Cell)) → Result LimitedSent TagFault → Result LimitedRan TagFault
-  goes_on slot traffic x = elim x [ Ok sent ↦ then_limited sent (limited_run limits ms (slot + 1) traffic sent.after) | Err fault ↦ Err fault ]
+  goes_on slot traffic x =
+      elim x [ Ok sent ↦ then_limited sent (limited_run limits ms (slot + 1) traffic sent.after) | Err fault ↦ Err fault ]
 
   admitted_later : ℕ → List (List (Option Cell)) → Result LimitedSent TagFault → List (List (Option Cell))
-  admitted_later slot traffic x = elim x [ Ok sent ↦ admitted_traffic limits ms (slot + 1) traffic sent.after | Err fault ↦ [] ]
+  admitted_later slot traffic x =
+      elim x [ Ok sent ↦ admitted_traffic limits ms (slot + 1) traffic sent.after | Err fault ↦ [] ]
 
-  unlimited_then : (sent : LimitedSent) (x : Result LimitedRan TagFault) → unlimited (then_limited sent x) ≡ then_ran sent.gone (unlimited x)
+  unlimited_then : (sent : LimitedSent) (x : Result LimitedRan TagFault) →
+      unlimited (then_limited sent x) ≡ then_ran sent.gone (unlimited x)
   unlimited_then sent (Ok ran) = refl
   unlimited_then sent (Err fault) = refl
 
-  same_step : (slot : ℕ) (traffic : List (List (Option Cell))) (a : Admission) (x : Result Sent TagFault) → ((after : Marked IdealState) → unlimited (limited_run limits ms (slot + 1) traffic after) ≡ ideal_run ms (slot + 1) (admitted_traffic limits ms (slot + 1) traffic after) after.state) → unlimited (goes_on slot traffic (with_admission a x)) ≡ then_run ms slot (admitted_later slot traffic (with_admission a x)) x
+  same_step : (slot : ℕ) (traffic : List (List (Option Cell))) (a : Admission) (x : Result Sent TagFault) →
+      ((after : Marked IdealState) → unlimited (limited_run limits ms (slot + 1) traffic after)
+      ≡ ideal_run ms (slot + 1) (admitted_traffic limits ms (slot + 1) traffic after) after.state) →
+      unlimited (goes_on slot traffic (with_admission a x))
+      ≡ then_run ms slot (admitted_later slot traffic (with_admission a x)) x
   unfolding goes_on admitted_later then_run
   same_step slot traffic a (Ok sent) rest =
       let after : Marked IdealState = record { state = sent.after; marks = a.marks } in
@@ -35,7 +43,9 @@ module _ (limits : List (Option ℕ)) (ms : List Machine) where
       unlimited_then one (limited_run limits ms (slot + 1) traffic after) ∙ ap (then_ran sent.gone) (rest after)
   same_step slot traffic a (Err fault) rest = refl
 
-  pub run_of_admitted : (slot : ℕ) (traffic : List (List (Option Cell))) (old : Marked IdealState) → unlimited (limited_run limits ms slot traffic old) ≡ ideal_run ms slot (admitted_traffic limits ms slot traffic old) old.state
+  pub run_of_admitted : (slot : ℕ) (traffic : List (List (Option Cell))) (old : Marked IdealState) →
+      unlimited (limited_run limits ms slot traffic old) ≡ ideal_run ms slot
+      (admitted_traffic limits ms slot traffic old) old.state
   unfolding limited_run admitted_traffic limited_slot ideal_run goes_on admitted_later then_run
   run_of_admitted slot [] old = refl
   run_of_admitted slot (cells ∷ traffic) old =
@@ -45,22 +55,29 @@ module _ (limits : List (Option ℕ)) (ms : List Machine) where
   -- ## One slot of a run
 
   -- it says which marks are up after it
-  its_admission : (a : Admission) (x : Result Sent TagFault) (sent : LimitedSent) → with_admission a x ≡ Ok sent → (sent.admission ≡ a) × (sent.after.marks ≡ a.marks)
+  its_admission : (a : Admission) (x : Result Sent TagFault) (sent : LimitedSent) → with_admission a x ≡ Ok sent →
+      (sent.admission ≡ a) × (sent.after.marks ≡ a.marks)
   its_admission a (Ok s) sent h =
-      let is : record { admission = a; gone = s.gone; after = record { state = s.after; marks = a.marks } } ≡ sent = cc in
+      let is : record { admission = a; gone = s.gone; after = marked a.marks s.after } ≡ sent =
+      cc in
       (ap (λ (y : LimitedSent). y.admission) (sym is), ap (λ (y : LimitedSent). y.after.marks) (sym is))
   its_admission a (Err fault) sent h = absurd (let P : ⊥ = cc in P)
 
   module _ (slot : ℕ) (cells : List (Option Cell)) (traffic : List (List (Option Cell))) (old : Marked IdealState) where
-    pub run_step : (sent : LimitedSent) → limited_slot limits ms slot cells old ≡ Ok sent → limited_run limits ms slot (cells ∷ traffic) old ≡ then_limited sent (limited_run limits ms (slot + 1) traffic sent.after)
+    pub run_step : (sent : LimitedSent) → limited_slot limits ms slot cells old ≡ Ok sent →
+        limited_run limits ms slot (cells ∷ traffic) old ≡ then_limited sent
+        (limited_run limits ms (slot + 1) traffic sent.after)
     unfolding limited_run goes_on
     run_step sent is = ap (goes_on slot traffic) is
 
-    pub run_fault : (fault : TagFault) → limited_slot limits ms slot cells old ≡ Err fault → limited_run limits ms slot (cells ∷ traffic) old ≡ Err fault
+    pub run_fault : (fault : TagFault) → limited_slot limits ms slot cells old ≡ Err fault →
+        limited_run limits ms slot (cells ∷ traffic) old ≡ Err fault
     unfolding limited_run goes_on
     run_fault fault is = ap (goes_on slot traffic) is
 
-    pub admitted_step : (sent : LimitedSent) → limited_slot limits ms slot cells old ≡ Ok sent → admitted_traffic limits ms slot (cells ∷ traffic) old ≡ sent.admission.cells ∷ admitted_traffic limits ms (slot + 1) traffic sent.after
+    pub admitted_step : (sent : LimitedSent) → limited_slot limits ms slot cells old ≡ Ok sent →
+        admitted_traffic limits ms slot (cells ∷ traffic) old ≡ sent.admission.cells ∷ admitted_traffic limits ms
+        (slot + 1) traffic sent.after
     unfolding admitted_traffic admitted_later limited_slot
     admitted_step sent is =
         let a = ideal_admission limits cells old in
@@ -70,23 +87,32 @@ module _ (limits : List (Option ℕ)) (ms : List Machine) where
 
   -- ## A run that ends without a fault
 
-  then_ok : (P : LimitedRan → Type 0) (sent : LimitedSent) (x : Result LimitedRan TagFault) (ran : LimitedRan) → then_limited sent x ≡ Ok ran → ((rest : LimitedRan) → x ≡ Ok rest → P (record { admissions = sent.admission ∷ rest.admissions; gone = sent.gone ∷ rest.gone; after = rest.after })) → P ran
+  then_ok : (P : LimitedRan → Type 0) (sent : LimitedSent) (x : Result LimitedRan TagFault) (ran : LimitedRan) →
+      then_limited sent x ≡ Ok ran →
+      ((rest : LimitedRan) → x ≡ Ok rest → P (in_front sent rest)) → P ran
   then_ok P sent (Ok rest) ran h f =
-      let is : record { admissions = sent.admission ∷ rest.admissions; gone = sent.gone ∷ rest.gone; after = rest.after } ≡ ran = cc in subst P is (f rest refl)
+      let is : in_front sent rest ≡ ran = cc in subst P is (f rest refl)
   then_ok P sent (Err fault) ran h f = absurd (let P : ⊥ = cc in P)
 
-  slot_ok : (P : LimitedRan → Type 0) (slot : ℕ) (traffic : List (List (Option Cell))) (x : Result LimitedSent TagFault) (ran : LimitedRan) → goes_on slot traffic x ≡ Ok ran → ((sent : LimitedSent) (rest : LimitedRan) → x ≡ Ok sent → limited_run limits ms (slot + 1) traffic sent.after ≡ Ok rest → P (record { admissions = sent.admission ∷ rest.admissions; gone = sent.gone ∷ rest.gone; after = rest.after })) → P ran
+  slot_ok : (P : LimitedRan → Type 0) (slot : ℕ) (traffic : List (List (Option Cell)))
+      (x : Result LimitedSent TagFault) (ran : LimitedRan) → goes_on slot traffic x ≡ Ok ran →
+      ((sent : LimitedSent) (rest : LimitedRan) → x ≡ Ok sent →
+      limited_run limits ms (slot + 1) traffic sent.after ≡ Ok rest → P (in_front sent rest)) → P ran
   unfolding goes_on
-  slot_ok P slot traffic (Ok sent) ran h f = then_ok P sent (limited_run limits ms (slot + 1) traffic sent.after) ran h (λ rest more. f sent rest refl more)
+  slot_ok P slot traffic (Ok sent) ran h f =
+      then_ok P sent (limited_run limits ms (slot + 1) traffic sent.after) ran h (λ rest more. f sent rest refl more)
   slot_ok P slot traffic (Err fault) ran h f = absurd (let P : ⊥ = cc in P)
 
   -- each slot was judged
-  pub judged : (slot : ℕ) (traffic : List (List (Option Cell))) (old : Marked IdealState) (ran : LimitedRan) → limited_run limits ms slot traffic old ≡ Ok ran → AreJudged limits old.marks traffic ran.admissions
+  pub judged : (slot : ℕ) (traffic : List (List (Option Cell))) (old : Marked IdealState) (ran : LimitedRan) →
+      limited_run limits ms slot traffic old ≡ Ok ran → AreJudged limits old.marks traffic ran.admissions
   unfolding limited_run goes_on limited_slot
   judged slot [] old ran h =
-      let is : record { admissions = []; gone = []; after = old } ≡ ran = cc in subst (λ (y : LimitedRan). AreJudged limits old.marks [] y.admissions) is tt
+      let is : record { admissions = []; gone = []; after = old } ≡ ran = cc in subst
+      (λ (y : LimitedRan). AreJudged limits old.marks [] y.admissions) is tt
   judged slot (cells ∷ traffic) old ran h =
-      slot_ok (λ y. AreJudged limits old.marks (cells ∷ traffic) y.admissions) slot traffic (limited_slot limits ms slot cells old) ran h
+      slot_ok (λ y. AreJudged limits old.marks (cells ∷ traffic) y.admissions) slot traffic
+      (limited_slot limits ms slot cells old) ran h
       (λ sent rest is more.
       let a = ideal_admission limits cells old in
       let its = its_admission a (ideal_slot ms slot a.cells old.state) sent is in
@@ -94,31 +120,45 @@ module _ (limits : List (Option ℕ)) (ms : List Machine) where
       ((ideal_held old.state, its.0), subst (λ (marks : List Bool). AreJudged limits marks traffic rest.admissions) stay (judged (slot + 1) traffic sent.after rest more)))
 
   -- what was admitted is what its admissions say
-  pub admitted_are : (slot : ℕ) (traffic : List (List (Option Cell))) (old : Marked IdealState) (ran : LimitedRan) → limited_run limits ms slot traffic old ≡ Ok ran → admitted_traffic limits ms slot traffic old ≡ admitted_in ran.admissions
+  pub admitted_are : (slot : ℕ) (traffic : List (List (Option Cell))) (old : Marked IdealState) (ran : LimitedRan) →
+      limited_run limits ms slot traffic old ≡ Ok ran →
+      admitted_traffic limits ms slot traffic old ≡ admitted_in ran.admissions
   unfolding limited_run goes_on admitted_traffic
   admitted_are slot [] old ran h =
-      let is : record { admissions = []; gone = []; after = old } ≡ ran = cc in ap (λ (y : LimitedRan). admitted_in y.admissions) is
+      let is : record { admissions = []; gone = []; after = old } ≡ ran = cc in ap
+      (λ (y : LimitedRan). admitted_in y.admissions) is
   admitted_are slot (cells ∷ traffic) old ran h =
-      slot_ok (λ y. admitted_traffic limits ms slot (cells ∷ traffic) old ≡ admitted_in y.admissions) slot traffic (limited_slot limits ms slot cells old) ran h
+      slot_ok (λ y. admitted_traffic limits ms slot (cells ∷ traffic) old ≡ admitted_in y.admissions) slot traffic
+      (limited_slot limits ms slot cells old) ran h
       (λ sent rest is more. admitted_step slot cells traffic old sent is ∙ ap (λ (l : List (List (Option Cell))). sent.admission.cells ∷ l) (admitted_are (slot + 1) traffic sent.after rest more))
 
   -- so it is the run without limits of these
-  pub is_run_of : (slot : ℕ) (traffic : List (List (Option Cell))) (old : Marked IdealState) (ran : LimitedRan) → limited_run limits ms slot traffic old ≡ Ok ran → ideal_run ms slot (admitted_in ran.admissions) old.state ≡ Ok (record { gone = ran.gone; after = ran.after.state })
+  pub is_run_of : (slot : ℕ) (traffic : List (List (Option Cell))) (old : Marked IdealState) (ran : LimitedRan) →
+      limited_run limits ms slot traffic old ≡ Ok ran →
+      ideal_run ms slot (admitted_in ran.admissions) old.state ≡ Ok
+      (record { gone = ran.gone; after = ran.after.state })
   is_run_of slot traffic old ran h =
-      ap (λ (came : List (List (Option Cell))). ideal_run ms slot came old.state) (sym (admitted_are slot traffic old ran h))
+      ap (λ (came : List (List (Option Cell))). ideal_run ms slot came old.state)
+      (sym (admitted_are slot traffic old ran h))
       ∙ sym (run_of_admitted slot traffic old) ∙ ap unlimited h
 
   -- ## Where nothing is refused
 
   module _ (marks : List Bool) where
-    all_later : (slot : ℕ) (traffic : List (List (Option Cell))) (a : Admission) (x : Result Sent TagFault) → a.marks ≡ marks → ((s : IdealState) → ideal_run ms (slot + 1) (admitted_traffic limits ms (slot + 1) traffic (marked marks s)) s ≡ ideal_run ms (slot + 1) traffic s) → then_run ms slot (admitted_later slot traffic (with_admission a x)) x ≡ then_run ms slot traffic x
+    all_later : (slot : ℕ) (traffic : List (List (Option Cell))) (a : Admission) (x : Result Sent TagFault) →
+        a.marks ≡ marks →
+        ((s : IdealState) → ideal_run ms (slot + 1) (admitted_traffic limits ms (slot + 1) traffic (marked marks s)) s
+        ≡ ideal_run ms (slot + 1) traffic s) →
+        then_run ms slot (admitted_later slot traffic (with_admission a x)) x ≡ then_run ms slot traffic x
     unfolding admitted_later then_run
     all_later slot traffic a (Ok sent) stay rest =
         ap (λ (m : List Bool). then_ran sent.gone (ideal_run ms (slot + 1) (admitted_traffic limits ms (slot + 1) traffic (marked m sent.after)) sent.after)) stay
         ∙ ap (then_ran sent.gone) (rest sent.after)
     all_later slot traffic a (Err fault) stay rest = refl
 
-    all_admitted : (slot : ℕ) (traffic : List (List (Option Cell))) (s : IdealState) → AllByRecursion (RefusesNone limits marks) traffic → ideal_run ms slot (admitted_traffic limits ms slot traffic (marked marks s)) s ≡ ideal_run ms slot traffic s
+    all_admitted : (slot : ℕ) (traffic : List (List (Option Cell))) (s : IdealState) →
+        AllByRecursion (RefusesNone limits marks) traffic →
+        ideal_run ms slot (admitted_traffic limits ms slot traffic (marked marks s)) s ≡ ideal_run ms slot traffic s
     unfolding admitted_traffic limited_slot ideal_run then_run admitted_later
     all_admitted slot [] s none = refl
     all_admitted slot (cells ∷ traffic) s none =
@@ -126,12 +166,17 @@ module _ (limits : List (Option ℕ)) (ms : List Machine) where
         let passed = none.0 (ideal_held s) in
         let all : a.cells ≡ cells = ap (λ (x : Admission). x.cells) passed in
         let stay : a.marks ≡ marks = ap (λ (x : Admission). x.marks) passed in
-        all_later slot traffic a (ideal_slot ms slot a.cells s) stay (λ after. all_admitted (slot + 1) traffic after none.1)
+        all_later slot traffic a (ideal_slot ms slot a.cells s) stay
+        (λ after. all_admitted (slot + 1) traffic after none.1)
         ∙ ap (λ (here : List (Option Cell)). then_run ms slot traffic (ideal_slot ms slot here s)) all
 
-    pub run_of_all : (slot : ℕ) (traffic : List (List (Option Cell))) (s : IdealState) → AllByRecursion (RefusesNone limits marks) traffic → unlimited (limited_run limits ms slot traffic (marked marks s)) ≡ ideal_run ms slot traffic s
+    pub run_of_all : (slot : ℕ) (traffic : List (List (Option Cell))) (s : IdealState) →
+        AllByRecursion (RefusesNone limits marks) traffic →
+        unlimited (limited_run limits ms slot traffic (marked marks s)) ≡ ideal_run ms slot traffic s
     run_of_all slot traffic s none = run_of_admitted slot traffic (marked marks s) ∙ all_admitted slot traffic s none
 
-  pub none_refused_in : (ports : ℕ) (traffic : List (List (Option Cell))) → NoLimits limits → AllByRecursion (RefusesNone limits (marks_down ports)) traffic
+  pub none_refused_in : (ports : ℕ) (traffic : List (List (Option Cell))) → NoLimits limits →
+      AllByRecursion (RefusesNone limits (marks_down ports)) traffic
   none_refused_in ports [] none = tt
-  none_refused_in ports (cells ∷ traffic) none = (no_limits_refuse_none limits ports cells none, none_refused_in ports traffic none)
+  none_refused_in ports (cells ∷ traffic) none =
+      (no_limits_refuse_none limits ports cells none, none_refused_in ports traffic none)

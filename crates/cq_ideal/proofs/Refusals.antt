@@ -13,14 +13,17 @@ use Rattle.cq_ideal.specs.Refused.{AreAllZero, cells_refused, packets_refused, r
 
 -- ## Two lists of refused cells
 
-count_both : (p : Cell → Bool) (before now : List Cell) → length (filter p (before ++ now)) ≡ length (filter p before) + length (filter p now)
+count_both : (p : Cell → Bool) (before now : List Cell) →
+    length (filter p (before ++ now)) ≡ length (filter p before) + length (filter p now)
 count_both p before now = ap length (filter-append p before now) ∙ length-append (filter p before) (filter p now)
 
-cells_both : (j : ℕ) (before now : List Cell) → cells_refused j (before ++ now) ≡ cells_refused j before + cells_refused j now
+cells_both : (j : ℕ) (before now : List Cell) →
+    cells_refused j (before ++ now) ≡ cells_refused j before + cells_refused j now
 unfolding cells_refused
 cells_both j before now = count_both _ before now
 
-packets_both : (j : ℕ) (before now : List Cell) → packets_refused j (before ++ now) ≡ packets_refused j before + packets_refused j now
+packets_both : (j : ℕ) (before now : List Cell) →
+    packets_refused j (before ++ now) ≡ packets_refused j before + packets_refused j now
 unfolding packets_refused
 packets_both j before now = count_both _ before now
 
@@ -28,7 +31,8 @@ packets_both j before now = count_both _ before now
 counts_from : ℕ → List (Option ℕ) → List Cell → List Refused
 counts_from j limits cells = filter_map (λ at. option_map (refused_at cells at.0) at.1) (enumerate_from j limits)
 
-more_from : (j : ℕ) (limits : List (Option ℕ)) (before now : List Cell) → counts_from j limits (before ++ now) ≡ with_refused now (counts_from j limits before)
+more_from : (j : ℕ) (limits : List (Option ℕ)) (before now : List Cell) →
+    counts_from j limits (before ++ now) ≡ with_refused now (counts_from j limits before)
 unfolding counts_from
 more_from j [] before now = refl
 more_from j (None ∷ limits) before now = more_from (j + 1) limits before now
@@ -38,7 +42,8 @@ more_from j (Some limit ∷ limits) before now =
     let rest = more_from (j + 1) limits before now in
     λ k. record { output = j; limit = limit; packets = packets k; cells = cells k } ∷ rest k
 
-pub counts_more : (limits : List (Option ℕ)) (before now : List Cell) → refused_counts limits (before ++ now) ≡ with_refused now (refused_counts limits before)
+pub counts_more : (limits : List (Option ℕ)) (before now : List Cell) →
+    refused_counts limits (before ++ now) ≡ with_refused now (refused_counts limits before)
 unfolding refused_counts counts_from
 counts_more limits before now = more_from 0 limits before now
 
@@ -52,9 +57,12 @@ pub all_zero : (limits : List (Option ℕ)) → AreAllZero (refused_counts limit
 unfolding refused_counts counts_from
 all_zero limits = zero_from 0 limits
 
-pub one_slot_more : (admissions : List Admission) (a : Admission) → refused_in (admissions ++ a ∷ []) ≡ refused_in admissions ++ a.refused
+pub one_slot_more : (admissions : List Admission) (a : Admission) →
+    refused_in (admissions ++ a ∷ []) ≡ refused_in admissions ++ a.refused
 one_slot_more [] a = append-nil a.refused
-one_slot_more (b ∷ admissions) a = ap (λ (l : List Cell). b.refused ++ l) (one_slot_more admissions a) ∙ sym (append_assoc b.refused (refused_in admissions) a.refused)
+one_slot_more (b ∷ admissions) a =
+    ap (λ (l : List Cell). b.refused ++ l) (one_slot_more admissions a) ∙ sym
+    (append_assoc b.refused (refused_in admissions) a.refused)
 
 -- ## Each cell once
 
@@ -62,7 +70,8 @@ of_none : (j : ℕ) → cells_refused j [] ≡ 0
 unfolding cells_refused
 of_none j = refl
 
-cells_cons : (j : ℕ) (cell : Cell) (cells : List Cell) → cells_refused j (cell ∷ cells) ≡ cond (eqb cell.output j) 1 0 + cells_refused j cells
+cells_cons : (j : ℕ) (cell : Cell) (cells : List Cell) →
+    cells_refused j (cell ∷ cells) ≡ cond (eqb cell.output j) 1 0 + cells_refused j cells
 unfolding cells_refused
 cells_cons j cell cells = go (eqb cell.output j)
   where
@@ -73,7 +82,8 @@ cells_cons j cell cells = go (eqb cell.output j)
     go true = omega arith
     go false = omega arith
 
-pub each_once : (j : ℕ) (marks : List Bool) (cells : List (Option Cell)) → count_for j cells ≡ count_for j (admitted marks cells) + cells_refused j (refused marks cells)
+pub each_once : (j : ℕ) (marks : List Bool) (cells : List (Option Cell)) →
+    count_for j cells ≡ count_for j (admitted marks cells) + cells_refused j (refused marks cells)
 each_once j [] cells = let none = of_none j in omega arith
 each_once j (mark ∷ marks) [] = let none = of_none j in omega arith
 each_once j (true ∷ marks) (None ∷ cells) = each_once j marks cells

@@ -3,6 +3,7 @@
 -- ahead of the ranking: a refused cell gets no rank.
 use Rattle.std.specs.Prelude.{◌≡◌, ℕ, ◌+◌, ◌==◌, nat_le, Bool, true, false, if◌then◌else◌, List, [], ◌∷◌, map, replicate, Option, Some, None, slice_set, slice_index_or}
 use Rattle.cq_base.specs.declared.cell.Cell.{Cell}
+use Rattle.cq_base.specs.Arrivals.{arrival_at}
 
 -- whether an output with this limit, or with none, is full when it holds so many cells
 abbrev pub is_full : Option ℕ → ℕ → Bool
@@ -109,3 +110,12 @@ nothing_refused marks cells = record { cells = cells; refused = []; marks = mark
 -- that is what becomes of these arrivals, however many cells the outputs hold
 abbrev pub RefusesNone : List (Option ℕ) → List Bool → List (Option Cell) → Type 0
 RefusesNone limits marks cells = (held : List ℕ) → admission limits held marks cells ≡ nothing_refused marks cells
+
+-- ## What holds of every slot
+
+-- the mark of an input after the slot says what became of its arrival
+abbrev pub MarksDecide : Type 0
+MarksDecide =
+    (limits : List (Option ℕ)) (held : List ℕ) (marks : List Bool) (cells : List (Option Cell)) (i : ℕ) →
+    let a = admission limits held marks cells in
+    arrival_at a.cells i ≡ unless (mark_at a.marks i) (arrival_at cells i)

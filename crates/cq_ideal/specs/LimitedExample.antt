@@ -20,9 +20,12 @@ cell_of input packet index last =
       len = 64;
     }
 
--- input 0 has a packet of one cell
-abbrev pub lone : Cell
-lone = cell_of 0 0 0 true
+-- input 0 has two packets of one cell, of which the later will be refused
+abbrev pub early_packet : Cell
+early_packet = cell_of 0 0 0 true
+
+abbrev pub late_packet : Cell
+late_packet = cell_of 0 1 0 true
 
 -- input 1 has a packet of two cells, which will be refused, and then one of one cell
 abbrev pub refused_first : Cell
@@ -47,19 +50,21 @@ limit_one = Some 1 ∷ None ∷ None ∷ []
 abbrev pub first_come_all : List Machine
 first_come_all = first_come 1 ∷ first_come 1 ∷ first_come 1 ∷ []
 
--- what arrives in the three slots
+-- what arrives in the four slots
 abbrev pub discard_slots : List (List (Option Cell))
 discard_slots =
-    (Some lone ∷ Some refused_first ∷ None ∷ [])
+    (Some early_packet ∷ Some refused_first ∷ None ∷ [])
     ∷ (None ∷ Some refused_second ∷ Some admitted_first ∷ [])
-    ∷ (None ∷ Some next_packet ∷ Some admitted_second ∷ []) ∷ []
+    ∷ (None ∷ Some next_packet ∷ Some admitted_second ∷ [])
+    ∷ (Some late_packet ∷ None ∷ None ∷ []) ∷ []
 
 -- In slot 0 the cell of input 0 fills output 0, so that the packet of input 1 is refused. In slot 1 its second cell is refused
 -- too, though output 0 holds nothing, and the packet of input 2 is admitted. In slot 2 output 0 holds nothing again: the next
--- packet of input 1 is admitted, and so is the second cell of input 2, though output 0 is full by then.
+-- packet of input 1 is admitted, and so is the second cell of input 2, though output 0 is full by then. That cell still waits as
+-- slot 3 begins, so that the late packet of input 0 is refused. At the end a mark is up, and nothing waits.
 abbrev pub discard_admissions : List Admission
 discard_admissions =
-    record { cells = Some lone ∷ None ∷ None ∷ []; refused = refused_first ∷ []; marks = false ∷ true ∷ false ∷ [] }
+    record { cells = Some early_packet ∷ None ∷ None ∷ []; refused = refused_first ∷ []; marks = false ∷ true ∷ false ∷ [] }
     ∷ record {
       cells = None ∷ None ∷ Some admitted_first ∷ [];
       refused = refused_second ∷ [];
@@ -69,24 +74,29 @@ discard_admissions =
       cells = None ∷ Some next_packet ∷ Some admitted_second ∷ [];
       refused = [];
       marks = false ∷ false ∷ false ∷ [];
+    }
+    ∷ record {
+      cells = None ∷ None ∷ None ∷ [];
+      refused = late_packet ∷ [];
+      marks = true ∷ false ∷ false ∷ [];
     } ∷ []
 
--- the last cell of input 2 still waits
 abbrev pub discard_ran : LimitedRan
 discard_ran =
     record {
       admissions = discard_admissions;
       gone =
-          (Some (keyed lone 0 0 0) ∷ None ∷ None ∷ [])
+          (Some (keyed early_packet 0 0 0) ∷ None ∷ None ∷ [])
           ∷ (Some (keyed admitted_first 0 1 2) ∷ None ∷ None ∷ [])
-          ∷ (Some (keyed next_packet 0 2 1) ∷ None ∷ None ∷ []) ∷ [];
+          ∷ (Some (keyed next_packet 0 2 1) ∷ None ∷ None ∷ [])
+          ∷ (Some (keyed admitted_second 0 2 2) ∷ None ∷ None ∷ []) ∷ [];
       after =
           record {
-            state = record { lists = (keyed admitted_second 0 2 2 ∷ []) ∷ [] ∷ [] ∷ []; ranks = [] ∷ [] ∷ [] ∷ [] };
-            marks = false ∷ false ∷ false ∷ [];
+            state = record { lists = [] ∷ [] ∷ [] ∷ []; ranks = [] ∷ [] ∷ [] ∷ [] };
+            marks = true ∷ false ∷ false ∷ [];
           };
     }
 
--- one packet of two cells was refused
+-- a packet of two cells was refused, and one of one cell
 abbrev pub discard_refused : List Refused
-discard_refused = record { output = 0; limit = 1; packets = 1; cells = 2 } ∷ []
+discard_refused = record { output = 0; limit = 1; packets = 2; cells = 3 } ∷ []

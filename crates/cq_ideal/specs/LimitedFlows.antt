@@ -12,11 +12,14 @@ use Rattle.cq_ideal.specs.WholePackets.{AreOfPackets, cells_at}
 pub record LeaveInPackets (came : List Arrival) (ran : LimitedRan) (i : ℕ) : Type 0 where
   pub is_taken : ℕ → Bool
   pub admitted : cells_at i (admitted_in ran.admissions) ≡ filter (λ cell. is_taken cell.id.packet) (cells_at i (traffic_of came))
-  pub left : (c j : ℕ) → left_in_flow i c j (departures_of 0 ran.gone) ≡ filter (λ cell. is_taken cell.id.packet) (came_in_flow i c j came)
+  pub left : (c j : ℕ) →
+      left_in_flow i c j (departures_of 0 ran.gone) ≡ filter (λ cell. is_taken cell.id.packet) (came_in_flow i c j came)
 
 -- In a run that ends without a tag fault, whatever the limits, each flow leaves packet by packet as it came, but for the packets
 -- that were refused whole.
 abbrev pub FlowsLeaveInPackets : Type 0
 FlowsLeaveInPackets =
-    (limits : List (Option ℕ)) (ms : List Machine) (ports : ℕ) (openings : List (List ℕ)) (came : List Arrival) (ran : LimitedRan) → IsRunnable ms ports openings came →
-    limited_run limits ms 0 (traffic_of came) (empty_limited ports openings) ≡ Ok ran → (i : ℕ) → AreOfPackets 0 (cells_at i (traffic_of came)) → LeaveInPackets came ran i
+    (limits : List (Option ℕ)) (ms : List Machine) (ports : ℕ) (openings : List (List ℕ)) (came : List Arrival)
+    (ran : LimitedRan) → IsRunnable ms ports openings came →
+    limited_run limits ms 0 (traffic_of came) (empty_limited ports openings) ≡ Ok ran →
+    (i : ℕ) → AreOfPackets 0 (cells_at i (traffic_of came)) → LeaveInPackets came ran i

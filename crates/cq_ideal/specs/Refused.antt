@@ -1,10 +1,11 @@
 -- What is refused, in numbers: packets and cells, for each output that has a limit.
-use Rattle.std.specs.Prelude.{◌≡◌, ℕ, ◌+◌, ◌&&◌, ◌==◌, List, length, map, filter, Option}
+use Rattle.std.specs.Prelude.{◌≡◌, ℕ, ◌+◌, ◌&&◌, ◌==◌, List, length, map, filter, Bool, Option}
 use Rattle.std.specs.List.{AllByRecursion, enumerate_from, filter_map, flat_map}
 use Rattle.std.specs.Option.{option_map}
 use Rattle.cq_base.specs.declared.cell.Cell.{Cell}
 use Rattle.cq_ideal.specs.declared.refused.Refused.{Refused}
-use Rattle.cq_ideal.specs.Admission.{Admission, is_first}
+use Rattle.cq_ideal.specs.Admission.{Admission, admission, is_first}
+use Rattle.cq_ideal.specs.Ideal.{count_for}
 
 -- the cells that were refused in these slots, in order of slot, then input
 abbrev pub refused_in : List Admission → List Cell
@@ -42,3 +43,9 @@ with_refused cells counts =
 -- nothing was refused
 abbrev pub AreAllZero : List Refused → Type 0
 AreAllZero counts = AllByRecursion (λ r. (r.packets ≡ 0) × (r.cells ≡ 0)) counts
+
+-- each cell that comes is admitted, or is counted among those that were refused at its output
+abbrev pub EachCountsOnce : Type 0
+EachCountsOnce =
+    (limits : List (Option ℕ)) (held : List ℕ) (marks : List Bool) (cells : List (Option Cell)) (j : ℕ) →
+    let a = admission limits held marks cells in count_for j cells ≡ count_for j a.cells + cells_refused j a.refused

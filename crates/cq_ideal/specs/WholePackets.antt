@@ -1,8 +1,11 @@
 -- What is admitted at an input are whole packets.
-use Rattle.std.specs.Prelude.{◌≡◌, ℕ, ◌+◌, ◌≤◌, ◌⊎◌, Bool, true, false, List, [], ◌∷◌, filter, filter_map, Option}
+use Rattle.std.specs.Prelude.{◌≡◌, ℕ, ◌+◌, ◌≤◌, ◌⊎◌, Bool, true, false, List, [], ◌∷◌, filter, filter_map, Option, Ok}
 use Rattle.cq_base.specs.declared.cell.Cell.{Cell}
 use Rattle.cq_base.specs.Arrivals.{arrival_at}
-use Rattle.cq_ideal.specs.Admission.{Admission, admission, is_first}
+use Rattle.cq_rank.specs.Machine.{Machine}
+use Rattle.cq_ideal.specs.Admission.{Admission, Marked, admission, admitted_in, is_first}
+use Rattle.cq_ideal.specs.IdealSlot.{IdealState}
+use Rattle.cq_ideal.specs.LimitedIdeal.{LimitedRan, limited_run}
 
 -- Slot by slot the arrivals were judged, each time by some numbers of cells that the outputs hold, from these marks on.
 abbrev pub AreJudged : List (Option ℕ) → List Bool → List (List (Option Cell)) → List Admission → Type 0
@@ -27,3 +30,19 @@ AreOfPackets next (cell ∷ cells) =
 pub record AreWholePackets (came taken : List Cell) : Type 0 where
   pub is_taken : ℕ → Bool
   pub are : taken ≡ filter (λ cell. is_taken cell.id.packet) came
+
+-- Whatever the outputs hold as the arrivals are judged, of the cells that come to an input those that are admitted are all cells
+-- of some of the packets.
+abbrev pub WholePacketsAreAdmitted : Type 0
+WholePacketsAreAdmitted =
+    (limits : List (Option ℕ)) (marks : List Bool) (traffic : List (List (Option Cell))) (i : ℕ)
+    (admissions : List Admission) → AreJudged limits marks traffic admissions → AreOfPackets 0 (cells_at i traffic) →
+    AreWholePackets (cells_at i traffic) (cells_at i (admitted_in admissions))
+
+-- so it is in the runs of the ideal switch
+abbrev pub RunsAdmitWholePackets : Type 0
+RunsAdmitWholePackets =
+    (limits : List (Option ℕ)) (ms : List Machine) (slot : ℕ) (traffic : List (List (Option Cell)))
+    (old : Marked IdealState) (ran : LimitedRan) (i : ℕ) →
+    limited_run limits ms slot traffic old ≡ Ok ran → AreOfPackets 0 (cells_at i traffic) →
+    AreWholePackets (cells_at i traffic) (cells_at i (admitted_in ran.admissions))
