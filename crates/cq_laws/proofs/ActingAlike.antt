@@ -17,7 +17,8 @@ use Rattle.cq_laws.proofs.InputBest.{stable_limited_slot, stable_limited_run, st
 use Rattle.cq_laws.proofs.LimitedSlots.{same_limited_slot, same_limited_fault}
 use Rattle.cq_laws.proofs.LimitedWhole.{begin, same_limited_run, same_limited_stop}
 
-same_admissions : (a b : LimitedRan) (x : Result LimitedRan TagFault) → x ≡ Ok a → x ≡ Ok b → a.admissions ≡ b.admissions
+same_admissions : (a b : LimitedRan) (x : Result LimitedRan TagFault) → x ≡ Ok a → x ≡ Ok b →
+    a.admissions ≡ b.admissions
 same_admissions a b x e f =
     let ok : ◌≡◌ {A = Result LimitedRan TagFault} (Ok a) (Ok b) = sym e ∙ f in
     let is : a ≡ b = cc in ap (λ (r : LimitedRan). r.admissions) is
@@ -30,9 +31,11 @@ module _ (limits : List (Option ℕ)) (ms : List Machine) where
             same_limited_slot limits ms slot class_count cells f g ideal r agrees come step;
         fault = λ slot cells f ideal fault agrees. same_limited_fault limits ms slot cells f ideal fault agrees;
         run = λ slot class_count traffic f g ideal rs agrees come run.
-            same_limited_run limits ms class_count slot traffic f g ideal rs (record { agrees = agrees; come = come }) run;
+            same_limited_run limits ms class_count slot traffic f g ideal rs
+            (record { agrees = agrees; come = come }) run;
         stop = λ slot class_count traffic f ideal rs fault agrees come run.
-            same_limited_stop limits ms class_count slot traffic f ideal rs fault (record { agrees = agrees; come = come }) run;
+            same_limited_stop limits ms class_count slot traffic f ideal rs fault
+            (record { agrees = agrees; come = come }) run;
       }
 
   pub best_act_alike : ActAlike IsInputBest limits ms
@@ -40,15 +43,19 @@ module _ (limits : List (Option ℕ)) (ms : List Machine) where
       let stable = stable_act_alike in
       record {
         slot = λ slot class_count cells f g ideal r agrees come step.
-            stable.slot slot class_count cells f g ideal r agrees come (stable_limited_slot ms limits slot cells f g r step);
+            stable.slot slot class_count cells f g ideal r agrees come
+            (stable_limited_slot ms limits slot cells f g r step);
         fault = stable.fault;
         run = λ slot class_count traffic f g ideal rs agrees come run.
-            stable.run slot class_count traffic f g ideal rs agrees come (stable_limited_run ms limits slot traffic f g rs run);
+            stable.run slot class_count traffic f g ideal rs agrees come
+            (stable_limited_run ms limits slot traffic f g rs run);
         stop = λ slot class_count traffic f ideal rs fault agrees come run.
-            stable.stop slot class_count traffic f ideal rs fault agrees come (stable_limited_stop ms limits slot traffic f rs fault run);
+            stable.stop slot class_count traffic f ideal rs fault agrees come
+            (stable_limited_stop ms limits slot traffic f rs fault run);
       }
 
-  runs_from_empty : (ports class_count : ℕ) (ranks : List (List ℕ)) (traffic : List (List (Option Cell))) (rs : List LimitedRecord) (g : Marked Fabric) →
+  runs_from_empty : (ports class_count : ℕ) (ranks : List (List ℕ)) (traffic : List (List (Option Cell)))
+      (rs : List LimitedRecord) (g : Marked Fabric) →
       AllByRecursion (AreForPorts ports class_count) traffic →
       LimitedFabricRun IsInputBest limits ms 0 traffic (empty_limited_fabric ports ranks) rs g →
       LimitedRunsAlike limits ms 0 traffic (empty_limited ports ranks) rs g

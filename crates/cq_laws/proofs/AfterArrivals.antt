@@ -31,9 +31,11 @@ abbrev pub CameFor : List (Option Queued) → ℕ → Queued → Type 0
 CameFor came j c = (k : ℕ) × (came_to came k ≡ Some c) × (c.cell.output ≡ j)
 
 module _ (ms : List Machine) (slot : ℕ) (cells : List (Option Cell)) (came : List (Option Queued)) (old new : Fabric) (arrive : Arrives ms slot cells came old new) (keyed : Keyed slot (length old.inputs) came) where
-  came_or_was : (q : Option Queued) (xs : List Queued) (c : Queued) → IsAmong c (list_arrived old q xs) → (q ≡ Some c) ⊎ IsAmong c xs
+  came_or_was : (q : Option Queued) (xs : List Queued) (c : Queued) → IsAmong c (list_arrived old q xs) →
+      (q ≡ Some c) ⊎ IsAmong c xs
   came_or_was None xs c h = inr h
-  came_or_was (Some n) xs c h = ⊎_elim (λ e. inl (ap Some e)) (λ k. inr k) (among_insert xs (place_of_arrival (cushion_of old n) n xs) n c h)
+  came_or_was (Some n) xs c h =
+      ⊎_elim (λ e. inl (ap Some e)) (λ k. inr k) (among_insert xs (place_of_arrival (cushion_of old n) n xs) n c h)
 
   arrived_from : (i : ℕ) (c : Queued) → IsAmong c (input new i) → (came_to came i ≡ Some c) ⊎ IsAmong c (input old i)
   arrived_from i c h = came_or_was (came_to came i) (input old i) c (subst (IsAmong c) (arrive.lists i) h)
@@ -46,7 +48,9 @@ module _ (ms : List Machine) (slot : ℕ) (cells : List (Option Cell)) (came : L
   arrived_keeps i c h = subst (IsAmong c) (sym (arrive.lists i)) (still_there (came_to came i) (input old i) c h)
 
   arrived_new : (i : ℕ) (c : Queued) → came_to came i ≡ Some c → IsAmong c (input new i)
-  arrived_new i c e = subst (IsAmong c) (sym (arrive.lists i ∙ ap (λ q. list_arrived old q (input old i)) e)) (insert_new (input old i) (place_of_arrival (cushion_of old c) c (input old i)) c)
+  arrived_new i c e =
+      subst (IsAmong c) (sym (arrive.lists i ∙ ap (λ q. list_arrived old q (input old i)) e))
+      (insert_new (input old i) (place_of_arrival (cushion_of old c) c (input old i)) c)
 
   in_buffer : (j : ℕ) (c : Queued) → IsAmong c (buffer new j) → IsAmong c (buffer old j)
   in_buffer j c h = subst (λ b. IsAmong c (list_of b j)) arrive.buffers h
@@ -56,7 +60,8 @@ module _ (ms : List Machine) (slot : ℕ) (cells : List (Option Cell)) (came : L
   arrived_fabric fabric =
       record {
         square = ap length arrive.buffers ∙ fabric.square ∙ sym arrive.ports;
-        outputs = λ i c h. subst (λ n. c.cell.output < n) (sym arrive.ports) (⊎_elim (λ e. keyed.outputs i c e) (λ k. fabric.outputs i c k) (arrived_from i c h));
+        outputs = λ i c h. subst (λ n. c.cell.output < n) (sym arrive.ports)
+            (⊎_elim (λ e. keyed.outputs i c e) (λ k. fabric.outputs i c k) (arrived_from i c h));
         own = λ j c h. fabric.own j c (in_buffer j c h);
         rising = λ j. subst (λ b. IsRising (list_of b j)) (sym arrive.buffers) (fabric.rising j);
       }
@@ -67,7 +72,8 @@ module _ (ms : List Machine) (slot : ℕ) (cells : List (Option Cell)) (came : L
     new_old k q d e lt same = let s = keyed.slot_is k q e in let t = ap (λ (x : Key). x.slot) same in omega arith
 
     -- two cells that came with one key are one
-    came_same : (i k : ℕ) (c d : Queued) → came_to came i ≡ Some c → came_to came k ≡ Some d → c.key ≡ d.key → (i ≡ k) × (c ≡ d)
+    came_same : (i k : ℕ) (c d : Queued) → came_to came i ≡ Some c → came_to came k ≡ Some d → c.key ≡ d.key →
+        (i ≡ k) × (c ≡ d)
     came_same i k c d x y e =
         let ik : i ≡ k = sym (keyed.input_is i c x) ∙ ap (λ (q : Key). q.input) e ∙ keyed.input_is k d y in
         (ik, same_Some c d (sym x ∙ ap (came_to came) ik ∙ y))
@@ -82,14 +88,16 @@ module _ (ms : List Machine) (slot : ℕ) (cells : List (Option Cell)) (came : L
               (λ x. ⊎_elim (λ y. absurd (new_old k d c y (sound.early.waiting i c x) (sym e))) (λ y. sound.apart.waiting i k c d x y e) (arrived_from k d b))
               (arrived_from i c a);
           between = λ i j c d a b e.
-              ⊎_elim (λ x. new_old i c d x (sound.early.crossed j d (in_buffer j d b)) e) (λ x. sound.apart.between i j c d x (in_buffer j d b) e) (arrived_from i c a);
+              ⊎_elim (λ x. new_old i c d x (sound.early.crossed j d (in_buffer j d b)) e)
+              (λ x. sound.apart.between i j c d x (in_buffer j d b) e) (arrived_from i c a);
           crossed = λ j l c d a b e. sound.apart.crossed j l c d (in_buffer j c a) (in_buffer l d b) e;
         }
 
     arrived_early : Early (slot + 1) new
     arrived_early =
         record {
-          waiting = λ i c h. ⊎_elim (λ e. let s = keyed.slot_is i c e in omega arith) (λ k. let lt = sound.early.waiting i c k in omega arith) (arrived_from i c h);
+          waiting = λ i c h. ⊎_elim (λ e. let s = keyed.slot_is i c e in omega arith)
+              (λ k. let lt = sound.early.waiting i c k in omega arith) (arrived_from i c h);
           crossed = λ j c h. let lt = sound.early.crossed j c (in_buffer j c h) in omega arith;
         }
 
@@ -108,7 +116,8 @@ module _ (ms : List Machine) (slot : ℕ) (cells : List (Option Cell)) (came : L
     arrived_order i = subst KeepsOrder (sym (arrive.lists i)) (ordered i (came_to came i) refl)
 
     pub arrived_sound : Sound (slot + 1) new
-    arrived_sound = record { fabric = arrived_fabric sound.fabric; order = arrived_order; apart = arrived_apart; early = arrived_early }
+    arrived_sound =
+        record { fabric = arrived_fabric sound.fabric; order = arrived_order; apart = arrived_apart; early = arrived_early }
 
     pub arrived_slack : HasSlack 0 new
     arrived_slack i t c at =
@@ -119,7 +128,8 @@ module _ (ms : List Machine) (slot : ℕ) (cells : List (Option Cell)) (came : L
 
     pub arrived_has : (j : ℕ) (c : Queued) → HasFor new j c → HasFor old j c ⊎ CameFor came j c
     arrived_has j c h =
-        ⊎_elim (λ w. ⊎_elim (λ e. inr (w.0, e, w.2)) (λ k. inl (inl (w.0, k, w.2))) (arrived_from w.0 c w.1)) (λ b. inl (inr (in_buffer j c b))) h
+        ⊎_elim (λ w. ⊎_elim (λ e. inr (w.0, e, w.2)) (λ k. inl (inl (w.0, k, w.2))) (arrived_from w.0 c w.1))
+        (λ b. inl (inr (in_buffer j c b))) h
 
     pub has_arrived : (j : ℕ) (c : Queued) → HasFor old j c ⊎ CameFor came j c → HasFor new j c
     has_arrived j c h =

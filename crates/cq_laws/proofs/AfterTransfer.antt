@@ -17,7 +17,8 @@ use Rattle.cq_laws.proofs.Rises.{matching_rises, slack_risen, least_buffered, ha
 use Rattle.cq_laws.proofs.Sound.{Apart, Early, Sound, one_in_order, orders_are, apart_from}
 
 -- the first cell for an output is not left
-not_left : (j : ℕ) (xs : List Queued) (f : Queued) → KeepsOrder xs → first_for j xs ≡ Some f → IsAmong f (without_first j xs) → ⊥
+not_left : (j : ℕ) (xs : List Queued) (f : Queued) → KeepsOrder xs → first_for j xs ≡ Some f →
+    IsAmong f (without_first j xs) → ⊥
 not_left j xs f order is h =
     let first = first_at (is_for j) xs f is in
     let r = at_among (without_first j xs) f h in
@@ -25,10 +26,13 @@ not_left j xs f order is h =
     let le = first_le (is_for j) xs st.place f st.at first.passes in
     let place = first.is in
     let here = one_in_order xs first.place st.place f order first.at st.at in
-    ⊎_elim (λ lt. let same = st.stayed lt in absurd (omega arith)) (λ ge. let same = st.moved ge in absurd (omega arith)) (cases_lt r.0 (place_for j xs))
+    ⊎_elim (λ lt. let same = st.stayed lt in absurd (omega arith))
+    (λ ge. let same = st.moved ge in absurd (omega arith)) (cases_lt r.0 (place_for j xs))
 
 from_first : (j : ℕ) (xs : List Queued) (f : Queued) → first_for j xs ≡ Some f → IsAmong f xs × (f.cell.output ≡ j)
-from_first j xs f is = let first = first_at (is_for j) xs f is in (among_at xs first.place f first.at, eqb-true f.cell.output j first.passes)
+from_first j xs f is =
+    let first = first_at (is_for j) xs f is in
+    (among_at xs first.place f first.at, eqb-true f.cell.output j first.passes)
 
 order_taken : (p : Option ℕ) (xs : List Queued) → KeepsOrder xs → KeepsOrder (list_taken p xs)
 order_taken None xs e = e
@@ -41,26 +45,31 @@ module _ (old new : Fabric) (m : Partners) (fabric : IsFabric old) (order : List
   moved_order : ListsKeepOrder new
   moved_order i = subst KeepsOrder (sym (moves.moves.taken i)) (order_taken (partner_of m i) (input old i) (order i))
 
-  from_buffer : (j : ℕ) (c : Queued) → IsAmong c (buffer new j) → IsAmong c (buffer old j) ⊎ ((i : ℕ) × (partner_of m i ≡ Some j) × (first_for j (input old i) ≡ Some c))
+  from_buffer : (j : ℕ) (c : Queued) → IsAmong c (buffer new j) →
+      IsAmong c (buffer old j) ⊎ ((i : ℕ) × (partner_of m i ≡ Some j) × (first_for j (input old i) ≡ Some c))
   from_buffer = buffer_from old new (orders_of old.inputs) m order fabric are stable moves
 
   was_waiting : (i : ℕ) (c : Queued) → IsAmong c (input new i) → IsAmong c (input old i)
   was_waiting = input_from old new (orders_of old.inputs) m order fabric are stable moves
 
   -- a cell that crossed waits nowhere
-  moved_waits : (i r j : ℕ) (c f : Queued) → IsAmong c (input new i) → partner_of m r ≡ Some j → first_for j (input old r) ≡ Some f → c.key ≢ f.key
+  moved_waits : (i r j : ℕ) (c f : Queued) → IsAmong c (input new i) → partner_of m r ≡ Some j →
+      first_for j (input old r) ≡ Some f → c.key ≢ f.key
   unfolding was_waiting
   moved_waits i r j c f h p is e =
       let same = apart.waiting i r c f (was_waiting i c h) (from_first j (input old r) f is).0 e in
-      let here : IsAmong f (input new r) = subst (λ n. IsAmong f (input new n)) same.0 (subst (λ q. IsAmong q (input new i)) same.1 h) in
-      not_left j (input old r) f (order r) is (subst (IsAmong f) (moves.moves.taken r ∙ ap (λ q. list_taken q (input old r)) p) here)
+      let here : IsAmong f (input new r) = subst (λ n. IsAmong f (input new n)) same.0
+      (subst (λ q. IsAmong q (input new i)) same.1 h) in
+      not_left j (input old r) f (order r) is
+      (subst (IsAmong f) (moves.moves.taken r ∙ ap (λ q. list_taken q (input old r)) p) here)
 
   moved_apart : Apart new
   unfolding from_buffer was_waiting moved_waits
   moved_apart =
       record {
         waiting = λ i k c d a b e. apart.waiting i k c d (was_waiting i c a) (was_waiting k d b) e;
-        between = λ i j c d a b e. ⊎_elim (λ y. apart.between i j c d (was_waiting i c a) y e) (λ y. moved_waits i y.0 j c d a y.1 y.2 e) (from_buffer j d b);
+        between = λ i j c d a b e. ⊎_elim (λ y. apart.between i j c d (was_waiting i c a) y e)
+            (λ y. moved_waits i y.0 j c d a y.1 y.2 e) (from_buffer j d b);
         crossed = λ j l c d a b e.
             ⊎_elim
             (λ x. ⊎_elim (λ y. apart.crossed j l c d x y e) (λ y. absurd (apart.between y.0 j d c (from_first l (input old y.0) d y.2).0 x (sym e))) (from_buffer l d b))
@@ -76,13 +85,15 @@ module _ (old new : Fabric) (m : Partners) (fabric : IsFabric old) (order : List
   moved_fabric =
       record {
         square = moves.moves.ports.1 ∙ fabric.square ∙ sym moves.moves.ports.0;
-        outputs = λ i c h. subst (λ n. c.cell.output < n) (sym moves.moves.ports.0) (fabric.outputs i c (was_waiting i c h));
+        outputs = λ i c h. subst (λ n. c.cell.output < n) (sym moves.moves.ports.0)
+            (fabric.outputs i c (was_waiting i c h));
         own = λ j c h. ⊎_elim (λ k. fabric.own j c k) (λ r. (from_first j (input old r.0) c r.2).1) (from_buffer j c h);
         rising = λ j.
             ⊎_elim
             (λ r.
             let f = partner_offers old new (orders_of old.inputs) m order fabric are stable moves r.0 j r.1 in
-            subst IsRising (sym (moves.moves.given r.0 j f.0 r.1 f.1)) (rising_put f.0 (buffer old j) (fabric.rising j) (λ d k e. apart.between r.0 j f.0 d (from_first j (input old r.0) f.0 f.1).0 k e)))
+            subst IsRising (sym (moves.moves.given r.0 j f.0 r.1 f.1))
+            (rising_put f.0 (buffer old j) (fabric.rising j) (λ d k e. apart.between r.0 j f.0 d (from_first j (input old r.0) f.0 f.1).0 k e)))
             (λ none. subst IsRising (sym (moves.moves.kept j none)) (fabric.rising j))
             (sender m j);
       }
@@ -91,8 +102,11 @@ module _ (slot : ℕ) (old new : Fabric) (m : Partners) (sound : Sound slot old)
   moved_early : Early slot new
   moved_early =
       record {
-        waiting = λ i c h. sound.early.waiting i c (was_waiting old new m sound.fabric sound.order sound.apart stable moves i c h);
-        crossed = λ j c h. ⊎_elim (λ k. sound.early.crossed j c k) (λ r. sound.early.waiting r.0 c (from_first j (input old r.0) c r.2).0) (from_buffer old new m sound.fabric sound.order sound.apart stable moves j c h);
+        waiting = λ i c h. sound.early.waiting i c
+            (was_waiting old new m sound.fabric sound.order sound.apart stable moves i c h);
+        crossed = λ j c h. ⊎_elim (λ k. sound.early.crossed j c k)
+            (λ r. sound.early.waiting r.0 c (from_first j (input old r.0) c r.2).0)
+            (from_buffer old new m sound.fabric sound.order sound.apart stable moves j c h);
       }
 
   pub moved_sound : Sound slot new
@@ -105,23 +119,32 @@ module _ (slot : ℕ) (old new : Fabric) (m : Partners) (sound : Sound slot old)
       }
 
   pub moved_rises : EachRises 1 old new
-  moved_rises = matching_rises old new (orders_of old.inputs) m sound.order sound.fabric (orders_are old sound.apart) stable moves
+  moved_rises =
+      matching_rises old new (orders_of old.inputs) m sound.order sound.fabric (orders_are old sound.apart) stable moves
 
   pub moved_slack : (n : ℕ) → HasSlack n old → HasSlack (1 + n) new
-  moved_slack n slack = slack_risen old new (orders_of old.inputs) m sound.order sound.fabric (orders_are old sound.apart) stable moves n slack
+  moved_slack n slack =
+      slack_risen old new (orders_of old.inputs) m sound.order sound.fabric
+      (orders_are old sound.apart) stable moves n slack
 
   pub has_moved : (j : ℕ) (c : Queued) → HasFor old j c → HasFor new j c
-  has_moved = has_after old new (orders_of old.inputs) m sound.order sound.fabric (orders_are old sound.apart) stable moves
+  has_moved =
+      has_after old new (orders_of old.inputs) m sound.order sound.fabric (orders_are old sound.apart) stable moves
 
   pub moved_has : (j : ℕ) (c : Queued) → HasFor new j c → HasFor old j c
-  moved_has = has_before old new (orders_of old.inputs) m sound.order sound.fabric (orders_are old sound.apart) stable moves
+  moved_has =
+      has_before old new (orders_of old.inputs) m sound.order sound.fabric (orders_are old sound.apart) stable moves
 
 -- ## The two laws, of states as they are said by places
 
-pub stable_rises : (m : Partners) (old new : Fabric) → IsFabric old → ListsKeepOrder old → NoKeyTwice old → IsStable (orders_of old.inputs) m → Transfers m old new → EachRises 1 old new
+pub stable_rises : (m : Partners) (old new : Fabric) → IsFabric old → ListsKeepOrder old → NoKeyTwice old →
+    IsStable (orders_of old.inputs) m → Transfers m old new → EachRises 1 old new
 stable_rises m old new fabric order differ stable moves =
     matching_rises old new (orders_of old.inputs) m order fabric (orders_are old (apart_from old differ)) stable moves
 
-pub most_urgent_crosses : (m : Partners) (old new : Fabric) → IsFabric old → ListsKeepOrder old → NoKeyTwice old → HasSlack 0 old → IsStable (orders_of old.inputs) m → Transfers m old new → (j : ℕ) (c : Queued) → IsMostUrgentFor old j c → IsAmong c (buffer new j)
+pub most_urgent_crosses : (m : Partners) (old new : Fabric) → IsFabric old → ListsKeepOrder old → NoKeyTwice old →
+    HasSlack 0 old → IsStable (orders_of old.inputs) m → Transfers m old new → (j : ℕ) (c : Queued) →
+    IsMostUrgentFor old j c → IsAmong c (buffer new j)
 most_urgent_crosses m old new fabric order differ slack stable moves =
-    least_buffered old new (orders_of old.inputs) m order fabric (orders_are old (apart_from old differ)) stable moves slack
+    least_buffered old new (orders_of old.inputs) m order fabric
+    (orders_are old (apart_from old differ)) stable moves slack

@@ -23,7 +23,8 @@ use Rattle.cq_laws.proofs.Sound.{Apart, apart_from, not_before_itself}
 
 among_append : (c : Queued) (xs ys : List Queued) → IsAmong c (xs ++ ys) → IsAmong c xs ⊎ IsAmong c ys
 among_append c [] ys h = inr h
-among_append c (x ∷ xs) ys h = ⊎_elim (λ e. inl (inl e)) (λ k. ⊎_elim (λ l. inl (inr l)) (λ r. inr r) (among_append c xs ys k)) h
+among_append c (x ∷ xs) ys h =
+    ⊎_elim (λ e. inl (inl e)) (λ k. ⊎_elim (λ l. inl (inr l)) (λ r. inr r) (among_append c xs ys k)) h
 
 among_left : (c : Queued) (xs ys : List Queued) → IsAmong c xs → IsAmong c (xs ++ ys)
 among_left c [] ys h = absurd h
@@ -33,7 +34,8 @@ among_right : (c : Queued) (xs ys : List Queued) → IsAmong c ys → IsAmong c 
 among_right c [] ys h = h
 among_right c (x ∷ xs) ys h = inr (among_right c xs ys h)
 
-among_filter : (p : Queued → Bool) (c : Queued) (xs : List Queued) → IsAmong c (filter p xs) → IsAmong c xs × (p c ≡ true)
+among_filter : (p : Queued → Bool) (c : Queued) (xs : List Queued) → IsAmong c (filter p xs) →
+    IsAmong c xs × (p c ≡ true)
 among_filter p c [] h = absurd h
 among_filter p c (x ∷ xs) h =
     cond_both (p x) (x ∷ filter p xs) (filter p xs) (λ l. IsAmong c l → IsAmong c (x ∷ xs) × (p c ≡ true))
@@ -69,7 +71,8 @@ filter_once p (x ∷ xs) once =
     (λ _. (λ h. once.0 (among_filter p x xs h).0, filter_once p xs once.1))
     (λ _. filter_once p xs once.1)
 
-append_once : (xs ys : List Queued) → HasNoRepeat xs → HasNoRepeat ys → ((c : Queued) → IsAmong c xs → IsAmong c ys → ⊥) → HasNoRepeat (xs ++ ys)
+append_once : (xs ys : List Queued) → HasNoRepeat xs → HasNoRepeat ys →
+    ((c : Queued) → IsAmong c xs → IsAmong c ys → ⊥) → HasNoRepeat (xs ++ ys)
 append_once [] ys x y apart = y
 append_once (c ∷ xs) ys x y apart =
     (λ h. ⊎_elim (λ l. x.0 l) (λ r. apart c (inl refl) r) (among_append c xs ys h), append_once xs ys x.1 y (λ d l r. apart d (inr l) r))
@@ -93,15 +96,18 @@ take_off c (y ∷ ys) h =
       others = λ d m. ⊎_elim (λ f. inr (inl f)) (λ n. ⊎_elim (λ f. inl f) (λ l. inr (inr l)) (r.others d n)) m;
     }) h
 
-no_longer : (xs ys : List Queued) → HasNoRepeat xs → ((c : Queued) → IsAmong c xs → IsAmong c ys) → length xs ≤ length ys
+no_longer : (xs ys : List Queued) → HasNoRepeat xs → ((c : Queued) → IsAmong c xs → IsAmong c ys) →
+    length xs ≤ length ys
 no_longer [] ys once to = omega arith
 no_longer (x ∷ xs) ys once to =
     let off = take_off x ys (to x (inl refl)) in
     let less = off.one_less in
-    let rest = no_longer xs off.rest once.1 (λ c h. ⊎_elim (λ e. absurd (once.0 (subst (λ d. IsAmong d xs) (sym e) h))) (λ k. k) (off.others c (to c (inr h)))) in
+    let rest = no_longer xs off.rest once.1
+    (λ c h. ⊎_elim (λ e. absurd (once.0 (subst (λ d. IsAmong d xs) (sym e) h))) (λ k. k) (off.others c (to c (inr h)))) in
     omega arith
 
-as_long : (xs ys : List Queued) → HasNoRepeat xs → HasNoRepeat ys → ((c : Queued) → IsAmong c xs → IsAmong c ys) → ((c : Queued) → IsAmong c ys → IsAmong c xs) → length xs ≡ length ys
+as_long : (xs ys : List Queued) → HasNoRepeat xs → HasNoRepeat ys → ((c : Queued) → IsAmong c xs → IsAmong c ys) →
+    ((c : Queued) → IsAmong c ys → IsAmong c xs) → length xs ≡ length ys
 as_long xs ys x y to back =
     let one = no_longer xs ys x to in
     let two = no_longer ys xs y back in omega arith
@@ -116,27 +122,38 @@ module _ (j : ℕ) where
   length-waits : (lists : List (List Queued)) → length (waits lists) ≡ waiting_for j lists
   unfolding waits
   length-waits [] = refl
-  length-waits (cells ∷ lists) = length-append (filter (is_for j) cells) (waits lists) ∙ ap (λ n. length (filter (is_for j) cells) + n) (length-waits lists)
+  length-waits (cells ∷ lists) =
+      length-append (filter (is_for j) cells) (waits lists) ∙ ap (λ n. length (filter (is_for j) cells) + n)
+      (length-waits lists)
 
-  waits_at : (lists : List (List Queued)) (c : Queued) → IsAmong c (waits lists) → (i : ℕ) × IsAmong c (list_of lists i) × (c.cell.output ≡ j)
+  waits_at : (lists : List (List Queued)) (c : Queued) → IsAmong c (waits lists) →
+      (i : ℕ) × IsAmong c (list_of lists i) × (c.cell.output ≡ j)
   unfolding waits
   waits_at [] c h = absurd h
   waits_at (cells ∷ lists) c h =
       ⊎_elim
       (λ l. let r = among_filter (is_for j) c cells l in (zero, r.0, eqb-true c.cell.output j r.1))
-      (λ k. let r = waits_at lists c k in (suc r.0, r.1, r.2)) (among_append c (filter (is_for j) cells) (waits lists) h)
+      (λ k. let r = waits_at lists c k in (suc r.0, r.1, r.2))
+      (among_append c (filter (is_for j) cells) (waits lists) h)
 
-  at_waits : (lists : List (List Queued)) (i : ℕ) (c : Queued) → IsAmong c (list_of lists i) → c.cell.output ≡ j → IsAmong c (waits lists)
+  at_waits : (lists : List (List Queued)) (i : ℕ) (c : Queued) → IsAmong c (list_of lists i) → c.cell.output ≡ j →
+      IsAmong c (waits lists)
   unfolding waits
   at_waits [] i c h e = absurd h
-  at_waits (cells ∷ lists) zero c h e = among_left c (filter (is_for j) cells) (waits lists) (filter_among (is_for j) c cells h (eq-eqb c.cell.output j e))
-  at_waits (cells ∷ lists) (suc i) c h e = among_right c (filter (is_for j) cells) (waits lists) (at_waits lists i c h e)
+  at_waits (cells ∷ lists) zero c h e =
+      among_left c (filter (is_for j) cells) (waits lists)
+      (filter_among (is_for j) c cells h (eq-eqb c.cell.output j e))
+  at_waits (cells ∷ lists) (suc i) c h e =
+      among_right c (filter (is_for j) cells) (waits lists) (at_waits lists i c h e)
 
-  waits_once : (lists : List (List Queued)) → ((i : ℕ) → KeepsOrder (list_of lists i)) → ((i k : ℕ) (c : Queued) → IsAmong c (list_of lists i) → IsAmong c (list_of lists k) → i ≡ k) → HasNoRepeat (waits lists)
+  waits_once : (lists : List (List Queued)) → ((i : ℕ) → KeepsOrder (list_of lists i)) →
+      ((i k : ℕ) (c : Queued) → IsAmong c (list_of lists i) → IsAmong c (list_of lists k) → i ≡ k) →
+      HasNoRepeat (waits lists)
   unfolding waits
   waits_once [] order apart = tt
   waits_once (cells ∷ lists) order apart =
-      append_once (filter (is_for j) cells) (waits lists) (filter_once (is_for j) cells (in_order_once cells (order zero)))
+      append_once (filter (is_for j) cells) (waits lists)
+      (filter_once (is_for j) cells (in_order_once cells (order zero)))
       (waits_once lists (λ i. order (suc i)) (λ i k c a b. let e = apart (suc i) (suc k) c a b in omega arith))
       (λ c l r. let at = waits_at lists c r in let e = apart zero (suc at.0) c (among_filter (is_for j) c cells l).0 at.1 in absurd (omega arith))
 
@@ -151,17 +168,21 @@ module _ (j : ℕ) where
     all_once : HasNoRepeat all
     unfolding all
     all_once =
-        append_once (waits f.inputs) (buffer f j) (waits_once f.inputs agrees.order (λ i k c a b. (apart.waiting i k c c a b refl).0))
+        append_once (waits f.inputs) (buffer f j)
+        (waits_once f.inputs agrees.order (λ i k c a b. (apart.waiting i k c c a b refl).0))
         (rising_once (buffer f j) (agrees.fabric.rising j))
         (λ c l r. let at = waits_at f.inputs c l in apart.between at.0 j c c at.1 r refl)
 
     to_all : (c : Queued) → HasFor f j c → IsAmong c all
     unfolding all
-    to_all c h = ⊎_elim (λ w. among_left c (waits f.inputs) (buffer f j) (at_waits f.inputs w.0 c w.1 w.2)) (λ b. among_right c (waits f.inputs) (buffer f j) b) h
+    to_all c h =
+        ⊎_elim (λ w. among_left c (waits f.inputs) (buffer f j) (at_waits f.inputs w.0 c w.1 w.2))
+        (λ b. among_right c (waits f.inputs) (buffer f j) b) h
 
     from_all : (c : Queued) → IsAmong c all → HasFor f j c
     unfolding all
-    from_all c h = ⊎_elim (λ l. inl (waits_at f.inputs c l)) (λ r. inr r) (among_append c (waits f.inputs) (buffer f j) h)
+    from_all c h =
+        ⊎_elim (λ l. inl (waits_at f.inputs c l)) (λ r. inr r) (among_append c (waits f.inputs) (buffer f j) h)
 
     pub holds_as_many : length (list_of ideal.lists j) ≡ held_for j f
     unfolding all

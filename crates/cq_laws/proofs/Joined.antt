@@ -10,7 +10,9 @@ use Rattle.cq_laws.specs.FabricRun.{RunsGoOn, IsFault}
 use Rattle.cq_laws.specs.SlotBySlot.{RunBy, StopBy, GoOn}
 
 module _ {S R : Type 0} (Step : ℕ → List (Option Cell) → S → R → S → Type 0) (Fault : ℕ → List (Option Cell) → S → TagFault → Type 0) where
-  joined : (slot : ℕ) (before after : List (List (Option Cell))) (f m g : S) (rs ss : List R) → RunBy Step slot before f rs m → RunBy Step (slot + length before) after m ss g → RunBy Step slot (before ++ after) f (rs ++ ss) g
+  joined : (slot : ℕ) (before after : List (List (Option Cell))) (f m g : S) (rs ss : List R) →
+      RunBy Step slot before f rs m → RunBy Step (slot + length before) after m ss g →
+      RunBy Step slot (before ++ after) f (rs ++ ss) g
   joined slot [] after f m g [] ss x y =
       let here : slot + 0 ≡ slot = omega arith in
       subst (λ h. RunBy Step slot after h ss g) x (subst (λ n. RunBy Step n after m ss g) here y)
@@ -20,7 +22,9 @@ module _ {S R : Type 0} (Step : ℕ → List (Option Cell) → S → R → S →
       let here : slot + length (cells ∷ before) ≡ slot + 1 + length before = omega arith in
       (x.0, x.1, joined (slot + 1) before after x.0 m g rs ss x.2 (subst (λ n. RunBy Step n after m ss g) here y))
 
-  stopped : (slot : ℕ) (before after : List (List (Option Cell))) (f m : S) (rs ss : List R) (fault : TagFault) → RunBy Step slot before f rs m → StopBy Step Fault (slot + length before) after m ss fault → StopBy Step Fault slot (before ++ after) f (rs ++ ss) fault
+  stopped : (slot : ℕ) (before after : List (List (Option Cell))) (f m : S) (rs ss : List R) (fault : TagFault) →
+      RunBy Step slot before f rs m → StopBy Step Fault (slot + length before) after m ss fault →
+      StopBy Step Fault slot (before ++ after) f (rs ++ ss) fault
   stopped slot [] after f m [] ss fault x y =
       let here : slot + 0 ≡ slot = omega arith in
       subst (λ h. StopBy Step Fault slot after h ss fault) x (subst (λ n. StopBy Step Fault n after m ss fault) here y)

@@ -25,15 +25,21 @@ module _ (limits : List (Option ℕ)) (slot : ℕ) (cells : List (Option Cell)) 
       ap (λ held. admission limits held f.marks cells) (hold_as_many slot f.state ideal.state agrees.states)
       ∙ ap (λ marks. admission limits (ideal_held ideal.state) marks cells) agrees.marks
 
-pub admission_for_ports : (limits : List (Option ℕ)) (held : List ℕ) (marks : List Bool) (cells : List (Option Cell)) (ports class_count : ℕ) → AreForPorts ports class_count cells → AreForPorts ports class_count (admission limits held marks cells).cells
+pub admission_for_ports : (limits : List (Option ℕ)) (held : List ℕ) (marks : List Bool) (cells : List (Option Cell))
+    (ports class_count : ℕ) → AreForPorts ports class_count cells →
+    AreForPorts ports class_count (admission limits held marks cells).cells
 unfolding admission
-admission_for_ports limits held marks cells ports class_count come = admitted_for_ports ports class_count (marks_after limits held marks cells) cells come
+admission_for_ports limits held marks cells ports class_count come =
+    admitted_for_ports ports class_count (marks_after limits held marks cells) cells come
 
-with_fault : (a : Admission) (x : Result Sent TagFault) (fault : TagFault) → (with_admission a x ≡ Err fault) ↔ (x ≡ Err fault)
+with_fault : (a : Admission) (x : Result Sent TagFault) (fault : TagFault) →
+    (with_admission a x ≡ Err fault) ↔ (x ≡ Err fault)
 with_fault a (Ok sent) fault = (λ h. cc, λ h. cc)
 with_fault a (Err e) fault = (λ h. cc, λ h. cc)
 
-pub same_limited_fault : (limits : List (Option ℕ)) (ms : List Machine) (slot : ℕ) (cells : List (Option Cell)) (f : Marked Fabric) (ideal : Marked IdealState) (fault : TagFault) → LimitedAgrees slot f ideal → (limited_slot limits ms slot cells ideal ≡ Err fault) ↔ IsLimitedFault limits ms slot cells f fault
+pub same_limited_fault : (limits : List (Option ℕ)) (ms : List Machine) (slot : ℕ) (cells : List (Option Cell))
+    (f : Marked Fabric) (ideal : Marked IdealState) (fault : TagFault) → LimitedAgrees slot f ideal →
+    (limited_slot limits ms slot cells ideal ≡ Err fault) ↔ IsLimitedFault limits ms slot cells f fault
 unfolding limited_slot
 same_limited_fault limits ms slot cells f ideal fault agrees =
     let a = fabric_admission limits cells f in
@@ -52,15 +58,18 @@ module _ (limits : List (Option ℕ)) (ms : List Machine) (slot class_count : �
   admits_alike = step.admits ∙ same_admission limits slot cells f ideal agrees
 
   pub limited_ports_kept : length g.state.inputs ≡ length f.state.inputs
-  limited_ports_kept = ports_kept ms slot class_count r.admission.cells f.state g.state ideal.state r.of_slot agrees.states come_admitted step.runs
+  limited_ports_kept =
+      ports_kept ms slot class_count r.admission.cells f.state g.state ideal.state r.of_slot agrees.states come_admitted step.runs
 
   pub limited_slack_arrived : HasSlack 0 r.of_slot.arrived
-  limited_slack_arrived = slack_arrived ms slot class_count r.admission.cells f.state g.state ideal.state r.of_slot agrees.states come_admitted step.runs
+  limited_slack_arrived =
+      slack_arrived ms slot class_count r.admission.cells f.state g.state ideal.state r.of_slot agrees.states come_admitted step.runs
 
   pub same_limited_slot : ActsAlike limits ms slot cells ideal r g
   unfolding limited_slot
   same_limited_slot =
-      let one = same_slot ms slot class_count r.admission.cells f.state g.state ideal.state r.of_slot agrees.states come_admitted step.runs in
+      let one =
+      same_slot ms slot class_count r.admission.cells f.state g.state ideal.state r.of_slot agrees.states come_admitted step.runs in
       record {
         next = record { state = one.next; marks = r.admission.marks };
         sent =

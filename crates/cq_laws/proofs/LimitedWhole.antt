@@ -34,7 +34,9 @@ module _ (limits : List (Option ℕ)) (ms : List Machine) (class_count : ℕ) wh
     slack : HasSlack 0 r.of_slot.arrived
     stands : Stands (slot + 1) traffic g alike.next
 
-  go : (slot : ℕ) (cells : List (Option Cell)) (traffic : List (List (Option Cell))) (f g : Marked Fabric) (ideal : Marked IdealState) (r : LimitedRecord) → Stands slot (cells ∷ traffic) f ideal → LimitedFabricSlot IsStable limits ms slot cells f r g → Went slot cells traffic ideal r g
+  go : (slot : ℕ) (cells : List (Option Cell)) (traffic : List (List (Option Cell))) (f g : Marked Fabric)
+      (ideal : Marked IdealState) (r : LimitedRecord) → Stands slot (cells ∷ traffic) f ideal →
+      LimitedFabricSlot IsStable limits ms slot cells f r g → Went slot cells traffic ideal r g
   go slot cells traffic f g ideal r s step =
       let one = same_limited_slot limits ms slot class_count cells f g ideal r s.agrees s.come.0 step in
       let ports = limited_ports_kept limits ms slot class_count cells f g ideal r s.agrees s.come.0 step in
@@ -46,11 +48,19 @@ module _ (limits : List (Option ℕ)) (ms : List Machine) (class_count : ℕ) wh
 
   -- ## They act alike
 
-  pub same_limited_run : (slot : ℕ) (traffic : List (List (Option Cell))) (f g : Marked Fabric) (ideal : Marked IdealState) (rs : List LimitedRecord) → Stands slot traffic f ideal → LimitedFabricRun IsStable limits ms slot traffic f rs g → LimitedRunsAlike limits ms slot traffic ideal rs g
+  pub same_limited_run : (slot : ℕ) (traffic : List (List (Option Cell))) (f g : Marked Fabric)
+      (ideal : Marked IdealState) (rs : List LimitedRecord) → Stands slot traffic f ideal →
+      LimitedFabricRun IsStable limits ms slot traffic f rs g → LimitedRunsAlike limits ms slot traffic ideal rs g
   unfolding limited_run
   same_limited_run slot [] f g ideal [] s run =
       let here : slot ≡ slot + 0 = omega arith in
-      record { after = ideal; ran = refl; agrees = subst (λ n. LimitedAgrees n g ideal) here (subst (λ h. LimitedAgrees slot h ideal) (sym run) s.agrees) }
+      record {
+        after =
+            ideal;
+        ran = refl;
+        agrees = subst (λ n. LimitedAgrees n g ideal) here
+            (subst (λ h. LimitedAgrees slot h ideal) (sym run) s.agrees);
+      }
   same_limited_run slot [] f g ideal (r ∷ rs) s run = absurd run
   same_limited_run slot (cells ∷ traffic) f g ideal [] s run = absurd run
   same_limited_run slot (cells ∷ traffic) f g ideal (r ∷ rs) s run =
@@ -60,21 +70,30 @@ module _ (limits : List (Option ℕ)) (ms : List Machine) (class_count : ℕ) wh
       let here : slot + 1 + length traffic ≡ slot + length (cells ∷ traffic) = omega arith in
       record {
         after = rest.after;
-        ran = run_step limits ms slot cells traffic ideal _ one.sent ∙ ap (then_limited (record { admission = r.admission; gone = r.of_slot.gone; after = one.next })) rest.ran;
+        ran = run_step limits ms slot cells traffic ideal _ one.sent ∙ ap
+            (then_limited (record { admission = r.admission; gone = r.of_slot.gone; after = one.next })) rest.ran;
         agrees = subst (λ n. LimitedAgrees n g rest.after) here rest.agrees;
       }
 
-  pub same_limited_stop : (slot : ℕ) (traffic : List (List (Option Cell))) (f : Marked Fabric) (ideal : Marked IdealState) (rs : List LimitedRecord) (fault : TagFault) → Stands slot traffic f ideal → LimitedFabricStops IsStable limits ms slot traffic f rs fault → limited_run limits ms slot traffic ideal ≡ Err fault
+  pub same_limited_stop : (slot : ℕ) (traffic : List (List (Option Cell))) (f : Marked Fabric)
+      (ideal : Marked IdealState) (rs : List LimitedRecord) (fault : TagFault) → Stands slot traffic f ideal →
+      LimitedFabricStops IsStable limits ms slot traffic f rs fault →
+      limited_run limits ms slot traffic ideal ≡ Err fault
   same_limited_stop slot [] f ideal rs fault s run = absurd run
-  same_limited_stop slot (cells ∷ traffic) f ideal [] fault s run = run_fault limits ms slot cells traffic ideal fault ((same_limited_fault limits ms slot cells f ideal fault s.agrees).1 run)
+  same_limited_stop slot (cells ∷ traffic) f ideal [] fault s run =
+      run_fault limits ms slot cells traffic ideal fault
+      ((same_limited_fault limits ms slot cells f ideal fault s.agrees).1 run)
   same_limited_stop slot (cells ∷ traffic) f ideal (r ∷ rs) fault s run =
       let went = go slot cells traffic f run.0 ideal r s run.1 in
       let one = went.alike in
       run_step limits ms slot cells traffic ideal _ one.sent
-      ∙ ap (then_limited (record { admission = r.admission; gone = r.of_slot.gone; after = one.next })) (same_limited_stop (slot + 1) traffic run.0 one.next rs fault went.stands run.2)
+      ∙ ap (then_limited (record { admission = r.admission; gone = r.of_slot.gone; after = one.next }))
+      (same_limited_stop (slot + 1) traffic run.0 one.next rs fault went.stands run.2)
 
   -- after the arrivals of each slot no thread is greater than its cushion
-  pub limited_run_slack : (slot : ℕ) (traffic : List (List (Option Cell))) (f g : Marked Fabric) (ideal : Marked IdealState) (rs : List LimitedRecord) → Stands slot traffic f ideal → LimitedFabricRun IsStable limits ms slot traffic f rs g → AllByRecursion (λ r. HasSlack 0 r.of_slot.arrived) rs
+  pub limited_run_slack : (slot : ℕ) (traffic : List (List (Option Cell))) (f g : Marked Fabric)
+      (ideal : Marked IdealState) (rs : List LimitedRecord) → Stands slot traffic f ideal →
+      LimitedFabricRun IsStable limits ms slot traffic f rs g → AllByRecursion (λ r. HasSlack 0 r.of_slot.arrived) rs
   limited_run_slack slot [] f g ideal [] s run = tt
   limited_run_slack slot [] f g ideal (r ∷ rs) s run = absurd run
   limited_run_slack slot (cells ∷ traffic) f g ideal [] s run = absurd run
@@ -84,28 +103,40 @@ module _ (limits : List (Option ℕ)) (ms : List Machine) (class_count : ℕ) wh
 
   -- ## They are runs of what is admitted
 
-  pub run_through : (slot : ℕ) (traffic : List (List (Option Cell))) (f g : Marked Fabric) (ideal : Marked IdealState) (rs : List LimitedRecord) → Stands slot traffic f ideal → LimitedFabricRun IsStable limits ms slot traffic f rs g → FabricRun IsStable ms slot (admitted_traffic limits ms slot traffic ideal) f.state (slots_in rs) g.state
+  pub run_through : (slot : ℕ) (traffic : List (List (Option Cell))) (f g : Marked Fabric) (ideal : Marked IdealState)
+      (rs : List LimitedRecord) → Stands slot traffic f ideal →
+      LimitedFabricRun IsStable limits ms slot traffic f rs g →
+      FabricRun IsStable ms slot (admitted_traffic limits ms slot traffic ideal) f.state (slots_in rs) g.state
   unfolding admitted_traffic
   run_through slot [] f g ideal [] s run = ap (λ (h : Marked Fabric). h.state) run
   run_through slot [] f g ideal (r ∷ rs) s run = absurd run
   run_through slot (cells ∷ traffic) f g ideal [] s run = absurd run
   run_through slot (cells ∷ traffic) f g ideal (r ∷ rs) s run =
       let went = go slot cells traffic f run.0 ideal r s run.1 in
-      subst (λ came. FabricRun IsStable ms slot came f.state (slots_in (r ∷ rs)) g.state) (sym (admitted_step limits ms slot cells traffic ideal _ went.alike.sent))
+      subst (λ came. FabricRun IsStable ms slot came f.state (slots_in (r ∷ rs)) g.state)
+      (sym (admitted_step limits ms slot cells traffic ideal _ went.alike.sent))
       (run.0.state, run.1.runs, run_through (slot + 1) traffic run.0 g went.alike.next rs went.stands run.2)
 
-  pub stop_through : (slot : ℕ) (traffic : List (List (Option Cell))) (f : Marked Fabric) (ideal : Marked IdealState) (rs : List LimitedRecord) (fault : TagFault) → Stands slot traffic f ideal → LimitedFabricStops IsStable limits ms slot traffic f rs fault → FabricStops IsStable ms slot (admitted_traffic limits ms slot traffic ideal) f.state (slots_in rs) fault
+  pub stop_through : (slot : ℕ) (traffic : List (List (Option Cell))) (f : Marked Fabric) (ideal : Marked IdealState)
+      (rs : List LimitedRecord) (fault : TagFault) → Stands slot traffic f ideal →
+      LimitedFabricStops IsStable limits ms slot traffic f rs fault →
+      FabricStops IsStable ms slot (admitted_traffic limits ms slot traffic ideal) f.state (slots_in rs) fault
   unfolding admitted_traffic
   stop_through slot [] f ideal rs fault s run = absurd run
-  stop_through slot (cells ∷ traffic) f ideal [] fault s run = subst (λ (a : Admission). IsFault ms slot a.cells f.state fault) (same_admission limits slot cells f ideal s.agrees) run
+  stop_through slot (cells ∷ traffic) f ideal [] fault s run =
+      subst (λ (a : Admission). IsFault ms slot a.cells f.state fault)
+      (same_admission limits slot cells f ideal s.agrees) run
   stop_through slot (cells ∷ traffic) f ideal (r ∷ rs) fault s run =
       let went = go slot cells traffic f run.0 ideal r s run.1 in
-      subst (λ came. FabricStops IsStable ms slot came f.state (slots_in (r ∷ rs)) fault) (sym (admitted_step limits ms slot cells traffic ideal _ went.alike.sent))
+      subst (λ came. FabricStops IsStable ms slot came f.state (slots_in (r ∷ rs)) fault)
+      (sym (admitted_step limits ms slot cells traffic ideal _ went.alike.sent))
       (run.0.state, run.1.runs, stop_through (slot + 1) traffic run.0 went.alike.next rs fault went.stands run.2)
 
 -- ## Each slot is judged, and the empty states agree
 
-pub fabric_judged : (MayChoose : Orders → Partners → Type 0) (limits : List (Option ℕ)) (ms : List Machine) (slot : ℕ) (traffic : List (List (Option Cell))) (f g : Marked Fabric) (rs : List LimitedRecord) → LimitedFabricRun MayChoose limits ms slot traffic f rs g → AreJudged limits f.marks traffic (admissions_in rs)
+pub fabric_judged : (MayChoose : Orders → Partners → Type 0) (limits : List (Option ℕ)) (ms : List Machine) (slot : ℕ)
+    (traffic : List (List (Option Cell))) (f g : Marked Fabric) (rs : List LimitedRecord) →
+    LimitedFabricRun MayChoose limits ms slot traffic f rs g → AreJudged limits f.marks traffic (admissions_in rs)
 fabric_judged MayChoose limits ms slot [] f g [] run = tt
 fabric_judged MayChoose limits ms slot [] f g (r ∷ rs) run = absurd run
 fabric_judged MayChoose limits ms slot (cells ∷ traffic) f g [] run = absurd run
@@ -113,8 +144,12 @@ fabric_judged MayChoose limits ms slot (cells ∷ traffic) f g (r ∷ rs) run =
     let rest = fabric_judged MayChoose limits ms (slot + 1) traffic run.0 g rs run.2 in
     ((fabric_held f.state, run.1.admits), subst (λ (marks : List Bool). AreJudged limits marks traffic (admissions_in rs)) run.1.marks rest)
 
-pub limited_empty_agree : (ports : ℕ) (ranks : List (List ℕ)) → LimitedAgrees 0 (empty_limited_fabric ports ranks) (empty_limited ports ranks)
+pub limited_empty_agree : (ports : ℕ) (ranks : List (List ℕ)) →
+    LimitedAgrees 0 (empty_limited_fabric ports ranks) (empty_limited ports ranks)
 limited_empty_agree ports ranks = record { states = empty_agree ports ranks; marks = refl }
 
-pub begin : (limits : List (Option ℕ)) (ms : List Machine) (class_count ports : ℕ) (ranks : List (List ℕ)) (traffic : List (List (Option Cell))) → AllByRecursion (AreForPorts ports class_count) traffic → Stands limits ms class_count 0 traffic (empty_limited_fabric ports ranks) (empty_limited ports ranks)
-begin limits ms class_count ports ranks traffic come = record { agrees = limited_empty_agree ports ranks; come = traffic_for_empty ports ranks class_count traffic come }
+pub begin : (limits : List (Option ℕ)) (ms : List Machine) (class_count ports : ℕ) (ranks : List (List ℕ))
+    (traffic : List (List (Option Cell))) → AllByRecursion (AreForPorts ports class_count) traffic →
+    Stands limits ms class_count 0 traffic (empty_limited_fabric ports ranks) (empty_limited ports ranks)
+begin limits ms class_count ports ranks traffic come =
+    record { agrees = limited_empty_agree ports ranks; come = traffic_for_empty ports ranks class_count traffic come }
