@@ -90,7 +90,7 @@ impl Ledger {
     /// comes exactly where it was the greater position of another input: the hand has that one, at the place
     /// after this output. Rejected comes exactly where it was a lesser position: the input goes on to its next
     /// place. A hand whose input has no output left is empty. The seat made one proposal more, and never more
-    /// than the number of ports squared.
+    /// than the number of ports squared. Its view keeps the answer, also where the hand ends empty.
     pub fn propose(&self, seat: &mut LedgerSeat) -> Outcome
         requires seat { IsSeatOf self.now seat.old }
         requires hand { IsSome seat.old.view.hand }

@@ -78,6 +78,29 @@ fn worked_offers(alloc: Global) -> Result<Offers, Fail>
     Ok(offers)
 }
 
+// The list of an input, with one cell for output 0.
+fn list_for_the_first(alloc: Global, input: Port, rank: u128) -> Result<InputList, Fail>
+    ensures { IfOk result (λ list. list.outputs ≡ 3) }
+{
+    let mut list = InputList::new(alloc, 3, 1)?;
+    arrive(&mut list, waiting(input, 0, rank, 0));
+    Ok(list)
+}
+
+// Each input has an offer to output 0 alone, which prefers inputs 2, 1 and 0 in this order.
+fn contested_offers(alloc: Global) -> Result<Offers, Fail>
+    ensures { IfOk result (λ offers. ports offers ≡ 3) }
+{
+    let lists = [
+        list_for_the_first(alloc, 0, 2)?,
+        list_for_the_first(alloc, 1, 1)?,
+        list_for_the_first(alloc, 2, 0)?,
+    ];
+    let mut offers = Offers::new(alloc, 3)?;
+    offers.fill(&lists);
+    Ok(offers)
+}
+
 // The answer of a claim, or None where the seat's hand is not empty or the input is no port.
 fn claimed(ledger: &Ledger, seat: &mut LedgerSeat, input: Port) -> Option<bool>
     requires seat { IsSeatOf ledger.now seat.old }
@@ -199,6 +222,42 @@ fn one_seat_claims_every_input(rt: HostRuntime) -> Result<(), Fail> {
         closed(ledger, seat),
         Some(([Some(2), Some(1), Some(0)], 6))
     );
+    Ok(())
+}
+
+// The answer of a claim, what the proposal after it comes to, and the hand that it leaves.
+fn claimed_and_proposed(
+    ledger: &Ledger,
+    seat: &mut LedgerSeat,
+    input: Port,
+) -> (Option<bool>, Option<Outcome>, Option<Port>)
+    requires seat { IsSeatOf ledger.now seat.old }
+    requires ports { ports ledger.now.offers ≡ 3 }
+    ensures { IsSeatOf ledger.now seat.new }
+{
+    let taken = claimed(ledger, seat, input);
+    let outcome = proposed(ledger, seat);
+    (taken, outcome, seat.hand())
+}
+
+#[test]
+fn each_outcome_can_empty_the_hand(rt: HostRuntime) -> Result<(), Fail> {
+    use Outcome::{Displaced, Held, Rejected};
+    let offers = contested_offers(rt.alloc())?;
+    let (ledger, mut seat) = Ledger::start(rt.alloc(), &offers)?;
+    assert_eq!(rt;
+        claimed_and_proposed(&ledger, &mut seat, 1),
+        (Some(true), Some(Held), None)
+    );
+    assert_eq!(rt;
+        claimed_and_proposed(&ledger, &mut seat, 0),
+        (Some(true), Some(Rejected), None)
+    );
+    assert_eq!(rt;
+        claimed_and_proposed(&ledger, &mut seat, 2),
+        (Some(true), Some(Displaced(1)), None)
+    );
+    assert_eq!(rt; closed(ledger, seat), Some(([None, None, Some(0)], 3)));
     Ok(())
 }
 

@@ -16,7 +16,7 @@ pub struct View {
     pub ghost made: { ℕ },
     /// A bit for each input that the seat has found claimed.
     pub ghost seen: { ℕ },
-    /// What the last proposal came to.
+    /// What the last proposal by this seat came to, or None before the first. A join leaves it.
     pub ghost told: { Option Outcome },
     /// The offers of the ledger.
     pub ghost offers: { Orders },
