@@ -1,5 +1,4 @@
 //! Watching the workers.
-
 ghost use Rattle.std.specs.Prelude.{◌≡◌, Some};
 
 use cq_base::Port;
@@ -11,7 +10,8 @@ pub trait Gate: Sync {
     /// A worker has claimed an input. It has not proposed for it yet.
     fn claimed(&self, worker: u16, input: Port);
 
-    /// An input has proposed, and this came of it. `seat` is the seat of the worker that made the proposal.
+    /// An input has proposed, and this came of it. `seat` is the seat of the worker that made the proposal, and its
+    /// view keeps the same outcome.
     fn proposed(&self, worker: u16, input: Port, outcome: Outcome, seat: &LedgerSeat)
         requires told { seat.now.view.told ≡ Some outcome };
 }

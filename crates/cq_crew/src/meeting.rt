@@ -30,8 +30,12 @@ impl Told {
 pub(crate) struct Meeting {
     zero: Told,
     one: Told,
+    // A bit for each input whose claim was told.
+    claimed: AtomicU64,
+    held: AtomicU64,
     in_vain: AtomicU64,
     miscounted: AtomicU64,
+    unclaimed: AtomicU64,
 }
 
 impl Meeting {
@@ -39,8 +43,11 @@ impl Meeting {
         Meeting {
             zero: Told::nothing(),
             one: Told::nothing(),
+            claimed: AtomicU64::new(0),
+            held: AtomicU64::new(0),
             in_vain: AtomicU64::new(0),
             miscounted: AtomicU64::new(0),
+            unclaimed: AtomicU64::new(0),
         }
     }
 
@@ -54,12 +61,26 @@ impl Meeting {
         self.miscounted.load(SeqCst)
     }
 
+    /// How many proposals came for an input whose claim had not been told.
+    pub(crate) fn unclaimed(&self) -> u64 {
+        self.unclaimed.load(SeqCst)
+    }
+
+    /// How many proposals were told to be held by an output that held nobody.
+    pub(crate) fn held(&self) -> u64 {
+        self.held.load(SeqCst)
+    }
+
     /// How many proposals each of the two workers told of.
     pub(crate) fn proposals(&self) -> [u64; 2] {
         [
             self.zero.proposals.load(SeqCst),
             self.one.proposals.load(SeqCst),
         ]
+    }
+
+    fn has_told_claim_of(&self, input: Port) -> bool {
+        self.claimed.load(SeqCst) & bit_of(input) > 0
     }
 
     fn told_by(&self, worker: u16) -> &Told {
@@ -71,9 +92,15 @@ impl Meeting {
     }
 }
 
+// The bit of an input among 64.
+fn bit_of(input: Port) -> u64 {
+    1u64.wrapping_shl(input as u32)
+}
+
 impl Gate for Meeting {
     /// Returns once the other worker has told of a claim.
-    fn claimed(&self, worker: u16, _input: Port) {
+    fn claimed(&self, worker: u16, input: Port) {
+        self.claimed.fetch_or(bit_of(input), SeqCst);
         self.told_by(worker).claims.fetch_add(1, SeqCst);
         let other = self.told_beside(worker);
         'turns: for _ in 0..TURNS {
@@ -85,7 +112,13 @@ impl Gate for Meeting {
         self.in_vain.fetch_add(1, SeqCst);
     }
 
-    fn proposed(&self, worker: u16, _input: Port, _outcome: Outcome, seat: &LedgerSeat) {
+    fn proposed(&self, worker: u16, input: Port, outcome: Outcome, seat: &LedgerSeat) {
+        if !self.has_told_claim_of(input) {
+            self.unclaimed.fetch_add(1, SeqCst);
+        }
+        if outcome == Outcome::Held {
+            self.held.fetch_add(1, SeqCst);
+        }
         let before = self.told_by(worker).proposals.fetch_add(1, SeqCst);
         if seat.made() != before.wrapping_add(1) {
             self.miscounted.fetch_add(1, SeqCst);

@@ -6,6 +6,7 @@ use crate::meeting::Meeting;
 use crate::{OpenGate, Settled, pair_phase};
 use cq_base::{Cell, CellId, Key, Port, Queued};
 use cq_list::InputList;
+use cq_pair::{Core, LowestFirst};
 use cq_prefs::{Matching, Offers};
 use std::alloc::Global;
 use std::test::Fail;
@@ -157,6 +158,19 @@ fn any_number_of_workers_comes_to_the_same(rt: HostRuntime) -> Result<(), Fail> 
 }
 
 #[test]
+fn one_core_comes_to_the_same(rt: HostRuntime) -> Result<(), Fail> {
+    let offers = opposed_offers(rt.alloc(), 64)?;
+    let mut core = Core::begin(&offers);
+    core.settle(&offers, &mut LowestFirst);
+    assert_eq!(rt;
+        partners(rt.alloc(), &core.matching())?,
+        last_to_first(rt.alloc(), 64)?
+    );
+    assert_eq!(rt; core.made(), 2080);
+    Ok(())
+}
+
+#[test]
 fn without_offers_there_is_nothing_to_share(rt: HostRuntime) -> Result<(), Fail> {
     let offers = Offers::new(rt.alloc(), 3)?;
     let (shared, partners, proposals) = settled_by(&rt, rt.alloc(), &offers, 64)?;
@@ -165,22 +179,40 @@ fn without_offers_there_is_nothing_to_share(rt: HostRuntime) -> Result<(), Fail>
     Ok(())
 }
 
-#[test]
-fn two_workers_meet(rt: HostRuntime) -> Result<(), Fail> {
-    let offers = offers_apart(rt.alloc())?;
+// What two workers come to who wait for each other's first claim: the partners, the number of proposals, and how many
+// of them were told to be held.
+fn met<R: Threads + Sync>(
+    rt: &R,
+    alloc: Global,
+    offers: &Offers,
+) -> Result<(Vec<Option<Port>>, u64, u64), Fail> {
     let gate = Meeting::new();
-    let settled = pair_phase(&rt, rt.alloc(), &offers, 2, &gate);
+    let settled = pair_phase(rt, alloc, offers, 2, &gate);
     let phase = settled.phase();
     let [zero, one] = gate.proposals();
-    assert_eq!(rt; gate.in_vain(), 0);
-    assert_eq!(rt; gate.miscounted(), 0);
-    assert!(rt; zero > 0 && one > 0);
-    assert_eq!(rt; zero.wrapping_add(one), phase.proposals);
-    assert_eq!(rt; phase.proposals, 2);
-    assert_eq!(rt;
-        partners(rt.alloc(), &phase.matching)?.as_slice(),
-        [Some(0), Some(1)].as_slice()
-    );
-    assert!(rt; is_shared(&settled));
+    if !is_shared(&settled) || zero == 0 || one == 0 || gate.in_vain() > 0 {
+        return Err(Fail::new("the workers did not meet"));
+    }
+    if gate.miscounted() > 0 || zero.wrapping_add(one) != phase.proposals {
+        return Err(Fail::new("not each proposal was told, or more than were made"));
+    }
+    if gate.unclaimed() > 0 {
+        return Err(Fail::new("a proposal was told before the claim"));
+    }
+    Ok((
+        partners(alloc, &phase.matching)?,
+        phase.proposals,
+        gate.held(),
+    ))
+}
+
+#[test]
+fn two_workers_meet(rt: HostRuntime) -> Result<(), Fail> {
+    let (partners, proposals, held) = met(&rt, rt.alloc(), &offers_apart(rt.alloc())?)?;
+    assert_eq!(rt; partners.as_slice(), [Some(0), Some(1)].as_slice());
+    assert_eq!(rt; [proposals, held], [2, 2]);
+    let (partners, proposals, held) = met(&rt, rt.alloc(), &opposed_offers(rt.alloc(), 2)?)?;
+    assert_eq!(rt; partners.as_slice(), [Some(1), Some(0)].as_slice());
+    assert_eq!(rt; [proposals, held], [3, 2]);
     Ok(())
 }
