@@ -1,5 +1,5 @@
--- The open packets lie in a slab under keys, and no key stands at two places. So what happens under one key changes what is
--- seen at its own place, and at no other.
+-- The open packets lie in a slab under keys, no key stands at two places, and each packet of the slab stands at one. So what
+-- happens under one key changes what is seen at its own place, and at no other.
 use Rattle.std.proofs.Common.{◌≡◌, ◌≢◌, ℕ, zero, suc, ◌-◌, ◌<◌, List, [], ◌∷◌, ◌++◌, take, length, map, get_or, set, Option, None, Some, refl, sym, ap, subst, ◌∙◌, ⊎_elim, arith}
 use Rattle.std.specs.Prelude.{replicate, IsSome, option_map}
 use Rattle.std.proofs.lemmas.Option.{same_Some}
@@ -88,6 +88,9 @@ module _ (old new : Slab OpenPacket) (keys : List (Option ℕ)) (place key : ℕ
   kept_present : (k : ℕ) → k ≢ key → ContainsKey old k → ContainsKey new k
   kept_present k ne h = let P : Option OpenPacket → Type 0 = λ o. IsSome o in subst P (sym (others k ne)) h
 
+  was_present : (k : ℕ) → k ≢ key → ContainsKey new k → ContainsKey old k
+  was_present k ne h = let P : Option OpenPacket → Type 0 = λ o. IsSome o in subst P (others k ne) h
+
   shown_elsewhere : (q : ℕ) (now k : Option ℕ) → q ≢ place → get_or (set keys place now) q None ≡ k → get_or keys q None ≡ k
   shown_elsewhere q now k ne e = sym (get_or-set_other keys place q now None ne) ∙ e
 
@@ -103,6 +106,7 @@ module _ (old new : Slab OpenPacket) (keys : List (Option ℕ)) (place key : ℕ
     grown_table h = record {
       present = λ p k e. ⊎_elim (λ same. let P : ℕ → Type 0 = λ n. ContainsKey new n in subst P (sym same) h) (λ ne. kept_present k ne (table.present p k e)) (cases_eq k key);
       apart = table.apart;
+      placed = λ k h. ⊎_elim (λ same. (place, at ∙ ap Some (sym same))) (λ ne. table.placed k (was_present k ne h)) (cases_eq k key);
     }
 
     pub grown_seen : (now : Option Open) → packet_under new (Some key) ≡ now → map (packet_under new) keys ≡ set (map (packet_under old) keys) place now
@@ -116,10 +120,19 @@ module _ (old new : Slab OpenPacket) (keys : List (Option ℕ)) (place key : ℕ
         let here : get_or (set keys place None) place None ≡ Some k = ap (λ i. get_or (set keys place None) i None) (sym same) ∙ e in
         let P : ⊥ = cc in P
 
-    pub closed_table : IsTable new (set keys place None)
-    closed_table = record {
+    -- what is left in the slab stands where it stood
+    left_at : get new key ≡ None → (k : ℕ) → ContainsKey new k → (p : ℕ) × (get_or (set keys place None) p None ≡ Some k)
+    left_at gone k h =
+        let ne : k ≢ key = λ same. let P : ℕ → Type 0 = λ n. ContainsKey new n in let there = subst P same h in let B : ⊥ = cc in B in
+        let was = table.placed k (was_present k ne h) in
+        let away : was.0 ≢ place = λ same. ne (same_Some k key (sym was.1 ∙ ap (λ p. get_or keys p None) same ∙ at)) in
+        (was.0, get_or-set_other keys place was.0 None None away ∙ was.1)
+
+    pub closed_table : get new key ≡ None → IsTable new (set keys place None)
+    closed_table gone = record {
       present = λ p k e. let ne = closed_elsewhere p k e in let was = shown_elsewhere p None (Some k) ne e in kept_present k (not_elsewhere p k ne was) (table.present p k was);
       apart = λ p q k e f. table.apart p q k (shown_elsewhere p None (Some k) (closed_elsewhere p k e) e) (shown_elsewhere q None (Some k) (closed_elsewhere q k f) f);
+      placed = left_at gone;
     }
 
     pub closed_seen : map (packet_under new) (set keys place None) ≡ set (map (packet_under old) keys) place None
@@ -140,13 +153,24 @@ module _ (old new : Slab OpenPacket) (keys : List (Option ℕ)) (place key : ℕ
         has None e = let P : ⊥ = cc in absurd P
         has (Some p) e = refl
 
-    pub started_table : IsTable new (set keys place (Some key))
-    started_table = record {
+    -- what was in the slab stands where it stood, and the new packet at this place
+    started_at : get_or keys place None ≡ None → (k : ℕ) → ContainsKey new k → (p : ℕ) × (get_or (set keys place (Some key)) p None ≡ Some k)
+    started_at none k h = ⊎_elim
+        (λ same. (place, get_or-set_same keys place (Some key) None inside ∙ ap Some (sym same)))
+        (λ ne.
+        let was = table.placed k (was_present k ne h) in
+        let away : was.0 ≢ place = λ same. let here = ap (λ p. get_or keys p None) same ∙ none in let gone = was.1 in let P : ⊥ = cc in P in
+        (was.0, get_or-set_other keys place was.0 (Some key) None away ∙ was.1))
+        (cases_eq k key)
+
+    pub started_table : get_or keys place None ≡ None → IsTable new (set keys place (Some key))
+    started_table none = record {
       present = λ p k e. ⊎_elim (λ same. let P : ℕ → Type 0 = λ n. ContainsKey new n in subst P (is_key p k same e) present_now) (λ ne. let was = shown_elsewhere p (Some key) (Some k) ne e in kept_present k (vacant_elsewhere p k was) (table.present p k was)) (cases_eq p place);
       apart = λ p q k e f. ⊎_elim
           (λ ps. ⊎_elim (λ qs. ps ∙ sym qs) (λ qn. absurd (vacant_elsewhere q k (shown_elsewhere q (Some key) (Some k) qn f) (sym (is_key p k ps e)))) (cases_eq q place))
           (λ pn. ⊎_elim (λ qs. absurd (vacant_elsewhere p k (shown_elsewhere p (Some key) (Some k) pn e) (sym (is_key q k qs f)))) (λ qn. table.apart p q k (shown_elsewhere p (Some key) (Some k) pn e) (shown_elsewhere q (Some key) (Some k) qn f)) (cases_eq q place))
           (cases_eq p place);
+      placed = started_at none;
     }
       where
         is_key : (p k : ℕ) → p ≡ place → get_or (set keys place (Some key)) p None ≡ Some k → key ≡ k

@@ -13,7 +13,13 @@ abbrev pub packet_under : Slab OpenPacket → Option ℕ → Option Open
 packet_under packets None = None
 packet_under packets (Some key) = option_map open_of (get packets key)
 
--- under each key is a packet, and no key stands at two places
+-- the key stands at a place
+abbrev pub StandsAt : List (Option ℕ) → ℕ → ℕ → Type 0
+StandsAt keys place key = slice_index_or keys place None ≡ Some key
+
+-- under each key that stands at a place is a packet, no key stands at two places, and the key of each packet of the slab
+-- stands at one
 pub record IsTable (packets : Slab OpenPacket) (keys : List (Option ℕ)) : Type 0 where
-  pub present : (place key : ℕ) → slice_index_or keys place None ≡ Some key → ContainsKey packets key
-  pub apart : (place other key : ℕ) → slice_index_or keys place None ≡ Some key → slice_index_or keys other None ≡ Some key → place ≡ other
+  pub present : (place key : ℕ) → StandsAt keys place key → ContainsKey packets key
+  pub apart : (place other key : ℕ) → StandsAt keys place key → StandsAt keys other key → place ≡ other
+  pub placed : (key : ℕ) → ContainsKey packets key → (place : ℕ) × StandsAt keys place key

@@ -1,8 +1,8 @@
 //! The open packets, each at the place of its pair.
 //!
 //! The packets themselves lie in a slab, which uses the place of a packet that was closed again, and a
-//! table tells under which key.
-ghost use Rattle.std.specs.Prelude.{◌≡◌, ◌<◌, length, replicate, slice_index_or, slice_set, option_map, IfOk, OnOk, OnErr, ℕ, ◌≢◌};
+//! table tells under which key. No packet is in the slab but those in the table.
+ghost use Rattle.std.specs.Prelude.{◌≡◌, ◌<◌, length, replicate, slice_index_or, slice_set, option_map, IfOk, None, OnOk, OnErr, Some, ℕ, ◌≢◌};
 ghost use Rattle.slab.specs.Slab.{get, ContainsKey};
 ghost use Rattle.cq_reasm.specs.Open.{with_piece, grown, cells_taken};
 ghost use Rattle.cq_reasm.specs.Table.{packet_under};
@@ -87,8 +87,7 @@ impl OpenPackets {
     {
         let key = self.keys[place]?;
         self.keys[place] = None;
-        let packet = self.packets.try_remove(key)?;
-        Some(packet.body)
+        finish(&mut self.packets, key)
     }
 }
 
@@ -131,4 +130,14 @@ fn start(
         taken: 1,
         body,
     }))
+}
+
+// Takes the packet under the key out of the slab, and gives its bytes.
+fn finish(packets: &mut Slab<OpenPacket>, key: usize) -> Option<Vec<u8>>
+    ensures bytes { option_map (λ v. v.items) result ≡ option_map (λ o. o.body) (packet_under packets.old (Some key)) }
+    ensures gone { get packets.new key ≡ None }
+    ensures others { (other : ℕ) → other ≢ key → get packets.new other ≡ get packets.old other }
+{
+    let packet = packets.try_remove(key)?;
+    Some(packet.body)
 }

@@ -10,6 +10,7 @@ invariant_of-self-in-None c =
     let inside = inside_keys c.self.inside.packets keys c.args.self.now c.args.place c.self.view_is c.requires.place in
     started_table c.self.inside.packets c.start.new.packets keys c.args.place c.in_ok-key-in-None.key c.self.invariant inside c.in_ok-key-in-None.ensures.others
     c.in_ok-key-in-None.ensures.vacant _ c.in_ok-key-in-None.ensures.started
+    (key_at keys c.args.place c.index.result.now inside c.index.ensures ∙ c.in-None.is)
 
 pub returns-in_ok-key-in-None-clause-added : goal.returns-in_ok-key-in-None-clause-added
 returns-in_ok-key-in-None-clause-added c =

@@ -13,28 +13,13 @@ pub invariant_of-self : goal.invariant_of-self
 invariant_of-self c =
     let keys = c.self.inside.keys.items in
     let inside = inside_keys c.self.inside.packets keys c.args.self.now c.args.place c.self.view_is c.requires in
-    closed_table c.self.inside.packets c.try_remove.new.self keys c.args.place c.in_ok-key.key c.self.invariant inside c.try_remove.ensures.updates.others
-    (key_at keys c.args.place c.index.result.now inside c.index.ensures ∙ c.in_ok-key.was)
-
-pub returns-in_err-packet-clause-closed : goal.returns-in_err-packet-clause-closed
-returns-in_err-packet-clause-closed c =
-    let keys = c.self.inside.keys.items in
-    let inside = inside_keys c.self.inside.packets keys c.args.self.now c.args.place c.self.view_is c.requires in
-    closed_seen c.self.inside.packets c.try_remove.new.self keys c.args.place c.in_ok-key.key c.self.invariant inside c.try_remove.ensures.updates.others
-    (key_at keys c.args.place c.index.result.now inside c.index.ensures ∙ c.in_ok-key.was)
-    ∙ ap (λ seen. set seen c.args.place None) c.self.view_is
-
-pub invariant_of-self-2 : goal.invariant_of-self-2
-invariant_of-self-2 c =
-    let keys = c.self.inside.keys.items in
-    let inside = inside_keys c.self.inside.packets keys c.args.self.now c.args.place c.self.view_is c.requires in
-    closed_table c.self.inside.packets c.try_remove.new.self keys c.args.place c.in_ok-key.key c.self.invariant inside c.try_remove.ensures.updates.others
-    (key_at keys c.args.place c.index.result.now inside c.index.ensures ∙ c.in_ok-key.was)
+    closed_table c.self.inside.packets c.finish.new.packets keys c.args.place c.in_ok-key.key c.self.invariant inside c.finish.ensures.others
+    (key_at keys c.args.place c.index.result.now inside c.index.ensures ∙ c.in_ok-key.was) c.finish.ensures.gone
 
 pub returns-clause-closed : goal.returns-clause-closed
 returns-clause-closed c =
     let keys = c.self.inside.keys.items in
     let inside = inside_keys c.self.inside.packets keys c.args.self.now c.args.place c.self.view_is c.requires in
-    closed_seen c.self.inside.packets c.try_remove.new.self keys c.args.place c.in_ok-key.key c.self.invariant inside c.try_remove.ensures.updates.others
+    closed_seen c.self.inside.packets c.finish.new.packets keys c.args.place c.in_ok-key.key c.self.invariant inside c.finish.ensures.others
     (key_at keys c.args.place c.index.result.now inside c.index.ensures ∙ c.in_ok-key.was)
     ∙ ap (λ seen. set seen c.args.place None) c.self.view_is
