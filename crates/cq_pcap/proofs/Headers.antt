@@ -20,7 +20,7 @@ use Rattle.cq_pcap.proofs.Numbers.{number_at-append}
 abbrev form_with : List ℕ → Option Form
 form_with first = find (λ form. bytes_eq first (magic form)) forms
 
-found_with : (o : Bool) (p : Bool) → form_with (magic_in o p) ≡ Some (record { big = o; nano = p })
+found_with : (big nano : Bool) → form_with (magic_in big nano) ≡ Some (record { big = big; nano = nano })
 found_with true false = refl
 found_with false false = refl
 found_with true true = refl

@@ -12,34 +12,34 @@ AreBytes bytes = (i : ℕ) → slice_index bytes i < 256
 pub AreBytes-drop : (xs : List ℕ) (n : ℕ) → AreBytes xs → AreBytes (drop n xs)
 AreBytes-drop xs n fits i = subst (λ k. k < 256) (sym (get_or-drop n xs i 0)) (fits (n + i))
 
-pub number_in-reads_back : (order : Bool) (x : ℕ) (rest : List ℕ) → x < 2 ^ 32 → number_in order 4 (bytes_in order 4 x ++ rest) ≡ x
+pub number_in-reads_back : (big : Bool) (x : ℕ) (rest : List ℕ) → x < 2 ^ 32 → number_in big 4 (bytes_in big 4 x ++ rest) ≡ x
 number_in-reads_back false x rest h = little_number-reads_back 4 x rest h
 number_in-reads_back true x rest h = big_number-reads_back 4 x rest h
 
-number_in-append : (order : Bool) (n : ℕ) (xs ys : List ℕ) → n ≤ length xs → number_in order n (xs ++ ys) ≡ number_in order n xs
+number_in-append : (big : Bool) (n : ℕ) (xs ys : List ℕ) → n ≤ length xs → number_in big n (xs ++ ys) ≡ number_in big n xs
 number_in-append false n xs ys h = little_from-append n xs ys h
 number_in-append true n xs ys h = big_from-append n xs ys h
 
 -- what stands in front does not depend on what follows
-pub number_at-append : (order : Bool) (n : ℕ) (xs ys : List ℕ) (at : ℕ) → at + n ≤ length xs → number_at order n (xs ++ ys) at ≡ number_at order n xs at
+pub number_at-append : (big : Bool) (n : ℕ) (xs ys : List ℕ) (at : ℕ) → at + n ≤ length xs → number_at big n (xs ++ ys) at ≡ number_at big n xs at
 unfolding number_at
-number_at-append order n xs ys at h =
+number_at-append big n xs ys at h =
     let long : n ≤ length (drop at xs) = omega (arith, length-drop at xs) in
-    ap (number_in order n) (drop-append-le at xs ys (omega arith)) ∙ number_in-append order n (drop at xs) ys long
+    ap (number_in big n) (drop-append-le at xs ys (omega arith)) ∙ number_in-append big n (drop at xs) ys long
 
 -- a number after a place is one of the bytes from that place on
-pub number_at-drop : (order : Bool) (n : ℕ) (xs : List ℕ) (place at : ℕ) → number_at order n (drop place xs) at ≡ number_at order n xs (place + at)
+pub number_at-drop : (big : Bool) (n : ℕ) (xs : List ℕ) (place at : ℕ) → number_at big n (drop place xs) at ≡ number_at big n xs (place + at)
 unfolding number_at
-number_at-drop order n xs place at = ap (number_in order n) (drop-drop at place xs)
+number_at-drop big n xs place at = ap (number_in big n) (drop-drop at place xs)
 
-pub number_at-lt : (order : Bool) (xs : List ℕ) (at : ℕ) → AreBytes xs → number_at order 4 xs at < 2 ^ 32
+pub number_at-lt : (big : Bool) (xs : List ℕ) (at : ℕ) → AreBytes xs → number_at big 4 xs at < 2 ^ 32
 unfolding number_at
 number_at-lt false xs at fits = little_from-lt 0 4 (drop at xs) (AreBytes-drop xs at fits)
 number_at-lt true xs at fits = big_from-lt 0 4 (drop at xs) (AreBytes-drop xs at fits)
 
 -- four bytes are those of the number in them
-four_spelt : (order : Bool) (a b c d : ℕ) (ys : List ℕ) → AreBytes (a ∷ b ∷ c ∷ d ∷ ys) → a ∷ b ∷ c ∷ d ∷ ys ≡ bytes_in order 4 (number_in order 4 (a ∷ b ∷ c ∷ d ∷ ys)) ++ ys
-four_spelt order a b c d ys fits = spelt_in order
+four_spelt : (big : Bool) (a b c d : ℕ) (ys : List ℕ) → AreBytes (a ∷ b ∷ c ∷ d ∷ ys) → a ∷ b ∷ c ∷ d ∷ ys ≡ bytes_in big 4 (number_in big 4 (a ∷ b ∷ c ∷ d ∷ ys)) ++ ys
+four_spelt big a b c d ys fits = spelt_in big
   where
     four : AreBytes (a ∷ b ∷ c ∷ d ∷ [])
     four zero = fits 0
@@ -52,15 +52,15 @@ four_spelt order a b c d ys fits = spelt_in order
     spelt_in false = ap (λ xs. xs ++ ys) (sym (le_bytes_4 (a ∷ b ∷ c ∷ d ∷ []) (number_in false 4 (a ∷ b ∷ c ∷ d ∷ ys)) refl four (omega arith)))
     spelt_in true = ap (λ xs. xs ++ ys) (sym (be_bytes_4 (a ∷ b ∷ c ∷ d ∷ []) (number_in true 4 (a ∷ b ∷ c ∷ d ∷ ys)) refl four (omega arith)))
 
-first_four : (order : Bool) (ys : List ℕ) → AreBytes ys → 4 ≤ length ys → ys ≡ bytes_in order 4 (number_in order 4 ys) ++ drop 4 ys
-first_four order [] fits h = absurd (omega arith)
-first_four order (a ∷ []) fits h = absurd (omega arith)
-first_four order (a ∷ b ∷ []) fits h = absurd (omega arith)
-first_four order (a ∷ b ∷ c ∷ []) fits h = absurd (omega arith)
-first_four order (a ∷ b ∷ c ∷ d ∷ ys) fits h = four_spelt order a b c d ys fits
+first_four : (big : Bool) (ys : List ℕ) → AreBytes ys → 4 ≤ length ys → ys ≡ bytes_in big 4 (number_in big 4 ys) ++ drop 4 ys
+first_four big [] fits h = absurd (omega arith)
+first_four big (a ∷ []) fits h = absurd (omega arith)
+first_four big (a ∷ b ∷ []) fits h = absurd (omega arith)
+first_four big (a ∷ b ∷ c ∷ []) fits h = absurd (omega arith)
+first_four big (a ∷ b ∷ c ∷ d ∷ ys) fits h = four_spelt big a b c d ys fits
 
-pub number_at-spelt : (order : Bool) (xs : List ℕ) (at next : ℕ) → AreBytes xs → next ≡ at + 4 → next ≤ length xs → drop at xs ≡ bytes_in order 4 (number_at order 4 xs at) ++ drop next xs
+pub number_at-spelt : (big : Bool) (xs : List ℕ) (at next : ℕ) → AreBytes xs → next ≡ at + 4 → next ≤ length xs → drop at xs ≡ bytes_in big 4 (number_at big 4 xs at) ++ drop next xs
 unfolding number_at
-number_at-spelt order xs at next fits e h =
+number_at-spelt big xs at next fits e h =
     let long : 4 ≤ length (drop at xs) = omega (arith, length-drop at xs) in
-    first_four order (drop at xs) (AreBytes-drop xs at fits) long ∙ ap (λ ys. bytes_in order 4 (number_in order 4 (drop at xs)) ++ ys) (drop-drop 4 at xs ∙ ap (λ n. drop n xs) (sym e))
+    first_four big (drop at xs) (AreBytes-drop xs at fits) long ∙ ap (λ ys. bytes_in big 4 (number_in big 4 (drop at xs)) ++ ys) (drop-drop 4 at xs ∙ ap (λ n. drop n xs) (sym e))

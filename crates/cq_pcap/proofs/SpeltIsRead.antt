@@ -15,15 +15,15 @@ use Rattle.cq_pcap.proofs.Firsts.{stated, first_whole, first_cut_header, first_l
 use Rattle.cq_pcap.proofs.Records.{joined, joined-end, joined-nil, packets_from-cons, packets_from-fault, packets_from-nil}
 
 -- what stands in the bytes of a record, whatever follows it
-record Stands (order : Bool) (r : Record) (xs rest : List ℕ) : Type 0 where
-  seconds : number_at order 4 xs 0 ≡ r.seconds
-  subseconds : number_at order 4 xs 4 ≡ r.subseconds
-  len : number_at order 4 xs 8 ≡ length r.body
-  original : number_at order 4 xs 12 ≡ r.original
+record Stands (big : Bool) (r : Record) (xs rest : List ℕ) : Type 0 where
+  seconds : number_at big 4 xs 0 ≡ r.seconds
+  subseconds : number_at big 4 xs 4 ≡ r.subseconds
+  len : number_at big 4 xs 8 ≡ length r.body
+  original : number_at big 4 xs 12 ≡ r.original
   left : drop 16 xs ≡ r.body ++ rest
   long : length xs ≡ 16 + (length r.body + length rest)
 
-stands : (order : Bool) (r : Record) (rest : List ℕ) → Fits r → Stands order r (spelling order r ++ rest) rest
+stands : (big : Bool) (r : Record) (rest : List ℕ) → Fits r → Stands big r (spelling big r ++ rest) rest
 unfolding number_at
 stands false r rest fit = record {
   seconds = number_in-reads_back false r.seconds (drop 4 (spelling false r ++ rest)) fit.seconds;

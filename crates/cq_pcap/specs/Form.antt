@@ -5,19 +5,19 @@ use Rattle.std.specs.Str.{bytes_eq}
 use Rattle.byteorder.specs.Endian.{big_number, big_bytes, little_number, little_bytes}
 use Rattle.cq_pcap.specs.declared.form.Form.{Form}
 
--- the number in the first n bytes
+-- the number in the first n bytes, of which the highest comes first where the flag is set
 abbrev pub number_in : Bool → ℕ → List ℕ → ℕ
 number_in false n bytes = little_number n bytes
 number_in true n bytes = big_number n bytes
 
--- the n bytes of a number
+-- the n bytes of a number, in the same order
 abbrev pub bytes_in : Bool → ℕ → ℕ → List ℕ
 bytes_in false n x = little_bytes n x
 bytes_in true n x = big_bytes n x
 
 -- the number in the n bytes at a place
 unfoldable pub number_at : Bool → ℕ → List ℕ → ℕ → ℕ
-number_at order n bytes at = number_in order n (drop at bytes)
+number_at big n bytes at = number_in big n (drop at bytes)
 
 -- the nanoseconds of one subsecond
 abbrev pub unit : Bool → ℕ

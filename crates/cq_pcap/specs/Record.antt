@@ -34,7 +34,7 @@ pub record Record : Type 0 where
 
 -- sixteen bytes of figures, and the captured bytes
 abbrev pub spelling : Bool → Record → List ℕ
-spelling order r = bytes_in order 4 r.seconds ++ bytes_in order 4 r.subseconds ++ bytes_in order 4 (length r.body) ++ bytes_in order 4 r.original ++ r.body
+spelling big r = bytes_in big 4 r.seconds ++ bytes_in big 4 r.subseconds ++ bytes_in big 4 (length r.body) ++ bytes_in big 4 r.original ++ r.body
 
 -- its figures fit their fields, and it has at most 262,144 captured bytes
 pub record Fits (r : Record) : Type 0 where

@@ -1,4 +1,3 @@
--- proofs/read/form_of/Answers.antt
 use Rattle.std.proofs.Common.{◌≡◌, Err, Some, None, Ok}
 use Rattle.std.specs.Prelude.{option_map}
 use Rattle.cq_pcap.specs.Faults.{fault_of}

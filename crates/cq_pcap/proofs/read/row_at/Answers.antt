@@ -1,4 +1,3 @@
--- proofs/read/row_at/Answers.antt
 use Rattle.std.proofs.Common.{◌≡◌, ◌-◌, ◌<◌, length, take, drop, Err, IfErr, Some, arith, rules}
 use Rattle.std.specs.Prelude.{option_map}
 use Rattle.cq_pcap.specs.Faults.{fault_of}

@@ -1,4 +1,3 @@
--- proofs/read/rows_of/Answers.antt
 use Rattle.std.proofs.Common.{◌≡◌, ◌∷◌, ◌++◌, [], rules}
 use Rattle.cq_pcap.specs.Rows.{GoesOn}
 use Rattle.cq_pcap.proofs.Refused.{some_is}

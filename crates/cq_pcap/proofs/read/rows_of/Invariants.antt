@@ -1,4 +1,3 @@
--- proofs/read/rows_of/Invariants.antt
 use Rattle.std.proofs.Common.{◌-◌, length}
 use Rattle.cq_pcap.specs.Rows.{AreRowsTo}
 use Rattle.cq_pcap.proofs.read.rows_of.Given as goal

@@ -1,4 +1,3 @@
--- proofs/capture/Capture/of_rows/Answers.antt
 use Rattle.cq_pcap.specs.Rows.{packets_at}
 use Rattle.cq_pcap.proofs.SpeltIsRead.{spelt_is_read}
 use Rattle.cq_pcap.proofs.capture.Capture.of_rows.Goals as goal
