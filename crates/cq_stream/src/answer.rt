@@ -1,5 +1,5 @@
 // The answer on the bytes of a reader.
-ghost use Rattle.std.specs.Prelude.{◌≡◌, Ok, Err, IfErr, IfOk, IfSome};
+ghost use Rattle.std.specs.Prelude.{◌≡◌, Ok, Err, IfErr, IfOk, IfSome, Some};
 ghost use Rattle.cq_pcap.specs.Faults.{IsFaulty, fault_of};
 ghost use Rattle.cq_pcap.specs.Reading.{packets_of};
 ghost use Rattle.cq_pcap.specs.Record.{Spells};
@@ -14,6 +14,8 @@ pub(crate) fn answer(
     rows: Vec<PacketRow>,
 ) -> Result<Capture, PcapRefusal>
     requires { AreRowsUntil bytes.items fault rows.items }
+    ensures rows { AreRowsUntil bytes.items fault rows.items }
+    ensures found { IfErr result (λ refusal. fault ≡ Some refusal) }
     ensures spelt { IfOk result (λ packets. Spells bytes.items packets) }
     ensures faulty { IfErr result (λ refusal. IfSome (fault_of refusal) (IsFaulty bytes.items)) }
     ensures read { IfOk result (λ packets. packets_of bytes.items ≡ Ok packets) }

@@ -17,7 +17,7 @@ pub struct Intake {
 }
 
 impl Intake {
-    ghost use Rattle.std.specs.Prelude.{◌≡◌, [], ◌∷◌, ◌++◌, Ok, Err, IfErr, IfNone, IfOk, IfSome};
+    ghost use Rattle.std.specs.Prelude.{◌≡◌, [], ◌∷◌, ◌++◌, Ok, Err, IfErr, IfNone, IfOk, IfSome, Some};
     ghost use Rattle.cq_pcap.specs.Faults.{IsFaulty, fault_of};
     ghost use Rattle.cq_pcap.specs.Reading.{packets_of};
     ghost use Rattle.cq_pcap.specs.Record.{Spells};
@@ -61,7 +61,7 @@ impl Intake {
 
     /// What `read_capture` answers on the reader's bytes, where the last item taken was `Ended` and
     /// these are the rows taken. They are those of the capture, or of the records before the fault, in
-    /// order, whole and once.
+    /// order, whole and once. A refusal is the fault that the reader found, and never want of memory.
     pub fn close(self, done: Done, rows: Vec<PacketRow>) -> Result<Capture, PcapRefusal>
         requires done { IsLeftTo self done }
         requires ran { HasRun done }
@@ -70,6 +70,7 @@ impl Intake {
         ensures faulty { IfErr result (λ refusal. IfSome (fault_of refusal) (IsFaulty (bytes_of done))) }
         ensures read { IfOk result (λ packets. packets_of (bytes_of done) ≡ Ok packets) }
         ensures unread { IfErr result (λ refusal. IfSome (fault_of refusal) (λ fault. packets_of (bytes_of done) ≡ Err fault)) }
+        ensures found { IfErr result (λ refusal. fault_found done ≡ Some refusal) }
         ensures rows { AreRowsUntil (bytes_of done) (fault_found done) rows.items }
     {
         let Intake {

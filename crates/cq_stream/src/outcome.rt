@@ -23,7 +23,6 @@ impl Done {
     pub fn shown(&self) -> bool
         ensures { IsTrue result }
     {
-        let Done { .. } = self;
         true
     }
 

@@ -1,4 +1,3 @@
--- proofs/answer/answer/Answers.antt
 use Rattle.std.proofs.Common.{subst}
 use Rattle.cq_pcap.specs.declared.read.PcapRefusal.{PcapRefusal}
 use Rattle.std.specs.Prelude.{Option}

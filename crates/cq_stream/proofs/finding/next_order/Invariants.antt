@@ -1,4 +1,3 @@
--- proofs/finding/next_order/Invariants.antt
 use Rattle.std.proofs.Common.{◌≡◌}
 use Rattle.rtrb.specs.Ring.{received}
 use Rattle.cq_stream.proofs.finding.next_order.Given as goal

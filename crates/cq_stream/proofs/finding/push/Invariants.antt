@@ -1,4 +1,3 @@
--- proofs/finding/push/Invariants.antt
 use Rattle.std.proofs.Common.{◌≡◌}
 use Rattle.rtrb.specs.Ring.{SameProducer, sent}
 use Rattle.cq_stream.proofs.finding.push.Given as goal

@@ -1,4 +1,3 @@
--- proofs/finding/send_records/Answers.antt
 use Rattle.std.proofs.Common.{◌≡◌, ℕ, ◌+◌, length, subst, sym, rules}
 use Rattle.rtrb.specs.Ring.{SameProducer, sent}
 use Rattle.cq_pcap.specs.Rows.{GoesOn}

@@ -1,4 +1,3 @@
--- proofs/finding/send_records/Invariants.antt
 use Rattle.std.proofs.Common.{◌-◌, length}
 use Rattle.rtrb.specs.Ring.{SameProducer, sent}
 use Rattle.cq_stream.proofs.Sending.{SendsTo}

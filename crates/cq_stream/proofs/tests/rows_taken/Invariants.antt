@@ -1,4 +1,3 @@
--- proofs/tests/rows_taken/Invariants.antt
 use Rattle.std.proofs.Common.{◌≡◌, map}
 use Rattle.cq_stream.specs.declared.item.Item.TheVariants.{Row}
 use Rattle.cq_stream.specs.Rings.{SameReader, taken}
