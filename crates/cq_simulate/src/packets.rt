@@ -15,8 +15,8 @@ use std::alloc::Global;
 
 /// The packets that leave an output, in the order in which their last cells depart: each with the stamp
 /// of that slot, its original length, and its captured bytes. `sent` is a whole run over the schedule of
-/// these captures, and `t0` the stamp from which its slots are counted, in nanoseconds. The error is want
-/// of memory.
+/// these captures, and `t0` the stamp from which its slots are counted, in nanoseconds. From an output that
+/// is no port nothing departs, so no packet leaves it. The error is want of memory.
 pub fn packets_of(
     alloc: Global,
     output: Port,
@@ -26,7 +26,6 @@ pub fn packets_of(
     t0: u64,
 ) -> Result<Vec<OutPacket>, NoMemory>
     requires tables { AreTables tables.now }
-    requires output { output < ports_of tables.now.setup }
     requires captures { length captures.now ≡ ports_of tables.now.setup }
     requires sent { ideal_departures tables.now.setup (arrivals tables.now captures.now) ≡ Ok sent.now }
     requires t0 { t0 ≡ first_stamp captures.now }
