@@ -18,9 +18,9 @@ use std::thread::Threads;
 /// and no more than there are inputs with an offer. The phase does not depend on how many they are, on the gate,
 /// or on who comes first. There is no refusal.
 ///
-/// Two workers or more share a ledger. Worker w tries to claim the inputs from w upwards and then from 0 up to w,
-/// and each claim and each proposal is told to the gate. Fewer than two, or too little memory for a ledger, and
-/// one thread settles the phase alone, with nothing told.
+/// Two workers or more share a ledger. Each tries to claim the input of its own number, those above it and then
+/// those below, and tells the gate of its claims and proposals. Fewer than two, or too little memory for a
+/// ledger, and one thread settles the phase alone, with nothing told.
 pub fn pair_phase<R: Threads + Sync, G: Gate>(
     rt: &R,
     alloc: Global,

@@ -36,7 +36,7 @@ pub record ShowsProposals (o : Orders) (words : List ℕ) (views : List View) : 
   -- the state is one that proposals reach, and the seats made them: as many as places were passed
   pub reached : IsReachedBy o (core_state o words views) (sum_by (λ (v : View). v.made) views)
   pub made : sum_by (λ (v : View). v.made) views ≡ sum (core_state o words views).places
-  -- an output's word is the number of ports, or a position of its order
+  -- each output has a word that it can have
   pub word : (j : ℕ) → j < ports o → IsWord o j (slice_index words (suc j))
   pub one_place : (i : ℕ) → IsInOnePlace o words views (core_state o words views) i
   -- a hand's place is where its input proposes next, and within the input's order

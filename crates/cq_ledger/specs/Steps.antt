@@ -1,5 +1,5 @@
--- What each kind of step makes of the words and of a seat's view. A claim and a proposal are the only steps that change
--- a word, and each changes one.
+-- What each kind of step makes of the words and of a seat's view. Only claims and proposals change
+-- words, one word each.
 --
 --   kind                      step                              view that changes
 --   making the first seat     none                              the new seat's

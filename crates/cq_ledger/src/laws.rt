@@ -51,10 +51,10 @@ pub fn steps_keep_the_rule()
 {}
 
 /// What the rule comes to. The state that words and views show is one that proposals of free inputs reach, and
-/// the seats made those proposals. An output's word is the number of ports or a position of its order. An input
-/// is in at most one hand or held by at most one output, and never both, and unclaimed it is neither. An output
-/// that was asked holds the input or one that it prefers, and none that it prefers to its partner in the
-/// matching that is best for the inputs.
+/// the seats made those proposals. Each output has a word that it can have. No input is in two hands, held by two
+/// outputs, or in a hand and held, and one that nobody has claimed is in no hand and not held. An output that was
+/// asked holds the input or one that it prefers, and none that it prefers to its partner in the matching that is
+/// best for the inputs.
 pub fn rule_shows_proposals()
     ensures { (o : Orders) (words : List ℕ) (views : List View) → IsLedger o words views → ShowsProposals o words views }
 {}

@@ -151,7 +151,7 @@ impl Ledger {
         into.made += made;
     }
 
-    /// Closes the ledger with a seat that has claimed every port and whose hand is empty. Its phase is the
+    /// Closes the ledger with a seat that has nothing in its hand and has claimed all ports. Its phase is the
     /// matching that is best for the inputs, after as many proposals as that matching has: those that the seat
     /// made.
     pub fn close(self, seat: LedgerSeat) -> Closed
