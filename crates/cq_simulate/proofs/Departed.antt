@@ -1,10 +1,10 @@
 -- Each cell that departs has arrived. At each output the cells of one input and class leave as they came, since the machine
 -- of each discipline keeps the laws of machines and begins in a state of its size. So what holds of all cells that arrive
 -- holds of each that departs: it is of a packet of its input's capture.
-use Rattle.std.proofs.Common.{◌≡◌, ℕ, zero, suc, ◌+◌, ◌<◌, ◌≤◌, Bool, true, false, cond, List, [], ◌∷◌, ◌++◌, length, map, flat_map, get_or, Some, Result, Ok, Err, refl, sym, ap, ◌∙◌, subst, arith}
+use Rattle.std.proofs.Common.{◌≡◌, ℕ, zero, suc, ◌+◌, ◌<◌, ◌≤◌, Bool, true, false, cond, List, [], ◌∷◌, ◌++◌, length, map, flat_map, get_or, Some, Result, Ok, Err, refl, sym, ap, ◌∙◌, subst, ⊎_elim, arith}
 use Rattle.std.specs.Prelude.{◌&&◌, ◌==◌, slice_get, slice_index_or}
 use Rattle.std.specs.List.{AllByRecursion, AllPairs, filter, range_with_len}
-use Rattle.std.proofs.lemmas.Bool.{cond_both, cond-true, eq-eqb, and_from}
+use Rattle.std.proofs.lemmas.Bool.{cases_eq, cond_both, cond-true, eq-eqb, ne_eqb, and_from, and_left}
 use Rattle.std.proofs.lemmas.List.{get_or-map, length-map, length-replicate}
 use Rattle.std.proofs.lemmas.Option.{get_or_from_slice_get}
 use Rattle.cq_base.specs.Arriving.{Arrival}
@@ -171,3 +171,29 @@ departed_class t captures sent are many h k e inside =
     let traffic = traffic_is t captures are many in
     departed (λ cell. cell.class < length t.setup.classes) t.setup (arrivals t captures) sent are.setup traffic h
     (all_from (IsInRange (ports_of t.setup) (classes_of t.setup)) (λ a. a.cell.class < length t.setup.classes) (λ a r. r.class) (arrivals t captures) traffic.in_range) k e inside
+
+-- a flow in which a cell came is one of a port
+module _ (ports i c j : ℕ) where
+  for_port : (a : Arrival) → comes_in_flow i c j a ≡ true → a.cell.output < ports → j < ports
+  for_port a of less = ⊎_elim
+      (λ (same : a.cell.output ≡ j). omega arith)
+      (λ ne. let other = and_left (a.cell.output == j) (a.cell.id.input == i && a.cell.class == c) (ne_eqb a.cell.output j ne) in absurd (let P : ⊥ = cc in P))
+      (cases_eq a.cell.output j)
+
+  came_for_port : (came : List Arrival) → AllByRecursion (λ a. a.cell.output < ports) came → AllByRecursion (λ (_ : Cell). j < ports) (came_in_flow i c j came)
+  came_for_port [] all = tt
+  came_for_port (a ∷ came) all =
+      cond_both (comes_in_flow i c j a) (a ∷ filter (comes_in_flow i c j) came) (filter (comes_in_flow i c j) came) (λ l. AllByRecursion (λ (_ : Cell). j < ports) (map (λ (x : Arrival). x.cell) l))
+      (λ of. (for_port a of all.0, came_for_port came all.1)) (λ _. came_for_port came all.1)
+
+-- so each departure is at a port
+pub departed_output : (t : Tables) (captures : List (List Captured)) (sent : List Departure) → AreTables t → length captures ≡ ports_of t.setup → ideal_departures t.setup (arrivals t captures) ≡ Ok sent → (k : ℕ) (e : Departure) → k < length sent → (get_or sent k e).output < ports_of t.setup
+departed_output t captures sent are many h k e inside =
+    let d : Departure = get_or sent k e in
+    let i = d.queued.cell.id.input in
+    let c = d.queued.cell.class in
+    let ports = ports_of t.setup in
+    let traffic = traffic_is t captures are many in
+    let same = leave_as_they_came t.setup (arrivals t captures) sent are.setup traffic h i c d.output in
+    let came = all_from (IsInRange ports (classes_of t.setup)) (λ a. a.cell.output < ports) (λ a r. r.output) (arrivals t captures) traffic.in_range in
+    one_left (λ _. d.output < ports) i c d.output sent k e (subst (AllByRecursion (λ (_ : Cell). d.output < ports)) (sym same) (came_for_port ports i c d.output (arrivals t captures) came)) inside (own_flow d)

@@ -1,6 +1,6 @@
 -- The walk over the departures. Of each input and class that is open which the cells taken so far leave open, and the
 -- packets made so far are those that left.
-use Rattle.std.proofs.Common.{◌≡◌, ◌≢◌, ℕ, ◌+◌, ◌<◌, ◌≤◌, Bool, true, false, cond, List, [], ◌∷◌, ◌++◌, length, map, take, drop, get_or, Option, Some, None, Ok, refl, sym, ap, ◌∙◌, subst, ⊎_elim, inl, inr, arith}
+use Rattle.std.proofs.Common.{◌≡◌, ◌≢◌, ℕ, suc, ◌+◌, ◌<◌, ◌≤◌, Bool, true, false, cond, List, [], ◌∷◌, ◌++◌, length, map, take, drop, get_or, Option, Some, None, Ok, refl, sym, ap, ◌∙◌, subst, ⊎_elim, inl, inr, arith}
 use Rattle.std.specs.Prelude.{◌&&◌, ◌==◌, All}
 use Rattle.std.specs.List.{filter}
 use Rattle.std.proofs.lemmas.Bool.{cases_eq, cond-true, cond-false, eq-eqb, ne_eqb, and_from, and_left, and_right}
@@ -20,7 +20,7 @@ use Rattle.cq_route.specs.declared.tables.Tables.{Tables}
 use Rattle.cq_simulate.specs.IdealRuns.{ideal_departures}
 use Rattle.cq_simulate.specs.Packets.{ends_packet_at, leaving, packets_out}
 use Rattle.cq_simulate.specs.Pieces.{Fits, left_with, opened, piece_at}
-use Rattle.cq_simulate.proofs.Departed.{leave_as_they_came}
+use Rattle.cq_simulate.proofs.Departed.{departed_output, leave_as_they_came}
 use Rattle.cq_simulate.proofs.Joining.{flow_fits, opened-append}
 use Rattle.cq_simulate.proofs.Packed.{none_packed, one_packed}
 
@@ -165,3 +165,18 @@ at_first t captures sent output joiner packets inputs classes none nothing small
   made = nothing ∙ none_out t captures output;
   small = small;
 }
+
+none_of : (p : Departure → Bool) (xs : List Departure) → ((k : ℕ) (e : Departure) → k < length xs → p (get_or xs k e) ≡ false) → filter p xs ≡ []
+none_of p [] h = refl
+none_of p (x ∷ xs) h = cond-false (p x) (x ∷ filter p xs) (filter p xs) (h 0 x (omega arith)) ∙ none_of p xs (λ k e l. h (suc k) e (omega arith))
+
+-- at what is no port nothing departs
+pub nowhere : (t : Tables) (captures : List (List Captured)) (sent : List Departure) (output : ℕ) → AreTables t → length captures ≡ ports_of t.setup → ideal_departures t.setup (arrivals t captures) ≡ Ok sent → ports_of t.setup ≤ output → packets_out t captures sent output ≡ []
+unfolding packets_out
+nowhere t captures sent output are many whole none =
+    ap (map (leaving t captures))
+    (none_of (ends_packet_at output) sent
+    (λ k e inside.
+    let d : Departure = get_or sent k e in
+    let at_port : d.output < ports_of t.setup = departed_output t captures sent are many whole k e inside in
+    and_left (d.output == output) d.queued.cell.last (ne_eqb d.output output (λ (same : d.output ≡ output). absurd (omega arith)))))

@@ -1,5 +1,5 @@
 //! The packets that leave an output.
-ghost use Rattle.std.specs.Prelude.{◌≡◌, ◌+◌, ◌*◌, ◌<◌, ◌≤◌, ℕ, All, IfOk, IfSome, OnOk, Ok, length};
+ghost use Rattle.std.specs.Prelude.{◌≡◌, ◌+◌, ◌*◌, ◌<◌, ◌≤◌, ℕ, All, IfOk, IfSome, OnOk, Ok, [], length};
 ghost use Rattle.cq_cells.specs.Schedule.{arrivals, first_stamp, packet_at, packets_of as packets_at};
 ghost use Rattle.cq_route.specs.Tables.{AreTables, ports_of};
 ghost use Rattle.cq_simulate.specs.IdealRuns.{ideal_departures};
@@ -30,6 +30,7 @@ pub fn packets_of(
     requires sent { ideal_departures tables.now.setup (arrivals tables.now captures.now) ≡ Ok sent.now }
     requires t0 { t0 ≡ first_stamp captures.now }
     ensures packets { IfOk result (λ packets. packets.items ≡ packets_out tables.now captures.now sent.now output) }
+    ensures nowhere { ports_of tables.now.setup ≤ output → IfOk result (λ packets. packets.items ≡ []) }
     ensures bodies { IfOk result (λ packets. All (λ p. length p.body ≤ 262144) packets.items) }
 {
     let inputs = captures.len() as u16;

@@ -1,8 +1,11 @@
-use Rattle.std.proofs.Common.{ap, length, sym, ◌∙◌}
+use Rattle.std.proofs.Common.{◌≤◌, List, ap, arith, length, sym, ◌∙◌}
+use Rattle.std.proofs.lemmas.List.{take_all}
+use Rattle.cq_base.specs.declared.cell.Departure.{Departure}
 use Rattle.cq_reasm.specs.Joining.{JoinerView}
 use Rattle.cq_simulate.proofs.Departed.{departed_captured, departed_class}
 use Rattle.cq_simulate.proofs.Packed.{all_pushed, none_large}
-use Rattle.cq_simulate.proofs.Taking.{at_first, at_other, cell_fits, kept, packed}
+use Rattle.cq_simulate.specs.Packets.{packets_out}
+use Rattle.cq_simulate.proofs.Taking.{at_first, at_other, cell_fits, kept, nowhere, packed}
 use Rattle.cq_simulate.proofs.packets.packets_of.Goals as goal
 use Rattle.cq_simulate.proofs.packets.packets_of.Goals.{then-departure-output+in_ok-left+in-Some+in_ok-push-in-Some, then-departure-output+in_ok-left+in-None, else-departure-output}
 
@@ -55,3 +58,13 @@ departures-preserved c =
       | else-departure-output w ↦
           rw (w.joiner-is, w.packets-is) (at_other t captures sent c.args.output k _ c.departures-test.true joiner packets inv w.if-departure-output.false)
     ]
+
+pub returns-clause-nowhere : goal.returns-clause-nowhere
+returns-clause-nowhere c none =
+    let t = c.args.tables.now in
+    let captures = c.args.captures.now in
+    let sent = c.args.sent.now in
+    let k = c.departures.departure-index in
+    let end : length sent ≤ k = omega (arith, c.departures-test.false) in
+    c.departures.invariant.made ∙ ap (λ (l : List Departure). packets_out t captures l c.args.output) (take_all k sent end)
+    ∙ nowhere t captures sent c.args.output c.requires.tables c.requires.captures c.requires.sent none
