@@ -3,9 +3,13 @@ ghost use Rattle.std.specs.Prelude.{◌≡◌, ◌≤◌, ◌^◌, [], length, I
 ghost use Rattle.cq_stream.specs.Rings.{SameReader, taken};
 ghost use Rattle.cq_stream.specs.Stream.{items_of};
 
-use crate::{Intake, Item, OpenWatch, pair};
+use crate::{Intake, Item, OpenWatch, Order, Watch, pair};
+use cq_base::Port;
 use cq_pcap::{PacketRow, PcapRefusal};
 use std::alloc::Global;
+use std::sync::atomic::AtomicU64;
+use std::sync::atomic::Ordering::SeqCst;
+use std::sync::{Arc, Wait};
 use std::test::Fail;
 use std::thread;
 use std::thread::yield_now;
@@ -101,5 +105,51 @@ fn a_reader_that_is_alone_sends_nothing(rt: HostRuntime) -> Result<(), Fail> {
     let done = reader.run(&rt, 0, OpenWatch);
     assert!(rt; intake.take().is_none());
     assert_eq!(rt; done.bytes().as_slice(), file.as_slice());
+    Ok(())
+}
+
+// Counts how often it is told that a reader begins.
+#[derive(Drop)]
+struct Counting {
+    began: Option<Arc<AtomicU64, Global>>,
+}
+
+impl Watch for Counting {
+    fn began(&self, _input: Port) {
+        if let Some(began) = &self.began {
+            began.fetch_add(1, SeqCst);
+        }
+    }
+
+    fn again(&self) -> Self {
+        match &self.began {
+            Some(began) => Counting {
+                began: Arc::try_clone(began).ok(),
+            },
+            None => Counting { began: None },
+        }
+    }
+}
+
+// How often the watch is told that a reader with this order begins. Its file has no packet, so the ring has room for
+// all that is sent.
+fn times_begun<R: Wait>(rt: &R, alloc: Global, order: Order) -> Result<u64, Fail> {
+    let began = Arc::new(alloc, AtomicU64::new(0))?;
+    let watch = Counting {
+        began: Arc::try_clone(&began).ok(),
+    };
+    let (reader, mut intake) = pair(alloc, HEADER.to_vec(alloc)?, 2)?;
+    match order {
+        Order::Send => intake.send(),
+        Order::Alone => intake.alone(),
+    }
+    let _done = reader.run(rt, 0, watch.again());
+    Ok(began.load(SeqCst))
+}
+
+#[test]
+fn the_watch_is_told_once_where_the_reader_sends(rt: HostRuntime) -> Result<(), Fail> {
+    assert_eq!(rt; times_begun(&rt, rt.alloc(), Order::Send)?, 1);
+    assert_eq!(rt; times_begun(&rt, rt.alloc(), Order::Alone)?, 0);
     Ok(())
 }
