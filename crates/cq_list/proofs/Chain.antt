@@ -19,25 +19,33 @@ use Rattle.cq_list.specs.declared.pool.Node.{Node}
 use Rattle.cq_list.specs.Pool.{Nodes, followed, chain, places, cells}
 
 -- no node, no chain
-not_whole : (place n : ℕ) (o : Option Node) (rest : ℕ → List (ℕ × Queued)) → o ≡ None → length (followed place o rest) ≡ suc n → ⊥
-not_whole place n o rest none whole = let gone = sym (ap (λ p. length (followed place p rest)) none) ∙ whole in omega arith
+not_whole : (place n : ℕ) (o : Option Node) (rest : ℕ → List (ℕ × Queued)) → o ≡ None →
+    length (followed place o rest) ≡ suc n → ⊥
+not_whole place n o rest none whole = let gone = sym (ap (λ p. length (followed place p rest)) none) ∙ whole in
+    omega arith
 
 -- a chain that is whole begins with a node
-pub begins : (nodes : Nodes) (n place : ℕ) → length (chain nodes (suc n) place) ≡ suc n → (node : Node) × (nodes place ≡ Some node)
+pub begins : (nodes : Nodes) (n place : ℕ) → length (chain nodes (suc n) place) ≡ suc n →
+    (node : Node) × (nodes place ≡ Some node)
 begins nodes n place whole = go (nodes place) refl
   where
     go : (o : Option Node) → nodes place ≡ o → (node : Node) × (nodes place ≡ Some node)
     go None e = absurd (not_whole place n (nodes place) (chain nodes n) e whole)
     go (Some node) e = (node, e)
 
-pub chain-at : (nodes : Nodes) (n place : ℕ) (node : Node) → nodes place ≡ Some node → chain nodes (suc n) place ≡ (place, node.queued) ∷ chain nodes n node.next
+pub chain-at : (nodes : Nodes) (n place : ℕ) (node : Node) → nodes place ≡ Some node →
+    chain nodes (suc n) place ≡ (place, node.queued) ∷ chain nodes n node.next
 chain-at nodes n place node e = ap (λ o. followed place o (chain nodes n)) e
 
-rest_whole : (nodes : Nodes) (n place : ℕ) (node : Node) → nodes place ≡ Some node → length (chain nodes (suc n) place) ≡ suc n → length (chain nodes n node.next) ≡ n
-rest_whole nodes n place node e whole = let same = sym (ap length (chain-at nodes n place node e)) ∙ whole in omega arith
+rest_whole : (nodes : Nodes) (n place : ℕ) (node : Node) → nodes place ≡ Some node →
+    length (chain nodes (suc n) place) ≡ suc n → length (chain nodes n node.next) ≡ n
+rest_whole nodes n place node e whole = let same = sym (ap length (chain-at nodes n place node e)) ∙ whole in
+    omega arith
 
 -- the node at a place of the chain
-pub node_at : (nodes : Nodes) (n first p place : ℕ) → length (chain nodes n first) ≡ n → slice_get (places (chain nodes n first)) p ≡ Some place → (node : Node) × (nodes place ≡ Some node) × (slice_get (chain nodes n first) p ≡ Some (place, node.queued))
+pub node_at : (nodes : Nodes) (n first p place : ℕ) → length (chain nodes n first) ≡ n →
+    slice_get (places (chain nodes n first)) p ≡ Some place →
+    (node : Node) × (nodes place ≡ Some node) × (slice_get (chain nodes n first) p ≡ Some (place, node.queued))
 node_at nodes zero first p place whole at = cc
 node_at nodes (suc n) first zero place whole at =
     let node : Node = (begins nodes n first whole).0 in
@@ -49,12 +57,15 @@ node_at nodes (suc n) first (suc p) place whole at =
     let node : Node = (begins nodes n first whole).0 in
     let here = (begins nodes n first whole).1 in
     let seen = chain-at nodes n first node here in
-    let found = node_at nodes n node.next p place (rest_whole nodes n first node here whole) (ap (λ l. slice_get (places l) (suc p)) (sym seen) ∙ at) in
+    let found = node_at nodes n node.next p place (rest_whole nodes n first node here whole)
+    (ap (λ l. slice_get (places l) (suc p)) (sym seen) ∙ at) in
     (found.0, found.1, ap (λ l. slice_get l (suc p)) seen ∙ found.2)
 
 -- ## A chain whose nodes stay
 
-pub chain_stays : (old new : Nodes) (P : Queued → Type 0) → ((i : ℕ) (node : Node) → old i ≡ Some node → P node.queued → new i ≡ Some node) → (n place : ℕ) → length (chain old n place) ≡ n → AllByRecursion P (cells (chain old n place)) → chain new n place ≡ chain old n place
+pub chain_stays : (old new : Nodes) (P : Queued → Type 0) →
+    ((i : ℕ) (node : Node) → old i ≡ Some node → P node.queued → new i ≡ Some node) → (n place : ℕ) → length
+    (chain old n place) ≡ n → AllByRecursion P (cells (chain old n place)) → chain new n place ≡ chain old n place
 chain_stays old new P stay zero place whole all = refl
 chain_stays old new P stay (suc n) place whole all =
     let node : Node = (begins old n place whole).0 in
@@ -62,23 +73,30 @@ chain_stays old new P stay (suc n) place whole all =
     let seen = chain-at old n place node here in
     let own = subst (λ (l : List (ℕ × Queued)). AllByRecursion P (cells l)) seen all in
     chain-at new n place node (stay place node here own.0)
-    ∙ ap (λ l. (place, node.queued) ∷ l) (chain_stays old new P stay n node.next (rest_whole old n place node here whole) own.1)
+    ∙ ap (λ l. (place, node.queued) ∷ l) (chain_stays old new P stay n node.next
+    (rest_whole old n place node here whole) own.1)
     ∙ sym seen
 
 -- ## A node more
 
 -- a cell that another one comes before is not that one
 pub differs : (a b : Queued) → IsBefore a b → a ≢ b
-differs a b before same = absurd (let never = key_laws.never_itself a.key in let twice : IsBefore a a = subst (IsBefore a) (sym same) before in let P : ⊥ = cc in P)
+differs a b before same = absurd (let never = key_laws.never_itself a.key in
+    let twice : IsBefore a a = subst (IsBefore a) (sym same) before in let P : ⊥ = cc in P)
 
-module _ (old new : Nodes) (a k : ℕ) (ahead : Node) (c : Queued) (here : old a ≡ Some ahead) (changed : new a ≡ Some (record { queued = ahead.queued; next = k })) (added : new k ≡ Some (record { queued = c; next = ahead.next })) (others : (i : ℕ) (node : Node) → old i ≡ Some node → i ≢ a → new i ≡ Some node) where
+module _ (old new : Nodes) (a k : ℕ) (ahead : Node) (c : Queued) (here : old a ≡ Some ahead)
+    (changed : new a ≡ Some (record { queued = ahead.queued; next = k }))
+    (added : new k ≡ Some (record { queued = c; next = ahead.next }))
+    (others : (i : ℕ) (node : Node) → old i ≡ Some node → i ≢ a → new i ≡ Some node) where
   -- a node with another cell is another node
   other_cell : (i : ℕ) (node : Node) → old i ≡ Some node → node.queued ≢ ahead.queued → new i ≡ Some node
   other_cell i node there ne =
       others i node there
       (λ same. ne (ap (λ (m : Node). m.queued) (same_Some node ahead (sym there ∙ ap old same ∙ here))))
 
-  pub chain_behind : (n first p : ℕ) → length (chain old n first) ≡ n → IsRising (cells (chain old n first)) → slice_get (chain old n first) p ≡ Some (a, ahead.queued) → chain new (suc n) first ≡ insert (chain old n first) (suc p) (k, c)
+  pub chain_behind : (n first p : ℕ) → length (chain old n first) ≡ n → IsRising (cells (chain old n first)) →
+      slice_get (chain old n first) p ≡ Some (a, ahead.queued) → chain new (suc n) first ≡ insert (chain old n first)
+      (suc p) (k, c)
   chain_behind zero first p whole rising at = cc
   chain_behind (suc n) first zero whole rising at =
       let node : Node = (begins old n first whole).0 in
@@ -89,7 +107,8 @@ module _ (old new : Nodes) (a k : ℕ) (ahead : Node) (c : Queued) (here : old a
       let rise = subst (λ (l : List (ℕ × Queued)). IsRising (cells l)) from_a rising in
       let rest = rest_whole old n a ahead here (ap (λ i. length (chain old (suc n) i)) (sym place) ∙ whole) in
       let stays = chain_stays old new (λ x. x ≢ ahead.queued) other_cell n ahead.next rest
-      (all_weaker _ _ (λ x before same. differs ahead.queued x before (sym same)) (cells (chain old n ahead.next)) rise.0) in
+      (all_weaker _ _ (λ x before same. differs ahead.queued x before (sym same))
+      (cells (chain old n ahead.next)) rise.0) in
       ap (chain new (suc (suc n))) place
       ∙ chain-at new (suc n) a _ changed
       ∙ ap (λ l. (a, ahead.queued) ∷ l) (chain-at new n k _ added ∙ ap (λ l. (k, c) ∷ l) stays)
@@ -99,9 +118,12 @@ module _ (old new : Nodes) (a k : ℕ) (ahead : Node) (c : Queued) (here : old a
       let there : old first ≡ Some node = (begins old n first whole).1 in
       let seen = chain-at old n first node there in
       let rise = subst (λ (l : List (ℕ × Queued)). IsRising (cells l)) seen rising in
-      let later : slice_get (chain old n node.next) p ≡ Some (a, ahead.queued) = ap (λ l. slice_get l (suc p)) (sym seen) ∙ at in
+      let later : slice_get (chain old n node.next) p ≡ Some (a, ahead.queued) =
+      ap (λ l. slice_get l (suc p)) (sym seen) ∙ at in
       let before = all_at _ (cells (chain old n node.next)) p ahead.queued rise.0
-      (slice_get-map (λ (e : ℕ × Queued). e.1) (chain old n node.next) p ∙ ap (option_map (λ (e : ℕ × Queued). e.1)) later) in
+      (slice_get-map (λ (e : ℕ × Queued). e.1) (chain old n node.next) p
+      ∙ ap (option_map (λ (e : ℕ × Queued). e.1)) later) in
       chain-at new (suc n) first node (other_cell first node there (differs node.queued ahead.queued before))
-      ∙ ap (λ l. (first, node.queued) ∷ l) (chain_behind n node.next p (rest_whole old n first node there whole) rise.1 later)
+      ∙ ap (λ l. (first, node.queued) ∷ l) (chain_behind n node.next p
+      (rest_whole old n first node there whole) rise.1 later)
       ∙ ap (λ l. insert l (suc (suc p)) (k, c)) (sym seen)

@@ -2,10 +2,10 @@
 -- stay. A place that is taken out can be put back, so the one follows from the other.
 use Rattle.std.proofs.Common.{◌≡◌, ◌≢◌, ℕ, zero, suc, ◌+◌, ◌-◌, ◌<◌, ◌≤◌, List, [], ◌∷◌, ◌++◌, length, replicate, get_or, set, take, drop, refl, sym, ap, ◌∙◌, subst, ⊎_elim, arith, length-set, length-append, get_or-set_same, get_or-set_other}
 use Rattle.std.specs.Prelude.{insert, remove, filter, slice_get, Some}
-use Rattle.std.proofs.lemmas.Option.{same_Some}
+use Rattle.std.proofs.lemmas.Option.{same_Some, slice_get_within, get_or_from_slice_get}
 use Rattle.std.specs.List.{AllByRecursion}
 use Rattle.std.proofs.lemmas.Bool.{eq-eqb, ne_eqb, cases_eq}
-use Rattle.std.proofs.lemmas.List.{get_or-replicate, length-replicate}
+use Rattle.std.proofs.lemmas.List.{take_more, get_or-replicate, length-replicate}
 use Rattle.std.proofs.lemmas.List.Edits.{length-insert, length-remove}
 use Rattle.std.proofs.lemmas.List.Sums.{length-filter, count_by-le-length}
 use Rattle.cq_list.specs.Split.{is_output, count_of}
@@ -15,8 +15,10 @@ use Rattle.cq_list.proofs.Split.{filter-insert, filter-insert-other, filter-part
 
 count_of-own : (xs : List ℕ) (i y j : ℕ) → y ≡ j → count_of j (insert xs i y) ≡ count_of j xs + 1
 count_of-own xs i y j own =
-    let more = ap length (filter-insert (is_output j) xs i y (eq-eqb y j own)) ∙ length-append (filter (is_output j) (take i xs)) (y ∷ filter (is_output j) (drop i xs)) in
-    let parts = ap length (filter-parts (is_output j) xs i) ∙ length-append (filter (is_output j) (take i xs)) (filter (is_output j) (drop i xs)) in
+    let more = ap length (filter-insert (is_output j) xs i y (eq-eqb y j own))
+    ∙ length-append (filter (is_output j) (take i xs)) (y ∷ filter (is_output j) (drop i xs)) in
+    let parts = ap length (filter-parts (is_output j) xs i)
+    ∙ length-append (filter (is_output j) (take i xs)) (filter (is_output j) (drop i xs)) in
     omega arith
 
 count_of-other : (xs : List ℕ) (i y j : ℕ) → y ≢ j → count_of j (insert xs i y) ≡ count_of j xs
@@ -51,7 +53,8 @@ count_beyond (x ∷ xs) j all beyond =
 pub no_places : (places counts : List ℕ) → places ≡ [] → counts ≡ replicate 64 0 → AreCounts places counts
 no_places places counts none zeros =
     record {
-      counted = λ j inside. ap (λ l. get_or l j 0) zeros ∙ get_or-replicate 64 j 0 0 inside ∙ ap (count_of j) (sym none);
+      counted = λ j inside. ap (λ l. get_or l j 0) zeros ∙ get_or-replicate 64 j 0 0 inside
+          ∙ ap (count_of j) (sym none);
       in_range = subst (AllByRecursion (λ j. j < 64)) (sym none) tt;
       short = let len = ap length none in omega arith;
       each = ap length zeros ∙ length-replicate {A = ℕ} 64 0;
@@ -59,9 +62,11 @@ no_places places counts none zeros =
 
 module _ (places counts : List ℕ) (had : AreCounts places counts) where
   pub count_fits : (j : ℕ) → j < 64 → get_or counts j 0 ≤ 64
-  count_fits j inside = let same = had.counted j inside in let le = count_le j places in let short = had.short in omega arith
+  count_fits j inside = let same = had.counted j inside in let le = count_le j places in let short = had.short in
+      omega arith
 
-  pub counts_insert : (i j : ℕ) → i ≤ length places → length places < 64 → j < 64 → AreCounts (insert places i j) (set counts j (get_or counts j 0 + 1))
+  pub counts_insert : (i j : ℕ) → i ≤ length places → length places < 64 → j < 64 →
+      AreCounts (insert places i j) (set counts j (get_or counts j 0 + 1))
   counts_insert i j inside room in_range =
       let within : j < length counts = let each = had.each in omega arith in
       record {
@@ -110,7 +115,9 @@ module _ (places counts : List ℕ) (had : AreCounts places counts) where
               (λ same.
               ap (λ n. get_or (set counts j (get_or counts j 0 - 1)) n 0) same
               ∙ get_or-set_same counts j (get_or counts j 0 - 1) 0 within
-              ∙ (let own = had.counted j in_range_at in let more = sym (ap (count_of j) again) ∙ count_of-own (remove places i) i j j refl in let less : get_or counts j 0 - 1 ≡ count_of j (remove places i) = omega arith in less)
+              ∙ (let own = had.counted j in_range_at in
+              let more = sym (ap (count_of j) again) ∙ count_of-own (remove places i) i j j refl in
+              let less : get_or counts j 0 - 1 ≡ count_of j (remove places i) = omega arith in less)
               ∙ ap (λ n. count_of n (remove places i)) (sym same))
               (λ ne.
               get_or-set_other counts j k (get_or counts j 0 - 1) 0 ne
@@ -125,8 +132,14 @@ module _ (places counts : List ℕ) (had : AreCounts places counts) where
 
 -- ## The last place goes over to the front of another block
 
-pub moved_over : (xs back : List ℕ) (i x : ℕ) → i + 1 ≡ length xs → slice_get xs i ≡ Some x → remove xs i ++ insert back 0 x ≡ xs ++ back
+pub moved_over : (xs back : List ℕ) (i x : ℕ) → i + 1 ≡ length xs → slice_get xs i ≡ Some x →
+    remove xs i ++ insert back 0 x ≡ xs ++ back
 moved_over [] back i x last at = absurd (omega arith)
 moved_over (y ∷ []) back zero x last at = ap (λ z. z ∷ back) (sym (same_Some y x at))
 moved_over (y ∷ z ∷ xs) back zero x last at = absurd (omega arith)
 moved_over (y ∷ xs) back (suc i) x last at = ap (λ l. y ∷ l) (moved_over xs back i x (omega arith) at)
+
+-- a place more of another block
+pub take_shown : (xs : List ℕ) (i x : ℕ) → slice_get xs i ≡ Some x → take (i + 1) xs ≡ take i xs ++ x ∷ []
+take_shown xs i x at =
+    take_more xs i x (slice_get_within xs i x at) ∙ ap (λ y. take i xs ++ y ∷ []) (get_or_from_slice_get xs i x x at)

@@ -1,9 +1,9 @@
 -- The places and the pool of a list, before and after its calls. The cells for which they stand are known by the split
 -- alone, so each call has to show no more than the split of the cells that it promises; that these are the cells that
 -- the new places and the new pool stand for follows.
-use Rattle.std.proofs.Common.{◌≡◌, ℕ, zero, suc, ◌<◌, eqb, ltb, Bool, cond, List, [], ◌∷◌, length, set, take, drop, min, Option, None, Some, refl, sym, ap, ◌∙◌, subst, arith, ⊎_elim, length-set, get_or-set_same, get_or-set_other}
+use Rattle.std.proofs.Common.{◌≡◌, ℕ, zero, suc, ◌<◌, ◌≤◌, eqb, ltb, Bool, cond, List, [], ◌∷◌, length, set, take, drop, min, Option, None, Some, refl, sym, ap, ◌∙◌, subst, arith, ⊎_elim, length-set, get_or-set_same, get_or-set_other}
 use Rattle.std.proofs.lemmas.List.{length-map, get_or_past}
-use Rattle.std.specs.Prelude.{slice_get, remove, insert, filter, position}
+use Rattle.std.specs.Prelude.{◌&&◌, slice_get, remove, insert, filter, position}
 use Rattle.std.specs.Option.{option_map}
 use Rattle.std.specs.List.{AllByRecursion, position_or_len}
 use Rattle.std.proofs.lemmas.Bool.{cond_both, eqb-true, eqb-false, ltb-true, lt-ltb, cases_lt}
@@ -12,27 +12,35 @@ use Rattle.std.proofs.lemmas.List.Folds.{find_at}
 use Rattle.cq_base.specs.declared.cell.Queued.{Queued}
 use Rattle.cq_base.specs.Key.{is_before}
 use Rattle.cq_base.specs.Cells.{HasOtherKey, MoreUrgentAhead, is_for, first_for, place_for, without_first, put, place_of_later, place_of_arrival, with_arrival}
+use Rattle.cq_base.proofs.Lists.{first_inside}
 use Rattle.cq_list.specs.Split.{Queues, without_head, IsSplit, is_output, place_of_nth, count_of}
 use Rattle.cq_list.specs.Places.{PlacesView}
 use Rattle.cq_list.specs.Pool.{PoolView, queue_of}
 use Rattle.cq_list.specs.InputList.{Waiting, StandFor, cells_in}
-use Rattle.cq_list.proofs.Split.{merged_is, with_queued, split_arrived, split_left, later_is_nth, first-is-head, position_or_len-map, length-filter-map, cell_at}
+use Rattle.cq_list.proofs.Split.{merged_is, with_queued, split_arrived, split_left, both_is_nth, first-is-head, position_or_len-map, length-filter-map, cell_at}
 use Rattle.cq_list.proofs.Waiting.{are_waiting_arrived, are_waiting_left}
 
 -- they stand for no other cells than those that are seen
-pub cells_are : (outputs : ℕ) (places : PlacesView) (pool : PoolView) (xs : List Queued) → StandFor outputs places pool xs → cells_in places pool ≡ xs
+pub cells_are : (outputs : ℕ) (places : PlacesView) (pool : PoolView) (xs : List Queued) →
+    StandFor outputs places pool xs → cells_in places pool ≡ xs
 cells_are outputs places pool xs s = merged_is places.outputs (queue_of pool.queues) xs s.split
 
-pub kept : (outputs : ℕ) (places : PlacesView) (pool : PoolView) (xs : List Queued) → StandFor outputs places pool xs → StandFor outputs places pool (cells_in places pool)
+pub kept : (outputs : ℕ) (places : PlacesView) (pool : PoolView) (xs : List Queued) → StandFor outputs places pool xs →
+    StandFor outputs places pool (cells_in places pool)
 kept outputs places pool xs s = subst (StandFor outputs places pool) (sym (cells_are outputs places pool xs s)) s
 
-pub seen : (outputs : ℕ) (places : PlacesView) (pool : PoolView) (w : Waiting) → StandFor outputs places pool (cells_in places pool) → record { cells = cells_in places pool; outputs = outputs; spare = pool.spare } ≡ w → StandFor outputs places pool w.cells
+pub seen : (outputs : ℕ) (places : PlacesView) (pool : PoolView) (w : Waiting) →
+    StandFor outputs places pool (cells_in places pool) →
+    record { cells = cells_in places pool; outputs = outputs; spare = pool.spare } ≡ w →
+    StandFor outputs places pool w.cells
 seen outputs places pool w s is = subst (StandFor outputs places pool) (ap (λ (v : Waiting). v.cells) is) s
 
 -- one queue is changed
-queue_of-set : (queues : List (List Queued)) (j : ℕ) (f : List Queued → List Queued) (i : ℕ) → j < length queues → queue_of (set queues j (f (queue_of queues j))) i ≡ cond (eqb j i) (f (queue_of queues i)) (queue_of queues i)
+queue_of-set : (queues : List (List Queued)) (j : ℕ) (f : List Queued → List Queued) (i : ℕ) → j < length queues →
+    queue_of (set queues j (f (queue_of queues j))) i ≡ cond (eqb j i) (f (queue_of queues i)) (queue_of queues i)
 queue_of-set queues j f i inside =
-    cond_both (eqb j i) (f (queue_of queues i)) (queue_of queues i) (λ l. queue_of (set queues j (f (queue_of queues j))) i ≡ l)
+    cond_both (eqb j i) (f (queue_of queues i)) (queue_of queues i)
+    (λ l. queue_of (set queues j (f (queue_of queues j))) i ≡ l)
     (λ e.
     let same : j ≡ i = eqb-true j i e in
     ap (queue_of (set queues j (f (queue_of queues j)))) (sym same)
@@ -41,10 +49,12 @@ queue_of-set queues j f i inside =
     (λ e. get_or-set_other queues j i (f (queue_of queues j)) [] (λ same. eqb-false j i e (sym same)))
 
 -- an output beyond the last has no cell
-has_queue : (queues : List (List Queued)) (j : ℕ) (x : Queued) → slice_get (queue_of queues j) 0 ≡ Some x → j < length queues
+has_queue : (queues : List (List Queued)) (j : ℕ) (x : Queued) → slice_get (queue_of queues j) 0 ≡ Some x →
+    j < length queues
 has_queue queues j x head =
     ⊎_elim (λ inside. inside)
-    (λ past. absurd (let gone : slice_get (queue_of queues j) 0 ≡ None = ap (λ l. slice_get l 0) (get_or_past queues j [] past) in let P : ⊥ = cc in P))
+    (λ past. absurd (let gone : slice_get (queue_of queues j) 0 ≡ None = ap (λ l. slice_get l 0)
+    (get_or_past queues j [] past) in let P : ⊥ = cc in P))
     (cases_lt j (length queues))
 
 something_inside : {X : Type 0} (xs : List X) (k : ℕ) → k < length xs → slice_get xs k ≡ None → ⊥
@@ -52,15 +62,19 @@ something_inside [] k inside none = omega arith
 something_inside (x ∷ xs) zero inside none = cc
 something_inside (x ∷ xs) (suc k) inside none = something_inside xs k (omega arith) none
 
-replaced : (places : List ℕ) (queues : Queues) (new : Queues) (cells : List Queued) → ((j : ℕ) → new j ≡ queues j) → IsSplit places queues cells → IsSplit places new cells
+replaced : (places : List ℕ) (queues : Queues) (new : Queues) (cells : List Queued) → ((j : ℕ) → new j ≡ queues j) →
+    IsSplit places queues cells → IsSplit places new cells
 replaced places queues new cells same split = record { outputs = split.outputs; queued = λ j. same j ∙ split.queued j }
 
-all_filter : {X : Type 0} (P : X → Type 0) (p : X → Bool) (xs : List X) → AllByRecursion P xs → AllByRecursion P (filter p xs)
+all_filter : {X : Type 0} (P : X → Type 0) (p : X → Bool) (xs : List X) → AllByRecursion P xs →
+    AllByRecursion P (filter p xs)
 all_filter P p [] a = tt
 all_filter P p (x ∷ xs) a =
-    cond_both (p x) (x ∷ filter p xs) (filter p xs) (AllByRecursion P) (λ _. (a.0, all_filter P p xs a.1)) (λ _. all_filter P p xs a.1)
+    cond_both (p x) (x ∷ filter p xs) (filter p xs) (AllByRecursion P) (λ _. (a.0, all_filter P p xs a.1))
+    (λ _. all_filter P p xs a.1)
 
-module _ (outputs : ℕ) (places : PlacesView) (pool : PoolView) (xs : List Queued) (had : StandFor outputs places pool xs) where
+module _ (outputs : ℕ) (places : PlacesView) (pool : PoolView) (xs : List Queued)
+    (had : StandFor outputs places pool xs) where
   -- ## An arrival
 
   -- no cell of the queue has its key
@@ -79,12 +93,22 @@ module _ (outputs : ℕ) (places : PlacesView) (pool : PoolView) (xs : List Queu
       ∙ ap (count_of j) (sym had.split.outputs)
 
   -- the place at which it goes in, as it is computed
-  pub place_is : (cushion : ℕ) (c : Queued) (ahead later place : ℕ) → ahead ≡ position_or_len (λ x. is_before c.key x.key) (queue_of pool.queues c.cell.output) → later ≡ place_of_nth (is_output c.cell.output) ahead places.outputs → place ≡ min cushion (min later (length places.outputs)) → place ≡ place_of_arrival cushion c xs
+  pub place_is : (cushion : ℕ) (c : Queued) (ahead later place : ℕ) →
+      ahead ≡ position_or_len (λ x. is_before c.key x.key) (queue_of pool.queues c.cell.output) → later ≡ place_of_nth
+      (is_output c.cell.output) ahead places.outputs → place ≡ min cushion
+      (min later (length places.outputs)) → place ≡ place_of_arrival cushion c xs
   place_is cushion c ahead later place a l p =
-      let nth = l ∙ ap (λ k. place_of_nth (is_output c.cell.output) k places.outputs) a ∙ sym (later_is_nth places.outputs (queue_of pool.queues) xs c had.split) in
-      p ∙ ap (λ m. min cushion (min m (length places.outputs))) nth ∙ ap (λ m. min cushion (min (place_of_later c xs) m)) as_many
+      let nth = l ∙ ap (λ k. place_of_nth (is_output c.cell.output) k places.outputs) a
+      ∙ sym (both_is_nth places.outputs (queue_of pool.queues) xs c.cell.output
+      (λ x. is_before c.key x.key) had.split) in
+      p ∙ ap (λ m. min cushion (min m (length places.outputs))) nth
+      ∙ ap (λ m. min cushion (min (place_of_later c xs) m)) as_many
 
-  pub arrived : (cushion : ℕ) (c : Queued) (new_places : PlacesView) (new_pool : PoolView) → c.cell.output < outputs → HasOtherKey c xs → MoreUrgentAhead cushion c xs → new_places.outputs ≡ insert places.outputs (place_of_arrival cushion c xs) c.cell.output → new_pool.queues ≡ set pool.queues c.cell.output (put c (queue_of pool.queues c.cell.output)) → new_places.spare ≡ new_pool.spare → StandFor outputs new_places new_pool (with_arrival cushion c xs)
+  pub arrived : (cushion : ℕ) (c : Queued) (new_places : PlacesView) (new_pool : PoolView) → c.cell.output < outputs →
+      HasOtherKey c xs → MoreUrgentAhead cushion c xs → new_places.outputs ≡ insert places.outputs
+      (place_of_arrival cushion c xs) c.cell.output → new_pool.queues ≡ set pool.queues c.cell.output
+      (put c (queue_of pool.queues c.cell.output)) → new_places.spare ≡ new_pool.spare →
+      StandFor outputs new_places new_pool (with_arrival cushion c xs)
   arrived cushion c new_places new_pool inside other ahead outs queues spare =
       let j : ℕ = c.cell.output in
       let old : Queues = queue_of pool.queues in
@@ -92,20 +116,46 @@ module _ (outputs : ℕ) (places : PlacesView) (pool : PoolView) (xs : List Queu
       let split = split_arrived places.outputs old xs cushion c had.split had.waiting.in_order other ahead in
       record {
         waiting = are_waiting_arrived outputs xs c cushion had.waiting inside other ahead;
-        split = replaced _ _ _ _ (λ i. ap (λ l. queue_of l i) queues ∙ queue_of-set pool.queues j (put c) i own) (subst (λ (l : List ℕ). IsSplit l (with_queued c old) (with_arrival cushion c xs)) (sym outs) split);
+        split = replaced _ _ _ _ (λ i. ap (λ l. queue_of l i) queues ∙ queue_of-set pool.queues j (put c) i own)
+            (subst (λ (l : List ℕ). IsSplit l (with_queued c old) (with_arrival cushion c xs)) (sym outs) split);
         queues = ap length queues ∙ length-set pool.queues j (put c (old j)) ∙ had.queues;
         spare = spare;
       }
 
+  -- the place of the first cell for an output that passes a test, as it is computed
+  pub place_found :
+      (j : ℕ) (q : Queued → Bool) (ahead place : ℕ) → ahead ≡ position_or_len q (queue_of pool.queues j) →
+      place ≡ place_of_nth (is_output j) ahead places.outputs → place ≡ position_or_len (λ x. is_for j x && q x) xs
+  place_found j q ahead place a p =
+      p ∙ ap (λ k. place_of_nth (is_output j) k places.outputs) a
+      ∙ sym (both_is_nth places.outputs (queue_of pool.queues) xs j q had.split)
+
+  -- no more cells are ahead than there are in the queue
+  pub ahead_fits :
+      (j : ℕ) (q : Queued → Bool) (ahead all : ℕ) → ahead ≡ position_or_len q (queue_of pool.queues j) →
+      all ≡ length (queue_of pool.queues j) → ahead ≤ all
+  ahead_fits j q ahead all a l = let short = first_inside q (queue_of pool.queues j) in omega arith
+
+  -- an output with a cell has a place
+  pub some_places : (j : ℕ) (x : Queued) → slice_get (queue_of pool.queues j) 0 ≡ Some x → 0 < count_of j places.outputs
+  some_places j x head =
+      let some = slice_get_within (queue_of pool.queues j) 0 x head in let same = counted j in omega arith
+
   -- ## A departure
 
-  pub left : (j : ℕ) (x : Queued) (new_places : PlacesView) (new_pool : PoolView) → slice_get (queue_of pool.queues j) 0 ≡ Some x → new_places.outputs ≡ remove places.outputs (position_or_len (is_output j) places.outputs) → new_pool.queues ≡ set pool.queues j (drop 1 (queue_of pool.queues j)) → new_places.spare ≡ new_pool.spare → StandFor outputs new_places new_pool (without_first j xs)
+  pub left : (j : ℕ) (x : Queued) (new_places : PlacesView) (new_pool : PoolView) →
+      slice_get (queue_of pool.queues j) 0 ≡ Some x → new_places.outputs ≡ remove places.outputs
+      (position_or_len (is_output j) places.outputs) → new_pool.queues ≡ set pool.queues j
+      (drop 1 (queue_of pool.queues j)) → new_places.spare ≡ new_pool.spare → StandFor outputs new_places new_pool
+      (without_first j xs)
   left j x new_places new_pool head outs queues spare =
       let old : Queues = queue_of pool.queues in
       let split = split_left places.outputs old xs j had.split in
       record {
         waiting = are_waiting_left outputs xs j had.waiting;
-        split = replaced _ _ _ _ (λ i. ap (λ l. queue_of l i) queues ∙ queue_of-set pool.queues j (drop 1) i (has_queue pool.queues j x head)) (subst (λ (l : List ℕ). IsSplit l (without_head j old) (without_first j xs)) (sym outs) split);
+        split = replaced _ _ _ _ (λ i. ap (λ l. queue_of l i) queues
+            ∙ queue_of-set pool.queues j (drop 1) i (has_queue pool.queues j x head))
+            (subst (λ (l : List ℕ). IsSplit l (without_head j old) (without_first j xs)) (sym outs) split);
         queues = ap length queues ∙ length-set pool.queues j (drop 1 (old j)) ∙ had.queues;
         spare = spare;
       }
@@ -116,7 +166,8 @@ module _ (outputs : ℕ) (places : PlacesView) (pool : PoolView) (xs : List Queu
   first_is j = ap (λ l. slice_get l 0) (had.split.queued j) ∙ sym (first-is-head j xs)
 
   first_place : (j : ℕ) → position_or_len (is_output j) places.outputs ≡ place_for j xs
-  first_place j = ap (position_or_len (is_output j)) had.split.outputs ∙ position_or_len-map (is_output j) (λ (x : Queued). x.cell.output) xs
+  first_place j = ap (position_or_len (is_output j)) had.split.outputs
+      ∙ position_or_len-map (is_output j) (λ (x : Queued). x.cell.output) xs
 
   -- none waits for it
   pub position-none : (j : ℕ) → slice_get (queue_of pool.queues j) 0 ≡ None → position (is_for j) xs ≡ None
@@ -128,7 +179,8 @@ module _ (outputs : ℕ) (places : PlacesView) (pool : PoolView) (xs : List Queu
       (λ _. refl)
 
   -- one waits for it
-  pub place_inside : (j : ℕ) (x : Queued) → slice_get (queue_of pool.queues j) 0 ≡ Some x → position_or_len (is_output j) places.outputs < length places.outputs
+  pub place_inside : (j : ℕ) (x : Queued) → slice_get (queue_of pool.queues j) 0 ≡ Some x →
+      position_or_len (is_output j) places.outputs < length places.outputs
   place_inside j x head =
       let shown : slice_get xs (place_for j xs) ≡ Some x = sym (find_at (is_for j) xs) ∙ sym (first_is j) ∙ head in
       let inside = slice_get_within xs (place_for j xs) x shown in
@@ -136,23 +188,33 @@ module _ (outputs : ℕ) (places : PlacesView) (pool : PoolView) (xs : List Queu
       let many = as_many in
       omega arith
 
-  pub position-some : (j : ℕ) (x : Queued) → slice_get (queue_of pool.queues j) 0 ≡ Some x → position (is_for j) xs ≡ Some (position_or_len (is_output j) places.outputs)
+  pub position-some : (j : ℕ) (x : Queued) → slice_get (queue_of pool.queues j) 0 ≡ Some x →
+      position (is_for j) xs ≡ Some (position_or_len (is_output j) places.outputs)
   position-some j x head =
-      let inside : place_for j xs < length xs = let h = place_inside j x head in let same = first_place j in let many = as_many in omega arith in
-      ap (λ b. cond b (Some (place_for j xs)) None) (lt-ltb (place_for j xs) (length xs) inside) ∙ ap Some (sym (first_place j))
+      let inside : place_for j xs < length xs = let h = place_inside j x head in let same = first_place j in
+      let many = as_many in omega arith in
+      ap (λ b. cond b (Some (place_for j xs)) None) (lt-ltb (place_for j xs) (length xs) inside)
+      ∙ ap Some (sym (first_place j))
 
   -- ## The cell at a place
 
   -- it stands in the queue of the output of the place
-  pub shown : (i j : ℕ) → slice_get places.outputs i ≡ Some j → (x : Queued) × (slice_get (queue_of pool.queues j) (count_of j (take i places.outputs)) ≡ Some x) × (slice_get xs i ≡ Some x)
+  pub shown : (i j : ℕ) → slice_get places.outputs i ≡ Some j →
+      (x : Queued) × (slice_get (queue_of pool.queues j)
+      (count_of j (take i places.outputs)) ≡ Some x) × (slice_get xs i ≡ Some x)
   shown i j at = go (slice_get xs i) refl
     where
       outputs_at : Some j ≡ option_map (λ (c : Queued). c.cell.output) (slice_get xs i)
-      outputs_at = sym at ∙ ap (λ l. slice_get l i) had.split.outputs ∙ slice_get-map (λ (c : Queued). c.cell.output) xs i
+      outputs_at = sym at ∙ ap (λ l. slice_get l i) had.split.outputs
+          ∙ slice_get-map (λ (c : Queued). c.cell.output) xs i
 
-      go : (o : Option Queued) → slice_get xs i ≡ o → (x : Queued) × (slice_get (queue_of pool.queues j) (count_of j (take i places.outputs)) ≡ Some x) × (slice_get xs i ≡ Some x)
-      go None e = absurd (let gone : Some j ≡ None = outputs_at ∙ ap (option_map (λ (c : Queued). c.cell.output)) e in let P : ⊥ = cc in P)
+      go : (o : Option Queued) → slice_get xs i ≡ o →
+          (x : Queued) × (slice_get (queue_of pool.queues j)
+          (count_of j (take i places.outputs)) ≡ Some x) × (slice_get xs i ≡ Some x)
+      go None e = absurd (let gone : Some j ≡ None = outputs_at ∙ ap (option_map (λ (c : Queued). c.cell.output)) e in
+          let P : ⊥ = cc in P)
       go (Some x) e =
-          let own : j ≡ x.cell.output = same_Some _ _ (outputs_at ∙ ap (option_map (λ (c : Queued). c.cell.output)) e) in
+          let own : j ≡ x.cell.output = same_Some _ _
+          (outputs_at ∙ ap (option_map (λ (c : Queued). c.cell.output)) e) in
           let queued = cell_at places.outputs (queue_of pool.queues) xs i x had.split e in
           (x, ap (λ k. slice_get (queue_of pool.queues k) (count_of k (take i places.outputs))) own ∙ queued, e)

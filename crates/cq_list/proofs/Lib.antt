@@ -2,7 +2,9 @@ pub mod BlockWalk
 pub mod Blocks
 pub mod Chain
 pub mod Counts
+pub mod Filled
 pub mod Kept
+pub mod Least
 pub mod Left
 pub mod Linked
 pub mod Nth

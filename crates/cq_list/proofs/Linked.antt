@@ -19,15 +19,18 @@ use Rattle.cq_list.specs.declared.pool.Queue.{Queue}
 use Rattle.cq_list.specs.Pool.{Nodes, chain, linked, places, cells, EndsAt, IsChained, IsLinked, OthersStay}
 use Rattle.cq_list.proofs.Chain.{chain_stays, chain-at, differs, node_at, chain_behind}
 use Rattle.cq_list.proofs.Relink.{changed, added, others}
-use Rattle.cq_list.proofs.Put.{all_weaker, all_put, rising_put, put_is, is_later, all_ahead}
+use Rattle.cq_list.proofs.Put.{all_weaker, all_put, rising_put, put_is, is_later, is_no_sooner, all_ahead, others_ahead}
 use Rattle.cq_list.proofs.Split.{map-insert}
 
 -- the queue of another output stays
-pub linked_stays : (old new : Nodes) (j i : ℕ) (queue : Queue) → OthersStay j old new → i ≢ j → IsLinked old i queue → linked new queue ≡ linked old queue
+pub linked_stays : (old new : Nodes) (j i : ℕ) (queue : Queue) → OthersStay j old new → i ≢ j → IsLinked old i queue →
+    linked new queue ≡ linked old queue
 linked_stays old new j i queue stay ne had =
-    chain_stays old new (λ c. c.cell.output ≡ i) (λ k node at own. stay k node at (λ same. ne (sym own ∙ same))) queue.len queue.first had.chained.whole had.own
+    chain_stays old new (λ c. c.cell.output ≡ i)
+    (λ k node at own. stay k node at (λ same. ne (sym own ∙ same))) queue.len queue.first had.chained.whole had.own
 
-pub is_linked_along : (old new : Nodes) (i : ℕ) (queue : Queue) → linked new queue ≡ linked old queue → IsLinked old i queue → IsLinked new i queue
+pub is_linked_along : (old new : Nodes) (i : ℕ) (queue : Queue) → linked new queue ≡ linked old queue →
+    IsLinked old i queue → IsLinked new i queue
 is_linked_along old new i queue same had =
     record {
       chained = record {
@@ -40,37 +43,74 @@ is_linked_along old new i queue same had =
 
 -- ## The last cell
 
--- where the last cell is more urgent, all cells are
-pub last_ahead : (nodes : Nodes) (queue : Queue) (key : Key) (m : ℕ) (node : Node) → IsChained nodes queue → queue.len ≡ m + 1 → nodes queue.last ≡ Some node → is_before node.queued.key key ≡ true → queue.len ≡ position_or_len (is_later key) (cells (linked nodes queue))
-last_ahead nodes queue key m node had some here before =
+pub last_there : (nodes : Nodes) (queue : Queue) (m : ℕ) → IsChained nodes queue → queue.len ≡ m + 1 →
+    (node : Node) × (nodes queue.last ≡ Some node)
+last_there nodes queue m had some =
     let found = node_at nodes queue.len queue.first m queue.last had.whole (had.last m some) in
-    let same : found.0 ≡ node = same_Some found.0 node (sym found.1 ∙ here) in
-    let many = length-map (linked nodes queue) (λ (e : ℕ × Queued). e.1) in
-    let whole = had.whole in
-    let shown = slice_get-map (λ (e : ℕ × Queued). e.1) (linked nodes queue) m ∙ ap (option_map (λ (e : ℕ × Queued). e.1)) found.2 ∙ ap (λ (n : Node). Some n.queued) same in
-    let all = all_ahead key node.queued (cells (linked nodes queue)) m had.rising (omega arith) shown before in
-    omega arith
+    (found.0, found.1)
+
+-- the last node of a queue of so many and one
+pub record IsLast (nodes : Nodes) (queue : Queue) (m : ℕ) (node : Node) : Type 0 where
+  pub chained : IsChained nodes queue
+  pub some : queue.len ≡ m + 1
+  pub here : nodes queue.last ≡ Some node
+
+module _ (nodes : Nodes) (queue : Queue) (m : ℕ) (node : Node) (is : IsLast nodes queue m node) where
+  last_shown : slice_get (cells (linked nodes queue)) m ≡ Some node.queued
+  last_shown =
+      let found = node_at nodes queue.len queue.first m queue.last is.chained.whole (is.chained.last m is.some) in
+      let same : found.0 ≡ node = same_Some found.0 node (sym found.1 ∙ is.here) in
+      slice_get-map (λ (e : ℕ × Queued). e.1) (linked nodes queue) m
+      ∙ ap (option_map (λ (e : ℕ × Queued). e.1)) found.2
+      ∙ ap (λ (n : Node). Some n.queued) same
+
+  as_long : length (cells (linked nodes queue)) ≡ m + 1
+  as_long = length-map (linked nodes queue) (λ (e : ℕ × Queued). e.1) ∙ is.chained.whole ∙ is.some
+
+  -- where the last cell is more urgent, all cells are
+  pub last_ahead : (key : Key) → is_before node.queued.key key ≡ true →
+      queue.len ≡ position_or_len (is_no_sooner key) (cells (linked nodes queue))
+  last_ahead key before =
+      is.some ∙ sym (all_ahead key node.queued (cells
+      (linked nodes queue)) m is.chained.rising as_long last_shown before)
+
+  -- where the last cell has the key, all others are
+  pub last_is : (key : Key) → node.queued.key ≡ key →
+      m ≡ position_or_len (is_no_sooner key) (cells (linked nodes queue))
+  last_is key own =
+      sym (others_ahead key node.queued (cells (linked nodes queue)) m is.chained.rising as_long last_shown own)
 
 -- a node of the queue has a cell for its output
-pub own_at : (nodes : Nodes) (j : ℕ) (queue : Queue) (m place : ℕ) (node : Node) → IsLinked nodes j queue → slice_get (places (linked nodes queue)) m ≡ Some place → nodes place ≡ Some node → node.queued.cell.output ≡ j
+pub own_at : (nodes : Nodes) (j : ℕ) (queue : Queue) (m place : ℕ) (node : Node) → IsLinked nodes j queue →
+    slice_get (places (linked nodes queue)) m ≡ Some place → nodes place ≡ Some node → node.queued.cell.output ≡ j
 own_at nodes j queue m place node had at here =
     let found = node_at nodes queue.len queue.first m place had.chained.whole at in
     let same : found.0 ≡ node = same_Some found.0 node (sym found.1 ∙ here) in
     all_at (λ c. c.cell.output ≡ j) (cells (linked nodes queue)) m node.queued had.own
-    (slice_get-map (λ (e : ℕ × Queued). e.1) (linked nodes queue) m ∙ ap (option_map (λ (e : ℕ × Queued). e.1)) found.2 ∙ ap (λ (n : Node). Some n.queued) same)
+    (slice_get-map (λ (e : ℕ × Queued). e.1) (linked nodes queue) m ∙ ap (option_map (λ (e : ℕ × Queued). e.1)) found.2
+    ∙ ap (λ (n : Node). Some n.queued) same)
 
 -- ## A node more
 
 -- ahead of all
-pub chain_first : (old new : Nodes) (j : ℕ) (queue : Queue) (k : ℕ) (c : Queued) → IsLinked old j queue → new k ≡ Some (record { queued = c; next = queue.first }) → ((i : ℕ) (node : Node) → old i ≡ Some node → new i ≡ Some node) → chain new (queue.len + 1) k ≡ (k, c) ∷ linked old queue
+pub chain_first : (old new : Nodes) (j : ℕ) (queue : Queue) (k : ℕ) (c : Queued) → IsLinked old j queue →
+    new k ≡ Some (record { queued = c; next = queue.first }) →
+    ((i : ℕ) (node : Node) → old i ≡ Some node → new i ≡ Some node) → chain new
+    (queue.len + 1) k ≡ (k, c) ∷ linked old queue
 chain_first old new j queue k c had added others =
     let long : queue.len + 1 ≡ suc queue.len = omega arith in
     ap (λ n. chain new n k) long
     ∙ chain-at new queue.len k _ added
-    ∙ ap (λ l. (k, c) ∷ l) (chain_stays old new (λ x. x.cell.output ≡ j) (λ i node there _. others i node there) queue.len queue.first had.chained.whole had.own)
+    ∙ ap (λ l. (k, c) ∷ l) (chain_stays old new (λ x. x.cell.output ≡ j)
+    (λ i node there _. others i node there) queue.len queue.first had.chained.whole had.own)
 
 -- behind one
-pub chain_more : (old mid new : Slab Node) (j : ℕ) (queue : Queue) (m a k : ℕ) (ahead read : Node) (c : Queued) → IsLinked (get old) j queue → slice_get (places (linked (get old) queue)) m ≡ Some a → get old k ≡ None → get old a ≡ Some ahead → Updates old mid k (Some (record { queued = c; next = ahead.next })) → get mid a ≡ Some read → Updates mid new a (Some (record { queued = read.queued; next = k })) → chain (get new) (queue.len + 1) queue.first ≡ insert (linked (get old) queue) (suc m) (k, c)
+pub chain_more : (old mid new : Slab Node) (j : ℕ) (queue : Queue) (m a k : ℕ) (ahead read : Node) (c : Queued) →
+    IsLinked (get old) j queue → slice_get (places (linked (get old) queue)) m ≡ Some a → get old k ≡ None →
+    get old a ≡ Some ahead → Updates old mid k
+    (Some (record { queued = c; next = ahead.next })) → get mid a ≡ Some read → Updates mid new a
+    (Some (record { queued = read.queued; next = k })) → chain (get new) (queue.len + 1) queue.first ≡ insert
+    (linked (get old) queue) (suc m) (k, c)
 chain_more old mid new j queue m a k ahead read c had at vacant here more again led =
     let long : queue.len + 1 ≡ suc queue.len = omega arith in
     let found = node_at (get old) queue.len queue.first m a had.chained.whole at in
@@ -88,13 +128,18 @@ insert_end_shown [] (suc n) y len = absurd (omega arith)
 insert_end_shown (x ∷ xs) zero y len = absurd (omega arith)
 insert_end_shown (x ∷ xs) (suc n) y len = insert_end_shown xs n y (omega arith)
 
-insert_end_kept : {X : Type 0} (xs : List X) (i m : ℕ) (y : X) → i ≤ m → m < length xs → slice_get (insert xs i y) (suc m) ≡ slice_get xs m
+insert_end_kept : {X : Type 0} (xs : List X) (i m : ℕ) (y : X) → i ≤ m → m < length xs →
+    slice_get (insert xs i y) (suc m) ≡ slice_get xs m
 insert_end_kept xs zero m y le inside = refl
 insert_end_kept [] (suc i) m y le inside = absurd (omega arith)
 insert_end_kept (x ∷ xs) (suc i) zero y le inside = absurd (omega arith)
 insert_end_kept (x ∷ xs) (suc i) (suc m) y le inside = insert_end_kept xs i m y (omega arith) (omega arith)
 
-module _ (old new : Nodes) (j : ℕ) (queue more : Queue) (count k : ℕ) (c : Queued) (had : IsLinked old j queue) (own : c.cell.output ≡ j) (other : HasOtherKey c (cells (linked old queue))) (place : count ≡ position_or_len (is_later c.key) (cells (linked old queue))) (chained : linked new more ≡ insert (linked old queue) count (k, c)) (len : more.len ≡ queue.len + 1) (last : more.last ≡ cond (eqb count queue.len) k queue.last) where
+module _ (old new : Nodes) (j : ℕ) (queue more : Queue) (count k : ℕ) (c : Queued) (had : IsLinked old j queue)
+    (own : c.cell.output ≡ j) (other : HasOtherKey c (cells (linked old queue)))
+    (place : count ≡ position_or_len (is_later c.key) (cells (linked old queue)))
+    (chained : linked new more ≡ insert (linked old queue) count (k, c)) (len : more.len ≡ queue.len + 1)
+    (last : more.last ≡ cond (eqb count queue.len) k queue.last) where
   count_inside : count ≤ queue.len
   count_inside =
       let inside = first_inside (is_later c.key) (cells (linked old queue)) in
@@ -109,17 +154,21 @@ module _ (old new : Nodes) (j : ℕ) (queue more : Queue) (count k : ℕ) (c : Q
       ∙ ap (λ i. insert (cells (linked old queue)) i c) place
       ∙ sym (put_is c (cells (linked old queue)))
 
-  kept_end : (m : ℕ) → count < m → m ≡ queue.len → slice_get (insert (places (linked old queue)) count k) m ≡ Some queue.last
+  kept_end : (m : ℕ) → count < m → m ≡ queue.len →
+      slice_get (insert (places (linked old queue)) count k) m ≡ Some queue.last
   kept_end zero lt is = absurd (omega arith)
   kept_end (suc m) lt is =
-      let long : length (places (linked old queue)) ≡ queue.len = length-map (linked old queue) (λ (e : ℕ × Queued). e.0) ∙ had.chained.whole in
-      insert_end_kept (places (linked old queue)) count m k (omega arith) (omega arith) ∙ had.chained.last m (omega arith)
+      let long : length (places (linked old queue)) ≡ queue.len =
+      length-map (linked old queue) (λ (e : ℕ × Queued). e.0) ∙ had.chained.whole in
+      insert_end_kept (places (linked old queue)) count m k (omega arith) (omega arith)
+      ∙ had.chained.last m (omega arith)
 
   ends_more : EndsAt (linked new more) more.len more.last
   ends_more m is =
       let at : queue.len ≡ m = omega arith in
       let keys : List ℕ = places (linked old queue) in
-      let long : length keys ≡ queue.len = length-map (linked old queue) (λ (e : ℕ × Queued). e.0) ∙ had.chained.whole in
+      let long : length keys ≡ queue.len = length-map (linked old queue) (λ (e : ℕ × Queued). e.0)
+      ∙ had.chained.whole in
       let inside = count_inside in
       ap (λ l. slice_get (places l) m) chained
       ∙ ap (λ l. slice_get l m) (map-insert (λ (e : ℕ × Queued). e.0) (linked old queue) count (k, c))
@@ -136,23 +185,29 @@ module _ (old new : Nodes) (j : ℕ) (queue more : Queue) (count k : ℕ) (c : Q
         chained = record {
           whole =
               ap length chained
-              ∙ length-insert (linked old queue) count (k, c) (let inside = count_inside in let whole = had.chained.whole in omega arith)
+              ∙ length-insert (linked old queue) count (k, c)
+              (let inside = count_inside in let whole = had.chained.whole in omega arith)
               ∙ ap (λ n. n + 1) had.chained.whole ∙ sym len;
           rising = subst IsRising (sym cells_more) (rising_put c (cells (linked old queue)) had.chained.rising other);
           last = ends_more;
         };
-        own = subst (AllByRecursion (λ x. x.cell.output ≡ j)) (sym cells_more) (all_put _ c (cells (linked old queue)) own had.own);
+        own = subst (AllByRecursion (λ x. x.cell.output ≡ j)) (sym cells_more)
+            (all_put _ c (cells (linked old queue)) own had.own);
       }
 
 -- ## The head taken out
 
-pub head_own : (nodes : Nodes) (j n : ℕ) (queue : Queue) (node : Node) → IsLinked nodes j queue → queue.len ≡ n + 1 → nodes queue.first ≡ Some node → node.queued.cell.output ≡ j
+pub head_own : (nodes : Nodes) (j n : ℕ) (queue : Queue) (node : Node) → IsLinked nodes j queue → queue.len ≡ n + 1 →
+    nodes queue.first ≡ Some node → node.queued.cell.output ≡ j
 head_own nodes j n queue node had some here =
     let long : queue.len ≡ suc n = omega arith in
     own_at nodes j queue 0 queue.first node had
-    (ap (λ l. slice_get (places (chain nodes l queue.first)) 0) long ∙ ap (λ l. slice_get (places l) 0) (chain-at nodes n queue.first node here)) here
+    (ap (λ l. slice_get (places (chain nodes l queue.first)) 0) long
+    ∙ ap (λ l. slice_get (places l) 0) (chain-at nodes n queue.first node here)) here
 
-module _ (old new : Nodes) (j n : ℕ) (queue : Queue) (node : Node) (had : IsLinked old j queue) (some : queue.len ≡ n + 1) (here : old queue.first ≡ Some node) (others : (i : ℕ) (m : Node) → old i ≡ Some m → i ≢ queue.first → new i ≡ Some m) where
+module _ (old new : Nodes) (j n : ℕ) (queue : Queue) (node : Node) (had : IsLinked old j queue)
+    (some : queue.len ≡ n + 1) (here : old queue.first ≡ Some node)
+    (others : (i : ℕ) (m : Node) → old i ≡ Some m → i ≢ queue.first → new i ≡ Some m) where
   seen : linked old queue ≡ (queue.first, node.queued) ∷ chain old n node.next
   seen =
       let long : queue.len ≡ suc n = omega arith in
@@ -161,11 +216,14 @@ module _ (old new : Nodes) (j n : ℕ) (queue : Queue) (node : Node) (had : IsLi
   rest_stays : chain new n node.next ≡ chain old n node.next
   rest_stays =
       let rising = subst (λ (l : List (ℕ × Queued)). IsRising (cells l)) seen had.chained.rising in
-      let whole : length (chain old n node.next) ≡ n = let same = sym (ap length seen) ∙ had.chained.whole in omega arith in
+      let whole : length (chain old n node.next) ≡ n = let same = sym (ap length seen) ∙ had.chained.whole in
+      omega arith in
       chain_stays old new (λ x. x ≢ node.queued)
-      (λ i m there ne. others i m there (λ same. ne (ap (λ (o : Node). o.queued) (same_Some m node (sym there ∙ ap old same ∙ here)))))
+      (λ i m there ne. others i m there (λ same. ne
+      (ap (λ (o : Node). o.queued) (same_Some m node (sym there ∙ ap old same ∙ here)))))
       n node.next whole
-      (all_weaker _ _ (λ x before same. differs node.queued x before (sym same)) (cells (chain old n node.next)) rising.0)
+      (all_weaker _ _ (λ x before same. differs node.queued x before (sym same))
+      (cells (chain old n node.next)) rising.0)
 
   pub cells_less : cells (linked old queue) ≡ node.queued ∷ cells (chain new n node.next)
   cells_less = ap cells seen ∙ ap (λ l. node.queued ∷ cells l) (sym rest_stays)
@@ -176,7 +234,8 @@ module _ (old new : Nodes) (j n : ℕ) (queue : Queue) (node : Node) (had : IsLi
       let own = subst (AllByRecursion (λ c. c.cell.output ≡ j)) cells_less had.own in
       record {
         chained = record {
-          whole = let same = ap length (seen ∙ ap (λ l. (queue.first, node.queued) ∷ l) (sym rest_stays)) in let whole = had.chained.whole in omega arith;
+          whole = let same = ap length (seen ∙ ap (λ l. (queue.first, node.queued) ∷ l) (sym rest_stays)) in
+              let whole = had.chained.whole in omega arith;
           rising = rising.1;
           last = λ m is.
               ap (λ l. slice_get (places l) m) rest_stays

@@ -17,13 +17,15 @@ passes p x xs e = ap (λ b. cond b (x ∷ filter p xs) (filter p xs)) e
 pub fails : {X : Type 0} (p : X → Bool) (x : X) (xs : List X) → p x ≡ false → filter p (x ∷ xs) ≡ filter p xs
 fails p x xs e = ap (λ b. cond b (x ∷ filter p xs) (filter p xs)) e
 
-pub nth_other : {X : Type 0} (p : X → Bool) (k : ℕ) (x : X) (xs : List X) → p x ≡ false → place_of_nth p k (x ∷ xs) ≡ 1 + place_of_nth p k xs
+pub nth_other : {X : Type 0} (p : X → Bool) (k : ℕ) (x : X) (xs : List X) → p x ≡ false →
+    place_of_nth p k (x ∷ xs) ≡ 1 + place_of_nth p k xs
 nth_other p k x xs e = ap (λ b. cond (b && eqb k 0) 0 (1 + place_of_nth p (cond b (k - 1) k) xs)) e
 
 pub nth_here : {X : Type 0} (p : X → Bool) (x : X) (xs : List X) → p x ≡ true → place_of_nth p 0 (x ∷ xs) ≡ 0
 nth_here p x xs e = ap (λ b. cond (b && true) 0 (1 + place_of_nth p (cond b 0 0) xs)) e
 
-pub nth_next : {X : Type 0} (p : X → Bool) (k : ℕ) (x : X) (xs : List X) → p x ≡ true → place_of_nth p (1 + k) (x ∷ xs) ≡ 1 + place_of_nth p k xs
+pub nth_next : {X : Type 0} (p : X → Bool) (k : ℕ) (x : X) (xs : List X) → p x ≡ true →
+    place_of_nth p (1 + k) (x ∷ xs) ≡ 1 + place_of_nth p k xs
 nth_next p k x xs e =
     let less : 1 + k - 1 ≡ k = omega arith in
     ap (λ b. cond (b && eqb (1 + k) 0) 0 (1 + place_of_nth p (cond b (1 + k - 1) (1 + k)) xs)) e
@@ -39,7 +41,8 @@ nth_is_first p (x ∷ xs) =
     (λ other. nth_other p 0 x xs other ∙ ap (λ n. 1 + n) (nth_is_first p xs) ∙ sym (first_later p x xs other))
     (cases_Bool (p x))
 
-pub place_of_nth-map : {X Y : Type 0} (p : Y → Bool) (f : X → Y) (k : ℕ) (xs : List X) → place_of_nth p k (map f xs) ≡ place_of_nth (λ x. p (f x)) k xs
+pub place_of_nth-map : {X Y : Type 0} (p : Y → Bool) (f : X → Y) (k : ℕ) (xs : List X) →
+    place_of_nth p k (map f xs) ≡ place_of_nth (λ x. p (f x)) k xs
 place_of_nth-map p f k [] = refl
 place_of_nth-map p f k (x ∷ xs) =
     ap (λ n. cond (p (f x) && eqb k 0) 0 (1 + n)) (place_of_nth-map p f (cond (p (f x)) (k - 1) k) xs)
@@ -47,19 +50,25 @@ place_of_nth-map p f k (x ∷ xs) =
 -- ## Item by item
 
 -- the item at a place is of another output
-pub nth_past_other : (j k : ℕ) (xs : List ℕ) (i : ℕ) → i < length xs → get_or xs i 0 ≢ j → place_of_nth (is_output j) k (drop i xs) ≡ 1 + place_of_nth (is_output j) k (drop (i + 1) xs)
+pub nth_past_other : (j k : ℕ) (xs : List ℕ) (i : ℕ) → i < length xs → get_or xs i 0 ≢ j →
+    place_of_nth (is_output j) k (drop i xs) ≡ 1 + place_of_nth (is_output j) k (drop (i + 1) xs)
 nth_past_other j k xs i h ne =
-    ap (place_of_nth (is_output j) k) (drop_more xs i 0 h) ∙ nth_other (is_output j) k (get_or xs i 0) (drop (i + 1) xs) (ne_eqb _ _ ne)
+    ap (place_of_nth (is_output j) k) (drop_more xs i 0 h)
+    ∙ nth_other (is_output j) k (get_or xs i 0) (drop (i + 1) xs) (ne_eqb _ _ ne)
 
 -- it is of this output, and one of those to be passed over
-pub nth_past_own : (j k : ℕ) (xs : List ℕ) (i : ℕ) → i < length xs → get_or xs i 0 ≡ j → place_of_nth (is_output j) (1 + k) (drop i xs) ≡ 1 + place_of_nth (is_output j) k (drop (i + 1) xs)
+pub nth_past_own : (j k : ℕ) (xs : List ℕ) (i : ℕ) → i < length xs → get_or xs i 0 ≡ j →
+    place_of_nth (is_output j) (1 + k) (drop i xs) ≡ 1 + place_of_nth (is_output j) k (drop (i + 1) xs)
 nth_past_own j k xs i h e =
-    ap (place_of_nth (is_output j) (1 + k)) (drop_more xs i 0 h) ∙ nth_next (is_output j) k (get_or xs i 0) (drop (i + 1) xs) (eq-eqb _ _ e)
+    ap (place_of_nth (is_output j) (1 + k)) (drop_more xs i 0 h)
+    ∙ nth_next (is_output j) k (get_or xs i 0) (drop (i + 1) xs) (eq-eqb _ _ e)
 
 -- it is of this output, and the one that is looked for
-pub nth_found : (j : ℕ) (xs : List ℕ) (i : ℕ) → i < length xs → get_or xs i 0 ≡ j → place_of_nth (is_output j) 0 (drop i xs) ≡ 0
+pub nth_found : (j : ℕ) (xs : List ℕ) (i : ℕ) → i < length xs → get_or xs i 0 ≡ j →
+    place_of_nth (is_output j) 0 (drop i xs) ≡ 0
 nth_found j xs i h e =
-    ap (place_of_nth (is_output j) 0) (drop_more xs i 0 h) ∙ nth_here (is_output j) (get_or xs i 0) (drop (i + 1) xs) (eq-eqb _ _ e)
+    ap (place_of_nth (is_output j) 0) (drop_more xs i 0 h)
+    ∙ nth_here (is_output j) (get_or xs i 0) (drop (i + 1) xs) (eq-eqb _ _ e)
 
 pub nth_none_left : (j k : ℕ) (xs : List ℕ) (i : ℕ) → length xs ≤ i → place_of_nth (is_output j) k (drop i xs) ≡ 0
 nth_none_left j k xs i h = ap (place_of_nth (is_output j) k) (drop_all i xs h)
@@ -67,7 +76,8 @@ nth_none_left j k xs i h = ap (place_of_nth (is_output j) k) (drop_all i xs h)
 -- ## Two tests
 
 -- the first that passes two tests is, of those that pass the one, the number k, where k is its place among them
-pub first_of_both : {X : Type 0} (p q : X → Bool) (xs : List X) → position_or_len (λ x. p x && q x) xs ≡ place_of_nth p (position_or_len q (filter p xs)) xs
+pub first_of_both : {X : Type 0} (p q : X → Bool) (xs : List X) →
+    position_or_len (λ x. p x && q x) xs ≡ place_of_nth p (position_or_len q (filter p xs)) xs
 first_of_both p q [] = refl
 first_of_both {X} p q (x ∷ xs) =
     let both : X → Bool = λ y. p y && q y in
@@ -83,7 +93,8 @@ first_of_both {X} p q (x ∷ xs) =
     (λ no.
     first_later both x xs (ap (λ b. b && q x) own ∙ no)
     ∙ ap (λ n. 1 + n) rest
-    ∙ sym (queue ∙ ap (λ n. place_of_nth p n (x ∷ xs)) (first_later q x (filter p xs) no) ∙ nth_next p (position_or_len q (filter p xs)) x xs own))
+    ∙ sym (queue ∙ ap (λ n. place_of_nth p n (x ∷ xs)) (first_later q x (filter p xs) no)
+    ∙ nth_next p (position_or_len q (filter p xs)) x xs own))
     (cases_Bool (q x)))
     (λ other.
     first_later both x xs (ap (λ b. b && q x) other)
@@ -91,16 +102,41 @@ first_of_both {X} p q (x ∷ xs) =
     ∙ sym (ap at (fails p x xs other) ∙ nth_other p (position_or_len q (filter p xs)) x xs other))
     (cases_Bool (p x))
 
+-- the item number k is there where more than k pass
+pub nth_inside : {X : Type 0} (p : X → Bool) (k : ℕ) (xs : List X) → k < length (filter p xs) →
+    place_of_nth p k xs < length xs
+nth_inside p k [] some = absurd (omega arith)
+nth_inside p k (x ∷ xs) some =
+    ⊎_elim
+    (λ own.
+    let more = ap length (passes p x xs own) in
+    ⊎_elim
+    (λ first. let here = ap (λ n. place_of_nth p n (x ∷ xs)) first ∙ nth_here p x xs own in omega arith)
+    (λ ne.
+    let less : k ≡ 1 + (k - 1) = omega arith in
+    let step = ap (λ n. place_of_nth p n (x ∷ xs)) less ∙ nth_next p (k - 1) x xs own in
+    let rest = nth_inside p (k - 1) xs (omega arith) in
+    omega arith)
+    (cases_eq k 0))
+    (λ other.
+    let same = ap length (fails p x xs other) in
+    let step = nth_other p k x xs other in
+    let rest = nth_inside p k xs (omega arith) in
+    omega arith)
+    (cases_Bool (p x))
+
 -- ## Two lists
 
-pub nth_in_front : {X : Type 0} (p : X → Bool) (k : ℕ) (xs ys : List X) → k < length (filter p xs) → place_of_nth p k (xs ++ ys) ≡ place_of_nth p k xs
+pub nth_in_front : {X : Type 0} (p : X → Bool) (k : ℕ) (xs ys : List X) → k < length (filter p xs) →
+    place_of_nth p k (xs ++ ys) ≡ place_of_nth p k xs
 nth_in_front p k [] ys inside = absurd (omega arith)
 nth_in_front p k (x ∷ xs) ys inside =
     ⊎_elim
     (λ own.
     let more = ap length (passes p x xs own) in
     ⊎_elim
-    (λ first. ap (λ n. place_of_nth p n (x ∷ xs ++ ys)) first ∙ nth_here p x (xs ++ ys) own ∙ sym (ap (λ n. place_of_nth p n (x ∷ xs)) first ∙ nth_here p x xs own))
+    (λ first. ap (λ n. place_of_nth p n (x ∷ xs ++ ys)) first ∙ nth_here p x (xs ++ ys) own
+    ∙ sym (ap (λ n. place_of_nth p n (x ∷ xs)) first ∙ nth_here p x xs own))
     (λ ne.
     let less : k ≡ 1 + (k - 1) = omega arith in
     ap (λ n. place_of_nth p n (x ∷ xs ++ ys)) less ∙ nth_next p (k - 1) x (xs ++ ys) own
@@ -109,11 +145,14 @@ nth_in_front p k (x ∷ xs) ys inside =
     (cases_eq k 0))
     (λ other.
     let same = ap length (fails p x xs other) in
-    nth_other p k x (xs ++ ys) other ∙ ap (λ n. 1 + n) (nth_in_front p k xs ys (omega arith)) ∙ sym (nth_other p k x xs other))
+    nth_other p k x (xs ++ ys) other ∙ ap (λ n. 1 + n) (nth_in_front p k xs ys (omega arith))
+    ∙ sym (nth_other p k x xs other))
     (cases_Bool (p x))
 
-pub nth_behind : {X : Type 0} (p : X → Bool) (k : ℕ) (xs ys : List X) → length (filter p xs) ≤ k → place_of_nth p k (xs ++ ys) ≡ length xs + place_of_nth p (k - length (filter p xs)) ys
-nth_behind p k [] ys past = let all : k ≡ k - 0 = omega arith in let same = ap (λ n. place_of_nth p n ys) all in omega arith
+pub nth_behind : {X : Type 0} (p : X → Bool) (k : ℕ) (xs ys : List X) → length (filter p xs) ≤ k →
+    place_of_nth p k (xs ++ ys) ≡ length xs + place_of_nth p (k - length (filter p xs)) ys
+nth_behind p k [] ys past = let all : k ≡ k - 0 = omega arith in let same = ap (λ n. place_of_nth p n ys) all in
+    omega arith
 nth_behind p k (x ∷ xs) ys past =
     ⊎_elim
     (λ own.

@@ -11,35 +11,42 @@ use Rattle.cq_list.specs.Pool.{Nodes, linked, cells, IsLinked, OthersStay, AreLi
 use Rattle.cq_list.proofs.Linked.{linked_stays, is_linked_along}
 
 -- what is seen of a queue, also beyond the last
-pub queue_seen : (nodes : Nodes) (queues : List Queue) (j : ℕ) → queue_of (cells_in_queues nodes queues) j ≡ cells (linked nodes (queue_at queues j))
+pub queue_seen : (nodes : Nodes) (queues : List Queue) (j : ℕ) →
+    queue_of (cells_in_queues nodes queues) j ≡ cells (linked nodes (queue_at queues j))
 queue_seen nodes queues j =
     ⊎_elim
     (λ inside. get_or-map (λ (q : Queue). cells (linked nodes q)) queues j no_queue [] inside)
     (λ past.
-    get_or_past (cells_in_queues nodes queues) j [] (let same = length-map queues (λ (q : Queue). cells (linked nodes q)) in omega arith)
+    get_or_past (cells_in_queues nodes queues) j []
+    (let same = length-map queues (λ (q : Queue). cells (linked nodes q)) in omega arith)
     ∙ ap (λ (q : Queue). cells (linked nodes q)) (sym (get_or_past queues j no_queue past)))
     (cases_lt j (length queues))
 
 -- where no cell waits
-pub no_cells : (nodes : Nodes) (queues : List Queue) (n : ℕ) → queues ≡ replicate n no_queue → cells_in_queues nodes queues ≡ replicate n []
+pub no_cells : (nodes : Nodes) (queues : List Queue) (n : ℕ) → queues ≡ replicate n no_queue →
+    cells_in_queues nodes queues ≡ replicate n []
 no_cells nodes queues n e = ap (cells_in_queues nodes) e ∙ go n
   where
     go : (n : ℕ) → cells_in_queues nodes (replicate n no_queue) ≡ replicate n []
     go zero = refl
     go (suc n) = ap (λ l. [] ∷ l) (go n)
 
-module _ (old new : Nodes) (j : ℕ) (queues : List Queue) (queue : Queue) (had : AreLinked old queues) (inside : j < length queues) (stay : OthersStay j old new) where
+module _ (old new : Nodes) (j : ℕ) (queues : List Queue) (queue : Queue) (had : AreLinked old queues)
+    (inside : j < length queues) (stay : OthersStay j old new) where
   other_stays : (i : ℕ) → i ≢ j → linked new (queue_at queues i) ≡ linked old (queue_at queues i)
   other_stays i ne = linked_stays old new j i (queue_at queues i) stay ne (had i)
 
   pub are_linked_changed : IsLinked new j queue → AreLinked new (set queues j queue)
   are_linked_changed changed i =
       ⊎_elim
-      (λ same. subst (IsLinked new i) (sym (ap (queue_at (set queues j queue)) same ∙ get_or-set_same queues j queue no_queue inside)) (subst (λ (k : ℕ). IsLinked new k queue) (sym same) changed))
-      (λ ne. subst (IsLinked new i) (sym (get_or-set_other queues j i queue no_queue ne)) (is_linked_along old new i (queue_at queues i) (other_stays i ne) (had i)))
+      (λ same. subst (IsLinked new i) (sym (ap (queue_at (set queues j queue)) same
+      ∙ get_or-set_same queues j queue no_queue inside)) (subst (λ (k : ℕ). IsLinked new k queue) (sym same) changed))
+      (λ ne. subst (IsLinked new i) (sym (get_or-set_other queues j i queue no_queue ne))
+      (is_linked_along old new i (queue_at queues i) (other_stays i ne) (had i)))
       (cases_eq i j)
 
-  pub cells_changed : cells_in_queues new (set queues j queue) ≡ set (cells_in_queues old queues) j (cells (linked new queue))
+  pub cells_changed : cells_in_queues new (set queues j queue)
+      ≡ set (cells_in_queues old queues) j (cells (linked new queue))
   cells_changed =
       let f : Nodes → Queue → List Queued = λ nodes q. cells (linked nodes q) in
       let long = length-map queues (f old) in
@@ -55,26 +62,34 @@ module _ (old new : Nodes) (j : ℕ) (queues : List Queue) (queue : Queue) (had 
       (λ same.
       ap (λ k. f new (queue_at (set queues j queue) k)) same
       ∙ ap (f new) (get_or-set_same queues j queue no_queue inside)
-      ∙ sym (ap (λ k. get_or (set (cells_in_queues old queues) j (f new queue)) k []) same ∙ get_or-set_same (cells_in_queues old queues) j (f new queue) [] (omega arith)))
+      ∙ sym (ap (λ k. get_or (set (cells_in_queues old queues) j (f new queue)) k []) same
+      ∙ get_or-set_same (cells_in_queues old queues) j (f new queue) [] (omega arith)))
       (λ ne.
       ap (f new) (get_or-set_other queues j i queue no_queue ne)
       ∙ ap cells (other_stays i ne)
-      ∙ sym (get_or-set_other (cells_in_queues old queues) j i (f new queue) [] ne ∙ get_or-map (f old) queues i no_queue [] at))
+      ∙ sym (get_or-set_other (cells_in_queues old queues) j i (f new queue) [] ne
+      ∙ get_or-map (f old) queues i no_queue [] at))
       (cases_eq i j))
 
 -- ## A pool
 
 -- the queue of an output, as it was read
-pub queue_read : (nodes : Nodes) (queues : List Queue) (j : ℕ) (queue : Queue) → AreLinked nodes queues → j < length queues → queue ≡ get_or queues j queue → IsLinked nodes j queue
+pub queue_read : (nodes : Nodes) (queues : List Queue) (j : ℕ) (queue : Queue) → AreLinked nodes queues →
+    j < length queues → queue ≡ get_or queues j queue → IsLinked nodes j queue
 queue_read nodes queues j queue had inside read =
     subst (IsLinked nodes j) (sym (get_or_read queues j queue inside read no_queue)) (had j)
 
-pub cells_read : (nodes : Nodes) (queues : List Queue) (seen : List (List Queued)) (j : ℕ) (queue : Queue) → cells_in_queues nodes queues ≡ seen → j < length queues → queue ≡ get_or queues j queue → queue_of seen j ≡ cells (linked nodes queue)
+pub cells_read : (nodes : Nodes) (queues : List Queue) (seen : List (List Queued)) (j : ℕ) (queue : Queue) →
+    cells_in_queues nodes queues ≡ seen → j < length queues → queue ≡ get_or queues j queue → queue_of seen j ≡ cells
+    (linked nodes queue)
 cells_read nodes queues seen j queue is inside read =
-    ap (λ l. queue_of l j) (sym is) ∙ queue_seen nodes queues j ∙ ap (λ (q : Queue). cells (linked nodes q)) (sym (get_or_read queues j queue inside read no_queue))
+    ap (λ l. queue_of l j) (sym is) ∙ queue_seen nodes queues j
+    ∙ ap (λ (q : Queue). cells (linked nodes q)) (sym (get_or_read queues j queue inside read no_queue))
 
-module _ (old new : Slab Node) (j room : ℕ) (queues : List Queue) (read queue : Queue) (had : IsPool old queues room) (inside : j < length queues) (is_read : read ≡ get_or queues j read) (stay : OthersStay j (get old) (get new)) where
-  pub is_pool_changed : IsLinked (get new) j queue → slab_len new + read.len ≡ slab_len old + queue.len → slab_len new ≤ room → new.capacity ≡ old.capacity → IsPool new (set queues j queue) room
+module _ (old new : Slab Node) (j room : ℕ) (queues : List Queue) (read queue : Queue) (had : IsPool old queues room)
+    (inside : j < length queues) (is_read : read ≡ get_or queues j read) (stay : OthersStay j (get old) (get new)) where
+  pub is_pool_changed : IsLinked (get new) j queue → slab_len new + read.len ≡ slab_len old + queue.len →
+      slab_len new ≤ room → new.capacity ≡ old.capacity → IsPool new (set queues j queue) room
   is_pool_changed changed len fits capacity =
       record {
         linked = are_linked_changed (get old) (get new) j queues queue had.linked inside stay changed;
@@ -87,7 +102,10 @@ module _ (old new : Slab Node) (j room : ℕ) (queues : List Queue) (read queue 
         memory = let memory = had.memory in omega arith;
       }
 
-  pub view_changed : (seen : List (List Queued)) (f : List Queued → List Queued) → cells_in_queues (get old) queues ≡ seen → cells (linked (get new) queue) ≡ f (cells (linked (get old) read)) → cells_in_queues (get new) (set queues j queue) ≡ set seen j (f (queue_of seen j))
+  pub view_changed : (seen : List (List Queued)) (f : List Queued → List Queued) →
+      cells_in_queues (get old) queues ≡ seen → cells (linked (get new) queue) ≡ f
+      (cells (linked (get old) read)) → cells_in_queues (get new) (set queues j queue) ≡ set seen j
+      (f (queue_of seen j))
   view_changed seen f is same =
       cells_changed (get old) (get new) j queues queue had.linked inside stay
       ∙ ap (λ l. set l j (cells (linked (get new) queue))) is
@@ -95,7 +113,8 @@ module _ (old new : Slab Node) (j room : ℕ) (queues : List Queue) (read queue 
 
 -- ## A queue that was read
 
-pub inside_seen : (nodes : Nodes) (queues : List Queue) (seen : List (List Queued)) (j : ℕ) → cells_in_queues nodes queues ≡ seen → j < length seen → j < length queues
+pub inside_seen : (nodes : Nodes) (queues : List Queue) (seen : List (List Queued)) (j : ℕ) →
+    cells_in_queues nodes queues ≡ seen → j < length seen → j < length queues
 inside_seen nodes queues seen j is inside =
     let same = ap length (sym is) ∙ length-map queues (λ (q : Queue). cells (linked nodes q)) in omega arith
 
@@ -107,14 +126,17 @@ inside_some seen j n some =
     (cases_lt j (length seen))
 
 -- what is known of it
-pub record IsRead (nodes : Nodes) (queues : List Queue) (seen : List (List Queued)) (j : ℕ) (queue : Queue) : Type 0 where
+pub record IsRead (nodes : Nodes) (queues : List Queue) (seen : List (List Queued)) (j : ℕ)
+    (queue : Queue) : Type 0 where
   pub inside : j < length queues
   pub read : queue ≡ get_or queues j queue
   pub is_linked : IsLinked nodes j queue
   pub view : cells_in_queues nodes queues ≡ seen
   pub are_cells : queue_of seen j ≡ cells (linked nodes queue)
 
-pub is_read : (nodes : Nodes) (queues : List Queue) (seen : List (List Queued)) (j : ℕ) (queue : Queue) → AreLinked nodes queues → cells_in_queues nodes queues ≡ seen → j < length queues → queue ≡ get_or queues j queue → IsRead nodes queues seen j queue
+pub is_read : (nodes : Nodes) (queues : List Queue) (seen : List (List Queued)) (j : ℕ) (queue : Queue) →
+    AreLinked nodes queues → cells_in_queues nodes queues ≡ seen → j < length queues → queue ≡ get_or queues j queue →
+    IsRead nodes queues seen j queue
 is_read nodes queues seen j queue had view inside read =
     record {
       inside = inside;
@@ -124,6 +146,7 @@ is_read nodes queues seen j queue had view inside read =
       are_cells = cells_read nodes queues seen j queue view inside read;
     }
 
-pub as_many : (nodes : Nodes) (queues : List Queue) (seen : List (List Queued)) (j : ℕ) (queue : Queue) → IsRead nodes queues seen j queue → length (queue_of seen j) ≡ queue.len
+pub as_many : (nodes : Nodes) (queues : List Queue) (seen : List (List Queued)) (j : ℕ) (queue : Queue) →
+    IsRead nodes queues seen j queue → length (queue_of seen j) ≡ queue.len
 as_many nodes queues seen j queue r =
     ap length r.are_cells ∙ length-map (linked nodes queue) (λ (e : ℕ × Queued). e.1) ∙ r.is_linked.chained.whole

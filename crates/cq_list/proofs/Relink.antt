@@ -7,15 +7,20 @@ use Rattle.cq_base.specs.declared.cell.Queued.{Queued}
 use Rattle.cq_list.specs.declared.pool.Node.{Node}
 use Rattle.cq_list.specs.Pool.{OthersStay}
 
-pub still_there : (old new : Slab Node) (k : ℕ) (node : Node) → get old k ≡ None → Updates old new k (Some node) → (i : ℕ) (m : Node) → get old i ≡ Some m → get new i ≡ Some m
+pub still_there : (old new : Slab Node) (k : ℕ) (node : Node) → get old k ≡ None → Updates old new k (Some node) →
+    (i : ℕ) (m : Node) → get old i ≡ Some m → get new i ≡ Some m
 still_there old new k node vacant more i m there =
     more.others i (λ same. none-some m (sym vacant ∙ ap (get old) (sym same) ∙ there)) ∙ there
 
-pub removed_stay : (old new : Slab Node) (a j : ℕ) (node : Node) → get old a ≡ Some node → node.queued.cell.output ≡ j → Updates old new a None → OthersStay j (get old) (get new)
+pub removed_stay : (old new : Slab Node) (a j : ℕ) (node : Node) → get old a ≡ Some node →
+    node.queued.cell.output ≡ j → Updates old new a None → OthersStay j (get old) (get new)
 removed_stay old new a j node here own less i m there ne =
-    less.others i (λ same. ne (ap (λ (n : Node). n.queued.cell.output) (same_Some m node (sym there ∙ ap (get old) same ∙ here)) ∙ own)) ∙ there
+    less.others i (λ same. ne (ap (λ (n : Node). n.queued.cell.output)
+    (same_Some m node (sym there ∙ ap (get old) same ∙ here)) ∙ own)) ∙ there
 
-module _ (old mid new : Slab Node) (a k : ℕ) (ahead read : Node) (c : Queued) (vacant : get old k ≡ None) (here : get old a ≡ Some ahead) (more : Updates old mid k (Some (record { queued = c; next = ahead.next }))) (again : get mid a ≡ Some read) (led : Updates mid new a (Some (record { queued = read.queued; next = k }))) where
+module _ (old mid new : Slab Node) (a k : ℕ) (ahead read : Node) (c : Queued) (vacant : get old k ≡ None)
+    (here : get old a ≡ Some ahead) (more : Updates old mid k (Some (record { queued = c; next = ahead.next })))
+    (again : get mid a ≡ Some read) (led : Updates mid new a (Some (record { queued = read.queued; next = k }))) where
   pub added : get new k ≡ Some (record { queued = c; next = ahead.next })
   added = led.others k (λ same. none-some ahead (sym vacant ∙ ap (get old) same ∙ here)) ∙ more.changed
 
@@ -29,4 +34,5 @@ module _ (old mid new : Slab Node) (a k : ℕ) (ahead read : Node) (c : Queued) 
 
   pub others_stay : (j : ℕ) → ahead.queued.cell.output ≡ j → OthersStay j (get old) (get new)
   others_stay j own i node there ne =
-      others i node there (λ same. ne (ap (λ (n : Node). n.queued.cell.output) (same_Some node ahead (sym there ∙ ap (get old) same ∙ here)) ∙ own))
+      others i node there (λ same. ne (ap (λ (n : Node). n.queued.cell.output)
+      (same_Some node ahead (sym there ∙ ap (get old) same ∙ here)) ∙ own))

@@ -11,15 +11,21 @@ pub drop_shown : {X : Type 0} (xs : List X) (i : ℕ) (x : X) → slice_get xs i
 drop_shown xs i x at =
     drop_more xs i x (slice_get_within xs i x at) ∙ ap (λ y. y ∷ drop (i + 1) xs) (get_or_from_slice_get xs i x x at)
 
-pub found_here : {X : Type 0} (p : X → Bool) (xs : List X) (i : ℕ) (x : X) → position_or_len p xs ≡ i + position_or_len p (drop i xs) → slice_get xs i ≡ Some x → p x ≡ true → position p xs ≡ Some i
+pub found_here : {X : Type 0} (p : X → Bool) (xs : List X) (i : ℕ) (x : X) →
+    position_or_len p xs ≡ i + position_or_len p
+    (drop i xs) → slice_get xs i ≡ Some x → p x ≡ true → position p xs ≡ Some i
 found_here p xs i x rest at passes =
     let inside = slice_get_within xs i x at in
     let here = ap (position_or_len p) (drop_shown xs i x at) ∙ first_here p x (drop (i + 1) xs) passes in
     let place : position_or_len p xs ≡ i = omega arith in
     let within : position_or_len p xs < length xs = omega arith in
     let some : ℕ → Option ℕ = λ n. Some n in
-    ap (λ b. cond b (some (position_or_len p xs)) None) (lt-ltb (position_or_len p xs) (length xs) within) ∙ ap some place
+    ap (λ b. cond b (some (position_or_len p xs)) None) (lt-ltb (position_or_len p xs) (length xs) within)
+    ∙ ap some place
 
-pub not_here : {X : Type 0} (p : X → Bool) (xs : List X) (i : ℕ) (x : X) → position_or_len p xs ≡ i + position_or_len p (drop i xs) → slice_get xs i ≡ Some x → p x ≡ false → position_or_len p xs ≡ i + 1 + position_or_len p (drop (i + 1) xs)
+pub not_here : {X : Type 0} (p : X → Bool) (xs : List X) (i : ℕ) (x : X) →
+    position_or_len p xs ≡ i + position_or_len p
+    (drop i xs) → slice_get xs i ≡ Some x → p x ≡ false → position_or_len p xs ≡ i + 1 + position_or_len p
+    (drop (i + 1) xs)
 not_here p xs i x rest at fails =
     let later = ap (position_or_len p) (drop_shown xs i x at) ∙ first_later p x (drop (i + 1) xs) fails in omega arith

@@ -11,17 +11,16 @@
 --
 -- Then what leaves: the first cell for an output is the head of its queue, and stands at the first place of the output.
 --
--- Last what is looked up: a cell at a place, and the place of the first less urgent cell, which is the place of the
--- number k of its output where k cells of the queue are more urgent.
+-- Last what is looked up: a cell at a place, and the place of the first cell for an output that passes a test, which is
+-- the place of the number k of its output where the number k of the queue is the first that passes.
 use Rattle.std.proofs.Common.{◌≡◌, ℕ, zero, suc, ◌+◌, eqb, Bool, true, false, not, cond, List, [], ◌∷◌, ◌++◌, length, take, drop, map, Some, refl, sym, ap, ◌∙◌, subst, arith, take-append-drop}
 use Rattle.std.proofs.lemmas.List.{map-append, take-map, drop-map}
-use Rattle.std.specs.Prelude.{slice_get, remove, insert, filter}
+use Rattle.std.specs.Prelude.{◌&&◌, slice_get, remove, insert, filter}
 use Rattle.std.specs.List.{AllByRecursion, position_or_len}
 use Rattle.std.proofs.lemmas.Bool.{cond_both, eqb-true, eq-eqb}
 use Rattle.std.proofs.lemmas.List.Elements.{filter-append}
 use Rattle.cq_base.specs.declared.cell.Queued.{Queued}
-use Rattle.cq_base.specs.Key.{is_before}
-use Rattle.cq_base.specs.Cells.{IsBefore, IsRising, KeepsOrder, HasOtherKey, MoreUrgentAhead, is_for, first_for, without_first, put, place_of_later, place_of_arrival, with_arrival}
+use Rattle.cq_base.specs.Cells.{IsBefore, IsRising, KeepsOrder, HasOtherKey, MoreUrgentAhead, is_for, first_for, without_first, put, place_of_arrival, with_arrival}
 use Rattle.cq_base.proofs.Keys.{key_laws}
 use Rattle.cq_base.proofs.Lists.{keeps_order_arrival, first_here, first_later}
 use Rattle.cq_list.proofs.Nth.{passes, fails, first_of_both, place_of_nth-map}
@@ -29,37 +28,45 @@ use Rattle.cq_list.specs.Split.{Queues, without_head, merged, IsSplit, place_of_
 
 -- ## One filter
 
-pub filter-insert-other : {X : Type 0} (p : X → Bool) (xs : List X) (i : ℕ) (y : X) → p y ≡ false → filter p (insert xs i y) ≡ filter p xs
+pub filter-insert-other : {X : Type 0} (p : X → Bool) (xs : List X) (i : ℕ) (y : X) → p y ≡ false →
+    filter p (insert xs i y) ≡ filter p xs
 filter-insert-other p xs i y e =
     filter-append p (take i xs) (y ∷ drop i xs)
     ∙ ap (λ l. filter p (take i xs) ++ l) (fails p y (drop i xs) e)
     ∙ sym (filter-append p (take i xs) (drop i xs))
     ∙ ap (filter p) (take-append-drop i xs)
 
-pub filter-insert : {X : Type 0} (p : X → Bool) (xs : List X) (i : ℕ) (y : X) → p y ≡ true → filter p (insert xs i y) ≡ filter p (take i xs) ++ y ∷ filter p (drop i xs)
+pub filter-insert : {X : Type 0} (p : X → Bool) (xs : List X) (i : ℕ) (y : X) → p y ≡ true →
+    filter p (insert xs i y) ≡ filter p (take i xs) ++ y ∷ filter p (drop i xs)
 filter-insert p xs i y e =
     filter-append p (take i xs) (y ∷ drop i xs) ∙ ap (λ l. filter p (take i xs) ++ l) (passes p y (drop i xs) e)
 
-pub filter-parts : {X : Type 0} (p : X → Bool) (xs : List X) (i : ℕ) → filter p xs ≡ filter p (take i xs) ++ filter p (drop i xs)
+pub filter-parts : {X : Type 0} (p : X → Bool) (xs : List X) (i : ℕ) →
+    filter p xs ≡ filter p (take i xs) ++ filter p (drop i xs)
 filter-parts p xs i = sym (ap (filter p) (take-append-drop i xs)) ∙ filter-append p (take i xs) (drop i xs)
 
 -- ## The split determines the list
 
 -- once the first cell is out of the list, and out of its queue
-behind_first : (queues : Queues) (x : Queued) (xs : List Queued) → ((j : ℕ) → queues j ≡ filter (is_for j) (x ∷ xs)) → (j : ℕ) → without_head x.cell.output queues j ≡ filter (is_for j) xs
+behind_first : (queues : Queues) (x : Queued) (xs : List Queued) → ((j : ℕ) → queues j ≡ filter (is_for j) (x ∷ xs)) →
+    (j : ℕ) → without_head x.cell.output queues j ≡ filter (is_for j) xs
 behind_first queues x xs same j =
     cond_both (is_for j x) (drop 1 (queues j)) (queues j) (λ l. l ≡ filter (is_for j) xs)
     (λ own. ap (drop 1) (same j ∙ passes (is_for j) x xs own))
     (λ other. same j ∙ fails (is_for j) x xs other)
 
-merged_queues : (cells : List Queued) (queues : Queues) → ((j : ℕ) → queues j ≡ filter (is_for j) cells) → merged (map (λ c. c.cell.output) cells) queues ≡ cells
+merged_queues : (cells : List Queued) (queues : Queues) → ((j : ℕ) → queues j ≡ filter (is_for j) cells) →
+    merged (map (λ c. c.cell.output) cells) queues ≡ cells
 merged_queues [] queues same = refl
 merged_queues (x ∷ xs) queues same =
-    let head : take 1 (queues x.cell.output) ≡ x ∷ [] = ap (take 1) (same x.cell.output ∙ passes (is_for x.cell.output) x xs (eq-eqb _ _ refl)) in
+    let head : take 1 (queues x.cell.output) ≡ x ∷ [] =
+    ap (take 1) (same x.cell.output ∙ passes (is_for x.cell.output) x xs (eq-eqb _ _ refl)) in
     let rest = merged_queues xs (without_head x.cell.output queues) (behind_first queues x xs same) in
-    ap (λ l. l ++ merged (map (λ (c : Queued). c.cell.output) xs) (without_head x.cell.output queues)) head ∙ ap (λ l. x ∷ l) rest
+    ap (λ l. l ++ merged (map (λ (c : Queued). c.cell.output) xs) (without_head x.cell.output queues)) head
+    ∙ ap (λ l. x ∷ l) rest
 
-pub merged_is : (places : List ℕ) (queues : Queues) (cells : List Queued) → IsSplit places queues cells → merged places queues ≡ cells
+pub merged_is : (places : List ℕ) (queues : Queues) (cells : List Queued) → IsSplit places queues cells →
+    merged places queues ≡ cells
 merged_is places queues cells s = ap (λ l. merged l queues) s.outputs ∙ merged_queues cells queues s.queued
 
 -- ## A cell that arrives
@@ -68,7 +75,9 @@ all_append : {X : Type 0} (P : X → Type 0) (xs ys : List X) → AllByRecursion
 all_append P [] ys a = a
 all_append P (x ∷ xs) ys a = all_append P xs ys a.1
 
-all_filtered : (c : Queued) (j : ℕ) (xs : List Queued) → c.cell.output ≡ j → AllByRecursion (λ x. c.cell.output ≡ x.cell.output → IsBefore c x) xs → AllByRecursion (IsBefore c) (filter (is_for j) xs)
+all_filtered : (c : Queued) (j : ℕ) (xs : List Queued) → c.cell.output ≡ j →
+    AllByRecursion (λ x. c.cell.output ≡ x.cell.output → IsBefore c x) xs → AllByRecursion (IsBefore c)
+    (filter (is_for j) xs)
 all_filtered c j [] own a = tt
 all_filtered c j (x ∷ xs) own a =
     cond_both (is_for j x) (x ∷ filter (is_for j) xs) (filter (is_for j) xs) (AllByRecursion (IsBefore c))
@@ -84,7 +93,8 @@ queue_rising j (x ∷ xs) order =
     (λ _. queue_rising j xs order.1)
 
 -- a rising queue without one of its cells, to which this cell comes again
-pub put_between : (before after : List Queued) (c : Queued) → IsRising (before ++ c ∷ after) → put c (before ++ after) ≡ before ++ c ∷ after
+pub put_between : (before after : List Queued) (c : Queued) → IsRising (before ++ c ∷ after) →
+    put c (before ++ after) ≡ before ++ c ∷ after
 put_between [] [] c rising = refl
 put_between [] (y ∷ after) c rising = ap (λ b. cond b (c ∷ y ∷ after) (y ∷ put c after)) rising.0.0
 put_between (x ∷ before) after c rising =
@@ -93,33 +103,41 @@ put_between (x ∷ before) after c rising =
     ∙ ap (λ l. x ∷ l) (put_between before after c rising.1)
 
 -- the cell's own queue, after its arrival
-own_arrived : (cushion : ℕ) (c : Queued) (xs : List Queued) (j : ℕ) → c.cell.output ≡ j → KeepsOrder xs → HasOtherKey c xs → MoreUrgentAhead cushion c xs → filter (is_for j) (with_arrival cushion c xs) ≡ put c (filter (is_for j) xs)
+own_arrived : (cushion : ℕ) (c : Queued) (xs : List Queued) (j : ℕ) → c.cell.output ≡ j → KeepsOrder xs →
+    HasOtherKey c xs → MoreUrgentAhead cushion c xs → filter (is_for j) (with_arrival cushion c xs) ≡ put c
+    (filter (is_for j) xs)
 own_arrived cushion c xs j own order other ahead =
     let at = place_of_arrival cushion c xs in
     let parts = filter-insert (is_for j) xs at c (eq-eqb c.cell.output j own) in
     let rising = queue_rising j (with_arrival cushion c xs) (keeps_order_arrival cushion c xs order other ahead) in
     parts
-    ∙ sym (put_between (filter (is_for j) (take at xs)) (filter (is_for j) (drop at xs)) c (subst IsRising parts rising))
+    ∙ sym (put_between (filter (is_for j) (take at xs)) (filter (is_for j) (drop at xs)) c
+    (subst IsRising parts rising))
     ∙ ap (put c) (sym (filter-parts (is_for j) xs at))
 
 -- the queues with one cell more
 abbrev pub with_queued : Queued → Queues → Queues
 with_queued c queues j = cond (is_for j c) (put c (queues j)) (queues j)
 
-pub map-insert : {X Y : Type 0} (f : X → Y) (xs : List X) (i : ℕ) (y : X) → map f (insert xs i y) ≡ insert (map f xs) i (f y)
+pub map-insert : {X Y : Type 0} (f : X → Y) (xs : List X) (i : ℕ) (y : X) →
+    map f (insert xs i y) ≡ insert (map f xs) i (f y)
 map-insert f xs i y =
     map-append f (take i xs) (y ∷ drop i xs)
     ∙ ap (λ l. l ++ f y ∷ map f (drop i xs)) (sym (take-map f i xs))
     ∙ ap (λ l. take i (map f xs) ++ f y ∷ l) (sym (drop-map f i xs))
 
-pub split_arrived : (places : List ℕ) (queues : Queues) (xs : List Queued) (cushion : ℕ) (c : Queued) → IsSplit places queues xs → KeepsOrder xs → HasOtherKey c xs → MoreUrgentAhead cushion c xs → IsSplit (insert places (place_of_arrival cushion c xs) c.cell.output) (with_queued c queues) (with_arrival cushion c xs)
+pub split_arrived : (places : List ℕ) (queues : Queues) (xs : List Queued) (cushion : ℕ) (c : Queued) →
+    IsSplit places queues xs → KeepsOrder xs → HasOtherKey c xs → MoreUrgentAhead cushion c xs → IsSplit
+    (insert places (place_of_arrival cushion c xs) c.cell.output) (with_queued c queues) (with_arrival cushion c xs)
 split_arrived places queues xs cushion c s order other ahead =
     let at = place_of_arrival cushion c xs in
     record {
-      outputs = ap (λ l. insert l at c.cell.output) s.outputs ∙ sym (map-insert (λ (x : Queued). x.cell.output) xs at c);
+      outputs = ap (λ l. insert l at c.cell.output) s.outputs
+          ∙ sym (map-insert (λ (x : Queued). x.cell.output) xs at c);
       queued = λ j.
           cond_both (is_for j c) (put c (queues j)) (queues j) (λ l. l ≡ filter (is_for j) (with_arrival cushion c xs))
-          (λ own. ap (put c) (s.queued j) ∙ sym (own_arrived cushion c xs j (eqb-true c.cell.output j own) order other ahead))
+          (λ own. ap (put c) (s.queued j) ∙ sym (own_arrived cushion c xs j
+          (eqb-true c.cell.output j own) order other ahead))
           (λ no. s.queued j ∙ sym (filter-insert-other (is_for j) xs at c no));
     }
 
@@ -140,73 +158,89 @@ own_left j (x ∷ xs) =
     (λ e. ap (drop 1) (sym (passes (is_for j) x xs e)))
     (λ e. fails (is_for j) x (without_first j xs) e ∙ own_left j xs ∙ ap (drop 1) (sym (fails (is_for j) x xs e)))
 
-other_left : (i j : ℕ) (xs : List Queued) → eqb j i ≡ false → filter (is_for i) (without_first j xs) ≡ filter (is_for i) xs
+other_left : (i j : ℕ) (xs : List Queued) → eqb j i ≡ false →
+    filter (is_for i) (without_first j xs) ≡ filter (is_for i) xs
 other_left i j [] ne = refl
 other_left i j (x ∷ xs) ne =
     cond_both (is_for j x) xs (x ∷ without_first j xs) (λ l. filter (is_for i) l ≡ filter (is_for i) (x ∷ xs))
     (λ e. sym (fails (is_for i) x xs (ap (λ o. eqb o i) (eqb-true x.cell.output j e) ∙ ne)))
     (λ _. ap (λ l. cond (is_for i x) (x ∷ l) l) (other_left i j xs ne))
 
-outputs_left : (j : ℕ) (xs : List Queued) → map (λ c. c.cell.output) (without_first j xs) ≡ remove (map (λ c. c.cell.output) xs) (position_or_len (is_output j) (map (λ c. c.cell.output) xs))
+outputs_left : (j : ℕ) (xs : List Queued) →
+    map (λ c. c.cell.output) (without_first j xs) ≡ remove (map (λ c. c.cell.output) xs)
+    (position_or_len (is_output j) (map (λ c. c.cell.output) xs))
 outputs_left j [] = refl
 outputs_left j (x ∷ xs) =
     let outputs : List Queued → List ℕ = map (λ c. c.cell.output) in
     let rest : ℕ = position_or_len (is_output j) (outputs xs) in
-    cond_both (is_for j x) xs (x ∷ without_first j xs) (λ l. outputs l ≡ remove (outputs (x ∷ xs)) (position_or_len (is_output j) (outputs (x ∷ xs))))
+    cond_both (is_for j x) xs (x ∷ without_first j xs)
+    (λ l. outputs l ≡ remove (outputs (x ∷ xs)) (position_or_len (is_output j) (outputs (x ∷ xs))))
     (λ e. ap (remove (outputs (x ∷ xs))) (sym (first_here (is_output j) x.cell.output (outputs xs) e)))
     (λ e.
-    let place : suc rest ≡ position_or_len (is_output j) (outputs (x ∷ xs)) = let later = first_later (is_output j) x.cell.output (outputs xs) e in omega arith in
+    let place : suc rest ≡ position_or_len (is_output j) (outputs (x ∷ xs)) = let later =
+    first_later (is_output j) x.cell.output (outputs xs) e in omega arith in
     ap (λ l. x.cell.output ∷ l) (outputs_left j xs) ∙ ap (remove (outputs (x ∷ xs))) place)
 
-pub split_left : (places : List ℕ) (queues : Queues) (xs : List Queued) (j : ℕ) → IsSplit places queues xs → IsSplit (remove places (position_or_len (is_output j) places)) (without_head j queues) (without_first j xs)
+pub split_left : (places : List ℕ) (queues : Queues) (xs : List Queued) (j : ℕ) → IsSplit places queues xs →
+    IsSplit (remove places (position_or_len (is_output j) places)) (without_head j queues) (without_first j xs)
 split_left places queues xs j s =
     record {
       outputs = ap (λ l. remove l (position_or_len (is_output j) l)) s.outputs ∙ sym (outputs_left j xs);
       queued = λ i.
           cond_both (eqb j i) (drop 1 (queues i)) (queues i) (λ l. l ≡ filter (is_for i) (without_first j xs))
-          (λ own. ap (drop 1) (s.queued i) ∙ sym (own_left i xs) ∙ ap (λ k. filter (is_for i) (without_first k xs)) (sym (eqb-true j i own)))
+          (λ own. ap (drop 1) (s.queued i) ∙ sym (own_left i xs)
+          ∙ ap (λ k. filter (is_for i) (without_first k xs)) (sym (eqb-true j i own)))
           (λ no. s.queued i ∙ sym (other_left i j xs no));
     }
 
 -- ## What is looked up
 
-pub position_or_len-map : {X Y : Type 0} (p : Y → Bool) (f : X → Y) (xs : List X) → position_or_len p (map f xs) ≡ position_or_len (λ x. p (f x)) xs
+pub position_or_len-map : {X Y : Type 0} (p : Y → Bool) (f : X → Y) (xs : List X) →
+    position_or_len p (map f xs) ≡ position_or_len (λ x. p (f x)) xs
 position_or_len-map p f [] = refl
 position_or_len-map p f (x ∷ xs) = ap (λ n. cond (not (p (f x))) (1 + n) 0) (position_or_len-map p f xs)
 
-pub length-filter-map : {X Y : Type 0} (p : Y → Bool) (f : X → Y) (xs : List X) → length (filter p (map f xs)) ≡ length (filter (λ x. p (f x)) xs)
+pub length-filter-map : {X Y : Type 0} (p : Y → Bool) (f : X → Y) (xs : List X) →
+    length (filter p (map f xs)) ≡ length (filter (λ x. p (f x)) xs)
 length-filter-map p f [] = refl
 length-filter-map p f (x ∷ xs) =
-    cond_both (p (f x)) (x ∷ filter (λ y. p (f y)) xs) (filter (λ y. p (f y)) xs) (λ l. length (filter p (map f (x ∷ xs))) ≡ length l)
+    cond_both (p (f x)) (x ∷ filter (λ y. p (f y)) xs) (filter (λ y. p (f y)) xs)
+    (λ l. length (filter p (map f (x ∷ xs))) ≡ length l)
     (λ e. ap length (passes p (f x) (map f xs) e) ∙ ap suc (length-filter-map p f xs))
     (λ e. ap length (fails p (f x) (map f xs) e) ∙ length-filter-map p f xs)
 
-pub later_is_nth : (places : List ℕ) (queues : Queues) (xs : List Queued) (c : Queued) → IsSplit places queues xs → place_of_later c xs ≡ place_of_nth (is_output c.cell.output) (position_or_len (λ x. is_before c.key x.key) (queues c.cell.output)) places
-later_is_nth places queues xs c s =
-    let j : ℕ = c.cell.output in
-    let more : Queued → Bool = λ x. is_before c.key x.key in
-    first_of_both (is_for j) more xs
-    ∙ sym (place_of_nth-map (is_output j) (λ (x : Queued). x.cell.output) (position_or_len more (filter (is_for j) xs)) xs)
-    ∙ ap (place_of_nth (is_output j) (position_or_len more (filter (is_for j) xs))) (sym s.outputs)
-    ∙ ap (λ l. place_of_nth (is_output j) (position_or_len more l) places) (sym (s.queued j))
+-- the first cell for an output that passes a test too, found in its queue
+pub both_is_nth :
+    (places : List ℕ) (queues : Queues) (xs : List Queued) (j : ℕ) (q : Queued → Bool) → IsSplit places queues xs →
+    position_or_len (λ x. is_for j x && q x) xs ≡ place_of_nth (is_output j) (position_or_len q (queues j)) places
+both_is_nth places queues xs j q s =
+    first_of_both (is_for j) q xs
+    ∙ sym (place_of_nth-map (is_output j) (λ (x : Queued). x.cell.output) (position_or_len q (filter (is_for j) xs)) xs)
+    ∙ ap (place_of_nth (is_output j) (position_or_len q (filter (is_for j) xs))) (sym s.outputs)
+    ∙ ap (λ l. place_of_nth (is_output j) (position_or_len q l) places) (sym (s.queued j))
 
 -- the cell at a place, in its queue
-own_at : (xs : List Queued) (i : ℕ) (c : Queued) → slice_get xs i ≡ Some c → slice_get (filter (is_for c.cell.output) xs) (length (filter (is_for c.cell.output) (take i xs))) ≡ Some c
+own_at : (xs : List Queued) (i : ℕ) (c : Queued) → slice_get xs i ≡ Some c →
+    slice_get (filter (is_for c.cell.output) xs) (length (filter (is_for c.cell.output) (take i xs))) ≡ Some c
 own_at [] i c h = cc
 own_at (x ∷ xs) zero c h =
     let same : x ≡ c = cc in
-    ap (λ l. slice_get l 0) (passes (is_for c.cell.output) x xs (eq-eqb _ _ (ap (λ (y : Queued). y.cell.output) same))) ∙ h
+    ap (λ l. slice_get l 0) (passes (is_for c.cell.output) x xs (eq-eqb _ _ (ap (λ (y : Queued). y.cell.output) same)))
+    ∙ h
 own_at (x ∷ xs) (suc i) c h = step (is_for c.cell.output x) _ _ (own_at xs i c h)
   where
-    step : (b : Bool) (all front : List Queued) → slice_get all (length front) ≡ Some c → slice_get (cond b (x ∷ all) all) (length (cond b (x ∷ front) front)) ≡ Some c
+    step : (b : Bool) (all front : List Queued) → slice_get all (length front) ≡ Some c →
+        slice_get (cond b (x ∷ all) all) (length (cond b (x ∷ front) front)) ≡ Some c
     step true all front e = e
     step false all front e = e
 
-pub cell_at : (places : List ℕ) (queues : Queues) (xs : List Queued) (i : ℕ) (c : Queued) → IsSplit places queues xs → slice_get xs i ≡ Some c → slice_get (queues c.cell.output) (count_of c.cell.output (take i places)) ≡ Some c
+pub cell_at : (places : List ℕ) (queues : Queues) (xs : List Queued) (i : ℕ) (c : Queued) → IsSplit places queues xs →
+    slice_get xs i ≡ Some c → slice_get (queues c.cell.output) (count_of c.cell.output (take i places)) ≡ Some c
 cell_at places queues xs i c s h =
     let j : ℕ = c.cell.output in
     ap (λ l. slice_get l (count_of j (take i places))) (s.queued j)
     ∙ ap (λ l. slice_get (filter (is_for j) xs) (count_of j (take i l))) s.outputs
     ∙ ap (λ l. slice_get (filter (is_for j) xs) (count_of j l)) (take-map (λ (x : Queued). x.cell.output) i xs)
-    ∙ ap (slice_get (filter (is_for j) xs)) (length-filter-map (is_output j) (λ (x : Queued). x.cell.output) (take i xs))
+    ∙ ap (slice_get (filter (is_for j) xs)) (length-filter-map (is_output j) (λ (x : Queued). x.cell.output)
+    (take i xs))
     ∙ own_at xs i c h

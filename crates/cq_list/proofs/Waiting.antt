@@ -6,7 +6,9 @@ use Rattle.cq_base.specs.Cells.{HasOtherKey, MoreUrgentAhead, without_first, pla
 use Rattle.cq_base.proofs.Lists.{all_insert, all_left, each_pair_left, keys_differ_insert, keeps_order_arrival}
 use Rattle.cq_list.specs.InputList.{AreWaiting}
 
-pub are_waiting_arrived : (outputs : ℕ) (cells : List Queued) (c : Queued) (cushion : ℕ) → AreWaiting outputs cells → c.cell.output < outputs → HasOtherKey c cells → MoreUrgentAhead cushion c cells → AreWaiting outputs (with_arrival cushion c cells)
+pub are_waiting_arrived : (outputs : ℕ) (cells : List Queued) (c : Queued) (cushion : ℕ) → AreWaiting outputs cells →
+    c.cell.output < outputs → HasOtherKey c cells → MoreUrgentAhead cushion c cells → AreWaiting outputs
+    (with_arrival cushion c cells)
 are_waiting_arrived outputs cells c cushion w inside other ahead =
     record {
       few = w.few;
@@ -15,7 +17,8 @@ are_waiting_arrived outputs cells c cushion w inside other ahead =
       keys_differ = keys_differ_insert cells (place_of_arrival cushion c cells) c w.keys_differ other;
     }
 
-pub are_waiting_left : (outputs : ℕ) (cells : List Queued) (j : ℕ) → AreWaiting outputs cells → AreWaiting outputs (without_first j cells)
+pub are_waiting_left : (outputs : ℕ) (cells : List Queued) (j : ℕ) → AreWaiting outputs cells →
+    AreWaiting outputs (without_first j cells)
 are_waiting_left outputs cells j w =
     record {
       few = w.few;

@@ -1,20 +1,17 @@
 -- A walk along a queue, node by node. Where it has come the rest of the chain begins at the place that it looks at, none
 -- of the cells behind it is less urgent, and it knows the place of the last of them.
-use Rattle.std.proofs.Common.{◌≡◌, ℕ, zero, suc, ◌+◌, ◌-◌, ◌<◌, ◌≤◌, true, false, List, [], ◌∷◌, length, drop, Some, sym, ap, ◌∙◌, arith, length-drop}
+use Rattle.std.proofs.Common.{◌≡◌, ℕ, zero, suc, ◌+◌, ◌-◌, ◌<◌, ◌≤◌, Bool, true, false, List, [], ◌∷◌, length, drop, Some, sym, ap, ◌∙◌, arith, length-drop}
 use Rattle.std.specs.Prelude.{slice_get}
 use Rattle.std.specs.Option.{option_map}
 use Rattle.std.specs.List.{position_or_len}
 use Rattle.std.proofs.lemmas.List.{drop-drop, drop_all, length-map}
 use Rattle.std.proofs.lemmas.Option.{slice_get-map}
 use Rattle.cq_base.specs.declared.cell.Queued.{Queued}
-use Rattle.cq_base.specs.declared.key.Key.{Key}
-use Rattle.cq_base.specs.Key.{is_before}
-use Rattle.cq_base.proofs.Lists.{first_here}
+use Rattle.cq_base.proofs.Lists.{first_here, first_inside}
 use Rattle.cq_list.specs.declared.pool.Node.{Node}
 use Rattle.cq_list.specs.declared.pool.Queue.{Queue}
 use Rattle.cq_list.specs.Pool.{Nodes, chain, linked, places, cells, EndsAt, IsChained}
 use Rattle.cq_list.proofs.Chain.{chain-at, begins}
-use Rattle.cq_list.proofs.Put.{is_later}
 use Rattle.cq_list.proofs.Search.{not_here, drop_shown}
 
 shown_at : {X : Type 0} (xs : List X) (i : ℕ) (x : X) (ys : List X) → drop i xs ≡ x ∷ ys → slice_get xs i ≡ Some x
@@ -30,7 +27,8 @@ HasReached nodes queue count place = drop count (linked nodes queue) ≡ chain n
 pub reached_first : (nodes : Nodes) (queue : Queue) → HasReached nodes queue 0 queue.first
 reached_first nodes queue = let all : queue.len ≡ queue.len - 0 = omega arith in ap (λ n. chain nodes n queue.first) all
 
-module _ (nodes : Nodes) (queue : Queue) (count place : ℕ) (had : IsChained nodes queue) (reached : HasReached nodes queue count place) (inside : count < queue.len) where
+module _ (nodes : Nodes) (queue : Queue) (count place : ℕ) (had : IsChained nodes queue)
+    (reached : HasReached nodes queue count place) (inside : count < queue.len) where
   left : queue.len - count ≡ suc (queue.len - (count + 1))
   left = omega arith
 
@@ -53,51 +51,73 @@ module _ (nodes : Nodes) (queue : Queue) (count place : ℕ) (had : IsChained no
     node_shown = shown_at (linked nodes queue) count _ _ rest_is
 
     pub cell_shown : slice_get (cells (linked nodes queue)) count ≡ Some node.queued
-    cell_shown = slice_get-map (λ (e : ℕ × Queued). e.1) (linked nodes queue) count ∙ ap (option_map (λ (e : ℕ × Queued). e.1)) node_shown
+    cell_shown = slice_get-map (λ (e : ℕ × Queued). e.1) (linked nodes queue) count
+        ∙ ap (option_map (λ (e : ℕ × Queued). e.1)) node_shown
 
 -- the head of a queue
-pub head_there : (nodes : Nodes) (queue : Queue) → IsChained nodes queue → 0 < queue.len → (node : Node) × (nodes queue.first ≡ Some node)
+pub head_there : (nodes : Nodes) (queue : Queue) → IsChained nodes queue → 0 < queue.len →
+    (node : Node) × (nodes queue.first ≡ Some node)
 head_there nodes queue had some = node_there nodes queue 0 queue.first had (reached_first nodes queue) some
 
-pub head_shown : (nodes : Nodes) (queue : Queue) (node : Node) → IsChained nodes queue → 0 < queue.len → nodes queue.first ≡ Some node → slice_get (cells (linked nodes queue)) 0 ≡ Some node.queued
-head_shown nodes queue node had some here = cell_shown nodes queue 0 queue.first had (reached_first nodes queue) some node here
+pub head_shown : (nodes : Nodes) (queue : Queue) (node : Node) → IsChained nodes queue → 0 < queue.len →
+    nodes queue.first ≡ Some node → slice_get (cells (linked nodes queue)) 0 ≡ Some node.queued
+head_shown nodes queue node had some here = cell_shown nodes queue 0 queue.first had
+    (reached_first nodes queue) some node here
 
--- and none of the cells behind it is less urgent, and it knows the place of the last of them
-pub record HasWalked (nodes : Nodes) (queue : Queue) (key : Key) (count last place : ℕ) : Type 0 where
+-- ## A search for the first cell that passes a test
+
+-- and none of the cells behind it passes
+pub record HasPassed (nodes : Nodes) (queue : Queue) (p : Queued → Bool) (count place : ℕ) : Type 0 where
   pub reached : HasReached nodes queue count place
-  pub behind : position_or_len (is_later key) (cells (linked nodes queue)) ≡ count + position_or_len (is_later key) (drop count (cells (linked nodes queue)))
-  pub ends : EndsAt (linked nodes queue) count last
+  pub behind : position_or_len p (cells (linked nodes queue))
+      ≡ count + position_or_len p (drop count (cells (linked nodes queue)))
 
-pub walk_starts : (nodes : Nodes) (queue : Queue) (key : Key) → HasWalked nodes queue key 0 queue.last queue.first
-walk_starts nodes queue key =
-    record { reached = reached_first nodes queue; behind = omega arith; ends = λ m is. absurd (omega arith) }
+pub search_starts : (nodes : Nodes) (queue : Queue) (p : Queued → Bool) → HasPassed nodes queue p 0 queue.first
+search_starts nodes queue p = record { reached = reached_first nodes queue; behind = omega arith }
 
-module _ (nodes : Nodes) (queue : Queue) (key : Key) (count last place : ℕ) (had : IsChained nodes queue) (walked : HasWalked nodes queue key count last place) (inside : count < queue.len) (node : Node) (here : nodes place ≡ Some node) where
+-- it looks at a node of the queue
+pub record LooksAt (nodes : Nodes) (queue : Queue) (p : Queued → Bool) (count place : ℕ) (node : Node) : Type 0 where
+  pub chained : IsChained nodes queue
+  pub passed : HasPassed nodes queue p count place
+  pub inside : count < queue.len
+  pub here : nodes place ≡ Some node
+
+module _ (nodes : Nodes) (queue : Queue) (p : Queued → Bool) (count place : ℕ) (node : Node)
+    (looks : LooksAt nodes queue p count place node) where
   shown : slice_get (cells (linked nodes queue)) count ≡ Some node.queued
-  shown = cell_shown nodes queue count place had walked.reached inside node here
+  shown = cell_shown nodes queue count place looks.chained looks.passed.reached looks.inside node looks.here
 
-  pub walk_ends : is_before key node.queued.key ≡ true → count ≡ position_or_len (is_later key) (cells (linked nodes queue))
-  walk_ends later =
-      let here = ap (position_or_len (is_later key)) (drop_shown (cells (linked nodes queue)) count node.queued shown) ∙ first_here (is_later key) node.queued (drop (count + 1) (cells (linked nodes queue))) later in
-      let behind = walked.behind in
+  pub search_ends : p node.queued ≡ true → count ≡ position_or_len p (cells (linked nodes queue))
+  search_ends passes =
+      let here =
+      ap (position_or_len p) (drop_shown (cells (linked nodes queue)) count node.queued shown)
+      ∙ first_here p node.queued (drop (count + 1) (cells (linked nodes queue))) passes in
+      let behind = looks.passed.behind in
       omega arith
 
-  pub walk_on : is_before key node.queued.key ≡ false → HasWalked nodes queue key (count + 1) place node.next
-  walk_on sooner =
+  pub search_on : p node.queued ≡ false → HasPassed nodes queue p (count + 1) node.next
+  search_on fails =
       record {
-        reached = reached_next nodes queue count place had walked.reached inside node here;
-        behind = not_here (is_later key) (cells (linked nodes queue)) count node.queued walked.behind shown sooner;
-        ends = λ m is.
-            let at : m ≡ count = omega arith in
-            ap (slice_get (places (linked nodes queue))) at
-            ∙ slice_get-map (λ (e : ℕ × Queued). e.0) (linked nodes queue) count
-            ∙ ap (option_map (λ (e : ℕ × Queued). e.0)) (node_shown nodes queue count place had walked.reached inside node here);
+        reached = reached_next nodes queue count place looks.chained looks.passed.reached looks.inside node looks.here;
+        behind = not_here p (cells (linked nodes queue)) count node.queued looks.passed.behind shown fails;
       }
 
-pub walked_all : (nodes : Nodes) (queue : Queue) (key : Key) (count last place : ℕ) → IsChained nodes queue → HasWalked nodes queue key count last place → queue.len ≤ count → count ≡ position_or_len (is_later key) (cells (linked nodes queue))
-walked_all nodes queue key count last place had walked past =
+  -- the place of its node is the last one behind which it goes on
+  pub ends_on : EndsAt (linked nodes queue) (count + 1) place
+  ends_on m is =
+      let at : m ≡ count = omega arith in
+      ap (slice_get (places (linked nodes queue))) at
+      ∙ slice_get-map (λ (e : ℕ × Queued). e.0) (linked nodes queue) count
+      ∙ ap (option_map (λ (e : ℕ × Queued). e.0))
+      (node_shown nodes queue count place looks.chained looks.passed.reached looks.inside node looks.here)
+
+pub searched_all :
+    (nodes : Nodes) (queue : Queue) (p : Queued → Bool) (count place : ℕ) → IsChained nodes queue →
+    HasPassed nodes queue p count place → queue.len ≤ count → queue.len ≡ position_or_len p (cells (linked nodes queue))
+searched_all nodes queue p count place had passed past =
     let many = length-map (linked nodes queue) (λ (e : ℕ × Queued). e.1) in
     let whole = had.whole in
-    let none = ap (position_or_len (is_later key)) (drop_all count (cells (linked nodes queue)) (omega arith)) in
-    let behind = walked.behind in
+    let none = ap (position_or_len p) (drop_all count (cells (linked nodes queue)) (omega arith)) in
+    let short = first_inside p (cells (linked nodes queue)) in
+    let behind = passed.behind in
     omega arith

@@ -1,22 +1,39 @@
 -- The places of a list, in blocks, and what clauses see of them.
-use Rattle.std.specs.Prelude.{◌≡◌, ℕ, ◌+◌, ◌<◌, ◌≤◌, List, [], length, take, slice_index_or}
-use Rattle.std.specs.List.{AllByRecursion, concat}
+use Rattle.std.specs.Prelude.{◌≡◌, ℕ, ◌+◌, ◌*◌, ◌<◌, ◌≤◌, List, [], ◌∷◌, ◌++◌, length, take, drop, remove, slice_set, slice_index_or}
+use Rattle.std.specs.List.{concat}
 
 -- the output of each place in order, and how many more places there is room for
 pub record PlacesView : Type 0 where
   pub outputs : List ℕ
   pub spare : ℕ
 
--- no block is empty
-abbrev pub HaveSome : List (List ℕ) → Type 0
-HaveSome blocks = AllByRecursion (λ block. 0 < length block) blocks
+-- each block but the last has at least 16 places, and the last has one at least
+abbrev pub AreFilled : List (List ℕ) → Type 0
+AreFilled [] = Unit {0}
+AreFilled (block ∷ []) = 0 < length block
+AreFilled (block ∷ next ∷ blocks) = (16 ≤ length block) × AreFilled (next ∷ blocks)
 
--- no block is empty, so there are no more blocks than places, and there is memory for as many as there is room for
+-- there is memory for the blocks of so many places and for one block more, each block but the last with 16 places
+abbrev pub HaveMemory : ℕ → ℕ → Type 0
+HaveMemory places capacity = places + 16 < 16 * capacity
+
+-- the blocks are filled, their places are counted and no more than there is room for, and there is memory for this room
 pub record AreBlocks (blocks : List (List ℕ)) (len room capacity : ℕ) : Type 0 where
-  pub some : HaveSome blocks
+  pub filled : AreFilled blocks
   pub counted : len ≡ length (concat blocks)
   pub fits : len ≤ room
-  pub memory : room ≤ capacity
+  pub memory : HaveMemory room capacity
+
+-- the blocks, where block i has the places of the next one too
+abbrev pub joined : List (List ℕ) → ℕ → List (List ℕ)
+joined blocks i =
+    slice_set (remove blocks (i + 1)) i (slice_index_or blocks i [] ++ slice_index_or blocks (i + 1) [])
+
+-- the blocks, where the first place of the block behind block i has gone over to it
+abbrev pub pulled : List (List ℕ) → ℕ → List (List ℕ)
+pulled blocks i =
+    slice_set (slice_set blocks (i + 1) (drop 1 (slice_index_or blocks (i + 1) []))) i
+    (slice_index_or blocks i [] ++ take 1 (slice_index_or blocks (i + 1) []))
 
 -- the block of a place, and where it stands in this block
 pub record IsSpot (blocks : List (List ℕ)) (place block within : ℕ) : Type 0 where

@@ -6,7 +6,8 @@ use arrayvec::ArrayVec;
 use cq_base::Port;
 use std::marker::Model;
 
-/// At most 64 places of a list, each with its output, and how many of them are each output's. Contracts see the outputs.
+/// At most 64 places of a list, each with its output, and how many of them are each output's. Contracts see the
+/// outputs.
 #[derive(Drop)]
 pub struct Block {
     places: ArrayVec<Port, 64>,
@@ -69,9 +70,11 @@ impl Block {
     }
 
     /// The output of a place.
+    #[tactic(auto, using(crate::proofs::Counts::in_range_at))]
     pub fn at(&self, place: usize) -> Port
         requires { place < length self.now }
-        ensures { slice_get self.now place ≡ Some result }
+        ensures output { slice_get self.now place ≡ Some result }
+        ensures in_range { result < 64 }
     {
         self.places.as_slice()[place]
     }
@@ -128,6 +131,16 @@ impl Block {
         let output = self.places.remove(place);
         self.counts[output as usize] -= 1;
         output
+    }
+
+    /// Puts the places of another block behind its own.
+    pub fn append(&mut self, more: &Block)
+        requires { length self.old + length more.now ≤ 64 }
+        ensures { self.new ≡ self.old ++ more.now }
+    {
+        'moved: for place in 0..more.len() {
+            self.insert(self.len(), more.at(place));
+        }
     }
 
     /// Takes the last 32 places of a full block out, into a block of their own.

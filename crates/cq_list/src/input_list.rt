@@ -1,5 +1,5 @@
 //! The list of cells that wait at one input.
-ghost use Rattle.std.specs.Prelude.{◌≡◌, ◌+◌, ◌<◌, ◌≤◌, ◌&&◌, [], Some, IfOk, length, position, slice_get, is_some, if◌then◌else◌};
+ghost use Rattle.std.specs.Prelude.{◌≡◌, ◌+◌, ◌<◌, ◌≤◌, ◌&&◌, [], Some, IfOk, length, position, slice_get, is_some, not, if◌then◌else◌};
 ghost use Rattle.std.specs.List.{position_or_len};
 ghost use Rattle.cq_base.specs.Key.{is_before};
 ghost use Rattle.cq_base.specs.Cells.{HasOtherKey, MoreUrgentAhead, is_for, has_id, first_for, without_first, with_arrival};
@@ -9,7 +9,7 @@ ghost use Rattle.cq_list.specs.InputList.{AreWaiting};
 
 use crate::places::Places;
 use crate::pool::Pool;
-use cq_base::{CellId, NoMemory, Port, Queued};
+use cq_base::{CellId, Key, NoMemory, Port, Queued};
 use std::alloc::Global;
 use std::marker::Model;
 
@@ -37,7 +37,8 @@ impl Model for InputList {
 // The place of an output that has so many of its places ahead, which is the end where it has no more of them.
 #[tactic(auto, using(crate::proofs::BlockWalk::nth_end))]
 fn place_behind(places: &Places, output: Port, ahead: usize, all: usize) -> usize
-    requires { all ≡ count_of output places.now.outputs }
+    requires all { all ≡ count_of output places.now.outputs }
+    requires some { ahead ≤ all }
     ensures { result ≡ place_of_nth (is_output output) ahead places.now.outputs }
 {
     if ahead == all {
@@ -117,16 +118,36 @@ impl InputList {
 
     /// How many cells stand ahead of the cell with this id, or None where no cell has it. Where several have
     /// it, this is the place of the first.
-    #[tactic(auto, using(crate::proofs::Search::found_here, crate::proofs::Search::not_here))]
     pub fn thread_of(&self, id: CellId) -> Option<u64>
         ensures { result ≡ position (has_id id) self.now.cells }
     {
-        'places: for place in 0..self.len() {
-            if self.at(place).cell.id == id {
-                return Some(place);
-            }
+        let mut place = self.places.len();
+        'outputs: for output in 0..self.outputs {
+            place = place.min(self.place_of_id(output, id));
         }
-        None
+        if place == self.places.len() {
+            return None;
+        }
+        Some(place as u64)
+    }
+
+    // The place of the first cell for an output that has this id, or the end.
+    fn place_of_id(&self, output: Port, id: CellId) -> usize
+        requires { output < self.now.outputs }
+        ensures { result ≡ position_or_len (λ x. is_for output x && has_id id x) self.now.cells }
+    {
+        let ahead = self.pool.ahead_of_id(output, id);
+        place_behind(&self.places, output, ahead, self.pool.len_of(output))
+    }
+
+    /// The place of the first cell for an output that is no more urgent than this key, or the end where there is none.
+    /// So it is the place of the cell that has the key, where a cell for the output has it.
+    pub fn place_of_key(&self, output: Port, key: Key) -> u64
+        requires { output < self.now.outputs }
+        ensures { result ≡ position_or_len (λ x. is_for output x && not (is_before x.key key)) self.now.cells }
+    {
+        let ahead = self.pool.ahead_of_key(output, key);
+        place_behind(&self.places, output, ahead, self.pool.len_of(output)) as u64
     }
 
     /// How many cells wait.
@@ -135,6 +156,14 @@ impl InputList {
         ensures waiting { AreWaiting self.now.outputs self.now.cells }
     {
         self.places.len() as u64
+    }
+
+    /// How many outputs there are: each cell is for one of them.
+    pub fn outputs(&self) -> u16
+        ensures outputs { result ≡ self.now.outputs }
+        ensures waiting { AreWaiting self.now.outputs self.now.cells }
+    {
+        self.outputs
     }
 
     /// The cell at a place, counted from 0.

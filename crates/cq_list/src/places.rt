@@ -1,8 +1,8 @@
 //! The outputs of the cells of a list, in order.
-ghost use Rattle.std.specs.Prelude.{◌≡◌, ◌+◌, ◌<◌, ◌≤◌, ◌++◌, ◌^◌, [], Some, IfOk, length, take, drop, insert, remove, slice_get, slice_set, slice_index_or, vec_len, vec_capacity};
+ghost use Rattle.std.specs.Prelude.{◌≡◌, ℕ, ◌+◌, ◌<◌, ◌≤◌, ◌++◌, ◌^◌, [], Some, IfOk, length, take, drop, insert, remove, slice_get, slice_set, slice_index_or, vec_len, vec_capacity};
 ghost use Rattle.std.specs.List.{AllByRecursion, position_or_len, concat};
 ghost use Rattle.cq_list.specs.Split.{is_output, place_of_nth, count_of};
-ghost use Rattle.cq_list.specs.Places.{IsSpot, HaveSome};
+ghost use Rattle.cq_list.specs.Places.{IsSpot, AreFilled, HaveMemory, joined, pulled};
 
 use crate::block::Block;
 use cq_base::{NoMemory, Port};
@@ -11,8 +11,10 @@ use std::marker::Model;
 
 /// The output of each place of a list. Contracts see the outputs, and how many more places there is room for.
 ///
-/// The places stand in blocks, none of which is empty. A place is found by the blocks' lengths and an output's by
-/// their counts, so a call reads two numbers of each block ahead and searches one block.
+/// The places stand in blocks of at most 64, and each block but the last has at least 16, so that memory for a block in
+/// 16 places is enough. A full block is split into two of 32, which 16 places or more have to leave before they are
+/// joined again. A place is found by the blocks' lengths and an output's by their counts: a call reads a number or two
+/// of each block ahead, and searches one block.
 #[derive(Drop)]
 pub struct Places {
     blocks: Vec<Block>,
@@ -56,22 +58,25 @@ fn spot_of(blocks: &[Block], place: usize) -> Spot
     unreachable!()
 }
 
-// The place of an output that has so many of its places ahead, or the number of places where there is none.
-fn place_in(blocks: &[Block], output: Port, ahead: usize) -> usize
-    requires { length (concat blocks.now) < 2 ^ 64 }
-    ensures { result ≡ place_of_nth (is_output output) ahead (concat blocks.now) }
+// The place of an output that has so many of its places ahead, and where it stands.
+fn find_nth(blocks: &[Block], output: Port, ahead: usize) -> (usize, Spot)
+    requires fits { length (concat blocks.now) < 2 ^ 64 }
+    requires there { ahead < count_of output (concat blocks.now) }
+    ensures place { result.0 ≡ place_of_nth (is_output output) ahead (concat blocks.now) }
+    ensures spot { IsSpot blocks.now result.0 result.1.block result.1.within }
 {
     let mut left = ahead;
     let mut first = 0;
-    'each: for places in blocks {
+    'each: for (block, places) in blocks.iter().enumerate() {
         let count = places.count(output);
         if left < count {
-            return first + places.place_of(output, left);
+            let within = places.place_of(output, left);
+            return (first + within, Spot { block, within });
         }
         left -= count;
         first += places.len();
     }
-    first
+    unreachable!()
 }
 
 // How many of the places ahead of this one are an output's.
@@ -109,11 +114,11 @@ fn in_halves(spot: Spot) -> Spot
 
 // Where a place stands in a block with room: a full block is split in two.
 fn spot_with_room(blocks: &mut Vec<Block>, place: usize) -> Spot
-    requires some { HaveSome blocks.old.items }
-    requires memory { length (concat blocks.old.items) < vec_capacity blocks.old }
+    requires filled { AreFilled blocks.old.items }
+    requires memory { HaveMemory (length (concat blocks.old.items)) (vec_capacity blocks.old) }
     requires inside { place < length (concat blocks.old.items) }
     ensures places { concat blocks.new.items ≡ concat blocks.old.items }
-    ensures some { HaveSome blocks.new.items }
+    ensures filled { AreFilled blocks.new.items }
     ensures spot { IsSpot blocks.new.items place result.block result.within }
     ensures room { length (slice_index_or blocks.new.items result.block []) < 64 }
     ensures capacity { vec_capacity blocks.new ≡ vec_capacity blocks.old }
@@ -128,34 +133,65 @@ fn spot_with_room(blocks: &mut Vec<Block>, place: usize) -> Spot
     in_halves(spot)
 }
 
-// A place at the end.
-fn append(blocks: &mut Vec<Block>, output: Port)
-    requires some { HaveSome blocks.old.items }
-    requires memory { length (concat blocks.old.items) < vec_capacity blocks.old }
+// A place at the end, in a block of its own behind a full one.
+fn push_block(blocks: &mut Vec<Block>, output: Port)
+    requires filled { AreFilled blocks.old.items }
+    requires full { (i : ℕ) → i + 1 ≡ length blocks.old.items → 64 ≤ length (slice_index_or blocks.old.items i []) }
+    requires memory { HaveMemory (length (concat blocks.old.items)) (vec_capacity blocks.old) }
     requires in_range { output < 64 }
     ensures places { concat blocks.new.items ≡ insert (concat blocks.old.items) (length (concat blocks.old.items)) output }
-    ensures some { HaveSome blocks.new.items }
+    ensures filled { AreFilled blocks.new.items }
+    ensures capacity { vec_capacity blocks.new ≡ vec_capacity blocks.old }
+{
+    let mut block = Block::new();
+    block.insert(0, output);
+    blocks.push_reserved(block);
+}
+
+// A place at the end, in the last block or behind it.
+fn append_behind(blocks: &mut Vec<Block>, last: usize, output: Port)
+    requires filled { AreFilled blocks.old.items }
+    requires last { last + 1 ≡ length blocks.old.items }
+    requires memory { HaveMemory (length (concat blocks.old.items)) (vec_capacity blocks.old) }
+    requires in_range { output < 64 }
+    ensures places { concat blocks.new.items ≡ insert (concat blocks.old.items) (length (concat blocks.old.items)) output }
+    ensures filled { AreFilled blocks.new.items }
+    ensures capacity { vec_capacity blocks.new ≡ vec_capacity blocks.old }
+{
+    let len = blocks[last].len();
+    if len < 64 {
+        let block = &mut blocks[last];
+        block.insert(len, output);
+        return;
+    }
+    push_block(blocks, output);
+}
+
+// A place at the end.
+fn append(blocks: &mut Vec<Block>, output: Port)
+    requires filled { AreFilled blocks.old.items }
+    requires memory { HaveMemory (length (concat blocks.old.items)) (vec_capacity blocks.old) }
+    requires in_range { output < 64 }
+    ensures places { concat blocks.new.items ≡ insert (concat blocks.old.items) (length (concat blocks.old.items)) output }
+    ensures filled { AreFilled blocks.new.items }
     ensures capacity { vec_capacity blocks.new ≡ vec_capacity blocks.old }
 {
     let count = blocks.len();
-    if count > 0 && blocks[count - 1].len() < 64 {
-        let last = &mut blocks[count - 1];
-        last.insert(last.len(), output);
+    if count == 0 {
+        push_block(blocks, output);
     } else {
-        let mut block = Block::new();
-        block.insert(0, output);
-        blocks.push_reserved(block);
+        append_behind(blocks, count - 1, output);
     }
 }
 
 // A place ahead of another one.
 fn insert_inside(blocks: &mut Vec<Block>, place: usize, output: Port)
-    requires some { HaveSome blocks.old.items }
-    requires memory { length (concat blocks.old.items) < vec_capacity blocks.old }
+    requires filled { AreFilled blocks.old.items }
+    requires memory { HaveMemory (length (concat blocks.old.items)) (vec_capacity blocks.old) }
     requires inside { place < length (concat blocks.old.items) }
     requires in_range { output < 64 }
     ensures places { concat blocks.new.items ≡ insert (concat blocks.old.items) place output }
-    ensures some { HaveSome blocks.new.items }
+    ensures filled { AreFilled blocks.new.items }
     ensures capacity { vec_capacity blocks.new ≡ vec_capacity blocks.old }
 {
     let spot = spot_with_room(blocks, place);
@@ -163,15 +199,68 @@ fn insert_inside(blocks: &mut Vec<Block>, place: usize, output: Port)
     block.insert(spot.within, output);
 }
 
-// A place taken out, with its block where it was the last one of it.
-fn remove_inside(blocks: &mut Vec<Block>, place: usize)
-    requires some { HaveSome blocks.old.items }
-    requires inside { place < length (concat blocks.old.items) }
-    ensures places { concat blocks.new.items ≡ remove (concat blocks.old.items) place }
-    ensures some { HaveSome blocks.new.items }
+// The places of the next block go over to the end of a block.
+fn join_next(blocks: &mut Vec<Block>, at: usize)
+    requires inside { at + 1 < length blocks.old.items }
+    requires fits { length (slice_index_or blocks.old.items at []) + length (slice_index_or blocks.old.items (at + 1) []) ≤ 64 }
+    ensures joined { blocks.new.items ≡ joined blocks.old.items at }
     ensures capacity { vec_capacity blocks.new ≡ vec_capacity blocks.old }
 {
-    let spot = spot_of(blocks, place);
+    let next = blocks.remove(at + 1);
+    blocks[at].append(&next);
+}
+
+// The first place of the next block goes over to the end of a block.
+fn pull_next(blocks: &mut Vec<Block>, at: usize)
+    requires inside { at + 1 < length blocks.old.items }
+    requires room { length (slice_index_or blocks.old.items at []) < 64 }
+    requires some { 0 < length (slice_index_or blocks.old.items (at + 1) []) }
+    ensures pulled { blocks.new.items ≡ pulled blocks.old.items at }
+    ensures capacity { vec_capacity blocks.new ≡ vec_capacity blocks.old }
+{
+    let output = blocks[at + 1].remove(0);
+    let block = &mut blocks[at];
+    block.insert(block.len(), output);
+}
+
+// A block that is as short as it may be gets the places of the next one, or the first of them where it has many.
+fn fill_up(blocks: &mut Vec<Block>, at: usize)
+    requires filled { AreFilled blocks.old.items }
+    requires inside { at < length blocks.old.items }
+    ensures places { concat blocks.new.items ≡ concat blocks.old.items }
+    ensures filled { AreFilled blocks.new.items }
+    ensures spot { (place within : ℕ) → IsSpot blocks.old.items place at within → IsSpot blocks.new.items place at within }
+    ensures longer { at + 1 < length blocks.new.items → 16 < length (slice_index_or blocks.new.items at []) }
+    ensures capacity { vec_capacity blocks.new ≡ vec_capacity blocks.old }
+{
+    let next = at + 1;
+    let count = blocks.len();
+    if next == count {
+        return;
+    }
+    let block = &blocks[at];
+    let len = block.len();
+    if len > 16 {
+        return;
+    }
+    let behind = &blocks[next];
+    let many = behind.len();
+    if many <= 32 {
+        join_next(blocks, at);
+    } else {
+        pull_next(blocks, at);
+    }
+}
+
+// A place taken out, with its block where it was the last one of all.
+fn remove_at(blocks: &mut Vec<Block>, place: usize, spot: Spot)
+    requires filled { AreFilled blocks.old.items }
+    requires spot { IsSpot blocks.old.items place spot.block spot.within }
+    ensures places { concat blocks.new.items ≡ remove (concat blocks.old.items) place }
+    ensures filled { AreFilled blocks.new.items }
+    ensures capacity { vec_capacity blocks.new ≡ vec_capacity blocks.old }
+{
+    fill_up(blocks, spot.block);
     let block = &mut blocks[spot.block];
     if block.len() == 1 {
         blocks.remove(spot.block);
@@ -187,7 +276,7 @@ impl Places {
         ensures spare { IfOk result (λ places. places.spare ≡ room) }
     {
         Ok(Places {
-            blocks: Vec::with_capacity(alloc, room as usize)?,
+            blocks: Vec::with_capacity(alloc, (room / 16 + 2) as usize)?,
             len: 0,
             room,
         })
@@ -217,12 +306,14 @@ impl Places {
         count_in(&self.blocks, output, place)
     }
 
-    /// The place of an output that has so many of its places ahead, or the number of places where there is none.
+    /// The place of an output that has so many of its places ahead.
     pub fn place_of(&self, output: Port, ahead: usize) -> usize
+        requires { ahead < count_of output self.now.outputs }
         ensures { result ≡ place_of_nth (is_output output) ahead self.now.outputs }
     {
         let _len = self.len;
-        place_in(&self.blocks, output, ahead)
+        let (place, _) = find_nth(&self.blocks, output, ahead);
+        place
     }
 
     /// Puts a place of an output in. It takes room for one place and no memory.
@@ -244,12 +335,13 @@ impl Places {
     /// Takes the first place of an output out, which gives its room back.
     #[tactic(auto, using(crate::proofs::Nth::nth_is_first))]
     pub fn remove_first(&mut self, output: Port)
-        requires { position_or_len (is_output output) self.old.outputs < length self.old.outputs }
+        requires { 0 < count_of output self.old.outputs }
         ensures outputs { self.new.outputs ≡ remove self.old.outputs (position_or_len (is_output output) self.old.outputs) }
         ensures spare { self.new.spare ≡ self.old.spare + 1 }
     {
-        let place = self.place_of(output, 0);
-        remove_inside(&mut self.blocks, place);
+        let _len = self.len;
+        let (place, spot) = find_nth(&self.blocks, output, 0);
+        remove_at(&mut self.blocks, place, spot);
         self.len -= 1;
     }
 }

@@ -1,12 +1,12 @@
 //! The cells that wait, in a queue for each output.
-ghost use Rattle.std.specs.Prelude.{◌≡◌, ◌≢◌, ℕ, ◌-◌, ◌+◌, ◌<◌, ◌≤◌, ◌==◌, ◌^◌, [], ◌∷◌, Some, IfOk, length, replicate, drop, insert, slice_get, slice_set, is_some, if◌then◌else◌};
+ghost use Rattle.std.specs.Prelude.{◌≡◌, ◌≢◌, ℕ, ◌-◌, ◌+◌, ◌<◌, ◌≤◌, ◌==◌, ◌^◌, [], ◌∷◌, Some, IfOk, IsTrue, length, replicate, drop, insert, slice_get, slice_set, is_some, not, if◌then◌else◌};
 ghost use Rattle.std.specs.List.{position_or_len};
 ghost use Rattle.cq_base.specs.Key.{is_before};
-ghost use Rattle.cq_base.specs.Cells.{IsRising, HasOtherKey, put};
+ghost use Rattle.cq_base.specs.Cells.{IsRising, HasOtherKey, has_id, put};
 ghost use Rattle.cq_list.specs.Pool.{queue_of, chain, linked, places, cells, EndsAt, IsChained, IsLinked, OthersStay};
 ghost use Rattle.slab.specs.Slab.{get, slab_len, HasRoomFor};
 
-use cq_base::{Key, NoMemory, Port, Queued};
+use cq_base::{CellId, Key, NoMemory, Port, Queued};
 use slab::Slab;
 use std::alloc::Global;
 use std::marker::Model;
@@ -64,17 +64,32 @@ fn precedes(key: Key, other: Key) -> bool
     key < other
 }
 
+// Whether the one key is no more urgent.
+fn is_no_sooner(key: Key, other: Key) -> bool
+    ensures { result ≡ not (is_before key other) }
+{
+    !precedes(key, other)
+}
+
+// Whether the two keys are one.
+#[tactic(auto, using(crate::proofs::Put::neither_sooner))]
+fn is_same(key: Key, other: Key) -> bool
+    ensures { IsTrue result → key ≡ other }
+{
+    is_no_sooner(key, other) && is_no_sooner(other, key)
+}
+
 // How many cells of a queue are more urgent, cell by cell.
 fn walk(nodes: &Slab<Node>, queue: Queue, key: Key) -> Ahead
     requires { IsChained (get nodes.now) queue }
-    ensures count { result.count ≡ position_or_len (λ x. is_before key x.key) (cells (linked (get nodes.now) queue)) }
+    ensures count { result.count ≡ position_or_len (λ x. not (is_before x.key key)) (cells (linked (get nodes.now) queue)) }
     ensures last { EndsAt (linked (get nodes.now) queue) result.count result.last }
 {
     let mut last = queue.last;
     let mut place = queue.first;
     'nodes: for count in 0..queue.len {
         let node = nodes[place];
-        if precedes(key, node.queued.key) {
+        if is_no_sooner(node.queued.key, key) {
             return Ahead { count, last };
         }
         last = place;
@@ -89,7 +104,7 @@ fn walk(nodes: &Slab<Node>, queue: Queue, key: Key) -> Ahead
 // The same, but a last cell that is more urgent tells it at once.
 fn ahead_of(nodes: &Slab<Node>, queue: Queue, key: Key) -> Ahead
     requires { IsChained (get nodes.now) queue }
-    ensures count { result.count ≡ position_or_len (λ x. is_before key x.key) (cells (linked (get nodes.now) queue)) }
+    ensures count { result.count ≡ position_or_len (λ x. not (is_before x.key key)) (cells (linked (get nodes.now) queue)) }
     ensures last { EndsAt (linked (get nodes.now) queue) result.count result.last }
 {
     if queue.len > 0 && precedes(nodes[queue.last].queued.key, key) {
@@ -99,6 +114,33 @@ fn ahead_of(nodes: &Slab<Node>, queue: Queue, key: Key) -> Ahead
         };
     }
     walk(nodes, queue, key)
+}
+
+// How many cells of a queue are more urgent. A last cell that has the key tells it at once too.
+fn count_ahead(nodes: &Slab<Node>, queue: Queue, key: Key) -> usize
+    requires { IsChained (get nodes.now) queue }
+    ensures { result ≡ position_or_len (λ x. not (is_before x.key key)) (cells (linked (get nodes.now) queue)) }
+{
+    if queue.len > 0 && is_same(nodes[queue.last].queued.key, key) {
+        return queue.len - 1;
+    }
+    ahead_of(nodes, queue, key).count
+}
+
+// How many cells of a queue stand ahead of the first one with an id, which are all where none has it.
+fn count_to(nodes: &Slab<Node>, queue: Queue, id: CellId) -> usize
+    requires { IsChained (get nodes.now) queue }
+    ensures { result ≡ position_or_len (has_id id) (cells (linked (get nodes.now) queue)) }
+{
+    let mut place = queue.first;
+    'nodes: for count in 0..queue.len {
+        let node = nodes[place];
+        if node.queued.cell.id == id {
+            return count;
+        }
+        place = node.next;
+    }
+    queue.len
 }
 
 // The cell of a queue that has so many ahead.
@@ -240,6 +282,22 @@ impl Pool {
         ensures { result ≡ length (queue_of self.now.queues output) }
     {
         self.queues[output as usize].len
+    }
+
+    /// How many cells of a queue are more urgent than a key.
+    pub fn ahead_of_key(&self, output: Port, key: Key) -> usize
+        requires { output < length self.now.queues }
+        ensures { result ≡ position_or_len (λ x. not (is_before x.key key)) (queue_of self.now.queues output) }
+    {
+        count_ahead(&self.nodes, self.queues[output as usize], key)
+    }
+
+    /// How many cells of a queue stand ahead of the first one with an id, which are all where none has it.
+    pub fn ahead_of_id(&self, output: Port, id: CellId) -> usize
+        requires { output < length self.now.queues }
+        ensures { result ≡ position_or_len (has_id id) (queue_of self.now.queues output) }
+    {
+        count_to(&self.nodes, self.queues[output as usize], id)
     }
 
     /// The cell of a queue that has so many ahead.

@@ -5,5 +5,7 @@ use Rattle.cq_list.proofs.pool.put_first.Goals as goal
 
 pub returns-clause-chained : goal.returns-clause-chained
 returns-clause-chained c =
-    chain_first (get c.args.nodes.now) _ c.args.queued.cell.output c.args.queue _ c.args.queued c.requires.linked c.insert_reserved.ensures.updates.changed
+    chain_first
+    (get c.args.nodes.now) _ c.args.queued.cell.output c.args.queue _ c.args.queued c.requires.linked
+    c.insert_reserved.ensures.updates.changed
     (still_there _ _ _ _ c.insert_reserved.ensures.was_vacant c.insert_reserved.ensures.updates)

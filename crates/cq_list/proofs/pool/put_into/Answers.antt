@@ -7,16 +7,23 @@ use Rattle.cq_list.proofs.pool.put_into.Goals as goal
 
 pub returns-then-ahead-eq0-clause-linked : goal.returns-then-ahead-eq0-clause-linked
 returns-then-ahead-eq0-clause-linked c =
-    linked_more (get c.args.nodes.now) _ _ c.args.queue _ c.args.ahead.count _ c.args.queued c.requires.linked refl c.requires.other_key c.requires.count
-    (c.put_first-first.ensures.chained ∙ ap (λ n. insert (linked (get c.args.nodes.now) c.args.queue) n (c.put_first-first.result, c.args.queued)) (sym c.if-ahead-eq0.true))
+    linked_more
+    (get c.args.nodes.now) _ _ c.args.queue _ c.args.ahead.count _ c.args.queued c.requires.linked refl
+    c.requires.other_key c.requires.count
+    (c.put_first-first.ensures.chained ∙ ap (λ n. insert (linked (get c.args.nodes.now) c.args.queue) n
+    (c.put_first-first.result, c.args.queued)) (sym c.if-ahead-eq0.true))
     refl c.last_of-last.ensures
 
 pub returns-clause-linked : goal.returns-clause-linked
 returns-clause-linked c =
-    linked_more (get c.args.nodes.now) _ _ c.args.queue _ c.args.ahead.count _ c.args.queued c.requires.linked refl c.requires.other_key c.requires.count
+    linked_more
+    (get c.args.nodes.now) _ _ c.args.queue _ c.args.ahead.count _ c.args.queued c.requires.linked refl
+    c.requires.other_key c.requires.count
     c.put_behind-place.ensures.chained refl c.last_of-last-2.ensures
 
 pub returns-clause-cells : goal.returns-clause-cells
 returns-clause-cells c =
-    cells_more (get c.args.nodes.now) _ _ c.args.queue _ c.args.ahead.count _ c.args.queued c.requires.linked refl c.requires.other_key c.requires.count
+    cells_more
+    (get c.args.nodes.now) _ _ c.args.queue _ c.args.ahead.count _ c.args.queued c.requires.linked refl
+    c.requires.other_key c.requires.count
     c.put_behind-place.ensures.chained refl c.last_of-last-2.ensures

@@ -1,16 +1,45 @@
-use Rattle.std.proofs.Common.{◌∙◌, sym, ap, is_some}
-use Rattle.cq_list.proofs.Walk.{node_there, walk_ends, walk_on}
+use Rattle.std.proofs.Common.{◌∙◌, sym, ap, is_some, arith}
+use Rattle.slab.specs.Slab.{get}
+use Rattle.cq_list.proofs.Put.{is_no_sooner}
+use Rattle.cq_list.proofs.Walk.{node_there, search_starts, search_ends, search_on, ends_on, searched_all}
 use Rattle.cq_list.proofs.pool.walk.Goals as goal
 
-pub index-node-requires : goal.index-node-requires
-index-node-requires c =
-    let there = node_there _ _ _ _ c.requires c.nodes.invariant.reached c.nodes-test.true in
-    ap is_some there.1
+pub nodes-init : goal.nodes-init
+nodes-init c = (search_starts _ _ _, λ m is. absurd (omega arith))
 
-pub returns-then-precedes-clause-count : goal.returns-then-precedes-clause-count
-returns-then-precedes-clause-count c =
-    walk_ends _ _ _ _ _ _ c.requires c.nodes.invariant c.nodes-test.true _ c.index-node.ensures (sym c.precedes.ensures ∙ c.if-precedes.true)
+pub index-node-requires : goal.index-node-requires
+index-node-requires c = ap is_some (node_there _ _ _ _ c.requires c.nodes.invariant.0.reached c.nodes-test.true).1
+
+pub returns-then-is_no_sooner-clause-count : goal.returns-then-is_no_sooner-clause-count
+returns-then-is_no_sooner-clause-count c = search_ends (get c.args.nodes.now) c.args.queue
+    (is_no_sooner c.args.key) _ _ _ (record {
+      chained = c.requires;
+      passed = c.nodes.invariant.0;
+      inside =
+          c.nodes-test.true;
+      here = c.index-node.ensures;
+    }) (sym c.is_no_sooner.ensures ∙ c.if-is_no_sooner.true)
 
 pub nodes-preserved : goal.nodes-preserved
-nodes-preserved c =
-    walk_on _ _ _ _ _ _ c.requires c.nodes.invariant c.nodes-test.true _ c.index-node.ensures (sym c.precedes.ensures ∙ c.if-precedes.false)
+nodes-preserved c = (
+  search_on (get c.args.nodes.now) c.args.queue (is_no_sooner c.args.key) _ _ _
+      (record {
+        chained = c.requires;
+        passed = c.nodes.invariant.0;
+        inside = c.nodes-test.true;
+        here =
+            c.index-node.ensures;
+      }) (sym c.is_no_sooner.ensures ∙ c.if-is_no_sooner.false),
+  ends_on
+      (get c.args.nodes.now) c.args.queue (is_no_sooner c.args.key) _ _ _
+      (record {
+        chained = c.requires;
+        passed = c.nodes.invariant.0;
+        inside = c.nodes-test.true;
+        here =
+            c.index-node.ensures;
+      }),
+)
+
+pub returns-clause-count : goal.returns-clause-count
+returns-clause-count c = searched_all _ _ _ _ _ c.requires c.nodes.invariant.0 c.nodes-test.false

@@ -5,7 +5,8 @@ use Rattle.cq_list.proofs.tests.depart.Goals as goal
 
 pub returns-clause-arrived : goal.returns-clause-arrived
 returns-clause-arrived c =
-    subst (ArrivedBefore (c.args.slot + 1)) (sym c.take.ensures.cells) (arrived_left c.args.slot c.args.output c.args.list.now.cells c.requires)
+    subst (ArrivedBefore (c.args.slot + 1)) (sym c.take.ensures.cells)
+    (arrived_left c.args.slot c.args.output c.args.list.now.cells c.requires)
 
 pub returns-clause-room : goal.returns-clause-room
 returns-clause-room c =

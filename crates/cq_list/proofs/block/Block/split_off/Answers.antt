@@ -7,7 +7,8 @@ pub moved-preserved : goal.moved-preserved
 moved-preserved c =
     let whole = ap length c.moved.invariant.0 ∙ length-append c.moved.self c.moved.back in
     let last : c.len.result - 1 + 1 ≡ length c.moved.self =
-    let len = c.len.ensures.len in let full = c.requires in let moved = c.moved.invariant.1 in let early = c.moved-test.true in omega arith in (
+    let len = c.len.ensures.len in let full = c.requires in let moved = c.moved.invariant.1 in
+    let early = c.moved-test.true in omega arith in (
       c.moved.invariant.0
           ∙ sym (moved_over c.moved.self c.moved.back _ _ last c.remove-output.ensures.output)
           ∙ ap (λ l. l ++ insert c.moved.back 0 c.remove-output.result) (sym c.remove-output.ensures.rest)

@@ -16,4 +16,5 @@ pub returns : goal.returns
 returns c =
     let had = seen _ _ _ _ c.self.invariant c.self.view_is in
     let there = shown _ _ _ _ had c.args.place c.at-output.result c.at-output.ensures in
-    there.2 ∙ sym there.1 ∙ ap (slice_get (queue_of c.self.inside.pool.queues c.at-output.result)) (sym c.count_ahead-ahead.ensures) ∙ c.at.ensures
+    there.2 ∙ sym there.1 ∙ ap (slice_get (queue_of c.self.inside.pool.queues c.at-output.result))
+    (sym c.count_ahead-ahead.ensures) ∙ c.at.ensures

@@ -2,30 +2,34 @@ use Rattle.std.proofs.Common.{◌∙◌, ◌≡◌, sym, arith}
 use Rattle.cq_base.specs.Cells.{without_first}
 use Rattle.cq_base.proofs.Lists.{taken_none}
 use Rattle.cq_list.specs.InputList.{StandFor}
-use Rattle.cq_list.proofs.Kept.{seen, kept, cells_are, position-none, place_inside, first_is, left}
+use Rattle.cq_list.proofs.Kept.{seen, kept, cells_are, position-none, some_places, first_is, left}
 use Rattle.cq_list.proofs.input_list.InputList.take.Goals as goal
 
 pub returns-in-None-clause-first : goal.returns-in-None-clause-first
 returns-in-None-clause-first c =
     let had = seen _ _ _ _ c.self.invariant c.self.view_is in
-    (taken_none c.args.output c.args.self.now.cells (position-none _ _ _ _ had c.args.output (sym c.first.ensures ∙ c.in-None.is))).0
+    (taken_none c.args.output c.args.self.now.cells
+    (position-none _ _ _ _ had c.args.output (sym c.first.ensures ∙ c.in-None.is))).0
 
 pub returns-in-None-clause-cells : goal.returns-in-None-clause-cells
 returns-in-None-clause-cells c =
     let had = seen _ _ _ _ c.self.invariant c.self.view_is in
-    (taken_none c.args.output c.args.self.now.cells (position-none _ _ _ _ had c.args.output (sym c.first.ensures ∙ c.in-None.is))).1
+    (taken_none c.args.output c.args.self.now.cells
+    (position-none _ _ _ _ had c.args.output (sym c.first.ensures ∙ c.in-None.is))).1
 
 pub remove_first-requires : goal.remove_first-requires
 remove_first-requires c =
     let had = seen _ _ _ _ c.self.invariant c.self.view_is in
-    place_inside _ _ _ _ had c.args.output _ (sym c.first.ensures ∙ c.in-Some.is)
+    some_places _ _ _ _ had c.args.output _ (sym c.first.ensures ∙ c.in-Some.is)
 
 -- what the new places and the new pool stand for
-now : (c : goal.After-take) → StandFor c.self.inside.outputs c.remove_first.new.self c.take.new.self (without_first c.args.output c.args.self.now.cells)
+now : (c : goal.After-take) → StandFor c.self.inside.outputs c.remove_first.new.self c.take.new.self
+    (without_first c.args.output c.args.self.now.cells)
 now c =
     let had = seen _ _ _ _ c.self.invariant c.self.view_is in
     let spare : c.remove_first.new.self.spare ≡ c.take.new.self.spare =
-    let same = had.spare in let places = c.remove_first.ensures.spare in let pool = c.take.ensures.spare in omega arith in
+    let same = had.spare in let places = c.remove_first.ensures.spare in let pool = c.take.ensures.spare in
+    omega arith in
     left _ _ _ _ had c.args.output _ _ _ c.take.ensures.first c.remove_first.ensures.outputs c.take.ensures.queues spare
 
 pub invariant_of-self : goal.invariant_of-self

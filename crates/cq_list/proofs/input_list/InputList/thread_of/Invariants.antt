@@ -1,8 +1,8 @@
-use Rattle.std.proofs.Common.{◌≡◌, ◌+◌, drop}
+use Rattle.std.proofs.Common.{◌≡◌}
 use Rattle.std.specs.List.{position_or_len}
-use Rattle.cq_base.specs.Cells.{has_id}
+use Rattle.cq_list.proofs.Least.{is_below}
 use Rattle.cq_list.proofs.input_list.InputList.thread_of.Given as goal
 
--- the cells that are left give the rest of the answer
-abbrev pub invariant-places : goal.invariant-places
-invariant-places l = position_or_len (has_id l.id) l.self.cells ≡ l.place + position_or_len (has_id l.id) (drop l.place l.self.cells)
+-- the cells for the outputs so far have the id first at this place
+abbrev pub invariant-outputs : goal.invariant-outputs
+invariant-outputs l = l.place ≡ position_or_len (is_below l.id l.output) l.self.cells

@@ -1,23 +1,27 @@
-use Rattle.std.proofs.Common.{◌<◌, ap, length, arith}
+use Rattle.std.proofs.Common.{◌≡◌, ◌<◌, ◌∙◌, ap, length, arith}
 use Rattle.std.specs.List.{concat}
 use Rattle.std.proofs.lemmas.List.Edits.{length-remove}
-use Rattle.cq_list.specs.Split.{is_output}
+use Rattle.cq_list.specs.Split.{is_output, count_of, place_of_nth}
 use Rattle.cq_list.specs.Places.{PlacesView}
-use Rattle.cq_list.proofs.Nth.{nth_is_first}
+use Rattle.cq_list.proofs.Nth.{nth_inside}
 use Rattle.cq_list.proofs.places.Places.remove_first.Goals as goal
 
 pub invariant_of-self : goal.invariant_of-self
 invariant_of-self c =
-    let outputs = ap (λ (v : PlacesView). length v.outputs) c.self.view_is in
-    let first = nth_is_first (is_output c.args.output) c.args.self.now.outputs in
-    let place = c.place_of-place.ensures in let there = c.requires in
-    let inside : c.place_of-place.result < length (concat c.self.inside.blocks.items) = omega arith in
-    let less = length-remove (concat c.self.inside.blocks.items) c.place_of-place.result inside in
-    let left = ap length c.remove_inside.ensures.places in
-    let counted = c.self.invariant.counted in let fits = c.self.invariant.fits in
+    let all = concat c.self.inside.blocks.items in
+    let counts = ap (λ (v : PlacesView). count_of c.args.output v.outputs) c.self.view_is in
+    let there : 0 < count_of c.args.output all = let there = c.requires in omega arith in
+    let early = nth_inside (is_output c.args.output) 0 all there in
+    let place : c.find_nth-place.result.0 ≡ place_of_nth (is_output c.args.output) 0 all =
+    c.find_nth-place.ensures.place ∙ ap (λ l. place_of_nth (is_output c.args.output) 0
+    (concat l)) c.deref.ensures.value in
+    let less = length-remove all c.find_nth-place.result.0 (omega arith) in
+    let left = ap length c.remove_at.ensures.places in
+    let counted = c.self.invariant.counted in
+    let fits = c.self.invariant.fits in
     record {
-      some = c.remove_inside.ensures.some;
+      filled = c.remove_at.ensures.filled;
       counted = omega arith;
       fits = omega arith;
-      memory = let memory = c.self.invariant.memory in let same = c.remove_inside.ensures.capacity in omega arith;
+      memory = let memory = c.self.invariant.memory in let same = c.remove_at.ensures.capacity in omega arith;
     }

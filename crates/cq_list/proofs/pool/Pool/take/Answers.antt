@@ -12,22 +12,28 @@ use Rattle.cq_list.proofs.pool.Pool.take.Goals as goal
 pub remove-node-requires : goal.remove-node-requires
 remove-node-requires c =
     let view = ap (λ (v : PoolView). v.queues) c.self.view_is in
-    let read = is_read _ _ _ _ _ c.self.invariant.linked view (inside_seen _ _ _ c.args.output view (inside_some _ c.args.output 0 c.requires)) c.index-queue.ensures in
-    let some : 0 < c.index-queue.result.now.len = let many = as_many _ _ _ _ _ read in let some = c.requires in omega arith in
+    let read = is_read _ _ _ _ _ c.self.invariant.linked view
+    (inside_seen _ _ _ c.args.output view (inside_some _ c.args.output 0 c.requires)) c.index-queue.ensures in
+    let some : 0 < c.index-queue.result.now.len = let many = as_many _ _ _ _ _ read in let some = c.requires in
+    omega arith in
     ap is_some (head_there _ _ read.is_linked.chained some).1
 
 -- what is known of the queue, where its head is out
 record Taken (c : goal.After-result-1) : Type 0 where
-  read : IsRead (get c.self.inside.nodes) c.self.inside.queues.items c.args.self.now.queues c.args.output c.index-queue.result.now
+  read : IsRead
+      (get c.self.inside.nodes) c.self.inside.queues.items c.args.self.now.queues c.args.output c.index-queue.result.now
   some : c.index-queue.result.now.len ≡ c.index-queue.result.now.len - 1 + 1
-  others : (i : ℕ) (m : Node) → get c.self.inside.nodes i ≡ Some m → i ≢ c.index-queue.result.now.first → get c.remove-node.new.self i ≡ Some m
+  others : (i : ℕ) (m : Node) → get c.self.inside.nodes i ≡ Some m → i ≢ c.index-queue.result.now.first →
+      get c.remove-node.new.self i ≡ Some m
   stay : OthersStay c.args.output (get c.self.inside.nodes) (get c.remove-node.new.self)
 
 taken : (c : goal.After-result-1) → Taken c
 taken c =
     let view = ap (λ (v : PoolView). v.queues) c.self.view_is in
-    let read = is_read _ _ _ _ _ c.self.invariant.linked view (inside_seen _ _ _ c.args.output view (inside_some _ c.args.output 0 c.requires)) c.index-queue.ensures in
-    let some : c.index-queue.result.now.len ≡ c.index-queue.result.now.len - 1 + 1 = let many = as_many _ _ _ _ _ read in let some = c.requires in omega arith in
+    let read = is_read _ _ _ _ _ c.self.invariant.linked view
+    (inside_seen _ _ _ c.args.output view (inside_some _ c.args.output 0 c.requires)) c.index-queue.ensures in
+    let some : c.index-queue.result.now.len ≡ c.index-queue.result.now.len - 1 + 1 = let many =
+    as_many _ _ _ _ _ read in let some = c.requires in omega arith in
     let own = head_own _ _ _ _ _ read.is_linked some c.remove-node.ensures.value in
     record {
       read = read;
@@ -42,7 +48,8 @@ invariant_of-self c =
     let len = c.remove-node.ensures.len in
     let fits = c.self.invariant.fits in
     let some = t.some in
-    is_pool_changed c.self.inside.nodes c.remove-node.new.self _ c.self.inside.room c.self.inside.queues.items c.index-queue.result.now _ c.self.invariant t.read.inside c.index-queue.ensures t.stay
+    is_pool_changed c.self.inside.nodes c.remove-node.new.self _ c.self.inside.room c.self.inside.queues.items
+    c.index-queue.result.now _ c.self.invariant t.read.inside c.index-queue.ensures t.stay
     (linked_less _ _ _ _ _ _ t.read.is_linked t.some c.remove-node.ensures.value t.others)
     (omega arith) (omega arith) c.remove-node.ensures.capacity
 
@@ -56,6 +63,7 @@ returns-clause-first c =
 pub returns-clause-queues : goal.returns-clause-queues
 returns-clause-queues c =
     let t = taken c in
-    view_changed c.self.inside.nodes c.remove-node.new.self _ c.self.inside.room c.self.inside.queues.items c.index-queue.result.now _ c.self.invariant t.read.inside c.index-queue.ensures t.stay
+    view_changed c.self.inside.nodes c.remove-node.new.self _ c.self.inside.room c.self.inside.queues.items
+    c.index-queue.result.now _ c.self.invariant t.read.inside c.index-queue.ensures t.stay
     c.args.self.now.queues (drop 1) t.read.view
     (sym (ap (drop 1) (cells_less _ _ _ _ _ _ t.read.is_linked t.some c.remove-node.ensures.value t.others)))
