@@ -1,18 +1,16 @@
--- Halving finds how many cells have a lesser key, and where the first stands that has a greater one. The cells stand in
--- the order of keys. So where a cell has a lesser key, all cells before it have one too, and where a cell has no greater
--- key, none before it has. Each of these two tests is thus passed by the first cells and by no others, and halving finds
--- the point where they end. As many cells pass as stand before the point, and at the point stands the first that does
--- not pass.
-use Rattle.std.proofs.Common.{◌≡◌, ℕ, zero, suc, ◌≤◌, Bool, true, false, not, cond, List, [], ◌∷◌, length, get_or, filter, sym, ap, ◌∙◌, inl, inr, subst, ⊎_elim, arith}
-use Rattle.std.specs.List.{position_or_len}
+-- How many cells have a lesser key, and that halving finds it. The cells stand in the order of keys. So where a cell has
+-- a lesser key, all cells before it have one too. The test is thus passed by the first cells and by no others, and halving
+-- finds the point where they end. As many cells pass as stand before the point.
+use Rattle.std.proofs.Common.{◌≡◌, ℕ, zero, suc, ◌+◌, ◌≤◌, Bool, true, false, cond, List, [], ◌∷◌, ◌++◌, length, get_or, filter, refl, sym, ap, ◌∙◌, inl, inr, subst, length-append, arith}
+use Rattle.std.specs.List.{AllByRecursion}
 use Rattle.std.specs.List.Sorted.{IsPartitionPoint, IsPartitionedBy}
-use Rattle.std.proofs.lemmas.Bool.{cases_Bool, cases_eq}
-use Rattle.std.proofs.lemmas.List.Sums.{prefix_len_is}
+use Rattle.std.proofs.lemmas.Bool.{cases_eq, cond_both}
+use Rattle.std.proofs.lemmas.List.Elements.{filter-append}
 use Rattle.std.proofs.lemmas.Option.{slice_get-get_or}
 use Rattle.cq_base.specs.declared.key.Key.{Key}
 use Rattle.cq_base.specs.declared.cell.Queued.{Queued}
 use Rattle.cq_base.specs.Key.{is_before}
-use Rattle.cq_base.specs.Cells.{IsBefore, IsRising}
+use Rattle.cq_base.specs.Cells.{IsBefore, IsRising, cushion}
 use Rattle.cq_base.proofs.Keys.{key_laws}
 use Rattle.cq_base.proofs.Lists.{each_pair_at}
 
@@ -28,16 +26,6 @@ parts_rising p back xs r i j d le lt e =
 pub lesser_part : (key : Key) (xs : List Queued) → IsRising xs → IsPartitionedBy (λ x. is_before x.key key) xs
 lesser_part key = parts_rising (λ x. is_before x.key key) (λ a b before e. key_laws.on a.key b.key key before e)
 
--- and so do those of no greater key
-pub no_greater_part : (key : Key) (xs : List Queued) → IsRising xs → IsPartitionedBy (λ x. not (is_before key x.key)) xs
-no_greater_part key =
-    parts_rising (λ x. not (is_before key x.key))
-    (λ a b before e.
-    ⊎_elim
-    (λ greater. let on = key_laws.on key a.key b.key greater before in let P : ⊥ = cc in absurd P)
-    (ap not)
-    (cases_Bool (is_before key a.key)))
-
 -- as many pass as stand before the point
 pub passed_at_point : {X : Type 0} (p : X → Bool) (xs : List X) (n : ℕ) → n ≤ length xs → IsPartitionPoint (λ x. p x ≡ true) (λ x. p x ≡ false) xs n → n ≡ length (filter p xs)
 passed_at_point p [] n few point = omega arith
@@ -48,7 +36,33 @@ passed_at_point p (x ∷ xs) (suc n) few point =
     let rest = passed_at_point p xs n (omega arith) ((λ k d from to. point.0 (suc k) d (omega arith) (omega arith)), (λ k d from to. point.1 (suc k) d (omega arith) (omega arith))) in
     ap suc rest ∙ ap (λ b. length (cond b (x ∷ filter p xs) (filter p xs))) (sym (point.0 zero x (omega arith) (omega arith)))
 
--- at the point of those that fail p stands the first that passes it
-pub first_at_point : {X : Type 0} (p : X → Bool) (xs : List X) (n : ℕ) → n ≤ length xs → IsPartitionPoint (λ x. not (p x) ≡ true) (λ x. not (p x) ≡ false) xs n → n ≡ position_or_len p xs
-first_at_point p [] n few point = omega arith
-first_at_point p (x ∷ xs) n few point = sym (prefix_len_is (λ y. not (p y)) (x ∷ xs) n x few (λ k l. point.0 k x (omega arith) l) (λ l. point.1 n x (omega arith) l))
+-- ## How many pass
+
+passes_more : {X : Type 0} (p : X → Bool) (x : X) (xs : List X) → p x ≡ true → length (filter p (x ∷ xs)) ≡ suc (length (filter p xs))
+passes_more p x xs e = ap (λ b. length (cond b (x ∷ filter p xs) (filter p xs))) e
+
+fails_more : {X : Type 0} (p : X → Bool) (x : X) (xs : List X) → p x ≡ false → length (filter p (x ∷ xs)) ≡ length (filter p xs)
+fails_more p x xs e = ap (λ b. length (cond b (x ∷ filter p xs) (filter p xs))) e
+
+pub cushion-append : (key : Key) (xs ys : List Queued) → cushion key (xs ++ ys) ≡ cushion key xs + cushion key ys
+cushion-append key xs ys =
+    let test : Queued → Bool = λ x. is_before x.key key in
+    ap length (filter-append test xs ys) ∙ length-append (filter test xs) (filter test ys)
+
+pub cushion_le : (key : Key) (xs : List Queued) → cushion key xs ≤ length xs
+cushion_le key [] = omega arith
+cushion_le key (x ∷ xs) =
+    let test : Queued → Bool = λ y. is_before y.key key in
+    let rest = cushion_le key xs in
+    cond_both (is_before x.key key) (x ∷ filter test xs) (filter test xs) (λ l. length l ≤ length (x ∷ xs)) (λ _. omega arith) (λ _. omega arith)
+
+pub cushion_all : (key : Key) (xs : List Queued) → AllByRecursion (λ x. is_before x.key key ≡ true) xs → cushion key xs ≡ length xs
+cushion_all key [] a = refl
+cushion_all key (x ∷ xs) a = passes_more (λ y. is_before y.key key) x xs a.0 ∙ ap suc (cushion_all key xs a.1)
+
+pub cushion_none : (key : Key) (xs : List Queued) → AllByRecursion (λ x. is_before x.key key ≡ false) xs → cushion key xs ≡ 0
+cushion_none key [] a = refl
+cushion_none key (x ∷ xs) a = fails_more (λ y. is_before y.key key) x xs a.0 ∙ cushion_none key xs a.1
+
+pub cushion_first : (key : Key) (x : Queued) (xs : List Queued) → is_before x.key key ≡ true → cushion key (x ∷ xs) ≡ suc (cushion key xs)
+cushion_first key x xs e = passes_more (λ y. is_before y.key key) x xs e

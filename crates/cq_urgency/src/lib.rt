@@ -5,6 +5,8 @@
 //! where a cell goes in and which one comes out.
 #![tactic(auto)]
 
+mod block;
+mod blocks;
 mod output_buffer;
 #[cfg(test)]
 mod tests;

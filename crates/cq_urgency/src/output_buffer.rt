@@ -1,9 +1,11 @@
 //! The buffer of cells that wait at one output.
-ghost use Rattle.std.specs.Prelude.{◌≡◌, ◌+◌, ◌<◌, ◌≤◌, [], Some, IfOk, length, drop, slice_get, is_some, if◌then◌else◌};
-ghost use Rattle.std.specs.List.{position_or_len};
+ghost use Rattle.std.specs.Prelude.{◌≡◌, ◌+◌, ◌<◌, ◌≤◌, ◌/◌, ◌^◌, [], Some, IfOk, length, drop, slice_get, is_some, if◌then◌else◌};
 ghost use Rattle.cq_base.specs.Key.{is_before};
 ghost use Rattle.cq_base.specs.Cells.{HasOtherKey, IsRising, cushion, put};
+ghost use Rattle.cq_urgency.specs.Blocks.{flattened, block_at};
+ghost use Rattle.cq_urgency.specs.OutputBuffer.{AreFilled, AreBegun, IsSpot, starts_before};
 
+use crate::blocks::Blocks;
 use cq_base::{Key, NoMemory, Queued};
 use std::alloc::Global;
 use std::marker::Model;
@@ -11,40 +13,162 @@ use std::marker::Model;
 /// The cells that wait at an output, the most urgent first. Contracts see the cells, and how many more there is room
 /// for.
 ///
-/// The cells stand in the order of their keys, so no two of them have the same key.
+/// The cells stand in the order of their keys, so no two of them have the same key. They stand in blocks of at most 64.
+/// The block of a key is found by halving, on the first cells of the blocks, and its place there by halving in the
+/// block. A cushion adds the counts of the blocks ahead, which is one addition a block.
+///
+/// A full block is split in half where a cell comes in, and only the first block loses cells. So each other block has 32
+/// cells at least, and a 32nd of the room and one more is enough blocks.
 #[derive(Drop)]
 pub struct OutputBuffer {
-    cells: Vec<Queued>,
+    blocks: Blocks,
+    len: u64,
     room: u64,
 }
 
 impl Model for OutputBuffer {
-    ghost use Rattle.std.specs.Prelude.{◌-◌, ◌≤◌, vec_len, vec_capacity};
-    ghost use Rattle.cq_base.specs.Cells.{IsRising};
-    ghost use Rattle.cq_urgency.specs.OutputBuffer.{Buffered};
+    ghost use Rattle.std.specs.Prelude.{◌-◌};
+    ghost use Rattle.cq_urgency.specs.Blocks.{flattened};
+    ghost use Rattle.cq_urgency.specs.OutputBuffer.{Buffered, IsBuffer};
 
     ghost Value = { Buffered };
 
-    ghost view = { λ b. record { cells = b.cells.items; spare = b.room - vec_len b.cells } };
+    ghost view = { λ b. record { cells = flattened b.blocks.blocks; spare = b.room - b.len } };
 
-    ghost invariant = { λ b. IsRising b.cells.items × (vec_len b.cells ≤ b.room) × (b.room ≤ vec_capacity b.cells) };
+    ghost invariant = { λ b. IsBuffer b.blocks.blocks b.blocks.most b.len b.room };
 }
 
-// How many cells have a lesser key. They stand before all others, so halving finds where they end.
-fn count_before(cells: &[Queued], key: Key) -> usize
-    requires { IsRising cells.now }
-    ensures { result ≡ cushion key cells.now }
+// Whether the one key is the more urgent.
+#[tactic(auto, unfolding(cq_base::specs::Key::is_before))]
+fn precedes(key: Key, other: Key) -> bool
+    ensures { result ≡ is_before key other }
 {
-    cells.partition_point(|waiting| waiting.key < key)
+    key < other
 }
 
-// The place of the first cell with a greater key, or the end of the buffer, by halving too.
-fn place_among(cells: &[Queued], key: Key) -> usize
-    requires { IsRising cells.now }
-    ensures inside { result ≤ length cells.now }
-    ensures place { result ≡ position_or_len (λ x. is_before key x.key) cells.now }
+// Whether a block begins with a lesser key.
+fn begins_before(blocks: &Blocks, block: usize, key: Key) -> bool
+    requires inside { block < length blocks.now.blocks }
+    requires filled { AreFilled blocks.now.blocks }
+    ensures { result ≡ starts_before key (block_at blocks.now.blocks block) }
 {
-    cells.partition_point(|waiting| waiting.key <= key)
+    precedes(blocks.block(block).at(0).key, key)
+}
+
+// How many blocks begin with a lesser key, by halving.
+fn begun(blocks: &Blocks, key: Key) -> usize
+    requires { AreFilled blocks.now.blocks }
+    ensures { AreBegun key blocks.now.blocks result }
+{
+    let mut low = 0;
+    let mut high = blocks.len();
+    'halves: while low < high {
+        let middle = low + (high - low) / 2;
+        if begins_before(blocks, middle, key) {
+            low = middle + 1;
+        } else {
+            high = middle;
+        }
+    }
+    low
+}
+
+// A block, and a place in it.
+#[derive(Clone, Copy)]
+struct Spot {
+    block: usize,
+    within: usize,
+}
+
+// Where the cells of lesser key end: in the last block that begins with one, or ahead of all.
+fn spot_of(blocks: &Blocks, key: Key) -> Spot
+    requires rising { IsRising (flattened blocks.now.blocks) }
+    requires filled { AreFilled blocks.now.blocks }
+    requires some { 0 < length blocks.now.blocks }
+    ensures { IsSpot blocks.now.blocks (cushion key (flattened blocks.now.blocks)) result.block result.within }
+{
+    let place = begun(blocks, key);
+    if place == 0 {
+        return Spot {
+            block: 0,
+            within: 0,
+        };
+    }
+    let block = place - 1;
+    Spot {
+        block,
+        within: blocks.block(block).cushion(key),
+    }
+}
+
+// How many of so many cells have a lesser key.
+#[tactic(auto, using(crate::proofs::Flattened::some_blocks))]
+fn cushion_in(blocks: &Blocks, key: Key, len: u64) -> u64
+    requires rising { IsRising (flattened blocks.now.blocks) }
+    requires filled { AreFilled blocks.now.blocks }
+    requires counted { len ≡ length (flattened blocks.now.blocks) }
+    ensures { result ≡ cushion key (flattened blocks.now.blocks) }
+{
+    if len == 0 {
+        return 0;
+    }
+    let spot = spot_of(blocks, key);
+    (blocks.ahead(spot.block) + spot.within) as u64
+}
+
+// Where it stands once its block was split into two of 32.
+fn in_halves(spot: Spot) -> Spot
+    requires { spot.block + 1 < 2 ^ 64 }
+    ensures front { spot.within ≤ 32 → result ≡ spot }
+    ensures back { 32 < spot.within → (result.block ≡ spot.block + 1) × (result.within + 32 ≡ spot.within) }
+{
+    if spot.within <= 32 {
+        return spot;
+    }
+    Spot {
+        block: spot.block + 1,
+        within: spot.within - 32,
+    }
+}
+
+// The same in a block with room: a full block is split in two.
+fn spot_with_room(blocks: &mut Blocks, key: Key, room: u64) -> Spot
+    requires rising { IsRising (flattened blocks.old.blocks) }
+    requires filled { AreFilled blocks.old.blocks }
+    requires some { 0 < length blocks.old.blocks }
+    requires fits { length (flattened blocks.old.blocks) ≤ room }
+    requires enough { blocks.old.most ≡ room / 32 + 1 }
+    ensures cells { flattened blocks.new.blocks ≡ flattened blocks.old.blocks }
+    ensures filled { AreFilled blocks.new.blocks }
+    ensures most { blocks.new.most ≡ blocks.old.most }
+    ensures spot { IsSpot blocks.new.blocks (cushion key (flattened blocks.old.blocks)) result.block result.within }
+    ensures room { length (block_at blocks.new.blocks result.block) < 64 }
+{
+    let spot = spot_of(blocks, key);
+    if blocks.block(spot.block).len() < 64 {
+        return spot;
+    }
+    blocks.split(spot.block);
+    in_halves(spot)
+}
+
+// A cell comes into the blocks.
+fn put_into(blocks: &mut Blocks, queued: Queued, room: u64)
+    requires rising { IsRising (flattened blocks.old.blocks) }
+    requires filled { AreFilled blocks.old.blocks }
+    requires other_key { HasOtherKey queued (flattened blocks.old.blocks) }
+    requires fits { length (flattened blocks.old.blocks) ≤ room }
+    requires enough { blocks.old.most ≡ room / 32 + 1 }
+    ensures cells { flattened blocks.new.blocks ≡ put queued (flattened blocks.old.blocks) }
+    ensures filled { AreFilled blocks.new.blocks }
+    ensures most { blocks.new.most ≡ blocks.old.most }
+{
+    if blocks.len() == 0 {
+        blocks.start(queued);
+        return;
+    }
+    let spot = spot_with_room(blocks, queued.key, room);
+    blocks.insert(spot.block, spot.within, queued);
 }
 
 impl OutputBuffer {
@@ -54,7 +178,8 @@ impl OutputBuffer {
         ensures spare { IfOk result (λ buffer. buffer.spare ≡ room) }
     {
         Ok(OutputBuffer {
-            cells: Vec::with_capacity(alloc, room as usize)?,
+            blocks: Blocks::new(alloc, room as usize / 32 + 1)?,
+            len: 0,
             room,
         })
     }
@@ -63,7 +188,7 @@ impl OutputBuffer {
     pub fn cushion(&self, key: Key) -> u64
         ensures { result ≡ cushion key self.now.cells }
     {
-        count_before(&self.cells, key) as u64
+        cushion_in(&self.blocks, key, self.len)
     }
 
     /// A cell comes in. It goes before the first cell with a greater key, or to the end, and the other cells keep
@@ -74,8 +199,8 @@ impl OutputBuffer {
         ensures cells { self.new.cells ≡ put queued self.old.cells }
         ensures spare { self.new.spare + 1 ≡ self.old.spare }
     {
-        let place = place_among(&self.cells, queued.key);
-        self.cells.insert(place, queued).unwrap();
+        put_into(&mut self.blocks, queued, self.room);
+        self.len += 1;
     }
 
     /// Takes the first cell out, which has the least key and gives its room back. It is None where no cell waits,
@@ -85,10 +210,11 @@ impl OutputBuffer {
         ensures cells { self.new.cells ≡ drop 1 self.old.cells }
         ensures spare { self.new.spare ≡ self.old.spare + (if is_some result then 1 else 0) }
     {
-        if self.cells.is_empty() {
+        if self.len == 0 {
             return None;
         }
-        Some(self.cells.remove(0))
+        self.len -= 1;
+        Some(self.blocks.pop())
     }
 
     /// How many cells wait.
@@ -96,7 +222,7 @@ impl OutputBuffer {
         ensures len { result ≡ length self.now.cells }
         ensures rising { IsRising self.now.cells }
     {
-        self.cells.len() as u64
+        self.len
     }
 
     /// The cell at a place in the order of keys, counted from 0.
@@ -104,6 +230,6 @@ impl OutputBuffer {
         requires { place < length self.now.cells }
         ensures { slice_get self.now.cells place ≡ Some result }
     {
-        self.cells[place as usize]
+        self.blocks.at(place as usize)
     }
 }

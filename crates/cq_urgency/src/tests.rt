@@ -1,5 +1,5 @@
-//! A worked buffer, drawn keys compared with a plain list of them, and the call that wants memory, with ample memory.
-ghost use Rattle.std.specs.Prelude.{◌≡◌, ◌+◌, ◌<◌, IfOk, length};
+//! A worked buffer, drawn calls compared with a plain list, and the call that wants memory, with ample memory.
+ghost use Rattle.std.specs.Prelude.{◌≡◌, ◌+◌, ◌<◌, ◌≤◌, IfOk, length};
 ghost use Rattle.cq_base.specs.Cells.{ArrivedBefore};
 
 use crate::OutputBuffer;
@@ -73,23 +73,62 @@ fn equal_ranks_wait_in_the_order_of_their_arrival(rt: HostRuntime) -> Result<(),
     Ok(())
 }
 
+// The place in a plain list of the first cell with a greater key, or its end.
+fn place_in(cells: &[Queued], key: Key) -> usize
+    ensures { result ≤ length cells.now }
+{
+    for (place, other) in cells.iter().enumerate() {
+        if key < other.key {
+            return place;
+        }
+    }
+    cells.len()
+}
+
+// The first cell leaves.
+fn leave(buffer: &mut OutputBuffer, slot: u64) -> Option<Queued>
+    requires { ArrivedBefore slot buffer.old.cells }
+    ensures arrived { ArrivedBefore (slot + 1) buffer.new.cells }
+    ensures room { buffer.new.spare + length buffer.new.cells ≡ buffer.old.spare + length buffer.old.cells }
+{
+    buffer.pop()
+}
+
+// The first cell of a plain list leaves.
+fn leave_plain(cells: &mut Vec<Queued>) -> Option<Queued> {
+    if cells.is_empty() {
+        return None;
+    }
+    Some(cells.remove(0))
+}
+
+// Blocks split while the buffer fills, in the first half of each 800 calls, and are freed while it empties.
 #[test]
-fn drawn_keys_wait_as_in_a_plain_list(rt: HostRuntime) -> Result<(), Fail> {
-    let mut buffer = OutputBuffer::new(rt.alloc(), 200)?;
-    let mut plain: Vec<Key> = Vec::new(rt.alloc());
-    let mut drawn = 1u64;
-    for slot in 0..200 {
-        drawn = drawn.wrapping_mul(75) % 65_537;
-        let queued = waiting((drawn % 9) as u128, slot);
-        let lesser = plain.iter().filter(|key| **key < queued.key).count();
-        assert_eq!(rt; buffer.cushion(queued.key), lesser as u64);
-        come(&mut buffer, queued);
-        plain.push(queued.key)?;
+fn drawn_calls_answer_as_a_plain_list_does(rt: HostRuntime) -> Result<(), Fail> {
+    let mut buffer = OutputBuffer::new(rt.alloc(), 300)?;
+    let mut plain = Vec::new(rt.alloc());
+    let mut drawn: u64 = 1;
+    'calls: for slot in 0..2000_u64 {
+        drawn = (drawn * 1103515245 + 12345) % 2147483648;
+        let queued = waiting((drawn / 16 % 40) as u128, slot);
+        let place = place_in(&plain, queued.key);
+        assert_eq!(rt; buffer.cushion(queued.key), place as u64);
+        let len = buffer.len();
+        assert_eq!(rt; len, plain.len() as u64);
+        if len > 0 {
+            let at = drawn / 128 % len;
+            assert_eq!(rt; Some(buffer.at(at)), plain.get(at as usize).copied());
+        }
+        let fills = slot % 800 < 400;
+        if len < 300 && (drawn / 65536 % 8 < 7) == fills {
+            come(&mut buffer, queued);
+            plain.insert(place, queued)?;
+        } else {
+            assert_eq!(rt; leave(&mut buffer, slot), leave_plain(&mut plain));
+        }
     }
-    plain.sort()?;
-    for key in plain.iter() {
-        assert_eq!(rt; buffer.pop().map(|sent| sent.key), Some(*key));
+    for place in 0..buffer.len() {
+        assert_eq!(rt; Some(buffer.at(place)), plain.get(place as usize).copied());
     }
-    assert_eq!(rt; buffer.len(), 0);
     Ok(())
 }

@@ -1,0 +1,178 @@
+-- Where a key belongs among blocks of rising cells. The cells of a block come before those of the blocks behind it. So
+-- where a block begins with a lesser key, all cells ahead of it have lesser keys; and where the next block begins with
+-- none, no cell from there on has one. The cells of lesser key are thus those ahead of the block and those of its own.
+--
+-- A full block that is split keeps each place: in its front half, or in its back half behind 32 cells more.
+use Rattle.std.proofs.Common.{◌≡◌, ℕ, zero, suc, ◌+◌, ◌<◌, ◌≤◌, true, false, List, [], ◌∷◌, ◌++◌, length, set, take, drop, Some, sym, ap, ◌∙◌, ⊎_elim, length-append, length-set, length-take, length-drop, get_or-set_same, arith}
+use Rattle.std.specs.Prelude.{insert, slice_get}
+use Rattle.std.specs.List.{AllByRecursion, sum_by}
+use Rattle.std.proofs.lemmas.Bool.{cases_Bool}
+use Rattle.std.proofs.lemmas.List.{take-append-le, take-take, take-set}
+use Rattle.std.proofs.lemmas.List.Edits.{length-insert, get_or-insert_below, get_or-insert_at}
+use Rattle.std.proofs.lemmas.List.Sums.{sum_by_more}
+use Rattle.cq_base.specs.declared.key.Key.{Key}
+use Rattle.cq_base.specs.declared.cell.Queued.{Queued}
+use Rattle.cq_base.specs.Key.{is_before}
+use Rattle.cq_base.specs.Cells.{IsBefore, IsRising, cushion}
+use Rattle.cq_base.proofs.Keys.{key_laws}
+use Rattle.cq_urgency.specs.Blocks.{flattened, block_at, cells_in_all, halved}
+use Rattle.cq_urgency.specs.OutputBuffer.{AreFilled, AreBegun, IsSpot, starts_before}
+use Rattle.cq_urgency.proofs.Flattened.{length-flattened}
+use Rattle.cq_urgency.proofs.Halving.{cushion_all, cushion_none, cushion_le, cushion-append}
+
+-- ## What holds of joined lists
+
+all_left : (P : Queued → Type 0) (xs ys : List Queued) → AllByRecursion P (xs ++ ys) → AllByRecursion P xs
+all_left P [] ys a = tt
+all_left P (x ∷ xs) ys a = (a.0, all_left P xs ys a.1)
+
+all_right : (P : Queued → Type 0) (xs ys : List Queued) → AllByRecursion P (xs ++ ys) → AllByRecursion P ys
+all_right P [] ys a = a
+all_right P (x ∷ xs) ys a = all_right P xs ys a.1
+
+all_weaker : (P Q : Queued → Type 0) → ((x : Queued) → P x → Q x) → (xs : List Queued) → AllByRecursion P xs → AllByRecursion Q xs
+all_weaker P Q f [] a = tt
+all_weaker P Q f (x ∷ xs) a = (f x a.0, all_weaker P Q f xs a.1)
+
+rising_left : (xs ys : List Queued) → IsRising (xs ++ ys) → IsRising xs
+rising_left [] ys r = tt
+rising_left (x ∷ xs) ys r = (all_left (IsBefore x) xs ys r.0, rising_left xs ys r.1)
+
+rising_right : (xs ys : List Queued) → IsRising (xs ++ ys) → IsRising ys
+rising_right [] ys r = r
+rising_right (x ∷ xs) ys r = rising_right xs ys r.1
+
+rising_apart : (xs ys : List Queued) → IsRising (xs ++ ys) → AllByRecursion (λ x. AllByRecursion (IsBefore x) ys) xs
+rising_apart [] ys r = tt
+rising_apart (x ∷ xs) ys r = (all_right (IsBefore x) xs ys r.0, rising_apart xs ys r.1)
+
+pub rising_block : (blocks : List (List Queued)) (i : ℕ) → IsRising (flattened blocks) → IsRising (block_at blocks i)
+rising_block [] i r = tt
+rising_block (b ∷ bs) zero r = rising_left b (flattened bs) r
+rising_block (b ∷ bs) (suc i) r = rising_block bs i (rising_right b (flattened bs) r)
+
+-- ## Ahead of a block, and from a block on
+
+pub starts_shown : (key : Key) (block : List Queued) (x : Queued) → slice_get block 0 ≡ Some x → starts_before key block ≡ is_before x.key key
+starts_shown key [] x e = cc
+starts_shown key (y ∷ ys) x e = ap (λ (z : Queued). is_before z.key key) (let same : y ≡ x = cc in same)
+
+lesser_ahead : (key : Key) (blocks : List (List Queued)) (i : ℕ) → starts_before key (block_at blocks i) ≡ true → (x : Queued) → AllByRecursion (IsBefore x) (flattened blocks) → is_before x.key key ≡ true
+lesser_ahead key [] i e x a = cc
+lesser_ahead key ([] ∷ bs) zero e x a = cc
+lesser_ahead key ((y ∷ ys) ∷ bs) zero e x a = key_laws.on x.key y.key key a.0 e
+lesser_ahead key (b ∷ bs) (suc i) e x a = lesser_ahead key bs i e x (all_right (IsBefore x) b (flattened bs) a)
+
+-- no block is empty
+abbrev AreSome : List (List Queued) → Type 0
+AreSome blocks = AllByRecursion (λ block. 0 < length block) blocks
+
+longer_some : (blocks : List (List Queued)) → AllByRecursion (λ block. 32 ≤ length block) blocks → AreSome blocks
+longer_some [] a = tt
+longer_some (b ∷ bs) a = (let l = a.0 in omega arith, longer_some bs a.1)
+
+filled_some : (blocks : List (List Queued)) → AreFilled blocks → AreSome blocks
+filled_some [] f = tt
+filled_some (b ∷ bs) f = (f.0, longer_some bs f.1)
+
+none_lesser : (key : Key) (x : Queued) (xs : List Queued) → is_before x.key key ≡ false → AllByRecursion (IsBefore x) xs → cushion key (x ∷ xs) ≡ 0
+none_lesser key x xs first after =
+    cushion_none key (x ∷ xs)
+    (first, all_weaker (IsBefore x) (λ y. is_before y.key key ≡ false) (λ y before. ⊎_elim (λ t. absurd (let on = key_laws.on x.key y.key key before t in let P : ⊥ = cc in P)) (λ f. f) (cases_Bool (is_before y.key key))) xs after)
+
+none_behind : (key : Key) (blocks : List (List Queued)) → IsRising (flattened blocks) → AreSome blocks → (0 < length blocks → starts_before key (block_at blocks 0) ≡ false) → cushion key (flattened blocks) ≡ 0
+none_behind key [] r some first = cushion_none key [] tt
+none_behind key ([] ∷ bs) r some first = absurd (let l = some.0 in omega arith)
+none_behind key ((x ∷ xs) ∷ bs) r some first = none_lesser key x (xs ++ flattened bs) (first (omega arith)) r.0
+
+cushion_in : (key : Key) (blocks : List (List Queued)) (i : ℕ) → IsRising (flattened blocks) → AreSome blocks → i < length blocks → starts_before key (block_at blocks i) ≡ true → (i + 1 < length blocks → starts_before key (block_at blocks (i + 1)) ≡ false) → length (flattened (take i blocks)) + cushion key (block_at blocks i) ≡ cushion key (flattened blocks)
+cushion_in key [] i r some inside e behind = absurd (omega arith)
+cushion_in key (b ∷ bs) zero r some inside e behind =
+    let both = cushion-append key b (flattened bs) in
+    let rest = none_behind key bs (rising_right b (flattened bs) r) some.1 (λ l. behind (omega arith)) in omega arith
+cushion_in key (b ∷ bs) (suc i) r some inside e behind =
+    let next : suc i + 1 ≡ suc (i + 1) = omega arith in
+    let both = cushion-append key b (flattened bs) in
+    let all = cushion_all key b (all_weaker (λ x. AllByRecursion (IsBefore x) (flattened bs)) (λ x. is_before x.key key ≡ true) (lesser_ahead key bs i e) b (rising_apart b (flattened bs) r)) in
+    let rest = cushion_in key bs i (rising_right b (flattened bs) r) some.1 (omega arith) e (λ l. ap (λ n. starts_before key (block_at (b ∷ bs) n)) (sym next) ∙ behind (omega arith)) in
+    let size = length-append b (flattened (take i bs)) in omega arith
+
+-- ## The spot of a key
+
+module _ (key : Key) (blocks : List (List Queued)) (r : IsRising (flattened blocks)) (f : AreFilled blocks) where
+  pub spot_first : (place : ℕ) → AreBegun key blocks place → place ≡ 0 → 0 < length blocks → IsSpot blocks (cushion key (flattened blocks)) 0 0
+  spot_first place begun none some =
+      record {
+        inside = some;
+        short = omega arith;
+        at =
+            let all = none_behind key blocks r (filled_some blocks f) (λ l. ap (λ n. starts_before key (block_at blocks n)) (sym none) ∙ begun.behind (omega arith)) in
+            omega arith;
+      }
+
+  pub spot_in : (place block within : ℕ) → AreBegun key blocks place → block + 1 ≡ place → within ≡ cushion key (block_at blocks block) → IsSpot blocks (cushion key (flattened blocks)) block within
+  spot_in place block within begun next is =
+      let le = begun.inside in
+      record {
+        inside = omega arith;
+        short = let few = cushion_le key (block_at blocks block) in omega arith;
+        at =
+            let all = cushion_in key blocks block r (filled_some blocks f) (omega arith) (begun.before block next) (λ l. ap (λ n. starts_before key (block_at blocks n)) next ∙ begun.behind (omega arith)) in
+            let size = length-flattened (take block blocks) in omega arith;
+      }
+
+-- ## The spot where a block was split
+
+module _ (blocks : List (List Queued)) (ahead i o : ℕ) (spot : IsSpot blocks ahead i o) (full : length (block_at blocks i) ≡ 64) where
+  pub longer : length (halved blocks i) ≡ length blocks + 1
+  longer =
+      let same = length-set blocks i (take 32 (block_at blocks i)) in
+      let inside = spot.inside in
+      length-insert (set blocks i (take 32 (block_at blocks i))) (i + 1) (drop 32 (block_at blocks i)) (omega arith) ∙ ap (λ n. n + 1) same
+
+  first_half : block_at (halved blocks i) i ≡ take 32 (block_at blocks i)
+  first_half =
+      let same = length-set blocks i (take 32 (block_at blocks i)) in
+      let inside = spot.inside in
+      get_or-insert_below (set blocks i (take 32 (block_at blocks i))) (i + 1) (drop 32 (block_at blocks i)) [] i (omega arith) (omega arith)
+      ∙ get_or-set_same blocks i (take 32 (block_at blocks i)) [] inside
+
+  second_half : block_at (halved blocks i) (i + 1) ≡ drop 32 (block_at blocks i)
+  second_half =
+      let same = length-set blocks i (take 32 (block_at blocks i)) in
+      let inside = spot.inside in
+      get_or-insert_at (set blocks i (take 32 (block_at blocks i))) (i + 1) (drop 32 (block_at blocks i)) [] (omega arith)
+
+  ahead_same : take i (halved blocks i) ≡ take i blocks
+  ahead_same =
+      let same = length-set blocks i (take 32 (block_at blocks i)) in
+      let inside = spot.inside in
+      let long : i ≤ length (take (i + 1) (set blocks i (take 32 (block_at blocks i)))) = let len = length-take (i + 1) (set blocks i (take 32 (block_at blocks i))) in omega arith in
+      take-append-le i (take (i + 1) (set blocks i (take 32 (block_at blocks i)))) (drop 32 (block_at blocks i) ∷ drop (i + 1) (set blocks i (take 32 (block_at blocks i)))) long
+      ∙ take-take i (i + 1) (set blocks i (take 32 (block_at blocks i))) (omega arith)
+      ∙ take-set blocks i (take 32 (block_at blocks i))
+
+  pub front_length : length (block_at (halved blocks i) i) ≡ 32
+  front_length = let half = ap length first_half in let len = length-take 32 (block_at blocks i) in omega arith
+
+  pub back_length : length (block_at (halved blocks i) (i + 1)) ≡ 32
+  back_length = let half = ap length second_half in let len = length-drop 32 (block_at blocks i) in omega arith
+
+  pub in_front_half : o ≤ 32 → IsSpot (halved blocks i) ahead i o
+  in_front_half early =
+      record {
+        inside = let len = longer in let inside = spot.inside in omega arith;
+        short = let len = front_length in omega arith;
+        at = ap (λ l. cells_in_all l + o) ahead_same ∙ spot.at;
+      }
+
+  pub in_back_half : (p : ℕ) → p + 32 ≡ o → IsSpot (halved blocks i) ahead (i + 1) p
+  in_back_half p late =
+      let len = longer in let inside = spot.inside in
+      record {
+        inside = omega arith;
+        short = let size = back_length in let short = spot.short in omega arith;
+        at =
+            let more = sum_by_more (λ (block : List Queued). length block) (halved blocks i) i [] (omega arith) in
+            let size = front_length in let same = ap cells_in_all ahead_same in let at = spot.at in omega arith;
+      }

@@ -1,0 +1,6 @@
+use Rattle.std.proofs.Common.{◌≡◌, ◌+◌, take}
+use Rattle.std.specs.List.{sum_by}
+use Rattle.cq_urgency.proofs.blocks.place_of.Given as goal
+
+abbrev pub invariant-counts : goal.invariant-counts
+invariant-counts l = sum_by (λ n. n) (take l.block l.counts) + l.within ≡ l.ahead

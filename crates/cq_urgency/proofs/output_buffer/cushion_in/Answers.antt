@@ -1,0 +1,15 @@
+use Rattle.std.proofs.Common.{◌≡◌, ◌≤◌, ◌<◌, ◌+◌, length, arith}
+use Rattle.cq_urgency.specs.Blocks.{flattened}
+use Rattle.cq_urgency.proofs.Flattened.{length-flattened}
+use Rattle.cq_urgency.proofs.Halving.{cushion_le}
+use Rattle.cq_urgency.proofs.output_buffer.cushion_in.Goals as goal
+
+pub ahead-requires-clause-fits : goal.ahead-requires-clause-fits
+ahead-requires-clause-fits c =
+    let size = length-flattened c.args.blocks.now.blocks in let counted = c.requires.counted in let small = c.ranges.len in omega arith
+
+pub overflow_add-result : goal.overflow_add-result
+overflow_add-result c =
+    let few = cushion_le c.args.key (flattened c.args.blocks.now.blocks) in
+    let ahead = c.ahead.ensures in let at = c.spot_of-spot.ensures.at in
+    let counted = c.requires.counted in let small = c.ranges.len in omega arith

@@ -1,0 +1,77 @@
+-- Cells in blocks: how a block keeps its cells, which block stands where, and what clauses see of the blocks.
+use Rattle.std.specs.Prelude.{◌≡◌, ◌≢◌, ℕ, ◌+◌, ◌<◌, ◌≤◌, ◌==◌, nat_lt, Bool, true, false, if◌then◌else◌, List, [], ◌∷◌, ◌++◌, length, map, take, drop, insert, slice_index_or, slice_set}
+use Rattle.std.specs.List.{sum_by}
+use Rattle.cq_base.specs.declared.cell.Queued.{Queued}
+
+-- so many cells of an array of 64, from its head on
+pub record IsPiece (cells : List Queued) (head len : ℕ) : Type 0 where
+  pub inside : head + len ≤ 64
+  pub each : length cells ≡ 64
+
+-- the cells, block after block
+abbrev pub flattened : List (List Queued) → List Queued
+flattened [] = []
+flattened (block ∷ blocks) = block ++ flattened blocks
+
+-- the cells of each block in the order of the blocks, and how many blocks there can be
+pub record BlocksView : Type 0 where
+  pub blocks : List (List Queued)
+  pub most : ℕ
+
+-- the block at a place in the order
+abbrev pub block_at : List (List Queued) → ℕ → List Queued
+block_at blocks place = slice_index_or blocks place []
+
+-- how many cells there are in all
+abbrev pub cells_in_all : List (List Queued) → ℕ
+cells_in_all blocks = sum_by (λ block. length block) blocks
+
+-- with the block at this place split in two, of which the first has 32 cells
+abbrev pub halved : List (List Queued) → ℕ → List (List Queued)
+halved blocks place = insert (slice_set blocks place (take 32 (block_at blocks place))) (place + 1) (drop 32 (block_at blocks place))
+
+-- without the first cell, and without its block where this was the only cell of it
+abbrev pub without_first : List (List Queued) → List (List Queued)
+without_first [] = []
+without_first (block ∷ blocks) = if length block == 1 then blocks else drop 1 block ∷ blocks
+
+-- ## Which block stands where
+
+-- the blocks of a pool whose numbers these are
+abbrev pub in_order : List (List Queued) → List ℕ → List (List Queued)
+in_order pool order = map (λ number. block_at pool number) order
+
+abbrev pub bit : Bool → ℕ
+bit true = 1
+bit false = 0
+
+-- how often a number stands in a list
+abbrev pub times : ℕ → List ℕ → ℕ
+times n numbers = sum_by (λ other. bit (other == n)) numbers
+
+-- one where the pool has a block of this number, and else zero
+abbrev pub has : List (List Queued) → ℕ → ℕ
+has pool n = bit (nat_lt n (length pool))
+
+-- each block of the pool stands once, in the order or among the free ones, and each count says how many cells its block has
+pub record ArePlaced (pool : List (List Queued)) (order counts free : List ℕ) : Type 0 where
+  pub once : (n : ℕ) → times n order + times n free ≡ has pool n
+  pub all : length order + length free ≡ length pool
+  pub counted : counts ≡ map (λ block. length block) (in_order pool order)
+
+-- there is memory for all of the blocks that there can be, and for as many numbers and counts
+pub record HaveMemory (most pool in_pool in_order in_counts in_free : ℕ) : Type 0 where
+  pub few : pool ≤ most
+  pub blocks : most ≤ in_pool
+  pub ordered : most ≤ in_order
+  pub counted : most ≤ in_counts
+  pub freed : most ≤ in_free
+
+-- a block came in under this number, which was free or is new
+pub record ComesIn (pool : List (List Queued)) (free : List ℕ) (pool' : List (List Queued)) (free' : List ℕ) (block : List Queued) (number : ℕ) : Type 0 where
+  pub at : block_at pool' number ≡ block
+  pub others : (n : ℕ) → n ≢ number → block_at pool' n ≡ block_at pool n
+  pub once : (n : ℕ) → times n free' + bit (number == n) + has pool n ≡ times n free + has pool' n
+  pub all : length free' + 1 + length pool ≡ length free + length pool'
+  pub fewer : length free' ≤ length free
+  pub grown : length pool < length pool' → length free ≡ 0

@@ -1,0 +1,162 @@
+//! A few cells that wait next to each other.
+ghost use Rattle.std.specs.Prelude.{◌≡◌, ◌+◌, ◌-◌, ◌<◌, ◌≤◌, [], ◌∷◌, ◌++◌, Some, length, replicate, take, drop, insert, slice_get};
+ghost use Rattle.cq_base.specs.Cells.{IsRising, cushion};
+ghost use Rattle.cq_urgency.specs.Blocks.{IsPiece};
+
+use cq_base::{Key, Queued};
+use std::marker::Model;
+
+/// At most 64 cells in order. Contracts see the cells.
+///
+/// They stand in one piece of the array, which need not begin at its start: the first cell is taken out by moving the
+/// head, and no cell is moved.
+#[derive(Drop)]
+pub struct Block {
+    cells: [Queued; 64],
+    head: usize,
+    len: usize,
+}
+
+impl Model for Block {
+    ghost use Rattle.std.specs.Prelude.{List, take, drop};
+    ghost use Rattle.cq_base.specs.declared.cell.Queued.{Queued};
+    ghost use Rattle.cq_urgency.specs.Blocks.{IsPiece};
+
+    ghost Value = { List Queued };
+
+    ghost view = { λ b. take b.len (drop b.head b.cells) };
+
+    ghost invariant = { λ b. IsPiece b.cells b.head b.len };
+}
+
+// An array of this one cell.
+fn filled(queued: Queued) -> [Queued; 64]
+    ensures { result ≡ replicate 64 queued }
+{
+    [queued; 64]
+}
+
+// A cell comes first and the others move one place on, over the last one.
+fn push_on(cells: &mut [Queued], queued: Queued)
+    requires { 0 < length cells.old }
+    ensures { cells.new ≡ queued ∷ take (length cells.old - 1) cells.old }
+{
+    cells.rotate_right(1);
+    cells[0] = queued;
+}
+
+// A cell comes last and the others move one place back, over the first one.
+fn push_back(cells: &mut [Queued], queued: Queued)
+    requires { 0 < length cells.old }
+    ensures { cells.new ≡ drop 1 cells.old ++ queued ∷ [] }
+{
+    cells.rotate_left(1);
+    cells[cells.len() - 1] = queued;
+}
+
+// A cell goes into the piece of so many cells from the head on, and the answer is where the piece begins now. The cells
+// behind it move, or those ahead of it where the array ends behind them.
+fn put_inside(
+    cells: &mut [Queued; 64],
+    head: usize,
+    len: usize,
+    place: usize,
+    queued: Queued,
+) -> usize
+    requires inside { place ≤ len }
+    requires piece { IsPiece cells.old head len }
+    requires room { len < 64 }
+    ensures cells { take (len + 1) (drop result cells.new) ≡ insert (take len (drop head cells.old)) place queued }
+    ensures piece { IsPiece cells.new result (len + 1) }
+{
+    let end = head + len;
+    if end < 64 {
+        push_on(&mut cells[head + place..end + 1], queued);
+        return head;
+    }
+    push_back(&mut cells[head - 1..head + place], queued);
+    head - 1
+}
+
+// How many cells have a lesser key. They stand before all others, so halving finds where they end.
+fn count_before(cells: &[Queued], key: Key) -> usize
+    requires { IsRising cells.now }
+    ensures { result ≡ cushion key cells.now }
+{
+    cells.partition_point(|waiting| waiting.key < key)
+}
+
+impl Block {
+    /// One cell.
+    pub fn of(queued: Queued) -> Block
+        ensures { result ≡ queued ∷ [] }
+    {
+        Block {
+            cells: filled(queued),
+            head: 0,
+            len: 1,
+        }
+    }
+
+    /// How many cells there are.
+    pub fn len(&self) -> usize
+        ensures len { result ≡ length self.now }
+        ensures fits { result ≤ 64 }
+    {
+        self.len
+    }
+
+    /// The cell at a place.
+    pub fn at(&self, place: usize) -> Queued
+        requires { place < length self.now }
+        ensures { slice_get self.now place ≡ Some result }
+    {
+        self.cells[self.head + place]
+    }
+
+    /// How many of the cells have a lesser key.
+    pub fn cushion(&self, key: Key) -> usize
+        requires { IsRising self.now }
+        ensures { result ≡ cushion key self.now }
+    {
+        count_before(&self.cells[self.head..self.head + self.len], key)
+    }
+
+    /// Puts a cell in.
+    pub fn insert(&mut self, place: usize, queued: Queued)
+        requires inside { place ≤ length self.old }
+        requires room { length self.old < 64 }
+        ensures { self.new ≡ insert self.old place queued }
+    {
+        self.head = put_inside(&mut self.cells, self.head, self.len, place, queued);
+        self.len += 1;
+    }
+
+    /// Takes the first cell out. No cell moves.
+    pub fn pop(&mut self) -> Queued
+        requires { 0 < length self.old }
+        ensures first { slice_get self.old 0 ≡ Some result }
+        ensures rest { self.new ≡ drop 1 self.old }
+    {
+        let queued = self.cells[self.head];
+        self.head += 1;
+        self.len -= 1;
+        queued
+    }
+
+    /// Takes the last 32 cells of a full block out, into a block of their own.
+    pub fn split_off(&mut self) -> Block
+        requires { length self.old ≡ 64 }
+        ensures front { self.new ≡ take 32 self.old }
+        ensures back { result ≡ drop 32 self.old }
+    {
+        let mut cells = self.cells;
+        cells[..32].copy_from_slice(&self.cells[32..]);
+        self.len = 32;
+        Block {
+            cells,
+            head: 0,
+            len: 32,
+        }
+    }
+}

@@ -1,0 +1,204 @@
+//! Cells in blocks, in an order of blocks.
+ghost use Rattle.std.specs.Prelude.{◌≡◌, ℕ, ◌+◌, ◌<◌, ◌≤◌, ◌^◌, ◌∷◌, [], Some, IfOk, length, map, take, insert, slice_get, slice_set, slice_index_or, vec_capacity};
+ghost use Rattle.std.specs.List.{sum_by};
+ghost use Rattle.cq_urgency.specs.Blocks.{flattened, block_at, cells_in_all, halved, without_first, times, has, ComesIn};
+
+use crate::block::Block;
+use cq_base::{NoMemory, Queued};
+use std::alloc::Global;
+use std::marker::Model;
+
+/// Cells in blocks of at most 64. Contracts see the cells of each block, in the order of the blocks, and how many blocks
+/// there can be.
+///
+/// The blocks stand in a pool and stay where they are. The order has their numbers, and beside it the counts say how
+/// many cells each block has: so to put a block in between two others moves numbers and no cells, and to count the
+/// cells ahead of a block reads counts that stand next to each other, and no block. An emptied block is free, and is used
+/// again before the pool grows. All memory is reserved at the start, and none of it is touched before it is used.
+#[derive(Drop)]
+pub struct Blocks {
+    pool: Vec<Block>,
+    order: Vec<usize>,
+    counts: Vec<usize>,
+    free: Vec<usize>,
+    most: usize,
+}
+
+impl Model for Blocks {
+    ghost use Rattle.std.specs.Prelude.{length, vec_capacity};
+    ghost use Rattle.cq_urgency.specs.Blocks.{BlocksView, in_order, ArePlaced, HaveMemory};
+
+    ghost Value = { BlocksView };
+
+    ghost view = { λ b. record { blocks = in_order b.pool.items b.order.items; most = b.most } };
+
+    ghost invariant = { λ b. ArePlaced b.pool.items b.order.items b.counts.items b.free.items × HaveMemory b.most (length b.pool.items) (vec_capacity b.pool) (vec_capacity b.order) (vec_capacity b.counts) (vec_capacity b.free) };
+}
+
+// Puts a block into the pool, in place of a free one where there is one, and answers its number.
+fn put_block(pool: &mut Vec<Block>, free: &mut Vec<usize>, block: Block) -> usize
+    requires within { (n : ℕ) → times n free.old.items ≤ has pool.old.items n }
+    requires memory { length free.old.items ≡ 0 → length pool.old.items < vec_capacity pool.old }
+    ensures comes { ComesIn pool.old.items free.old.items pool.new.items free.new.items block result }
+    ensures pool { vec_capacity pool.new ≡ vec_capacity pool.old }
+    ensures free { vec_capacity free.new ≡ vec_capacity free.old }
+{
+    match free.pop() {
+        Some(number) => {
+            pool[number] = block;
+            number
+        }
+        None => {
+            let number = pool.len();
+            pool.push_reserved(block);
+            number
+        }
+    }
+}
+
+// The sum of some counts.
+#[tactic(auto, using(std::proofs::lemmas::List::Sums::sum_by_more, std::proofs::lemmas::List::Sums::sum_by_more_le))]
+fn sum_of(counts: &[usize]) -> usize
+    requires { sum_by (λ n. n) counts.now < 2 ^ 64 }
+    ensures { result ≡ sum_by (λ n. n) counts.now }
+{
+    let mut sum = 0;
+    'counts: for count in counts {
+        sum += *count;
+    }
+    sum
+}
+
+// A place in the order of blocks, and a place in this block.
+#[derive(Clone, Copy)]
+struct At {
+    block: usize,
+    within: usize,
+}
+
+// Where the cell stands that has so many ahead.
+#[tactic(auto, using(std::proofs::lemmas::List::Sums::sum_by_more))]
+fn place_of(counts: &[usize], ahead: usize) -> At
+    requires { ahead < sum_by (λ n. n) counts.now }
+    ensures block { sum_by (λ n. n) (take result.block counts.now) + result.within ≡ ahead }
+    ensures within { result.within < slice_index_or counts.now result.block 0 }
+{
+    let mut within = ahead;
+    'counts: for (block, count) in counts.iter().enumerate() {
+        if within < *count {
+            return At { block, within };
+        }
+        within -= *count;
+    }
+    unreachable!()
+}
+
+impl Blocks {
+    /// No block, and room for so many. The error is want of memory.
+    pub fn new(alloc: Global, most: usize) -> Result<Blocks, NoMemory>
+        ensures blocks { IfOk result (λ blocks. blocks.blocks ≡ []) }
+        ensures most { IfOk result (λ blocks. blocks.most ≡ most) }
+    {
+        Ok(Blocks {
+            pool: Vec::with_capacity(alloc, most)?,
+            order: Vec::with_capacity(alloc, most)?,
+            counts: Vec::with_capacity(alloc, most)?,
+            free: Vec::with_capacity(alloc, most)?,
+            most,
+        })
+    }
+
+    /// How many blocks there are.
+    pub fn len(&self) -> usize
+        ensures { result ≡ length self.now.blocks }
+    {
+        self.order.len()
+    }
+
+    /// The block at a place in the order.
+    pub fn block(&self, place: usize) -> &Block
+        requires { place < length self.now.blocks }
+        ensures { result.now ≡ block_at self.now.blocks place }
+    {
+        &self.pool[self.order[place]]
+    }
+
+    /// How many cells stand in the blocks ahead of this place.
+    pub fn ahead(&self, place: usize) -> usize
+        requires inside { place ≤ length self.now.blocks }
+        requires fits { cells_in_all self.now.blocks < 2 ^ 64 }
+        ensures { result ≡ cells_in_all (take place self.now.blocks) }
+    {
+        sum_of(&self.counts[..place])
+    }
+
+    /// The cell that has so many ahead.
+    pub fn at(&self, ahead: usize) -> Queued
+        requires { ahead < length (flattened self.now.blocks) }
+        ensures { slice_get (flattened self.now.blocks) ahead ≡ Some result }
+    {
+        let at = place_of(&self.counts, ahead);
+        self.block(at.block).at(at.within)
+    }
+
+    /// The first block, of one cell.
+    pub fn start(&mut self, queued: Queued)
+        requires none { self.old.blocks ≡ [] }
+        requires room { 0 < self.old.most }
+        ensures blocks { self.new.blocks ≡ (queued ∷ []) ∷ [] }
+        ensures most { self.new.most ≡ self.old.most }
+    {
+        let number = put_block(&mut self.pool, &mut self.free, Block::of(queued));
+        self.order.push_reserved(number);
+        self.counts.push_reserved(1);
+    }
+
+    /// Puts a cell into a block.
+    pub fn insert(&mut self, block: usize, place: usize, queued: Queued)
+        requires block { block < length self.old.blocks }
+        requires inside { place ≤ length (block_at self.old.blocks block) }
+        requires room { length (block_at self.old.blocks block) < 64 }
+        ensures blocks { self.new.blocks ≡ slice_set self.old.blocks block (insert (block_at self.old.blocks block) place queued) }
+        ensures most { self.new.most ≡ self.old.most }
+    {
+        let number = self.order[block];
+        self.pool[number].insert(place, queued);
+        self.counts[block] += 1;
+    }
+
+    /// Splits a full block in two halves.
+    pub fn split(&mut self, block: usize)
+        requires block { block < length self.old.blocks }
+        requires full { length (block_at self.old.blocks block) ≡ 64 }
+        requires room { length self.old.blocks < self.old.most }
+        ensures blocks { self.new.blocks ≡ halved self.old.blocks block }
+        ensures most { self.new.most ≡ self.old.most }
+    {
+        let number = self.order[block];
+        let back = self.pool[number].split_off();
+        let other = put_block(&mut self.pool, &mut self.free, back);
+        self.order.insert(block + 1, other).unwrap();
+        self.counts[block] = 32;
+        self.counts.insert(block + 1, 32).unwrap();
+    }
+
+    /// Takes the first cell out, and its block where this was the only cell of it.
+    pub fn pop(&mut self) -> Queued
+        requires block { 0 < length self.old.blocks }
+        requires some { 0 < length (block_at self.old.blocks 0) }
+        ensures first { slice_get (block_at self.old.blocks 0) 0 ≡ Some result }
+        ensures blocks { self.new.blocks ≡ without_first self.old.blocks }
+        ensures most { self.new.most ≡ self.old.most }
+    {
+        let number = self.order[0];
+        let queued = self.pool[number].pop();
+        if self.counts[0] > 1 {
+            self.counts[0] -= 1;
+            return queued;
+        }
+        self.order.remove(0);
+        self.counts.remove(0);
+        self.free.push_reserved(number);
+        queued
+    }
+}
