@@ -1,3 +1,4 @@
 pub mod LogLines
 pub mod Told
 pub mod Front
+pub mod OneDifference

@@ -2,12 +2,20 @@
 ghost use Rattle.std.specs.Prelude.{ℕ};
 ghost use Rattle.cq_audit.specs.Matchings.{TransfersTellMatching};
 ghost use Rattle.cq_audit.specs.Log.{IsLogExact};
+ghost use Rattle.cq_audit.specs.Trace.{IsTraceExact};
 
 /// A log is read in one way, or refused at one line, and never both. It does nothing: its contract is the
 /// claim.
 #[tactic(auto, using(crate::proofs::LogLines::log_is_exact))]
 pub fn logs_are_exact()
     ensures { (ports : ℕ) → IsLogExact ports }
+{}
+
+/// Two texts that differ do so in one line first, and equal ones in none. It does nothing: its contract is the
+/// claim.
+#[tactic(auto, using(crate::proofs::OneDifference::trace_is_exact))]
+pub fn traces_are_exact()
+    ensures { IsTraceExact }
 {}
 
 /// The transfers of a phase tell its matching: where two stable matchings of the same lists move the same cells,

@@ -3,9 +3,11 @@
 
 mod laws;
 mod log;
+#[cfg(test)]
+mod tests;
 mod trace;
 mod transfer;
 
-pub use laws::{logs_are_exact, transfers_tell_the_matching};
+pub use laws::{logs_are_exact, traces_are_exact, transfers_tell_the_matching};
 pub use log::{LogRefusal, read_log};
 pub use trace::audit_trace;

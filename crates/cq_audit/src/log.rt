@@ -10,8 +10,11 @@ use std::alloc::Global;
 /// Why a log is refused.
 #[derive(Clone, Copy, Debug, PartialEq, Eq)]
 pub enum LogRefusal {
-    /// The first line, from 1, that is none, or is not after the line before it.
-    Line(u64),
+    /// This line, from 1, is the first that is none of a log, or is not after the line before it.
+    Line {
+        /// Which line it is.
+        line: u64,
+    },
     /// Want of memory.
     NoMemory,
 }
@@ -44,7 +47,9 @@ pub fn read_log(alloc: Global, log: &[u8], ports: u16) -> Result<Vec<Transfer>, 
     if rest.is_empty() {
         Ok(note)
     } else {
-        Err(LogRefusal::Line(note.len() as u64 + 1))
+        Err(LogRefusal::Line {
+            line: note.len() as u64 + 1,
+        })
     }
 }
 

@@ -41,7 +41,8 @@ pub fn take_fields<'a>(text: &'a [u8], to: &mut [Option<u128>]) -> Option<(usize
 
 /// What stands behind this word, where it stands at the front.
 pub fn behind<'a>(text: &'a [u8], word: &[u8]) -> Option<&'a [u8]>
-    ensures { MatchOption result ((rest : List ℕ) → text.now ≢ word.now ++ rest) (λ rest. text.now ≡ word.now ++ rest.now) }
+    ensures { MatchOption result ((rest : List ℕ) → text.now ≢ word.now ++ rest)
+        (λ rest. text.now ≡ word.now ++ rest.now) }
 {
     text.strip_prefix(word)
 }

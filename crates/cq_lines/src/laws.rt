@@ -6,5 +6,6 @@ ghost use Rattle.cq_lines.specs.Lines.{line};
 /// stands behind them, are the same. It does nothing: its contract is the claim.
 #[tactic(auto, using(crate::proofs::Walk::one_line))]
 pub fn lines_are_read_in_one_way()
-    ensures { (word x y : List ℕ) (fs gs : List (Option ℕ)) → line word fs ++ x ≡ line word gs ++ y → (fs ≡ gs) × (x ≡ y) }
+    ensures { (word x y : List ℕ) (fs gs : List (Option ℕ)) → line word fs ++ x ≡ line word gs ++ y →
+        (fs ≡ gs) × (x ≡ y) }
 {}

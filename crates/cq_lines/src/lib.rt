@@ -8,10 +8,12 @@ mod fields;
 mod laws;
 mod number;
 mod range;
+#[cfg(test)]
+mod tests;
 mod write;
 
 pub use fields::{behind, take_field, take_fields};
 pub use laws::lines_are_read_in_one_way;
 pub use number::take_number;
-pub use range::{Range, are_within, take_fields_within};
+pub use range::{Range, take_fields_within};
 pub use write::put_line;

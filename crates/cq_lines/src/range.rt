@@ -56,8 +56,8 @@ fn range_at(ranges: &[Range], place: usize) -> Range
     }
 }
 
-/// Whether there is a field for each range and within it, and behind them so many further numbers at most.
-pub fn are_within(fields: &[Option<u128>], ranges: &[Range], further: usize) -> bool
+// Whether there is a field for each range and within it, and behind them so many further numbers at most.
+fn are_within(fields: &[Option<u128>], ranges: &[Range], further: usize) -> bool
     ensures { IsTrue result ↔ Within ranges.now further fields.now }
 {
     if fields.len() < ranges.len() || fields.len() - ranges.len() > further {
@@ -71,7 +71,8 @@ pub fn are_within(fields: &[Option<u128>], ranges: &[Range], further: usize) -> 
     true
 }
 
-/// As `take_fields`, of a line whose fields are in these ranges, with so many further numbers at most.
+/// As `take_fields`, of a line that has a field in each of these ranges, in order, and behind them so many
+/// further numbers at most. None where no such line stands at the front.
 pub fn take_fields_within<'a>(
     text: &'a [u8],
     ranges: &[Range],
