@@ -1,4 +1,10 @@
-pub mod Due
 pub mod OneReading
-pub mod Longer
+pub mod Due
+pub mod Fields
 pub mod Written
+pub mod EachTold
+pub mod OneText
+pub mod Reading
+pub mod Writing
+pub mod Bounds
+pub mod Mapped

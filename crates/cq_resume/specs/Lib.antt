@@ -1,4 +1,6 @@
 pub mod StateText
 pub mod Places
-pub mod Refusals
 pub mod State
+pub mod OneText
+pub mod Gather
+pub mod Refusals

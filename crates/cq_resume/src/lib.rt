@@ -1,16 +1,18 @@
-//! The state of a stopped run, as text.
+//! The state of a stopped run, as text: each state has one text, and each text that is allowed is that of one
+//! state.
 #![tactic(auto)]
 
+mod gather;
 mod kind;
 mod laws;
 mod next;
 mod read;
+mod state;
 #[cfg(test)]
 mod tests;
 mod write;
 
-pub use kind::{Kind, take_kind};
-pub use laws::{state_texts_are_exact, states_are_read_back};
-pub use next::{Place, next_line};
-pub use read::{StateLine, TextRefusal, read_lines};
+pub use laws::{state_texts_are_exact, states_have_one_text};
+pub use read::{TextRefusal, read_text};
+pub use state::{Head, Named, Seen, Sent, State};
 pub use write::{StateLong, text_of};

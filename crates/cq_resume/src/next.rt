@@ -62,6 +62,7 @@ pub fn next_line<'a>(
         × (text.now ≡ spelled (record { kind = f.0; fields = take f.1 to.new }) ++ f.3.now)) }
     ensures shorter { IfSome result (λ f. length f.3.now < length text.now) }
     ensures seen { IfSome result (λ f. f.2.seen + length f.3.now ≤ place.seen + length text.now) }
+    ensures few { IfSome result (λ f. f.2.ports < 2 ^ 16) }
     ensures none { IfNone result ((x : Line) (next : Rattle.cq_resume.specs.StateText.Place) (more : List ℕ) →
         ComesAt place.due.now place.seen place.ports x next → text.now ≢ spelled x ++ more) }
 {

@@ -1,0 +1,10 @@
+-- States and texts stand one for one.
+use Rattle.std.specs.Prelude.{◌≡◌, ℕ, List}
+use Rattle.cq_resume.specs.declared.state.State.{State}
+use Rattle.cq_resume.specs.State.{IsInRange, state_lines, state_text}
+use Rattle.cq_resume.specs.StateText.{Line, IsStateText}
+
+pub record HaveOneText : Type 0 where
+  pub allowed : (s : State) → IsInRange s → IsStateText (state_lines s) (state_text s)
+  pub one_state : (s t : State) → IsInRange s → IsInRange t → state_text s ≡ state_text t → s ≡ t
+  pub each_told : (xs : List Line) (text : List ℕ) → IsStateText xs text → (s : State) × IsInRange s × (xs ≡ state_lines s)
