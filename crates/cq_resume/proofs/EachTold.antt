@@ -1,14 +1,14 @@
 -- Each text that is allowed is that of a state. From the front on: where a kind is due, the lines that lead to the end
 -- of the text begin with those of this kind, each of which tells what its fields say, and what is behind them leads to
 -- the end from where the next kind is due.
-use Rattle.std.proofs.Common.{◌≡◌, ℕ, zero, suc, ◌+◌, ◌<◌, ◌≤◌, false, true, List, [], ◌∷◌, ◌++◌, length, map, Option, Some, None, refl, ap, sym, subst, ◌∙◌, arith, lit≤, ⊎_elim, inl, inr}
+use Rattle.std.proofs.Common.{◌≡◌, ℕ, ◌+◌, ◌<◌, ◌≤◌, List, [], ◌∷◌, ◌++◌, length, Option, refl, ap, sym, subst, ◌∙◌, arith, ⊎_elim, inl, inr}
 use Rattle.std.specs.Prelude.{IsTrue, ◌⊎◌}
 use Rattle.std.specs.List.{AllByRecursion}
 use Rattle.cq_lines.specs.Texts.{Leads}
 use Rattle.cq_lines.specs.Ranges.{Within}
 use Rattle.cq_resume.proofs.Written.{at, Completes}
 use Rattle.cq_resume.specs.declared.kind.Kind.{Kind}
-use Rattle.cq_resume.specs.StateText.{Line, Place, ComesAt, Comes, HasAll, IsOneMore, MayEnd, is_free, needed, ranges, further, ports_behind}
+use Rattle.cq_resume.specs.StateText.{Line, Place, Comes, MayEnd, is_free, needed, ranges, further, ports_behind}
 use Rattle.cq_resume.specs.State.{numbered}
 
 abbrev pub line_of : Kind → List (Option ℕ) → Line

@@ -1,6 +1,6 @@
 -- What the fields of a line tell. Fields are in the ranges of a kind of line exactly where they are the numbers of what
 -- the line tells, and these are in their own ranges. Fields are taken one by one: each range asks for its own.
-use Rattle.std.proofs.Common.{◌≡◌, ℕ, zero, suc, ◌+◌, ◌-◌, ◌^◌, ◌<◌, ◌≤◌, true, false, List, [], ◌∷◌, length, map, drop, get_or, Option, None, Some, refl, ap, sym, subst, ◌∙◌, arith, lit≤}
+use Rattle.std.proofs.Common.{◌≡◌, ℕ, zero, suc, ◌-◌, ◌^◌, ◌<◌, ◌≤◌, true, false, List, [], ◌∷◌, length, map, get_or, Option, None, Some, refl, ap, sym, ◌∙◌, arith}
 use Rattle.std.proofs.lemmas.List.{length-map}
 use Rattle.std.specs.Prelude.{⊤, IfSome, unwrap_or}
 use Rattle.std.specs.List.{AllByRecursion}

@@ -1,23 +1,22 @@
 -- States and texts stand one for one. What the lines of a text that is allowed tell is a state in range, and its lines
 -- are those of the text. And who gathers what the lines of a state tell has the state again, so states with the same
 -- lines are the same.
-use Rattle.std.proofs.Common.{◌≡◌, ℕ, zero, suc, ◌+◌, ◌<◌, ◌≤◌, false, true, List, [], ◌∷◌, ◌++◌, length, map, Option, Some, refl, ap, sym, subst, ◌∙◌, arith, lit≤, append_assoc, ⊎_elim, inl, inr}
+use Rattle.std.proofs.Common.{◌≡◌, ℕ, ◌+◌, ◌≤◌, false, true, List, [], ◌∷◌, ◌++◌, length, map, Some, refl, ap, sym, subst, ◌∙◌, arith, append_assoc, ⊎_elim, inl, inr}
 use Rattle.std.specs.Prelude.{IsTrue, unwrap_or, ◌⊎◌}
-use Rattle.std.specs.List.{AllByRecursion, flat_map}
+use Rattle.std.specs.List.{AllByRecursion}
 use Rattle.std.proofs.lemmas.List.{append-nil}
 use Rattle.cq_base.specs.declared.cell.Transfer.{Transfer}
 use Rattle.cq_resume.proofs.EachTold.{one_told, many_told, line_of}
 use Rattle.cq_resume.proofs.Fields.{version_told, end_told, count_told, counts_told, shape_told, seen_told, rank_told, named_told, sent_told, moved_told}
 use Rattle.cq_resume.proofs.OneReading.{state_is_exact}
 use Rattle.cq_resume.proofs.Written.{at, Completes, state_has_text}
-use Rattle.cq_resume.specs.declared.kind.Kind.{Kind}
 use Rattle.cq_resume.specs.declared.kind.Kind.TheVariants.{Version, Next, Shape, Sum, Input, Rank, Listed, Buffered, Sent, Moved, End}
 use Rattle.cq_resume.specs.declared.state.Seen.{Seen}
 use Rattle.cq_resume.specs.declared.state.Named.{Named}
 use Rattle.cq_resume.specs.declared.state.Sent as kept
 use Rattle.cq_resume.specs.declared.state.State.{State}
-use Rattle.cq_resume.specs.StateText.{Line, Comes, is_free, start, spelled, IsStateText}
-use Rattle.cq_resume.specs.State.{IsInRange, IsSeen, AreRankNumbers, IsNamed, IsSent, IsMoved, state_lines, state_text, numbers, numbered, head_lines, input_line, rank_line, cell_line, sent_line, moved_line}
+use Rattle.cq_resume.specs.StateText.{Line, start, IsStateText}
+use Rattle.cq_resume.specs.State.{IsInRange, IsSeen, AreRankNumbers, IsNamed, IsSent, IsMoved, state_lines, state_text, numbered, input_line, rank_line, cell_line, sent_line, moved_line}
 use Rattle.cq_resume.specs.Gather.{added, gathered, nothing, number_at, seen_of, rank_of, named_of, sent_of, moved_of}
 use Rattle.cq_resume.specs.OneText.{HaveOneText}
 

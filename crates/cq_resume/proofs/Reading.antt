@@ -6,6 +6,7 @@ use Rattle.std.specs.List.{flat_map}
 use Rattle.std.proofs.lemmas.Bool.{eqb-true}
 use Rattle.std.proofs.lemmas.List.{append-nil}
 use Rattle.cq_lines.proofs.Going.{one_line_more}
+use Rattle.cq_resume.proofs.Bounds.{are_low}
 use Rattle.cq_resume.proofs.Due.{ReadSoFar}
 use Rattle.cq_resume.proofs.OneText.{each_told, state_again}
 use Rattle.cq_resume.proofs.Written.{Completes}
@@ -13,23 +14,18 @@ use Rattle.cq_resume.specs.declared.gather.Gathered.{Gathered}
 use Rattle.cq_resume.specs.declared.kind.Kind.{Kind}
 use Rattle.cq_resume.specs.declared.next.Place as kept
 use Rattle.cq_resume.specs.declared.state.State.{State}
-use Rattle.cq_resume.specs.Gather.{AreFieldsOf, added, gathered, nothing, state_of}
+use Rattle.cq_resume.specs.Gather.{AreLow, added, gathered, nothing, state_of}
 use Rattle.cq_resume.specs.Places.{place_of}
-use Rattle.cq_resume.specs.State.{IsInRange, state_lines, state_text}
+use Rattle.cq_resume.specs.State.{IsInRange, state_text}
 use Rattle.cq_resume.specs.StateText.{Line, Place, ComesAt, Comes, MayEnd, spelled, start, IsStateFault}
 
--- a line that comes has the fields of a line of its kind
-pub fields_of_line : (due : List Kind) (seen ports : ℕ) (x : Line) (next : Place) → ports < 2 ^ 16 →
-    ComesAt due seen ports x next → AreFieldsOf x.kind x.fields
-fields_of_line [] seen ports x next few c = absurd c
-fields_of_line (k ∷ due) seen ports x next few c = ⊎_elim
-    (λ one. subst (λ j. AreFieldsOf j x.fields) (sym one.kind) (record {
-      ports = ports;
-      index = seen;
-      few = few;
-      within = one.within;
-    }))
-    (λ later. fields_of_line due 0 ports x next few later.1) c
+-- the numbers of a line that comes are no greater than what is kept of them
+pub low_line : (due : List Kind) (seen ports : ℕ) (x : Line) (next : Place) → ports < 2 ^ 16 →
+    ComesAt due seen ports x next → AreLow x.kind x.fields
+low_line [] seen ports x next few c = absurd c
+low_line (k ∷ due) seen ports x next few c = ⊎_elim
+    (λ one. subst (λ j. AreLow j x.fields) (sym one.kind) (are_low k x.fields ports seen few one.within))
+    (λ later. low_line due 0 ports x next few later.1) c
 
 gathered_more : (s : State) (xs : List Line) (x : Line) → gathered s (xs ++ x ∷ []) ≡ added x.kind x.fields (gathered s
     xs)

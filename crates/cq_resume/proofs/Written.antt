@@ -2,7 +2,7 @@
 -- part of the text comes where its kind is due, behind so many lines of it, if what stands behind the part completes
 -- the text from there on. And where a kind has all its lines, what completes the text where the next kind is due does
 -- so here.
-use Rattle.std.proofs.Common.{◌≡◌, ℕ, zero, suc, ◌+◌, ◌^◌, ◌<◌, ◌≤◌, List, [], ◌∷◌, ◌++◌, length, map, Some, refl, ap, sym, subst, arith, lit≤, inl, inr}
+use Rattle.std.proofs.Common.{◌≡◌, ℕ, ◌+◌, ◌^◌, ◌<◌, ◌≤◌, List, [], ◌∷◌, ◌++◌, length, map, Some, refl, ap, sym, subst, arith, lit≤, inl, inr}
 use Rattle.std.specs.List.{AllByRecursion}
 use Rattle.cq_lines.specs.Texts.{Leads}
 use Rattle.cq_lines.specs.Ranges.{Within}

@@ -1,7 +1,6 @@
 -- What the lines that were read so far tell of a state: each line adds what it tells.
-use Rattle.std.specs.Prelude.{ℕ, ◌+◌, ◌<◌, ◌^◌, List, [], ◌∷◌, ◌++◌, map, drop, get_or, unwrap_or, Option, None}
+use Rattle.std.specs.Prelude.{ℕ, ◌+◌, ◌<◌, ◌^◌, List, [], ◌∷◌, ◌++◌, map, drop, get_or, unwrap_or, Option, None, ⊤}
 use Rattle.cq_base.specs.declared.cell.Transfer.{Transfer}
-use Rattle.cq_lines.specs.Ranges.{Within}
 use Rattle.cq_resume.specs.declared.gather.Gathered.{Gathered}
 use Rattle.cq_resume.specs.declared.kind.Kind.{Kind}
 use Rattle.cq_resume.specs.declared.kind.Kind.TheVariants as kind
@@ -10,7 +9,7 @@ use Rattle.cq_resume.specs.declared.state.Seen.{Seen}
 use Rattle.cq_resume.specs.declared.state.Named.{Named}
 use Rattle.cq_resume.specs.declared.state.Sent.{Sent}
 use Rattle.cq_resume.specs.declared.state.State.{State}
-use Rattle.cq_resume.specs.StateText.{Line, ranges, further}
+use Rattle.cq_resume.specs.StateText.{Line}
 
 -- the number in a place, and 0 where there is none
 abbrev pub number_at : List (Option ℕ) → ℕ → ℕ
@@ -68,14 +67,7 @@ added kind.Sent fs s = record s { sent = s.sent ++ sent_of fs ∷ [] }
 added kind.Moved fs s = record s { moved = s.moved ++ moved_of fs ∷ [] }
 added kind.End fs s = s
 
--- the fields of a line of this kind, in some switch and behind some lines of its kind
-pub record AreFieldsOf (k : Kind) (fs : List (Option ℕ)) : Type 0 where
-  pub ports : ℕ
-  pub index : ℕ
-  pub few : ports < 2 ^ 16
-  pub within : Within (ranges ports index k) (further k) fs
-
--- what their numbers are below
+-- what the numbers of a line are below
 abbrev pub AreShape : List (Option ℕ) → Type 0
 AreShape fs = (number_at fs 0 < 2 ^ 16) × (number_at fs 1 < 2 ^ 16) × (number_at fs 2 < 2 ^ 63) × (number_at fs 3 <
     2 ^ 63)
@@ -94,6 +86,18 @@ pub record AreMoved (fs : List (Option ℕ)) : Type 0 where
   pub output : number_at fs 3 < 2 ^ 16
   pub packet : number_at fs 4 < 2 ^ 32
   pub index : number_at fs 5 < 2 ^ 32
+
+-- the numbers of a line of this kind are no greater than what the state keeps of them
+abbrev pub AreLow : Kind → List (Option ℕ) → Type 0
+AreLow kind.Next fs = number_at fs 0 < 2 ^ 63
+AreLow kind.Shape fs = AreShape fs
+AreLow kind.Sum fs = (number_at fs 0 < 2 ^ 63) × (number_at fs 1 < 2 ^ 63)
+AreLow kind.Input fs = AreSeen fs
+AreLow kind.Listed fs = AreNamedAt fs 0
+AreLow kind.Buffered fs = AreNamedAt fs 0
+AreLow kind.Sent fs = (number_at fs 0 < 2 ^ 63) × AreNamedAt fs 1
+AreLow kind.Moved fs = AreMoved fs
+AreLow k fs = ⊤
 
 -- the state as it is kept while lines are read
 abbrev pub state_of : Gathered → State

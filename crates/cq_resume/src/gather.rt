@@ -1,7 +1,7 @@
 //! What the lines of a state tell, put together while they are read.
 ghost use Rattle.std.specs.Prelude.{◌≡◌, ◌<◌, ◌^◌, map, unwrap_or, OnOk, IfOk};
 ghost use Rattle.cq_resume.specs.Gather.{number_at, seen_of, rank_of, named_of, moved_of, with_shape, added, state_of, nothing};
-ghost use Rattle.cq_resume.specs.Gather.{AreFieldsOf, AreShape, AreSeen, AreNamedAt, AreMoved};
+ghost use Rattle.cq_resume.specs.Gather.{AreLow, AreShape, AreSeen, AreNamedAt, AreMoved};
 
 use crate::kind::Kind;
 use crate::state::{Head, Named, Seen, Sent, State};
@@ -45,14 +45,13 @@ impl Gathered {
     }
 
     /// Adds what a line of this kind with these fields tells. The error is want of memory.
-    #[tactic(auto, using(crate::proofs::Bounds::next_low, crate::proofs::Bounds::shape_low, crate::proofs::Bounds::sum_low, crate::proofs::Bounds::most_low, crate::proofs::Bounds::seen_low, crate::proofs::Bounds::listed_low, crate::proofs::Bounds::buffered_low, crate::proofs::Bounds::sent_low, crate::proofs::Bounds::sent_cell_low, crate::proofs::Bounds::moved_low,))]
     pub fn add(
         &mut self,
         alloc: Global,
         kind: Kind,
         fields: &[Option<u128>],
     ) -> Result<(), NoMemory>
-        requires { AreFieldsOf kind fields.now }
+        requires { AreLow kind fields.now }
         ensures { OnOk result (state_of self.new ≡ added kind fields.now (state_of self.old)) }
     {
         match kind {

@@ -1,5 +1,5 @@
 use Rattle.std.proofs.Common.{take}
-use Rattle.cq_resume.proofs.Reading.{fields_of_line, line_told, state_told}
+use Rattle.cq_resume.proofs.Reading.{low_line, line_told, state_told}
 use Rattle.cq_resume.specs.Places.{place_of}
 use Rattle.cq_resume.specs.StateText.{Line}
 use Rattle.cq_resume.proofs.read.read_text.Goals as goal
@@ -7,7 +7,7 @@ use Rattle.cq_resume.proofs.read.read_text.Goals as goal
 pub add-requires : goal.add-requires
 add-requires c =
     let read : Line = record { kind = c.in-Some.kind; fields = take c.in-Some.count c.next_line.new.to } in
-    fields_of_line c.lines.place.due.now c.lines.place.seen c.lines.place.ports read (place_of c.in-Some.next)
+    low_line c.lines.place.due.now c.lines.place.seen c.lines.place.ports read (place_of c.in-Some.next)
     c.lines.invariant.few c.in-Some.ensures.found.1
 
 pub lines-preserved : goal.lines-preserved

@@ -1,4 +1,4 @@
-use Rattle.std.proofs.Common.{◌∷◌, map, Some, refl, ap, ◌∙◌}
+use Rattle.std.proofs.Common.{refl}
 use Rattle.cq_resume.proofs.Writing.{numbered_line_put, numbered_lines_put}
 use Rattle.cq_resume.specs.declared.kind.Kind.TheVariants as kind
 use Rattle.cq_resume.specs.State.{input_line}
