@@ -63,7 +63,7 @@ class Stats:
         self.flows: dict[tuple[int, int], Flow] = {}
         self.inputs, self.outputs = [Input() for _ in ports], [Output() for _ in ports]
         self.waits, self.delays = Spread(), Spread()
-        self.proposals, self.most, self.slots = 0, 0, 0
+        self.proposals, self.most, self.slots, self.bytes = 0, 0, 0, 0
         self.greatest: dict[tuple[int, int], int] = {}  # of each packet that is leaving, the greatest wait so far
         self.gone: Iterable[Row] = []  # the packets that left or were refused in this slot
 
@@ -105,6 +105,7 @@ class Stats:
             return
         row = self._packet(cell, number, greatest)
         flow.packets += 1
+        self.bytes += row["captured_bytes"]
         self.outputs[cell.output].packets += 1
         flow.delays.add(row["delay_ns"])
         self.delays.add(row["delay_ns"])
@@ -148,7 +149,7 @@ class Stats:
         row: Row = {"configuration": configuration.name, "ports": configuration.ports, "classes": len(configuration.classes),
                     "cell_bytes": configuration.cell_bytes, "slot_ns": slot_ns,
                     "line_rate_bits": round(configuration.line_rate), "origin_ns": self.run.captures.origin,
-                    "slots": self.slots, "packets": len(self.delays), "cells": len(self.waits),
+                    "slots": self.slots, "packets": len(self.delays), "cells": len(self.waits), "fill": self._fill(),
                     "refused_packets": sum(flow.refused_packets for flow in self.flows.values()),
                     "refused_cells": sum(flow.refused_cells for flow in self.flows.values())}
         row |= self.waits.row("wait", "slots") | self.waits.row("wait", "ns", slot_ns) | self.delays.row("delay", "ns")
@@ -160,6 +161,14 @@ class Stats:
                     "proposals_mean": round(self.proposals / (2 * self.slots), 3) if self.slots else 0.0}
         return row
 
+    def _fill(self) -> float | None:
+        """The share of the cells' bytes that are bytes of packets."""
+        return round(self.bytes / (len(self.waits) * self.configuration.cell_bytes), 3) if len(self.waits) else None
+
+    def _load(self, cells: int) -> float:
+        """The share of the slots in which a line carries a cell."""
+        return round(cells / self.slots, 3) if self.slots else 0.0
+
     def _flow_row(self, output: int, kind: int) -> Row:
         flow = self.flows[output, kind]
         return ({"output": output, "class": kind, "packets": flow.packets, "cells": flow.cells,
@@ -170,15 +179,14 @@ class Stats:
     def _output_row(self, j: int) -> Row:
         output = self.outputs[j]
         row = {"output": j, "discipline": self.configuration.disciplines[j], "packets": output.packets,
-               "cells": output.cells, "idle_slots": self.slots - output.cells,
-               "load": round(output.cells / self.slots, 3) if self.slots else 0.0}
+               "cells": output.cells, "idle_slots": self.slots - output.cells, "load": self._load(output.cells)}
         if self.run.log:
             row |= {"buffer_peak": output.longest, "buffer_mean": output.buffer.mean(self.slots)}
         return row
 
     def _input_row(self, i: int) -> Row:
         packets, figures = self.run.captures.inputs[i], self.inputs[i]
-        row = ({"input": i, "packets": len(packets), "cells": figures.cells} | self._routes(packets)
+        row = ({"input": i, "packets": len(packets), "cells": figures.cells, "load": self._load(figures.cells)} | self._routes(packets)
                | figures.ahead.row("ahead", "slots") | figures.ahead.row("ahead", "ns", self.configuration.slot_ns))
         if self.run.log:
             row |= {"list_peak": figures.length.peak, "list_mean": figures.length.mean(self.slots),
@@ -233,8 +241,8 @@ def print_tables(document: dict[str, Any]) -> None:
     run = document["run"]
     print(f"{run['configuration']}: {run['ports']} ports, cells of {run['cell_bytes']} bytes, slots of {run['slot_ns']} ns, "
           f"lines of {run['line_rate_bits']:,} bits a second")
-    print(f"{run['packets']} packets left in {run['cells']} cells, the last one in slot {run['slots'] - 1}"
-          if run["slots"] else "no packet left")
+    print(f"{run['packets']} packets left in {run['cells']} cells, {100 * run['fill']:.1f} % full, the last one in slot "
+          f"{run['slots'] - 1}" if run["slots"] else "no packet left")
     if run["refused_packets"]:
         print(f"{run['refused_packets']} packets of {run['refused_cells']} cells were refused")
     if "proposals" in run:
@@ -259,7 +267,7 @@ def tables_of(document: dict[str, Any]) -> Iterable[tuple[str, list[Row]]]:
     yield "how long its cells waited, from arrival to departure", columns(flows, "output", "class", "wait_", without="wait_")
     yield "delay of its packets, from stamp to written stamp", columns(flows, "output", "class", "delay_", without="delay_")
     yield "outputs, and their buffers", columns(document["outputs"], "")
-    yield "inputs, and packets for which a default decided", columns(inputs, "input", "packets", "cells", "to_", "by_")
+    yield "inputs, and packets for which a default decided", columns(inputs, "input", "packets", "cells", "load", "to_", "by_")
     yield "how long packets waited ahead of their own line", columns(inputs, "input", "ahead_", without="ahead_")
     if document["run"].get("list_peak") is not None:
         yield "lists of the inputs, and the slack of cells on arrival", columns(inputs, "input", "list", "slack")

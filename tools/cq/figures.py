@@ -4,8 +4,6 @@ import math
 from collections import Counter
 from collections.abc import Callable, Iterator
 
-BINS = 512
-
 
 class Spread:
     """A distribution of whole numbers, exact: how often each came."""
@@ -72,14 +70,14 @@ class Mean:
 
 
 class Series:
-    """Values over time, in at most 512 bins of equally many slots. The bins grow with the run."""
+    """Values over time, in at most so many bins of equally many slots. The bins grow with the run."""
 
-    def __init__(self, fold: Callable[[float, float], float], empty: float = math.nan) -> None:
-        self.fold, self.empty, self.width = fold, empty, 1
+    def __init__(self, most: int, fold: Callable[[float, float], float], empty: float = math.nan) -> None:
+        self.most, self.fold, self.empty, self.width = most, fold, empty, 1
         self.bins: dict[int, float] = {}
 
     def add(self, slot: int, value: float) -> None:
-        while slot // self.width >= BINS:
+        while slot // self.width >= self.most:
             self.widen()
         self._put(slot // self.width, value)
 
@@ -95,7 +93,7 @@ class Series:
 
     def points(self, slots: int) -> tuple[list[int], list[float]]:
         """The first slot of each bin, and its value, over a run of so many slots."""
-        while (slots - 1) // self.width >= BINS:
+        while (slots - 1) // self.width >= self.most:
             self.widen()
         count = -(-slots // self.width)
         return [at * self.width for at in range(count)], [self.bins.get(at, self.empty) for at in range(count)]

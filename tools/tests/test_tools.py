@@ -200,7 +200,7 @@ class Parts(unittest.TestCase):
         self.assertEqual((length.mean(5), length.peak), (2.0, 4))
 
     def test_bins_grow_with_the_run(self) -> None:
-        series = Series(max, 0)
+        series = Series(512, max, 0)
         for slot in range(2000):
             series.add(slot, slot)
         slots, values = series.points(2000)

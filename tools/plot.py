@@ -1,0 +1,327 @@
+#!/usr/bin/env python3
+"""Pictures of runs and of sweeps, as PNG and SVG. It needs matplotlib.
+
+    plot.py run CONFIG [CONFIG] --out FOLDER
+    plot.py sweep CSV --x KEY --y FIGURE [--by KEY,..] [--where KEY=VALUE,..] --out NAME
+
+The first draws a run, or two runs side by side, from their captures, traces and logs, with names taken from the caller's
+folder: `slack`, `lists`, `buffers`, `load`, `waits` and `proposals` in FOLDER. After `cq_switch ideal`, which writes no
+log, give `--without-log`: then there are `load` and `waits`. The second draws one figure of a sweep's CSV over one key.
+"""
+
+import argparse
+import csv
+import math
+import os
+from collections.abc import Iterable
+from typing import Any
+
+from cq.config import Configuration, read_configuration
+from cq.faults import Fault, guarded, reason
+from cq.figures import Series, Spread
+from cq.lines import NEVER
+from cq.replay import Slot, replay
+
+# Colours that are told apart by everybody (Okabe and Ito 2008).
+COLOURS = ("#0072b2", "#d55e00", "#009e73", "#cc79a7", "#56b4e9", "#e69f00", "#000000", "#999999")
+MOST_ROWS = 8  # ports in one picture
+FINE, COARSE = 256, 64  # bins of a series over time
+UNITS = ((1e9, "s"), (1e6, "ms"), (1e3, "µs"), (1, "ns"))
+MARKS = ((50, "o", "median"), (99, "s", "99th of 100"), (100, "D", "greatest"))
+
+Row = dict[str, str]
+
+
+def pyplot() -> Any:
+    """The library that draws."""
+    try:
+        import matplotlib
+    except ImportError:
+        raise Fault("matplotlib is not there: `apt-get install python3-matplotlib`, and call /usr/bin/python3") from None
+    matplotlib.use("Agg")
+    from matplotlib import pyplot as library
+    library.rcParams.update({"axes.prop_cycle": library.cycler(color=COLOURS), "axes.grid": True, "grid.alpha": 0.3,
+                             "axes.spines.top": False, "axes.spines.right": False, "svg.hashsalt": "cq_switch",
+                             "legend.frameon": False, "legend.fontsize": "small", "lines.linewidth": 1.2})
+    return library
+
+
+def added(one: float, other: float) -> float:
+    return one + other
+
+
+class Curves:
+    """What is drawn of a run."""
+
+    def __init__(self, configuration: Configuration, with_log: bool) -> None:
+        ports, phases = range(configuration.ports), range(2)
+        self.configuration, self.with_log, self.slots = configuration, with_log, 0
+        self.slack, self.lists = [Series(FINE, min) for _ in ports], [Series(FINE, max, 0) for _ in ports]
+        self.buffers, self.load = [Series(FINE, max, 0) for _ in ports], [Series(COARSE, added, 0) for _ in ports]
+        self.mean, self.most = [Series(COARSE, added, 0) for _ in phases], [Series(COARSE, max, 0) for _ in phases]
+        self.waits: dict[tuple[int, int], Spread] = {}
+        for slot in replay(configuration, with_log).slots():
+            self.add(slot)
+
+    def add(self, slot: Slot) -> None:
+        for cell in slot.sent:
+            self.slots = slot.number + 1
+            self.waits.setdefault((cell.output, cell.kind), Spread()).add(slot.number - cell.slot)
+            self.load[cell.output].add(slot.number, 1)
+        if not self.with_log:
+            return
+        for cell, slack in zip(slot.arrived, slot.slacks):
+            self.slack[cell.input].add(slot.number, slack)
+        for lines, lengths in ((self.lists, slot.lists), (self.buffers, slot.peaks), (self.buffers, slot.buffers)):
+            for line, length in zip(lines, lengths):
+                if length:
+                    line.add(slot.number, length)
+        for phase, count in enumerate(slot.proposals):
+            self.mean[phase].add(slot.number, count)
+            self.most[phase].add(slot.number, count)
+
+    @property
+    def length_ns(self) -> int:
+        return self.slots * self.configuration.slot_ns
+
+    def points(self, series: Series, unit: float, by_width: bool = False) -> tuple[list[float], list[float]]:
+        """The times of the bins, and their values, or these for each slot of a bin."""
+        slots, values = series.points(self.slots)
+        width = series.width if by_width else 1
+        return [slot * self.configuration.slot_ns / unit for slot in slots], [value / width for value in values]
+
+
+def unit_of(longest_ns: float) -> tuple[float, str]:
+    """A unit of time in which this is a number of few digits."""
+    return next((unit for unit in UNITS if longest_ns >= 2 * unit[0]), UNITS[-1])
+
+
+def save(figure: Any, name: str) -> None:
+    """Writes NAME.png and NAME.svg."""
+    figure.savefig(name + ".png", dpi=100, bbox_inches="tight")
+    figure.savefig(name + ".svg", metadata={"Date": None}, bbox_inches="tight")
+
+
+class Picture:
+    """A picture with a column for each run and a row for each of what is told apart. It is saved as PNG and as SVG."""
+
+    def __init__(self, library: Any, runs: list[Curves], rows: int, height: float, label: str, below: str) -> None:
+        self.library = library
+        self.figure, self.axes = library.subplots(rows, len(runs), sharex=True, sharey=True, squeeze=False, layout="constrained",
+                                                  figsize=(6.4 * len(runs), 1.1 + height * rows))
+        for run, column in zip(runs, self.axes.T):
+            column[0].set_title(run.configuration.name, fontsize="medium")
+            column[-1].set_xlabel(below)
+        self.figure.supylabel(label, fontsize="medium")
+
+    def save(self, name: str) -> None:
+        save(self.figure, name)
+        self.library.close(self.figure)
+
+
+def busiest(weights: dict[int, float]) -> list[int]:
+    """The ports that are drawn, where there are more than a picture holds: those of the greatest weights."""
+    return sorted(sorted(weights, key=lambda port: -weights[port])[:MOST_ROWS])
+
+
+def weights_of(runs: list[Curves], what: str) -> dict[int, float]:
+    """For each port that has a value in a run, its greatest one; for the slack the least one counts."""
+    weights: dict[int, float] = {}
+    for run in runs:
+        for port, line in enumerate(getattr(run, what)):
+            if line.bins:
+                values = line.bins.values()
+                weights[port] = max(weights.get(port, -NEVER), -min(values) if what == "slack" else max(values))
+    return weights
+
+
+def draw_ports(library: Any, runs: list[Curves], name: str, what: str, label: str, port_name: str) -> None:
+    """A row for each port, over time."""
+    unit, unit_name = unit_of(max(run.length_ns for run in runs))
+    ports = busiest(weights_of(runs, what))
+    picture = Picture(library, runs, max(1, len(ports)), 0.9, label, f"time ({unit_name})")
+    for run, column in zip(runs, picture.axes.T):
+        for axis, port in zip(column, ports):
+            times, values = run.points(getattr(run, what)[port], unit, what == "load")
+            if what == "slack":
+                axis.plot(times, values, ".", color=COLOURS[0], markersize=3, clip_on=False)
+            else:
+                axis.fill_between(times, values, step="post", color=COLOURS[0], linewidth=0)
+            axis.set_ylabel(f"{port_name} {port}", fontsize="small")
+            if what != "load":
+                axis.yaxis.get_major_locator().set_params(integer=True, nbins=4)
+    picture.axes[0][0].set_ylim(0, 1.05 if what == "load" else None)
+    picture.save(name)
+
+
+def draw_proposals(library: Any, runs: list[Curves], name: str) -> None:
+    """The proposals of each of the two matchings of a slot: the mean and the most of a bin."""
+    unit, unit_name = unit_of(max(run.length_ns for run in runs))
+    picture = Picture(library, runs, 2, 1.6, "proposals of a matching", f"time ({unit_name})")
+    for run, column in zip(runs, picture.axes.T):
+        for phase, axis in enumerate(column):
+            axis.fill_between(*run.points(run.most[phase], unit), step="post", color=COLOURS[4], linewidth=0, label="most")
+            axis.step(*run.points(run.mean[phase], unit, True), where="post", color=COLOURS[0], label="mean")
+            axis.set_ylabel(f"phase {phase + 1}", fontsize="small")
+            axis.yaxis.get_major_locator().set_params(integer=True)
+    picture.axes[0][0].set_ylim(bottom=0)
+    picture.axes[0][0].legend(ncols=2)
+    picture.save(name)
+
+
+def draw_waits(library: Any, runs: list[Curves], name: str) -> None:
+    """For each output and class how many cells waited how long, with median, 99th and greatest."""
+    cells: dict[int, float] = {}
+    for run in runs:
+        for (output, _), spread in run.waits.items():
+            cells[output] = cells.get(output, 0) + len(spread)
+    longest = {at: max(run.configuration.slot_ns * (spread.greatest() or 0) for run in runs
+                       for (output, _), spread in run.waits.items() if output == at) for at in cells}
+    outputs = busiest({output: count for output, count in cells.items() if longest[output]} or cells)
+    unit, unit_name = unit_of(max(longest.values()))
+    left_out = "; outputs at which no cell waits are left out" if len(outputs) < min(len(cells), MOST_ROWS) else ""
+    picture = Picture(library, runs, len(outputs), 1.6, "of 100 cells wait as long or longer",
+                      f"wait of a cell ({unit_name}){left_out}")
+    for run, column in zip(runs, picture.axes.T):
+        for axis, output in zip(column, outputs):
+            for kind in (kind for at, kind in sorted(run.waits) if at == output):
+                draw_wait(axis, run.waits[output, kind], run.configuration.slot_ns / unit, COLOURS[kind % len(COLOURS)])
+            axis.set_ylabel(f"output {output}", fontsize="small")
+            axis.set_yscale("log")
+            axis.set_ylim(top=150)
+            axis.yaxis.set_major_formatter(lambda value, _: f"{value:g}")
+    kinds = sorted({kind for run in runs for _, kind in run.waits})
+    add_legend(picture, [(COLOURS[kind % len(COLOURS)], "-", "", f"class {kind}") for kind in kinds]
+               + [("black", "", marker, word) for _, marker, word in MARKS])
+    picture.save(name)
+
+
+def draw_wait(axis: Any, spread: Spread, scale: float, colour: str) -> None:
+    """The waits of one class at one output."""
+    tail = {value: 100 * share for value, share in spread.tail()}
+    axis.step([value * scale for value in tail], list(tail.values()), where="pre", color=colour)
+    for per_cent, marker, _ in MARKS:
+        value = spread.share(per_cent)
+        axis.plot(value * scale, tail[value], marker, color=colour, markersize=5)
+
+
+def add_legend(picture: Picture, entries: list[tuple[str, str, str, str]]) -> None:
+    """A legend below the picture, of colour, line, marker and word."""
+    handles = [picture.axes[0][0].plot([], [], color=colour, linestyle=line, marker=marker, label=word)[0]
+               for colour, line, marker, word in entries]
+    picture.figure.legend(handles=handles, loc="upper center", bbox_to_anchor=(0.5, 0), ncols=min(6, len(handles)))
+
+
+def draw_runs(configurations: list[Configuration], folder: str, with_log: bool) -> None:
+    """Draws all pictures of one run, or of two side by side."""
+    library = pyplot()
+    runs = [Curves(configuration, with_log) for configuration in configurations]
+    if not all(run.slots for run in runs):
+        raise Fault("a run in which no cell leaves has no picture")
+    os.makedirs(folder, exist_ok=True)
+    draw_waits(library, runs, os.path.join(folder, "waits"))
+    draw_ports(library, runs, os.path.join(folder, "load"), "load", "cells sent a slot", "output")
+    if with_log:
+        draw_ports(library, runs, os.path.join(folder, "slack"), "slack", "least slack of arriving cells", "input")
+        draw_ports(library, runs, os.path.join(folder, "lists"), "lists", "most cells in the list", "input")
+        draw_ports(library, runs, os.path.join(folder, "buffers"), "buffers", "most cells in the buffer", "output")
+        draw_proposals(library, runs, os.path.join(folder, "proposals"))
+
+
+def number_of(text: str) -> float | None:
+    """A number, where a text is one."""
+    try:
+        return float(text)
+    except ValueError:
+        return None
+
+
+def read_rows(name: str, where: dict[str, str], keys: Iterable[str]) -> list[Row]:
+    """The rows of a CSV that have these values, with the columns that are asked for."""
+    try:
+        with open(name, encoding="utf-8", newline="") as file:
+            rows = list(csv.DictReader(file))
+    except OSError as error:
+        raise Fault(f"{name}: {reason(error)}") from None
+    missing = [key for key in keys if not rows or key not in rows[0]]
+    if missing:
+        raise Fault(f"{name}: no column {missing[0]}; it has {', '.join(rows[0]) if rows else 'no row'}")
+    return [row for row in rows if all(row[key] == value for key, value in where.items())]
+
+
+def draw_sweep(name: str, x: str, y: str, by: list[str], where: dict[str, str], out: str, log: bool) -> None:
+    """Draws a figure over a key, with a line for each of what it is told apart by."""
+    where = {key: "all" for key in ("output", "class") if key not in by} | where
+    rows = [row for row in read_rows(name, where, [x, y, *by, *where]) if row[y] and not (set(by) & {"output", "class"} and "all" in
+            (row[key] for key in by))]
+    lines: dict[tuple[str, ...], dict[str, float]] = {}
+    for row in rows:
+        line = lines.setdefault(tuple(row[key] for key in by), {})
+        if row[x] in line:
+            raise Fault(f"{name}: several rows for {x} = {row[x]}; tell them apart by --by or --where")
+        line[row[x]] = float(row[y])
+    if not lines:
+        raise Fault(f"{name}: no row has a figure {y} there")
+    values = list(dict.fromkeys(row[x] for row in rows))
+    numbers = [number_of(value) for value in values]
+    places = dict(zip(values, range(len(values)) if None in numbers else numbers))
+    library = pyplot()
+    figure, axis = library.subplots(layout="constrained", figsize=(6.4, 4))
+    for key, line in lines.items():
+        points = sorted((places[value], figure_) for value, figure_ in line.items())
+        axis.plot(*zip(*points), marker="o", markersize=4, label=", ".join(f"{n} {v}" for n, v in zip(by, key)))
+    axis.set_xticks(list(places.values()), list(places))
+    axis.set_xlabel(x.replace("_", " "))
+    axis.set_ylabel(y.replace("_", " "))
+    if log:
+        axis.set_yscale("log")
+    else:
+        axis.set_ylim(bottom=min(0, axis.get_ylim()[0]))
+    if by:
+        axis.legend()
+    save(figure, out)
+
+
+def pairs(text: str) -> dict[str, str]:
+    """KEY=VALUE, with a comma between two."""
+    return dict(part.split("=", 1) for part in text.split(","))
+
+
+def names(text: str) -> list[str]:
+    return text.split(",")
+
+
+def words() -> argparse.ArgumentParser:
+    parser = argparse.ArgumentParser(description="Pictures of runs and of sweeps, as PNG and SVG.")
+    kinds = parser.add_subparsers(dest="kind", required=True)
+    run = kinds.add_parser("run", help="draw one run, or two side by side")
+    run.add_argument("configs", metavar="CONFIG", nargs="+")
+    run.add_argument("--out", required=True, metavar="FOLDER")
+    run.add_argument("--without-log", action="store_true", help="there is no log, as after `cq_switch ideal`")
+    sweep = kinds.add_parser("sweep", help="draw a figure of a sweep")
+    sweep.add_argument("csv", metavar="CSV")
+    sweep.add_argument("--x", required=True, metavar="KEY")
+    sweep.add_argument("--y", required=True, metavar="FIGURE")
+    sweep.add_argument("--by", type=names, default=[], metavar="KEY,..", help="a line for each of their values")
+    sweep.add_argument("--where", type=pairs, default={}, metavar="KEY=VALUE,..", help="only rows that have these")
+    sweep.add_argument("--log", action="store_true", help="a logarithmic scale of the figure")
+    sweep.add_argument("--out", required=True, metavar="NAME", help="the name of the picture, without its ending")
+    return parser
+
+
+def main() -> None:
+    options = words().parse_args()
+
+    def work() -> None:
+        if options.kind == "sweep":
+            draw_sweep(options.csv, options.x, options.y, options.by, options.where, options.out, options.log)
+        elif len(options.configs) > 2:
+            raise Fault("one run, or two")
+        else:
+            draw_runs([read_configuration(name) for name in options.configs], options.out, not options.without_log)
+
+    guarded("plot.py", work)
+
+
+if __name__ == "__main__":
+    main()
