@@ -249,35 +249,55 @@ def read_rows(name: str, where: dict[str, str], keys: Iterable[str]) -> list[Row
     return [row for row in rows if all(row[key] == value for key, value in where.items())]
 
 
-def draw_sweep(name: str, x: str, y: str, by: list[str], where: dict[str, str], out: str, log: bool) -> None:
-    """Draws a figure over a key, with a line for each of what it is told apart by."""
-    where = {key: "all" for key in ("output", "class") if key not in by} | where
-    rows = [row for row in read_rows(name, where, [x, y, *by, *where]) if row[y] and not (set(by) & {"output", "class"} and "all" in
-            (row[key] for key in by))]
-    lines: dict[tuple[str, ...], dict[str, float]] = {}
-    for row in rows:
-        line = lines.setdefault(tuple(row[key] for key in by), {})
-        if row[x] in line:
-            raise Fault(f"{name}: several rows for {x} = {row[x]}; tell them apart by --by or --where")
-        line[row[x]] = float(row[y])
-    if not lines:
-        raise Fault(f"{name}: no row has a figure {y} there")
-    values = list(dict.fromkeys(row[x] for row in rows))
-    numbers = [number_of(value) for value in values]
-    places = dict(zip(values, range(len(values)) if None in numbers else numbers))
+class Sweep:
+    """A figure of a sweep over the values of one key, with a line for each of what is told apart."""
+
+    def __init__(self, name: str, x: str, y: str, by: list[str], where: dict[str, str]) -> None:
+        where = {key: "all" for key in ("output", "class") if key not in by} | where
+        self.lines: dict[tuple[str, ...], dict[str, float]] = {}
+        for row in read_rows(name, where, [x, y, *by, *where]):
+            if row[y] and not any(row[key] == "all" for key in by if key not in where):
+                line = self.lines.setdefault(tuple(row[key] for key in by), {})
+                if row[x] in line:
+                    raise Fault(f"{name}: several rows for {x} = {row[x]}; tell them apart by --by or --where")
+                line[row[x]] = float(row[y])
+        if not self.lines:
+            raise Fault(f"{name}: no row has a figure {y} there")
+        self.values = list(dict.fromkeys(value for line in self.lines.values() for value in line))
+        numbers = [number_of(value) for value in self.values]
+        self.in_words = None in numbers
+        self.places = dict(zip(self.values, range(len(numbers)) if self.in_words else numbers))
+        self.names = [", ".join(f"{name} {value}" for name, value in zip(by, key)) for key in self.lines]
+
+    def greatest(self) -> float:
+        return max(abs(figure) for line in self.lines.values() for figure in line.values())
+
+    def draw(self, axis: Any, unit: float) -> None:
+        """Draws bars over values that are words, and lines over numbers."""
+        width = 0.8 / len(self.lines)
+        for number, (name, line) in enumerate(zip(self.names, self.lines.values())):
+            places, figures = zip(*sorted((self.places[value], figure / unit) for value, figure in line.items()))
+            if self.in_words:
+                axis.bar([place + width * (number + 0.5) - 0.4 for place in places], figures, width, label=name)
+            else:
+                axis.plot(places, figures, marker="o", markersize=4, label=name)
+        axis.set_xticks(list(self.places.values()), self.values)
+
+
+def draw_sweep(sweep: Sweep, x: str, y: str, where: dict[str, str], out: str, log: bool) -> None:
+    """Draws a sweep. A figure in nanoseconds is drawn in a unit of its size."""
     library = pyplot()
     figure, axis = library.subplots(layout="constrained", figsize=(6.4, 4))
-    for key, line in lines.items():
-        points = sorted((places[value], figure_) for value, figure_ in line.items())
-        axis.plot(*zip(*points), marker="o", markersize=4, label=", ".join(f"{n} {v}" for n, v in zip(by, key)))
-    axis.set_xticks(list(places.values()), list(places))
+    unit, unit_name = unit_of(sweep.greatest()) if y.endswith("_ns") else (1.0, "")
+    sweep.draw(axis, unit)
+    axis.set_title(", ".join(f"{key} {value}" for key, value in where.items()), fontsize="medium")
     axis.set_xlabel(x.replace("_", " "))
-    axis.set_ylabel(y.replace("_", " "))
+    axis.set_ylabel(y.removesuffix("_ns").replace("_", " ") + (f" ({unit_name})" if unit_name else ""))
     if log:
         axis.set_yscale("log")
     else:
-        axis.set_ylim(bottom=min(0, axis.get_ylim()[0]))
-    if by:
+        axis.set_ylim(bottom=min(0.0, axis.get_ylim()[0]))
+    if any(sweep.names):
         axis.legend()
     save(figure, out)
 
@@ -314,7 +334,8 @@ def main() -> None:
 
     def work() -> None:
         if options.kind == "sweep":
-            draw_sweep(options.csv, options.x, options.y, options.by, options.where, options.out, options.log)
+            sweep = Sweep(options.csv, options.x, options.y, options.by, options.where)
+            draw_sweep(sweep, options.x, options.y, options.where, options.out, options.log)
         elif len(options.configs) > 2:
             raise Fault("one run, or two")
         else:

@@ -27,6 +27,7 @@ from cq.replay import Cell, Replay, Slot, replay
 from cq.table import table
 
 Row = dict[str, Any]
+Name = tuple[int | str, int | str]  # an output and a class, or "all" of them
 PACKET_COLUMNS = ("input", "packet", "output", "class", "destination", "class_by", "captured_bytes", "wire_bytes", "cells",
                   "stamp_ns", "stamp_slot", "start_slot", "ahead_slots", "last_slot", "leaves_ns", "delay_ns",
                   "wait_last_slots", "wait_greatest_slots")
@@ -36,8 +37,19 @@ class Flow:
     """What leaves one output in one class."""
 
     def __init__(self) -> None:
-        self.packets, self.cells, self.refused_packets, self.refused_cells = 0, 0, 0, 0
-        self.waits, self.delays = Spread(), Spread()
+        self.refused_packets, self.refused_cells, self.waits, self.delays = 0, 0, Spread(), Spread()
+
+    def add(self, other: "Flow") -> None:
+        """Adds all that another one has."""
+        self.refused_packets += other.refused_packets
+        self.refused_cells += other.refused_cells
+        self.waits.counts += other.waits.counts
+        self.delays.counts += other.delays.counts
+
+    def row(self, slot_ns: int) -> Row:
+        return ({"packets": len(self.delays), "cells": len(self.waits), "refused_packets": self.refused_packets,
+                 "refused_cells": self.refused_cells} | self.waits.row("wait", "slots") | self.waits.row("wait", "ns", slot_ns)
+                | self.delays.row("delay", "ns"))
 
 
 class Input:
@@ -48,10 +60,10 @@ class Input:
 
 
 class Output:
-    """What leaves one output, and its buffer."""
+    """The buffer of one output."""
 
     def __init__(self) -> None:
-        self.packets, self.cells, self.longest, self.buffer = 0, 0, 0, Mean()
+        self.longest, self.buffer = 0, Mean()
 
 
 class Stats:
@@ -62,7 +74,6 @@ class Stats:
         ports = range(run.configuration.ports)
         self.flows: dict[tuple[int, int], Flow] = {}
         self.inputs, self.outputs = [Input() for _ in ports], [Output() for _ in ports]
-        self.waits, self.delays = Spread(), Spread()
         self.proposals, self.most, self.slots, self.bytes = 0, 0, 0, 0
         self.greatest: dict[tuple[int, int], int] = {}  # of each packet that is leaving, the greatest wait so far
         self.gone: Iterable[Row] = []  # the packets that left or were refused in this slot
@@ -95,20 +106,14 @@ class Stats:
     def _send(self, number: int, cell: Cell, gone: list[Row]) -> None:
         flow, wait, name = self._flow(cell), number - cell.slot, (cell.input, cell.packet)
         self.slots = number + 1
-        flow.cells += 1
-        self.outputs[cell.output].cells += 1
         flow.waits.add(wait)
-        self.waits.add(wait)
         greatest = max(wait, self.greatest.pop(name, 0))
         if not cell.last:
             self.greatest[name] = greatest
             return
         row = self._packet(cell, number, greatest)
-        flow.packets += 1
         self.bytes += row["captured_bytes"]
-        self.outputs[cell.output].packets += 1
         flow.delays.add(row["delay_ns"])
-        self.delays.add(row["delay_ns"])
         gone.append(row)
 
     def _packet(self, cell: Cell, number: int | None, greatest: int | None) -> Row:
@@ -133,26 +138,35 @@ class Stats:
             output.longest = max(output.longest, peak, length)
             output.buffer.set(slot.number, length)
 
+    def totals(self) -> dict[Name, Flow]:
+        """What leaves each output in each class, and all outputs, and in all classes."""
+        totals: dict[Name, Flow] = {("all", "all"): Flow()}
+        for (output, kind), flow in self.flows.items():
+            for name in ((output, kind), (output, "all"), ("all", kind), ("all", "all")):
+                totals.setdefault(name, Flow()).add(flow)
+        return dict(sorted(totals.items(), key=lambda item: [(isinstance(part, str), part) for part in item[0]]))
+
     def document(self) -> dict[str, Any]:
         """All figures, as JSON has them."""
         for number, packets in enumerate(self.run.captures.inputs):
             for start, stamp_slot in zip(packets.starts, packets.stamp_slots):
                 self.inputs[number].ahead.add(start - stamp_slot)
-        return {"run": self._run_row(), "flows": [self._flow_row(*name) for name in sorted(self.flows)],
-                "outputs": [self._output_row(j) for j in range(self.configuration.ports)],
-                "inputs": [self._input_row(i) for i in range(self.configuration.ports)],
+        totals, ports = self.totals(), range(self.configuration.ports)
+        return {"run": self._run_row(totals["all", "all"]),
+                "flows": [{"output": output, "class": kind} | flow.row(self.configuration.slot_ns)
+                          for (output, kind), flow in totals.items()],
+                "outputs": [self._output_row(j, totals.get((j, "all"), Flow())) for j in ports],
+                "inputs": [self._input_row(i) for i in ports],
                 "slack": [{"input": i, "slack": slack, "cells": count} for i, row in enumerate(self.inputs)
                           for slack, count in sorted(row.slacks.counts.items())]}
 
-    def _run_row(self) -> Row:
-        configuration, slot_ns = self.configuration, self.configuration.slot_ns
+    def _run_row(self, whole: Flow) -> Row:
+        configuration, cells = self.configuration, len(whole.waits)
         row: Row = {"configuration": configuration.name, "ports": configuration.ports, "classes": len(configuration.classes),
-                    "cell_bytes": configuration.cell_bytes, "slot_ns": slot_ns,
+                    "cell_bytes": configuration.cell_bytes, "slot_ns": configuration.slot_ns,
                     "line_rate_bits": round(configuration.line_rate), "origin_ns": self.run.captures.origin,
-                    "slots": self.slots, "packets": len(self.delays), "cells": len(self.waits), "fill": self._fill(),
-                    "refused_packets": sum(flow.refused_packets for flow in self.flows.values()),
-                    "refused_cells": sum(flow.refused_cells for flow in self.flows.values())}
-        row |= self.waits.row("wait", "slots") | self.waits.row("wait", "ns", slot_ns) | self.delays.row("delay", "ns")
+                    "slots": self.slots, "fill": round(self.bytes / (cells * configuration.cell_bytes), 3) if cells else None}
+        row |= whole.row(configuration.slot_ns)
         if self.run.log:
             row |= {"list_peak": max(row.length.peak for row in self.inputs),
                     "buffer_peak": max(output.longest for output in self.outputs),
@@ -161,25 +175,14 @@ class Stats:
                     "proposals_mean": round(self.proposals / (2 * self.slots), 3) if self.slots else 0.0}
         return row
 
-    def _fill(self) -> float | None:
-        """The share of the cells' bytes that are bytes of packets."""
-        return round(self.bytes / (len(self.waits) * self.configuration.cell_bytes), 3) if len(self.waits) else None
-
     def _load(self, cells: int) -> float:
         """The share of the slots in which a line carries a cell."""
         return round(cells / self.slots, 3) if self.slots else 0.0
 
-    def _flow_row(self, output: int, kind: int) -> Row:
-        flow = self.flows[output, kind]
-        return ({"output": output, "class": kind, "packets": flow.packets, "cells": flow.cells,
-                 "refused_packets": flow.refused_packets, "refused_cells": flow.refused_cells}
-                | flow.waits.row("wait", "slots") | flow.waits.row("wait", "ns", self.configuration.slot_ns)
-                | flow.delays.row("delay", "ns"))
-
-    def _output_row(self, j: int) -> Row:
-        output = self.outputs[j]
-        row = {"output": j, "discipline": self.configuration.disciplines[j], "packets": output.packets,
-               "cells": output.cells, "idle_slots": self.slots - output.cells, "load": self._load(output.cells)}
+    def _output_row(self, j: int, flow: Flow) -> Row:
+        cells, output = len(flow.waits), self.outputs[j]
+        row = {"output": j, "discipline": self.configuration.disciplines[j], "packets": len(flow.delays), "cells": cells,
+               "idle_slots": self.slots - cells, "load": self._load(cells)}
         if self.run.log:
             row |= {"buffer_peak": output.longest, "buffer_mean": output.buffer.mean(self.slots)}
         return row
@@ -261,7 +264,8 @@ def columns(rows: list[Row], *parts: str, without: str = "") -> list[Row]:
 
 def tables_of(document: dict[str, Any]) -> Iterable[tuple[str, list[Row]]]:
     """The tables that are printed, each under its title."""
-    flows, inputs = document["flows"], document["inputs"]
+    inputs = document["inputs"]
+    flows = [row for row in document["flows"] if (row["output"] == "all") == (row["class"] == "all")]
     left = ("output", "class", "packets", "cells") + (("refused",) if document["run"]["refused_packets"] else ())
     yield "what left, by output and class", columns(flows, *left)
     yield "how long its cells waited, from arrival to departure", columns(flows, "output", "class", "wait_", without="wait_")

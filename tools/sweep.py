@@ -143,8 +143,7 @@ def run_all(folder: str, numbers: list[str], options: argparse.Namespace) -> Non
 
 
 def rows(folder: str, number: str, choice: Choice) -> list[dict[str, Any]]:
-    """The rows of a run: one for all that left, and one for each output and class. A run that failed has one without
-    figures."""
+    """The rows of a run: one for each output and class, and for all of them. A run that failed has one without figures."""
     row: dict[str, Any] = {"configuration": number} | choice
     try:
         with open(os.path.join(folder, number, "stats.json"), encoding="utf-8") as file:
@@ -153,15 +152,14 @@ def rows(folder: str, number: str, choice: Choice) -> list[dict[str, Any]]:
         return [row | {"output": "all", "class": "all"}]
     run = document["run"]
     row |= {name: run[name] for name in RUN_FIGURES}
-    row["ns_a_proposal"] = round(run["slot_ns"] / 2 / run["proposals_most"], 3) if run["proposals_most"] else None
-    whole = {name: run[name] for name in run if name.startswith(("packets", "cells", "refused", "wait_", "delay_"))}
-    return [row | {"output": "all", "class": "all"} | whole] + [row | flow for flow in document["flows"]]
+    row["proposal_ns"] = round(run["slot_ns"] / 2 / run["proposals_most"], 3) if run["proposals_most"] else None
+    return [row | flow for flow in document["flows"]]
 
 
 def gather(folder: str, numbers: list[str], choices: list[Choice]) -> tuple[str, int]:
     """Writes sweep.csv. The answer is its name, and how many runs have no figures."""
     name, found = os.path.join(folder, "sweep.csv"), [rows(folder, *pair) for pair in zip(numbers, choices)]
-    columns = dict.fromkeys(column for run in sorted(found, key=lambda run: -len(run[0])) for row in run for column in row)
+    columns = max((list(run[0]) for run in found), key=len)
     with open(name, "w", encoding="utf-8", newline="") as file:
         writer = csv.DictWriter(file, columns, lineterminator="\n")
         writer.writeheader()

@@ -103,15 +103,18 @@ def four(values: list[int], name: str, unit: str) -> dict[str, Any]:
 
 
 def flows_of(fabric: Watched) -> list[dict[str, Any]]:
-    """The figures of each output and class, by the model."""
+    """The figures of each output and class, and of all outputs and all classes, by the model."""
     switch, rows = fabric.switch, []
-    for output, kind in sorted({(output, queued.cell.kind) for _, output, queued in fabric.sent}):
-        sent = [(slot, q) for slot, at, q in fabric.sent if (at, q.cell.kind) == (output, kind)]
-        waits = [slot - q.slot for slot, q in sent]
-        delays = [switch.first_stamp + slot * switch.slot_ns - switch.captures[q.input][q.cell.packet].stamp
-                  for slot, q in sent if q.cell.last]
-        rows.append({"output": output, "class": kind, "packets": len(delays), "cells": len(waits)} | four(waits, "wait", "slots")
-                    | four([wait * switch.slot_ns for wait in waits], "wait", "ns") | four(delays, "delay", "ns"))
+    for output in [*fabric.ports, "all"]:
+        for kind in [*range(len(switch.classes)), "all"]:
+            sent = [(slot, q) for slot, at, q in fabric.sent if output in (at, "all") and kind in (q.cell.kind, "all")]
+            if sent or (output, kind) == ("all", "all"):
+                waits = [slot - q.slot for slot, q in sent]
+                delays = [switch.first_stamp + slot * switch.slot_ns - switch.captures[q.input][q.cell.packet].stamp
+                          for slot, q in sent if q.cell.last]
+                rows.append({"output": output, "class": kind, "packets": len(delays), "cells": len(waits)}
+                            | four(waits, "wait", "slots") | four([wait * switch.slot_ns for wait in waits], "wait", "ns")
+                            | four(delays, "delay", "ns"))
     return rows
 
 

@@ -1,0 +1,22 @@
+# Completes the words of cq_switch in bash. Put it into ~/.local/share/bash-completion/completions/cq_switch, or source it.
+
+# Completes a name of a file with this ending, or of a folder.
+_cq_switch_files() {
+    mapfile -t COMPREPLY < <(compgen -f -X "!*.$1" -- "$2"; compgen -d -- "$2")
+    compopt -o filenames 2>/dev/null
+}
+
+_cq_switch() {
+    local word=${COMP_WORDS[COMP_CWORD]}
+    COMPREPLY=()
+    if ((COMP_CWORD == 1)); then
+        mapfile -t COMPREPLY < <(compgen -W 'check ideal pass run soak' -- "$word")
+        return
+    fi
+    case ${COMP_WORDS[1]}-$COMP_CWORD in
+        check-2 | ideal-2 | run-2) _cq_switch_files toml "$word" ;;
+        pass-2 | pass-3) _cq_switch_files pcap "$word" ;;
+    esac
+}
+
+complete -F _cq_switch cq_switch
