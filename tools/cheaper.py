@@ -9,9 +9,10 @@ and no buffers at the outputs: a cell leaves in the slot in which it crosses. It
 - by iSLIP (McKeown 1999) with so many iterations: outputs grant and inputs accept in turn, from where they stopped;
 - by a greedy maximal matching: the oldest waiting cell first, wherever its input and its output are both free.
 
-Each cell's slot is compared with that of the ideal switch, which the trace of `cq_switch ideal CONFIG` (or `run`) tells.
-With `--by-rank` a queue is kept by the ranks of its output's discipline, and the greedy matching takes the most urgent
-cell first; without it queues are in the order of arrival. Packets that the ideal switch refuses for a limit are left out.
+Each cell's slot is compared with that of the ideal switch, which the trace of `cq_switch ideal CONFIG` (or `run`)
+tells. With `--by-rank` a queue is kept by the ranks of its output's discipline, and the greedy matching takes the
+most urgent cell first; without it queues are in the order of arrival. Packets that the ideal switch refuses for a
+limit are left out.
 """
 
 import argparse
@@ -37,6 +38,7 @@ Pair = tuple[int, int]  # an input and an output
 
 class Arrival(NamedTuple):
     """A cell that the ideal switch sent."""
+
     slot: int
     input: int
     output: int
@@ -47,8 +49,8 @@ class Arrival(NamedTuple):
 
 
 class ISlip:
-    """Outputs grant, and inputs accept, the next one in turn. A pointer moves on where a grant of the first iteration is
-    accepted, to the one behind the partner."""
+    """Outputs grant, and inputs accept, the next one in turn. A pointer moves on where a grant of the first
+    iteration is accepted, to the one behind the partner."""
 
     def __init__(self, ports: int, iterations: int) -> None:
         self.ports, self.iterations, self.name = ports, iterations, f"iSLIP {iterations}"
@@ -86,8 +88,12 @@ class Greedy:
     name = "greedy"
 
     def match(self, wanted: list[int], queues: Queues) -> list[Pair]:
-        heads = sorted((queue[0][0], number, output) for number, row in enumerate(queues)
-                       for output, queue in enumerate(row) if wanted[output] >> number & 1)
+        heads = sorted(
+            (queue[0][0], number, output)
+            for number, row in enumerate(queues)
+            for output, queue in enumerate(row)
+            if wanted[output] >> number & 1
+        )
         free, taken, pairs = set(range(len(queues))), set(), []
         for _, number, output in heads:
             if number in free and output not in taken:
@@ -107,6 +113,7 @@ def schedulers(ports: int, iterations: list[int]) -> list[Callable[[], Scheduler
 
 class Outcome(NamedTuple):
     """What a switch did."""
+
     left: list[int]  # the slot of each cell, in the order of the arrivals
     longest: int  # the most cells that waited at one input, after the arrivals of a slot
     starved: list[int]  # for each output the slots in which it sent nothing though a cell for it waited
@@ -144,7 +151,9 @@ def cells_of(configuration: Configuration) -> list[Arrival]:
     sent: list[tuple[Cell, int]] = []
     for slot in replay(configuration, with_log=False).slots():
         sent += ((cell, slot.number) for cell in slot.sent)
-    arrivals = (Arrival(cell.slot, cell.input, cell.output, cell.kind, cell.key, cell.last, number) for cell, number in sent)
+    arrivals = (
+        Arrival(cell.slot, cell.input, cell.output, cell.kind, cell.key, cell.last, number) for cell, number in sent
+    )
     return sorted(arrivals, key=lambda cell: (cell.slot, cell.input))
 
 
@@ -165,10 +174,18 @@ class Loss:
 
     def row(self) -> dict[str, Any]:
         cells, late = len(self.late), len(self.only_late)
-        return {"cells": cells, "late_cells": late, "late_per_cent": round(100 * late / cells, 3) if cells else 0.0,
-                "early_cells": self.early, "late_mean_slots": self.only_late.mean(), "late_median_slots": self.only_late.share(50),
-                "late_p99_slots": self.only_late.share(99), "late_greatest_slots": self.only_late.greatest(),
-                "packets": self.packets, "late_packets": self.late_packets}
+        return {
+            "cells": cells,
+            "late_cells": late,
+            "late_per_cent": round(100 * late / cells, 3) if cells else 0.0,
+            "early_cells": self.early,
+            "late_mean_slots": self.only_late.mean(),
+            "late_median_slots": self.only_late.share(50),
+            "late_p99_slots": self.only_late.share(99),
+            "late_greatest_slots": self.only_late.greatest(),
+            "packets": self.packets,
+            "late_packets": self.late_packets,
+        }
 
 
 def loss_rows(name: str, arrivals: list[Arrival], left: list[int]) -> list[dict[str, Any]]:
@@ -178,15 +195,22 @@ def loss_rows(name: str, arrivals: list[Arrival], left: list[int]) -> list[dict[
     for cell, slot in zip(arrivals, left):
         losses.setdefault((cell.output, cell.kind), Loss()).add(cell, slot)
         whole.add(cell, slot)
-    rows = [{"switch": name, "output": str(output), "class": str(kind)} | loss.row() for (output, kind), loss in sorted(losses.items())]
+    rows = [
+        {"switch": name, "output": str(output), "class": str(kind)} | loss.row()
+        for (output, kind), loss in sorted(losses.items())
+    ]
     return rows + [{"switch": name, "output": "all", "class": "all"} | whole.row()]
 
 
 def switch_row(name: str, arrivals: list[Arrival], outcome: Outcome) -> dict[str, Any]:
     """What a whole switch did."""
-    return {"switch": name, "slots": max(outcome.left, default=-1) + 1,
-            "ideal_slots": max((cell.ideal for cell in arrivals), default=-1) + 1,
-            "longest_at_input": outcome.longest, "starved_slots": sum(outcome.starved)}
+    return {
+        "switch": name,
+        "slots": max(outcome.left, default=-1) + 1,
+        "ideal_slots": max((cell.ideal for cell in arrivals), default=-1) + 1,
+        "longest_at_input": outcome.longest,
+        "starved_slots": sum(outcome.starved),
+    }
 
 
 def compared(configuration: Configuration, iterations: list[int], ranked: bool) -> dict[str, Any]:
@@ -197,20 +221,38 @@ def compared(configuration: Configuration, iterations: list[int], ranked: bool) 
         outcome = simulate(arrivals, configuration.ports, scheduler, ranked)
         switches.append(switch_row(scheduler.name, arrivals, outcome))
         losses += loss_rows(scheduler.name, arrivals, outcome.left)
-    return {"note": UNPROVED, "configuration": configuration.name, "slot_ns": configuration.slot_ns,
-            "queues": "by rank" if ranked else "in order of arrival", "switches": switches, "losses": losses}
+    return {
+        "note": UNPROVED,
+        "configuration": configuration.name,
+        "slot_ns": configuration.slot_ns,
+        "queues": "by rank" if ranked else "in order of arrival",
+        "switches": switches,
+        "losses": losses,
+    }
 
 
 def print_tables(document: dict[str, Any]) -> None:
     """Prints the figures for people."""
     print(UNPROVED)
-    print(f"{document['configuration']}: a crossbar at speedup one, its queues {document['queues']}, "
-          f"slots of {document['slot_ns']} ns")
+    print(
+        f"{document['configuration']}: a crossbar at speedup one, its queues {document['queues']}, "
+        f"slots of {document['slot_ns']} ns"
+    )
     print("\neach switch as a whole")
     table([{name.replace("_", " "): value for name, value in row.items()} for row in document["switches"]], sys.stdout)
     print("\ncells that leave later than from the ideal switch; how much later, of those that are late")
-    table([{name.removeprefix("late_").replace("_", " ") if name.endswith("slots") else name.replace("_", " "): value
-            for name, value in row.items()} for row in document["losses"]], sys.stdout)
+    table(
+        [
+            {
+                name.removeprefix("late_").replace("_", " ")
+                if name.endswith("slots")
+                else name.replace("_", " "): value
+                for name, value in row.items()
+            }
+            for row in document["losses"]
+        ],
+        sys.stdout,
+    )
 
 
 def write_csv(name: str, document: dict[str, Any]) -> None:
@@ -231,7 +273,9 @@ def counts(text: str) -> list[int]:
 def main() -> None:
     words = argparse.ArgumentParser(description="What a cheaper switch would lose. Unproved.")
     words.add_argument("config", metavar="CONFIG")
-    words.add_argument("--iterations", type=counts, default=[1, 4], metavar="N,..", help="of iSLIP; 1,4 where nothing is said")
+    words.add_argument(
+        "--iterations", type=counts, default=[1, 4], metavar="N,..", help="of iSLIP; 1,4 where nothing is said"
+    )
     words.add_argument("--by-rank", action="store_true", help="keep the queues by the ranks of the disciplines")
     form = words.add_mutually_exclusive_group()
     form.add_argument("--json", action="store_true", help="print one JSON document")

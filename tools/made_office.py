@@ -1,11 +1,13 @@
 #!/usr/bin/env python3
-"""Makes one capture of an office, as a mirror port would give it: every frame of four lines of 1 Gbit/s, in order of time.
+"""Makes one capture of an office, as a mirror port would give it: every frame of four lines of 1 Gbit/s, in order
+of time.
 
     made_office.py CAPTURE [--ms N] [--seed SEED]
 
-It is drawn from a seed, for docs/SWEEPS.md, and is no real traffic. Four sources send, each with an address of its own: the
-uplink 02:..:00, the phones 02:..:01, the servers 02:..:02 and the desks 02:..:03. Voice and video are IPv4 with the DSCP mark
-46; all else is not marked. The desks get files from the servers, pages from the uplink, and video.
+It is drawn from a seed, for docs/SWEEPS.md, and is no real traffic. Four sources send, each with an address of its
+own: the uplink 02:..:00, the phones 02:..:01, the servers 02:..:02 and the desks 02:..:03. Voice and video are IPv4
+with the DSCP mark 46; all else is not marked. The desks get files from the servers, pages from the uplink, and
+video.
 """
 
 import argparse
@@ -66,10 +68,17 @@ def transfers(draw: random.Random, end: int, source: int, to: int, share: float)
 def office(seed: int, end: int) -> list[Sent]:
     """All frames, each not before the line of its source is free."""
     draw = random.Random(seed)
-    wanted = [*calls(draw, end, PHONES, UPLINK, 120), *calls(draw, end, UPLINK, PHONES, 120), *calls(draw, end, PHONES, DESKS, 60),
-              *video(draw, end, UPLINK, DESKS, 60), *video(draw, end, DESKS, UPLINK, 20),
-              *transfers(draw, end, SERVERS, DESKS, 0.5), *transfers(draw, end, UPLINK, DESKS, 0.25),
-              *transfers(draw, end, DESKS, SERVERS, 0.3), *transfers(draw, end, SERVERS, UPLINK, 0.2)]
+    wanted = [
+        *calls(draw, end, PHONES, UPLINK, 120),
+        *calls(draw, end, UPLINK, PHONES, 120),
+        *calls(draw, end, PHONES, DESKS, 60),
+        *video(draw, end, UPLINK, DESKS, 60),
+        *video(draw, end, DESKS, UPLINK, 20),
+        *transfers(draw, end, SERVERS, DESKS, 0.5),
+        *transfers(draw, end, UPLINK, DESKS, 0.25),
+        *transfers(draw, end, DESKS, SERVERS, 0.3),
+        *transfers(draw, end, SERVERS, UPLINK, 0.2),
+    ]
     heapq.heapify(wanted)
     free, sent = [0, 0, 0, 0], []
     while wanted:

@@ -4,14 +4,14 @@
     plot.py run CONFIG [CONFIG] --out FOLDER
     plot.py sweep CSV --x KEY --y FIGURE [--by KEY,..] [--where KEY=VALUE,..] --out NAME
 
-The first draws a run, or two runs side by side, from their captures, traces and logs, with names taken from the caller's
-folder: `slack`, `lists`, `buffers`, `load`, `waits` and `proposals` in FOLDER. After `cq_switch ideal`, which writes no
-log, give `--without-log`: then there are `load` and `waits`. The second draws one figure of a sweep's CSV over one key.
+The first draws a run, or two runs side by side, from their captures, traces and logs, with names taken from the
+caller's folder: `slack`, `lists`, `buffers`, `load`, `waits` and `proposals` in FOLDER. After `cq_switch ideal`,
+which writes no log, give `--without-log`: then there are `load` and `waits`. The second draws one figure of a
+sweep's CSV over one key.
 """
 
 import argparse
 import csv
-import math
 import os
 from collections.abc import Iterable
 from typing import Any
@@ -37,12 +37,25 @@ def pyplot() -> Any:
     try:
         import matplotlib
     except ImportError:
-        raise Fault("matplotlib is not there: `apt-get install python3-matplotlib`, and call /usr/bin/python3") from None
+        raise Fault(
+            "matplotlib is not there: `apt-get install python3-matplotlib`, and call /usr/bin/python3"
+        ) from None
     matplotlib.use("Agg")
     from matplotlib import pyplot as library
-    library.rcParams.update({"axes.prop_cycle": library.cycler(color=COLOURS), "axes.grid": True, "grid.alpha": 0.3,
-                             "axes.spines.top": False, "axes.spines.right": False, "svg.hashsalt": "cq_switch",
-                             "legend.frameon": False, "legend.fontsize": "small", "lines.linewidth": 1.2})
+
+    library.rcParams.update(
+        {
+            "axes.prop_cycle": library.cycler(color=COLOURS),
+            "axes.grid": True,
+            "grid.alpha": 0.3,
+            "axes.spines.top": False,
+            "axes.spines.right": False,
+            "svg.hashsalt": "cq_switch",
+            "legend.frameon": False,
+            "legend.fontsize": "small",
+            "lines.linewidth": 1.2,
+        }
+    )
     return library
 
 
@@ -107,8 +120,15 @@ class Picture:
 
     def __init__(self, library: Any, runs: list[Curves], rows: int, height: float, label: str, below: str) -> None:
         self.library = library
-        self.figure, self.axes = library.subplots(rows, len(runs), sharex=True, sharey=True, squeeze=False, layout="constrained",
-                                                  figsize=(6.4 * len(runs), 1.1 + height * rows))
+        self.figure, self.axes = library.subplots(
+            rows,
+            len(runs),
+            sharex=True,
+            sharey=True,
+            squeeze=False,
+            layout="constrained",
+            figsize=(6.4 * len(runs), 1.1 + height * rows),
+        )
         for run, column in zip(runs, self.axes.T):
             column[0].set_title(run.configuration.name, fontsize="medium")
             column[-1].set_xlabel(below)
@@ -160,7 +180,9 @@ def draw_proposals(library: Any, runs: list[Curves], name: str) -> None:
     picture = Picture(library, runs, 2, 1.6, "proposals of a matching", f"time ({unit_name})")
     for run, column in zip(runs, picture.axes.T):
         for phase, axis in enumerate(column):
-            axis.fill_between(*run.points(run.most[phase], unit), step="post", color=COLOURS[4], linewidth=0, label="most")
+            axis.fill_between(
+                *run.points(run.most[phase], unit), step="post", color=COLOURS[4], linewidth=0, label="most"
+            )
             axis.step(*run.points(run.mean[phase], unit, True), where="post", color=COLOURS[0], label="mean")
             axis.set_ylabel(f"phase {phase + 1}", fontsize="small")
             axis.yaxis.get_major_locator().set_params(integer=True)
@@ -175,13 +197,26 @@ def draw_waits(library: Any, runs: list[Curves], name: str) -> None:
     for run in runs:
         for (output, _), spread in run.waits.items():
             cells[output] = cells.get(output, 0) + len(spread)
-    longest = {at: max(run.configuration.slot_ns * (spread.greatest() or 0) for run in runs
-                       for (output, _), spread in run.waits.items() if output == at) for at in cells}
+    longest = {
+        at: max(
+            run.configuration.slot_ns * (spread.greatest() or 0)
+            for run in runs
+            for (output, _), spread in run.waits.items()
+            if output == at
+        )
+        for at in cells
+    }
     outputs = busiest({output: count for output, count in cells.items() if longest[output]} or cells)
     unit, unit_name = unit_of(max(longest.values()))
     left_out = "; outputs at which no cell waits are left out" if len(outputs) < min(len(cells), MOST_ROWS) else ""
-    picture = Picture(library, runs, len(outputs), 1.6, "of 100 cells wait as long or longer",
-                      f"wait of a cell ({unit_name}){left_out}")
+    picture = Picture(
+        library,
+        runs,
+        len(outputs),
+        1.6,
+        "of 100 cells wait as long or longer",
+        f"wait of a cell ({unit_name}){left_out}",
+    )
     for run, column in zip(runs, picture.axes.T):
         for axis, output in zip(column, outputs):
             for kind in (kind for at, kind in sorted(run.waits) if at == output):
@@ -191,8 +226,11 @@ def draw_waits(library: Any, runs: list[Curves], name: str) -> None:
             axis.set_ylim(top=150)
             axis.yaxis.set_major_formatter(lambda value, _: f"{value:g}")
     kinds = sorted({kind for run in runs for _, kind in run.waits})
-    add_legend(picture, [(COLOURS[kind % len(COLOURS)], "-", "", f"class {kind}") for kind in kinds]
-               + [("black", "", marker, word) for _, marker, word in MARKS])
+    add_legend(
+        picture,
+        [(COLOURS[kind % len(COLOURS)], "-", "", f"class {kind}") for kind in kinds]
+        + [("black", "", marker, word) for _, marker, word in MARKS],
+    )
     picture.save(name)
 
 
@@ -201,14 +239,16 @@ def draw_wait(axis: Any, spread: Spread, scale: float, colour: str) -> None:
     tail = {value: 100 * share for value, share in spread.tail()}
     axis.step([value * scale for value in tail], list(tail.values()), where="pre", color=colour)
     for per_cent, marker, _ in MARKS:
-        value = spread.share(per_cent)
+        value = spread.share(per_cent) or 0
         axis.plot(value * scale, tail[value], marker, color=colour, markersize=5)
 
 
 def add_legend(picture: Picture, entries: list[tuple[str, str, str, str]]) -> None:
     """A legend below the picture, of colour, line, marker and word."""
-    handles = [picture.axes[0][0].plot([], [], color=colour, linestyle=line, marker=marker, label=word)[0]
-               for colour, line, marker, word in entries]
+    handles = [
+        picture.axes[0][0].plot([], [], color=colour, linestyle=line, marker=marker, label=word)[0]
+        for colour, line, marker, word in entries
+    ]
     picture.figure.legend(handles=handles, loc="upper center", bbox_to_anchor=(0.5, 0), ncols=min(6, len(handles)))
 
 

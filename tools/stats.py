@@ -5,8 +5,8 @@
     stats.py CONFIG --json          one JSON document, on standard output
     stats.py CONFIG --csv FOLDER    flows.csv, inputs.csv, outputs.csv, slack.csv, run.csv and packets.csv in FOLDER
 
-It reads the configuration, the captures of its inputs, its trace and its log, each once from the front, with names taken
-from the caller's folder as `cq_switch` takes them. After `cq_switch ideal CONFIG`, which writes no log, give
+It reads the configuration, the captures of its inputs, its trace and its log, each once from the front, with names
+taken from the caller's folder as `cq_switch` takes them. After `cq_switch ideal CONFIG`, which writes no log, give
 `--without-log`. `README.md` beside this file says what each figure is.
 """
 
@@ -28,9 +28,26 @@ from cq.table import table
 
 Row = dict[str, Any]
 Name = tuple[int | str, int | str]  # an output and a class, or "all" of them
-PACKET_COLUMNS = ("input", "packet", "output", "class", "destination", "class_by", "captured_bytes", "wire_bytes", "cells",
-                  "stamp_ns", "stamp_slot", "start_slot", "ahead_slots", "last_slot", "leaves_ns", "delay_ns",
-                  "wait_last_slots", "wait_greatest_slots")
+PACKET_COLUMNS = (
+    "input",
+    "packet",
+    "output",
+    "class",
+    "destination",
+    "class_by",
+    "captured_bytes",
+    "wire_bytes",
+    "cells",
+    "stamp_ns",
+    "stamp_slot",
+    "start_slot",
+    "ahead_slots",
+    "last_slot",
+    "leaves_ns",
+    "delay_ns",
+    "wait_last_slots",
+    "wait_greatest_slots",
+)
 
 
 class Flow:
@@ -47,9 +64,17 @@ class Flow:
         self.delays.counts += other.delays.counts
 
     def row(self, slot_ns: int) -> Row:
-        return ({"packets": len(self.delays), "cells": len(self.waits), "refused_packets": self.refused_packets,
-                 "refused_cells": self.refused_cells} | self.waits.row("wait", "slots") | self.waits.row("wait", "ns", slot_ns)
-                | self.delays.row("delay", "ns"))
+        return (
+            {
+                "packets": len(self.delays),
+                "cells": len(self.waits),
+                "refused_packets": self.refused_packets,
+                "refused_cells": self.refused_cells,
+            }
+            | self.waits.row("wait", "slots")
+            | self.waits.row("wait", "ns", slot_ns)
+            | self.delays.row("delay", "ns")
+        )
 
 
 class Input:
@@ -99,7 +124,7 @@ class Stats:
     def _refuse(self, cell: Cell, gone: list[Row]) -> None:
         flow = self._flow(cell)
         flow.refused_cells += 1
-        if cell.index == 0:
+        if cell.part == 0:
             flow.refused_packets += 1
             gone.append(self._packet(cell, None, None))
 
@@ -120,12 +145,31 @@ class Stats:
         """The row of a packet, which leaves in this slot, or is refused."""
         packets, k, captures = self.run.captures.inputs[cell.input], cell.packet, self.run.captures
         leaves = None if number is None else captures.origin + number * self.configuration.slot_ns
-        return dict(zip(PACKET_COLUMNS, (
-            cell.input, k, cell.output, cell.kind, DESTINATIONS[packets.destinations[k]],
-            "rule" if packets.by_rule[k] else "default", packets.lengths[k], packets.originals[k], packets.cells[k],
-            packets.stamps[k], packets.stamp_slots[k], packets.starts[k], packets.starts[k] - packets.stamp_slots[k],
-            number, leaves, None if leaves is None else leaves - packets.stamps[k],
-            None if number is None else number - cell.slot, greatest)))
+        return dict(
+            zip(
+                PACKET_COLUMNS,
+                (
+                    cell.input,
+                    k,
+                    cell.output,
+                    cell.kind,
+                    DESTINATIONS[packets.destinations[k]],
+                    "rule" if packets.by_rule[k] else "default",
+                    packets.lengths[k],
+                    packets.originals[k],
+                    packets.cells[k],
+                    packets.stamps[k],
+                    packets.stamp_slots[k],
+                    packets.starts[k],
+                    packets.starts[k] - packets.stamp_slots[k],
+                    number,
+                    leaves,
+                    None if leaves is None else leaves - packets.stamps[k],
+                    None if number is None else number - cell.slot,
+                    greatest,
+                ),
+            )
+        )
 
     def _measure(self, slot: Slot) -> None:
         """The lengths and the proposals, which the log tells."""
@@ -142,7 +186,8 @@ class Stats:
         """What leaves each output in each class, and all outputs, and in all classes."""
         totals: dict[Name, Flow] = {("all", "all"): Flow()}
         for (output, kind), flow in self.flows.items():
-            for name in ((output, kind), (output, "all"), ("all", kind), ("all", "all")):
+            names: list[Name] = [(output, kind), (output, "all"), ("all", kind), ("all", "all")]
+            for name in names:
                 totals.setdefault(name, Flow()).add(flow)
         return dict(sorted(totals.items(), key=lambda item: [(isinstance(part, str), part) for part in item[0]]))
 
@@ -152,27 +197,44 @@ class Stats:
             for start, stamp_slot in zip(packets.starts, packets.stamp_slots):
                 self.inputs[number].ahead.add(start - stamp_slot)
         totals, ports = self.totals(), range(self.configuration.ports)
-        return {"run": self._run_row(totals["all", "all"]),
-                "flows": [{"output": output, "class": kind} | flow.row(self.configuration.slot_ns)
-                          for (output, kind), flow in totals.items()],
-                "outputs": [self._output_row(j, totals.get((j, "all"), Flow())) for j in ports],
-                "inputs": [self._input_row(i) for i in ports],
-                "slack": [{"input": i, "slack": slack, "cells": count} for i, row in enumerate(self.inputs)
-                          for slack, count in sorted(row.slacks.counts.items())]}
+        return {
+            "run": self._run_row(totals["all", "all"]),
+            "flows": [
+                {"output": output, "class": kind} | flow.row(self.configuration.slot_ns)
+                for (output, kind), flow in totals.items()
+            ],
+            "outputs": [self._output_row(j, totals.get((j, "all"), Flow())) for j in ports],
+            "inputs": [self._input_row(i) for i in ports],
+            "slack": [
+                {"input": i, "slack": slack, "cells": count}
+                for i, row in enumerate(self.inputs)
+                for slack, count in sorted(row.slacks.counts.items())
+            ],
+        }
 
     def _run_row(self, whole: Flow) -> Row:
         configuration, cells = self.configuration, len(whole.waits)
-        row: Row = {"configuration": configuration.name, "ports": configuration.ports, "classes": len(configuration.classes),
-                    "cell_bytes": configuration.cell_bytes, "slot_ns": configuration.slot_ns,
-                    "line_rate_bits": round(configuration.line_rate), "origin_ns": self.run.captures.origin,
-                    "slots": self.slots, "fill": round(self.bytes / (cells * configuration.cell_bytes), 3) if cells else None}
+        row: Row = {
+            "configuration": configuration.name,
+            "ports": configuration.ports,
+            "classes": len(configuration.classes),
+            "cell_bytes": configuration.cell_bytes,
+            "slot_ns": configuration.slot_ns,
+            "line_rate_bits": round(configuration.line_rate),
+            "origin_ns": self.run.captures.origin,
+            "slots": self.slots,
+            "fill": round(self.bytes / (cells * configuration.cell_bytes), 3) if cells else None,
+        }
         row |= whole.row(configuration.slot_ns)
         if self.run.log:
-            row |= {"list_peak": max(row.length.peak for row in self.inputs),
-                    "buffer_peak": max(output.longest for output in self.outputs),
-                    "slack_least": min((s for r in self.inputs if (s := r.slacks.least()) is not None), default=None),
-                    "proposals": self.proposals, "proposals_most": self.most,
-                    "proposals_mean": round(self.proposals / (2 * self.slots), 3) if self.slots else 0.0}
+            row |= {
+                "list_peak": max(row.length.peak for row in self.inputs),
+                "buffer_peak": max(output.longest for output in self.outputs),
+                "slack_least": min((s for r in self.inputs if (s := r.slacks.least()) is not None), default=None),
+                "proposals": self.proposals,
+                "proposals_most": self.most,
+                "proposals_mean": round(self.proposals / (2 * self.slots), 3) if self.slots else 0.0,
+            }
         return row
 
     def _load(self, cells: int) -> float:
@@ -181,26 +243,42 @@ class Stats:
 
     def _output_row(self, j: int, flow: Flow) -> Row:
         cells, output = len(flow.waits), self.outputs[j]
-        row = {"output": j, "discipline": self.configuration.disciplines[j], "packets": len(flow.delays), "cells": cells,
-               "idle_slots": self.slots - cells, "load": self._load(cells)}
+        row = {
+            "output": j,
+            "discipline": self.configuration.disciplines[j],
+            "packets": len(flow.delays),
+            "cells": cells,
+            "idle_slots": self.slots - cells,
+            "load": self._load(cells),
+        }
         if self.run.log:
             row |= {"buffer_peak": output.longest, "buffer_mean": output.buffer.mean(self.slots)}
         return row
 
     def _input_row(self, i: int) -> Row:
         packets, figures = self.run.captures.inputs[i], self.inputs[i]
-        row = ({"input": i, "packets": len(packets), "cells": figures.cells, "load": self._load(figures.cells)} | self._routes(packets)
-               | figures.ahead.row("ahead", "slots") | figures.ahead.row("ahead", "ns", self.configuration.slot_ns))
+        row = (
+            {"input": i, "packets": len(packets), "cells": figures.cells, "load": self._load(figures.cells)}
+            | self._routes(packets)
+            | figures.ahead.row("ahead", "slots")
+            | figures.ahead.row("ahead", "ns", self.configuration.slot_ns)
+        )
         if self.run.log:
-            row |= {"list_peak": figures.length.peak, "list_mean": figures.length.mean(self.slots),
-                    "slack_least": figures.slacks.least(), "slack_median": figures.slacks.share(50),
-                    "slack_greatest": figures.slacks.greatest()}
+            row |= {
+                "list_peak": figures.length.peak,
+                "list_mean": figures.length.mean(self.slots),
+                "slack_least": figures.slacks.least(),
+                "slack_median": figures.slacks.share(50),
+                "slack_greatest": figures.slacks.greatest(),
+            }
         return row
 
     @staticmethod
     def _routes(packets: Packets) -> Row:
         """How many packets a default decided."""
-        counts = {f"to_{name}": packets.destinations.count(at) for at, name in enumerate(DESTINATIONS) if name != "known"}
+        counts = {
+            f"to_{name}": packets.destinations.count(at) for at, name in enumerate(DESTINATIONS) if name != "known"
+        }
         return counts | {"by_no_rule": packets.by_rule.count(0)}
 
 
@@ -223,9 +301,10 @@ def write_csv(folder: str, configuration: Configuration, with_log: bool) -> None
     os.makedirs(folder, exist_ok=True)
     run, stats = stats_of(configuration, with_log)
     with ExitStack() as files:
-        def rows(name: str, columns: Iterable[str]) -> csv.DictWriter:
+
+        def rows(name: str, columns: Iterable[str]) -> "csv.DictWriter[str]":
             file = files.enter_context(open(os.path.join(folder, name + ".csv"), "w", encoding="utf-8", newline=""))
-            writer = csv.DictWriter(file, columns, lineterminator="\n")
+            writer = csv.DictWriter(file, list(columns), lineterminator="\n")
             writer.writeheader()
             return writer
 
@@ -242,10 +321,16 @@ def write_csv(folder: str, configuration: Configuration, with_log: bool) -> None
 def print_tables(document: dict[str, Any]) -> None:
     """Prints the figures for people."""
     run = document["run"]
-    print(f"{run['configuration']}: {run['ports']} ports, cells of {run['cell_bytes']} bytes, slots of {run['slot_ns']} ns, "
-          f"lines of {run['line_rate_bits']:,} bits a second")
-    print(f"{run['packets']} packets left in {run['cells']} cells, {100 * run['fill']:.1f} % full, the last one in slot "
-          f"{run['slots'] - 1}" if run["slots"] else "no packet left")
+    print(
+        f"{run['configuration']}: {run['ports']} ports, cells of {run['cell_bytes']} bytes, slots of {run['slot_ns']} ns, "
+        f"lines of {run['line_rate_bits']:,} bits a second"
+    )
+    print(
+        f"{run['packets']} packets left in {run['cells']} cells, {100 * run['fill']:.1f} % full, the last one in slot "
+        f"{run['slots'] - 1}"
+        if run["slots"]
+        else "no packet left"
+    )
     if run["refused_packets"]:
         print(f"{run['refused_packets']} packets of {run['refused_cells']} cells were refused")
     if "proposals" in run:
@@ -258,8 +343,10 @@ def print_tables(document: dict[str, Any]) -> None:
 
 def columns(rows: list[Row], *parts: str, without: str = "") -> list[Row]:
     """The columns whose names begin in one of these ways, under their names without a part."""
-    return [{name.removeprefix(without).replace("_", " "): value for name, value in row.items() if name.startswith(parts)}
-            for row in rows]
+    return [
+        {name.removeprefix(without).replace("_", " "): value for name, value in row.items() if name.startswith(parts)}
+        for row in rows
+    ]
 
 
 def tables_of(document: dict[str, Any]) -> Iterable[tuple[str, list[Row]]]:
@@ -268,10 +355,16 @@ def tables_of(document: dict[str, Any]) -> Iterable[tuple[str, list[Row]]]:
     flows = [row for row in document["flows"] if (row["output"] == "all") == (row["class"] == "all")]
     left = ("output", "class", "packets", "cells") + (("refused",) if document["run"]["refused_packets"] else ())
     yield "what left, by output and class", columns(flows, *left)
-    yield "how long its cells waited, from arrival to departure", columns(flows, "output", "class", "wait_", without="wait_")
-    yield "delay of its packets, from stamp to written stamp", columns(flows, "output", "class", "delay_", without="delay_")
+    yield "how long its cells waited, from arrival to departure", columns(
+        flows, "output", "class", "wait_", without="wait_"
+    )
+    yield "delay of its packets, from stamp to written stamp", columns(
+        flows, "output", "class", "delay_", without="delay_"
+    )
     yield "outputs, and their buffers", columns(document["outputs"], "")
-    yield "inputs, and packets for which a default decided", columns(inputs, "input", "packets", "cells", "load", "to_", "by_")
+    yield "inputs, and packets for which a default decided", columns(
+        inputs, "input", "packets", "cells", "load", "to_", "by_"
+    )
     yield "how long packets waited ahead of their own line", columns(inputs, "input", "ahead_", without="ahead_")
     if document["run"].get("list_peak") is not None:
         yield "lists of the inputs, and the slack of cells on arrival", columns(inputs, "input", "list", "slack")

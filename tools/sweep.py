@@ -4,11 +4,11 @@
     sweep.py CONFIG FOLDER KEY=VALUE,VALUE.. [KEY=VALUE,..]
 
 KEY is a key of the top table (`cell_bytes`), one of a row (`port[1].discipline`, `class[0].cost`) or of all rows
-(`port[*].discipline`). `line_rate=1G,10G` stands for the `slot_ns` that gives lines of this rate with the cells of the run.
-Each combination gets a configuration FOLDER/NUMBER.toml that reads the same captures and writes into FOLDER/NUMBER/. GNU
-parallel runs them all, here or on the machines of `--sshlogin`, where the current folder and this repository have to be
-under the same paths. FOLDER/joblog keeps what is done, so that the same command goes on where it was cut off. At the end
-FOLDER/sweep.csv has the figures; `plot.py sweep` draws it.
+(`port[*].discipline`). `line_rate=1G,10G` stands for the `slot_ns` that gives lines of this rate with the cells of
+the run. Each combination gets a configuration FOLDER/NUMBER.toml that reads the same captures and writes into
+FOLDER/NUMBER/. GNU parallel runs them all, here or on the machines of `--sshlogin`, where the current folder and
+this repository have to be under the same paths. FOLDER/joblog keeps what is done, so that the same command goes on
+where it was cut off. At the end FOLDER/sweep.csv has the figures; `plot.py sweep` draws it.
 """
 
 import argparse
@@ -33,8 +33,18 @@ from cq.toml import toml_text
 ONE = os.path.join(os.path.dirname(os.path.realpath(__file__)), "sweep_one.py")
 PREFIXES = {"": 1, "k": 10**3, "M": 10**6, "G": 10**9, "T": 10**12}
 LONGEST_INTEGER = 2**63 - 1  # of TOML; wider numbers are texts
-RUN_FIGURES = ("cell_bytes", "slot_ns", "line_rate_bits", "slots", "fill", "list_peak", "buffer_peak", "slack_least",
-               "proposals_mean", "proposals_most")
+RUN_FIGURES = (
+    "cell_bytes",
+    "slot_ns",
+    "line_rate_bits",
+    "slots",
+    "fill",
+    "list_peak",
+    "buffer_peak",
+    "slack_least",
+    "proposals_mean",
+    "proposals_most",
+)
 
 Choice = dict[str, str]  # a value for each key
 
@@ -69,7 +79,7 @@ def rows_of(tables: dict[str, Any], key: str) -> tuple[list[dict[str, Any]], str
         return [tables], key
     rows = tables.get(match[1], [])
     if match[2] != "*":
-        rows = rows[int(match[2]):int(match[2]) + 1]
+        rows = rows[int(match[2]) : int(match[2]) + 1]
     if not rows:
         raise Fault(f"{key}: the configuration has no such {match[1]}")
     return rows, match[3]
@@ -139,11 +149,14 @@ def run_all(folder: str, numbers: list[str], options: argparse.Namespace) -> Non
     words += ["--bar"] * sys.stderr.isatty() + ["--jobs", options.jobs] * bool(options.jobs)
     if options.sshlogin:
         words += ["--sshlogin", options.sshlogin, "--workdir", os.getcwd()]
-    subprocess.run([*words, shlex.join(job) + " {}", ":::", *(os.path.join(folder, number) for number in numbers)], check=False)
+    subprocess.run(
+        [*words, shlex.join(job) + " {}", ":::", *(os.path.join(folder, number) for number in numbers)], check=False
+    )
 
 
 def rows(folder: str, number: str, choice: Choice) -> list[dict[str, Any]]:
-    """The rows of a run: one for each output and class, and for all of them. A run that failed has one without figures."""
+    """The rows of a run: one for each output and class, and for all of them. A run that failed has one without
+    figures."""
     row: dict[str, Any] = {"configuration": number} | choice
     try:
         with open(os.path.join(folder, number, "stats.json"), encoding="utf-8") as file:

@@ -3,8 +3,8 @@
 
     sweep_one.py --program PROGRAM [--keep] NAME
 
-It runs `PROGRAM run NAME.toml` with the report in NAME/report.txt and what it says in NAME/err.txt, and writes the figures
-of the run to NAME/stats.json. Without `--keep` the captures, the trace and the log are taken away then.
+It runs `PROGRAM run NAME.toml` with the report in NAME/report.txt and what it says in NAME/err.txt, and writes the
+figures of the run to NAME/stats.json. Without `--keep` the captures, the trace and the log are taken away then.
 """
 
 import argparse
@@ -22,7 +22,9 @@ from cq.faults import guarded
 def run(name: str, program: str) -> int:
     """Runs a configuration, and gives the status."""
     with open(os.path.join(name, "report.txt"), "wb") as report, open(os.path.join(name, "err.txt"), "wb") as said:
-        return subprocess.run([*shlex.split(program), "run", f"{name}.toml"], stdout=report, stderr=said, check=False).returncode
+        return subprocess.run(
+            [*shlex.split(program), "run", f"{name}.toml"], stdout=report, stderr=said, check=False
+        ).returncode
 
 
 def main() -> None:
@@ -42,7 +44,11 @@ def main() -> None:
             json.dump(stats.document_of(configuration), file)
         os.replace(made + ".part", made)
         if not options.keep:
-            for written in [configuration.trace, configuration.log, *(port["write"] for port in configuration.tables["port"])]:
+            for written in [
+                configuration.trace,
+                configuration.log,
+                *(port["write"] for port in configuration.tables["port"]),
+            ]:
                 os.remove(written)
 
     guarded("sweep_one.py", work)

@@ -7,8 +7,12 @@ from typing import BinaryIO, Iterator, NamedTuple
 from .config import Configuration
 from .faults import Fault, reason
 
-FORMS = {bytes.fromhex("a1b2c3d4"): (">", 1000), bytes.fromhex("d4c3b2a1"): ("<", 1000),
-         bytes.fromhex("a1b23c4d"): (">", 1), bytes.fromhex("4d3cb2a1"): ("<", 1)}
+FORMS = {
+    bytes.fromhex("a1b2c3d4"): (">", 1000),
+    bytes.fromhex("d4c3b2a1"): ("<", 1000),
+    bytes.fromhex("a1b23c4d"): (">", 1),
+    bytes.fromhex("4d3cb2a1"): ("<", 1),
+}
 HEADER, RECORD, LONGEST = 24, 16, 262_144
 SECOND_NS = 10**9
 HEAD = 32  # no field that decides on a route ends later
@@ -17,6 +21,7 @@ DESTINATIONS = ("known", "unknown", "group", "short")
 
 class Record(NamedTuple):
     """A packet of a capture."""
+
     stamp: int  # nanoseconds
     original: int  # its length on the wire
     length: int  # how much of it was captured
@@ -104,6 +109,7 @@ class Packets:
 
 class Captures(NamedTuple):
     """What arrives at all inputs."""
+
     origin: int  # the least stamp of all, in nanoseconds, or 0
     inputs: list[Packets]
 

@@ -14,6 +14,7 @@ MAC_BYTES = 6
 
 class Route(NamedTuple):
     """Where a packet goes."""
+
     output: int
     kind: int  # its class
     destination: str  # "known", or why it goes to the default output: "unknown", "group" or "short"
@@ -23,6 +24,7 @@ class Route(NamedTuple):
 @dataclass(frozen=True)
 class Configuration:
     """The tables of a switch, and where its files are."""
+
     name: str
     tables: dict[str, Any]
     cell_bytes: int
@@ -55,8 +57,12 @@ class Configuration:
         destination = "known"
         if output is None:
             destination = "short" if len(head) < MAC_BYTES else "group" if head[0] & GROUP_BIT else "unknown"
-        return Route(self.defaults[0] if output is None else output, self.defaults[1] if kind is None else kind,
-                     destination, kind is not None)
+        return Route(
+            self.defaults[0] if output is None else output,
+            self.defaults[1] if kind is None else kind,
+            destination,
+            kind is not None,
+        )
 
     def ranks(self) -> list[switch_model.Ranks]:
         """The machine of each output, as it opens."""
@@ -79,12 +85,19 @@ def configuration_of(name: str, tables: dict[str, Any]) -> Configuration:
     try:
         ports = tables["port"]
         configuration = Configuration(
-            name, tables, whole(tables.get("cell_bytes", 64)), whole(tables.get("slot_ns", 512)),
-            text(tables["trace"]), text(tables["log"]),
+            name,
+            tables,
+            whole(tables.get("cell_bytes", 64)),
+            whole(tables.get("slot_ns", 512)),
+            text(tables["trace"]),
+            text(tables["log"]),
             [text(port["read"]) if "read" in port else None for port in ports],
-            [port.get("discipline", "first-come") for port in ports], [port.get("limit") for port in ports],
-            tables.get("class", [{}]), (tables.get("default_output", 0), tables.get("default_class", 0)),
-            switch_model.Switch({**tables, "default_output": None, "default_class": None}, []))
+            [port.get("discipline", "first-come") for port in ports],
+            [port.get("limit") for port in ports],
+            tables.get("class", [{}]),
+            (tables.get("default_output", 0), tables.get("default_class", 0)),
+            switch_model.Switch({**tables, "default_output": None, "default_class": None}, []),
+        )
         judge(configuration)
     except (KeyError, TypeError, ValueError, AttributeError, IndexError) as error:
         raise Fault(f"{name}: not the tables of a switch ({error}); `cq_switch check {name}` tells where") from None

@@ -41,7 +41,8 @@ class Spread:
         """Its four figures, in a unit that is `factor` times smaller than that of the values."""
         marks = {"median": self.share(50), "p99": self.share(99), "greatest": self.greatest()}
         return {f"{name}_mean_{unit}": self.mean(factor)} | {
-            f"{name}_{mark}_{unit}": None if value is None else value * factor for mark, value in marks.items()}
+            f"{name}_{mark}_{unit}": None if value is None else value * factor for mark, value in marks.items()
+        }
 
     def tail(self) -> Iterator[tuple[int, float]]:
         """Each value, and the share of all values that are as great or greater."""

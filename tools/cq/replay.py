@@ -10,6 +10,7 @@ from collections.abc import Iterator
 from dataclasses import dataclass, field
 from typing import NamedTuple
 
+import switch_model
 from switch_model import Queued
 
 from .captures import Captures, read_captures
@@ -23,22 +24,29 @@ SPREAD = 1 << 60  # between the labels of two neighbours in a list, as long as t
 
 class Cell(NamedTuple):
     """A cell of a packet, as it arrived."""
+
     key: Key  # level, rank, slot and input: the lesser is the more urgent
     input: int
     packet: int
-    index: int
+    part: int  # the cell's number in its packet
     output: int
     kind: int
     slot: int  # in which it arrived
     last: bool
 
     def __str__(self) -> str:
-        return named(self.input, self.packet, self.index)
+        return named(self.input, self.packet, self.part)
 
 
-def named(number: int, packet: int, index: int) -> str:
+def named(number: int, packet: int, part: int) -> str:
     """How a fault speaks of a cell."""
-    return f"cell {index} of packet {packet} of input {number}"
+    return f"cell {part} of packet {packet} of input {number}"
+
+
+def queued(cell: Cell) -> Queued:
+    """A cell as the model of the ranks is told of it."""
+    told = switch_model.Cell(cell.input, cell.packet, cell.part, cell.output, cell.kind, cell.last)
+    return Queued(cell.key[1], cell.slot, cell.input, told)
 
 
 class InputList:
@@ -94,7 +102,7 @@ class InputList:
     def wishes(self, partner: int | None) -> int:
         """How many proposals an input with this partner makes: down to the partner in the order of its first cells, or
         through the whole order where it has none."""
-        if partner not in self.queues:
+        if partner is None or partner not in self.queues:
             return len(self.queues)
         label = self.queues[partner][0][1]
         return sum(queue[0][1] <= label for queue in self.queues.values())
@@ -103,6 +111,7 @@ class InputList:
 @dataclass
 class Slot:
     """What happened in a slot. Without a log there is nothing of lists, buffers and phases."""
+
     number: int
     arrived: list[Cell] = field(default_factory=list)
     slacks: list[int] = field(default_factory=list)  # of the cells that arrived, in their order
@@ -129,14 +138,15 @@ class Replay:
         self.buffers: list[list[tuple[Key, Cell]]] = [[] for _ in ports]
         self.held = [0 for _ in ports]  # the cells for each output, in lists and in its buffer
         self.marks = [False for _ in ports]  # the inputs whose packet is refused
-        self._arrivals = heapq.merge(*(packets.arrivals(i) for i, packets in enumerate(captures.inputs)))
+        self._arrivals = iter(heapq.merge(*(packets.arrivals(i) for i, packets in enumerate(captures.inputs))))
         self._next = next(self._arrivals, None)
 
     def slots(self) -> Iterator[Slot]:
         """The slots in which something happens, in order."""
         after = 0
-        while (slot := min(self._next[0] if self._next else NEVER, self.trace.slot,
-                           self.log.slot if self.log else NEVER)) < NEVER:
+        while (
+            slot := min(self._next[0] if self._next else NEVER, self.trace.slot, self.log.slot if self.log else NEVER)
+        ) < NEVER:
             if slot > after:
                 self._tell([])
             yield self._step(slot)
@@ -149,62 +159,68 @@ class Replay:
         while self._next and self._next[0] == number:
             self._arrive(slot, *self._next[1:])
             self._next = next(self._arrivals, None)
-        if not self.log:
+        if self.log is None:
             self._depart(slot)
-            return slot
-        crossed = self._crossed(slot)
-        slot.lists = [len(line.labels) for line in self.lists]
-        self._transfer(slot, crossed[0])
-        slot.peaks = list(map(len, self.buffers))
-        self._depart(slot)
-        self._transfer(slot, crossed[1])
-        slot.left = [len(line.labels) for line in self.lists]
-        slot.buffers = list(map(len, self.buffers))
+        else:
+            self._cross(slot, self.log)
         return slot
 
-    def _arrive(self, slot: Slot, number: int, packet: int, index: int) -> None:
+    def _cross(self, slot: Slot, log: Lines) -> None:
+        """What happens in a slot once its cells have arrived."""
+        crossed = self._crossed(slot, log)
+        slot.lists = [len(line.labels) for line in self.lists]
+        self._transfer(slot, crossed[0], log)
+        slot.peaks = list(map(len, self.buffers))
+        self._depart(slot)
+        self._transfer(slot, crossed[1], log)
+        slot.left = [len(line.labels) for line in self.lists]
+        slot.buffers = list(map(len, self.buffers))
+
+    def _arrive(self, slot: Slot, number: int, packet: int, part: int) -> None:
         """A cell comes in: it is refused, or ranked and put into the list of its input."""
         packets = self.captures.inputs[number]
-        output, kind, last = packets.outputs[packet], packets.kinds[packet], index + 1 == packets.cells[packet]
-        if index == 0:
+        output, kind, last = packets.outputs[packet], packets.kinds[packet], part + 1 == packets.cells[packet]
+        if part == 0:
             limit = self.configuration.limits[output]
             self.marks[number] = limit is not None and self.held[output] >= limit
         if self.marks[number]:
-            slot.refused.append(Cell((), number, packet, index, output, kind, slot.number, last))
+            slot.refused.append(Cell((), number, packet, part, output, kind, slot.number, last))
             return
         key = (self.levels[kind], self.ranks[output].rank(kind), slot.number, number)
-        cell = Cell(key, number, packet, index, output, kind, slot.number, last)
-        self.waiting[number, packet, index] = cell
+        cell = Cell(key, number, packet, part, output, kind, slot.number, last)
+        self.waiting[number, packet, part] = cell
         self.held[output] += 1
         slot.arrived.append(cell)
         if self.log:
             cushion = bisect_left(self.buffers[output], (key,))
             slot.slacks.append(cushion - self.lists[number].insert(cell, cushion))
 
-    def _crossed(self, slot: Slot) -> tuple[list[Cell], list[Cell]]:
+    def _crossed(self, slot: Slot, log: Lines) -> tuple[list[Cell], list[Cell]]:
         """What the log says that crosses in this slot, by phase."""
         phases: tuple[list[Cell], list[Cell]] = ([], [])
-        for _, phase, number, output, packet, index in self.log.take(slot.number):
-            cell = self.waiting.get((number, packet, index))
+        for _, phase, number, output, packet, part in log.take(slot.number):
+            cell = self.waiting.get((number, packet, part))
             if phase not in (1, 2) or cell is None or cell.output != output:
-                raise self.log.fault(f"{named(number, packet, index)} does not wait there for output {output}")
+                raise log.fault(f"{named(number, packet, part)} does not wait there for output {output}")
             phases[phase - 1].append(cell)
         return phases
 
-    def _transfer(self, slot: Slot, crossed: list[Cell]) -> None:
+    def _transfer(self, slot: Slot, crossed: list[Cell], log: Lines) -> None:
+        """These cells cross, from the lists of their inputs to the buffers of their outputs."""
         partners = {cell.input: cell.output for cell in crossed}
         slot.proposals.append(sum(line.wishes(partners.get(i)) for i, line in enumerate(self.lists) if line.labels))
         for cell in crossed:
             if not self.lists[cell.input].take(cell):
-                raise Fault(f"{self.log.name}: in slot {slot.number} {cell} crosses once more")
+                raise Fault(f"{log.name}: in slot {slot.number} {cell} crosses once more")
             buffer = self.buffers[cell.output]
             buffer.insert(bisect_left(buffer, (cell.key,)), (cell.key, cell))
 
     def _depart(self, slot: Slot) -> None:
-        for _, output, number, packet, index in self.trace.take(slot.number):
-            cell = self.waiting.pop((number, packet, index), None)
+        """What the trace says leaves."""
+        for _, output, number, packet, part in self.trace.take(slot.number):
+            cell = self.waiting.pop((number, packet, part), None)
             if cell is None or cell.output != output:
-                raise self.trace.fault(f"{named(number, packet, index)} does not wait there for output {output}")
+                raise self.trace.fault(f"{named(number, packet, part)} does not wait there for output {output}")
             if self.log:
                 buffer = self.buffers[output]
                 at = bisect_left(buffer, (cell.key,))
@@ -222,7 +238,7 @@ class Replay:
         by_output = {cell.output: cell for cell in sent}
         for output in self.fair:
             cell = by_output.get(output)
-            self.ranks[output].tell(cell and Queued(cell.key[1], cell.slot, cell.input, cell))
+            self.ranks[output].tell(cell and queued(cell))
 
 
 def replay(configuration: Configuration, with_log: bool) -> Replay:

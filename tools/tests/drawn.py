@@ -3,9 +3,9 @@
 
     drawn.py [--seed SEED] [--count COUNT]
 
-For each switch the model of the fabric writes the files of a run, and notes its figures slot by slot from whole lists and
-buffers; `stats.py` has to find the same figures in the files. Each cheaper switch has to send each cell once, from its
-arrival on, with one cell at most from an input and to an output in a slot.
+For each switch the model of the fabric writes the files of a run, and notes its figures slot by slot from whole
+lists and buffers; `stats.py` has to find the same figures in the files. Each cheaper switch has to send each cell
+once, from its arrival on, with one cell at most from an input and to an output in a slot.
 """
 
 import argparse
@@ -47,7 +47,9 @@ class Watched(Fabric):
         super().arrive(slot, cells)
         for i, line in enumerate(self.lists):
             self.lengths[i].append(len(line))
-            self.slacks[i].update(self.cushion(queued) - place for place, queued in enumerate(line) if queued.slot == slot)
+            self.slacks[i].update(
+                self.cushion(queued) - place for place, queued in enumerate(line) if queued.slot == slot
+            )
 
     def transfer(self, slot: int, phase: int) -> None:
         super().transfer(slot, phase)
@@ -60,17 +62,41 @@ class Watched(Fabric):
 def drawn_tables(draw: random.Random) -> dict[str, Any]:
     """A configuration of one to six ports."""
     ports, kinds = draw.randint(1, 6), draw.randint(1, 4)
-    rules = [{key: value for key, value in (("input", draw.randrange(ports)), ("pcp", draw.randrange(8)),
-                                            ("ether_type", draw.choice((0x0800, 0x86DD, 0x88B5))), ("dscp", draw.randrange(4)))
-              if draw.random() < 0.4} | {"class": draw.randrange(kinds)} for _ in range(draw.randrange(4))]
-    return {"version": 1, "cell_bytes": draw.choice((24, 48, 64, 100)), "slot_ns": draw.choice((1, 100, 512, 5000)),
-            "default_output": draw.randrange(ports), "default_class": draw.randrange(kinds), "trace": "trace.txt", "log": "log.txt",
-            "class": [{"priority": draw.randrange(4), "cost": draw.randint(1, 5)} for _ in range(kinds)],
-            "port": [({"read": f"in{i}.pcap"} if draw.random() < 0.9 else {})
-                     | {"write": f"out{i}.pcap", "discipline": draw.choice(("first-come", "priority", "fair"))} for i in range(ports)],
-            "address": [{"mac": "02:00:00:00:00:%02x" % station, "output": draw.randrange(ports)}
-                        for station in range(STATIONS) if draw.random() < 0.7],
-            "rule": rules}
+    rules = [
+        {
+            key: value
+            for key, value in (
+                ("input", draw.randrange(ports)),
+                ("pcp", draw.randrange(8)),
+                ("ether_type", draw.choice((0x0800, 0x86DD, 0x88B5))),
+                ("dscp", draw.randrange(4)),
+            )
+            if draw.random() < 0.4
+        }
+        | {"class": draw.randrange(kinds)}
+        for _ in range(draw.randrange(4))
+    ]
+    return {
+        "version": 1,
+        "cell_bytes": draw.choice((24, 48, 64, 100)),
+        "slot_ns": draw.choice((1, 100, 512, 5000)),
+        "default_output": draw.randrange(ports),
+        "default_class": draw.randrange(kinds),
+        "trace": "trace.txt",
+        "log": "log.txt",
+        "class": [{"priority": draw.randrange(4), "cost": draw.randint(1, 5)} for _ in range(kinds)],
+        "port": [
+            ({"read": f"in{i}.pcap"} if draw.random() < 0.9 else {})
+            | {"write": f"out{i}.pcap", "discipline": draw.choice(("first-come", "priority", "fair"))}
+            for i in range(ports)
+        ],
+        "address": [
+            {"mac": "02:00:00:00:00:%02x" % station, "output": draw.randrange(ports)}
+            for station in range(STATIONS)
+            if draw.random() < 0.7
+        ],
+        "rule": rules,
+    }
 
 
 def drawn_frame(draw: random.Random) -> bytes:
@@ -78,7 +104,9 @@ def drawn_frame(draw: random.Random) -> bytes:
     to = draw.choice((bytes([2, 0, 0, 0, 0, draw.randrange(STATIONS)]), b"\xff" * 6, bytes([2, 9, 9, 9, 9, 9])))
     tag = draw.choice((b"", b"", b"\x81\x00" + bytes([draw.randrange(8) << 5, 1])))
     kind = draw.choice((b"\x08\x00\x45" + bytes([draw.randrange(4) << 2]), b"\x86\xdd\x60\x00", b"\x88\xb5"))
-    return (to + bytes([2, 0, 0, 0, 0, 0xAA]) + tag + kind).ljust(300, b"\0")[:draw.choice((draw.randint(0, 30), draw.randint(0, 300)))]
+    return (to + bytes([2, 0, 0, 0, 0, 0xAA]) + tag + kind).ljust(300, b"\0")[
+        : draw.choice((draw.randint(0, 30), draw.randint(0, 300)))
+    ]
 
 
 def write_drawn_capture(draw: random.Random, name: str, slot_ns: int) -> None:
@@ -88,7 +116,12 @@ def write_drawn_capture(draw: random.Random, name: str, slot_ns: int) -> None:
         file.write(bytes.fromhex(MAGICS[order, unit]) + struct.pack(order + "HHiIII", 2, 4, 0, 0, 262144, 1))
         for _ in range(draw.randrange(16)):
             frame = drawn_frame(draw)
-            file.write(struct.pack(order + "4I", 7, draw.randrange(12 * slot_ns) // unit, len(frame), len(frame) + draw.randrange(9)) + frame)
+            file.write(
+                struct.pack(
+                    order + "4I", 7, draw.randrange(12 * slot_ns) // unit, len(frame), len(frame) + draw.randrange(9)
+                )
+                + frame
+            )
 
 
 def quantile(values: list[int], per_cent: int) -> int | None:
@@ -97,9 +130,12 @@ def quantile(values: list[int], per_cent: int) -> int | None:
 
 
 def four(values: list[int], name: str, unit: str) -> dict[str, Any]:
-    return {f"{name}_mean_{unit}": round(sum(values) / len(values), 3) if values else None,
-            f"{name}_median_{unit}": quantile(values, 50), f"{name}_p99_{unit}": quantile(values, 99),
-            f"{name}_greatest_{unit}": max(values, default=None)}
+    return {
+        f"{name}_mean_{unit}": round(sum(values) / len(values), 3) if values else None,
+        f"{name}_median_{unit}": quantile(values, 50),
+        f"{name}_p99_{unit}": quantile(values, 99),
+        f"{name}_greatest_{unit}": max(values, default=None),
+    }
 
 
 def flows_of(fabric: Watched) -> list[dict[str, Any]]:
@@ -110,11 +146,17 @@ def flows_of(fabric: Watched) -> list[dict[str, Any]]:
             sent = [(slot, q) for slot, at, q in fabric.sent if output in (at, "all") and kind in (q.cell.kind, "all")]
             if sent or (output, kind) == ("all", "all"):
                 waits = [slot - q.slot for slot, q in sent]
-                delays = [switch.first_stamp + slot * switch.slot_ns - switch.captures[q.input][q.cell.packet].stamp
-                          for slot, q in sent if q.cell.last]
-                rows.append({"output": output, "class": kind, "packets": len(delays), "cells": len(waits)}
-                            | four(waits, "wait", "slots") | four([wait * switch.slot_ns for wait in waits], "wait", "ns")
-                            | four(delays, "delay", "ns"))
+                delays = [
+                    switch.first_stamp + slot * switch.slot_ns - switch.captures[q.input][q.cell.packet].stamp
+                    for slot, q in sent
+                    if q.cell.last
+                ]
+                rows.append(
+                    {"output": output, "class": kind, "packets": len(delays), "cells": len(waits)}
+                    | four(waits, "wait", "slots")
+                    | four([wait * switch.slot_ns for wait in waits], "wait", "ns")
+                    | four(delays, "delay", "ns")
+                )
     return rows
 
 
@@ -122,9 +164,16 @@ def outputs_of(fabric: Watched, slots: int) -> list[dict[str, Any]]:
     rows = []
     for j in fabric.ports:
         cells = sum(output == j for _, output, _ in fabric.sent)
-        rows.append({"output": j, "cells": cells, "idle_slots": slots - cells, "buffer_peak": fabric.peaks[j],
-                     "buffer_mean": round(sum(fabric.kept[j]) / slots, 3) if slots else 0.0,
-                     "packets": sum(output == j and queued.cell.last for _, output, queued in fabric.sent)})
+        rows.append(
+            {
+                "output": j,
+                "cells": cells,
+                "idle_slots": slots - cells,
+                "buffer_peak": fabric.peaks[j],
+                "buffer_mean": round(sum(fabric.kept[j]) / slots, 3) if slots else 0.0,
+                "packets": sum(output == j and queued.cell.last for _, output, queued in fabric.sent),
+            }
+        )
     return rows
 
 
@@ -134,13 +183,24 @@ def inputs_of(fabric: Watched, slots: int) -> list[dict[str, Any]]:
         starts.update({(cell.input, cell.packet): slot for cell in cells if cell.index == 0})
     for i in fabric.ports:
         packets = switch.captures[i]
-        ahead = [starts[i, k] - (packet.stamp - switch.first_stamp) // switch.slot_ns for k, packet in enumerate(packets)]
+        ahead = [
+            starts[i, k] - (packet.stamp - switch.first_stamp) // switch.slot_ns for k, packet in enumerate(packets)
+        ]
         unknown = [packet.body for packet in packets if packet.body[:6] not in switch.outputs]
-        rows.append({"input": i, "packets": len(packets), "cells": fabric.cells[i], "list_peak": fabric.longest[i],
-                     "list_mean": round(sum(fabric.lengths[i]) / slots, 3) if slots else 0.0, "slack_least": fabric.slack[i],
-                     "to_short": sum(len(body) < 6 for body in unknown),
-                     "to_group": sum(len(body) >= 6 and body[0] % 2 == 1 for body in unknown),
-                     "to_unknown": sum(len(body) >= 6 and body[0] % 2 == 0 for body in unknown)} | four(ahead, "ahead", "slots"))
+        rows.append(
+            {
+                "input": i,
+                "packets": len(packets),
+                "cells": fabric.cells[i],
+                "list_peak": fabric.longest[i],
+                "list_mean": round(sum(fabric.lengths[i]) / slots, 3) if slots else 0.0,
+                "slack_least": fabric.slack[i],
+                "to_short": sum(len(body) < 6 for body in unknown),
+                "to_group": sum(len(body) >= 6 and body[0] % 2 == 1 for body in unknown),
+                "to_unknown": sum(len(body) >= 6 and body[0] % 2 == 0 for body in unknown),
+            }
+            | four(ahead, "ahead", "slots")
+        )
     return rows
 
 
@@ -166,10 +226,17 @@ def compare(draw: random.Random) -> list[str]:
     fabric = Watched(Switch.of("switch.toml")).run()
     fabric.write()
     slots = max((slot + 1 for slot, _, _ in fabric.sent), default=0)
-    wanted = {"run": {"slots": slots, "proposals": sum(fabric.proposals), "proposals_most": max(fabric.proposals, default=0)},
-              "flows": flows_of(fabric), "outputs": outputs_of(fabric, slots), "inputs": inputs_of(fabric, slots),
-              "slack": [{"input": i, "slack": slack, "cells": count} for i, counts in enumerate(fabric.slacks)
-                        for slack, count in sorted(counts.items())]}
+    wanted = {
+        "run": {"slots": slots, "proposals": sum(fabric.proposals), "proposals_most": max(fabric.proposals, default=0)},
+        "flows": flows_of(fabric),
+        "outputs": outputs_of(fabric, slots),
+        "inputs": inputs_of(fabric, slots),
+        "slack": [
+            {"input": i, "slack": slack, "cells": count}
+            for i, counts in enumerate(fabric.slacks)
+            for slack, count in sorted(counts.items())
+        ],
+    }
     configuration = read_configuration("switch.toml")
     replay.SPREAD = draw.choice((2, 1 << 60))  # with the first, labels have to be spread anew often
     said = differences(stats.document_of(configuration), wanted, "stats")
@@ -183,7 +250,11 @@ def broken_switches(configuration: Any) -> list[str]:
     for scheduler in cheaper.schedulers(configuration.ports, [1, 2]):
         for ranked in (False, True):
             left = cheaper.simulate(cells, configuration.ports, scheduler(), ranked).left
-            pairs = [(slot, side, port) for cell, slot in zip(cells, left) for side, port in (("in", cell.input), ("out", cell.output))]
+            pairs = [
+                (slot, side, port)
+                for cell, slot in zip(cells, left)
+                for side, port in (("in", cell.input), ("out", cell.output))
+            ]
             if len(set(pairs)) < len(pairs) or any(slot < cell.slot for cell, slot in zip(cells, left)):
                 said.append(f"cheaper: {scheduler().name} is no crossbar")
     return said
