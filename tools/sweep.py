@@ -123,7 +123,7 @@ def write_plan(config: str, folder: str, choices: list[Choice]) -> list[str]:
     for number, choice in zip(numbers, choices):
         name = os.path.join(folder, number)
         made = chosen(tables, choice, name)
-        configuration_of(f"{name}.toml", made)
+        configuration_of(", ".join(f"{key}={value}" for key, value in choice.items()), made)
         texts[f"{name}.toml"] = toml_text(made)
     plan, plan_name = json.dumps({"choices": choices, "texts": texts}), os.path.join(folder, "plan.json")
     if os.path.exists(plan_name):

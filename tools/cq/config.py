@@ -100,7 +100,7 @@ def configuration_of(name: str, tables: dict[str, Any]) -> Configuration:
         )
         judge(configuration)
     except (KeyError, TypeError, ValueError, AttributeError, IndexError) as error:
-        raise Fault(f"{name}: not the tables of a switch ({error}); `cq_switch check {name}` tells where") from None
+        raise Fault(f"{name}: not the tables of a switch ({error}); docs/FORMATS.md has them") from None
     return configuration
 
 

@@ -215,7 +215,7 @@ class Stats(InFolder):
             ("version =", "switch.toml: no TOML document: Invalid value (at end of document)"),
             (
                 "version = 1",
-                "switch.toml: not the tables of a switch ('port'); `cq_switch check switch.toml` tells where",
+                "switch.toml: not the tables of a switch ('port'); docs/FORMATS.md has them",
             ),
         ):
             with open("switch.toml", "w", encoding="ascii") as file:
