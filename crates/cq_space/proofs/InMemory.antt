@@ -120,6 +120,7 @@ begins es at name e is here some =
     let P : Option (List ℕ) → Type 0 = λ (o : Option (List ℕ)). IsSomeAnd o (λ bytes. mode_of (columns_of es) (state.Reads at 0) ≡ Reading name bytes) in
     record {
       reading = tt;
+      named = is.named;
       whole = subst P (sym (told_first es at name e is here)) (begun (option_map (λ v. v.items) e.bytes) name (columns_of es) at is.named told (is_some-option_map e.bytes ∙ sym some));
     }
 
@@ -226,4 +227,4 @@ reads_on {es} {at} {place} {faults} {starved} {m} most count e held piece buf o 
     let front : take count (piece ++ drop count buf) ≡ take count (drop place bytes) = take_at piece (drop count buf) count len ∙ k in
     let P : MemSpace → Type 0 = λ (x : MemSpace). ReadsOn (Some x.contents) x.mode (take count (piece ++ drop count buf)) (mode_of c (state.Reads at (place + count))) in
     let Q : List ℕ → Type 0 = λ (ys : List ℕ). TakesNext (mode_of c (state.Reads at place)) ys (mode_of c (state.Reads at (place + count))) in
-    subst P (sym o.is) (record { reading = tt; next = subst Q (sym front) (takes_next (name_at c at) bytes most place count n some) })
+    subst P (sym o.is) (record { reading = tt; named = refl; next = subst Q (sym front) (takes_next (name_at c at) bytes most place count n some) })

@@ -1,12 +1,12 @@
 -- A name that is written piece after piece.
-use Rattle.std.proofs.Common.{◌≡◌, ℕ, ◌+◌, ◌-◌, Bool, true, false, cond, List, [], ◌++◌, length, take, drop, refl, ap, sym, subst, ◌∙◌}
+use Rattle.std.proofs.Common.{◌≡◌, ℕ, ◌+◌, ◌-◌, Bool, true, false, cond, List, [], ◌++◌, length, take, drop, refl, ap, sym, ◌∙◌}
 use Rattle.std.proofs.Math.Seq.{take-add}
-use Rattle.std.specs.Prelude.{Option, None, Some, OnSome, unwrap_or}
+use Rattle.std.specs.Prelude.{Option, None, Some, unwrap_or}
 use Rattle.std.specs.Ordering.{nat_cmp, eq_by_cmp}
 use Rattle.std.specs.Cmp.{eq_by_cmp_equiv}
 use Rattle.std.specs.Cmp.Lexicographic.{slice_cmp, nat_list_cmp_total}
 use Rattle.std.specs.FinMap.{get, insert, get-insert, same_map, slice_cmp-IsAntisymmetric, nat_cmp-IsAntisymmetric}
-use Rattle.cq_space.specs.Space.{Contents, Mode, Writing, bytes_of, replaced, appended, written_name, BeginsWriting}
+use Rattle.cq_space.specs.Space.{Contents, Mode, Writing, bytes_of, replaced, appended, written_name}
 use Rattle.cq_space.proofs.Pieces.{take_of_rest}
 
 pub get_same : (m : Contents) (name bytes : List ℕ) → get (insert m name bytes) name ≡ Some bytes
@@ -34,27 +34,12 @@ pub appended-replaced : (told : Option Contents) (name front piece : List ℕ) �
 appended-replaced None name front piece = refl
 appended-replaced (Some m) name front piece = ap Some (insert-appended m name front piece)
 
--- the name that is written is the one that was begun, where it matters
-appended-named : (told : Option Contents) (name piece : List ℕ) (mode : Mode) → OnSome told (mode ≡ Writing name) → appended (written_name mode) piece told ≡ appended name piece told
-appended-named None name piece mode h = refl
-appended-named (Some m) name piece mode h = ap (λ k. appended (written_name k) piece (Some m)) h
-
-keeps_named : (told : Option Contents) (name piece : List ℕ) (other : List ℕ) (mode : Mode) → OnSome told (mode ≡ Writing name) → OnSome (appended other piece told) (mode ≡ Writing name)
-keeps_named None name piece other mode h = tt
-keeps_named (Some m) name piece other mode h = h
-
 -- one more piece of the bytes
-pub replaced_on : (start before now : Option Contents) (mode : Mode) (name bytes : List ℕ) (done n : ℕ) → BeginsWriting before name mode → before ≡ replaced name (take done bytes) start → now ≡ appended (written_name mode) (take n (take (length bytes - done) (drop done bytes))) before → now ≡ replaced name (take (done + n) bytes) start
+pub replaced_on : (start before now : Option Contents) (mode : Mode) (name bytes : List ℕ) (done n : ℕ) → mode ≡ Writing name → before ≡ replaced name (take done bytes) start → now ≡ appended (written_name mode) (take n (take (length bytes - done) (drop done bytes))) before → now ≡ replaced name (take (done + n) bytes) start
 replaced_on start before now mode name bytes done n begun front piece =
     piece
-    ∙ appended-named before name _ mode begun.named
+    ∙ ap (λ (k : Mode). appended (written_name k) (take n (take (length bytes - done) (drop done bytes))) before) begun
     ∙ ap (λ k. appended name (take n (take (length bytes - done) (drop done bytes))) k) front
     ∙ appended-replaced start name (take done bytes) _
     ∙ ap (λ ys. replaced name (take done bytes ++ ys) start) (take_of_rest bytes done n)
     ∙ ap (λ ys. replaced name ys start) (sym (take-add done n bytes))
-
-pub begun_on : (before now : Option Contents) (mode mode' : Mode) (name piece : List ℕ) → BeginsWriting before name mode → mode' ≡ mode → now ≡ appended (written_name mode) piece before → BeginsWriting now name mode'
-begun_on before now mode mode' name piece begun same grown =
-    let P : Mode → Type 0 = λ k. BeginsWriting now name k in
-    let Q : Option Contents → Type 0 = λ k. OnSome k (mode ≡ Writing name) in
-    subst P (sym same) (record { writing = begun.writing; named = subst Q (sym grown) (keeps_named before name piece (written_name mode) mode begun.named) })

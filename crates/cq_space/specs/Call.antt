@@ -1,8 +1,9 @@
--- The calls of a file space that can fail.
+-- The calls of a file space that can fail. Those that begin something have the name.
+use Rattle.std.specs.Prelude.{ℕ, List}
 
 pub data Call : Type 0 where
-  StartRead : Call
+  StartRead : (name : List ℕ) → Call
   Read : Call
-  StartWrite : Call
+  StartWrite : (name : List ℕ) → Call
   Write : Call
   Finish : Call

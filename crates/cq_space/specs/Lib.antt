@@ -2,7 +2,9 @@ pub mod Call
 pub mod Causes
 pub mod Cut
 pub mod Entries
+pub mod Failing
 pub mod Host
+pub mod Lasting
 pub mod MemFiles
 pub mod MemSpace
 pub mod MemTaken

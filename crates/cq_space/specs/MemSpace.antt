@@ -53,9 +53,9 @@ pub record FailsAtCut (old new : MemSpace) : Type 0 where
 
 -- a read fails only at a cut, a start of writing only for want of memory, a write only for one of these
 abbrev pub MayFail : Call → MemSpace → MemSpace → Type 0
-MayFail StartRead old new = ⊥
+MayFail (StartRead name) old new = ⊥
 MayFail Read old new = FailsAtCut old new
-MayFail StartWrite old new = Rose old.starved new.starved
+MayFail (StartWrite name) old new = Rose old.starved new.starved
 MayFail Write old new = FailsAtCut old new ⊎ Rose old.starved new.starved
 MayFail Finish old new = ⊥
 
@@ -63,9 +63,10 @@ MayFail Finish old new = ⊥
 abbrev pub MayMove : MemSpace → ℕ → Type 0
 MayMove s n = StaysBefore (cut_at s.mode s.read_cuts s.write_cuts) (moved_at s.mode s.contents) n
 
--- the cuts are as before, and the count of faults from want of memory does not fall, and rises only with that of faults
+-- the cuts are as before, and no count falls; that of faults from want of memory rises only with that of faults
 pub record KeepsCuts (old new : MemSpace) : Type 0 where
   pub read_cuts : new.read_cuts ≡ old.read_cuts
   pub write_cuts : new.write_cuts ≡ old.write_cuts
+  pub faults : old.faults ≤ new.faults
   pub later : old.starved ≤ new.starved
   pub counted : (new.starved ≡ old.starved) ⊎ Rose old.faults new.faults

@@ -23,8 +23,9 @@ MayFail old new = FailsAtCut old new ⊎ Rose old.starved new.starved
 abbrev pub MayMove : MemTaken → ℕ → Type 0
 MayMove s n = StaysBefore s.cut (length s.bytes) n
 
--- the cut is as before, and the count of faults from want of memory does not fall, and rises only with that of faults
+-- the cut is as before, and no count falls; that of faults from want of memory rises only with that of faults
 pub record KeepsCut (old new : MemTaken) : Type 0 where
   pub cut : new.cut ≡ old.cut
+  pub faults : old.faults ≤ new.faults
   pub later : old.starved ≤ new.starved
   pub counted : (new.starved ≡ old.starved) ⊎ Rose old.faults new.faults

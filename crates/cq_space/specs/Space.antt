@@ -42,15 +42,22 @@ IsWriting Closed = ⊥
 IsWriting (Reading name left) = ⊥
 IsWriting (Writing name) = Unit {0}
 
+-- the name that is read
+abbrev pub read_name : Mode → List ℕ
+read_name Closed = []
+read_name (Reading name left) = name
+read_name (Writing name) = []
+
 -- the name that is written
 abbrev pub written_name : Mode → List ℕ
 written_name Closed = []
 written_name (Reading name left) = []
 written_name (Writing name) = name
 
--- reading began, of all the bytes of the name where contents are told
+-- reading the name began, of all its bytes where contents are told
 pub record BeginsReading (told : Option Contents) (name : List ℕ) (mode : Mode) : Type 0 where
   pub reading : IsReading mode
+  pub named : read_name mode ≡ name
   pub whole : IfSome told (λ m. IsSomeAnd (get m name) (λ bytes. mode ≡ Reading name bytes))
 
 -- what start_read answered
@@ -63,9 +70,10 @@ abbrev pub TakesNext : Mode → List ℕ → Mode → Type 0
 TakesNext (Reading name left) piece (Reading name' left') = (name' ≡ name) × (left ≡ piece ++ left') × (piece ≡ [] → left' ≡ [])
 TakesNext _ piece _ = ⊥
 
--- it goes on reading; where contents are told, the piece is next
+-- it goes on reading the name; where contents are told, the piece is next
 pub record ReadsOn (told : Option Contents) (old : Mode) (piece : List ℕ) (new : Mode) : Type 0 where
   pub reading : IsReading new
+  pub named : read_name new ≡ read_name old
   pub next : OnSome told (TakesNext old piece new)
 
 -- told contents after the name is emptied
@@ -86,11 +94,6 @@ pub record Appends (old new : Space) (bytes : List ℕ) (n : ℕ) : Type 0 where
   pub within : n ≤ length bytes
   pub mode : new.mode ≡ old.mode
   pub told : new.told ≡ appended (written_name old.mode) (take n bytes) old.told
-
--- writing began; where contents are told, of this name
-pub record BeginsWriting (told : Option Contents) (name : List ℕ) (mode : Mode) : Type 0 where
-  pub writing : IsWriting mode
-  pub named : OnSome told (mode ≡ Writing name)
 
 -- after a write that was cut short: as before, or the front of the bytes
 abbrev pub IsCutAt : List ℕ → List ℕ → Option Contents → Option Contents → Type 0

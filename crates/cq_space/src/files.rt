@@ -2,7 +2,8 @@
 ghost use Rattle.std.specs.Prelude.{◌≡◌, ◌<◌, ◌≤◌, ℕ, length, take, IfOk, OnOk, OnErr};
 ghost use Rattle.cq_space.specs.Causes.{HasCause};
 ghost use Rattle.cq_space.specs.Call.{Call};
-ghost use Rattle.cq_space.specs.Space.{Space, Closed, IsReading, IsWriting, Finds, ReadsOn, BeginsWriting, Appends, emptied};
+ghost use Rattle.cq_space.specs.Failing.{Lasts};
+ghost use Rattle.cq_space.specs.Space.{Space, Closed, Writing, IsReading, IsWriting, Finds, ReadsOn, Appends, emptied};
 
 /// A call met a fault. The count of faults of the object that answers it rose in that call.
 #[derive(Clone, Copy, Debug, PartialEq, Eq)]
@@ -13,7 +14,8 @@ pub struct Failed;
 /// What clauses see of a file space is its `space`, which has three parts.
 ///
 /// - The mode: closed, reading a name of which some bytes are left, or writing a name. Reading and
-///   writing begin and end closed, so no two names are open at once.
+///   writing begin and end closed, so no two names are open at once. The name is told in any case, the
+///   bytes that are left where contents are.
 /// - The told contents: the bytes of each name that there is. An implementation over the system's
 ///   files tells none, and a clause on contents then says nothing. No call changes the bytes of a
 ///   name other than the one that is written.
@@ -49,7 +51,7 @@ pub trait Files {
         ensures err { OnErr result ((space self.new).mode ≡ Closed) }
         ensures told { (space self.new).told ≡ (space self.old).told }
         ensures cause { HasCause (space self.old).faults (space self.new).faults result }
-        ensures why { OnErr result (may_fail Call.StartRead self.old self.new) }
+        ensures why { OnErr result (may_fail (Call.StartRead name.now) self.old self.new) }
         ensures kept { keeps self.old self.new };
 
     /// Reads on, into the front of `buf`. The mode has to be reading, and `buf` not empty.
@@ -84,12 +86,12 @@ pub trait Files {
     /// mode is closed, and contents are as before.
     fn start_write(&mut self, name: &str) -> Result<(), Failed>
         requires { (space self.old).mode ≡ Closed }
-        ensures ok { OnOk result (BeginsWriting (space self.new).told name.now (space self.new).mode) }
+        ensures ok { OnOk result ((space self.new).mode ≡ Writing name.now) }
         ensures emptied { OnOk result ((space self.new).told ≡ emptied name.now (space self.old).told) }
         ensures err { OnErr result ((space self.new).mode ≡ Closed) }
         ensures same { OnErr result ((space self.new).told ≡ (space self.old).told) }
         ensures cause { HasCause (space self.old).faults (space self.new).faults result }
-        ensures why { OnErr result (may_fail Call.StartWrite self.old self.new) }
+        ensures why { OnErr result (may_fail (Call.StartWrite name.now) self.old self.new) }
         ensures kept { keeps self.old self.new };
 
     /// Writes on, from the front of `bytes`. The mode has to be writing, and `bytes` not empty.
@@ -116,4 +118,7 @@ pub trait Files {
         ensures cause { HasCause (space self.old).faults (space self.new).faults result }
         ensures why { OnErr result (may_fail Call.Finish self.old self.new) }
         ensures kept { keeps self.old self.new };
+
+    /// What stays through each of two calls stays through both.
+    ghost lasts: { Lasts keeps };
 }

@@ -1,6 +1,7 @@
 // Files in memory, which a test can set to fail.
 ghost use Rattle.std.specs.Prelude.{◌≡◌, ◌+◌, ◌-◌, ◌≤◌, ◌^◌, min, OnOk, OnErr, MatchOption};
 ghost use Rattle.std.specs.FinMap.{insert, get, empty};
+ghost use Rattle.cq_space.specs.Lasting.{cuts_last};
 ghost use Rattle.cq_space.specs.Space.{Closed};
 ghost use Rattle.cq_space.specs.MemSpace.{told_space, MayFail, MayMove, KeepsCuts};
 
@@ -151,6 +152,8 @@ impl Files for MemFiles {
     ghost may_move = { MayMove };
 
     ghost keeps = { KeepsCuts };
+
+    ghost lasts = { cuts_last };
 
     fn start_read(&mut self, name: &str) -> Result<bool, Failed> {
         match find(&self.entries, name) {

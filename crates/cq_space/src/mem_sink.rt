@@ -1,5 +1,6 @@
 // A sink in memory, which a test can set to fail.
 ghost use Rattle.std.specs.Prelude.{◌≡◌, [], None, Some};
+ghost use Rattle.cq_space.specs.Lasting.{cut_lasts};
 ghost use Rattle.cq_space.specs.MemTaken.{MayFail, MayMove, KeepsCut};
 
 use crate::cut::before_cut;
@@ -22,6 +23,7 @@ pub struct MemSink {
 }
 
 impl Model for MemSink {
+    ghost use Rattle.cq_space.specs.Lasting.{cut_lasts};
     ghost use Rattle.cq_space.specs.MemTaken.{MemTaken};
 
     ghost Value = { MemTaken };
@@ -78,6 +80,8 @@ impl Sink for MemSink {
     ghost may_move = { MayMove };
 
     ghost keeps = { KeepsCut };
+
+    ghost lasts = { cut_lasts };
 
     fn write(&mut self, bytes: &[u8]) -> Result<usize, Failed> {
         let Some(count) = before_cut(self.cut, self.bytes.len(), bytes.len()) else {

@@ -1,6 +1,7 @@
 // What is asked of a sink.
 ghost use Rattle.std.specs.Prelude.{◌≡◌, ◌<◌, ℕ, List, Option, length, IfOk, OnErr};
 ghost use Rattle.cq_space.specs.Causes.{HasCause};
+ghost use Rattle.cq_space.specs.Failing.{Lasts};
 ghost use Rattle.cq_space.specs.Taken.{Takes};
 
 use crate::Failed;
@@ -38,4 +39,7 @@ pub trait Sink {
         ensures why { OnErr result (may_fail self.old self.new) }
         ensures moved { IfOk result (may_move self.old) }
         ensures kept { keeps self.old self.new };
+
+    /// What stays through each of two calls stays through both.
+    ghost lasts: { Lasts keeps };
 }

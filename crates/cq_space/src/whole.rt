@@ -1,5 +1,6 @@
 // Whole reads and writes over any file space, and whole puts into any sink.
-ghost use Rattle.std.specs.Prelude.{◌≡◌, ◌≤◌, ◌^◌};
+ghost use Rattle.std.specs.Prelude.{◌≡◌, ◌≤◌, ◌^◌, OnErr, IsErrOf};
+ghost use Rattle.cq_space.specs.Failing.{Fails, FailsTaking, Reads, Writes};
 ghost use Rattle.cq_space.specs.Space.{Closed};
 ghost use Rattle.cq_space.specs.Whole.{ReadsWhole, WritesWhole, PutsAll};
 
@@ -32,9 +33,9 @@ pub struct WriteFault;
 ///
 /// `Ok` has all the bytes of the name. `Missing` comes exactly where `start_read` answered false, so
 /// only where contents are told and lack the name; `Fault` only where the count of faults rose in this
-/// call, and with every other answer the count is as before; `Long` only where the name has more than
-/// `limit` bytes, of which `limit + 1` were taken. After every answer the mode is closed, and contents
-/// are as before.
+/// call, by a call that reads this name, and with every other answer the count is as before; `Long` only
+/// where the name has more than `limit` bytes, of which `limit + 1` were taken. After every answer the
+/// mode is closed, and contents are as before.
 pub fn read_whole<F: Files>(
     alloc: Global,
     files: &mut F,
@@ -43,7 +44,9 @@ pub fn read_whole<F: Files>(
 ) -> Result<Vec<u8>, ReadRefusal>
     requires closed { (F.space files.old).mode ≡ Closed }
     requires limit { limit ≤ 2 ^ 28 }
-    ensures { ReadsWhole (F.space files.old) (F.space files.new) name.now limit result }
+    ensures whole { ReadsWhole (F.space files.old) (F.space files.new) name.now limit result }
+    ensures why { IsErrOf result ReadRefusal.Fault → Fails F.space F.may_fail F.keeps (Reads name.now) files.old files.new }
+    ensures kept { F.keeps files.old files.new }
 {
     match files.start_read(name) {
         Ok(true) => {}
@@ -76,11 +79,13 @@ pub fn read_whole<F: Files>(
 /// Writes a name whole. The mode has to be closed. It takes no memory.
 ///
 /// After `Ok` the name's bytes are `bytes`. After a fault, which comes only where the count of faults
-/// rose in this call, they are as before it or a prefix of `bytes`. After every answer the mode is
-/// closed, and the bytes of all other names are as before.
+/// rose in this call, by a call that writes this name, they are as before it or a prefix of `bytes`. After
+/// every answer the mode is closed, and the bytes of all other names are as before.
 pub fn write_whole<F: Files>(files: &mut F, name: &str, bytes: &[u8]) -> Result<(), WriteFault>
     requires { (F.space files.old).mode ≡ Closed }
-    ensures { WritesWhole (F.space files.old) (F.space files.new) name.now bytes.now result }
+    ensures whole { WritesWhole (F.space files.old) (F.space files.new) name.now bytes.now result }
+    ensures why { OnErr result (Fails F.space F.may_fail F.keeps (Writes name.now) files.old files.new) }
+    ensures kept { F.keeps files.old files.new }
 {
     if let Err(Failed) = files.start_write(name) {
         return Err(WriteFault);
@@ -103,7 +108,9 @@ pub fn write_whole<F: Files>(files: &mut F, name: &str, bytes: &[u8]) -> Result<
 /// After `Ok` they were appended to what the sink has taken. After a fault, which comes only where the
 /// count of faults rose in this call, a prefix of them was.
 pub fn put_all<S: Sink>(sink: &mut S, bytes: &[u8]) -> Result<(), WriteFault>
-    ensures { PutsAll (S.taken sink.old) (S.taken sink.new) (S.faults sink.old) (S.faults sink.new) bytes.now result }
+    ensures all { PutsAll (S.taken sink.old) (S.taken sink.new) (S.faults sink.old) (S.faults sink.new) bytes.now result }
+    ensures why { OnErr result (FailsTaking S.taken S.faults S.may_fail S.keeps sink.old sink.new) }
+    ensures kept { S.keeps sink.old sink.new }
 {
     let mut taken = 0;
     while taken < bytes.len() {

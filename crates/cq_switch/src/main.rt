@@ -38,7 +38,7 @@ fn main(rt: HostRuntime) -> ExitCode {
     let Ok(words) = words_of(&rt) else {
         return ExitCode::from(NO_WORDS);
     };
-    let mut files = HostFiles::new(&rt);
+    let mut files = HostFiles::new(rt.alloc(), &rt);
     let mut out = HostSink::new(rt.stdout());
     let mut err = HostSink::new(rt.stderr());
     let status = switch_top(

@@ -380,7 +380,7 @@ fn files_of_the_system_are_read_and_written(rt: HostRuntime) -> Result<(), Fail>
         (&from, &nowhere, 6, &unwritten),
     ];
     for (from, to, code, line) in cases {
-        let mut files = HostFiles::new(&rt);
+        let mut files = HostFiles::new(alloc, &rt);
         let mut out = MemSink::new(alloc);
         let mut err = MemSink::new(alloc);
         let words = words_of(alloc, &["pass", from, to])?;

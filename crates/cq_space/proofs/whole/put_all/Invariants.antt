@@ -7,6 +7,7 @@ invariant-loop-taken g l = record {
   put : g.S.Sink.taken l.sink ≡ append_known (g.S.Sink.taken l.fn.sink) (take l.taken l.bytes);
   within : l.taken ≤ length l.bytes;
   uncounted : g.S.Sink.faults l.sink ≡ g.S.Sink.faults l.fn.sink;
+  kept : g.S.Sink.keeps l.fn.sink l.sink;
 }
 
 abbrev pub decreases-loop-taken : goal.decreases-loop-taken

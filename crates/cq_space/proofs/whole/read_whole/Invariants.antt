@@ -1,4 +1,5 @@
 use Rattle.std.proofs.Common.{◌+◌, ◌-◌, ◌≡◌, ◌≤◌, vec_len}
+use Rattle.cq_space.specs.Space.{read_name}
 use Rattle.cq_space.proofs.Reading.{HasRead}
 use Rattle.cq_space.proofs.whole.read_whole.Given as goal
 
@@ -8,9 +9,11 @@ invariant-pieces g l =
     let now = g.F.Files.space l.files in
     record {
       read : HasRead now.told l.name l.bytes.items now.mode;
+      named : read_name now.mode ≡ l.name;
       within : vec_len l.bytes ≤ l.limit + 1;
       told : now.told ≡ start.told;
       uncounted : now.faults ≡ start.faults;
+      kept : g.F.Files.keeps l.fn.files l.files;
     }
 
 abbrev pub decreases-pieces : goal.decreases-pieces

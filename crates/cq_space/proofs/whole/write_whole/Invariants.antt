@@ -1,5 +1,5 @@
 use Rattle.std.proofs.Common.{length, ◌-◌, ◌≡◌, ◌≤◌, take}
-use Rattle.cq_space.specs.Space.{BeginsWriting, replaced}
+use Rattle.cq_space.specs.Space.{Writing, replaced}
 use Rattle.cq_space.proofs.whole.write_whole.Given as goal
 
 abbrev pub invariant-loop-written : goal.invariant-loop-written
@@ -8,9 +8,10 @@ invariant-loop-written g l =
     let now = g.F.Files.space l.files in
     record {
       told : now.told ≡ replaced l.name (take l.written l.bytes) start.told;
-      mode : BeginsWriting now.told l.name now.mode;
+      mode : now.mode ≡ Writing l.name;
       within : l.written ≤ length l.bytes;
       uncounted : now.faults ≡ start.faults;
+      kept : g.F.Files.keeps l.fn.files l.files;
     }
 
 abbrev pub decreases-loop-written : goal.decreases-loop-written
