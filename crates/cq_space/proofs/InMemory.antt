@@ -3,7 +3,7 @@
 -- the bytes of the open name, which the code takes from its entry, are those that the meaning has.
 use Rattle.std.proofs.Common.{◌≡◌, ℕ, ◌+◌, ◌-◌, ◌<◌, ◌≤◌, min, true, false, List, [], ◌++◌, length, get_or, set, map, take, drop, refl, ap, sym, subst, ◌∙◌, arith, unwrap_or, string_bytes}
 use Rattle.std.proofs.lemmas.List.{length-map, get_or-map, with_items_is, length-drop, length-take, take_rest, take_at, take-append-drop, drop_all, drop-drop}
-use Rattle.std.specs.Prelude.{Option, None, Some, Vec, is_some, IsSomeAnd}
+use Rattle.std.specs.Prelude.{Option, None, Some, Vec, is_some, IfSome, IsSomeAnd}
 use Rattle.std.specs.declared.alloc.Global.{Global}
 use Rattle.std.specs.Vec.{with_items}
 use Rattle.std.specs.List.{position_or_len}
@@ -12,6 +12,7 @@ use Rattle.std.specs.FinMap.{get, insert}
 use Rattle.cq_space.specs.declared.entries.Entry.{Entry}
 use Rattle.cq_space.specs.declared.entries.State.{State}
 use Rattle.cq_space.specs.declared.entries.State.TheVariants as state
+use Rattle.cq_space.specs.Calls.{Calls, IsShort, one_more}
 use Rattle.cq_space.specs.Cut.{StaysBefore}
 use Rattle.cq_space.specs.MemSpace.{MemSpace, told_space, cut_at, moved_at}
 use Rattle.cq_space.specs.Space.{Closed, Reading, BeginsReading, TakesNext, ReadsOn, Appends, bytes_of}
@@ -20,8 +21,8 @@ use Rattle.cq_space.proofs.ByName.{get-by_name, value_of-first, value_of-none, b
 use Rattle.cq_space.proofs.Columns.{AreEven, are_even, told_at-is}
 
 -- the meaning of columns, with what is open and the counts
-abbrev pub space : Columns → State → ℕ → ℕ → MemSpace
-space c s faults starved = record { mode = mode_of c s; contents = contents_of c; read_cuts = read_cuts_of c; write_cuts = write_cuts_of c; faults = faults; starved = starved }
+abbrev pub space : Columns → State → ℕ → ℕ → Calls → MemSpace
+space c s faults starved calls = record { mode = mode_of c s; contents = contents_of c; read_cuts = read_cuts_of c; write_cuts = write_cuts_of c; faults = faults; starved = starved; calls = calls }
 
 -- a list of entries that was lent and changed, back in its vector
 pub written_back : (v : Vec Entry Global) (lent new : List Entry) (change : Columns → Columns) → lent ≡ v.items → length new ≡ length lent → columns_of new ≡ change (columns_of lent) → columns_of (with_items v new).items ≡ change (columns_of v.items)
@@ -62,37 +63,40 @@ closed_still c d state.Shut closed = refl
 closed_still c d (state.Reads at place) closed = absurd (let P : ⊥ = cc in P)
 closed_still c d (state.Writes at) closed = absurd (let P : ⊥ = cc in P)
 
-pub sets : (old mid new : Columns) (s : State) (faults starved i : ℕ) (name bytes : List ℕ) → SaysTheSame old mid → AreEven mid → IsEntryOf mid.names i name → mode_of old s ≡ Closed → new ≡ with_bytes mid i bytes
-    → space new s faults starved ≡ record (space old s faults starved) { contents = insert (contents_of old) name bytes }
-sets old mid new s faults starved i name bytes same even is closed changed = λ j. record {
+pub sets : (old mid new : Columns) (s : State) (faults starved : ℕ) (calls : Calls) (i : ℕ) (name bytes : List ℕ) → SaysTheSame old mid → AreEven mid → IsEntryOf mid.names i name → mode_of old s ≡ Closed → new ≡ with_bytes mid i bytes
+    → space new s faults starved calls ≡ record (space old s faults starved calls) { contents = insert (contents_of old) name bytes }
+sets old mid new s faults starved calls i name bytes same even is closed changed = λ j. record {
   mode = closed_still old new s closed j;
   contents = gives_bytes old mid new i name bytes same even is changed j;
   read_cuts = (ap read_cuts_of changed ∙ same.read_cuts) j;
   write_cuts = (ap write_cuts_of changed ∙ same.write_cuts) j;
   faults = faults;
   starved = starved;
+  calls = calls;
 }
 
-pub cuts_reading : (old mid new : Columns) (s : State) (faults starved i : ℕ) (name : List ℕ) (after : ℕ) → SaysTheSame old mid → AreEven mid → IsEntryOf mid.names i name → IsInPlace old s → new ≡ with_read_cut mid i after
-    → space new s faults starved ≡ record (space old s faults starved) { read_cuts = insert (read_cuts_of old) name after }
-cuts_reading old mid new s faults starved i name after same even is sound changed = λ j. record {
+pub cuts_reading : (old mid new : Columns) (s : State) (faults starved : ℕ) (calls : Calls) (i : ℕ) (name : List ℕ) (after : ℕ) → SaysTheSame old mid → AreEven mid → IsEntryOf mid.names i name → IsInPlace old s → new ≡ with_read_cut mid i after
+    → space new s faults starved calls ≡ record (space old s faults starved calls) { read_cuts = insert (read_cuts_of old) name after }
+cuts_reading old mid new s faults starved calls i name after same even is sound changed = λ j. record {
   mode = (ap (λ (c : Columns). mode_of c s) changed ∙ same.mode s sound) j;
   contents = (ap contents_of changed ∙ same.contents) j;
   read_cuts = (ap read_cuts_of changed ∙ by_name-at mid.names mid.read_cuts i name after is even.read_cuts ∙ ap (λ m. insert m name after) same.read_cuts) j;
   write_cuts = (ap write_cuts_of changed ∙ same.write_cuts) j;
   faults = faults;
   starved = starved;
+  calls = calls;
 }
 
-pub cuts_writing : (old mid new : Columns) (s : State) (faults starved i : ℕ) (name : List ℕ) (after : ℕ) → SaysTheSame old mid → AreEven mid → IsEntryOf mid.names i name → IsInPlace old s → new ≡ with_write_cut mid i after
-    → space new s faults starved ≡ record (space old s faults starved) { write_cuts = insert (write_cuts_of old) name after }
-cuts_writing old mid new s faults starved i name after same even is sound changed = λ j. record {
+pub cuts_writing : (old mid new : Columns) (s : State) (faults starved : ℕ) (calls : Calls) (i : ℕ) (name : List ℕ) (after : ℕ) → SaysTheSame old mid → AreEven mid → IsEntryOf mid.names i name → IsInPlace old s → new ≡ with_write_cut mid i after
+    → space new s faults starved calls ≡ record (space old s faults starved calls) { write_cuts = insert (write_cuts_of old) name after }
+cuts_writing old mid new s faults starved calls i name after same even is sound changed = λ j. record {
   mode = (ap (λ (c : Columns). mode_of c s) changed ∙ same.mode s sound) j;
   contents = (ap contents_of changed ∙ same.contents) j;
   read_cuts = (ap read_cuts_of changed ∙ same.read_cuts) j;
   write_cuts = (ap write_cuts_of changed ∙ by_name-at mid.names mid.write_cuts i name after is even.write_cuts ∙ ap (λ m. insert m name after) same.write_cuts) j;
   faults = faults;
   starved = starved;
+  calls = calls;
 }
 
 -- a start of reading
@@ -124,17 +128,27 @@ begins es at name e is here some =
       whole = subst P (sym (told_first es at name e is here)) (begun (option_map (λ v. v.items) e.bytes) name (columns_of es) at is.named told (is_some-option_map e.bytes ∙ sym some));
     }
 
+-- how many bytes a call may move
+
+fewer : (most : Option ℕ) (n k : ℕ) → k ≤ n → IfSome most (λ (m : ℕ). n ≤ m) → IfSome most (λ (m : ℕ). k ≤ m)
+fewer None n k h s = tt
+fewer (Some m) n k h s = omega arith
+
+-- what a call that was counted may move, fewer bytes could be moved by before
+pub short_before : (old new : Calls) (n k : ℕ) → new ≡ one_more old → k ≤ n → IsShort new n → IsShort old k
+short_before old new n k e h s = let P : Calls → Type 0 = λ (c : Calls). IsShort c n in fewer old.most n k h (subst P e s)
+
 -- the cut and the bytes of the open name
 
 -- the meaning is that of these entries with this one open, which is in place
-pub record Stands (es : List Entry) (s : State) (faults starved : ℕ) (m : MemSpace) : Type 0 where
-  pub is : m ≡ space (columns_of es) s faults starved
+pub record Stands (es : List Entry) (s : State) (faults starved : ℕ) (calls : Calls) (m : MemSpace) : Type 0 where
+  pub is : m ≡ space (columns_of es) s faults starved calls
   pub sound : IsInPlace (columns_of es) s
 
-pub stands : (es : List Entry) (s t : State) (faults starved : ℕ) (m : MemSpace) → s ≡ t → space (columns_of es) s faults starved ≡ m → IsInPlace (columns_of es) s → Stands es t faults starved m
-stands es s t faults starved m same view sound =
+pub stands : (es : List Entry) (s t : State) (faults starved : ℕ) (calls : Calls) (m : MemSpace) → s ≡ t → space (columns_of es) s faults starved calls ≡ m → IsInPlace (columns_of es) s → Stands es t faults starved calls m
+stands es s t faults starved calls m same view sound =
     let P : State → Type 0 = λ (k : State). IsInPlace (columns_of es) k in
-    record { is = sym view ∙ ap (λ (k : State). space (columns_of es) k faults starved) same; sound = subst P same sound }
+    record { is = sym view ∙ ap (λ (k : State). space (columns_of es) k faults starved calls) same; sound = subst P same sound }
 
 pub stays_less : (cut : Option ℕ) (moved n k : ℕ) → k ≤ n → StaysBefore cut moved n → StaysBefore cut moved k
 stays_less None moved n k less stays = tt
@@ -160,8 +174,8 @@ read_cut_is : (es : List Entry) (at place : ℕ) (e : Entry) → IsInPlace (colu
 read_cut_is es at place e sound here = value_first (λ (f : Entry). f.read_cut) es at _ e sound.0 here
 
 -- a fact on the cut and the place that the code has is one on the meaning
-pub of_read : {es : List Entry} {at place faults starved : ℕ} {m : MemSpace} (P : Option ℕ → ℕ → Type 0) (e : Entry) → Stands es (state.Reads at place) faults starved m → e ≡ get_or es at e → P e.read_cut place → P (cut_at m.mode m.read_cuts m.write_cuts) (moved_at m.mode m.contents)
-of_read {es} {at} {place} {faults} {starved} {m} P e o here holds =
+pub of_read : {es : List Entry} {at place faults starved : ℕ} {calls : Calls} {m : MemSpace} (P : Option ℕ → ℕ → Type 0) (e : Entry) → Stands es (state.Reads at place) faults starved calls m → e ≡ get_or es at e → P e.read_cut place → P (cut_at m.mode m.read_cuts m.write_cuts) (moved_at m.mode m.contents)
+of_read {es} {at} {place} {faults} {starved} {calls} {m} P e o here holds =
     let Q : MemSpace → Type 0 = λ (k : MemSpace). P (cut_at k.mode k.read_cuts k.write_cuts) (moved_at k.mode k.contents) in
     let R : Option ℕ → Type 0 = λ (cut : Option ℕ). P cut (moved_at (mode_of (columns_of es) (state.Reads at place)) (contents_of (columns_of es))) in
     subst Q (sym o.is) (subst R (sym (read_cut_is es at place e o.sound here)) (subst (P e.read_cut) (sym (read_is es at place e o.sound here)) holds))
@@ -170,21 +184,21 @@ write_cut_is : (es : List Entry) (at : ℕ) (e : Entry) → IsInPlace (columns_o
 write_cut_is es at e sound here = value_first (λ (f : Entry). f.write_cut) es at _ e sound.0 here
 
 -- and so for the name that is written
-pub of_write : {es : List Entry} {at faults starved : ℕ} {m : MemSpace} (P : Option ℕ → ℕ → Type 0) (e : Entry) (held : List ℕ) → Stands es (state.Writes at) faults starved m → e ≡ get_or es at e → held ≡ unwrap_or (option_map (λ v. v.items) e.bytes) [] → P e.write_cut (length held) → P (cut_at m.mode m.read_cuts m.write_cuts) (moved_at m.mode m.contents)
-of_write {es} {at} {faults} {starved} {m} P e held o here had holds =
+pub of_write : {es : List Entry} {at faults starved : ℕ} {calls : Calls} {m : MemSpace} (P : Option ℕ → ℕ → Type 0) (e : Entry) (held : List ℕ) → Stands es (state.Writes at) faults starved calls m → e ≡ get_or es at e → held ≡ unwrap_or (option_map (λ v. v.items) e.bytes) [] → P e.write_cut (length held) → P (cut_at m.mode m.read_cuts m.write_cuts) (moved_at m.mode m.contents)
+of_write {es} {at} {faults} {starved} {calls} {m} P e held o here had holds =
     let Q : MemSpace → Type 0 = λ (k : MemSpace). P (cut_at k.mode k.read_cuts k.write_cuts) (moved_at k.mode k.contents) in
     let R : Option ℕ → Type 0 = λ (cut : Option ℕ). P cut (moved_at (mode_of (columns_of es) (state.Writes at)) (contents_of (columns_of es))) in
     let S : List ℕ → Type 0 = λ (bs : List ℕ). P e.write_cut (length bs) in
     subst Q (sym o.is) (subst R (sym (write_cut_is es at e o.sound here)) (subst S (had ∙ sym (bytes_first es at e o.sound.0 here)) holds))
 
 -- a write appends at the entry that is open
-pub appends : {es : List Entry} {at faults starved : ℕ} {m : MemSpace} (new : Columns) (s : State) (count : ℕ) (e : Entry) (bytes : List ℕ) → Stands es (state.Writes at) faults starved m → s ≡ state.Writes at → e ≡ get_or es at e → 0 < count → count ≤ length bytes
-    → new ≡ with_bytes (columns_of es) at (bytes_at (columns_of es) at ++ take count bytes) → Appends (told_space m) (told_space (space new s faults starved)) bytes count
-appends {es} {at} {faults} {starved} {m} new s count e bytes o same here some within changed =
+pub appends : {es : List Entry} {at faults starved : ℕ} {calls : Calls} {m : MemSpace} (new : Columns) (s : State) (count : ℕ) (e : Entry) (bytes : List ℕ) → Stands es (state.Writes at) faults starved calls m → s ≡ state.Writes at → e ≡ get_or es at e → 0 < count → count ≤ length bytes
+    → new ≡ with_bytes (columns_of es) at (bytes_at (columns_of es) at ++ take count bytes) → Appends (told_space m) (told_space (space new s faults starved calls)) bytes count
+appends {es} {at} {faults} {starved} {calls} {m} new s count e bytes o same here some within changed =
     let c = columns_of es in
     let front = take count bytes in
     let name = name_at c at in
-    let P : MemSpace → Type 0 = λ (k : MemSpace). Appends (told_space k) (told_space (space new s faults starved)) bytes count in
+    let P : MemSpace → Type 0 = λ (k : MemSpace). Appends (told_space k) (told_space (space new s faults starved calls)) bytes count in
     let held : bytes_at c at ≡ bytes_of (contents_of c) name = held_is es at e o.sound.0.there here ∙ sym (bytes_first es at e o.sound.0 here) in
     let told : contents_of new ≡ insert (contents_of c) name (bytes_of (contents_of c) name ++ front) =
     ap contents_of changed ∙ by_name-at c.names c.bytes at name (bytes_at c at ++ front) o.sound.0 (are_even es).bytes ∙ ap (λ (bs : List ℕ). insert (contents_of c) name (bs ++ front)) held in
@@ -213,10 +227,10 @@ takes_next name bytes most place count e some = (
   at_end bytes most place count e some,
 )
 
-pub reads_on : {es : List Entry} {at place faults starved : ℕ} {m : MemSpace} (most count : ℕ) (e : Entry) (held piece buf : List ℕ) → Stands es (state.Reads at place) faults starved m → e ≡ get_or es at e → held ≡ unwrap_or (option_map (λ v. v.items) e.bytes) []
+pub reads_on : {es : List Entry} {at place faults starved : ℕ} {calls : Calls} {m : MemSpace} (most count : ℕ) (e : Entry) (held piece buf : List ℕ) → Stands es (state.Reads at place) faults starved calls m → e ≡ get_or es at e → held ≡ unwrap_or (option_map (λ v. v.items) e.bytes) []
     → count ≡ min (length (take (length held - place) (drop place held))) most → piece ≡ take count (take (length held - place) (drop place held)) → 0 < most
     → ReadsOn (Some m.contents) m.mode (take count (piece ++ drop count buf)) (mode_of (columns_of es) (state.Reads at (place + count)))
-reads_on {es} {at} {place} {faults} {starved} {m} most count e held piece buf o here had counted copied some =
+reads_on {es} {at} {place} {faults} {starved} {calls} {m} most count e held piece buf o here had counted copied some =
     let c = columns_of es in
     let bytes = bytes_at c at in
     let same : held ≡ bytes = had ∙ sym (held_is es at e o.sound.0.there here) in

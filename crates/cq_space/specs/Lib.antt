@@ -1,4 +1,5 @@
 pub mod Call
+pub mod Calls
 pub mod Causes
 pub mod Cut
 pub mod Entries

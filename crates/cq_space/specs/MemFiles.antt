@@ -12,6 +12,7 @@ mem_space m = record {
   write_cuts = write_cuts_of (columns_of m.entries.items);
   faults = m.faults;
   starved = m.starved;
+  calls = m.calls;
 }
 
 -- what is open is in place

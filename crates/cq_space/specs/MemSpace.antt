@@ -1,10 +1,11 @@
 -- What clauses see of files in memory.
-use Rattle.std.specs.Prelude.{◌≡◌, ◌⊎◌, ℕ, ◌-◌, ◌≤◌, length, Option, None, Some}
+use Rattle.std.specs.Prelude.{◌≡◌, ◌⊎◌, ℕ, ◌-◌, ◌≤◌, false, IsTrue, length, Option, None, Some}
 use Rattle.std.specs.Ordering.{nat_cmp}
 use Rattle.std.specs.Cmp.Lexicographic.{slice_cmp}
 use Rattle.std.specs.FinMap.{FinMap, get, code}
 use Rattle.std.specs.Coded.{Coded, coded_list, coded_ℕ}
 use Rattle.cq_space.specs.Call.{Call, StartRead, Read, StartWrite, Write, Finish}
+use Rattle.cq_space.specs.Calls.{Calls, IsShort, next_fails, one_more}
 use Rattle.cq_space.specs.Causes.{Rose}
 use Rattle.cq_space.specs.Cut.{IsReached, StaysBefore}
 use Rattle.cq_space.specs.Space.{Mode, Closed, Reading, Writing, Contents, Space, bytes_of}
@@ -17,7 +18,8 @@ Cuts = FinMap (slice_cmp nat_cmp) ℕ
 abbrev pub cuts_code : Coded Cuts
 cuts_code = code (coded_list coded_ℕ) coded_ℕ
 
--- the mode, the contents, where reading and writing names are cut, the faults, and those of them that came from want of memory
+-- the mode, the contents, where reading and writing names are cut, the faults, those of them that came from want of memory, and the
+-- calls but `end_read`, which are numbered
 pub record MemSpace : Type 0 where
   pub mode : Mode
   pub contents : Contents
@@ -25,6 +27,7 @@ pub record MemSpace : Type 0 where
   pub write_cuts : Cuts
   pub faults : ℕ
   pub starved : ℕ
+  pub calls : Calls
 
 -- it tells its contents
 abbrev pub told_space : MemSpace → Space
@@ -51,22 +54,39 @@ pub record FailsAtCut (old new : MemSpace) : Type 0 where
   pub cut : IsCut old
   pub starved : new.starved ≡ old.starved
 
--- a read fails only at a cut, a start of writing only for want of memory, a write only for one of these
+-- the call was set to fail, and did not fail for want of memory
+pub record IsSetToFail (old new : MemSpace) : Type 0 where
+  pub next : IsTrue (next_fails old.calls)
+  pub starved : new.starved ≡ old.starved
+
+-- a call fails only where it was set to; beside that a read only at a cut, a start of writing only for want of memory, and a write only
+-- for one of these
 abbrev pub MayFail : Call → MemSpace → MemSpace → Type 0
-MayFail (StartRead name) old new = ⊥
-MayFail Read old new = FailsAtCut old new
-MayFail (StartWrite name) old new = Rose old.starved new.starved
-MayFail Write old new = FailsAtCut old new ⊎ Rose old.starved new.starved
-MayFail Finish old new = ⊥
+MayFail (StartRead name) old new = IsSetToFail old new
+MayFail Read old new = IsSetToFail old new ⊎ FailsAtCut old new
+MayFail (StartWrite name) old new = IsSetToFail old new ⊎ Rose old.starved new.starved
+MayFail Write old new = IsSetToFail old new ⊎ (FailsAtCut old new ⊎ Rose old.starved new.starved)
+MayFail Finish old new = IsSetToFail old new
 
--- n more bytes of the open name do not go past its cut
+-- no call succeeds that was set to fail
+abbrev pub MayPass : MemSpace → Type 0
+MayPass s = next_fails s.calls ≡ false
+
+-- the call was counted
+abbrev pub IsCounted : MemSpace → MemSpace → Type 0
+IsCounted old new = new.calls ≡ one_more old.calls
+
+-- n more bytes of the open name do not go past its cut, and are no more than one call may move
 abbrev pub MayMove : MemSpace → ℕ → Type 0
-MayMove s n = StaysBefore (cut_at s.mode s.read_cuts s.write_cuts) (moved_at s.mode s.contents) n
+MayMove s n = StaysBefore (cut_at s.mode s.read_cuts s.write_cuts) (moved_at s.mode s.contents) n × IsShort s.calls n
 
--- the cuts are as before, and no count falls; that of faults from want of memory rises only with that of faults
+-- the cuts and what calls were set to are as before, and no count falls; that of faults from want of memory rises only with that of faults
 pub record KeepsCuts (old new : MemSpace) : Type 0 where
   pub read_cuts : new.read_cuts ≡ old.read_cuts
   pub write_cuts : new.write_cuts ≡ old.write_cuts
+  pub failing : new.calls.failing ≡ old.calls.failing
+  pub most : new.calls.most ≡ old.calls.most
+  pub made : old.calls.made ≤ new.calls.made
   pub faults : old.faults ≤ new.faults
   pub later : old.starved ≤ new.starved
   pub counted : (new.starved ≡ old.starved) ⊎ Rose old.faults new.faults

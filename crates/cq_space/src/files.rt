@@ -24,7 +24,7 @@ pub struct Failed;
 ///   implementation keeps it in a `u64` that stays at its last value. A call that does not fail leaves
 ///   the count as it was.
 ///
-/// An implementation may promise more, by the members `may_fail`, `may_move` and `keeps`. Files that
+/// An implementation may promise more, by the members `may_fail`, `may_pass`, `may_move`, `keeps` and `counts`. Files that
 /// fail only where a test sets them to fail are an example.
 pub trait Files {
     /// The mode, the told contents and the count of faults.
@@ -33,11 +33,17 @@ pub trait Files {
     /// What has to be so where this call fails, from before it to after it.
     ghost may_fail: { Call → Self → Self → Type 0 } = { λ _ _ _. Unit {0} };
 
+    /// What has to be so before a call that does not fail.
+    ghost may_pass: { Self → Type 0 } = { λ _. Unit {0} };
+
     /// What has to be so before a read or a write that moves so many bytes.
     ghost may_move: { Self → ℕ → Type 0 } = { λ _ _. Unit {0} };
 
     /// What is beside the meaning and stays as it was, from before a call to after it.
     ghost keeps: { Self → Self → Type 0 } = { λ _ _. Unit {0} };
+
+    /// What each call that can fail moves on beside the meaning, from before it to after it.
+    ghost counts: { Self → Self → Type 0 } = { λ _ _. Unit {0} };
 
     /// Begins to read a name from its first byte. The mode has to be closed.
     ///
@@ -52,6 +58,8 @@ pub trait Files {
         ensures told { (space self.new).told ≡ (space self.old).told }
         ensures cause { HasCause (space self.old).faults (space self.new).faults result }
         ensures why { OnErr result (may_fail (Call.StartRead name.now) self.old self.new) }
+        ensures passed { OnOk result (may_pass self.old) }
+        ensures counted { counts self.old self.new }
         ensures kept { keeps self.old self.new };
 
     /// Reads on, into the front of `buf`. The mode has to be reading, and `buf` not empty.
@@ -68,6 +76,8 @@ pub trait Files {
         ensures told { (space self.new).told ≡ (space self.old).told }
         ensures cause { HasCause (space self.old).faults (space self.new).faults result }
         ensures why { OnErr result (may_fail Call.Read self.old self.new) }
+        ensures passed { OnOk result (may_pass self.old) }
+        ensures counted { counts self.old self.new }
         ensures moved { IfOk result (may_move self.old) }
         ensures kept { keeps self.old self.new };
 
@@ -92,6 +102,8 @@ pub trait Files {
         ensures same { OnErr result ((space self.new).told ≡ (space self.old).told) }
         ensures cause { HasCause (space self.old).faults (space self.new).faults result }
         ensures why { OnErr result (may_fail (Call.StartWrite name.now) self.old self.new) }
+        ensures passed { OnOk result (may_pass self.old) }
+        ensures counted { counts self.old self.new }
         ensures kept { keeps self.old self.new };
 
     /// Writes on, from the front of `bytes`. The mode has to be writing, and `bytes` not empty.
@@ -106,6 +118,8 @@ pub trait Files {
         ensures same { OnErr result ((space self.new).told ≡ (space self.old).told) }
         ensures cause { HasCause (space self.old).faults (space self.new).faults result }
         ensures why { OnErr result (may_fail Call.Write self.old self.new) }
+        ensures passed { OnOk result (may_pass self.old) }
+        ensures counted { counts self.old self.new }
         ensures moved { IfOk result (may_move self.old) }
         ensures kept { keeps self.old self.new };
 
@@ -117,6 +131,8 @@ pub trait Files {
         ensures told { (space self.new).told ≡ (space self.old).told }
         ensures cause { HasCause (space self.old).faults (space self.new).faults result }
         ensures why { OnErr result (may_fail Call.Finish self.old self.new) }
+        ensures passed { OnOk result (may_pass self.old) }
+        ensures counted { counts self.old self.new }
         ensures kept { keeps self.old self.new };
 
     /// What stays through each of two calls stays through both.

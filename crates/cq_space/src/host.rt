@@ -207,3 +207,6 @@ impl<W: Write> Sink for HostSink<W> {
         }
     }
 }
+
+#[cfg(test)]
+mod tests;

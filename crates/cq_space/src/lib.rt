@@ -19,6 +19,7 @@ mod host;
 mod mem_files;
 mod mem_sink;
 mod sink;
+mod tally;
 mod whole;
 
 pub use files::{Failed, Files};

@@ -1,15 +1,16 @@
 // Files in memory, which a test can set to fail.
-ghost use Rattle.std.specs.Prelude.{◌≡◌, ◌+◌, ◌-◌, ◌≤◌, ◌^◌, min, OnOk, OnErr, MatchOption};
+ghost use Rattle.std.specs.Prelude.{◌≡◌, ◌+◌, ◌-◌, ◌<◌, ◌≤◌, ◌^◌, ◌++◌, ◌∷◌, [], None, Some, min, OnOk, OnErr, MatchOption};
 ghost use Rattle.std.specs.FinMap.{insert, get, empty};
 ghost use Rattle.cq_space.specs.Lasting.{cuts_last};
 ghost use Rattle.cq_space.specs.Space.{Closed};
-ghost use Rattle.cq_space.specs.MemSpace.{told_space, MayFail, MayMove, KeepsCuts};
+ghost use Rattle.cq_space.specs.MemSpace.{told_space, IsCounted, MayFail, MayMove, MayPass, KeepsCuts};
 
 use crate::cut::before_cut;
 use crate::entries::{
     Entry, State, append, cut_reading, cut_writing, find, held, place_of, put_bytes,
 };
 use crate::fault::raise;
+use crate::tally::Tally;
 use crate::{Failed, Files};
 use cq_base::NoMemory;
 use std::alloc::Global;
@@ -17,11 +18,12 @@ use std::marker::Model;
 
 /// Files in memory, for tests: they tell their contents, and fail where a test set them to fail.
 ///
-/// Clauses see the mode, the contents, where reading and writing each name are cut, the count of faults
-/// and the count of those that came from want of memory. A call of [`Files`] answers [`Failed`] only at a
-/// cut, or where [`MemFiles::starved`] rose in it; a read or a write never goes past a cut and never
-/// succeeds at one. `start_read` and `read` take no memory. The calls below are none of `Files`, and
-/// leave the mode as it was.
+/// Clauses see the mode, the contents, where reading and writing each name are cut, the count of faults,
+/// the count of those that came from want of memory, and the numbered calls. A call of [`Files`] answers
+/// [`Failed`] only where its number was set to fail, at a cut, or where [`MemFiles::starved`] rose in it.
+/// A call whose number was set to fail always does; a read or a write never goes past a cut, never
+/// succeeds at one, and never moves more bytes than [`MemFiles::short`] allows. `start_read` and `read`
+/// take no memory. The calls below are none of `Files`, and leave the mode as it was.
 #[derive(Drop)]
 pub struct MemFiles {
     alloc: Global,
@@ -29,6 +31,7 @@ pub struct MemFiles {
     state: State,
     faults: u64,
     starved: u64,
+    calls: Tally,
 }
 
 impl Model for MemFiles {
@@ -58,6 +61,9 @@ impl MemFiles {
         ensures write_cuts { result.write_cuts ≡ empty }
         ensures faults { result.faults ≡ 0 }
         ensures starved { result.starved ≡ 0 }
+        ensures made { result.calls.made ≡ 0 }
+        ensures failing { result.calls.failing ≡ [] }
+        ensures most { result.calls.most ≡ None }
     {
         MemFiles {
             alloc,
@@ -65,6 +71,7 @@ impl MemFiles {
             state: State::Shut,
             faults: 0,
             starved: 0,
+            calls: Tally::new(alloc),
         }
     }
 
@@ -118,6 +125,23 @@ impl MemFiles {
         Ok(())
     }
 
+    /// Sets the call of this number to fail. All calls of [`Files`] but `end_read` are numbered, from 0 on
+    /// and from the first that was ever made. After `NoMemory` everything is as before.
+    pub fn fail_call(&mut self, call: u64) -> Result<(), NoMemory>
+        ensures ok { OnOk result (self.new ≡ record self.old { calls = record self.old.calls { failing = self.old.calls.failing ++ call ∷ [] } }) }
+        ensures err { OnErr result (self.new ≡ self.old) }
+    {
+        self.calls.fail(call)
+    }
+
+    /// From now on each read and each write moves at most `most` bytes, which are at least one.
+    pub fn short(&mut self, most: usize)
+        requires { 0 < most }
+        ensures { self.new ≡ record self.old { calls = record self.old.calls { most = Some most } } }
+    {
+        self.calls.shorten(most);
+    }
+
     /// How many of the faults came from want of memory. At 2^64 - 1 it stays.
     pub fn starved(&self) -> u64
         ensures { result ≡ self.now.starved }
@@ -149,13 +173,20 @@ impl Files for MemFiles {
 
     ghost may_fail = { MayFail };
 
+    ghost may_pass = { MayPass };
+
     ghost may_move = { MayMove };
 
     ghost keeps = { KeepsCuts };
 
+    ghost counts = { IsCounted };
+
     ghost lasts = { cuts_last };
 
     fn start_read(&mut self, name: &str) -> Result<bool, Failed> {
+        if self.calls.next() {
+            return Err(self.fault());
+        }
         match find(&self.entries, name) {
             Some(at) if self.entries[at].bytes.is_some() => {
                 self.state = State::Reads { at, place: 0 };
@@ -166,11 +197,14 @@ impl Files for MemFiles {
     }
 
     fn read(&mut self, buf: &mut [u8]) -> Result<usize, Failed> {
+        if self.calls.next() {
+            return Err(self.fault());
+        }
         let State::Reads { at, place } = self.state else {
             unreachable!()
         };
         let entry = &self.entries[at];
-        match before_cut(entry.read_cut, place, buf.len()) {
+        match before_cut(entry.read_cut, place, self.calls.within(buf.len())) {
             Some(most) => {
                 let left = &held(entry)[place..];
                 let count = left.len().min(most);
@@ -190,6 +224,9 @@ impl Files for MemFiles {
     }
 
     fn start_write(&mut self, name: &str) -> Result<(), Failed> {
+        if self.calls.next() {
+            return Err(self.fault());
+        }
         match place_of(self.alloc, &mut self.entries, name) {
             Ok(at) => {
                 put_bytes(&mut self.entries, at, Vec::new(self.alloc));
@@ -201,11 +238,18 @@ impl Files for MemFiles {
     }
 
     fn write(&mut self, bytes: &[u8]) -> Result<usize, Failed> {
+        if self.calls.next() {
+            return Err(self.fault());
+        }
         let State::Writes { at } = self.state else {
             unreachable!()
         };
         let entry = &self.entries[at];
-        match before_cut(entry.write_cut, held(entry).len(), bytes.len()) {
+        match before_cut(
+            entry.write_cut,
+            held(entry).len(),
+            self.calls.within(bytes.len()),
+        ) {
             Some(count) => match append(&mut self.entries, at, &bytes[..count]) {
                 Ok(()) => Ok(count),
                 Err(NoMemory) => Err(self.starve()),
@@ -215,6 +259,9 @@ impl Files for MemFiles {
     }
 
     fn finish(&mut self) -> Result<(), Failed> {
+        if self.calls.next() {
+            return Err(self.fault());
+        }
         self.state = State::Shut;
         Ok(())
     }

@@ -12,6 +12,6 @@ returns-clause-ok c =
     let changed = written_back mid c.deref_mut.result.now c.put_bytes.new.entries (λ (k : Columns). with_bytes k c.in_ok-at.at c.in_ok-bytes.bytes.items) c.deref_mut.ensures.value c.put_bytes.auto.entries c.put_bytes.ensures in
     let copied : c.in_ok-bytes.bytes.items ≡ c.args.bytes.now = search rules in
     let closed = ap (λ (m : MemSpace). m.mode) c.self.view_is ∙ c.requires in
-    sets (columns_of c.self.inside.entries.items) (columns_of mid.items) _ c.self.inside.state c.self.inside.faults c.self.inside.starved c.in_ok-at.at c.args.name.now c.in_ok-bytes.bytes.items c.in_ok-at.ensures.same (are_even mid.items) c.in_ok-at.ensures.ok closed changed
+    sets (columns_of c.self.inside.entries.items) (columns_of mid.items) _ c.self.inside.state c.self.inside.faults c.self.inside.starved c.self.inside.calls c.in_ok-at.at c.args.name.now c.in_ok-bytes.bytes.items c.in_ok-at.ensures.same (are_even mid.items) c.in_ok-at.ensures.ok closed changed
     ∙ ap (λ (m : MemSpace). record m { contents = insert m.contents c.args.name.now c.in_ok-bytes.bytes.items }) c.self.view_is
     ∙ ap (λ (bs : List ℕ). record c.args.self.now { contents = insert c.args.self.now.contents c.args.name.now bs }) copied
