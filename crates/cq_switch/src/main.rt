@@ -14,22 +14,15 @@ use cq_space::{HostFiles, HostSink};
 use std::process::ExitCode;
 use std::{env, io};
 
-/// The code where the words could not be had: the system did not give them, or there was no memory to
-/// keep them. It is the code of no status.
+/// The code where the words could not be had: the system does not give them as text, as where one is
+/// not UTF-8, or there was no memory to keep them. It is the code of no status, and nothing is written.
 const NO_WORDS: u8 = 10;
 
-/// The words after the program's name. Where one is not UTF-8 there are none: the empty list is no
-/// command either, so the top call answers both alike.
+/// The words after the program's name.
 fn words_of(rt: &HostRuntime) -> io::Result<Vec<String>> {
     let mut words = Vec::new(rt.alloc());
-    match env::args(rt) {
-        Ok(args) => {
-            for word in args.skip(1) {
-                words.push(word)?;
-            }
-        }
-        Err(error) if error.kind() == io::ErrorKind::InvalidData => {}
-        Err(error) => return Err(error),
+    for word in env::args(rt)?.skip(1) {
+        words.push(word)?;
     }
     Ok(words)
 }

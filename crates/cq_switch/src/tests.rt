@@ -4,6 +4,7 @@ ghost use Rattle.cq_space.specs.Space.{Closed};
 
 mod configured;
 mod crossed;
+mod failing;
 mod made;
 mod meeting;
 mod office;
