@@ -1,4 +1,3 @@
 pub mod LogLines
-pub mod Told
 pub mod Front
 pub mod OneDifference

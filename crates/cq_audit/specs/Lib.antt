@@ -2,4 +2,3 @@ pub mod Log
 pub mod Refusals
 pub mod Audit
 pub mod Trace
-pub mod Matchings

@@ -1,6 +1,5 @@
 //! What a log says.
 ghost use Rattle.std.specs.Prelude.{ℕ};
-ghost use Rattle.cq_audit.specs.Matchings.{TransfersTellMatching};
 ghost use Rattle.cq_audit.specs.Log.{IsLogExact};
 ghost use Rattle.cq_audit.specs.Trace.{IsTraceExact};
 
@@ -16,11 +15,4 @@ pub fn logs_are_exact()
 #[tactic(auto, using(crate::proofs::OneDifference::trace_is_exact))]
 pub fn traces_are_exact()
     ensures { IsTraceExact }
-{}
-
-/// The transfers of a phase tell its matching: where two stable matchings of the same lists move the same cells,
-/// they are one. It does nothing: its contract is the claim.
-#[tactic(auto, using(crate::proofs::Told::transfers_tell))]
-pub fn transfers_tell_the_matching()
-    ensures { TransfersTellMatching }
 {}

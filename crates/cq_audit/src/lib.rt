@@ -8,6 +8,6 @@ mod tests;
 mod trace;
 mod transfer;
 
-pub use laws::{logs_are_exact, traces_are_exact, transfers_tell_the_matching};
+pub use laws::{logs_are_exact, traces_are_exact};
 pub use log::{LogRefusal, read_log};
 pub use trace::audit_trace;

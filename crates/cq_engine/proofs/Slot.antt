@@ -11,14 +11,13 @@ use Rattle.std.proofs.lemmas.Bool.{cond_both, eqb-true, eq-eqb}
 use Rattle.std.proofs.lemmas.List.{length-map}
 use Rattle.std.proofs.lemmas.Option.{same_Some}
 use Rattle.cq_base.specs.declared.cell.Cell.{Cell}
-use Rattle.cq_base.specs.declared.key.Key.{Key}
 use Rattle.cq_base.specs.declared.cell.Queued.{Queued}
 use Rattle.cq_base.specs.declared.cell.Transfer.{Transfer}
 use Rattle.cq_base.specs.declared.figures.InputFigures.{InputFigures}
 use Rattle.cq_base.specs.declared.figures.OutputFigures.{OutputFigures}
 use Rattle.cq_base.specs.declared.figures.Figures.{Figures}
 use Rattle.cq_base.specs.Arrivals.{arrival_at}
-use Rattle.cq_base.specs.Cells.{HasOtherKey, cushion, is_for, first_for, put}
+use Rattle.cq_base.specs.Cells.{cushion, is_for, put}
 use Rattle.cq_rank.specs.Machine.{Machine}
 use Rattle.cq_ideal.specs.Ranking.{ranking, AreForPorts}
 use Rattle.cq_ideal.specs.IdealSlot.{fronts, rests, all_told}
@@ -27,18 +26,18 @@ use Rattle.cq_prefs.specs.Moves.{Moves, list_taken, transfers_of}
 use Rattle.cq_prefs.specs.Pairing.{Partners, partner_of, IsInputBest, IsStable, proposals}
 use Rattle.cq_xbar.proofs.Noting.{noted_all, noted_few}
 use Rattle.cq_xbar.proofs.OneEach.{partner_or_free, put_length}
-use Rattle.cq_laws.specs.Fabric.{Fabric, input, buffer, IsAmong, cushion_of}
+use Rattle.cq_laws.specs.Fabric.{Fabric, IsAmong, cushion_of}
 use Rattle.cq_laws.specs.Phases.{came_to, list_arrived, Arrives, Transfers, Departs}
 use Rattle.cq_laws.specs.FabricSlot.{SlotRecord, FabricSlot}
 use Rattle.cq_laws.specs.Records.{transfers_in}
 use Rattle.cq_laws.specs.Measures.{figures_after, input_after, output_after, either_by, least_slack, slacks, slack_on_arrival, proposals_in}
-use Rattle.cq_laws.proofs.Members.{all_from, among_at, first_at, among_insert, left_among}
-use Rattle.cq_laws.proofs.Cushions.{cushion_rises}
-use Rattle.cq_laws.proofs.Sound.{Sound, firsts_differ}
+use Rattle.cq_laws.proofs.Members.{among_at, first_at, among_insert, left_among}
+use Rattle.cq_laws.proofs.Sound.{Sound}
 use Rattle.cq_laws.proofs.AfterArrivals.{Keyed, arrived_sound}
 use Rattle.cq_laws.proofs.AfterTransfer.{moved_sound}
 use Rattle.cq_laws.proofs.AfterDepartures.{sent_sound}
 use Rattle.cq_laws.proofs.Came.{came_from, keyed_from}
+use Rattle.cq_laws.proofs.Entered.{can_cross as firsts_cross, fits_list}
 use Rattle.cq_laws.proofs.Falls.{rest_of}
 use Rattle.cq_laws.proofs.InputBest.{stable_slot}
 use Rattle.cq_laws.proofs.LeastSlack.{by_arrivals, more_after}
@@ -78,17 +77,13 @@ arrives_one j (Some d ∷ cells) (suc i) cell h e = let one = arrives_one j cell
 
 -- ## The cells of one slot can cross
 
-other_keys : (slot : ℕ) (f : Fabric) → Sound slot f → (i j : ℕ) (c : Queued) → first_for j (input f i) ≡ Some c → HasOtherKey c (buffer f j)
-other_keys slot f sound i j c found =
-    let p = first_at (is_for j) (input f i) c found in
-    all_from _ (buffer f j) (λ d h same. sound.apart.between i j c d (among_at (input f i) p.place c p.at) h (sym same))
-
 can_cross : (slot : ℕ) (q : Queues) (ranks : List (List ℕ)) → Sound slot (fabric_of q ranks) → ((i j : ℕ) (c : Queued) → IsAmong c (list_of q.inputs i) → c.cell.output ≡ j → length (list_of q.buffers j) < get_or q.to_outputs j 0) → CanCross q
 can_cross slot q ranks sound room =
+    let firsts = firsts_cross slot (fabric_of q ranks) sound in
     record {
-      differ = firsts_differ (fabric_of q ranks) sound.apart;
+      differ = firsts.differ;
       room = λ i j has. let p = first_at (is_for j) (list_of q.inputs i) has.0 has.1 in room i j has.0 (among_at (list_of q.inputs i) p.place has.0 p.at) (eqb-true has.0.cell.output j p.passes);
-      keys = other_keys slot (fabric_of q ranks) sound;
+      keys = firsts.keys;
     }
 
 came_or_was : (f : Fabric) (q : Option Queued) (xs : List Queued) (c : Queued) → IsAmong c (list_arrived f q xs) → (q ≡ Some c) ⊎ IsAmong c xs
@@ -204,19 +199,9 @@ module _ (ms : List Machine) (slot : ℕ) (x : Figures) (q0 : Queues) (ranks0 : 
 
   pub fits_lists : ((i : ℕ) (cell : Cell) → arrival_at cells i ≡ Some cell → 0 < get_or q0.from_inputs i 0 - length (list_of q0.inputs i)) → FitLists came q0
   fits_lists room i c is =
-      let slot_is = keyed.slot_is i c is in
+      let fits = fits_list ms slot class_count cells came (fabric_of q0 ranks0) up.ideal up.agrees come ranks1 ranked i c is in
       let spare = room i c.cell (arrival i c is) in
-      record {
-        inside = come.inputs i c.cell (arrival i c is);
-        output = keyed.outputs i c is;
-        room = omega arith;
-        other_key = all_from _ (list_of q0.inputs i) (λ d h same. let lt = sound0.early.waiting i d h in let e = ap (λ (k : Key). k.slot) same in absurd (omega arith));
-        ahead = λ s d at out lt.
-            let had = up.agrees.slack i s d at in
-            let rises = cushion_rises d.key c.key (list_of q0.buffers d.cell.output) lt in
-            let same = ap (λ j. cushion c.key (list_of q0.buffers j)) out in
-            omega arith;
-      }
+      record { inside = fits.inside; output = fits.output; room = omega arith; other_key = fits.other_key; ahead = fits.ahead }
 
   module _ (q1 : Queues) (ports1 : length q1.inputs ≡ length q0.inputs) (lists1 : (i : ℕ) → list_of q1.inputs i ≡ list_arrived (fabric_of q0 []) (came_to came i) (list_of q0.inputs i)) (buffers1 : q1.buffers ≡ q0.buffers) (to1 : q1.to_outputs ≡ q0.to_outputs) where
     arrive : Arrives ms slot cells came (fabric_of q0 ranks0) (fabric_of q1 ranks1)

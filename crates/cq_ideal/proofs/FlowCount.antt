@@ -107,6 +107,9 @@ pub before_end : (came : List Arrival) → AllByRecursion (λ a. a.slot < end_of
 before_end [] = tt
 before_end (a ∷ came) = (omega arith, all_from (λ x. x.slot < end_of came) (λ x. x.slot < max (a.slot + 1) (end_of came)) (λ x l. omega arith) came (before_end came))
 
+pub none_after : (came : List Arrival) (t : ℕ) → end_of came ≤ t → length (present (arriving came t)) ≡ 0
+none_after came t le = none_from 64 refl came (end_of came) t (before_end came) le
+
 pub quiet_at_end : (came : List Arrival) → QuietAfter (end_of came) (traffic_of came)
 unfolding traffic_of
 quiet_at_end came = quiet_from 64 refl came (end_of came) (end_of came) 0 (enough came) (before_end came) (omega arith)

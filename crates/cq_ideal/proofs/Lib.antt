@@ -24,4 +24,8 @@ pub mod Sending
 pub mod Slot
 pub mod Spare
 pub mod InTurn
+pub mod Waiting
 pub mod Whole
+pub mod Parted
+pub mod Ends
+pub mod LastSlot

@@ -1,5 +1,5 @@
 -- Whole runs of the ideal switch.
-use Rattle.std.specs.Prelude.{ℕ, ◌+◌, List, [], ◌∷◌, ◌++◌, Option, Result, Ok, Err, replicate}
+use Rattle.std.specs.Prelude.{◌≡◌, ℕ, ◌+◌, List, [], ◌∷◌, ◌++◌, All, Option, Result, Ok, Err, replicate}
 use Rattle.cq_base.specs.declared.cell.Cell.{Cell}
 use Rattle.cq_base.specs.declared.cell.Departure.{Departure}
 use Rattle.cq_base.specs.declared.cell.Queued.{Queued}
@@ -27,7 +27,16 @@ ideal_run ms slot (cells ∷ traffic) state =
 abbrev pub empty_ideal : ℕ → List (List ℕ) → IdealState
 empty_ideal ports ranks = record { lists = replicate ports []; ranks = ranks }
 
+-- no cell waits in any list
+abbrev pub IsEmptyIdeal : IdealState → Type 0
+IsEmptyIdeal ideal = All (λ cells. cells ≡ []) ideal.lists
+
 -- the departures of the slots from this one on, in order of slot, then output
 unfoldable pub departures_of : ℕ → List (List (Option Queued)) → List Departure
 departures_of slot [] = []
 departures_of slot (gone ∷ slots) = departures_in slot gone ++ departures_of (slot + 1) slots
+
+-- the departures of a run, in order of slot, then output; or its tag fault
+abbrev pub departures_ran : Result Ran TagFault → Result (List Departure) TagFault
+departures_ran (Ok ran) = Ok (departures_of 0 ran.gone)
+departures_ran (Err fault) = Err fault

@@ -1,4 +1,5 @@
 pub mod Admission
+pub mod Ending
 pub mod Flows
 pub mod Ideal
 pub mod IdealRun

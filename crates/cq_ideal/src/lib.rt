@@ -5,6 +5,7 @@
 //! is what ours is to send.
 #![tactic(auto)]
 
+mod ending;
 mod flows;
 mod ideal;
 mod judge;
@@ -18,6 +19,7 @@ mod send;
 #[cfg(test)]
 mod tests;
 
+pub use ending::{ideal_run_ends, last_slot_departs, more_slots_send_nothing};
 pub use flows::flows_leave_as_they_came;
 pub use ideal::Ideal;
 pub use laws::ideal_run_is_whole;

@@ -30,3 +30,8 @@ pub mod Joined
 pub mod Idling
 pub mod OnePair
 pub mod WorkedRun
+pub mod Parted
+pub mod KeptParts
+pub mod EndsTogether
+pub mod Entered
+pub mod Told

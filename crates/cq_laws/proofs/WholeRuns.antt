@@ -12,7 +12,7 @@ use Rattle.cq_base.specs.Cells.{IsRising, KeepsOrder}
 use Rattle.cq_rank.specs.Machine.{Machine}
 use Rattle.cq_ideal.specs.Ranking.{AreForPorts}
 use Rattle.cq_ideal.specs.IdealSlot.{IdealState, Sent}
-use Rattle.cq_ideal.specs.IdealRun.{Ran, then_ran, ideal_run, empty_ideal}
+use Rattle.cq_ideal.specs.IdealRun.{IsEmptyIdeal, Ran, then_ran, ideal_run, empty_ideal}
 use Rattle.cq_prefs.specs.FirstCells.{list_of}
 use Rattle.cq_prefs.specs.Pairing.{IsStable}
 use Rattle.cq_laws.specs.Fabric.{Fabric, input, buffer, IsAmong, empty_fabric, IsEmptyFabric}
@@ -20,7 +20,7 @@ use Rattle.cq_laws.specs.Places.{Place, Waiting, Crossed, cell_at}
 use Rattle.cq_laws.specs.Slack.{HasSlack}
 use Rattle.cq_laws.specs.FabricSlot.{SlotRecord}
 use Rattle.cq_laws.specs.FabricRun.{FabricRun, FabricStops}
-use Rattle.cq_laws.specs.Agreement.{Agrees, RunsAlike, IsEmptyIdeal}
+use Rattle.cq_laws.specs.Agreement.{Agrees, RunsAlike}
 use Rattle.cq_laws.proofs.OneSlot.{same_fault, same_slot, slack_arrived, ports_kept}
 
 goes_on : List Machine → ℕ → List (List (Option Cell)) → Result Sent TagFault → Result Ran TagFault

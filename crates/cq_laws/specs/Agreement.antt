@@ -1,10 +1,12 @@
 -- When a fabric agrees with an ideal switch, and what it is that they send the same.
-use Rattle.std.specs.Prelude.{◌≡◌, ℕ, ◌+◌, ◌↔◌, List, [], length, All, Option, Ok}
+use Rattle.std.specs.Prelude.{◌≡◌, ℕ, ◌+◌, ◌↔◌, List, length, Option, Ok}
+use Rattle.cq_base.specs.Arriving.{Arrival}
 use Rattle.cq_base.specs.declared.cell.Cell.{Cell}
 use Rattle.cq_base.specs.declared.cell.Queued.{Queued}
 use Rattle.cq_base.specs.Cells.{IsRising}
 use Rattle.cq_rank.specs.Machine.{Machine}
 use Rattle.cq_prefs.specs.FirstCells.{list_of}
+use Rattle.cq_ideal.specs.Ending.{slots_of_run, whole_ideal_run}
 use Rattle.cq_ideal.specs.IdealSlot.{IdealState, ideal_slot}
 use Rattle.cq_ideal.specs.IdealRun.{ideal_run}
 use Rattle.cq_laws.specs.Fabric.{Fabric, IsAmong, IsFabric, ListsKeepOrder}
@@ -38,6 +40,10 @@ pub record RunsAlike (ms : List Machine) (slot : ℕ) (traffic : List (List (Opt
   pub ran : ideal_run ms slot traffic ideal ≡ Ok (record { gone = gone_in rs; after = after })
   pub agrees : Agrees (slot + length traffic) f after
 
--- no cell waits in any list
-abbrev pub IsEmptyIdeal : IdealState → Type 0
-IsEmptyIdeal ideal = All (λ cells. cells ≡ []) ideal.lists
+-- the whole run of the ideal switch has as many slots as there are records, and sends in them what these say; at its end the
+-- fabric agrees with it
+pub record EndsAlike (ms : List Machine) (came : List Arrival) (ideal : IdealState) (rs : List SlotRecord) (f : Fabric) : Type 0 where
+  pub after : IdealState
+  pub slots : slots_of_run ms came ideal ≡ length rs
+  pub ran : whole_ideal_run ms came ideal ≡ Ok (record { gone = gone_in rs; after = after })
+  pub agrees : Agrees (length rs) f after

@@ -13,4 +13,5 @@ pub mod LimitedAgreement
 pub mod LimitedQuiet
 pub mod Measures
 pub mod Quiet
+pub mod Entering
 pub mod Example

@@ -1,7 +1,9 @@
 -- Runs of a switch, slot by slot. The traffic is what arrives in each slot.
-use Rattle.std.specs.Prelude.{◌≡◌, ℕ, ◌+◌, List, [], ◌∷◌, ◌++◌, length, Option}
+use Rattle.std.specs.Prelude.{◌≡◌, ℕ, ◌+◌, List, [], ◌∷◌, ◌++◌, length, take, drop, Option}
+use Rattle.cq_base.specs.Arriving.{Arrival}
 use Rattle.cq_base.specs.declared.cell.Cell.{Cell}
 use Rattle.cq_base.specs.declared.cell.TagFault.{TagFault}
+use Rattle.cq_ideal.specs.Ending.{IsEnd, first_slots}
 
 -- one record a slot, from this slot on, each from the state in which the one before it ended
 abbrev pub RunBy : {S R : Type 0} → (ℕ → List (Option Cell) → S → R → S → Type 0) → ℕ → List (List (Option Cell)) → S → List R → S → Type 0
@@ -16,6 +18,14 @@ StopBy Step Fault slot [] old rs fault = ⊥
 StopBy Step Fault slot (cells ∷ traffic) old [] fault = Fault slot cells old fault
 StopBy {S} Step Fault slot (cells ∷ traffic) old (r ∷ rs) fault = (next : S) × Step slot cells old r next × StopBy Step Fault (slot + 1) traffic next rs fault
 
+-- the first m of these records are a run of m slots, from slot 0 and this state on, that ends in s
+abbrev pub AfterBy : {S R : Type 0} → (ℕ → List (Option Cell) → S → R → S → Type 0) → List Arrival → S → List R → ℕ → S → Type 0
+AfterBy Step came start rs m s = RunBy Step 0 (first_slots came m) start (take m rs) s
+
+-- the whole run over all cells that arrive: one record a slot, up to its end
+abbrev pub WholeBy : {S R : Type 0} → (ℕ → List (Option Cell) → S → R → S → Type 0) → (S → Type 0) → List Arrival → S → List R → S → Type 0
+WholeBy Step IsEmpty came start rs end = IsEnd came (AfterBy Step came start rs) IsEmpty (length rs) end
+
 -- runs on end are a run: where one ended another goes on, or one slot more, or a run that stops
 pub record GoOn {S R : Type 0} (Step : ℕ → List (Option Cell) → S → R → S → Type 0) (Fault : ℕ → List (Option Cell) → S → TagFault → Type 0) : Type 0 where
   pub run : (slot : ℕ) (before after : List (List (Option Cell))) (f g h : S) (rs ss : List R) →
@@ -24,6 +34,12 @@ pub record GoOn {S R : Type 0} (Step : ℕ → List (Option Cell) → S → R �
       RunBy Step slot before f rs g → Step (slot + length before) cells g r h → RunBy Step slot (before ++ cells ∷ []) f (rs ++ r ∷ []) h
   pub stop : (slot : ℕ) (before after : List (List (Option Cell))) (f g : S) (rs ss : List R) (fault : TagFault) →
       RunBy Step slot before f rs g → StopBy Step Fault (slot + length before) after g ss fault → StopBy Step Fault slot (before ++ after) f (rs ++ ss) fault
+
+-- a run is two on end: the first slots of it are a run, and where that ended the others go on
+pub record HasParts {S R : Type 0} (Step : ℕ → List (Option Cell) → S → R → S → Type 0) (slot : ℕ) (before after : List (List (Option Cell))) (f : S) (rs : List R) (h : S) : Type 0 where
+  pub middle : S
+  pub first : RunBy Step slot before f (take (length before) rs) middle
+  pub second : RunBy Step (slot + length before) after middle (drop (length before) rs) h
 
 -- there is one run, if there is one: its records, and its end or its tag fault
 pub record IsOneRun {S R : Type 0} (Step : ℕ → List (Option Cell) → S → R → S → Type 0) (Fault : ℕ → List (Option Cell) → S → TagFault → Type 0) : Type 0 where

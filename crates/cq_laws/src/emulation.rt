@@ -8,13 +8,13 @@ ghost use Rattle.cq_ideal.specs.Admission.{Marked};
 ghost use Rattle.cq_ideal.specs.LimitedIdeal.{empty_limited};
 ghost use Rattle.cq_ideal.specs.Ranking.{ranking, AreForPorts};
 ghost use Rattle.cq_ideal.specs.IdealSlot.{IdealState, ideal_slot};
-ghost use Rattle.cq_ideal.specs.IdealRun.{ideal_run, empty_ideal};
+ghost use Rattle.cq_ideal.specs.IdealRun.{IsEmptyIdeal, ideal_run, empty_ideal};
 ghost use Rattle.cq_prefs.specs.Pairing.{IsStable, IsInputBest};
 ghost use Rattle.cq_laws.specs.Fabric.{Fabric, empty_fabric, IsEmptyFabric};
 ghost use Rattle.cq_laws.specs.Slack.{HasSlack};
 ghost use Rattle.cq_laws.specs.FabricSlot.{SlotRecord, FabricSlot};
 ghost use Rattle.cq_laws.specs.FabricRun.{FabricRun, FabricStops};
-ghost use Rattle.cq_laws.specs.Agreement.{Agrees, SendsAlike, RunsAlike, IsEmptyIdeal};
+ghost use Rattle.cq_laws.specs.Agreement.{Agrees, SendsAlike, RunsAlike};
 ghost use Rattle.cq_laws.specs.LimitedFabric.{LimitedFabricRun, LimitedRecord, empty_limited_fabric};
 ghost use Rattle.cq_laws.specs.LimitedAgreement.{ActAlike, ActAlikeFromEmpty, LimitedAgrees};
 

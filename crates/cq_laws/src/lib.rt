@@ -7,6 +7,8 @@
 #![tactic(auto)]
 
 mod emulation;
+mod ending;
+mod entering;
 mod example;
 mod figures;
 mod least_slack;
@@ -18,6 +20,8 @@ mod slack;
 
 pub use cq_ideal::Refused;
 pub use emulation::{any_stable_matching, empty_together, same_departures};
+pub use ending::{more_slots_add_nothing, one_whole_run, runs_end_together};
+pub use entering::cells_find_their_places;
 pub use example::worked_run;
 pub use figures::figures_add_up;
 pub use least_slack::{least_slack_is_on_arrival, slack_never_falls};
@@ -27,5 +31,7 @@ pub use limits::{
 };
 pub use phases::phases_keep_the_fabric;
 pub use quiet::quiet_slots_add_nothing;
-pub use runs::{input_best_is_stable, one_run, runs_go_on};
+pub use runs::{
+    input_best_is_stable, one_run, runs_go_on, runs_have_parts, transfers_tell_the_matching,
+};
 pub use slack::{head_of_line, slack_after_arrivals, slack_after_departures, slack_after_matching};

@@ -1,14 +1,18 @@
 //! Runs: how they go on, and which of them there are. Each law is the contract of a function that does nothing.
-ghost use Rattle.std.specs.Prelude.{◌≡◌, ℕ, List, Option};
+ghost use Rattle.std.specs.Prelude.{◌≡◌, ◌++◌, ℕ, List, Option};
+ghost use Rattle.cq_base.specs.Arriving.{Arrival};
 ghost use Rattle.cq_base.specs.declared.cell.Cell.{Cell};
+ghost use Rattle.cq_base.specs.declared.cell.Queued.{Queued};
 ghost use Rattle.cq_base.specs.declared.cell.TagFault.{TagFault};
 ghost use Rattle.cq_rank.specs.Machine.{Machine};
-ghost use Rattle.cq_prefs.specs.Pairing.{IsStable, IsInputBest};
+ghost use Rattle.cq_prefs.specs.FirstCells.{orders_of};
+ghost use Rattle.cq_prefs.specs.Moves.{transfers_of};
+ghost use Rattle.cq_prefs.specs.Pairing.{IsStable, IsInputBest, Partners};
 ghost use Rattle.cq_laws.specs.Fabric.{Fabric};
 ghost use Rattle.cq_laws.specs.FabricSlot.{SlotRecord, FabricSlot};
-ghost use Rattle.cq_laws.specs.FabricRun.{FabricRun, FabricStops, RunsGoOn};
+ghost use Rattle.cq_laws.specs.FabricRun.{FabricRun, FabricStops, RunsGoOn, WholeRun};
 ghost use Rattle.cq_laws.specs.LimitedFabric.{IsLimitedFault, LimitedFabricSlot};
-ghost use Rattle.cq_laws.specs.SlotBySlot.{GoOn, IsOneRun};
+ghost use Rattle.cq_laws.specs.SlotBySlot.{GoOn, HasParts, IsOneRun};
 
 /// A state, its marks and what arrives leave one run with input-best matchings, if there is one: its records,
 /// and its end or its tag fault.
@@ -31,6 +35,8 @@ pub fn input_best_is_stable()
         FabricSlot IsInputBest ms slot cells f r g → FabricSlot IsStable ms slot cells f r g }
     ensures run { (ms : List Machine) (slot : ℕ) (traffic : List (List (Option Cell))) (f g : Fabric) (rs : List SlotRecord) →
         FabricRun IsInputBest ms slot traffic f rs g → FabricRun IsStable ms slot traffic f rs g }
+    ensures whole { (ms : List Machine) (came : List Arrival) (f g : Fabric) (rs : List SlotRecord) →
+        WholeRun IsInputBest ms came f rs g → WholeRun IsStable ms came f rs g }
     ensures stop { (ms : List Machine) (slot : ℕ) (traffic : List (List (Option Cell))) (f : Fabric) (rs : List SlotRecord) (fault : TagFault) →
         FabricStops IsInputBest ms slot traffic f rs fault → FabricStops IsStable ms slot traffic f rs fault }
 {}
@@ -42,4 +48,19 @@ pub fn runs_go_on()
     // the same of a fabric that knows no limits
     ensures input_best { RunsGoOn IsInputBest }
     ensures stable { RunsGoOn IsStable }
+{}
+
+/// The first slots of a run are a run, and the others go on from where that ended.
+pub fn runs_have_parts()
+    ensures input_best { (ms : List Machine) (slot : ℕ) (before after : List (List (Option Cell))) (f h : Fabric) (rs : List SlotRecord) →
+        FabricRun IsInputBest ms slot (before ++ after) f rs h → HasParts (FabricSlot IsInputBest ms) slot before after f rs h }
+    ensures stable { (ms : List Machine) (slot : ℕ) (before after : List (List (Option Cell))) (f h : Fabric) (rs : List SlotRecord) →
+        FabricRun IsStable ms slot (before ++ after) f rs h → HasParts (FabricSlot IsStable ms) slot before after f rs h }
+{}
+
+/// The transfers of a phase tell its matching: where two stable matchings of the same lists move the same cells,
+/// they are one.
+pub fn transfers_tell_the_matching()
+    ensures { (lists : List (List Queued)) (m n : Partners) (slot phase : ℕ) → IsStable (orders_of lists) m → IsStable (orders_of lists) n →
+        transfers_of m lists slot phase ≡ transfers_of n lists slot phase → m ≡ n }
 {}

@@ -15,7 +15,6 @@ use Rattle.cq_prefs.specs.Orders.{IsListed}
 use Rattle.cq_prefs.specs.Pairing.{Partners, partner_of, IsStable}
 use Rattle.cq_prefs.proofs.OutputOrder.{is_output_order}
 use Rattle.cq_laws.proofs.OneRun.{outputs_at}
-use Rattle.cq_audit.specs.Matchings.{TransfersTellMatching}
 
 -- what a function notes of an input is a transfer of it
 abbrev OwnInput : (ℕ → Option Transfer) → Type 0
@@ -107,7 +106,8 @@ offer_of : (lists : List (List Queued)) (m : Partners) → IsStable (orders_of l
 offer_of lists m stable i j e = ((is_output_order (list_of lists i)).offered j).0 (subst (λ l. IsListed l j)
     (outputs_at lists i) (stable.matching.offered i j e))
 
-pub transfers_tell : TransfersTellMatching
+pub transfers_tell : (lists : List (List Queued)) (m n : Partners) (slot phase : ℕ) → IsStable (orders_of lists) m → IsStable (orders_of lists) n →
+    transfers_of m lists slot phase ≡ transfers_of n lists slot phase → m ≡ n
 unfolding transfers_of
 transfers_tell lists m n slot phase stable_m stable_n e =
     let size : length m ≡ length n = stable_m.matching.size ∙ sym stable_n.matching.size in

@@ -1,0 +1,245 @@
+-- A run over some slots and then others sends what the first send, and then what the others send from where those ended. And
+-- slots in which nothing comes, from a state in which nothing waits, send nothing and meet no fault.
+use Rattle.std.proofs.Common.{◌≡◌, ℕ, zero, suc, ◌+◌, ◌≤◌, List, [], ◌∷◌, ◌++◌, length, map, replicate, Option, None, Some, Result, Ok, Err, refl, sym, ap, ◌∙◌, subst, arith, append_assoc}
+use Rattle.std.specs.List.{range_with_len}
+use Rattle.std.proofs.lemmas.List.{nil_from_length}
+use Rattle.std.proofs.lemmas.List.FromFn.{length-map-range_with_len}
+use Rattle.cq_base.specs.Arriving.{Arrival, arriving, arriving_at, end_of}
+use Rattle.cq_base.specs.Arrivals.{no_arrivals}
+use Rattle.cq_base.specs.declared.cell.Cell.{Cell}
+use Rattle.cq_base.specs.declared.cell.Departure.{Departure}
+use Rattle.cq_base.specs.declared.cell.Queued.{Queued}
+use Rattle.cq_base.specs.declared.cell.TagFault.{TagFault}
+use Rattle.cq_rank.specs.Machine.{Machine}
+use Rattle.cq_ideal.specs.Ending.{arriving_from}
+use Rattle.cq_ideal.specs.IdealRun.{Ran, departures_of, ideal_run, then_ran}
+use Rattle.cq_ideal.specs.IdealSlot.{IdealState, Sent, departures_in, ideal_slot}
+use Rattle.cq_ideal.proofs.FlowCount.{none_after}
+use Rattle.cq_ideal.proofs.FlowFound.{arriving_is}
+use Rattle.cq_ideal.proofs.FlowRank.{present}
+use Rattle.cq_ideal.proofs.Waiting.{counted, quiet_slot, waiting}
+
+-- ## What arrives
+
+pub arriving_here : (came : List Arrival) (slot n : ℕ) →
+    arriving_from came slot (suc n) ≡ arriving came slot ∷ arriving_from came (slot + 1) n
+unfolding arriving_from
+arriving_here came slot n = refl
+
+pub arriving_length : (came : List Arrival) (slot n : ℕ) → length (arriving_from came slot n) ≡ n
+unfolding arriving_from
+arriving_length came slot n = length-map-range_with_len (arriving came) slot n
+
+-- what arrives in some slots and in those behind them
+pub arriving_parts : (came : List Arrival) (a b n m k : ℕ) → b ≡ a + n → k ≡ n + m →
+    arriving_from came a n ++ arriving_from came b m ≡ arriving_from came a k
+unfolding arriving_from
+arriving_parts came a b zero m k e f =
+    let here : b ≡ a = omega arith in
+    let long : m ≡ k = omega arith in
+    ap (λ (x : ℕ). map (arriving came) (range_with_len x m)) here
+    ∙ ap (λ (x : ℕ). map (arriving came) (range_with_len a x)) long
+arriving_parts came a b (suc n) m zero e f = absurd (omega arith)
+arriving_parts came a b (suc n) m (suc k) e f =
+    ap (λ (l : List (List (Option Cell))).
+    arriving came a ∷ l) (arriving_parts came (a + 1) b n m k (omega arith) (omega arith))
+
+nobody : (cells : List (Option Cell)) (n : ℕ) → length cells ≡ n → length (present cells) ≡ 0 →
+    cells ≡ replicate n None
+nobody [] zero long none = refl
+nobody [] (suc n) long none = absurd (omega arith)
+nobody (None ∷ cells) zero long none = absurd (omega arith)
+nobody (Some cell ∷ cells) zero long none = absurd (omega arith)
+nobody (None ∷ cells) (suc n) long none =
+    ap (λ (l : List (Option Cell)). None ∷ l) (nobody cells n (omega arith) none)
+nobody (Some cell ∷ cells) (suc n) long none = absurd (omega arith)
+
+none_arrive : (came : List Arrival) (t inputs : ℕ) → inputs ≡ 64 → end_of came ≤ t →
+    arriving came t ≡ replicate inputs None
+none_arrive came t inputs are le =
+    nobody (arriving came t) inputs (ap (λ (l : List (Option Cell)). length l) (arriving_is came t inputs are)
+    ∙ length-map-range_with_len (arriving_at came t) 0 inputs) (none_after came t le)
+
+-- from the end of the arrivals on none comes
+pub quiet_from : (came : List Arrival) (n slot : ℕ) → end_of came ≤ slot →
+    arriving_from came slot n ≡ replicate n no_arrivals
+unfolding arriving_from
+quiet_from came zero slot le = refl
+quiet_from came (suc n) slot le =
+    ap (λ (cells : List (Option Cell)).
+    cells ∷ map (arriving came) (range_with_len (slot + 1) n)) (none_arrive came slot 64 refl le)
+    ∙ ap (λ (l : List (List (Option Cell))). no_arrivals ∷ l) (quiet_from came n (slot + 1) (omega arith))
+
+-- a slot, and then the run from it on
+abbrev next_slot : List Machine → ℕ → List (List (Option Cell)) → Result Sent TagFault → Result Ran TagFault
+next_slot ms slot traffic x =
+    elim x [ Ok sent ↦ then_ran sent.gone (ideal_run ms slot traffic sent.after) | Err fault ↦ Err fault ]
+
+-- ## Two runs on end
+
+-- a run, with what was sent before it
+abbrev pub sent_before : List (List (Option Queued)) → Result Ran TagFault → Result Ran TagFault
+sent_before gone (Ok ran) = Ok (record { gone = gone ++ ran.gone; after = ran.after })
+sent_before gone (Err fault) = Err fault
+
+-- a run, and then the slots from this one on
+abbrev pub going_on : List Machine → ℕ → List (List (Option Cell)) → Result Ran TagFault → Result Ran TagFault
+going_on ms slot traffic (Ok ran) = sent_before ran.gone (ideal_run ms slot traffic ran.after)
+going_on ms slot traffic (Err fault) = Err fault
+
+sent_before-none : (x : Result Ran TagFault) → x ≡ sent_before [] x
+sent_before-none (Ok ran) = refl
+sent_before-none (Err fault) = refl
+
+one_more : (gone : List (Option Queued)) (before : List (List (Option Queued))) (x : Result Ran TagFault) →
+    then_ran gone (sent_before before x) ≡ sent_before (gone ∷ before) x
+one_more gone before (Ok ran) = refl
+one_more gone before (Err fault) = refl
+
+module _ (ms : List Machine) where
+  then_going_on : (n : ℕ) (after : List (List (Option Cell))) (gone : List (Option Queued))
+      (y : Result Ran TagFault) → then_ran gone (going_on ms n after y) ≡ going_on ms n after (then_ran gone y)
+  then_going_on n after gone (Ok ran) = one_more gone ran.gone (ideal_run ms n after ran.after)
+  then_going_on n after gone (Err fault) = refl
+
+  pub run_parts : (slot n : ℕ) (before after : List (List (Option Cell))) (s : IdealState) →
+      n ≡ slot + length before →
+      ideal_run ms slot (before ++ after) s ≡ going_on ms n after (ideal_run ms slot before s)
+  unfolding ideal_run
+  run_parts slot n [] after s e =
+      let at : slot ≡ n = omega arith in
+      ap (λ (k : ℕ). ideal_run ms k after s) at ∙ sent_before-none (ideal_run ms n after s)
+  run_parts slot n (cells ∷ before) after s e =
+      go (ideal_slot ms slot cells s) (λ t. run_parts (slot + 1) n before after t (omega arith))
+    where
+      go : (x : Result Sent TagFault) →
+          ((t : IdealState) → ideal_run ms (slot + 1) (before ++ after) t ≡ going_on ms n after
+          (ideal_run ms (slot + 1) before t)) →
+          next_slot ms (slot + 1) (before ++ after) x ≡ going_on ms n after (next_slot ms (slot + 1) before x)
+      go (Ok sent) rest = ap (then_ran sent.gone) (rest sent.after)
+          ∙ then_going_on n after sent.gone (ideal_run ms (slot + 1) before sent.after)
+      go (Err fault) rest = refl
+
+  -- the two parts of a run that meets no fault
+  pub record Parts (slot n : ℕ) (before after : List (List (Option Cell))) (s : IdealState) (ran : Ran) : Type 0 where
+    pub first : Ran
+    pub second : Ran
+    pub ran_first : ideal_run ms slot before s ≡ Ok first
+    pub ran_second : ideal_run ms n after first.after ≡ Ok second
+    pub both : ran ≡ record { gone = first.gone ++ second.gone; after = second.after }
+
+  parts_of : (slot n : ℕ) (before after : List (List (Option Cell))) (s : IdealState) (ran : Ran)
+      (x : Result Ran TagFault) → ideal_run ms slot before s ≡ x → going_on ms n after x ≡ Ok ran →
+      Parts slot n before after s ran
+  parts_of slot n before after s ran (Ok first) is e = by (ideal_run ms n after first.after) refl e
+    where
+      by : (y : Result Ran TagFault) → ideal_run ms n after first.after ≡ y → sent_before first.gone y ≡ Ok ran →
+          Parts slot n before after s ran
+      by (Ok second) ran_second f =
+          let joined : Ran = record { gone = first.gone ++ second.gone; after = second.after } in
+          let same : joined ≡ ran = cc in
+          record { first = first; second = second; ran_first = is; ran_second = ran_second; both = sym same }
+      by (Err fault) ran_second f = absurd (let P : ⊥ = cc in P)
+  parts_of slot n before after s ran (Err fault) is e = absurd (let P : ⊥ = cc in P)
+
+  pub parted : (slot n : ℕ) (before after : List (List (Option Cell))) (s : IdealState) (ran : Ran) →
+      n ≡ slot + length before → ideal_run ms slot (before ++ after) s ≡ Ok ran → Parts slot n before after s ran
+  parted slot n before after s ran e is =
+      parts_of slot n before after s ran (ideal_run ms slot before s) refl (sym (run_parts slot n before after s e)
+      ∙ is)
+
+  -- ## One slot
+
+  pub record FirstSlot (slot : ℕ) (cells : List (Option Cell)) (traffic : List (List (Option Cell))) (s : IdealState)
+      (ran : Ran) : Type 0 where
+    pub sent : Sent
+    pub second : Ran
+    pub ran_slot : ideal_slot ms slot cells s ≡ Ok sent
+    pub ran_second : ideal_run ms (slot + 1) traffic sent.after ≡ Ok second
+    pub both : ran ≡ record { gone = sent.gone ∷ second.gone; after = second.after }
+
+  pub first_slot : (slot : ℕ) (cells : List (Option Cell)) (traffic : List (List (Option Cell))) (s : IdealState)
+      (ran : Ran) → ideal_run ms slot (cells ∷ traffic) s ≡ Ok ran → FirstSlot slot cells traffic s ran
+  unfolding ideal_run
+  first_slot slot cells traffic s ran e = go (ideal_slot ms slot cells s) refl e
+    where
+      by : (sent : Sent) (y : Result Ran TagFault) → ideal_slot ms slot cells s ≡ Ok sent →
+          ideal_run ms (slot + 1) traffic sent.after ≡ y → then_ran sent.gone y ≡ Ok ran →
+          FirstSlot slot cells traffic s ran
+      by sent (Ok second) is ran_second f =
+          let joined : Ran = record { gone = sent.gone ∷ second.gone; after = second.after } in
+          let same : joined ≡ ran = cc in
+          record { sent = sent; second = second; ran_slot = is; ran_second = ran_second; both = sym same }
+      by sent (Err fault) is ran_second f = absurd (let P : ⊥ = cc in P)
+
+      go : (x : Result Sent TagFault) → ideal_slot ms slot cells s ≡ x → next_slot ms (slot + 1) traffic x ≡ Ok ran →
+          FirstSlot slot cells traffic s ran
+      go (Ok sent) is f = by sent (ideal_run ms (slot + 1) traffic sent.after) is refl f
+      go (Err fault) is f = absurd (let P : ⊥ = cc in P)
+
+  -- a run sends in as many slots as it has, and has as many lists at its end as at its start
+  pub record Measured (traffic : List (List (Option Cell))) (s : IdealState) (ran : Ran) : Type 0 where
+    pub slots : length ran.gone ≡ length traffic
+    pub ports : length ran.after.lists ≡ length s.lists
+
+  pub measured : (slot : ℕ) (traffic : List (List (Option Cell))) (s : IdealState) (ran : Ran) →
+      ideal_run ms slot traffic s ≡ Ok ran → Measured traffic s ran
+  unfolding ideal_run
+  measured slot [] s ran e =
+      let start : Ran = record { gone = []; after = s } in
+      let same : start ≡ ran = cc in
+      subst (Measured [] s) same (record { slots = refl; ports = refl })
+  measured slot (cells ∷ traffic) s ran e =
+      let p = first_slot slot cells traffic s ran e in
+      let rest = measured (slot + 1) traffic p.sent.after p.second p.ran_second in
+      let one = counted ms slot cells s p.sent p.ran_slot in
+      subst (Measured (cells ∷ traffic) s) (sym p.both) (record {
+        slots = ap suc rest.slots;
+        ports = rest.ports
+            ∙ one.ports;
+      })
+
+-- ## What is sent
+
+pub departures_append : (slot b : ℕ) (xs ys : List (List (Option Queued))) → b ≡ slot + length xs →
+    departures_of slot (xs ++ ys) ≡ departures_of slot xs ++ departures_of b ys
+unfolding departures_of
+departures_append slot b [] ys e = let here : slot ≡ b = omega arith in ap (λ (n : ℕ). departures_of n ys) here
+departures_append slot b (x ∷ xs) ys e =
+    ap (λ (l : List Departure). departures_in slot x ++ l) (departures_append (slot + 1) b xs ys (omega arith))
+    ∙ sym (append_assoc (departures_in slot x) (departures_of (slot + 1) xs) (departures_of b ys))
+
+-- ## Nothing comes, and nothing waits
+
+pub record StaysEmpty (ms : List Machine) (came : List Arrival) (slot n : ℕ) (s : IdealState) : Type 0 where
+  pub ran : Ran
+  pub is : ideal_run ms slot (arriving_from came slot n) s ≡ Ok ran
+  pub none : departures_of slot ran.gone ≡ []
+
+pub stays_empty : (ms : List Machine) (came : List Arrival) (n slot : ℕ) (s : IdealState) → end_of came ≤ slot →
+    waiting s.lists ≡ 0 → StaysEmpty ms came slot n s
+unfolding ideal_run departures_of arriving_from
+stays_empty ms came zero slot s le none = record { ran = record { gone = []; after = s }; is = refl; none = refl }
+stays_empty ms came (suc n) slot s le none =
+    let quiet = none_after came slot le in
+    let q = quiet_slot ms slot (arriving came slot) s quiet in
+    let c = counted ms slot (arriving came slot) s q.0 q.1 in
+    let all : length (departures_in slot q.0.gone) + waiting q.0.after.lists ≤ waiting s.lists + length
+    (present (arriving came slot)) = c.all in
+    let nobody : departures_in slot q.0.gone ≡ [] = nil_from_length (departures_in slot q.0.gone) (omega arith) in
+    let rest = stays_empty ms came n (slot + 1) q.0.after (omega arith) (omega arith) in
+    record {
+      ran = record { gone = q.0.gone ∷ rest.ran.gone; after = rest.ran.after };
+      is = go (ideal_slot ms slot (arriving came slot) s) q.0 q.1 rest.ran rest.is;
+      none = ap (λ (l : List Departure). l ++ departures_of (slot + 1) rest.ran.gone) nobody ∙ rest.none;
+    }
+  where
+    go : (x : Result Sent TagFault) (sent : Sent) → x ≡ Ok sent → (ran : Ran) →
+        ideal_run ms (slot + 1) (map (arriving came) (range_with_len (slot + 1) n)) sent.after ≡ Ok ran →
+        next_slot ms (slot + 1) (map (arriving came) (range_with_len (slot + 1) n)) x ≡ Ok (record {
+          gone =
+              sent.gone ∷ ran.gone;
+          after = ran.after;
+        })
+    go x sent e ran is = ap (next_slot ms (slot + 1) (map (arriving came) (range_with_len (slot + 1) n))) e
+        ∙ ap (then_ran sent.gone) is

@@ -1,0 +1,257 @@
+-- One slot of the ideal switch by its numbers of cells. Each arriving cell is put into one list, so all lists together get
+-- as many cells as arrive, and each list as many as arrive for its output. A list that is not empty sends one cell. So what
+-- waits and what is sent are together what waited and what arrived, and unless nothing waits after the slot fewer cells
+-- wait than waited and arrived.
+use Rattle.std.proofs.Common.{◌≡◌, ◌≢◌, ℕ, zero, suc, ◌+◌, ◌-◌, ◌<◌, ◌≤◌, ◌^◌, Bool, true, false, cond, List, [], ◌∷◌, length, map, drop, get_or, Option, Some, None, Result, Ok, Err, refl, sym, ap, ◌∙◌, subst, ⊎_elim, arith}
+use Rattle.std.specs.Prelude.{nat_lt, slice_index_or, slice_set}
+use Rattle.std.specs.List.{range_with_len}
+use Rattle.std.proofs.lemmas.Bool.{cond_both, cases_eq, ne_eqb, cond-false}
+use Rattle.std.proofs.lemmas.List.{get_or-map, length-map, ext_get_or}
+use Rattle.std.proofs.lemmas.List.FromFn.{get_or-map-range_with_len, length-map-range_with_len}
+use Rattle.cq_base.specs.declared.cell.Cell.{Cell}
+use Rattle.cq_base.specs.declared.cell.Queued.{Queued}
+use Rattle.cq_base.specs.declared.cell.TagFault.{TagFault}
+use Rattle.cq_base.specs.Cells.{put, is_for}
+use Rattle.cq_rank.specs.Machine.{Machine, machine_at}
+use Rattle.cq_ideal.specs.Ideal.{count_for}
+use Rattle.cq_ideal.specs.Ranking.{Ranking, ranking, after_input, keyed}
+use Rattle.cq_ideal.specs.IdealSlot.{IdealState, Sent, put_all, filled, fronts, rests, all_told, ideal_sends, ideal_slot, departures_from, departures_in}
+use Rattle.cq_ideal.proofs.FlowPut.{length-put}
+use Rattle.cq_ideal.proofs.FlowRank.{present}
+
+-- ## Numbers that are added over a range
+
+-- the numbers at n places from a on, added
+unfoldable pub total : (ℕ → ℕ) → ℕ → ℕ → ℕ
+total f a zero = 0
+total f a (suc n) = f a + total f (a + 1) n
+
+pub total_none : (f : ℕ → ℕ) (a n : ℕ) → ((t : ℕ) → f t ≡ 0) → total f a n ≡ 0
+unfolding total
+total_none f a zero z = refl
+total_none f a (suc n) z = let here = z a in let rest = total_none f (a + 1) n z in omega arith
+
+pub total_same : (f g : ℕ → ℕ) (a n : ℕ) → ((t : ℕ) → a ≤ t → f t ≡ g t) → total f a n ≡ total g a n
+unfolding total
+total_same f g a zero e = refl
+total_same f g a (suc n) e = let here = e a (omega arith) in let rest = total_same f g (a + 1) n (λ t l. e t (omega arith)) in omega arith
+
+-- so many more at one place at most
+pub total_more : (f g : ℕ → ℕ) (s d a n : ℕ) → ((t : ℕ) → t ≢ s → f t ≡ g t) → f s ≤ g s + d → total f a n ≤ total g a n + d
+unfolding total
+total_more f g s d a zero e le = omega arith
+total_more f g s d a (suc n) e le =
+    ⊎_elim
+    (λ same.
+    let here : f a ≤ g a + d = subst (λ (k : ℕ). f k ≤ g k + d) (sym same) le in
+    let rest = total_same f g (a + 1) n (λ t l. e t (λ is. omega arith)) in omega arith)
+    (λ ne. let here = e a ne in let rest = total_more f g s d (a + 1) n e le in omega arith)
+    (cases_eq a s)
+
+-- ## All lists together
+
+-- how many cells wait
+unfoldable pub waiting : List (List Queued) → ℕ
+waiting [] = 0
+waiting (xs ∷ lists) = length xs + waiting lists
+
+-- how many cells are here
+unfoldable pub count_here : List (Option Queued) → ℕ
+count_here [] = 0
+count_here (None ∷ came) = count_here came
+count_here (Some q ∷ came) = count_here came + 1
+
+waiting-map : (f : ℕ → List Queued) (a n : ℕ) → waiting (map f (range_with_len a n)) ≡ total (λ j. length (f j)) a n
+unfolding waiting total
+waiting-map f a zero = refl
+waiting-map f a (suc n) = let rest = waiting-map f (a + 1) n in omega arith
+
+total_put : (came : List (Option Queued)) (f : ℕ → List Queued) (a n : ℕ) → total (λ j. length (put_all j came (f j))) a n ≤ total (λ j. length (f j)) a n + count_here came
+unfolding count_here
+total_put [] f a n = omega arith
+total_put (None ∷ came) f a n = total_put came f a n
+total_put (Some q ∷ came) f a n =
+    let g = λ (j : ℕ). cond (is_for j q) (put q (f j)) (f j) in
+    let rest = total_put came g a n in
+    let more : total (λ j. length (g j)) a n ≤ total (λ j. length (f j)) a n + 1 =
+    total_more (λ j. length (g j)) (λ j. length (f j)) q.cell.output 1 a n
+    (λ t ne. ap length (cond-false (is_for t q) (put q (f t)) (f t) (ne_eqb q.cell.output t (λ e. ne (sym e)))))
+    (cond_both (is_for q.cell.output q) (put q (f q.cell.output)) (f q.cell.output) (λ xs. length xs ≤ length (f q.cell.output) + 1) (λ _. let l = length-put q (f q.cell.output) in omega arith) (λ _. omega arith)) in
+    omega arith
+
+filled_none : (lists : List (List Queued)) → filled [] lists ≡ lists
+unfolding filled
+filled_none lists =
+    ext_get_or [] (filled [] lists) lists (length-map-range_with_len (λ (j : ℕ). get_or lists j []) 0 (length lists))
+    (λ i inside.
+    let here : i < length lists = let l = length-map-range_with_len (λ (j : ℕ). get_or lists j []) 0 (length lists) in omega arith in
+    get_or-map-range_with_len (λ (j : ℕ). get_or lists j []) 0 (length lists) i i [] here (omega arith))
+
+waiting-filled : (came : List (Option Queued)) (lists : List (List Queued)) → waiting (filled came lists) ≤ waiting lists + count_here came
+unfolding filled
+waiting-filled came lists =
+    let f = λ (j : ℕ). slice_index_or lists j [] in
+    let all = waiting-map (λ j. put_all j came (f j)) 0 (length lists) in
+    let none = waiting-map f 0 (length lists) in
+    let same : waiting (filled [] lists) ≡ waiting lists = ap waiting (filled_none lists) in
+    let more = total_put came f 0 (length lists) in
+    omega arith
+
+-- what is sent of the lists, and what is left of them
+sent_of_waiting : (slot j : ℕ) (lists : List (List Queued)) → length (departures_from slot j (fronts lists)) + waiting (rests lists) ≡ waiting lists
+unfolding waiting
+sent_of_waiting slot j [] = refl
+sent_of_waiting slot j ([] ∷ lists) = let rest = sent_of_waiting slot (j + 1) lists in omega arith
+sent_of_waiting slot j ((x ∷ xs) ∷ lists) = let rest = sent_of_waiting slot (j + 1) lists in omega arith
+
+less_waiting : (lists : List (List Queued)) → waiting (rests lists) ≤ waiting lists - 1
+unfolding waiting
+less_waiting [] = omega arith
+less_waiting ([] ∷ lists) = let rest = less_waiting lists in omega arith
+less_waiting ((x ∷ xs) ∷ lists) = let rest = less_waiting lists in omega arith
+
+-- no list has more cells than all together
+one_of_all : (lists : List (List Queued)) (j : ℕ) → length (slice_index_or lists j []) ≤ waiting lists
+unfolding waiting
+one_of_all [] j = omega arith
+one_of_all (xs ∷ lists) zero = omega arith
+one_of_all (xs ∷ lists) (suc j) = let rest = one_of_all lists j in omega arith
+
+-- where a cell waits some list has one
+pub some_waits : (lists : List (List Queued)) → 0 < waiting lists → (j : ℕ) × (j < length lists) × (0 < length (slice_index_or lists j []))
+unfolding waiting
+some_waits [] some = absurd (omega arith)
+some_waits ([] ∷ lists) some = let rest = some_waits lists (omega arith) in (suc rest.0, omega (arith, rest.1), rest.2)
+some_waits ((x ∷ xs) ∷ lists) some = (zero, omega arith, omega arith)
+
+-- ## One list
+
+cell_here : Option Queued → Option Cell
+cell_here None = None
+cell_here (Some q) = Some q.cell
+
+count_here-cells : (came : List (Option Queued)) → count_here came ≡ length (present (map cell_here came))
+unfolding count_here cell_here
+count_here-cells [] = refl
+count_here-cells (None ∷ came) = count_here-cells came
+count_here-cells (Some q ∷ came) = let rest = count_here-cells came in omega arith
+
+length-put_all : (j : ℕ) (came : List (Option Queued)) (xs : List Queued) → length (put_all j came xs) ≡ length xs + count_for j (map cell_here came)
+unfolding cell_here
+length-put_all j [] xs = omega arith
+length-put_all j (None ∷ came) xs = length-put_all j came xs
+length-put_all j (Some q ∷ came) xs =
+    length-put_all j came (cond (is_for j q) (put q xs) xs) ∙ one (is_for j q) (count_for j (map cell_here came))
+  where
+    one : (b : Bool) (n : ℕ) → length (cond b (put q xs) xs) + n ≡ length xs + (cond b 1 0 + n)
+    one true n = let l = length-put q xs in omega arith
+    one false n = omega arith
+
+-- ## The ranking keeps the cells
+
+after_ok : (P : Ranking → Type 0) (o : Option Queued) (x : Result Ranking TagFault) (r : Ranking) → after_input o x ≡ Ok r → ((rest : Ranking) → x ≡ Ok rest → P (record { came = o ∷ rest.came; ranks = rest.ranks })) → P r
+after_ok P o (Ok rest) r h f =
+    let made : Ranking = record { came = o ∷ rest.came; ranks = rest.ranks } in
+    let same : made ≡ r = cc in subst P same (f rest refl)
+after_ok P o (Err fault) r h f = absurd (let P : ⊥ = cc in P)
+
+fits_ok : (b : Bool) (x : Result Ranking TagFault) (fault : TagFault) (r : Ranking) → cond b x (Err fault) ≡ Ok r → x ≡ Ok r
+fits_ok true x fault r h = h
+fits_ok false x fault r h = absurd (let P : ⊥ = cc in P)
+
+ranked_cells : (ms : List Machine) (slot input : ℕ) (cells : List (Option Cell)) (ranks : List (List ℕ)) (r : Ranking) → ranking ms slot input cells ranks ≡ Ok r → map cell_here r.came ≡ cells
+unfolding cell_here
+ranked_cells ms slot input [] ranks r h =
+    let made : Ranking = record { came = []; ranks = ranks } in
+    let same : made ≡ r = cc in subst (λ (r : Ranking). map cell_here r.came ≡ []) same refl
+ranked_cells ms slot input (None ∷ cells) ranks r h =
+    after_ok (λ r. map cell_here r.came ≡ None ∷ cells) None (ranking ms slot (input + 1) cells ranks) r h
+    (λ rest is. ap (λ (l : List (Option Cell)). None ∷ l) (ranked_cells ms slot (input + 1) cells ranks rest is))
+ranked_cells ms slot input (Some cell ∷ cells) ranks r h =
+    let rank = (machine_at ms cell.output).ranked (slice_index_or ranks cell.output []) cell.class in
+    let given = slice_set ranks cell.output ((machine_at ms cell.output).given (slice_index_or ranks cell.output []) cell.class) in
+    let q = keyed cell rank slot input in
+    let rest = ranking ms slot (input + 1) cells given in
+    after_ok (λ r. map cell_here r.came ≡ Some cell ∷ cells) (Some q) rest r
+    (fits_ok (nat_lt rank (2 ^ 128)) (after_input (Some q) rest) (record { slot = slot; input = input; output = cell.output }) r h)
+    (λ rest is. ap (λ (l : List (Option Cell)). Some cell ∷ l) (ranked_cells ms slot (input + 1) cells given rest is))
+
+-- ## One slot
+
+-- what a slot makes of the numbers of cells
+pub record Counted (slot : ℕ) (cells : List (Option Cell)) (old : IdealState) (sent : Sent) : Type 0 where
+  pub ports : length sent.after.lists ≡ length old.lists
+  pub each : (j : ℕ) → j < length old.lists → length (slice_index_or sent.after.lists j []) ≤ length (slice_index_or old.lists j []) + count_for j cells
+  pub all : length (departures_in slot sent.gone) + waiting sent.after.lists ≤ waiting old.lists + length (present cells)
+  pub fewer : waiting sent.after.lists ≤ waiting old.lists + length (present cells) - 1
+  -- where a cell waits or comes for an output, one departs
+  pub departs : (j : ℕ) → j < length old.lists → 0 < length (slice_index_or old.lists j []) + count_for j cells → 0 < length (departures_in slot sent.gone)
+
+length-filled : (came : List (Option Queued)) (lists : List (List Queued)) → length (filled came lists) ≡ length lists
+unfolding filled
+length-filled came lists = length-map-range_with_len (λ (k : ℕ). put_all k came (slice_index_or lists k [])) 0 (length lists)
+
+filled_at : (came : List (Option Queued)) (lists : List (List Queued)) (j : ℕ) → j < length lists → slice_index_or (filled came lists) j [] ≡ put_all j came (slice_index_or lists j [])
+unfolding filled
+filled_at came lists j inside = get_or-map-range_with_len (λ (k : ℕ). put_all k came (slice_index_or lists k [])) 0 (length lists) j j [] inside (omega arith)
+
+drop_one : (xs : List Queued) → length (drop 1 xs) ≤ length xs
+drop_one [] = omega arith
+drop_one (x ∷ xs) = omega arith
+
+counted_sent : (ms : List Machine) (slot : ℕ) (cells : List (Option Cell)) (old : IdealState) (r : Ranking) → map cell_here r.came ≡ cells → Counted slot cells old (record { gone = fronts (filled r.came old.lists); after = record { lists = rests (filled r.came old.lists); ranks = all_told ms (fronts (filled r.came old.lists)) r.ranks } })
+unfolding departures_in
+counted_sent ms slot cells old r same =
+    let lists = filled r.came old.lists in
+    let long : length lists ≡ length old.lists = length-filled r.came old.lists in
+    let came : count_here r.came ≡ length (present cells) = count_here-cells r.came ∙ ap (λ (l : List (Option Cell)). length (present l)) same in
+    let full : waiting lists ≤ waiting old.lists + count_here r.came = waiting-filled r.came old.lists in
+    let sent : length (departures_from slot 0 (fronts lists)) + waiting (rests lists) ≡ waiting lists = sent_of_waiting slot 0 lists in
+    let less : waiting (rests lists) ≤ waiting lists - 1 = less_waiting lists in
+    record {
+      ports = length-map lists (λ (xs : List Queued). drop 1 xs) ∙ long;
+      each = λ j inside.
+          let here : slice_index_or (rests lists) j [] ≡ drop 1 (slice_index_or lists j []) = get_or-map (λ (xs : List Queued). drop 1 xs) lists j [] [] (omega arith) in
+          let at = filled_at r.came old.lists j inside in
+          let put = length-put_all j r.came (slice_index_or old.lists j []) in
+          let count : count_for j (map cell_here r.came) ≡ count_for j cells = ap (count_for j) same in
+          let shorter = drop_one (slice_index_or lists j []) in
+          let e1 : length (slice_index_or (rests lists) j []) ≡ length (drop 1 (slice_index_or lists j [])) = ap length here in
+          let e2 : length (slice_index_or lists j []) ≡ length (put_all j r.came (slice_index_or old.lists j [])) = ap length at in
+          omega arith;
+      all = omega arith;
+      fewer = omega arith;
+      departs = λ j inside some.
+          let at : length (slice_index_or lists j []) ≡ length (put_all j r.came (slice_index_or old.lists j [])) = ap length (filled_at r.came old.lists j inside) in
+          let put = length-put_all j r.came (slice_index_or old.lists j []) in
+          let count : count_for j (map cell_here r.came) ≡ count_for j cells = ap (count_for j) same in
+          let one = one_of_all lists j in
+          omega arith;
+    }
+
+sends_ok : (P : Sent → Type 0) (ms : List Machine) (old : IdealState) (x : Result Ranking TagFault) (sent : Sent) → ideal_sends ms old x ≡ Ok sent → ((r : Ranking) → x ≡ Ok r → P (record { gone = fronts (filled r.came old.lists); after = record { lists = rests (filled r.came old.lists); ranks = all_told ms (fronts (filled r.came old.lists)) r.ranks } })) → P sent
+sends_ok P ms old (Ok r) sent h f =
+    let made : Sent = record { gone = fronts (filled r.came old.lists); after = record { lists = rests (filled r.came old.lists); ranks = all_told ms (fronts (filled r.came old.lists)) r.ranks } } in
+    let same : made ≡ sent = cc in subst P same (f r refl)
+sends_ok P ms old (Err fault) sent h f = absurd (let P : ⊥ = cc in P)
+
+pub counted : (ms : List Machine) (slot : ℕ) (cells : List (Option Cell)) (old : IdealState) (sent : Sent) → ideal_slot ms slot cells old ≡ Ok sent → Counted slot cells old sent
+unfolding ideal_slot
+counted ms slot cells old sent h =
+    sends_ok (Counted slot cells old) ms old (ranking ms slot 0 cells old.ranks) sent h
+    (λ r is. counted_sent ms slot cells old r (ranked_cells ms slot 0 cells old.ranks r is))
+
+-- a slot in which no cell comes meets no fault
+none_faulty : (ms : List Machine) (slot input : ℕ) (cells : List (Option Cell)) (ranks : List (List ℕ)) → length (present cells) ≡ 0 → (r : Ranking) × (ranking ms slot input cells ranks ≡ Ok r)
+none_faulty ms slot input [] ranks none = (record { came = []; ranks = ranks }, refl)
+none_faulty ms slot input (None ∷ cells) ranks none =
+    let rest = none_faulty ms slot (input + 1) cells ranks none in
+    (record { came = None ∷ rest.0.came; ranks = rest.0.ranks }, ap (after_input None) rest.1)
+none_faulty ms slot input (Some cell ∷ cells) ranks none = absurd (omega arith)
+
+pub quiet_slot : (ms : List Machine) (slot : ℕ) (cells : List (Option Cell)) (old : IdealState) → length (present cells) ≡ 0 → (sent : Sent) × (ideal_slot ms slot cells old ≡ Ok sent)
+unfolding ideal_slot
+quiet_slot ms slot cells old none =
+    let r = none_faulty ms slot 0 cells old.ranks none in
+    let lists = filled r.0.came old.lists in
+    (record { gone = fronts lists; after = record { lists = rests lists; ranks = all_told ms (fronts lists) r.0.ranks } }, ap (ideal_sends ms old) r.1)

@@ -1,0 +1,45 @@
+//! Where runs of the fabric end. Each law is the contract of a function that does nothing.
+ghost use Rattle.std.specs.Prelude.{◌≡◌, ℕ, List, Err, length};
+ghost use Rattle.std.specs.List.{AllByRecursion};
+ghost use Rattle.cq_base.specs.Arriving.{Arrival, traffic_of};
+ghost use Rattle.cq_base.specs.declared.cell.TagFault.{TagFault};
+ghost use Rattle.cq_rank.specs.Machine.{Machine};
+ghost use Rattle.cq_ideal.specs.Ending.{first_slots, whole_ideal_run};
+ghost use Rattle.cq_ideal.specs.Flows.{IsForSwitch};
+ghost use Rattle.cq_ideal.specs.IdealRun.{empty_ideal};
+ghost use Rattle.cq_ideal.specs.Ranking.{AreForPorts};
+ghost use Rattle.cq_prefs.specs.Pairing.{IsInputBest, IsStable};
+ghost use Rattle.cq_laws.specs.Agreement.{EndsAlike};
+ghost use Rattle.cq_laws.specs.Fabric.{Fabric, empty_fabric};
+ghost use Rattle.cq_laws.specs.FabricRun.{BeginsWhole, FabricRun, FabricStops, WholeRun};
+ghost use Rattle.cq_laws.specs.FabricSlot.{SlotRecord};
+ghost use Rattle.cq_laws.specs.Measures.{figures_of};
+
+/// The fabric and the ideal switch end after the same slot, whichever stable matchings are taken, or stop at
+/// the same tag fault.
+pub fn runs_end_together()
+    ensures end { (ms : List Machine) (ports class_count : ℕ) (ranks : List (List ℕ)) (came : List Arrival) (rs : List SlotRecord) (g : Fabric) →
+        AllByRecursion (AreForPorts ports class_count) (first_slots came (length rs)) →
+        WholeRun IsStable ms came (empty_fabric ports ranks) rs g → EndsAlike ms came (empty_ideal ports ranks) rs g }
+    ensures stop { (ms : List Machine) (ports class_count n : ℕ) (ranks : List (List ℕ)) (came : List Arrival) (rs : List SlotRecord) (fault : TagFault) →
+        AllByRecursion (AreForPorts ports class_count) (first_slots came n) →
+        FabricStops IsStable ms 0 (first_slots came n) (empty_fabric ports ranks) rs fault → whole_ideal_run ms came (empty_ideal ports ranks) ≡ Err fault }
+    // in the last slot a cell departs, so there are as many slots as the figures say
+    ensures slots { (ms : List Machine) (ports class_count : ℕ) (ranks : List (List ℕ)) (came : List Arrival) (rs : List SlotRecord) (g : Fabric) →
+        AllByRecursion (AreForPorts ports class_count) (first_slots came (length rs)) → AllByRecursion (IsForSwitch ms ports) came →
+        WholeRun IsStable ms came (empty_fabric ports ranks) rs g → (figures_of ports rs).slots ≡ length rs }
+{}
+
+/// The cells that arrive leave one whole run with input-best matchings, if there is one.
+pub fn one_whole_run()
+    ensures { (ms : List Machine) (came : List Arrival) (start g h : Fabric) (rs ss : List SlotRecord) →
+        WholeRun IsInputBest ms came start rs g → WholeRun IsInputBest ms came start ss h → (rs ≡ ss) × (g ≡ h) }
+{}
+
+/// A run over as many slots as are enough begins with the whole run, and then nothing departs, nothing crosses
+/// and no figure changes.
+pub fn more_slots_add_nothing()
+    ensures { (ms : List Machine) (ports class_count : ℕ) (ranks : List (List ℕ)) (came : List Arrival) (rs : List SlotRecord) (g : Fabric) →
+        AllByRecursion (AreForPorts ports class_count) (traffic_of came) →
+        FabricRun IsInputBest ms 0 (traffic_of came) (empty_fabric ports ranks) rs g → BeginsWhole IsInputBest ms came (empty_fabric ports ranks) rs }
+{}
