@@ -12,7 +12,7 @@ use Rattle.cq_pcap.specs.Captured.{Captured}
 use Rattle.cq_report.specs.Report.{report_of}
 use Rattle.cq_route.specs.Tables.{classes_of, ports_of}
 use Rattle.cq_route.specs.declared.tables.Tables.{Tables}
-use Rattle.cq_simulate.proofs.FabricLaws.{always_slack, best_in_each, drains, slot_by_slot}
+use Rattle.cq_simulate.proofs.FabricLaws.{always_slack, best_in_each, slot_by_slot}
 use Rattle.cq_simulate.specs.FabricRuns.{IsFabricRun, IsKeptOf}
 use Rattle.cq_simulate.specs.IdealRuns.{ideal_departures}
 use Rattle.cq_simulate.specs.declared.fabric_run.FabricRun.{FabricRun}
@@ -29,7 +29,7 @@ use Rattle.cq_run.proofs.Captures.{plan_is}
 keeps_up : (t : Tables) (captures : List (List Captured)) (rs : List SlotRecord) → IsTraffic (ports_of t.setup) (classes_of t.setup) (arrivals t captures) → IsFabricRun t.setup (arrivals t captures) rs → KeepsUp t captures rs
 keeps_up t captures rs traffic is = record {
   runs = is;
-  drained = drains t.setup (arrivals t captures) rs traffic is;
+  drained = is.runs.empty;
   input_best = best_in_each t.setup (arrivals t captures) rs traffic is;
   same = slot_by_slot t.setup (arrivals t captures) rs traffic is;
   slack = always_slack t.setup (arrivals t captures) rs traffic is;

@@ -18,7 +18,7 @@ use Rattle.cq_run.specs.Verdict.{tables_in, captures_in}
 -- The records, slot by slot, of the crossbar switch with the traffic of these captures: it keeps up with the ideal switch
 -- (Chuang, Goel, McKeown and Prabhakar 1999).
 pub record KeepsUp (t : Tables) (captures : List (List Captured)) (rs : List SlotRecord) : Type 0 where
-  -- they are the run of the definition, from the empty switch on, over all slots in which a cell may come or wait
+  -- they are the whole run of the definition, from the empty switch on up to the last slot in which a cell arrives, waits or leaves
   pub runs : IsFabricRun t.setup (arrivals t captures) rs
   -- at its end no cell waits, at an input or at an output
   pub drained : IsEmptyFabric runs.end

@@ -1,18 +1,14 @@
 -- What is still to come for one output. Each arrival adds one cell at most to what comes, at its slot and input, and only
--- to what comes for its output. So no more cells come for an output than there are arrivals for it. And from the end of
--- the arrivals on none comes.
-use Rattle.std.proofs.Common.{◌≡◌, ℕ, zero, suc, ◌+◌, ◌<◌, ◌≤◌, Bool, true, false, cond, List, [], ◌∷◌, length, map, Option, Some, None, refl, sym, ap, ◌∙◌, arith}
+-- to what comes for its output. So no more cells come for an output than there are arrivals for it.
+use Rattle.std.proofs.Common.{◌≡◌, ℕ, zero, suc, ◌+◌, ◌≤◌, Bool, true, false, cond, List, [], ◌∷◌, length, map, Option, Some, None, refl, sym, ap, ◌∙◌, arith}
 use Rattle.std.specs.Prelude.{◌==◌}
 use Rattle.std.specs.List.{range_with_len, filter}
 use Rattle.cq_base.specs.declared.cell.Cell.{Cell}
-use Rattle.cq_base.specs.Arriving.{Arrival, arriving_at, arriving, end_of, enough, traffic_of}
+use Rattle.cq_base.specs.Arriving.{Arrival, arriving_at, arriving, enough, traffic_of}
 use Rattle.cq_cells.specs.Traffic.{number_of, is_to}
 use Rattle.cq_ideal.specs.Ideal.{count_for}
-use Rattle.cq_ideal.proofs.FlowPut.{all_from}
-use Rattle.cq_ideal.proofs.FlowRank.{present}
 use Rattle.cq_ideal.proofs.FlowFound.{cell_listed, found, found_here, other_slot, other_input, found_none, arriving_is}
-use Rattle.cq_ideal.proofs.FlowCount.{before_end}
-use Rattle.cq_simulate.proofs.Waiting.{total, total_none, total_same, total_more}
+use Rattle.cq_ideal.proofs.Waiting.{total, total_none, total_same, total_more}
 
 -- how many cells come for the output in these slots
 unfoldable pub come_for : ℕ → List (List (Option Cell)) → ℕ
@@ -79,23 +75,3 @@ module _ (j : ℕ) where
   pub come_for-traffic_of : (came : List Arrival) → come_for j (traffic_of came) ≤ number_of (is_to j) came
   unfolding traffic_of
   come_for-traffic_of came = let count = count_from 64 refl came 0 (enough came) in let few = no_more_than 64 refl came (enough came) in omega arith
-
--- ## The end of the arrivals
-
-none_listed : (o : Option Cell) (cells : List (Option Cell)) → cell_listed o ≡ [] → length (present (o ∷ cells)) ≡ length (present cells)
-none_listed None cells e = refl
-none_listed (Some cell) cells e = absurd (let P : ⊥ = cc in P)
-
-none_in_places : (came : List Arrival) (t a n : ℕ) → ((k : ℕ) → found came t k ≡ []) → length (present (map (arriving_at came t) (range_with_len a n))) ≡ 0
-unfolding found
-none_in_places came t a zero none = refl
-none_in_places came t a (suc n) none = none_listed (arriving_at came t a) (map (arriving_at came t) (range_with_len (a + 1) n)) (none a) ∙ none_in_places came t (a + 1) n none
-
-none_in_slot : (came : List Arrival) (t inputs : ℕ) → inputs ≡ 64 → end_of came ≤ t → length (present (arriving came t)) ≡ 0
-none_in_slot came t inputs are le =
-    ap (λ (cells : List (Option Cell)). length (present cells)) (arriving_is came t inputs are)
-    ∙ none_in_places came t 0 inputs
-    (λ k. found_none came t k (all_from (λ a. a.slot < end_of came) (λ a. a.slot ≡ t → a.cell.id.input ≡ k → ⊥) (λ a l e f. absurd (omega arith)) came (before_end came)))
-
-pub none_after : (came : List Arrival) (t : ℕ) → end_of came ≤ t → length (present (arriving came t)) ≡ 0
-none_after came t le = none_in_slot came t 64 refl le

@@ -7,7 +7,7 @@ use Rattle.std.specs.List.{AllByRecursion, AllPairs, filter, range_with_len}
 use Rattle.std.proofs.lemmas.Bool.{cases_eq, cond_both, cond-true, eq-eqb, ne_eqb, and_from, and_left}
 use Rattle.std.proofs.lemmas.List.{get_or-map, length-map, length-replicate}
 use Rattle.std.proofs.lemmas.Option.{get_or_from_slice_get}
-use Rattle.cq_base.specs.Arriving.{Arrival}
+use Rattle.cq_base.specs.Arriving.{Arrival, traffic_of}
 use Rattle.cq_base.specs.declared.cell.Cell.{Cell}
 use Rattle.cq_base.specs.declared.cell.Departure.{Departure}
 use Rattle.cq_base.specs.declared.cell.TagFault.{TagFault}
@@ -20,7 +20,7 @@ use Rattle.cq_cells.specs.Traffic.{IsInRange, IsLater, IsTraffic}
 use Rattle.cq_cells.proofs.Pieces.{piece_begins}
 use Rattle.cq_cells.proofs.Rising.{traffic_is}
 use Rattle.cq_ideal.specs.Flows.{IsForSwitch, IsRunnable, RiseByInput, comes_in_flow, leaves_in_flow, came_in_flow, left_in_flow}
-use Rattle.cq_ideal.specs.IdealRun.{Ran, departures_of}
+use Rattle.cq_ideal.specs.IdealRun.{Ran, departures_of, departures_ran, empty_ideal, ideal_run}
 use Rattle.cq_ideal.proofs.FlowLaw.{flows_leave}
 use Rattle.cq_ideal.proofs.FlowPut.{all_from}
 use Rattle.cq_pcap.specs.Captured.{Captured}
@@ -33,7 +33,10 @@ use Rattle.cq_scfq.specs.Disciplines.{machine_of, opening_of, machines_of, openi
 use Rattle.cq_scfq.specs.Fair.{costs_of}
 use Rattle.cq_scfq.specs.FairLaws.{fair_laws}
 use Rattle.cq_simulate.specs.Pieces.{IsCaptured}
-use Rattle.cq_simulate.specs.IdealRuns.{departures_ran, ideal_departures, ran_ideal}
+use Rattle.cq_simulate.specs.IdealRuns.{ideal_departures, ran_ideal, slots_ran}
+use Rattle.cq_ideal.specs.Ending.{slots_of}
+use Rattle.cq_ideal.proofs.Ends.{same_sent}
+use Rattle.cq_ideal.proofs.LastSlot.{last_departs}
 
 -- ## The machines of a setup
 
@@ -81,7 +84,7 @@ later_rise came later s t a b at_s at_t less same =
     let here : IsLater (get_or came s a) (get_or came t a) = later s t a less (within came t b at_t) in
     subst (λ (x : Arrival). IsLater x b) (get_or_from_slice_get came s a a at_s) (subst (λ (y : Arrival). IsLater (get_or came s a) y) (get_or_from_slice_get came t b a at_t) here) same
 
-runnable : (setup : Setup) (came : List Arrival) → IsSetup setup → IsTraffic (ports_of setup) (classes_of setup) came → IsRunnable (machines_of setup) (ports_of setup) (openings_of setup) came
+pub runnable : (setup : Setup) (came : List Arrival) → IsSetup setup → IsTraffic (ports_of setup) (classes_of setup) came → IsRunnable (machines_of setup) (ports_of setup) (openings_of setup) came
 runnable setup came is traffic =
     let few = is.ports in
     record {
@@ -102,8 +105,16 @@ ran_ok P (Err fault) sent h f = absurd (let P : ⊥ = cc in P)
 pub leave_as_they_came : (setup : Setup) (came : List Arrival) (sent : List Departure) → IsSetup setup → IsTraffic (ports_of setup) (classes_of setup) came → ideal_departures setup came ≡ Ok sent → (i c j : ℕ) → left_in_flow i c j sent ≡ came_in_flow i c j came
 unfolding ideal_departures ran_ideal
 leave_as_they_came setup came sent is traffic h i c j =
-    ran_ok (λ sent. left_in_flow i c j sent ≡ came_in_flow i c j came) (ran_ideal setup came) sent h
+    ran_ok (λ sent. left_in_flow i c j sent ≡ came_in_flow i c j came) (ideal_run (machines_of setup) 0 (traffic_of came) (empty_ideal (ports_of setup) (openings_of setup))) sent
+    (same_sent (machines_of setup) (ports_of setup) (openings_of setup) came ∙ h)
     (λ ran is_ok. flows_leave (machines_of setup) (ports_of setup) (openings_of setup) came ran (runnable setup came is traffic) is_ok i c j)
+
+-- in the last slot of the run a cell departs
+pub slots_are : (setup : Setup) (came : List Arrival) (sent : List Departure) → IsSetup setup → IsTraffic (ports_of setup) (classes_of setup) came → ideal_departures setup came ≡ Ok sent → slots_of sent ≡ slots_ran setup came
+unfolding ideal_departures ran_ideal
+slots_are setup came sent is traffic h =
+    ran_ok (λ sent. slots_of sent ≡ slots_ran setup came) (ran_ideal setup came) sent h
+    (λ ran is_ok. last_departs (machines_of setup) (ports_of setup) (openings_of setup) came (runnable setup came is traffic).for_switch ran is_ok)
 
 all_came : (P : Cell → Type 0) (i c j : ℕ) (came : List Arrival) → AllByRecursion (λ a. P a.cell) came → AllByRecursion P (came_in_flow i c j came)
 all_came P i c j [] all = tt

@@ -1,23 +1,20 @@
--- What is still to come at one input, and for one output. Each arrival adds one cell at most to what comes at its input. And
--- from the end of the arrivals on each slot is one without arrivals.
-use Rattle.std.proofs.Common.{◌≡◌, ℕ, zero, suc, ◌+◌, ◌≤◌, Bool, true, false, cond, List, [], ◌∷◌, ◌++◌, length, map, replicate, Option, Some, None, refl, sym, ap, ◌∙◌, ⊎_elim, arith}
+-- What is still to come at one input, and for one output. Each arrival adds one cell at most to what comes at its input.
+use Rattle.std.proofs.Common.{◌≡◌, ℕ, suc, ◌+◌, ◌≤◌, Bool, true, false, cond, List, [], ◌∷◌, ◌++◌, length, Option, Some, None, refl, sym, ap, ⊎_elim, arith}
 use Rattle.std.specs.Prelude.{◌==◌}
-use Rattle.std.specs.List.{range_with_len, filter}
+use Rattle.std.specs.List.{filter}
 use Rattle.std.proofs.lemmas.Bool.{cases_eq, eq-eqb}
-use Rattle.std.proofs.lemmas.List.FromFn.{length-map-range_with_len, map-range_with_len_more}
-use Rattle.cq_base.specs.Arrivals.{arrival_at, no_arrivals}
-use Rattle.cq_base.specs.Arriving.{Arrival, arriving, arriving_at, end_of, enough}
+use Rattle.std.proofs.lemmas.List.FromFn.{map-range_with_len_more}
+use Rattle.cq_base.specs.Arrivals.{arrival_at}
+use Rattle.cq_base.specs.Arriving.{Arrival, arriving, arriving_at}
 use Rattle.cq_base.specs.declared.cell.Cell.{Cell}
 use Rattle.cq_cells.specs.Traffic.{number_of, is_from}
 use Rattle.cq_engine.specs.Engine.{arriving_for}
-use Rattle.cq_ideal.proofs.FlowFound.{cell_listed, found, found_here, found_none, other_slot, other_input, arriving_is}
-use Rattle.cq_ideal.proofs.FlowRank.{present}
+use Rattle.cq_ideal.proofs.FlowFound.{cell_listed, found, found_here, found_none, other_slot, other_input}
 use Rattle.cq_ideal.specs.Ideal.{count_for}
-use Rattle.cq_simulate.proofs.Coming.{none_after}
 use Rattle.cq_simulate.proofs.FabricCounts.{one_if}
-use Rattle.cq_simulate.proofs.Running.{rest_of}
 use Rattle.cq_simulate.proofs.Steps.{place_of}
-use Rattle.cq_simulate.proofs.Waiting.{total, total_none, total_more}
+use Rattle.cq_ideal.proofs.Waiting.{total, total_none, total_more}
+use Rattle.cq_ideal.specs.Ending.{arriving_from, first_slots}
 
 -- how many cells come at the input in so many slots from this one on
 unfoldable pub come_from : ℕ → List Arrival → ℕ → ℕ → ℕ
@@ -70,45 +67,8 @@ same_count j [] = refl
 same_count j (None ∷ cells) = same_count j cells
 same_count j (Some cell ∷ cells) = ap (λ (n : ℕ). bit (cell.output == j) + n) (same_count j cells)
 
--- ## The end of the arrivals
+-- ## The slots so far
 
-nobody : (cells : List (Option Cell)) (n : ℕ) → length cells ≡ n → length (present cells) ≡ 0 → cells ≡ replicate n None
-nobody [] zero long none = refl
-nobody [] (suc n) long none = absurd (omega arith)
-nobody (None ∷ cells) zero long none = absurd (omega arith)
-nobody (Some cell ∷ cells) zero long none = absurd (omega arith)
-nobody (None ∷ cells) (suc n) long none = ap (λ (l : List (Option Cell)). None ∷ l) (nobody cells n (omega arith) none)
-nobody (Some cell ∷ cells) (suc n) long none = absurd (omega arith)
-
-none_arrive : (came : List Arrival) (t inputs : ℕ) → inputs ≡ 64 → end_of came ≤ t → arriving came t ≡ replicate inputs None
-none_arrive came t inputs are le =
-    nobody (arriving came t) inputs (ap (λ (l : List (Option Cell)). length l) (arriving_is came t inputs are) ∙ length-map-range_with_len (arriving_at came t) 0 inputs) (none_after came t le)
-
-pub rest_quiet : (came : List Arrival) (n slot : ℕ) → end_of came ≤ slot → rest_of came slot n ≡ replicate n no_arrivals
-unfolding rest_of
-rest_quiet came zero slot le = refl
-rest_quiet came (suc n) slot le =
-    ap (λ (cells : List (Option Cell)). cells ∷ map (arriving came) (range_with_len (slot + 1) n)) (none_arrive came slot 64 refl le)
-    ∙ ap (λ (l : List (List (Option Cell))). no_arrivals ∷ l) (rest_quiet came n (slot + 1) (omega arith))
-
--- ## The slots so far, and those that are left
-
-pub rest_length : (came : List Arrival) (slot n : ℕ) → length (rest_of came slot n) ≡ n
-unfolding rest_of
-rest_length came slot n = length-map-range_with_len (arriving came) slot n
-
-pub rest_more : (came : List Arrival) (slot : ℕ) → rest_of came 0 (slot + 1) ≡ rest_of came 0 slot ++ arriving came slot ∷ []
-unfolding rest_of
-rest_more came slot = map-range_with_len_more (arriving came) 0 slot slot (omega arith)
-
-two_ranges : (came : List Arrival) (a b n m k : ℕ) → b ≡ a + n → k ≡ n + m → rest_of came a n ++ rest_of came b m ≡ rest_of came a k
-unfolding rest_of
-two_ranges came a b zero m k e f =
-    let here : b ≡ a = omega arith in
-    let long : m ≡ k = omega arith in
-    ap (λ (x : ℕ). map (arriving came) (range_with_len x m)) here ∙ ap (λ (x : ℕ). map (arriving came) (range_with_len a x)) long
-two_ranges came a b (suc n) m zero e f = absurd (omega arith)
-two_ranges came a b (suc n) m (suc k) e f = ap (λ (l : List (List (Option Cell))). arriving came a ∷ l) (two_ranges came (a + 1) b n m k (omega arith) (omega arith))
-
-pub rest_all : (came : List Arrival) (slot n : ℕ) → slot + n ≡ enough came → rest_of came 0 slot ++ rest_of came slot n ≡ rest_of came 0 (enough came)
-rest_all came slot n left = two_ranges came 0 slot slot n (enough came) (omega arith) (omega arith)
+pub first_more : (came : List Arrival) (slot : ℕ) → first_slots came (slot + 1) ≡ first_slots came slot ++ arriving came slot ∷ []
+unfolding arriving_from
+first_more came slot = map-range_with_len_more (arriving came) 0 slot slot (omega arith)

@@ -36,7 +36,7 @@ use Rattle.cq_prefs.specs.Moves.{list_taken, noted, transfers_of}
 use Rattle.cq_prefs.specs.Orders.{Orders, ports, outputs_of, place_in}
 use Rattle.cq_prefs.specs.Pairing.{Partners, partner_of, spent, proposals, IsMatching, IsInputBest}
 use Rattle.cq_rank.specs.Machine.{Machine}
-use Rattle.cq_simulate.proofs.Waiting.{total, total_none}
+use Rattle.cq_ideal.proofs.Waiting.{total, total_none}
 
 -- ## Numbers that are added over a range
 

@@ -11,9 +11,9 @@ use Rattle.cq_base.specs.declared.setup.Setup.{Setup}
 use Rattle.cq_cells.specs.Traffic.{IsShort, IsTraffic, is_from, is_to, number_of}
 use Rattle.cq_engine.specs.Engine.{EngineView}
 use Rattle.cq_ideal.specs.Ideal.{IdealSwitch}
-use Rattle.cq_ideal.specs.IdealRun.{empty_ideal, ideal_run}
+use Rattle.cq_ideal.specs.IdealRun.{empty_ideal, ideal_run, departures_ran}
 use Rattle.cq_laws.specs.Fabric.{Fabric, empty_fabric}
-use Rattle.cq_laws.specs.FabricRun as fabric
+use Rattle.cq_laws.specs.FabricRun.{WholeRun}
 use Rattle.cq_laws.specs.Measures.{figures_of, no_figures}
 use Rattle.cq_prefs.specs.Pairing.{IsInputBest}
 use Rattle.cq_rank.specs.Machine.{Machine}
@@ -23,7 +23,7 @@ use Rattle.cq_scfq.specs.Disciplines.{machines_of, openings_of}
 use Rattle.cq_simulate.proofs.Opening.{machine_count, run_of_setup}
 use Rattle.cq_simulate.specs.FabricReady.{HasRun, IsReadyFabric}
 use Rattle.cq_simulate.specs.FabricRuns.{IsKeptOf}
-use Rattle.cq_simulate.specs.IdealRuns.{departures_ran, ideal_departures}
+use Rattle.cq_simulate.specs.IdealRuns.{ideal_departures}
 use Rattle.cq_simulate.specs.declared.fabric_run.FabricRun.{FabricRun}
 
 module _ (M : List ℕ → Machine) (setup : Setup) (came : List Arrival) (first : EngineView) (ports : ℕ) (states : List (List ℕ)) (machines : map M first.fixed ≡ machines_of setup) (state : first.fabric ≡ empty_fabric ports states) (many : ports ≡ length setup.kinds) where
@@ -64,8 +64,8 @@ module _ (M : List ℕ → Machine) (setup : Setup) (came : List Arrival) (first
         is_run = record {
           end = has.end;
           runs =
-              subst (λ (f : Fabric). fabric.FabricRun IsInputBest (machines_of setup) 0 (traffic_of came) f has.records has.end) begun
-              (subst (λ (ms : List Machine). fabric.FabricRun IsInputBest ms 0 (traffic_of came) first.fabric has.records has.end) machines has.runs);
+              subst (λ (f : Fabric). WholeRun IsInputBest (machines_of setup) came f has.records has.end) begun
+              (subst (λ (ms : List Machine). WholeRun IsInputBest ms came first.fabric has.records has.end) machines has.runs);
         };
         sent = ap (λ (r : RoomView Departure). r.items) is_sent ∙ has.departed;
         note = ap (λ (r : RoomView Transfer). r.items) is_note ∙ has.crossed;

@@ -3,15 +3,13 @@
 -- cells that the fabric holds, and those that are still to come, are no more than there is room for: in each list, in each
 -- buffer, and in the list of transfers, as each cell crosses once. While a cell waits one leaves in each slot, so there are
 -- no more slots with proposals than cells; and a slot has no more than twice the number of ports squared.
-use Rattle.std.proofs.Common.{◌≡◌, ℕ, zero, suc, ◌+◌, ◌-◌, ◌*◌, ◌<◌, ◌≤◌, false, List, [], ◌∷◌, ◌++◌, length, map, replicate, Option, Some, None, Err, refl, sym, ap, ◌∙◌, subst, ⊎_elim, arith, append_assoc, length-append}
-use Rattle.std.specs.Prelude.{is_some, fold, sum}
+use Rattle.std.proofs.Common.{take, ◌≡◌, ℕ, zero, suc, ◌+◌, ◌-◌, ◌*◌, ◌<◌, ◌≤◌, false, List, [], ◌∷◌, ◌++◌, length, map, replicate, Option, Some, None, Err, refl, sym, ap, ◌∙◌, subst, ⊎_elim, arith, length-append}
+use Rattle.std.specs.Prelude.{is_some, sum}
 use Rattle.std.specs.List.{range_with_len}
 use Rattle.std.proofs.lemmas.Bool.{cases_lt}
-use Rattle.std.proofs.lemmas.List.{append-nil, map-append, length-replicate, get_or_past}
-use Rattle.std.proofs.lemmas.List.Concat.{flat_map-append}
+use Rattle.std.proofs.lemmas.List.{length-replicate, get_or_past, take_all, take-append-le}
 use Rattle.std.proofs.lemmas.List.FromFn.{length-map-range_with_len, get_or-map-range_with_len}
-use Rattle.std.proofs.lemmas.List.Sums.{fold-append}
-use Rattle.cq_base.specs.Arrivals.{arrival_at, no_arrivals}
+use Rattle.cq_base.specs.Arrivals.{arrival_at}
 use Rattle.cq_base.specs.Arriving.{Arrival, arriving, end_of, enough, traffic_of}
 use Rattle.cq_base.specs.Room.{RoomView}
 use Rattle.cq_base.specs.declared.cell.Cell.{Cell}
@@ -27,67 +25,35 @@ use Rattle.cq_ideal.proofs.FlowRank.{present}
 use Rattle.cq_ideal.proofs.FlowRun.{come_count}
 use Rattle.cq_ideal.proofs.FlowCount.{come_count-traffic_of}
 use Rattle.cq_ideal.specs.Ideal.{IdealSwitch}
-use Rattle.cq_ideal.specs.IdealRun.{departures_of, empty_ideal, ideal_run}
+use Rattle.cq_ideal.specs.IdealRun.{departures_of, empty_ideal, ideal_run, departures_ran}
 use Rattle.cq_ideal.specs.IdealSlot.{IdealState, Sent, departures_in}
 use Rattle.cq_ideal.specs.Ranking.{AreForPorts, ranking}
-use Rattle.cq_laws.proofs.AddingUp.{figures_none, figures_more, figures_fold}
+use Rattle.cq_laws.proofs.AddingUp.{figures_none, figures_more}
 use Rattle.cq_laws.proofs.InputBest.{stable_slot}
 use Rattle.cq_laws.proofs.Joined.{go_on}
 use Rattle.cq_laws.proofs.OneSlot.{ports_kept, same_fault, same_slot}
-use Rattle.cq_laws.proofs.QuietSlots.{empty_is, quiet_run, quiet_departures, quiet_transfers_of_run, quiet_figures_of_run}
 use Rattle.cq_laws.proofs.WholeRuns.{empty_agree, empty_list, empty_together}
 use Rattle.cq_laws.specs.Agreement.{Agrees}
 use Rattle.cq_laws.specs.Fabric.{Fabric, IsEmptyFabric, empty_fabric, input, buffer}
 use Rattle.cq_laws.specs.FabricRun.{FabricRun}
 use Rattle.cq_laws.specs.FabricSlot.{SlotRecord, FabricSlot}
-use Rattle.cq_laws.specs.Measures.{figures_of, figures_after, no_figures, proposals_in}
-use Rattle.cq_laws.specs.Quiet.{quiet_slots, idled_for}
+use Rattle.cq_laws.specs.Measures.{figures_of, figures_after, proposals_in}
 use Rattle.cq_laws.specs.Records.{gone_in, transfers_in, transfers_of_run}
 use Rattle.cq_prefs.specs.Pairing.{IsInputBest}
 use Rattle.cq_rank.specs.Machine.{Machine}
 use Rattle.cq_simulate.proofs.Coming.{come_for, come_for-traffic_of}
-use Rattle.cq_simulate.proofs.FabricComing.{bit, come_from, from_here, no_more_from, arrives_found, same_count, rest_quiet, rest_length, rest_more, rest_all}
+use Rattle.cq_simulate.proofs.FabricComing.{bit, come_from, from_here, no_more_from, arrives_found, same_count, first_more}
 use Rattle.cq_simulate.proofs.FabricCounts.{at_inputs, cross_few, none_proposed, proposed_few, one_if, square_few}
-use Rattle.cq_simulate.proofs.Running.{Running, rest_of, running_first, running_next, running_fault, slot_left, come_here, for_here, all_slots, nothing_left}
+use Rattle.cq_simulate.proofs.Running.{Running, running_first, running_next, running_fault, slot_left, come_here, for_here}
 use Rattle.cq_simulate.proofs.Steps.{whole_run}
-use Rattle.cq_simulate.proofs.Waiting.{waiting, counted, total_none}
+use Rattle.cq_ideal.proofs.Waiting.{waiting, counted, total_none}
 use Rattle.cq_simulate.specs.FabricReady.{HasRun, IsReadyFabric}
-use Rattle.cq_simulate.specs.IdealRuns.{departures_ran}
 use Rattle.cq_simulate.specs.Ready.{IsReady}
-
--- ## Parts of what was kept
-
-departures_append : (slot b : ℕ) (xs ys : List (List (Option Queued))) → b ≡ slot + length xs → departures_of slot (xs ++ ys) ≡ departures_of slot xs ++ departures_of b ys
-unfolding departures_of
-departures_append slot b [] ys e = let here : slot ≡ b = omega arith in ap (λ (n : ℕ). departures_of n ys) here
-departures_append slot b (x ∷ xs) ys e =
-    ap (λ (l : List Departure). departures_in slot x ++ l) (departures_append (slot + 1) b xs ys (omega arith))
-    ∙ sym (append_assoc (departures_in slot x) (departures_of (slot + 1) xs) (departures_of b ys))
-
-gone_length : (rs : List SlotRecord) → length (gone_in rs) ≡ length rs
-gone_length [] = refl
-gone_length (r ∷ rs) = ap suc (gone_length rs)
-
-gone_append : (rs ss : List SlotRecord) → gone_in (rs ++ ss) ≡ gone_in rs ++ gone_in ss
-gone_append rs ss = map-append (λ (r : SlotRecord). r.gone) rs ss
-
-departures_both : (rs ss : List SlotRecord) (slot : ℕ) → length rs ≡ slot → departures_of 0 (gone_in (rs ++ ss)) ≡ departures_of 0 (gone_in rs) ++ departures_of slot (gone_in ss)
-departures_both rs ss slot long =
-    let at = gone_length rs in
-    ap (λ (l : List (List (Option Queued))). departures_of 0 l) (gone_append rs ss)
-    ∙ departures_append 0 slot (gone_in rs) (gone_in ss) (omega arith)
-
-departures_one : (slot : ℕ) (r : SlotRecord) → departures_of slot (gone_in (r ∷ [])) ≡ departures_in slot r.gone
-unfolding departures_of
-departures_one slot r = append-nil (departures_in slot r.gone)
-
-transfers_both : (rs ss : List SlotRecord) → transfers_of_run (rs ++ ss) ≡ transfers_of_run rs ++ transfers_of_run ss
-unfolding transfers_of_run
-transfers_both rs ss = flat_map-append transfers_in rs ss
-
-transfers_one : (r : SlotRecord) → transfers_of_run (r ∷ []) ≡ transfers_in r
-unfolding transfers_of_run
-transfers_one r = append-nil (transfers_in r)
+use Rattle.cq_ideal.specs.Ending.{arriving_from, first_slots}
+use Rattle.cq_ideal.proofs.Ends.{all_slots, nothing_left}
+use Rattle.cq_ideal.proofs.Parted.{arriving_length}
+use Rattle.cq_laws.proofs.KeptParts.{departures_both, departures_one, transfers_both, transfers_one}
+use Rattle.cq_laws.proofs.OneRun.{one_run}
 
 proposals_more : (x : Figures) (r : SlotRecord) → (figures_after x r).proposals ≡ x.proposals + sum (proposals_in r)
 unfolding figures_after
@@ -119,14 +85,15 @@ pub record Crossing (ms : List Machine) (came : List Arrival) (first : EngineVie
   pub ports : length now.fabric.inputs ≡ length first.fixed
   pub records : List SlotRecord
   pub long : length records ≡ slot
-  pub runs : FabricRun IsInputBest ms 0 (rest_of came 0 slot) first.fabric records now.fabric
+  pub runs : FabricRun IsInputBest ms 0 (first_slots came slot) first.fabric records now.fabric
+  pub going : (m : ℕ) (f : Fabric) → m < slot → FabricRun IsInputBest ms 0 (first_slots came m) first.fabric (take m records) f → end_of came ≤ m → IsEmptyFabric f → ⊥
   pub departed : sent.items ≡ departures_of 0 (gone_in records)
   pub crossed : note.items ≡ transfers_of_run records
   pub counts : now.figures ≡ figures_of (length first.fixed) records
   pub lists : (i : ℕ) → i < length first.fixed → length (input now.fabric i) + come_from i came slot n ≤ number_of (is_from i) came
-  pub buffers : (j : ℕ) → j < length first.fixed → held_for j now.fabric + come_for j (rest_of came slot n) ≤ number_of (is_to j) came
-  pub room : at_inputs now.fabric (length first.fixed) + come_count (rest_of came slot n) + 2 * length first.fixed ≤ note.spare
-  pub proposed : now.figures.proposals + 8192 * (waiting switch.state.lists + come_count (rest_of came slot n)) ≤ 8192 * length came
+  pub buffers : (j : ℕ) → j < length first.fixed → held_for j now.fabric + come_for j (arriving_from came slot n) ≤ number_of (is_to j) came
+  pub room : at_inputs now.fabric (length first.fixed) + come_count (arriving_from came slot n) + 2 * length first.fixed ≤ note.spare
+  pub proposed : now.figures.proposals + 8192 * (waiting switch.state.lists + come_count (arriving_from came slot n)) ≤ 8192 * length came
 
 -- ## Before the first slot
 
@@ -176,8 +143,8 @@ begins : (came : List Arrival) (first : EngineView) → Agrees 0 (empty_fabric (
 unfolding switch_of
 begins came first = empty_agree (length first.fixed) first.fabric.ranks
 
-starts : (ms : List Machine) (came : List Arrival) (f : Fabric) → FabricRun IsInputBest ms 0 (rest_of came 0 0) f [] f
-unfolding rest_of
+starts : (ms : List Machine) (came : List Arrival) (f : Fabric) → FabricRun IsInputBest ms 0 (first_slots came 0) f [] f
+unfolding arriving_from
 starts ms came f = refl
 
 none_departed : departures_of 0 (gone_in []) ≡ []
@@ -192,7 +159,7 @@ pub crossing_first : (ms : List Machine) (came : List Arrival) (first : EngineVi
 crossing_first ms came first sent note ready =
     let p = length first.fixed in
     let ranks = first.fabric.ranks in
-    let come : come_count (rest_of came 0 (enough came)) ≤ length came = subst (λ (l : List (List (Option Cell))). come_count l ≤ length came) (sym (all_slots came)) (come_count-traffic_of came) in
+    let come : come_count (arriving_from came 0 (enough came)) ≤ length came = subst (λ (l : List (List (Option Cell))). come_count l ≤ length came) (sym (all_slots came)) (come_count-traffic_of came) in
     let none : waiting (switch_of came first).state.lists ≡ 0 = none_beside came first in
     let nil : List Queued = [] in
     record {
@@ -208,6 +175,7 @@ crossing_first ms came first sent note ready =
       records = [];
       long = refl;
       runs = starts ms came first.fabric;
+      going = λ m f before run le empty. omega arith;
       departed = ready.nothing_sent ∙ sym none_departed;
       crossed = ready.nothing_noted ∙ sym none_crossed;
       counts = ready.figures ∙ sym (figures_none p);
@@ -217,7 +185,7 @@ crossing_first ms came first sent note ready =
           omega arith;
       buffers = λ j inside.
           let empty : held_for j first.fabric ≡ 0 = ap (λ (f : Fabric). held_for j f) ready.fabric ∙ none_held p j ranks in
-          let to : come_for j (rest_of came 0 (enough came)) ≤ number_of (is_to j) came = subst (λ (l : List (List (Option Cell))). come_for j l ≤ number_of (is_to j) came) (sym (all_slots came)) (come_for-traffic_of j came) in
+          let to : come_for j (arriving_from came 0 (enough came)) ≤ number_of (is_to j) came = subst (λ (l : List (List (Option Cell))). come_for j l ≤ number_of (is_to j) came) (sym (all_slots came)) (come_for-traffic_of j came) in
           omega arith;
       room =
           let empty : at_inputs first.fabric p ≡ 0 = ap (λ (f : Fabric). at_inputs f p) ready.fabric ∙ none_at_inputs p p ranks in
@@ -247,8 +215,23 @@ module _ (ms : List Machine) (came : List Arrival) (first : EngineView) (first_s
   crossing_left slot n now sent note c more =
       slot_left ms came (switch_of came first) first_sent slot n c.switch sent c.beside (λ le none. more le (empty_beside slot now.fabric c.switch.state c.agrees none))
 
-  pub crossing_next : (slot n : ℕ) (now : EngineView) (sent : RoomView Departure) (note : RoomView Transfer) (after : EngineView) (sent_new : RoomView Departure) (note_new : RoomView Transfer) (classes : ℕ) → Crossing ms came first first_sent slot (suc n) now sent note → length first.fixed ≤ 64 → AreForPorts (length first.fixed) classes (arriving came slot) → SlotDone ms slot (arriving came slot) now after sent sent_new note note_new → after.stopped ≡ false → after.next ≡ slot + 1 → after.fixed ≡ now.fixed → after.from_inputs ≡ now.from_inputs → after.to_outputs ≡ now.to_outputs → Crossing ms came first first_sent (slot + 1) n after sent_new note_new
-  crossing_next slot n now sent note after sent_new note_new classes c few for_ports done running next fixed from_inputs to_outputs =
+  -- the run is not over before a slot, or at it
+  not_before : (slot n : ℕ) (now : EngineView) (sent : RoomView Departure) (note : RoomView Transfer) (c : Crossing ms came first first_sent slot n now sent note) → (end_of came ≤ slot → IsEmptyFabric now.fabric → ⊥) → (m : ℕ) (f : Fabric) → m ≤ slot → FabricRun IsInputBest ms 0 (first_slots came m) first.fabric (take m c.records) f → end_of came ≤ m → IsEmptyFabric f → ⊥
+  not_before slot n now sent note c more m f le run late empty =
+      ⊎_elim
+      (λ (before : m < slot). c.going m f before run late empty)
+      (λ (now_or_later : slot ≤ m).
+      let at : m ≡ slot = omega arith in
+      let many : length c.records ≡ slot = c.long in
+      let whole : take m c.records ≡ c.records = take_all m c.records (omega arith) in
+      let here : FabricRun IsInputBest ms 0 (first_slots came slot) first.fabric c.records f =
+      subst (λ (k : ℕ). FabricRun IsInputBest ms 0 (first_slots came k) first.fabric c.records f) at (subst (λ (l : List SlotRecord). FabricRun IsInputBest ms 0 (first_slots came m) first.fabric l f) whole run) in
+      let same = (one_run ms 0 (first_slots came slot) first.fabric f now.fabric c.records c.records here c.runs).1 in
+      more (omega arith) (subst IsEmptyFabric same empty))
+      (cases_lt m slot)
+
+  pub crossing_next : (slot n : ℕ) (now : EngineView) (sent : RoomView Departure) (note : RoomView Transfer) (after : EngineView) (sent_new : RoomView Departure) (note_new : RoomView Transfer) (classes : ℕ) → Crossing ms came first first_sent slot (suc n) now sent note → (end_of came ≤ slot → IsEmptyFabric now.fabric → ⊥) → length first.fixed ≤ 64 → AreForPorts (length first.fixed) classes (arriving came slot) → SlotDone ms slot (arriving came slot) now after sent sent_new note note_new → after.stopped ≡ false → after.next ≡ slot + 1 → after.fixed ≡ now.fixed → after.from_inputs ≡ now.from_inputs → after.to_outputs ≡ now.to_outputs → Crossing ms came first first_sent (slot + 1) n after sent_new note_new
+  crossing_next slot n now sent note after sent_new note_new classes c more few for_ports done running next fixed from_inputs to_outputs =
       let cells = arriving came slot in
       let p = length first.fixed in
       let f = now.fabric in
@@ -274,10 +257,14 @@ module _ (ms : List Machine) (came : List Arrival) (first : EngineView) (first_s
         records = c.records ++ r ∷ [];
         long = let both = length-append c.records (r ∷ []) in let had : length c.records ≡ slot = c.long in omega arith;
         runs =
-            let long = rest_length came 0 slot in
-            let at : slot ≡ 0 + length (rest_of came 0 slot) = omega arith in
-            subst (λ (l : List (List (Option Cell))). FabricRun IsInputBest ms 0 l first.fabric (c.records ++ r ∷ []) g) (sym (rest_more came slot))
-            ((go_on IsInputBest).slot ms 0 (rest_of came 0 slot) cells first.fabric f g c.records r c.runs (subst (λ (k : ℕ). FabricSlot IsInputBest ms k cells f r g) at step));
+            let long = arriving_length came 0 slot in
+            let at : slot ≡ 0 + length (first_slots came slot) = omega arith in
+            subst (λ (l : List (List (Option Cell))). FabricRun IsInputBest ms 0 l first.fabric (c.records ++ r ∷ []) g) (sym (first_more came slot))
+            ((go_on IsInputBest).slot ms 0 (first_slots came slot) cells first.fabric f g c.records r c.runs (subst (λ (k : ℕ). FabricSlot IsInputBest ms k cells f r g) at step));
+        going = λ m h before run le empty.
+            let many : length c.records ≡ slot = c.long in
+            let same : take m (c.records ++ r ∷ []) ≡ take m c.records = take-append-le m c.records (r ∷ []) (omega arith) in
+            not_before slot (suc n) now sent note c more m h (omega arith) (subst (λ (l : List SlotRecord). FabricRun IsInputBest ms 0 (first_slots came m) first.fabric l h) same run) le empty;
         departed =
             done.departed
             ∙ ap (λ (l : List Departure). l ++ departures_in slot r.gone) c.departed
@@ -303,12 +290,12 @@ module _ (ms : List Machine) (came : List Arrival) (first : EngineView) (first_s
             let same = same_count j cells in
             omega arith;
         room =
-            let had : at_inputs f p + come_count (rest_of came slot (suc n)) + 2 * p ≤ note.spare = c.room in
+            let had : at_inputs f p + come_count (arriving_from came slot (suc n)) + 2 * p ≤ note.spare = c.room in
             let cross = cross_few ms slot cells f g r step p c.ports in
             let left : note_new.spare + length (transfers_in r) ≡ note.spare = done.crossed_room in
             omega arith;
         proposed =
-            let had : now.figures.proposals + 8192 * (waiting c.switch.state.lists + come_count (rest_of came slot (suc n))) ≤ 8192 * length came = c.proposed in
+            let had : now.figures.proposals + 8192 * (waiting c.switch.state.lists + come_count (arriving_from came slot (suc n))) ≤ 8192 * length came = c.proposed in
             let more : after.figures.proposals ≡ now.figures.proposals + sum (proposals_in r) = ap (λ (x : Figures). x.proposals) done.counted ∙ proposals_more now.figures r in
             let fewer : waiting alike.next.lists ≤ waiting c.switch.state.lists + length (present cells) - 1 = (counted ms slot cells c.switch.state of_slot alike.sent).fewer in
             let inputs : length f.inputs ≡ p = c.ports in
@@ -326,39 +313,22 @@ module _ (ms : List Machine) (came : List Arrival) (first : EngineView) (first_s
 
   pub crossing_over : (slot n : ℕ) (now : EngineView) (sent : RoomView Departure) (note : RoomView Transfer) → Crossing ms came first first_sent slot n now sent note → end_of came ≤ slot → IsEmptyFabric now.fabric → HasRun ms came first now sent note
   crossing_over slot n now sent note c le empty =
-      let p = length first.fixed in
-      let q = length now.fabric.inputs in
-      let ranks = now.fabric.ranks in
-      let rs = c.records in
-      let ss = quiet_slots ms n slot q ranks in
-      let end = empty_fabric q (idled_for ms n q ranks) in
-      let is : now.fabric ≡ empty_fabric q ranks = empty_is now.fabric empty c.agrees.fabric.square in
-      let long = rest_length came 0 slot in
-      let at : slot ≡ 0 + length (rest_of came 0 slot) = omega arith in
-      let idle : FabricRun IsInputBest ms slot (replicate n no_arrivals) now.fabric ss end =
-      subst (λ (f : Fabric). FabricRun IsInputBest ms slot (replicate n no_arrivals) f ss end) (sym is) (quiet_run ms n slot q ranks) in
-      let rest : FabricRun IsInputBest ms (0 + length (rest_of came 0 slot)) (rest_of came slot n) now.fabric ss end =
-      subst (λ (k : ℕ). FabricRun IsInputBest ms k (rest_of came slot n) now.fabric ss end) at
-      (subst (λ (l : List (List (Option Cell))). FabricRun IsInputBest ms slot l now.fabric ss end) (sym (rest_quiet came n slot le)) idle) in
+      let many : length c.records ≡ slot = c.long in
       record {
-        records = rs ++ ss;
-        end = end;
-        runs =
-            subst (λ (l : List (List (Option Cell))). FabricRun IsInputBest ms 0 l first.fabric (rs ++ ss) end) (rest_all came slot n c.beside.left ∙ all_slots came)
-            ((go_on IsInputBest).run ms 0 (rest_of came 0 slot) (rest_of came slot n) first.fabric now.fabric end rs ss c.runs rest);
-        departed =
-            c.departed
-            ∙ sym (departures_both rs ss slot c.long ∙ ap (λ (l : List Departure). departures_of 0 (gone_in rs) ++ l) (quiet_departures ms q n slot ranks) ∙ append-nil (departures_of 0 (gone_in rs)));
-        crossed =
-            c.crossed
-            ∙ sym (transfers_both rs ss ∙ ap (λ (l : List Transfer). transfers_of_run rs ++ l) (quiet_transfers_of_run ms q n slot ranks) ∙ append-nil (transfers_of_run rs));
-        counted =
-            c.counts
-            ∙ sym
-            (figures_fold p (rs ++ ss)
-            ∙ fold-append figures_after (no_figures p) rs ss
-            ∙ ap (λ (x : Figures). fold figures_after x ss) (sym (figures_fold p rs))
-            ∙ quiet_figures_of_run ms q n slot ranks (figures_of p rs));
+        records = c.records;
+        end = now.fabric;
+        runs = record {
+          after =
+              subst (λ (k : ℕ). FabricRun IsInputBest ms 0 (first_slots came k) first.fabric (take k c.records) now.fabric) (sym many)
+              (subst (λ (l : List SlotRecord). FabricRun IsInputBest ms 0 (first_slots came slot) first.fabric l now.fabric) (sym (take_all slot c.records (omega arith))) c.runs);
+          all_came = omega arith;
+          empty = empty;
+          first = λ m f run late none.
+              ⊎_elim (λ (before : m < slot). absurd (c.going m f before run late none)) (λ (ge : slot ≤ m). omega arith) (cases_lt m slot);
+        };
+        departed = c.departed;
+        crossed = c.crossed;
+        counted = c.counts;
       }
 
   -- the first fault of the ideal switch beside it

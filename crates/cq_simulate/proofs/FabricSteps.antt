@@ -10,7 +10,7 @@ use Rattle.cq_base.specs.declared.cell.TagFault.{TagFault}
 use Rattle.cq_base.specs.declared.cell.Transfer.{Transfer}
 use Rattle.cq_cells.specs.Traffic.{number_of, is_from, is_to}
 use Rattle.cq_engine.specs.Engine.{EngineView, HaveBufferRoom, HaveListRoom, SlotDone, answer_to, arriving_for}
-use Rattle.cq_ideal.specs.IdealRun.{empty_ideal, ideal_run}
+use Rattle.cq_ideal.specs.IdealRun.{empty_ideal, ideal_run, departures_ran}
 use Rattle.cq_ideal.specs.Ranking.{AreForPorts, Ranking, ranking}
 use Rattle.cq_laws.specs.Fabric.{IsEmptyFabric}
 use Rattle.cq_rank.specs.Machine.{Machine}
@@ -21,7 +21,6 @@ use Rattle.cq_simulate.proofs.FabricRunning.{Crossing, crossing_fault, crossing_
 use Rattle.cq_simulate.proofs.Running.{for_here}
 use Rattle.cq_simulate.proofs.Steps.{arrivals_for}
 use Rattle.cq_simulate.specs.FabricReady.{HasRun, IsReadyFabric}
-use Rattle.cq_simulate.specs.IdealRuns.{departures_ran}
 
 pub goes_on : (b : Bool) (end slot : ℕ) (Empty : Type 0) → b ≡ false → (IsTrue b ↔ ((end ≤ slot) × Empty)) → end ≤ slot → Empty → ⊥
 goes_on b end slot Empty going iff le none = let over : b ≡ true = iff.1 (le, none) in let P : ⊥ = cc in P
@@ -111,7 +110,7 @@ module _ (M : List ℕ → Machine) (came : List Arrival) (first : EngineView) (
     pub at_next : (cells : List (Option Cell)) (after : EngineView) (sent_new : RoomView Departure) (note_new : RoomView Transfer) → cells ≡ arriving came slot → SlotDone (map M now.fixed) slot cells now after sent sent_new note note_new → after.stopped ≡ false → after.next ≡ slot + 1 → after.fixed ≡ now.fixed → after.from_inputs ≡ now.from_inputs → after.to_outputs ≡ now.to_outputs → Before (slot + 1) after sent_new note_new
     unfolding left
     at_next cells after sent_new note_new are done running next fixed from_inputs to_outputs =
-        crossing_next (map M first.fixed) came first first_sent slot left now sent note after sent_new note_new (class_count (map M first.fixed)) b_next ready.ports for_ports
+        crossing_next (map M first.fixed) came first first_sent slot left now sent note after sent_new note_new (class_count (map M first.fixed)) b_next more ready.ports for_ports
         (subst (λ (fixed : List (List ℕ)). SlotDone (map M fixed) slot (arriving came slot) now after sent sent_new note note_new) b.fixed
         (subst (λ (cells : List (Option Cell)). SlotDone (map M now.fixed) slot cells now after sent sent_new note note_new) are done))
         running next fixed from_inputs to_outputs

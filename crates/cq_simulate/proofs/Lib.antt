@@ -13,4 +13,3 @@ pub mod Packed
 pub mod Running
 pub mod Steps
 pub mod Taking
-pub mod Waiting

@@ -12,13 +12,14 @@ use Rattle.cq_base.specs.Room.{RoomView}
 use Rattle.cq_cells.specs.Traffic.{IsShort, IsTraffic, is_to, number_of}
 use Rattle.cq_ideal.specs.Ideal.{IdealSwitch}
 use Rattle.cq_ideal.specs.IdealSlot.{IdealState}
-use Rattle.cq_ideal.specs.IdealRun.{ideal_run, empty_ideal}
+use Rattle.cq_ideal.specs.IdealRun.{ideal_run, empty_ideal, departures_ran}
 use Rattle.cq_rank.specs.Machine.{Machine}
 use Rattle.cq_rank.specs.Switch.{class_count}
 use Rattle.cq_route.specs.Tables.{IsSetup, classes_of, ports_of}
 use Rattle.cq_scfq.specs.Disciplines.{machine_of, machines_of, openings_of}
-use Rattle.cq_simulate.specs.IdealRuns.{departures_ran, ideal_departures, ran_ideal}
+use Rattle.cq_simulate.specs.IdealRuns.{ideal_departures, ran_ideal}
 use Rattle.cq_simulate.specs.Ready.{IsReady}
+use Rattle.cq_ideal.proofs.Ends.{same_sent}
 
 -- as many machines as kinds
 pub machine_count : (M : List ℕ → Machine) (fixed : List (List ℕ)) (setup : Setup) → map M fixed ≡ machines_of setup → length fixed ≡ length setup.kinds
@@ -34,6 +35,7 @@ unfolding ideal_departures ran_ideal
 run_of_setup M setup came first ports states machines state many openings =
     ap (λ (ms : List Machine). departures_ran (ideal_run ms 0 (traffic_of came) first.state)) machines
     ∙ ap (λ (s : IdealState). departures_ran (ideal_run (machines_of setup) 0 (traffic_of came) s)) (state ∙ ap (λ (n : ℕ). empty_ideal n states) many ∙ ap (λ (s : List (List ℕ)). empty_ideal (length setup.kinds) s) openings)
+    ∙ same_sent (machines_of setup) (length setup.kinds) (openings_of setup) came
 
 pub ready : (M : List ℕ → Machine) (setup : Setup) (came : List Arrival) (first : IdealSwitch) (sent : RoomView Departure) (ports : ℕ) (states : List (List ℕ)) → IsSetup setup → map M first.fixed ≡ machines_of setup → class_count (machines_of setup) ≡ length setup.classes → first.stopped ≡ false → first.next ≡ 0 → first.state ≡ empty_ideal ports states → ports ≡ length setup.kinds → first.rooms ≡ map (λ j. number_of (is_to j) came) (range_with_len 0 ports) → IsTraffic (ports_of setup) (classes_of setup) came → IsShort came → sent.items ≡ [] → sent.spare ≡ length came + ports → IsReady (map M first.fixed) came first sent
 ready M setup came first sent ports states is machines classes running next state many rooms traffic short nothing spare =

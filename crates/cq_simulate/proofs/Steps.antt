@@ -18,14 +18,15 @@ use Rattle.cq_rank.specs.Machine.{Machine}
 use Rattle.cq_rank.specs.Switch.{class_count}
 use Rattle.cq_ideal.specs.Ideal.{IdealSwitch, HasRoomFor, HaveLeft, answer_to, count_for}
 use Rattle.cq_ideal.specs.IdealSlot.{IdealState, Sent, ideal_slot}
-use Rattle.cq_ideal.specs.IdealRun.{Ran, ideal_run}
+use Rattle.cq_ideal.specs.IdealRun.{Ran, ideal_run, departures_ran}
 use Rattle.cq_ideal.specs.Ranking.{AreForPorts}
 use Rattle.cq_ideal.proofs.FlowPut.{all_from}
 use Rattle.cq_ideal.proofs.FlowFound.{cell_listed, found, all_found, arriving_is}
-use Rattle.cq_simulate.specs.IdealRuns.{departures_ran}
 use Rattle.cq_simulate.specs.Ready.{IsReady}
-use Rattle.cq_simulate.proofs.Waiting.{waiting}
-use Rattle.cq_simulate.proofs.Running.{Running, running_first, running_next, running_over, running_fault, slot_left, for_here, rest_of, run_from, sent_from, none_waits, nothing_left}
+use Rattle.cq_ideal.proofs.Waiting.{waiting}
+use Rattle.cq_simulate.proofs.Running.{Running, running_first, running_next, running_over, running_fault, slot_left, for_here, run_from, sent_from}
+use Rattle.cq_ideal.specs.Ending.{arriving_from}
+use Rattle.cq_ideal.proofs.Ends.{none_waits, nothing_left}
 
 -- ## The cells of a slot
 
@@ -78,7 +79,7 @@ departures_are (Ok ran) = refl
 departures_are (Err fault) = refl
 
 pub whole_run : (ms : List Machine) (came : List Arrival) (state : IdealState) → departures_ran (ideal_run ms 0 (traffic_of came) state) ≡ run_from ms came 0 (enough came) state
-unfolding run_from rest_of traffic_of
+unfolding run_from arriving_from traffic_of
 whole_run ms came state = departures_are (ideal_run ms 0 (traffic_of came) state)
 
 slot_ok : (x : Result Sent TagFault) → Ok tt ≡ answer_to x → (sent : Sent) × (x ≡ Ok sent)

@@ -1,6 +1,6 @@
 -- A fabric that can run over all cells that arrive, and what its run leaves.
 use Rattle.std.specs.Prelude.{◌≡◌, ℕ, ◌+◌, ◌*◌, ◌<◌, ◌≤◌, ◌^◌, List, [], length, false, slice_index}
-use Rattle.cq_base.specs.Arriving.{Arrival, traffic_of}
+use Rattle.cq_base.specs.Arriving.{Arrival}
 use Rattle.cq_base.specs.Room.{RoomView}
 use Rattle.cq_base.specs.declared.cell.Departure.{Departure}
 use Rattle.cq_base.specs.declared.cell.Transfer.{Transfer}
@@ -8,7 +8,7 @@ use Rattle.cq_cells.specs.Traffic.{IsShort, IsTraffic, is_from, is_to, number_of
 use Rattle.cq_engine.specs.Engine.{EngineView, ports_of}
 use Rattle.cq_ideal.specs.IdealRun.{departures_of}
 use Rattle.cq_laws.specs.Fabric.{Fabric, empty_fabric}
-use Rattle.cq_laws.specs.FabricRun.{FabricRun}
+use Rattle.cq_laws.specs.FabricRun.{WholeRun}
 use Rattle.cq_laws.specs.FabricSlot.{SlotRecord}
 use Rattle.cq_laws.specs.Measures.{figures_of, no_figures}
 use Rattle.cq_laws.specs.Records.{gone_in, transfers_of_run}
@@ -35,12 +35,12 @@ pub record IsReadyFabric (ms : List Machine) (came : List Arrival) (engine : Eng
   pub nothing_noted : note.items ≡ []
   pub note_room : note.spare ≡ length came + 2 * ports_of engine
 
--- From the first state on, the fabric ran over all slots, with the input-best matchings; and its departures, its transfers
--- and its figures were kept.
+-- From the first state on, the fabric ran up to its end, with the input-best matchings; and its departures, its transfers and
+-- its figures were kept.
 pub record HasRun (ms : List Machine) (came : List Arrival) (first last : EngineView) (sent : RoomView Departure) (note : RoomView Transfer) : Type 0 where
   pub records : List SlotRecord
   pub end : Fabric
-  pub runs : FabricRun IsInputBest ms 0 (traffic_of came) first.fabric records end
+  pub runs : WholeRun IsInputBest ms came first.fabric records end
   pub departed : sent.items ≡ departures_of 0 (gone_in records)
   pub crossed : note.items ≡ transfers_of_run records
   pub counted : last.figures ≡ figures_of (ports_of first) records

@@ -1,11 +1,11 @@
 -- The fabric that a setup describes, run over the cells that arrive.
 use Rattle.std.specs.Prelude.{◌≡◌, List, IsOkAnd}
 use Rattle.std.specs.List.{AllByRecursion}
-use Rattle.cq_base.specs.Arriving.{Arrival, traffic_of}
+use Rattle.cq_base.specs.Arriving.{Arrival}
 use Rattle.cq_base.specs.declared.setup.Setup.{Setup}
 use Rattle.cq_ideal.specs.IdealRun.{departures_of}
 use Rattle.cq_laws.specs.Fabric.{Fabric, empty_fabric}
-use Rattle.cq_laws.specs.FabricRun as fabric
+use Rattle.cq_laws.specs.FabricRun.{WholeRun}
 use Rattle.cq_laws.specs.FabricSlot.{SlotRecord}
 use Rattle.cq_laws.specs.Measures.{figures_of}
 use Rattle.cq_laws.specs.Records.{gone_in, transfers_of_run}
@@ -17,11 +17,11 @@ use Rattle.cq_scfq.specs.Disciplines.{machines_of, openings_of}
 use Rattle.cq_simulate.specs.IdealRuns.{ran_ideal}
 use Rattle.cq_simulate.specs.declared.fabric_run.FabricRun.{FabricRun}
 
--- the records of the run over all slots, from the empty fabric on, with the input-best matchings. There is one such list at
--- most (`one_run` of cq_laws)
+-- the records of the whole run, from the empty fabric on up to the last slot in which a cell arrives, waits or leaves, with the
+-- input-best matchings. There is one such list at most (`one_whole_run` of cq_laws)
 pub record IsFabricRun (setup : Setup) (came : List Arrival) (rs : List SlotRecord) : Type 0 where
   pub end : Fabric
-  pub runs : fabric.FabricRun IsInputBest (machines_of setup) 0 (traffic_of came) (empty_fabric (ports_of setup) (openings_of setup)) rs end
+  pub runs : WholeRun IsInputBest (machines_of setup) came (empty_fabric (ports_of setup) (openings_of setup)) rs end
 
 -- what was kept of a run: its departures, its transfers and its figures
 pub record IsKeptOf (setup : Setup) (came : List Arrival) (run : FabricRun) : Type 0 where

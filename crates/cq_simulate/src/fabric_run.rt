@@ -3,12 +3,12 @@ ghost use Rattle.std.specs.Prelude.{◌≡◌, ◌↔◌, ◌≤◌, IsTrue, IfO
 ghost use Rattle.std.specs.List.{range_with_len};
 ghost use Rattle.cq_base.specs.Arriving.{end_of, traffic_of};
 ghost use Rattle.cq_cells.specs.Traffic.{IsTraffic, IsShort, is_from, number_of};
-ghost use Rattle.cq_ideal.specs.IdealRun.{empty_ideal, ideal_run};
+ghost use Rattle.cq_ideal.specs.IdealRun.{empty_ideal, ideal_run, departures_ran};
 ghost use Rattle.cq_laws.specs.Fabric.{IsEmptyFabric};
 ghost use Rattle.cq_route.specs.Tables.{AreTables, classes_of, ports_of};
 ghost use Rattle.cq_simulate.specs.FabricReady.{HasRun, IsReadyFabric};
 ghost use Rattle.cq_simulate.specs.FabricRuns.{IsKeptOf};
-ghost use Rattle.cq_simulate.specs.IdealRuns.{departures_ran, ideal_departures, IsRefusalOf};
+ghost use Rattle.cq_simulate.specs.IdealRuns.{ideal_departures, IsRefusalOf};
 
 use crate::RunRefusal;
 use crate::ideal_run::rooms_of;

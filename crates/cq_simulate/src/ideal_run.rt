@@ -3,9 +3,10 @@ ghost use Rattle.std.specs.Prelude.{◌≡◌, ◌↔◌, ◌+◌, ◌<◌, ◌�
 ghost use Rattle.std.specs.List.{range_with_len};
 ghost use Rattle.cq_base.specs.Arriving.{end_of, traffic_of};
 ghost use Rattle.cq_cells.specs.Traffic.{IsTraffic, IsShort, is_to, number_of};
-ghost use Rattle.cq_ideal.specs.IdealRun.{ideal_run};
+ghost use Rattle.cq_ideal.specs.IdealRun.{ideal_run, departures_ran};
 ghost use Rattle.cq_route.specs.Tables.{AreTables, classes_of, ports_of};
-ghost use Rattle.cq_simulate.specs.IdealRuns.{departures_ran, ideal_departures, slots_of, IsRefusalOf};
+ghost use Rattle.cq_ideal.specs.Ending.{slots_of};
+ghost use Rattle.cq_simulate.specs.IdealRuns.{ideal_departures, slots_ran, IsRefusalOf};
 ghost use Rattle.cq_simulate.specs.Ready.{IsReady};
 
 use crate::RunRefusal;
@@ -42,6 +43,8 @@ pub fn run_ideal(
     requires short { IsShort schedule.now.came }
     ensures sent { IfOk result (λ run. ideal_departures tables.now.setup schedule.now.came ≡ Ok run.sent.items) }
     ensures slots { IfOk result (λ run. run.slots ≡ slots_of run.sent.items) }
+    // which is after how many slots the run ends
+    ensures ends { IfOk result (λ run. run.slots ≡ slots_ran tables.now.setup schedule.now.came) }
     ensures refused { IfErr result (IsRefusalOf (ideal_departures tables.now.setup schedule.now.came)) }
 {
     let ranks = Discipline::all(alloc, &tables.setup)?;

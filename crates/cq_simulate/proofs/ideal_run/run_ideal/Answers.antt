@@ -3,8 +3,10 @@ use Rattle.std.specs.List.{range_with_len}
 use Rattle.std.proofs.lemmas.List.{length-map}
 use Rattle.std.proofs.lemmas.List.FromFn.{length-map-range_with_len}
 use Rattle.std.proofs.lemmas.Result.{err_from_is_err_and}
+use Rattle.cq_ideal.specs.Ending.{slots_of}
 use Rattle.cq_cells.specs.Traffic.{is_to, number_of}
 use Rattle.cq_scfq.specs.Discipline.{fixed_of, machine_from, state_of}
+use Rattle.cq_simulate.proofs.Departed.{slots_are}
 use Rattle.cq_simulate.proofs.Opening.{few_cells, machine_count, ready, run_of_setup}
 use Rattle.cq_simulate.proofs.ideal_run.run_ideal.Goals as goal
 
@@ -60,3 +62,9 @@ returns-clause-sent c =
     sym (run_of_setup machine_from setup c.args.schedule.now.came c.in_ok-ideal.ideal (length items) (map state_of items)
     (ap (map machine_from) c.in_ok-ideal.ensures.fixed ∙ c.in_ok-ranks.ensures.machines) c.in_ok-ideal.ensures.state (sym (length-map items fixed_of) ∙ count) c.in_ok-ranks.ensures.states)
     ∙ c.in_ok-run_slots.ensures.sent
+
+pub returns-clause-ends : goal.returns-clause-ends
+returns-clause-ends c =
+    c.slots_of-slots.ensures
+    ∙ ap slots_of c.items.ensures
+    ∙ slots_are c.args.tables.now.setup c.args.schedule.now.came _ c.requires.tables.setup c.requires.traffic (returns-clause-sent c)
