@@ -64,9 +64,9 @@ least_next id j (x ∷ xs) =
     (cases_eq o j))
     (cases_lt o j))
     (λ lacks.
-    let a = first_later (is_below id j) x xs (neither _ _ lacks) in
-    let b = first_later (is_own id j) x xs (neither _ _ lacks) in
-    let c = first_later (is_below id (j + 1)) x xs (neither _ _ lacks) in
+    let a = first_later (is_below id j) x xs (neither (ltb o j) (has_id id x) lacks) in
+    let b = first_later (is_own id j) x xs (neither (is_for j x) (has_id id x) lacks) in
+    let c = first_later (is_below id (j + 1)) x xs (neither (ltb o (j + 1)) (has_id id x) lacks) in
     omega arith)
     (cases_Bool (has_id id x))
 
@@ -80,7 +80,7 @@ least_of_all id n (x ∷ xs) all =
     (λ has. first_here (is_below id n) x xs (both _ _ (lt-ltb x.cell.output n all.0) has)
     ∙ sym (first_here (has_id id) x xs has))
     (λ lacks.
-    let a = first_later (is_below id n) x xs (neither _ _ lacks) in
+    let a = first_later (is_below id n) x xs (neither (ltb x.cell.output n) (has_id id x) lacks) in
     let b = first_later (has_id id) x xs lacks in
     omega arith)
     (cases_Bool (has_id id x))

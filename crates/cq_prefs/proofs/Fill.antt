@@ -14,7 +14,7 @@ use Rattle.cq_prefs.specs.Orders.{Orders, ports, AreOffers}
 use Rattle.cq_prefs.specs.FirstCells.{list_of, output_order, first_key, places_by_key, input_order, orders_of}
 use Rattle.cq_prefs.proofs.OutputOrder.{has_output}
 use Rattle.cq_prefs.proofs.InputOrder.{OutputsInRange, are_offers}
-use Rattle.cq_prefs.proofs.Scan.{outputs_below}
+use Rattle.cq_prefs.proofs.Placed.{outputs_below}
 
 mapped_twice : {X Y Z : Type 0} (f : Y → Z) (g : X → Y) (xs : List X) → map (λ x. f (g x)) xs ≡ map f (map g xs)
 mapped_twice f g [] = refl

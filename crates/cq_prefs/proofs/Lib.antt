@@ -4,8 +4,8 @@ pub mod Members
 pub mod OutputOrder
 pub mod Sorted
 pub mod InputOrder
-pub mod Scan
 pub mod ByKey
+pub mod Placed
 pub mod Fill
 pub mod Pairs
 pub mod Best
