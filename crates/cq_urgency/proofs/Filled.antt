@@ -14,64 +14,42 @@ use Rattle.cq_urgency.proofs.Flattened.{flattened-halved}
 abbrev AreHalf : List (List Queued) → Type 0
 AreHalf blocks = AllByRecursion (λ block. 32 ≤ length block) blocks
 
-half_set : (blocks : List (List Queued)) (i : ℕ) (block : List Queued) → AreHalf blocks → length (block_at blocks i) ≤ length block → AreHalf (set blocks i block)
-half_set [] i block a le = tt
-half_set (b ∷ bs) zero block a le = (let l = a.0 in omega arith, a.1)
-half_set (b ∷ bs) (suc i) block a le = (a.0, half_set bs i block a.1 le)
-
-pub filled_set : (blocks : List (List Queued)) (i : ℕ) (block : List Queued) → AreFilled blocks → length (block_at blocks i) ≤ length block → AreFilled (set blocks i block)
-filled_set [] i block f le = tt
-filled_set (b ∷ bs) zero block f le = (let l = f.0 in omega arith, f.1)
-filled_set (b ∷ bs) (suc i) block f le = (f.0, half_set bs i block f.1 le)
-
-half_halved : (blocks : List (List Queued)) (i : ℕ) → AreHalf blocks → length (block_at blocks i) ≡ 64 → AreHalf (halved blocks i)
+half_halved : (blocks : List (List Queued)) (i : ℕ) → AreHalf blocks → length (block_at blocks i) ≡ 64 →
+    AreHalf (halved blocks i)
 half_halved [] i a full = absurd (omega arith)
-half_halved (b ∷ bs) zero a full = (let len = length-take 32 b in omega arith, (let len = length-drop 32 b in omega arith, a.1))
+half_halved (b ∷ bs) zero a
+    full = (let len = length-take 32 b in omega arith, (let len = length-drop 32 b in omega arith, a.1))
 half_halved (b ∷ bs) (suc i) a full =
     let next : suc i + 1 ≡ suc (i + 1) = omega arith in
-    subst (λ n. AreHalf (insert (b ∷ set bs i (take 32 (block_at bs i))) n (drop 32 (block_at bs i)))) (sym next) (a.0, half_halved bs i a.1 full)
+    subst (λ n. AreHalf (insert (b ∷ set bs i (take 32 (block_at bs i))) n (drop 32 (block_at bs i)))) (sym next)
+    (a.0, half_halved bs i a.1 full)
 
-pub filled_halved : (blocks : List (List Queued)) (i : ℕ) → AreFilled blocks → length (block_at blocks i) ≡ 64 → AreFilled (halved blocks i)
+pub filled_halved : (blocks : List (List Queued)) (i : ℕ) → AreFilled blocks → length (block_at blocks i) ≡ 64 →
+    AreFilled (halved blocks i)
 filled_halved [] i f full = absurd (omega arith)
-filled_halved (b ∷ bs) zero f full = (let len = length-take 32 b in omega arith, (let len = length-drop 32 b in omega arith, f.1))
+filled_halved (b ∷ bs) zero f
+    full = (let len = length-take 32 b in omega arith, (let len = length-drop 32 b in omega arith, f.1))
 filled_halved (b ∷ bs) (suc i) f full =
     let next : suc i + 1 ≡ suc (i + 1) = omega arith in
-    subst (λ n. AreFilled (insert (b ∷ set bs i (take 32 (block_at bs i))) n (drop 32 (block_at bs i)))) (sym next) (f.0, half_halved bs i f.1 full)
-
-half_filled : (blocks : List (List Queued)) → AreHalf blocks → AreFilled blocks
-half_filled [] a = tt
-half_filled (b ∷ bs) a = (let l = a.0 in omega arith, a.1)
-
-pub filled_without_first : (blocks : List (List Queued)) → AreFilled blocks → AreFilled (without_first blocks)
-filled_without_first [] f = tt
-filled_without_first (b ∷ bs) f =
-    cond_both (length b == 1) bs (drop 1 b ∷ bs) AreFilled (λ _. half_filled bs f.1)
-    (λ other. (let ne = eqb-false (length b) 1 other in let some = f.0 in let len = length-drop 1 b in more (length b) (length (drop 1 b)) ne some len, f.1))
-  where
-    more : (n m : ℕ) → (n ≡ 1 → ⊥) → 0 < n → m ≡ n - 1 → 0 < m
-    more n m ne some is = omega arith
-
-pub filled_first : (blocks : List (List Queued)) → AreFilled blocks → 0 < length blocks → 0 < length (block_at blocks 0)
-filled_first [] f some = absurd (omega arith)
-filled_first (b ∷ bs) f some = f.0
-
-pub filled_at : (blocks : List (List Queued)) (i : ℕ) → AreFilled blocks → i < length blocks → 0 < length (block_at blocks i)
-filled_at [] i f inside = absurd (omega arith)
-filled_at (b ∷ bs) zero f inside = f.0
-filled_at (b ∷ bs) (suc i) f inside = filled_at bs i (half_filled bs f.1) (omega arith)
+    subst (λ n. AreFilled (insert (b ∷ set bs i (take 32 (block_at bs i))) n (drop 32 (block_at bs i)))) (sym next)
+    (f.0, half_halved bs i f.1 full)
 
 -- ## Few blocks
 
 half_few : (blocks : List (List Queued)) → AreHalf blocks → 32 * length blocks ≤ length (flattened blocks)
 half_few [] a = omega arith
-half_few (b ∷ bs) a = let rest = half_few bs a.1 in let l = a.0 in let len = length-append b (flattened bs) in omega arith
+half_few (b ∷ bs) a = let rest = half_few bs a.1 in let l = a.0 in
+    let len = length-append b (flattened bs) in omega arith
 
 few_blocks : (blocks : List (List Queued)) → AreFilled blocks → 32 * length blocks ≤ length (flattened blocks) + 31
 few_blocks [] f = omega arith
-few_blocks (b ∷ bs) f = let rest = half_few bs f.1 in let l = f.0 in let len = length-append b (flattened bs) in omega arith
+few_blocks (b ∷ bs) f = let rest = half_few bs f.1 in let l = f.0 in
+    let len = length-append b (flattened bs) in omega arith
 
 -- there is room for one more block where a full one is split
-pub room_to_split : (blocks : List (List Queued)) (i most room : ℕ) → AreFilled blocks → i < length blocks → length (block_at blocks i) ≡ 64 → length (halved blocks i) ≡ length blocks + 1 → length (flattened blocks) ≤ room → most ≡ room / 32 + 1 → length blocks < most
+pub room_to_split : (blocks : List (List Queued)) (i most room : ℕ) → AreFilled blocks → i < length blocks →
+    length (block_at blocks i) ≡ 64 → length (halved blocks i) ≡ length blocks + 1 →
+    length (flattened blocks) ≤ room → most ≡ room / 32 + 1 → length blocks < most
 room_to_split blocks i most room f inside full longer fits enough =
     let few = few_blocks (halved blocks i) (filled_halved blocks i f full) in
     let same = ap length (flattened-halved blocks i inside) in omega arith

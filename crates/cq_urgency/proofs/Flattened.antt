@@ -32,43 +32,43 @@ behind [] ys k n e = ap (slice_get ys) (let same : n ≡ k = omega arith in same
 behind (y ∷ xs) ys k zero e = absurd (omega arith)
 behind (y ∷ xs) ys k (suc n) e = behind xs ys k n (omega arith)
 
-pub shown_in : (blocks : List (List Queued)) (i o n : ℕ) (x : Queued) → i < length blocks → slice_get (block_at blocks i) o ≡ Some x → n ≡ cells_in_all (take i blocks) + o → slice_get (flattened blocks) n ≡ Some x
+pub shown_in : (blocks : List (List Queued)) (i o n : ℕ) (x : Queued) → i < length blocks →
+    slice_get (block_at blocks i) o ≡ Some x → n ≡ cells_in_all (take i blocks) + o →
+    slice_get (flattened blocks) n ≡ Some x
 shown_in [] i o n x inside at place = absurd (omega arith)
-shown_in (b ∷ bs) zero o n x inside at place = ap (slice_get (b ++ flattened bs)) (let same : n ≡ o = omega arith in same) ∙ in_front b (flattened bs) o x at
+shown_in (b ∷ bs) zero o n x inside at place = ap (slice_get (b ++ flattened bs))
+    (let same : n ≡ o = omega arith in same)
+    ∙ in_front b (flattened bs) o x at
 shown_in (b ∷ bs) (suc i) o n x inside at place =
     let step = sum_by-cons (λ (block : List Queued). length block) b (take i bs) in
-    behind b (flattened bs) (cells_in_all (take i bs) + o) n (omega arith) ∙ shown_in bs i o (cells_in_all (take i bs) + o) x (omega arith) at refl
+    behind b (flattened bs) (cells_in_all (take i bs) + o) n (omega arith)
+    ∙ shown_in bs i o (cells_in_all (take i bs) + o) x (omega arith) at refl
 
-pub insert_in : (blocks : List (List Queued)) (i o n : ℕ) (y : Queued) → i < length blocks → o ≤ length (block_at blocks i) → cells_in_all (take i blocks) + o ≡ n → flattened (set blocks i (insert (block_at blocks i) o y)) ≡ insert (flattened blocks) n y
+pub insert_in : (blocks : List (List Queued)) (i o n : ℕ) (y : Queued) → i < length blocks →
+    o ≤ length (block_at blocks i) → cells_in_all (take i blocks) + o ≡ n →
+    flattened (set blocks i (insert (block_at blocks i) o y)) ≡ insert (flattened blocks) n y
 insert_in [] i o n y inside le place = absurd (omega arith)
 insert_in (b ∷ bs) zero o n y inside le place =
-    sym (insert-append_left b (flattened bs) o y le) ∙ ap (λ k. insert (b ++ flattened bs) k y) (let same : o ≡ n = omega arith in same)
+    sym (insert-append_left b (flattened bs) o y le)
+    ∙ ap (λ k. insert (b ++ flattened bs) k y) (let same : o ≡ n = omega arith in same)
 insert_in (b ∷ bs) (suc i) o n y inside le place =
     let step = sum_by-cons (λ (block : List Queued). length block) b (take i bs) in
     ap (λ l. b ++ l) (insert_in bs i o (n - length b) y (omega arith) le (omega arith))
     ∙ sym (insert-append_right b (flattened bs) (length b) n y refl (omega arith))
 
--- ## A block split, and the first cell taken out
+-- ## A block split
 
-pub split_in : (blocks : List (List Queued)) (i : ℕ) (front back : List Queued) → i < length blocks → front ++ back ≡ block_at blocks i → flattened (insert (set blocks i front) (i + 1) back) ≡ flattened blocks
+pub split_in : (blocks : List (List Queued)) (i : ℕ) (front back : List Queued) → i < length blocks →
+    front ++ back ≡ block_at blocks i → flattened (insert (set blocks i front) (i + 1) back) ≡ flattened blocks
 split_in [] i front back inside parts = absurd (omega arith)
-split_in (b ∷ bs) zero front back inside parts = sym (append_assoc front back (flattened bs)) ∙ ap (λ l. l ++ flattened bs) parts
+split_in (b ∷ bs) zero front back inside parts = sym (append_assoc front back (flattened bs))
+    ∙ ap (λ l. l ++ flattened bs) parts
 split_in (b ∷ bs) (suc i) front back inside parts =
     let next : suc i + 1 ≡ suc (i + 1) = omega arith in
-    ap (λ n. flattened (insert (b ∷ set bs i front) n back)) next ∙ ap (λ l. b ++ l) (split_in bs i front back (omega arith) parts)
+    ap (λ n. flattened (insert (b ∷ set bs i front) n back)) next
+    ∙ ap (λ l. b ++ l) (split_in bs i front back (omega arith) parts)
 
-pub flattened-halved : (blocks : List (List Queued)) (i : ℕ) → i < length blocks → flattened (halved blocks i) ≡ flattened blocks
-flattened-halved blocks i inside = split_in blocks i (take 32 (block_at blocks i)) (drop 32 (block_at blocks i)) inside (take-append-drop 32 (block_at blocks i))
-
-pub flattened-without_first : (blocks : List (List Queued)) → 0 < length (block_at blocks 0) → flattened (without_first blocks) ≡ drop 1 (flattened blocks)
-flattened-without_first [] some = absurd (omega arith)
-flattened-without_first ([] ∷ bs) some = absurd (omega arith)
-flattened-without_first ((x ∷ xs) ∷ bs) some =
-    cond_both (length (x ∷ xs) == 1) bs (xs ∷ bs) (λ l. flattened l ≡ xs ++ flattened bs)
-    (λ one. let none : xs ≡ [] = nil_from_length xs (let l = eqb-true (length (x ∷ xs)) 1 one in omega arith) in ap (λ l. l ++ flattened bs) (sym none))
-    (λ _. refl)
-
-pub first_in : (blocks : List (List Queued)) → 0 < length (block_at blocks 0) → slice_get (block_at blocks 0) 0 ≡ slice_get (flattened blocks) 0
-first_in [] some = absurd (omega arith)
-first_in ([] ∷ bs) some = absurd (omega arith)
-first_in ((x ∷ xs) ∷ bs) some = refl
+pub flattened-halved : (blocks : List (List Queued)) (i : ℕ) → i < length blocks →
+    flattened (halved blocks i) ≡ flattened blocks
+flattened-halved blocks i inside = split_in blocks i (take 32 (block_at blocks i)) (drop 32 (block_at blocks i))
+    inside (take-append-drop 32 (block_at blocks i))

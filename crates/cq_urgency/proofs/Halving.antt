@@ -1,6 +1,6 @@
--- How many cells have a lesser key, and that halving finds it. The cells stand in the order of keys. So where a cell has
--- a lesser key, all cells before it have one too. The test is thus passed by the first cells and by no others, and halving
--- finds the point where they end. As many cells pass as stand before the point.
+-- How many cells have a lesser key, and that halving finds it. The cells stand in the order of keys. So where a cell
+-- has a lesser key, all cells before it have one too. The test is thus passed by the first cells and by no others, and
+-- halving finds the point where they end. As many cells pass as stand before the point.
 use Rattle.std.proofs.Common.{◌≡◌, ℕ, zero, suc, ◌+◌, ◌≤◌, Bool, true, false, cond, List, [], ◌∷◌, ◌++◌, length, get_or, filter, refl, sym, ap, ◌∙◌, inl, inr, subst, length-append, arith}
 use Rattle.std.specs.List.{AllByRecursion}
 use Rattle.std.specs.List.Sorted.{IsPartitionPoint, IsPartitionedBy}
@@ -15,11 +15,14 @@ use Rattle.cq_base.proofs.Keys.{key_laws}
 use Rattle.cq_base.proofs.Lists.{each_pair_at}
 
 -- a test that passes on to each cell before parts a rising list
-parts_rising : (p : Queued → Bool) → ((a b : Queued) → IsBefore a b → p b ≡ true → p a ≡ true) → (xs : List Queued) → IsRising xs → IsPartitionedBy p xs
+parts_rising : (p : Queued → Bool) → ((a b : Queued) → IsBefore a b → p b ≡ true → p a ≡ true) → (xs : List Queued) →
+    IsRising xs → IsPartitionedBy p xs
 parts_rising p back xs r i j d le lt e =
     elim (cases_eq i j) [
       | inl same ↦ let P : ℕ → Type 0 = λ k. p (get_or xs k d) ≡ true in subst P (sym same) e
-      | inr other ↦ back (get_or xs i d) (get_or xs j d) (each_pair_at IsBefore xs i j (get_or xs i d) (get_or xs j d) r (slice_get-get_or xs i d (omega arith)) (slice_get-get_or xs j d lt) (omega arith)) e
+      | inr other ↦ back (get_or xs i d) (get_or xs j d)
+          (each_pair_at IsBefore xs i j (get_or xs i d) (get_or xs j d) r (slice_get-get_or xs i d (omega arith))
+          (slice_get-get_or xs j d lt) (omega arith)) e
     ]
 
 -- the cells of lesser key stand first
@@ -27,21 +30,29 @@ pub lesser_part : (key : Key) (xs : List Queued) → IsRising xs → IsPartition
 lesser_part key = parts_rising (λ x. is_before x.key key) (λ a b before e. key_laws.on a.key b.key key before e)
 
 -- as many pass as stand before the point
-pub passed_at_point : {X : Type 0} (p : X → Bool) (xs : List X) (n : ℕ) → n ≤ length xs → IsPartitionPoint (λ x. p x ≡ true) (λ x. p x ≡ false) xs n → n ≡ length (filter p xs)
+pub passed_at_point : {X : Type 0} (p : X → Bool) (xs : List X) (n : ℕ) → n ≤ length xs →
+    IsPartitionPoint (λ x. p x ≡ true) (λ x. p x ≡ false) xs n → n ≡ length (filter p xs)
 passed_at_point p [] n few point = omega arith
 passed_at_point p (x ∷ xs) zero few point =
-    let rest = passed_at_point p xs zero (omega arith) ((λ k d from to. absurd (omega arith)), (λ k d from to. point.1 (suc k) d (omega arith) (omega arith))) in
+    let rest = passed_at_point p xs zero (omega arith)
+    ((λ k d from to. absurd (omega arith)), (λ k d from to. point.1 (suc k) d (omega arith) (omega arith))) in
     rest ∙ ap (λ b. length (cond b (x ∷ filter p xs) (filter p xs))) (sym (point.1 zero x (omega arith) (omega arith)))
 passed_at_point p (x ∷ xs) (suc n) few point =
-    let rest = passed_at_point p xs n (omega arith) ((λ k d from to. point.0 (suc k) d (omega arith) (omega arith)), (λ k d from to. point.1 (suc k) d (omega arith) (omega arith))) in
-    ap suc rest ∙ ap (λ b. length (cond b (x ∷ filter p xs) (filter p xs))) (sym (point.0 zero x (omega arith) (omega arith)))
+    let rest = passed_at_point p xs n (omega arith) (
+      (λ k d from to. point.0 (suc k) d (omega arith) (omega arith)),
+      (λ k d from to. point.1 (suc k) d (omega arith) (omega arith)),
+    ) in
+    ap suc rest
+    ∙ ap (λ b. length (cond b (x ∷ filter p xs) (filter p xs))) (sym (point.0 zero x (omega arith) (omega arith)))
 
 -- ## How many pass
 
-passes_more : {X : Type 0} (p : X → Bool) (x : X) (xs : List X) → p x ≡ true → length (filter p (x ∷ xs)) ≡ suc (length (filter p xs))
+passes_more : {X : Type 0} (p : X → Bool) (x : X) (xs : List X) → p x ≡ true →
+    length (filter p (x ∷ xs)) ≡ suc (length (filter p xs))
 passes_more p x xs e = ap (λ b. length (cond b (x ∷ filter p xs) (filter p xs))) e
 
-fails_more : {X : Type 0} (p : X → Bool) (x : X) (xs : List X) → p x ≡ false → length (filter p (x ∷ xs)) ≡ length (filter p xs)
+fails_more : {X : Type 0} (p : X → Bool) (x : X) (xs : List X) → p x ≡ false →
+    length (filter p (x ∷ xs)) ≡ length (filter p xs)
 fails_more p x xs e = ap (λ b. length (cond b (x ∷ filter p xs) (filter p xs))) e
 
 pub cushion-append : (key : Key) (xs ys : List Queued) → cushion key (xs ++ ys) ≡ cushion key xs + cushion key ys
@@ -54,15 +65,19 @@ cushion_le key [] = omega arith
 cushion_le key (x ∷ xs) =
     let test : Queued → Bool = λ y. is_before y.key key in
     let rest = cushion_le key xs in
-    cond_both (is_before x.key key) (x ∷ filter test xs) (filter test xs) (λ l. length l ≤ length (x ∷ xs)) (λ _. omega arith) (λ _. omega arith)
+    cond_both (is_before x.key key) (x ∷ filter test xs) (filter test xs) (λ l. length l ≤ length (x ∷ xs))
+    (λ _. omega arith) (λ _. omega arith)
 
-pub cushion_all : (key : Key) (xs : List Queued) → AllByRecursion (λ x. is_before x.key key ≡ true) xs → cushion key xs ≡ length xs
+pub cushion_all : (key : Key) (xs : List Queued) → AllByRecursion (λ x. is_before x.key key ≡ true) xs →
+    cushion key xs ≡ length xs
 cushion_all key [] a = refl
 cushion_all key (x ∷ xs) a = passes_more (λ y. is_before y.key key) x xs a.0 ∙ ap suc (cushion_all key xs a.1)
 
-pub cushion_none : (key : Key) (xs : List Queued) → AllByRecursion (λ x. is_before x.key key ≡ false) xs → cushion key xs ≡ 0
+pub cushion_none : (key : Key) (xs : List Queued) → AllByRecursion (λ x. is_before x.key key ≡ false) xs →
+    cushion key xs ≡ 0
 cushion_none key [] a = refl
 cushion_none key (x ∷ xs) a = fails_more (λ y. is_before y.key key) x xs a.0 ∙ cushion_none key xs a.1
 
-pub cushion_first : (key : Key) (x : Queued) (xs : List Queued) → is_before x.key key ≡ true → cushion key (x ∷ xs) ≡ suc (cushion key xs)
+pub cushion_first : (key : Key) (x : Queued) (xs : List Queued) → is_before x.key key ≡ true →
+    cushion key (x ∷ xs) ≡ suc (cushion key xs)
 cushion_first key x xs e = passes_more (λ y. is_before y.key key) x xs e

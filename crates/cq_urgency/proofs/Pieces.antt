@@ -9,33 +9,42 @@ length_piece xs h n inside = let few = length-take n (drop h xs) in let left = l
 
 -- a piece without its first item
 pub popped : {X : Type 0} (xs : List X) (h n m : ℕ) → n ≡ 1 + m → take m (drop (h + 1) xs) ≡ drop 1 (take n (drop h xs))
-popped xs h n m one = ap (take m) (sym (drop-drop 1 h xs)) ∙ sym (drop-take 1 m (drop h xs)) ∙ ap (λ k. drop 1 (take k (drop h xs))) (sym one)
+popped xs h n m one = ap (take m) (sym (drop-drop 1 h xs)) ∙ sym (drop-take 1 m (drop h xs))
+    ∙ ap (λ k. drop 1 (take k (drop h xs))) (sym one)
 
 -- ## Items turned by one place, and one of them written
 
-pub turned_on : {X : Type 0} (xs : List X) (y : X) → 0 < length xs → set (drop (length xs - 1) xs ++ take (length xs - 1) xs) 0 y ≡ y ∷ take (length xs - 1) xs
+pub turned_on : {X : Type 0} (xs : List X) (y : X) → 0 < length xs →
+    set (drop (length xs - 1) xs ++ take (length xs - 1) xs) 0 y ≡ y ∷ take (length xs - 1) xs
 turned_on xs y some =
     let m : ℕ = length xs - 1 in
     let last : m < length xs = omega arith in
-    let one : drop m xs ≡ get_or xs m y ∷ [] = drop_more xs m y last ∙ ap (λ l. get_or xs m y ∷ l) (drop_all (m + 1) xs (omega arith)) in
+    let one : drop m xs ≡ get_or xs m y ∷ [] = drop_more xs m y last
+    ∙ ap (λ l. get_or xs m y ∷ l) (drop_all (m + 1) xs (omega arith)) in
     ap (λ l. set (l ++ take m xs) 0 y) one
 
-pub turned_back : {X : Type 0} (xs : List X) (y : X) (n : ℕ) → n + 1 ≡ length xs → set (drop 1 xs ++ take 1 xs) n y ≡ drop 1 xs ++ y ∷ []
+pub turned_back : {X : Type 0} (xs : List X) (y : X) (n : ℕ) → n + 1 ≡ length xs →
+    set (drop 1 xs ++ take 1 xs) n y ≡ drop 1 xs ++ y ∷ []
 turned_back [] y n long = absurd (omega arith)
 turned_back (x ∷ xs) y n long = set_at xs x [] y n (omega arith)
 
 -- ## A part of the array written anew
 
 -- what follows a part that was written anew
-written : {X : Type 0} (xs ys : List X) (h p n : ℕ) → h + p ≤ length xs → p + length ys ≡ n → (rest : List X) → take n (drop h (take (h + p) xs ++ (ys ++ rest))) ≡ take p (drop h xs) ++ ys
+written : {X : Type 0} (xs ys : List X) (h p n : ℕ) → h + p ≤ length xs → p + length ys ≡ n → (rest : List X) →
+    take n (drop h (take (h + p) xs ++ (ys ++ rest))) ≡ take p (drop h xs) ++ ys
 written xs ys h p n inside long rest =
     let ahead = length-take (h + p) xs in
-    let front = drop-append-le h (take (h + p) xs) (ys ++ rest) (omega arith) ∙ ap (λ l. l ++ (ys ++ rest)) (drop-take h p xs) ∙ sym (append_assoc (take p (drop h xs)) ys rest) in
-    let size : length (take p (drop h xs) ++ ys) ≡ n = let few = length_piece xs h p inside in let both = length-append (take p (drop h xs)) ys in omega arith in
+    let front = drop-append-le h (take (h + p) xs) (ys ++ rest) (omega arith)
+    ∙ ap (λ l. l ++ (ys ++ rest)) (drop-take h p xs) ∙ sym (append_assoc (take p (drop h xs)) ys rest) in
+    let size : length (take p (drop h xs) ++ ys) ≡ n = let few = length_piece xs h p inside in
+    let both = length-append (take p (drop h xs)) ys in omega arith in
     ap (take n) front ∙ take_at (take p (drop h xs) ++ ys) rest n size
 
 -- the cell and those behind it, one place on
-pub put_on : {X : Type 0} (xs ys rest : List X) (y : X) (h n p m : ℕ) → p + m ≡ n → h + n ≤ length xs → ys ≡ y ∷ take m (drop (h + p) xs) → take (n + 1) (drop h (take (h + p) xs ++ (ys ++ rest))) ≡ insert (take n (drop h xs)) p y
+pub put_on : {X : Type 0} (xs ys rest : List X) (y : X) (h n p m : ℕ) → p + m ≡ n → h + n ≤ length xs →
+    ys ≡ y ∷ take m (drop (h + p) xs) →
+    take (n + 1) (drop h (take (h + p) xs ++ (ys ++ rest))) ≡ insert (take n (drop h xs)) p y
 put_on xs ys rest y h n p m sum inside is =
     let few = length_piece xs (h + p) m (omega arith) in
     let long : p + length ys ≡ n + 1 = let len = ap length is in omega arith in
@@ -48,12 +57,17 @@ put_on xs ys rest y h n p m sum inside is =
     ∙ ap (λ l. take p (take n (drop h xs)) ++ y ∷ l) (sym behind)
 
 -- the cell and those ahead of it, one place back, where the piece ends with the array
-pub put_back : {X : Type 0} (xs ys rest : List X) (y : X) (h n p : ℕ) → p ≤ n → h + 1 + n ≡ length xs → ys ≡ take p (drop (h + 1) xs) ++ y ∷ [] → rest ≡ drop (h + 1 + p) xs → take (n + 1) (drop h (take h xs ++ (ys ++ rest))) ≡ insert (take n (drop (h + 1) xs)) p y
+pub put_back : {X : Type 0} (xs ys rest : List X) (y : X) (h n p : ℕ) → p ≤ n → h + 1 + n ≡ length xs →
+    ys ≡ take p (drop (h + 1) xs) ++ y ∷ [] → rest ≡ drop (h + 1 + p) xs →
+    take (n + 1) (drop h (take h xs ++ (ys ++ rest))) ≡ insert (take n (drop (h + 1) xs)) p y
 put_back xs ys rest y h n p few whole is left =
     let start : length (take h xs) ≡ h = let len = length-take h xs in omega arith in
     let size : length (ys ++ rest) ≤ n + 1 =
-    let both = length-append ys rest in let len = ap length is ∙ length-append (take p (drop (h + 1) xs)) (y ∷ []) in let piece = length_piece xs (h + 1) p (omega arith) in let last = ap length left ∙ length-drop (h + 1 + p) xs in omega arith in
-    let all : take n (drop (h + 1) xs) ≡ drop (h + 1) xs = take_all n (drop (h + 1) xs) (let len = length-drop (h + 1) xs in omega arith) in
+    let both = length-append ys rest in let len = ap length is ∙ length-append (take p (drop (h + 1) xs)) (y ∷ []) in
+    let piece = length_piece xs (h + 1) p (omega arith) in
+    let last = ap length left ∙ length-drop (h + 1 + p) xs in omega arith in
+    let all : take n (drop (h + 1) xs) ≡ drop (h + 1) xs = take_all n (drop (h + 1) xs)
+    (let len = length-drop (h + 1) xs in omega arith) in
     ap (take (n + 1)) (drop_at (take h xs) (ys ++ rest) h start)
     ∙ take_all (n + 1) (ys ++ rest) size
     ∙ ap (λ l. l ++ rest) is
@@ -63,7 +77,9 @@ put_back xs ys rest y h n p few whole is left =
 
 -- ## The upper half of the array, copied to the start of another one
 
-pub upper_half : {X : Type 0} (xs ys rest : List X) (h n m : ℕ) → n ≡ m + m → h ≡ 0 → length xs ≡ n → ys ≡ drop m xs → take m (ys ++ rest) ≡ drop m (take n (drop h xs))
+pub upper_half : {X : Type 0} (xs ys rest : List X) (h n m : ℕ) → n ≡ m + m → h ≡ 0 → length xs ≡ n →
+    ys ≡ drop m xs → take m (ys ++ rest) ≡ drop m (take n (drop h xs))
 upper_half xs ys rest h n m two none whole is =
     let half : length ys ≡ m = let len = ap length is ∙ length-drop m xs in omega arith in
-    take_at ys rest m half ∙ is ∙ ap (drop m) (sym (take_all n xs (omega arith))) ∙ ap (λ k. drop m (take n (drop k xs))) (sym none)
+    take_at ys rest m half ∙ is ∙ ap (drop m) (sym (take_all n xs (omega arith)))
+    ∙ ap (λ k. drop m (take n (drop k xs))) (sym none)

@@ -10,7 +10,7 @@ use Rattle.std.proofs.lemmas.List.{length_push, length-map, map-append, map-set,
 use Rattle.std.proofs.lemmas.List.Edits.{length-insert}
 use Rattle.std.proofs.lemmas.List.Sums.{sum_by-cons, sum_by_push, sum_by-insert, get_or-le-sum_by}
 use Rattle.cq_base.specs.declared.cell.Queued.{Queued}
-use Rattle.cq_urgency.specs.Blocks.{BlocksView, block_at, cells_in_all, without_first, in_order, bit, times, has, ArePlaced, ComesIn}
+use Rattle.cq_urgency.specs.Blocks.{BlocksView, block_at, cells_in_all, halved, without_first, in_order, bit, times, has, ArePlaced, ComesIn}
 
 -- ## How often a number stands in a list
 
@@ -34,7 +34,8 @@ times_read xs i number inside is =
 
 has_inside : (pool : List (List Queued)) (n : ℕ) → 1 ≤ has pool n → n < length pool
 has_inside pool n some =
-    ⊎_elim (λ t. ltb-true n (length pool) t) (λ f. let none : has pool n ≡ 0 = ap bit f in absurd (omega arith)) (cases_Bool (nat_lt n (length pool)))
+    ⊎_elim (λ t. ltb-true n (length pool) t) (λ f. let none : has pool n ≡ 0 = ap bit f in absurd (omega arith))
+    (cases_Bool (nat_lt n (length pool)))
 
 -- a number that is not there is not the first one
 differs : (number x : ℕ) (xs : List ℕ) → times number (x ∷ xs) ≤ times number xs → x ≢ number
@@ -43,31 +44,40 @@ differs number x xs none e = let one = bit_same x number e in let step = times-c
 -- ## Blocks in their order
 
 -- the blocks stay where only one changes that is not in the order
-same_order : (pool pool' : List (List Queued)) (number : ℕ) → ((n : ℕ) → n ≢ number → block_at pool' n ≡ block_at pool n) → (order : List ℕ) → times number order ≡ 0 → in_order pool' order ≡ in_order pool order
+same_order : (pool pool' : List (List Queued)) (number : ℕ) →
+    ((n : ℕ) → n ≢ number → block_at pool' n ≡ block_at pool n) → (order : List ℕ) → times number order ≡ 0 →
+    in_order pool' order ≡ in_order pool order
 same_order pool pool' number others [] none = refl
 same_order pool pool' number others (x ∷ xs) none =
     let step = times-cons number x xs in
     ap (λ b. b ∷ in_order pool' xs) (others x (differs number x xs (omega arith)))
     ∙ ap (λ l. block_at pool x ∷ l) (same_order pool pool' number others xs (omega arith))
 
-set_others : (pool : List (List Queued)) (number : ℕ) (block : List Queued) (n : ℕ) → n ≢ number → block_at (set pool number block) n ≡ block_at pool n
+set_others : (pool : List (List Queued)) (number : ℕ) (block : List Queued) (n : ℕ) → n ≢ number →
+    block_at (set pool number block) n ≡ block_at pool n
 set_others pool number block n ne = get_or-set_other pool number n block [] ne
 
 -- a block changes at its place
-set_order : (pool : List (List Queued)) (block : List Queued) (order : List ℕ) (i number : ℕ) → i < length order → number ≡ get_or order i number → number < length pool → times number order ≤ 1 → in_order (set pool number block) order ≡ set (in_order pool order) i block
+set_order : (pool : List (List Queued)) (block : List Queued) (order : List ℕ) (i number : ℕ) → i < length order →
+    number ≡ get_or order i number → number < length pool → times number order ≤ 1 →
+    in_order (set pool number block) order ≡ set (in_order pool order) i block
 set_order pool block [] i number inside is there once = absurd (omega arith)
 set_order pool block (x ∷ xs) zero number inside is there once =
     let step = times-cons number x xs in
     let one = bit_same x number (sym is) in
-    ap (λ b. b ∷ in_order (set pool number block) xs) (ap (block_at (set pool number block)) (sym is) ∙ get_or-set_same pool number block [] there)
-    ∙ ap (λ l. block ∷ l) (same_order pool (set pool number block) number (set_others pool number block) xs (omega arith))
+    ap (λ b. b ∷ in_order (set pool number block) xs)
+    (ap (block_at (set pool number block)) (sym is) ∙ get_or-set_same pool number block [] there)
+    ∙ ap (λ l. block ∷ l)
+    (same_order pool (set pool number block) number (set_others pool number block) xs (omega arith))
 set_order pool block (x ∷ xs) (suc i) number inside is there once =
     let step = times-cons number x xs in
     let some = times_read xs i number (omega arith) is in
-    ap (λ b. b ∷ in_order (set pool number block) xs) (set_others pool number block x (differs number x xs (omega arith)))
+    ap (λ b. b ∷ in_order (set pool number block) xs)
+    (set_others pool number block x (differs number x xs (omega arith)))
     ∙ ap (λ l. block_at pool x ∷ l) (set_order pool block xs i number (omega arith) is there (omega arith))
 
-map-insert : {X Y : Type 0} (f : X → Y) (xs : List X) (i : ℕ) (x : X) → map f (insert xs i x) ≡ insert (map f xs) i (f x)
+map-insert : {X Y : Type 0} (f : X → Y) (xs : List X) (i : ℕ) (x : X) →
+    map f (insert xs i x) ≡ insert (map f xs) i (f x)
 map-insert f xs i x =
     map-append f (take i xs) (x ∷ drop i xs)
     ∙ ap (λ l. l ++ f x ∷ map f (drop i xs)) (sym (take-map f i xs))
@@ -75,12 +85,14 @@ map-insert f xs i x =
 
 -- ## The block at a place in the order
 
-module _ (pool : List (List Queued)) (order counts free : List ℕ) (p : ArePlaced pool order counts free) (i number : ℕ) (inside : i < length order) (is : number ≡ get_or order i number) where
+module _ (pool : List (List Queued)) (order counts free : List ℕ) (p : ArePlaced pool order counts free)
+    (i number : ℕ) (inside : i < length order) (is : number ≡ get_or order i number) where
   number_once : times number order ≤ 1
   number_once = let once = p.once number in let le = bit_le (nat_lt number (length pool)) in omega arith
 
   pub number_there : number < length pool
-  number_there = let once = p.once number in let some = times_read order i number inside is in has_inside pool number (omega arith)
+  number_there = let once = p.once number in
+      let some = times_read order i number inside is in has_inside pool number (omega arith)
 
   pub block_is : block_at (in_order pool order) i ≡ block_at pool number
   block_is = get_or-map (λ (n : ℕ). block_at pool n) order i number [] inside ∙ ap (block_at pool) (sym is)
@@ -89,13 +101,15 @@ module _ (pool : List (List Queued)) (order counts free : List ℕ) (p : ArePlac
   count_is count read =
       read
       ∙ ap (λ l. get_or l i count) p.counted
-      ∙ get_or-map (λ (block : List Queued). length block) (in_order pool order) i [] count (let same = length-map order (λ (n : ℕ). block_at pool n) in omega arith)
+      ∙ get_or-map (λ (block : List Queued). length block) (in_order pool order) i [] count
+      (let same = length-map order (λ (n : ℕ). block_at pool n) in omega arith)
       ∙ ap (λ (block : List Queued). length block) block_is
 
   pub changed_order : (block : List Queued) → in_order (set pool number block) order ≡ set (in_order pool order) i block
   changed_order block = set_order pool block order i number inside is number_there number_once
 
-  pub changed_placed : (block : List Queued) (count : ℕ) → count ≡ length block → ArePlaced (set pool number block) order (set counts i count) free
+  pub changed_placed : (block : List Queued) (count : ℕ) → count ≡ length block →
+      ArePlaced (set pool number block) order (set counts i count) free
   changed_placed block count long =
       record {
         once = λ n. p.once n ∙ ap (λ k. bit (nat_lt n k)) (sym (length-set pool number block));
@@ -110,26 +124,32 @@ module _ (pool : List (List Queued)) (order counts free : List ℕ) (p : ArePlac
 -- ## A block that comes in
 
 -- the number of a free block is one of the pool's
-pub free_there : (pool : List (List Queued)) (free free' : List ℕ) (number : ℕ) → ((n : ℕ) → times n free ≤ has pool n) → free ≡ free' ++ number ∷ [] → number < length pool
+pub free_there : (pool : List (List Queued)) (free free' : List ℕ) (number : ℕ) →
+    ((n : ℕ) → times n free ≤ has pool n) → free ≡ free' ++ number ∷ [] → number < length pool
 free_there pool free free' number within whole =
     let push = ap (times number) whole ∙ times_push number free' number in
     let one = bit_same number number refl in
     let le = within number in has_inside pool number (omega arith)
 
-pub comes_free : (pool : List (List Queued)) (free free' : List ℕ) (block : List Queued) (number : ℕ) → number < length pool → free ≡ free' ++ number ∷ [] → ComesIn pool free (set pool number block) free' block number
+pub comes_free : (pool : List (List Queued)) (free free' : List ℕ) (block : List Queued) (number : ℕ) →
+    number < length pool → free ≡ free' ++ number ∷ [] → ComesIn pool free (set pool number block) free' block number
 comes_free pool free free' block number inside whole =
     record {
       at = get_or-set_same pool number block [] inside;
       others = set_others pool number block;
       once = λ n.
           let push = ap (times n) whole ∙ times_push n free' number in
-          let same : has (set pool number block) n ≡ has pool n = ap (λ k. bit (nat_lt n k)) (length-set pool number block) in omega arith;
-      all = let push = ap length whole ∙ length_push free' number in let same = length-set pool number block in omega arith;
+          let same : has (set pool number block) n ≡ has pool n = ap (λ k. bit (nat_lt n k))
+          (length-set pool number block) in omega arith;
+      all = let push = ap length whole ∙ length_push free' number in
+          let same = length-set pool number block in omega arith;
       fewer = let push = ap length whole ∙ length_push free' number in omega arith;
       grown = λ l. absurd (let same = length-set pool number block in omega arith);
     }
 
-module _ (pool : List (List Queued)) (order counts free : List ℕ) (p : ArePlaced pool order counts free) (pool' : List (List Queued)) (free' : List ℕ) (block : List Queued) (number : ℕ) (q : ComesIn pool free pool' free' block number) where
+module _ (pool : List (List Queued)) (order counts free : List ℕ) (p : ArePlaced pool order counts free)
+    (pool' : List (List Queued)) (free' : List ℕ) (block : List Queued) (number : ℕ)
+    (q : ComesIn pool free pool' free' block number) where
   fresh : times number order ≡ 0
   fresh =
       let had = p.once number in let come = q.once number in
@@ -141,7 +161,8 @@ module _ (pool : List (List Queued)) (order counts free : List ℕ) (p : ArePlac
       ∙ ap (λ l. insert l i (block_at pool' number)) (same_order pool pool' number q.others order fresh)
       ∙ ap (insert (in_order pool order) i) q.at
 
-  pub come_placed : (i count : ℕ) → i ≤ length order → count ≡ length block → ArePlaced pool' (insert order i number) (insert counts i count) free'
+  pub come_placed : (i count : ℕ) → i ≤ length order → count ≡ length block →
+      ArePlaced pool' (insert order i number) (insert counts i count) free'
   come_placed i count le long =
       record {
         once = λ n.
@@ -157,36 +178,52 @@ module _ (pool : List (List Queued)) (order counts free : List ℕ) (p : ArePlac
 
 -- ## The first block becomes free
 
-pub freed_order : (pool : List (List Queued)) (order counts free : List ℕ) (block : List Queued) (number : ℕ) → ArePlaced pool order counts free → 0 < length order → number ≡ get_or order 0 number → in_order (set pool number block) (remove order 0) ≡ drop 1 (in_order pool order)
+pub freed_order : (pool : List (List Queued)) (order counts free : List ℕ) (block : List Queued) (number : ℕ) →
+    ArePlaced pool order counts free → 0 < length order → number ≡ get_or order 0 number →
+    in_order (set pool number block) (remove order 0) ≡ drop 1 (in_order pool order)
 freed_order pool [] counts free block number p some is = absurd (omega arith)
 freed_order pool (x ∷ xs) counts free block number p some is =
     let once = p.once number in let le = bit_le (nat_lt number (length pool)) in
     let step = times-cons number x xs in let one = bit_same x number (sym is) in
     same_order pool (set pool number block) number (set_others pool number block) xs (omega arith)
 
-pub freed_placed : (pool : List (List Queued)) (order counts free : List ℕ) (block : List Queued) (number : ℕ) → ArePlaced pool order counts free → 0 < length order → number ≡ get_or order 0 number → ArePlaced (set pool number block) (remove order 0) (remove counts 0) (free ++ number ∷ [])
+pub freed_placed : (pool : List (List Queued)) (order counts free : List ℕ) (block : List Queued) (number : ℕ) →
+    ArePlaced pool order counts free → 0 < length order → number ≡ get_or order 0 number →
+    ArePlaced (set pool number block) (remove order 0) (remove counts 0) (free ++ number ∷ [])
 freed_placed pool [] counts free block number p some is = absurd (omega arith)
 freed_placed pool (x ∷ xs) counts free block number p some is =
     record {
       once = λ n.
           let had = p.once n in let step = times-cons n x xs in let push = times_push n free number in
           let first : bit (number == n) ≡ bit (x == n) = ap (λ k. bit (k == n)) is in
-          let same : has (set pool number block) n ≡ has pool n = ap (λ k. bit (nat_lt n k)) (length-set pool number block) in omega arith;
-      all = let had = p.all in let push = length_push free number in let same = length-set pool number block in omega arith;
+          let same : has (set pool number block) n ≡ has pool n = ap (λ k. bit (nat_lt n k))
+          (length-set pool number block) in omega arith;
+      all = let had = p.all in let push = length_push free number in
+          let same = length-set pool number block in omega arith;
       counted =
           ap (λ l. remove l 0) p.counted
-          ∙ ap (map (λ (b : List Queued). length b)) (sym (freed_order pool (x ∷ xs) counts free block number p some is));
+          ∙ ap (map (λ (b : List Queued). length b))
+          (sym (freed_order pool (x ∷ xs) counts free block number p some is));
     }
 
--- ## The first cell taken out
+-- ## A block split, and the first cell taken out
 
-pub without_block : (blocks : List (List Queued)) → length (block_at blocks 0) ≡ 1 → without_first blocks ≡ drop 1 blocks
+pub halved_is : (blocks : List (List Queued)) (i : ℕ) (front back : List Queued) → front ≡ take 32 (block_at blocks i) →
+    back ≡ drop 32 (block_at blocks i) → insert (set blocks i front) (i + 1) back ≡ halved blocks i
+halved_is blocks i front back f b =
+    ap (λ l. insert (set blocks i l) (i + 1) back) f
+    ∙ ap (insert (set blocks i (take 32 (block_at blocks i))) (i + 1)) b
+
+pub without_block : (blocks : List (List Queued)) → length (block_at blocks 0) ≡ 1 →
+    without_first blocks ≡ drop 1 blocks
 without_block [] one = absurd (omega arith)
 without_block (b ∷ bs) one = cond-true (length b == 1) bs (drop 1 b ∷ bs) (eq-eqb (length b) 1 one)
 
-pub without_cell : (blocks : List (List Queued)) → 0 < length blocks → 1 < length (block_at blocks 0) → without_first blocks ≡ set blocks 0 (drop 1 (block_at blocks 0))
+pub without_cell : (blocks : List (List Queued)) → 0 < length blocks → 1 < length (block_at blocks 0) →
+    without_first blocks ≡ set blocks 0 (drop 1 (block_at blocks 0))
 without_cell [] some more = absurd (omega arith)
-without_cell (b ∷ bs) some more = cond-false (length b == 1) bs (drop 1 b ∷ bs) (ne_eqb (length b) 1 (λ e. absurd (omega arith)))
+without_cell (b ∷ bs) some more = cond-false (length b == 1) bs (drop 1 b ∷ bs)
+    (ne_eqb (length b) 1 (λ e. absurd (omega arith)))
 
 -- ## What the fields of the blocks say of their view
 
@@ -199,16 +236,22 @@ pub record Kept (pool : List (List Queued)) (order counts free : List ℕ) (bloc
   pub placed : ArePlaced pool order counts free
   pub seen : in_order pool order ≡ blocks
 
-pub kept : (pool : List (List Queued)) (order counts free : List ℕ) (most : ℕ) (v : BlocksView) → ArePlaced pool order counts free → record { blocks = in_order pool order; most = most } ≡ v → Kept pool order counts free v.blocks
+pub kept : (pool : List (List Queued)) (order counts free : List ℕ) (most : ℕ) (v : BlocksView) →
+    ArePlaced pool order counts free → record { blocks = in_order pool order; most = most } ≡ v →
+    Kept pool order counts free v.blocks
 kept pool order counts free most v p view = record { placed = p; seen = ap (λ (w : BlocksView). w.blocks) view }
 
-pub as_many : (pool : List (List Queued)) (order counts free : List ℕ) (blocks : List (List Queued)) → Kept pool order counts free blocks → length order ≡ length blocks
-as_many pool order counts free blocks w = sym (length-map order (λ (n : ℕ). block_at pool n)) ∙ ap (λ (l : List (List Queued)). length l) w.seen
+pub as_many : (pool : List (List Queued)) (order counts free : List ℕ) (blocks : List (List Queued)) →
+    Kept pool order counts free blocks → length order ≡ length blocks
+as_many pool order counts free blocks w = sym (length-map order (λ (n : ℕ). block_at pool n))
+    ∙ ap (λ (l : List (List Queued)). length l) w.seen
 
-pub as_many_counts : (pool : List (List Queued)) (order counts free : List ℕ) (blocks : List (List Queued)) → Kept pool order counts free blocks → counts ≡ map (λ (b : List Queued). length b) blocks
+pub as_many_counts : (pool : List (List Queued)) (order counts free : List ℕ) (blocks : List (List Queued)) →
+    Kept pool order counts free blocks → counts ≡ map (λ (b : List Queued). length b) blocks
 as_many_counts pool order counts free blocks w = w.placed.counted ∙ ap (map (λ (b : List Queued). length b)) w.seen
 
-sum_counts : (blocks : List (List Queued)) → sum_by (λ n. n) (map (λ (b : List Queued). length b) blocks) ≡ cells_in_all blocks
+sum_counts : (blocks : List (List Queued)) →
+    sum_by (λ n. n) (map (λ (b : List Queued). length b) blocks) ≡ cells_in_all blocks
 sum_counts [] = refl
 sum_counts (b ∷ bs) =
     let rest = sum_counts bs in
@@ -216,23 +259,31 @@ sum_counts (b ∷ bs) =
     let step = sum_by-cons (λ (block : List Queued). length block) b bs in omega arith
 
 -- the counts ahead of a place add up to the cells ahead
-pub counts_ahead : (pool : List (List Queued)) (order counts free : List ℕ) (blocks : List (List Queued)) → Kept pool order counts free blocks → (place : ℕ) → sum_by (λ n. n) (take place counts) ≡ cells_in_all (take place blocks)
+pub counts_ahead : (pool : List (List Queued)) (order counts free : List ℕ) (blocks : List (List Queued)) →
+    Kept pool order counts free blocks → (place : ℕ) →
+    sum_by (λ n. n) (take place counts) ≡ cells_in_all (take place blocks)
 counts_ahead pool order counts free blocks w place =
     ap (λ (l : List ℕ). sum_by (λ n. n) (take place l)) (as_many_counts pool order counts free blocks w)
     ∙ ap (λ (l : List ℕ). sum_by (λ n. n) l) (take-map (λ (b : List Queued). length b) place blocks)
     ∙ sum_counts (take place blocks)
 
-pub counts_all : (pool : List (List Queued)) (order counts free : List ℕ) (blocks : List (List Queued)) → Kept pool order counts free blocks → sum_by (λ n. n) counts ≡ cells_in_all blocks
+pub counts_all : (pool : List (List Queued)) (order counts free : List ℕ) (blocks : List (List Queued)) →
+    Kept pool order counts free blocks → sum_by (λ n. n) counts ≡ cells_in_all blocks
 counts_all pool order counts free blocks w =
     ap (λ (l : List ℕ). sum_by (λ n. n) l) (as_many_counts pool order counts free blocks w) ∙ sum_counts blocks
 
 -- where a count is more than nothing, there is a block
-pub count_there : (pool : List (List Queued)) (order counts free : List ℕ) (blocks : List (List Queued)) → Kept pool order counts free blocks → (place within : ℕ) → within < get_or counts place 0 → place < length blocks
+pub count_there : (pool : List (List Queued)) (order counts free : List ℕ) (blocks : List (List Queued)) →
+    Kept pool order counts free blocks → (place within : ℕ) → within < get_or counts place 0 → place < length blocks
 count_there pool order counts free blocks w place within some =
-    let size = ap (λ (l : List ℕ). length l) (as_many_counts pool order counts free blocks w) ∙ length-map blocks (λ (b : List Queued). length b) in
-    ⊎_elim (λ l. l) (λ past. absurd (let none = get_or_past counts place 0 (omega arith) in omega arith)) (cases_lt place (length blocks))
+    let size = ap (λ (l : List ℕ). length l) (as_many_counts pool order counts free blocks w)
+    ∙ length-map blocks (λ (b : List Queued). length b) in
+    ⊎_elim (λ l. l) (λ past. absurd (let none = get_or_past counts place 0 (omega arith) in omega arith))
+    (cases_lt place (length blocks))
 
-module _ (pool : List (List Queued)) (order counts free : List ℕ) (blocks : List (List Queued)) (w : Kept pool order counts free blocks) (i number : ℕ) (inside : i < length blocks) (is : number ≡ get_or order i number) where
+module _ (pool : List (List Queued)) (order counts free : List ℕ) (blocks : List (List Queued))
+    (w : Kept pool order counts free blocks) (i number : ℕ) (inside : i < length blocks)
+    (is : number ≡ get_or order i number) where
   pub in_order_there : i < length order
   in_order_there = let many = as_many pool order counts free blocks w in omega arith
 
@@ -246,14 +297,17 @@ module _ (pool : List (List Queued)) (order counts free : List ℕ) (blocks : Li
       ∙ sym (block_is pool order counts free w.placed i number in_order_there is)
       ∙ ap (λ (l : List (List Queued)). block_at l i) w.seen
 
-  pub read_count : (count : ℕ) (read : List Queued) → count ≡ get_or counts i count → read ≡ get_or pool number read → count ≡ length read
+  pub read_count : (count : ℕ) (read : List Queued) → count ≡ get_or counts i count →
+      read ≡ get_or pool number read → count ≡ length read
   read_count count read e f =
       count_is pool order counts free w.placed i number in_order_there is count e
       ∙ ap (λ (b : List Queued). length b) (sym (get_or_read pool number read in_pool f []))
 
   pub seen_changed : (block : List Queued) → in_order (set pool number block) order ≡ set blocks i block
   seen_changed block =
-      changed_order pool order counts free w.placed i number in_order_there is block ∙ ap (λ (l : List (List Queued)). set l i block) w.seen
+      changed_order pool order counts free w.placed i number in_order_there is block
+      ∙ ap (λ (l : List (List Queued)). set l i block) w.seen
 
-  pub placed_changed : (block : List Queued) (count : ℕ) → count ≡ length block → ArePlaced (set pool number block) order (set counts i count) free
+  pub placed_changed : (block : List Queued) (count : ℕ) → count ≡ length block →
+      ArePlaced (set pool number block) order (set counts i count) free
   placed_changed = changed_placed pool order counts free w.placed i number in_order_there is

@@ -11,12 +11,15 @@ use Rattle.cq_base.proofs.Keys.{key_laws}
 use Rattle.cq_base.proofs.Lists.{all_at, all_by}
 use Rattle.cq_urgency.proofs.Halving.{cushion_none, cushion_first}
 
-all_put : (P : Queued → Type 0) (c : Queued) (xs : List Queued) → P c → AllByRecursion P xs → AllByRecursion P (put c xs)
+all_put : (P : Queued → Type 0) (c : Queued) (xs : List Queued) → P c → AllByRecursion P xs →
+    AllByRecursion P (put c xs)
 all_put P c [] p a = (p, tt)
-all_put P c (x ∷ xs) p a = cond_both (is_before c.key x.key) (c ∷ x ∷ xs) (x ∷ put c xs) (AllByRecursion P) (λ _. (p, a)) (λ _. (a.0, all_put P c xs p a.1))
+all_put P c (x ∷ xs) p a = cond_both (is_before c.key x.key) (c ∷ x ∷ xs) (x ∷ put c xs) (AllByRecursion P)
+    (λ _. (p, a)) (λ _. (a.0, all_put P c xs p a.1))
 
 -- what comes before the first cell of a rising list comes before all
-before_all : (c x : Queued) (xs : List Queued) → IsBefore c x → AllByRecursion (IsBefore x) xs → AllByRecursion (IsBefore c) xs
+before_all : (c x : Queued) (xs : List Queued) → IsBefore c x → AllByRecursion (IsBefore x) xs →
+    AllByRecursion (IsBefore c) xs
 before_all c x [] e a = tt
 before_all c x (y ∷ ys) e a = (key_laws.on c.key x.key y.key e a.0, before_all c x ys e a.1)
 
@@ -25,18 +28,23 @@ after_other : (a b : Key) → is_before a b ≡ false → b ≢ a → is_before 
 after_other a b h ne = ⊎_elim (λ e. e) (λ e. absurd (ne (sym (key_laws.alike a b h e)))) (cases_Bool (is_before b a))
 
 -- where a cell is before the first of a rising list, no cell of the list has a lesser key
-none_before : (c x : Queued) (xs : List Queued) → IsBefore c x → AllByRecursion (IsBefore x) xs → AllByRecursion (λ y. is_before y.key c.key ≡ false) xs
+none_before : (c x : Queued) (xs : List Queued) → IsBefore c x → AllByRecursion (IsBefore x) xs →
+    AllByRecursion (λ y. is_before y.key c.key ≡ false) xs
 none_before c x [] e a = tt
-none_before c x (y ∷ ys) e a = (key_laws.one_way c.key y.key (key_laws.on c.key x.key y.key e a.0), none_before c x ys e a.1)
+none_before c x (y ∷ ys) e
+    a = (key_laws.one_way c.key y.key (key_laws.on c.key x.key y.key e a.0), none_before c x ys e a.1)
 
 -- a cell goes in behind those of lesser key
-pub put_is : (c : Queued) (xs : List Queued) → IsRising xs → HasOtherKey c xs → insert xs (cushion c.key xs) c ≡ put c xs
+pub put_is : (c : Queued) (xs : List Queued) → IsRising xs → HasOtherKey c xs →
+    insert xs (cushion c.key xs) c ≡ put c xs
 put_is c [] r other = refl
 put_is c (x ∷ xs) r other =
     cond_both (is_before c.key x.key) (c ∷ x ∷ xs) (x ∷ put c xs) (λ l. insert (x ∷ xs) (cushion c.key (x ∷ xs)) c ≡ l)
-    (λ e. ap (λ n. insert (x ∷ xs) n c) (cushion_none c.key (x ∷ xs) (key_laws.one_way c.key x.key e, none_before c x xs e r.0)))
+    (λ e. ap (λ n. insert (x ∷ xs) n c)
+    (cushion_none c.key (x ∷ xs) (key_laws.one_way c.key x.key e, none_before c x xs e r.0)))
     (λ e.
-    ap (λ n. insert (x ∷ xs) n c) (cushion_first c.key x xs (after_other c.key x.key e other.0)) ∙ ap (λ l. x ∷ l) (put_is c xs r.1 other.1))
+    ap (λ n. insert (x ∷ xs) n c) (cushion_first c.key x xs (after_other c.key x.key e other.0))
+    ∙ ap (λ l. x ∷ l) (put_is c xs r.1 other.1))
 
 pub rising_put : (c : Queued) (xs : List Queued) → IsRising xs → HasOtherKey c xs → IsRising (put c xs)
 rising_put c [] r other = (tt, tt)
@@ -46,14 +54,18 @@ rising_put c (x ∷ xs) r other =
     (λ e. (all_put (IsBefore x) c xs (after_other c.key x.key e other.0) r.0, rising_put c xs r.1 other.1))
 
 -- all arrived before the next slot
-pub arrived_put : (c : Queued) (xs : List Queued) → ArrivedBefore c.key.slot xs → ArrivedBefore (c.key.slot + 1) (put c xs)
-arrived_put c xs before = all_put _ c xs (omega arith) (all_by _ xs (λ t x at. let older = all_at (λ y. y.key.slot < c.key.slot) xs t x before at in omega arith))
+pub arrived_put : (c : Queued) (xs : List Queued) → ArrivedBefore c.key.slot xs →
+    ArrivedBefore (c.key.slot + 1) (put c xs)
+arrived_put c xs before = all_put _ c xs (omega arith)
+    (all_by _ xs (λ t x at. let older = all_at (λ y. y.key.slot < c.key.slot) xs t x before at in omega arith))
 
 pub length_put : (c : Queued) (xs : List Queued) → length (put c xs) ≡ length xs + 1
 length_put c [] = refl
-length_put c (x ∷ xs) = cond_both (is_before c.key x.key) (c ∷ x ∷ xs) (x ∷ put c xs) (λ l. length l ≡ length (x ∷ xs) + 1) (λ _. omega arith) (λ _. let rest = length_put c xs in omega arith)
+length_put c (x ∷ xs) = cond_both (is_before c.key x.key) (c ∷ x ∷ xs) (x ∷ put c xs)
+    (λ l. length l ≡ length (x ∷ xs) + 1) (λ _. omega arith) (λ _. let rest = length_put c xs in omega arith)
 
 -- and so did those that are left
 pub arrived_left : (slot : ℕ) (xs : List Queued) → ArrivedBefore slot xs → ArrivedBefore (slot + 1) (drop 1 xs)
 arrived_left slot [] before = tt
-arrived_left slot (x ∷ xs) before = all_by _ xs (λ t y at. let older = all_at (λ z. z.key.slot < slot) xs t y before.1 at in omega arith)
+arrived_left slot (x ∷ xs) before = all_by _ xs
+    (λ t y at. let older = all_at (λ z. z.key.slot < slot) xs t y before.1 at in omega arith)

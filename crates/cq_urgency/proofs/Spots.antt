@@ -30,7 +30,8 @@ all_right : (P : Queued → Type 0) (xs ys : List Queued) → AllByRecursion P (
 all_right P [] ys a = a
 all_right P (x ∷ xs) ys a = all_right P xs ys a.1
 
-all_weaker : (P Q : Queued → Type 0) → ((x : Queued) → P x → Q x) → (xs : List Queued) → AllByRecursion P xs → AllByRecursion Q xs
+all_weaker : (P Q : Queued → Type 0) → ((x : Queued) → P x → Q x) → (xs : List Queued) → AllByRecursion P xs →
+    AllByRecursion Q xs
 all_weaker P Q f [] a = tt
 all_weaker P Q f (x ∷ xs) a = (f x a.0, all_weaker P Q f xs a.1)
 
@@ -53,11 +54,8 @@ rising_block (b ∷ bs) (suc i) r = rising_block bs i (rising_right b (flattened
 
 -- ## Ahead of a block, and from a block on
 
-pub starts_shown : (key : Key) (block : List Queued) (x : Queued) → slice_get block 0 ≡ Some x → starts_before key block ≡ is_before x.key key
-starts_shown key [] x e = cc
-starts_shown key (y ∷ ys) x e = ap (λ (z : Queued). is_before z.key key) (let same : y ≡ x = cc in same)
-
-lesser_ahead : (key : Key) (blocks : List (List Queued)) (i : ℕ) → starts_before key (block_at blocks i) ≡ true → (x : Queued) → AllByRecursion (IsBefore x) (flattened blocks) → is_before x.key key ≡ true
+lesser_ahead : (key : Key) (blocks : List (List Queued)) (i : ℕ) → starts_before key (block_at blocks i) ≡ true →
+    (x : Queued) → AllByRecursion (IsBefore x) (flattened blocks) → is_before x.key key ≡ true
 lesser_ahead key [] i e x a = cc
 lesser_ahead key ([] ∷ bs) zero e x a = cc
 lesser_ahead key ((y ∷ ys) ∷ bs) zero e x a = key_laws.on x.key y.key key a.0 e
@@ -75,17 +73,27 @@ filled_some : (blocks : List (List Queued)) → AreFilled blocks → AreSome blo
 filled_some [] f = tt
 filled_some (b ∷ bs) f = (f.0, longer_some bs f.1)
 
-none_lesser : (key : Key) (x : Queued) (xs : List Queued) → is_before x.key key ≡ false → AllByRecursion (IsBefore x) xs → cushion key (x ∷ xs) ≡ 0
+none_lesser : (key : Key) (x : Queued) (xs : List Queued) → is_before x.key key ≡ false →
+    AllByRecursion (IsBefore x) xs → cushion key (x ∷ xs) ≡ 0
 none_lesser key x xs first after =
-    cushion_none key (x ∷ xs)
-    (first, all_weaker (IsBefore x) (λ y. is_before y.key key ≡ false) (λ y before. ⊎_elim (λ t. absurd (let on = key_laws.on x.key y.key key before t in let P : ⊥ = cc in P)) (λ f. f) (cases_Bool (is_before y.key key))) xs after)
+    cushion_none key (x ∷ xs) (
+      first,
+      all_weaker (IsBefore x) (λ y. is_before y.key key ≡ false)
+          (λ y before.
+          ⊎_elim (λ t. absurd (let on = key_laws.on x.key y.key key before t in let P : ⊥ = cc in P)) (λ f. f)
+          (cases_Bool (is_before y.key key))) xs after,
+    )
 
-none_behind : (key : Key) (blocks : List (List Queued)) → IsRising (flattened blocks) → AreSome blocks → (0 < length blocks → starts_before key (block_at blocks 0) ≡ false) → cushion key (flattened blocks) ≡ 0
+none_behind : (key : Key) (blocks : List (List Queued)) → IsRising (flattened blocks) → AreSome blocks →
+    (0 < length blocks → starts_before key (block_at blocks 0) ≡ false) → cushion key (flattened blocks) ≡ 0
 none_behind key [] r some first = cushion_none key [] tt
 none_behind key ([] ∷ bs) r some first = absurd (let l = some.0 in omega arith)
 none_behind key ((x ∷ xs) ∷ bs) r some first = none_lesser key x (xs ++ flattened bs) (first (omega arith)) r.0
 
-cushion_in : (key : Key) (blocks : List (List Queued)) (i : ℕ) → IsRising (flattened blocks) → AreSome blocks → i < length blocks → starts_before key (block_at blocks i) ≡ true → (i + 1 < length blocks → starts_before key (block_at blocks (i + 1)) ≡ false) → length (flattened (take i blocks)) + cushion key (block_at blocks i) ≡ cushion key (flattened blocks)
+cushion_in : (key : Key) (blocks : List (List Queued)) (i : ℕ) → IsRising (flattened blocks) → AreSome blocks →
+    i < length blocks → starts_before key (block_at blocks i) ≡ true →
+    (i + 1 < length blocks → starts_before key (block_at blocks (i + 1)) ≡ false) →
+    length (flattened (take i blocks)) + cushion key (block_at blocks i) ≡ cushion key (flattened blocks)
 cushion_in key [] i r some inside e behind = absurd (omega arith)
 cushion_in key (b ∷ bs) zero r some inside e behind =
     let both = cushion-append key b (flattened bs) in
@@ -93,62 +101,75 @@ cushion_in key (b ∷ bs) zero r some inside e behind =
 cushion_in key (b ∷ bs) (suc i) r some inside e behind =
     let next : suc i + 1 ≡ suc (i + 1) = omega arith in
     let both = cushion-append key b (flattened bs) in
-    let all = cushion_all key b (all_weaker (λ x. AllByRecursion (IsBefore x) (flattened bs)) (λ x. is_before x.key key ≡ true) (lesser_ahead key bs i e) b (rising_apart b (flattened bs) r)) in
-    let rest = cushion_in key bs i (rising_right b (flattened bs) r) some.1 (omega arith) e (λ l. ap (λ n. starts_before key (block_at (b ∷ bs) n)) (sym next) ∙ behind (omega arith)) in
+    let all = cushion_all key b
+    (all_weaker (λ x. AllByRecursion (IsBefore x) (flattened bs)) (λ x. is_before x.key key ≡ true)
+    (lesser_ahead key bs i e) b (rising_apart b (flattened bs) r)) in
+    let rest = cushion_in key bs i (rising_right b (flattened bs) r) some.1 (omega arith) e
+    (λ l. ap (λ n. starts_before key (block_at (b ∷ bs) n)) (sym next) ∙ behind (omega arith)) in
     let size = length-append b (flattened (take i bs)) in omega arith
 
 -- ## The spot of a key
 
 module _ (key : Key) (blocks : List (List Queued)) (r : IsRising (flattened blocks)) (f : AreFilled blocks) where
-  pub spot_first : (place : ℕ) → AreBegun key blocks place → place ≡ 0 → 0 < length blocks → IsSpot blocks (cushion key (flattened blocks)) 0 0
+  pub spot_first : (place : ℕ) → AreBegun key blocks place → place ≡ 0 → 0 < length blocks →
+      IsSpot blocks (cushion key (flattened blocks)) 0 0
   spot_first place begun none some =
       record {
         inside = some;
         short = omega arith;
         at =
-            let all = none_behind key blocks r (filled_some blocks f) (λ l. ap (λ n. starts_before key (block_at blocks n)) (sym none) ∙ begun.behind (omega arith)) in
+            let all = none_behind key blocks r (filled_some blocks f)
+            (λ l. ap (λ n. starts_before key (block_at blocks n)) (sym none) ∙ begun.behind (omega arith)) in
             omega arith;
       }
 
-  pub spot_in : (place block within : ℕ) → AreBegun key blocks place → block + 1 ≡ place → within ≡ cushion key (block_at blocks block) → IsSpot blocks (cushion key (flattened blocks)) block within
+  pub spot_in : (place block within : ℕ) → AreBegun key blocks place → block + 1 ≡ place →
+      within ≡ cushion key (block_at blocks block) → IsSpot blocks (cushion key (flattened blocks)) block within
   spot_in place block within begun next is =
       let le = begun.inside in
       record {
         inside = omega arith;
         short = let few = cushion_le key (block_at blocks block) in omega arith;
         at =
-            let all = cushion_in key blocks block r (filled_some blocks f) (omega arith) (begun.before block next) (λ l. ap (λ n. starts_before key (block_at blocks n)) next ∙ begun.behind (omega arith)) in
+            let all = cushion_in key blocks block r (filled_some blocks f) (omega arith) (begun.before block next)
+            (λ l. ap (λ n. starts_before key (block_at blocks n)) next ∙ begun.behind (omega arith)) in
             let size = length-flattened (take block blocks) in omega arith;
       }
 
 -- ## The spot where a block was split
 
-module _ (blocks : List (List Queued)) (ahead i o : ℕ) (spot : IsSpot blocks ahead i o) (full : length (block_at blocks i) ≡ 64) where
+module _ (blocks : List (List Queued)) (ahead i o : ℕ) (spot : IsSpot blocks ahead i o)
+    (full : length (block_at blocks i) ≡ 64) where
   pub longer : length (halved blocks i) ≡ length blocks + 1
   longer =
       let same = length-set blocks i (take 32 (block_at blocks i)) in
       let inside = spot.inside in
-      length-insert (set blocks i (take 32 (block_at blocks i))) (i + 1) (drop 32 (block_at blocks i)) (omega arith) ∙ ap (λ n. n + 1) same
+      length-insert (set blocks i (take 32 (block_at blocks i))) (i + 1) (drop 32 (block_at blocks i)) (omega arith)
+      ∙ ap (λ n. n + 1) same
 
   first_half : block_at (halved blocks i) i ≡ take 32 (block_at blocks i)
   first_half =
       let same = length-set blocks i (take 32 (block_at blocks i)) in
       let inside = spot.inside in
-      get_or-insert_below (set blocks i (take 32 (block_at blocks i))) (i + 1) (drop 32 (block_at blocks i)) [] i (omega arith) (omega arith)
+      get_or-insert_below (set blocks i (take 32 (block_at blocks i))) (i + 1) (drop 32 (block_at blocks i)) [] i
+      (omega arith) (omega arith)
       ∙ get_or-set_same blocks i (take 32 (block_at blocks i)) [] inside
 
   second_half : block_at (halved blocks i) (i + 1) ≡ drop 32 (block_at blocks i)
   second_half =
       let same = length-set blocks i (take 32 (block_at blocks i)) in
       let inside = spot.inside in
-      get_or-insert_at (set blocks i (take 32 (block_at blocks i))) (i + 1) (drop 32 (block_at blocks i)) [] (omega arith)
+      get_or-insert_at (set blocks i (take 32 (block_at blocks i))) (i + 1) (drop 32 (block_at blocks i)) []
+      (omega arith)
 
   ahead_same : take i (halved blocks i) ≡ take i blocks
   ahead_same =
       let same = length-set blocks i (take 32 (block_at blocks i)) in
       let inside = spot.inside in
-      let long : i ≤ length (take (i + 1) (set blocks i (take 32 (block_at blocks i)))) = let len = length-take (i + 1) (set blocks i (take 32 (block_at blocks i))) in omega arith in
-      take-append-le i (take (i + 1) (set blocks i (take 32 (block_at blocks i)))) (drop 32 (block_at blocks i) ∷ drop (i + 1) (set blocks i (take 32 (block_at blocks i)))) long
+      let long : i ≤ length (take (i + 1) (set blocks i (take 32 (block_at blocks i)))) = let len = length-take
+      (i + 1) (set blocks i (take 32 (block_at blocks i))) in omega arith in
+      take-append-le i (take (i + 1) (set blocks i (take 32 (block_at blocks i))))
+      (drop 32 (block_at blocks i) ∷ drop (i + 1) (set blocks i (take 32 (block_at blocks i)))) long
       ∙ take-take i (i + 1) (set blocks i (take 32 (block_at blocks i))) (omega arith)
       ∙ take-set blocks i (take 32 (block_at blocks i))
 

@@ -28,7 +28,8 @@ cells_in_all blocks = sum_by (λ block. length block) blocks
 
 -- with the block at this place split in two, of which the first has 32 cells
 abbrev pub halved : List (List Queued) → ℕ → List (List Queued)
-halved blocks place = insert (slice_set blocks place (take 32 (block_at blocks place))) (place + 1) (drop 32 (block_at blocks place))
+halved blocks place =
+    insert (slice_set blocks place (take 32 (block_at blocks place))) (place + 1) (drop 32 (block_at blocks place))
 
 -- without the first cell, and without its block where this was the only cell of it
 abbrev pub without_first : List (List Queued) → List (List Queued)
@@ -53,7 +54,8 @@ times n numbers = sum_by (λ other. bit (other == n)) numbers
 abbrev pub has : List (List Queued) → ℕ → ℕ
 has pool n = bit (nat_lt n (length pool))
 
--- each block of the pool stands once, in the order or among the free ones, and each count says how many cells its block has
+-- each block of the pool stands once, in the order or among the free ones, and each count says how many cells its block
+-- has
 pub record ArePlaced (pool : List (List Queued)) (order counts free : List ℕ) : Type 0 where
   pub once : (n : ℕ) → times n order + times n free ≡ has pool n
   pub all : length order + length free ≡ length pool
@@ -68,7 +70,8 @@ pub record HaveMemory (most pool in_pool in_order in_counts in_free : ℕ) : Typ
   pub freed : most ≤ in_free
 
 -- a block came in under this number, which was free or is new
-pub record ComesIn (pool : List (List Queued)) (free : List ℕ) (pool' : List (List Queued)) (free' : List ℕ) (block : List Queued) (number : ℕ) : Type 0 where
+pub record ComesIn (pool : List (List Queued)) (free : List ℕ) (pool' : List (List Queued)) (free' : List ℕ)
+    (block : List Queued) (number : ℕ) : Type 0 where
   pub at : block_at pool' number ≡ block
   pub others : (n : ℕ) → n ≢ number → block_at pool' n ≡ block_at pool n
   pub once : (n : ℕ) → times n free' + bit (number == n) + has pool n ≡ times n free + has pool' n

@@ -21,7 +21,8 @@ abbrev pub AreFilled : List (List Queued) → Type 0
 AreFilled [] = Unit {0}
 AreFilled (block ∷ blocks) = (0 < length block) × AllByRecursion (λ other. 32 ≤ length other) blocks
 
--- what holds of the blocks of each buffer: the cells rise in their keys, and there can be as many blocks as ever are needed
+-- what holds of the blocks of each buffer: the cells rise in their keys, and there can be as many blocks as ever are
+-- needed
 pub record IsBuffer (blocks : List (List Queued)) (most len room : ℕ) : Type 0 where
   pub rising : IsRising (flattened blocks)
   pub filled : AreFilled blocks

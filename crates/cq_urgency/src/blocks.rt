@@ -8,13 +8,13 @@ use cq_base::{NoMemory, Queued};
 use std::alloc::Global;
 use std::marker::Model;
 
-/// Cells in blocks of at most 64. Contracts see the cells of each block, in the order of the blocks, and how many blocks
-/// there can be.
+/// Cells in blocks of at most 64. Contracts see the cells of each block, in the order of the blocks, and how many
+/// blocks there can be.
 ///
 /// The blocks stand in a pool and stay where they are. The order has their numbers, and beside it the counts say how
 /// many cells each block has: so to put a block in between two others moves numbers and no cells, and to count the
-/// cells ahead of a block reads counts that stand next to each other, and no block. An emptied block is free, and is used
-/// again before the pool grows. All memory is reserved at the start, and none of it is touched before it is used.
+/// cells ahead of a block reads counts that stand next to each other, and no block. An emptied block is free, and is
+/// used again before the pool grows. All memory is reserved at the start, and none of it is touched before it is used.
 #[derive(Drop)]
 pub struct Blocks {
     pool: Vec<Block>,

@@ -17,8 +17,8 @@ use std::marker::Model;
 /// The block of a key is found by halving, on the first cells of the blocks, and its place there by halving in the
 /// block. A cushion adds the counts of the blocks ahead, which is one addition a block.
 ///
-/// A full block is split in half where a cell comes in, and only the first block loses cells. So each other block has 32
-/// cells at least, and a 32nd of the room and one more is enough blocks.
+/// A full block is split in half where a cell comes in, and only the first block loses cells. So each other block has
+/// 32 cells at least, and a 32nd of the room and one more is enough blocks.
 #[derive(Drop)]
 pub struct OutputBuffer {
     blocks: Blocks,

@@ -11,5 +11,6 @@ returns c =
     let cells = c.args.cells.now in
     let key = c.args.key in
     let test = λ (x : Queued). is_before x.key key in
-    let point = IsPartitionPoint-from_clause test cells c.partition_point.result c.partition_point.ensures.partitioned (lesser_part key cells c.requires) (λ a r f k. search rules) in
+    let point = IsPartitionPoint-from_clause test cells c.partition_point.result
+    c.partition_point.ensures.partitioned (lesser_part key cells c.requires) (λ a r f k. search rules) in
     passed_at_point test cells c.partition_point.result c.partition_point.ensures.bound point

@@ -4,9 +4,11 @@ use Rattle.cq_urgency.proofs.blocks.put_block.Goals as goal
 
 pub index_mut-requires : goal.index_mut-requires
 index_mut-requires c =
-    let there = free_there c.args.pool.now.items c.args.free.now.items _ c.in-Some.number c.requires.within c.in-Some.ensures.items in omega arith
+    let there = free_there c.args.pool.now.items c.args.free.now.items _ c.in-Some.number c.requires.within
+    c.in-Some.ensures.items in omega arith
 
 pub returns-in-Some-clause-comes : goal.returns-in-Some-clause-comes
 returns-in-Some-clause-comes c =
-    let there = free_there c.args.pool.now.items c.args.free.now.items _ c.in-Some.number c.requires.within c.in-Some.ensures.items in
+    let there = free_there c.args.pool.now.items c.args.free.now.items _ c.in-Some.number c.requires.within
+    c.in-Some.ensures.items in
     comes_free _ _ _ _ _ there c.in-Some.ensures.items

@@ -5,14 +5,17 @@ use Rattle.cq_urgency.proofs.output_buffer.spot_of.Goals as goal
 
 pub returns-then-place-eq0 : goal.returns-then-place-eq0
 returns-then-place-eq0 c =
-    spot_first c.args.key c.args.blocks.now.blocks c.requires.rising c.requires.filled c.begun-place.result c.begun-place.ensures c.if-place-eq0.true c.requires.some
+    spot_first c.args.key c.args.blocks.now.blocks c.requires.rising c.requires.filled c.begun-place.result
+    c.begun-place.ensures c.if-place-eq0.true c.requires.some
 
 pub cushion-requires : goal.cushion-requires
-cushion-requires c = subst IsRising (sym c.block.ensures) (rising_block c.args.blocks.now.blocks (c.begun-place.result - 1) c.requires.rising)
+cushion-requires c = subst IsRising (sym c.block.ensures)
+    (rising_block c.args.blocks.now.blocks (c.begun-place.result - 1) c.requires.rising)
 
 pub returns : goal.returns
 returns c =
     let some = c.if-place-eq0.false in
     let next : c.begun-place.result - 1 + 1 ≡ c.begun-place.result = omega arith in
-    spot_in c.args.key c.args.blocks.now.blocks c.requires.rising c.requires.filled c.begun-place.result (c.begun-place.result - 1) c.cushion.result c.begun-place.ensures next
+    spot_in c.args.key c.args.blocks.now.blocks c.requires.rising c.requires.filled c.begun-place.result
+    (c.begun-place.result - 1) c.cushion.result c.begun-place.ensures next
     (c.cushion.ensures ∙ ap (cushion c.args.key) c.block.ensures)

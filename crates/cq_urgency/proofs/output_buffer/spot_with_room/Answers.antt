@@ -19,22 +19,26 @@ pub split-requires-clause-room : goal.split-requires-clause-room
 split-requires-clause-room c =
     let all = full c.len.result _ _ c.len.ensures.len c.len.ensures.fits c.if-len-lt64.false c.block.ensures in
     let spot = c.spot_of-spot.ensures in
-    room_to_split c.args.blocks.now.blocks c.spot_of-spot.result.block c.args.blocks.now.most c.args.room c.requires.filled spot.inside all (longer _ _ _ _ spot all) c.requires.fits c.requires.enough
+    room_to_split c.args.blocks.now.blocks c.spot_of-spot.result.block c.args.blocks.now.most c.args.room
+    c.requires.filled spot.inside all (longer _ _ _ _ spot all) c.requires.fits c.requires.enough
 
 pub in_halves-requires : goal.in_halves-requires
 in_halves-requires c =
     let all = full c.len.result _ _ c.len.ensures.len c.len.ensures.fits c.if-len-lt64.false c.block.ensures in
     let spot = c.spot_of-spot.ensures in
-    let few = room_to_split c.args.blocks.now.blocks c.spot_of-spot.result.block c.args.blocks.now.most c.args.room c.requires.filled spot.inside all (longer _ _ _ _ spot all) c.requires.fits c.requires.enough in
+    let few = room_to_split c.args.blocks.now.blocks c.spot_of-spot.result.block c.args.blocks.now.most c.args.room
+    c.requires.filled spot.inside all (longer _ _ _ _ spot all) c.requires.fits c.requires.enough in
     let inside = spot.inside in let enough = c.requires.enough in let small = c.ranges.room in omega arith
 
 pub returns-clause-cells : goal.returns-clause-cells
-returns-clause-cells c = ap flattened c.split.ensures.blocks ∙ flattened-halved c.args.blocks.now.blocks c.spot_of-spot.result.block c.spot_of-spot.ensures.inside
+returns-clause-cells c = ap flattened c.split.ensures.blocks
+    ∙ flattened-halved c.args.blocks.now.blocks c.spot_of-spot.result.block c.spot_of-spot.ensures.inside
 
 pub returns-clause-filled : goal.returns-clause-filled
 returns-clause-filled c =
     let all = full c.len.result _ _ c.len.ensures.len c.len.ensures.fits c.if-len-lt64.false c.block.ensures in
-    subst AreFilled (sym c.split.ensures.blocks) (filled_halved c.args.blocks.now.blocks c.spot_of-spot.result.block c.requires.filled all)
+    subst AreFilled (sym c.split.ensures.blocks)
+    (filled_halved c.args.blocks.now.blocks c.spot_of-spot.result.block c.requires.filled all)
 
 pub returns-clause-spot : goal.returns-clause-spot
 returns-clause-spot c =
@@ -42,13 +46,16 @@ returns-clause-spot c =
     let spot = c.spot_of-spot.ensures in
     let ahead : ℕ = cushion c.args.key (flattened c.args.blocks.now.blocks) in
     let split : List (List Queued) = halved c.args.blocks.now.blocks c.spot_of-spot.result.block in
-    subst (λ (l : List (List Queued)). IsSpot l ahead c.in_halves.result.block c.in_halves.result.within) (sym c.split.ensures.blocks)
+    subst (λ (l : List (List Queued)). IsSpot l ahead c.in_halves.result.block c.in_halves.result.within)
+    (sym c.split.ensures.blocks)
     (⊎_elim
     (λ late.
     let moved = c.in_halves.ensures.back late in
-    subst (λ (b : ℕ). IsSpot split ahead b c.in_halves.result.within) (sym moved.0) (in_back_half _ _ _ _ spot all c.in_halves.result.within moved.1))
+    subst (λ (b : ℕ). IsSpot split ahead b c.in_halves.result.within) (sym moved.0)
+    (in_back_half _ _ _ _ spot all c.in_halves.result.within moved.1))
     (λ early.
-    subst (λ (s : Spot). IsSpot split ahead s.block s.within) (sym (c.in_halves.ensures.front early)) (in_front_half _ _ _ _ spot all early))
+    subst (λ (s : Spot). IsSpot split ahead s.block s.within) (sym (c.in_halves.ensures.front early))
+    (in_front_half _ _ _ _ spot all early))
     (cases_lt 32 c.spot_of-spot.result.within))
 
 pub returns-clause-room : goal.returns-clause-room
@@ -58,6 +65,8 @@ returns-clause-room c =
     let split : List (List Queued) = halved c.args.blocks.now.blocks c.spot_of-spot.result.block in
     subst (λ (l : List (List Queued)). length (block_at l c.in_halves.result.block) < 64) (sym c.split.ensures.blocks)
     (⊎_elim
-    (λ late. let size = ap (λ (b : ℕ). length (block_at split b)) (c.in_halves.ensures.back late).0 ∙ back_length _ _ _ _ spot all in omega arith)
-    (λ early. let size = ap (λ (s : Spot). length (block_at split s.block)) (c.in_halves.ensures.front early) ∙ front_length _ _ _ _ spot all in omega arith)
+    (λ late. let size = ap (λ (b : ℕ). length (block_at split b)) (c.in_halves.ensures.back late).0 ∙ back_length _ _
+    _ _ spot all in omega arith)
+    (λ early. let size = ap (λ (s : Spot). length (block_at split s.block)) (c.in_halves.ensures.front early) ∙
+    front_length _ _ _ _ spot all in omega arith)
     (cases_lt 32 c.spot_of-spot.result.within))

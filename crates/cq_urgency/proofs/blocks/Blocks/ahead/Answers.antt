@@ -7,6 +7,8 @@ use Rattle.cq_urgency.proofs.blocks.Blocks.ahead.Goals as goal
 pub returns : goal.returns
 returns c =
     let b = c.self.inside in
+    let w =
+    kept b.pool.items b.order.items b.counts.items b.free.items b.most _ c.self.invariant.0 c.self.view_is in
     c.sum_of.ensures
     ∙ ap (λ (l : List ℕ). sum_by (λ n. n) (take c.args.place l)) c.deref.ensures.value
-    ∙ counts_ahead _ _ _ _ _ (kept b.pool.items b.order.items b.counts.items b.free.items b.most _ c.self.invariant.0 c.self.view_is) c.args.place
+    ∙ counts_ahead _ _ _ _ _ w c.args.place

@@ -8,12 +8,20 @@ pub invariant_of-self : goal.invariant_of-self
 invariant_of-self c =
     let b = c.self.inside in
     let w = kept b.pool.items b.order.items b.counts.items b.free.items b.most _ c.self.invariant.0 c.self.view_is in
-    let count = read_count _ _ _ _ _ w 0 _ c.requires.block c.index-number.ensures _ _ c.index_mut-then-index-gt1.ensures.value c.index_mut.ensures.value in
+    let count = read_count _ _ _ _ _ w 0 _ c.requires.block c.index-number.ensures _ _
+    c.index_mut-then-index-gt1.ensures.value c.index_mut.ensures.value in
     let less = ap length c.pop-queued.ensures.rest ∙ length-drop 1 c.index_mut.result.now in (
-      placed_changed _ _ _ _ _ w 0 _ c.requires.block c.index-number.ensures c.pop-queued.new.self (c.index_mut-then-index-gt1.result.now - 1) (omega arith),
+      placed_changed _ _ _ _ _ w 0 _ c.requires.block c.index-number.ensures c.pop-queued.new.self
+          (c.index_mut-then-index-gt1.result.now - 1) (omega arith),
       let m = c.self.invariant.1 in
           let size = length-set b.pool.items c.index-number.result.now c.pop-queued.new.self in
-          record { few = let few = m.few in omega arith; blocks = m.blocks; ordered = m.ordered; counted = m.counted; freed = m.freed },
+          record {
+            few = let few = m.few in omega arith;
+            blocks = m.blocks;
+            ordered = m.ordered;
+            counted = m.counted;
+            freed = m.freed;
+          },
     )
 
 pub returns-then-index-gt1-clause-blocks : goal.returns-then-index-gt1-clause-blocks
@@ -21,7 +29,8 @@ returns-then-index-gt1-clause-blocks c =
     let b = c.self.inside in
     let w = kept b.pool.items b.order.items b.counts.items b.free.items b.most _ c.self.invariant.0 c.self.view_is in
     let same = read_is _ _ _ _ _ w 0 _ c.requires.block c.index-number.ensures _ c.index_mut.ensures.value in
-    let count = read_count _ _ _ _ _ w 0 _ c.requires.block c.index-number.ensures _ _ c.index.ensures c.index_mut.ensures.value in
+    let count = read_count _ _ _ _ _ w 0 _ c.requires.block c.index-number.ensures _ _ c.index.ensures
+    c.index_mut.ensures.value in
     let size = ap length same in let more = c.if-index-gt1.true in
     seen_changed _ _ _ _ _ w 0 _ c.requires.block c.index-number.ensures c.pop-queued.new.self
     ∙ ap (slice_set c.args.self.now.blocks 0) (c.pop-queued.ensures.rest ∙ ap (drop 1) same)
@@ -33,12 +42,22 @@ invariant_of-self-2 c =
     let w = kept b.pool.items b.order.items b.counts.items b.free.items b.most _ c.self.invariant.0 c.self.view_is in
     let some = in_order_there _ _ _ _ _ w 0 _ c.requires.block c.index-number.ensures in
     let all = w.placed.all in (
-      rw (c.remove.ensures.items, c.remove-2.ensures.items, c.push_reserved.ensures.items) (freed_placed _ _ _ _ c.pop-queued.new.self _ w.placed some c.index-number.ensures),
+      rw (c.remove.ensures.items, c.remove-2.ensures.items, c.push_reserved.ensures.items)
+          (freed_placed _ _ _ _ c.pop-queued.new.self _ w.placed some c.index-number.ensures),
       let m = c.self.invariant.1 in
           let size = length-set b.pool.items c.index-number.result.now c.pop-queued.new.self in
-          let few = m.few in let blocks = m.blocks in let ordered = m.ordered in let counted = m.counted in let freed = m.freed in
-          let in_order = c.remove.ensures.capacity in let in_counts = c.remove-2.ensures.capacity in let in_free = c.push_reserved.ensures.capacity in
-          record { few = omega arith; blocks = m.blocks; ordered = omega arith; counted = omega arith; freed = omega arith },
+          let few = m.few in let blocks = m.blocks in let ordered = m.ordered in let counted = m.counted in
+          let freed = m.freed in
+          let in_order = c.remove.ensures.capacity in let in_counts = c.remove-2.ensures.capacity in
+          let in_free = c.push_reserved.ensures.capacity in
+          record {
+            few = omega arith;
+            blocks = m.blocks;
+            ordered = omega arith;
+            counted = omega arith;
+            freed = omega
+                arith;
+          },
     )
 
 pub returns-clause-blocks : goal.returns-clause-blocks
@@ -47,7 +66,8 @@ returns-clause-blocks c =
     let w = kept b.pool.items b.order.items b.counts.items b.free.items b.most _ c.self.invariant.0 c.self.view_is in
     let some = in_order_there _ _ _ _ _ w 0 _ c.requires.block c.index-number.ensures in
     let same = read_is _ _ _ _ _ w 0 _ c.requires.block c.index-number.ensures _ c.index_mut.ensures.value in
-    let count = read_count _ _ _ _ _ w 0 _ c.requires.block c.index-number.ensures _ _ c.index.ensures c.index_mut.ensures.value in
+    let count = read_count _ _ _ _ _ w 0 _ c.requires.block c.index-number.ensures _ _ c.index.ensures
+    c.index_mut.ensures.value in
     let size = ap length same in let last = c.if-index-gt1.false in let had = c.requires.some in
     rw c.remove.ensures.items
     (freed_order _ _ _ _ c.pop-queued.new.self _ w.placed some c.index-number.ensures

@@ -14,21 +14,27 @@ invariant_of-self c =
     let w = kept b.pool.items b.order.items b.counts.items b.free.items b.most _ c.self.invariant.0 c.self.view_is in
     let many = as_many _ _ _ _ _ w in
     let none = ap (λ (l : List (List Queued)). length l) c.requires.none in
-    let even : length b.counts.items ≡ length b.order.items = ap (λ (l : List ℕ). length l) (as_many_counts _ _ _ _ _ w) ∙ length-map c.args.self.now.blocks (λ (block : List Queued). length block) ∙ sym many in
+    let even : length b.counts.items ≡ length b.order.items = ap (λ (l : List ℕ). length l) (as_many_counts _ _ _ _ _ w)
+    ∙ length-map c.args.self.now.blocks (λ (block : List Queued). length block) ∙ sym many in
     let one : 1 ≡ length c.of.result = sym (ap length c.of.ensures) in
-    let placed = come_placed _ _ _ _ w.placed _ _ _ _ c.put_block-number.ensures.comes (length b.order.items) 1 (omega arith) one in
+    let placed = come_placed _ _ _ _ w.placed _ _ _ _ c.put_block-number.ensures.comes (length b.order.items) 1
+    (omega arith) one in
     let order = c.push_reserved.ensures.items ∙ sym (insert_end b.order.items c.put_block-number.result) in
-    let counts = c.push_reserved-2.ensures.items ∙ sym (insert_end b.counts.items 1) ∙ ap (λ n. insert b.counts.items n 1) even in (
+    let counts = c.push_reserved-2.ensures.items ∙ sym (insert_end b.counts.items 1)
+    ∙ ap (λ n. insert b.counts.items n 1) even in (
       rw (order, counts) placed,
       let m = c.self.invariant.1 in
           let come = c.put_block-number.ensures.comes in
-          let had = w.placed.all in let all = come.all in let fewer = come.fewer in let grown = come.grown in let room = c.requires.room in
+          let had = w.placed.all in let all = come.all in let fewer = come.fewer in let grown = come.grown in
+          let room = c.requires.room in
           let view = ap (λ (v : BlocksView). v.most) c.self.view_is in
-          let few = m.few in let blocks = m.blocks in let ordered = m.ordered in let counted = m.counted in let freed = m.freed in
+          let few = m.few in let blocks = m.blocks in let ordered = m.ordered in let counted = m.counted in
+          let freed = m.freed in
           let in_pool = c.put_block-number.ensures.pool in let in_free = c.put_block-number.ensures.free in
           let in_order = c.push_reserved.ensures.capacity in let in_counts = c.push_reserved-2.ensures.capacity in
           record {
-            few = ⊎_elim (λ l. let empty = come.grown l in omega arith) (λ le. omega arith) (cases_lt (length (b.pool.items)) (length c.put_block-number.new.pool.items));
+            few = ⊎_elim (λ l. let empty = come.grown l in omega arith) (λ le. omega arith)
+                (cases_lt (length (b.pool.items)) (length c.put_block-number.new.pool.items));
             blocks = omega arith;
             ordered = omega arith;
             counted = omega arith;

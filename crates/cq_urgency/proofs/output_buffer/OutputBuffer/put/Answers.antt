@@ -9,13 +9,15 @@ pub invariant_of-self : goal.invariant_of-self
 invariant_of-self c =
     let q = c.args.queued in
     let had = c.self.invariant in
-    let cells : flattened c.self.inside.blocks.blocks ≡ c.args.self.now.cells = ap (λ (b : Buffered). b.cells) c.self.view_is in
+    let cells : flattened c.self.inside.blocks.blocks ≡ c.args.self.now.cells = ap (λ (b : Buffered). b.cells)
+    c.self.view_is in
     let spare = ap (λ (b : Buffered). b.spare) c.self.view_is in
     let want = c.requires.spare in
     let counted = had.counted in
     let more = ap length c.put_into.ensures.cells ∙ length_put q (flattened c.self.inside.blocks.blocks) in
     record {
-      rising = subst IsRising (sym c.put_into.ensures.cells) (rising_put q _ had.rising (subst (HasOtherKey q) (sym cells) c.requires.other_key));
+      rising = subst IsRising (sym c.put_into.ensures.cells)
+          (rising_put q _ had.rising (subst (HasOtherKey q) (sym cells) c.requires.other_key));
       filled = c.put_into.ensures.filled;
       counted = omega arith;
       fits = omega arith;
