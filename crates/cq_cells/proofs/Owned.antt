@@ -96,7 +96,7 @@ past_count input i (line ∷ lines) own h =
     ∙ ap (λ (cs : List Arrival). cs ++ filter (is_from input) (all_of lines)) (other_count input i line own.0 (omega arith))
     ∙ past_count input (i + 1) lines own.1 (omega arith)
 
-counted : (input i k : ℕ) (lines : List (List Arrival)) → AreOwn i lines → i + k ≡ input → k < length lines → filter (is_from input) (all_of lines) ≡ slice_index_or lines k []
+pub counted : (input i k : ℕ) (lines : List (List Arrival)) → AreOwn i lines → i + k ≡ input → k < length lines → filter (is_from input) (all_of lines) ≡ slice_index_or lines k []
 counted input i k [] own at h = absurd (omega arith)
 counted input i zero (line ∷ lines) own at h =
     let same : i ≡ input = omega arith in

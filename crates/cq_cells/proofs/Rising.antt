@@ -1,8 +1,9 @@
 -- The cells of an input arrive one after another: those of a packet in consecutive slots, and those of the next packet after them. Cells of two inputs have nothing to do with each other. So each arrival of the list is later than those before it at its input.
-use Rattle.std.proofs.Common.{◌≡◌, ℕ, zero, suc, ◌+◌, ◌*◌, ◌^◌, ◌<◌, ◌≤◌, List, [], ◌∷◌, ◌++◌, length, map, flat_map, refl, ap, ◌∙◌, arith}
+use Rattle.std.proofs.Common.{◌≡◌, ℕ, zero, suc, ◌+◌, ◌*◌, ◌^◌, ◌<◌, ◌≤◌, List, [], ◌∷◌, ◌++◌, length, map, filter, flat_map, refl, sym, ap, ◌∙◌, arith}
 use Rattle.std.specs.List.{AllByRecursion, AllPairs, range_with_len}
 use Rattle.std.proofs.lemmas.List.{length-append}
 use Rattle.std.proofs.lemmas.List.Elements.{All-from_recursion}
+use Rattle.std.proofs.lemmas.List.FromFn.{get_or-map-range_with_len, length-map-range_with_len}
 use Rattle.std.proofs.lemmas.List.Kept.{AllPairs-cons}
 use Rattle.cq_base.specs.Arriving.{Arrival, end_of, enough}
 use Rattle.cq_base.specs.declared.cell.Cell.{Cell}
@@ -13,9 +14,9 @@ use Rattle.cq_route.proofs.Bounds.{route_output, route_class}
 use Rattle.cq_cells.specs.Schedule.{packets_of, packet_at, cells, start, cell_of, arrivals_of, arrivals_at, arrivals}
 use Rattle.cq_cells.specs.Lines.{AreOwn, all_of}
 use Rattle.std.proofs.lemmas.List.Folds.{flat_map-map}
-use Rattle.cq_cells.specs.Traffic.{IsInRange, IsLater, IsTraffic, IsShort, IsRecorded}
+use Rattle.cq_cells.specs.Traffic.{IsInRange, IsLater, IsTraffic, IsShort, IsRecorded, is_from}
 use Rattle.cq_cells.proofs.Looked.{piece}
-use Rattle.cq_cells.proofs.Owned.{AllFrom, end_of-append}
+use Rattle.cq_cells.proofs.Owned.{AllFrom, counted, end_of-append}
 use Rattle.cq_cells.proofs.Packets.{few_by, early_by, ends_before}
 
 -- what holds of two lists' items holds of all
@@ -153,3 +154,15 @@ own_lines t captures a (suc n) = (own_input t captures a, own_lines t captures (
 pub all_lines : (t : Tables) (captures : List (List Captured)) (lines : List (List Arrival)) → lines ≡ map (arrivals_at t captures) (range_with_len 0 (length captures)) → all_of lines ≡ arrivals t captures
 unfolding arrivals
 all_lines t captures lines e = ap (λ (ls : List (List Arrival)). all_of ls) e ∙ flat_map-map (λ (line : List Arrival). line) (arrivals_at t captures) (range_with_len 0 (length captures))
+
+-- so the arrivals at an input are those of its line
+pub at_input : (t : Tables) (captures : List (List Captured)) (input : ℕ) → input < length captures →
+    filter (is_from input) (arrivals t captures) ≡ arrivals_at t captures input
+at_input t captures input inside =
+    let nothing : List Arrival = [] in
+    let n = length captures in
+    let lines : List (List Arrival) = map (arrivals_at t captures) (range_with_len 0 n) in
+    let many : length lines ≡ n = length-map-range_with_len (arrivals_at t captures) 0 n in
+    ap (filter (is_from input)) (sym (all_lines t captures lines refl))
+    ∙ counted input 0 input lines (own_lines t captures 0 n) (omega arith) (omega arith)
+    ∙ get_or-map-range_with_len (arrivals_at t captures) 0 n input input nothing inside (omega arith)

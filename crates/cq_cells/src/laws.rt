@@ -1,7 +1,7 @@
 // Laws of what arrives.
-ghost use Rattle.std.specs.Prelude.{◌≡◌, ℕ, ◌<◌, List, length};
-ghost use Rattle.cq_cells.specs.Schedule.{arrivals, packets_of};
-ghost use Rattle.cq_cells.specs.Traffic.{IsRecorded, IsShort, IsTraffic};
+ghost use Rattle.std.specs.Prelude.{◌≡◌, ℕ, ◌<◌, List, filter, length};
+ghost use Rattle.cq_cells.specs.Schedule.{arrivals, arrivals_at, packets_of};
+ghost use Rattle.cq_cells.specs.Traffic.{IsRecorded, IsShort, IsTraffic, is_from};
 ghost use Rattle.cq_pcap.specs.Captured.{Captured};
 ghost use Rattle.cq_route.specs.declared.tables.Tables.{Tables};
 ghost use Rattle.cq_route.specs.Tables.{AreTables, classes_of, ports_of};
@@ -16,4 +16,11 @@ pub fn one_cell_arrives_a_slot()
 /// for each cell after the last has come.
 pub fn arrivals_end_early()
     ensures { (t : Tables) (captures : List (List Captured)) → AreTables t → length captures ≡ ports_of t.setup → ((i : ℕ) → i < length captures → IsRecorded (packets_of captures i)) → IsShort (arrivals t captures) }
+{}
+
+/// The cells that arrive at an input are those of its packets, packet after packet in the order of its capture,
+/// each from its first cell to its last.
+pub fn packets_arrive_in_order()
+    ensures { (t : Tables) (captures : List (List Captured)) (input : ℕ) → input < length captures →
+        filter (is_from input) (arrivals t captures) ≡ arrivals_at t captures input }
 {}

@@ -13,6 +13,6 @@ mod segments;
 #[cfg(test)]
 mod tests;
 
-pub use laws::{arrivals_end_early, one_cell_arrives_a_slot};
+pub use laws::{arrivals_end_early, one_cell_arrives_a_slot, packets_arrive_in_order};
 pub use schedule::Schedule;
 pub use segments::cells_of;
