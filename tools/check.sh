@@ -111,6 +111,8 @@ if "$python" -c 'import matplotlib' 2>/dev/null; then
         pictures "$folder"/pictures/{slack,lists,buffers,load,waits,proposals}
         rm -r "$folder/pictures"
     done
+    try in_example lab plot.py late switch.toml --by-rank --out "$folder/late"
+    pictures "$folder/late"
     try in_example office plot.py run office.toml office.toml --out "$folder/pictures" --without-log
     pictures "$folder"/pictures/{load,waits}
     if [[ -e $folder/sweep/sweep.csv ]]; then

@@ -2,61 +2,35 @@
 """Pictures of runs and of sweeps, as PNG and SVG. It needs matplotlib.
 
     plot.py run CONFIG [CONFIG] --out FOLDER
+    plot.py late CONFIG [--iterations 1,4] [--by-rank] --out NAME
     plot.py sweep CSV --x KEY --y FIGURE [--by KEY,..] [--where KEY=VALUE,..] --out NAME
 
 The first draws a run, or two runs side by side, from their captures, traces and logs, with names taken from the
 caller's folder: `slack`, `lists`, `buffers`, `load`, `waits` and `proposals` in FOLDER. After `cq_switch ideal`,
-which writes no log, give `--without-log`: then there are `load` and `waits`. The second draws one figure of a
-sweep's CSV over one key.
+which writes no log, give `--without-log`: then there are `load` and `waits`. The second draws how late cells
+leave cheaper switches, as `cheaper.py` finds it. The third draws one figure of a sweep's CSV over one key.
 """
 
 import argparse
 import csv
+import itertools
 import os
 from collections.abc import Iterable
 from typing import Any
 
+import cheaper
 from cq.config import Configuration, read_configuration
+from cq.drawing import COLOURS, STYLES, Picture, add_legend, pyplot, save, unit_of
 from cq.faults import Fault, guarded, reason
 from cq.figures import Series, Spread
 from cq.lines import NEVER
 from cq.replay import Slot, replay
 
-# Colours that are told apart by everybody (Okabe and Ito 2008).
-COLOURS = ("#0072b2", "#d55e00", "#009e73", "#cc79a7", "#56b4e9", "#e69f00", "#000000", "#999999")
 MOST_ROWS = 8  # ports in one picture
 FINE, COARSE = 256, 64  # bins of a series over time
-UNITS = ((1e9, "s"), (1e6, "ms"), (1e3, "µs"), (1, "ns"))
 MARKS = ((50, "o", "median"), (99, "s", "99th of 100"), (100, "D", "greatest"))
 
 Row = dict[str, str]
-
-
-def pyplot() -> Any:
-    """The library that draws."""
-    try:
-        import matplotlib
-    except ImportError:
-        raise Fault(
-            "matplotlib is not there: `apt-get install python3-matplotlib`, and call /usr/bin/python3"
-        ) from None
-    matplotlib.use("Agg")
-    from matplotlib import pyplot as library
-
-    library.rcParams.update(
-        {
-            "axes.prop_cycle": library.cycler(color=COLOURS),
-            "axes.grid": True,
-            "grid.alpha": 0.3,
-            "axes.spines.top": False,
-            "axes.spines.right": False,
-            "svg.hashsalt": "cq_switch",
-            "legend.frameon": False,
-            "legend.fontsize": "small",
-            "lines.linewidth": 1.2,
-        }
-    )
-    return library
 
 
 def added(one: float, other: float) -> float:
@@ -104,39 +78,8 @@ class Curves:
         return [slot * self.configuration.slot_ns / unit for slot in slots], [value / width for value in values]
 
 
-def unit_of(longest_ns: float) -> tuple[float, str]:
-    """A unit of time in which this is a number of few digits."""
-    return next((unit for unit in UNITS if longest_ns >= 2 * unit[0]), UNITS[-1])
-
-
-def save(figure: Any, name: str) -> None:
-    """Writes NAME.png and NAME.svg."""
-    figure.savefig(name + ".png", dpi=100, bbox_inches="tight")
-    figure.savefig(name + ".svg", metadata={"Date": None}, bbox_inches="tight")
-
-
-class Picture:
-    """A picture with a column for each run and a row for each of what is told apart. It is saved as PNG and as SVG."""
-
-    def __init__(self, library: Any, runs: list[Curves], rows: int, height: float, label: str, below: str) -> None:
-        self.library = library
-        self.figure, self.axes = library.subplots(
-            rows,
-            len(runs),
-            sharex=True,
-            sharey=True,
-            squeeze=False,
-            layout="constrained",
-            figsize=(6.4 * len(runs), 1.1 + height * rows),
-        )
-        for run, column in zip(runs, self.axes.T):
-            column[0].set_title(run.configuration.name, fontsize="medium")
-            column[-1].set_xlabel(below)
-        self.figure.supylabel(label, fontsize="medium")
-
-    def save(self, name: str) -> None:
-        save(self.figure, name)
-        self.library.close(self.figure)
+def names_of(runs: list[Curves]) -> list[str]:
+    return [run.configuration.name for run in runs]
 
 
 def busiest(weights: dict[int, float]) -> list[int]:
@@ -159,7 +102,7 @@ def draw_ports(library: Any, runs: list[Curves], name: str, what: str, label: st
     """A row for each port, over time."""
     unit, unit_name = unit_of(max(run.length_ns for run in runs))
     ports = busiest(weights_of(runs, what))
-    picture = Picture(library, runs, max(1, len(ports)), 0.9, label, f"time ({unit_name})")
+    picture = Picture(library, names_of(runs), max(1, len(ports)), 0.9, label, f"time ({unit_name})")
     for run, column in zip(runs, picture.axes.T):
         for axis, port in zip(column, ports):
             times, values = run.points(getattr(run, what)[port], unit, what == "load")
@@ -177,7 +120,7 @@ def draw_ports(library: Any, runs: list[Curves], name: str, what: str, label: st
 def draw_proposals(library: Any, runs: list[Curves], name: str) -> None:
     """The proposals of each of the two matchings of a slot: the mean and the most of a bin."""
     unit, unit_name = unit_of(max(run.length_ns for run in runs))
-    picture = Picture(library, runs, 2, 1.6, "proposals of a matching", f"time ({unit_name})")
+    picture = Picture(library, names_of(runs), 2, 1.6, "proposals of a matching", f"time ({unit_name})")
     for run, column in zip(runs, picture.axes.T):
         for phase, axis in enumerate(column):
             axis.fill_between(
@@ -211,7 +154,7 @@ def draw_waits(library: Any, runs: list[Curves], name: str) -> None:
     left_out = "; outputs at which no cell waits are left out" if len(outputs) < min(len(cells), MOST_ROWS) else ""
     picture = Picture(
         library,
-        runs,
+        names_of(runs),
         len(outputs),
         1.6,
         "of 100 cells wait as long or longer",
@@ -243,15 +186,6 @@ def draw_wait(axis: Any, spread: Spread, scale: float, colour: str) -> None:
         axis.plot(value * scale, tail[value], marker, color=colour, markersize=5)
 
 
-def add_legend(picture: Picture, entries: list[tuple[str, str, str, str]]) -> None:
-    """A legend below the picture, of colour, line, marker and word."""
-    handles = [
-        picture.axes[0][0].plot([], [], color=colour, linestyle=line, marker=marker, label=word)[0]
-        for colour, line, marker, word in entries
-    ]
-    picture.figure.legend(handles=handles, loc="upper center", bbox_to_anchor=(0.5, 0), ncols=min(6, len(handles)))
-
-
 def draw_runs(configurations: list[Configuration], folder: str, with_log: bool) -> None:
     """Draws all pictures of one run, or of two side by side."""
     library = pyplot()
@@ -266,6 +200,32 @@ def draw_runs(configurations: list[Configuration], folder: str, with_log: bool) 
         draw_ports(library, runs, os.path.join(folder, "lists"), "lists", "most cells in the list", "input")
         draw_ports(library, runs, os.path.join(folder, "buffers"), "buffers", "most cells in the buffer", "output")
         draw_proposals(library, runs, os.path.join(folder, "proposals"))
+
+
+def draw_late(configuration: Configuration, iterations: list[int], ranked: bool, out: str) -> None:
+    """How many cells leave cheaper switches how much later than the ideal one."""
+    library, arrivals = pyplot(), cheaper.cells_of(configuration)
+    late: dict[str, Spread] = {}
+    for make in cheaper.schedulers(configuration.ports, iterations):
+        scheduler = make()
+        left = cheaper.simulate(arrivals, configuration.ports, scheduler, ranked).left
+        spread = late.setdefault(scheduler.name, Spread())
+        for cell, slot in zip(arrivals, left):
+            spread.add(max(0, slot - cell.ideal))
+    longest = max(spread.greatest() or 0 for spread in late.values())
+    if not longest:
+        raise Fault("no cell leaves late, so there is nothing to draw")
+    unit, unit_name = unit_of(configuration.slot_ns * longest)
+    below = f"later than from the ideal switch ({unit_name}); a plain simulation, unproved"
+    picture = Picture(library, [configuration.name], 1, 3.0, "of 100 cells leave as late or later", below)
+    axis = picture.axes[0][0]
+    for (name, spread), (style, _), colour in zip(late.items(), itertools.cycle(STYLES), itertools.cycle(COLOURS)):
+        tail = {value * configuration.slot_ns / unit: 100 * share for value, share in spread.tail() if value}
+        axis.step(list(tail), list(tail.values()), style, where="pre", color=colour, label=name)
+    axis.set_yscale("log")
+    axis.yaxis.set_major_formatter(lambda value, _: f"{value:g}")
+    axis.legend()
+    picture.save(out)
 
 
 def number_of(text: str) -> float | None:
@@ -317,10 +277,11 @@ class Sweep:
         width = 0.8 / len(self.lines)
         for number, (name, line) in enumerate(zip(self.names, self.lines.values())):
             places, figures = zip(*sorted((self.places[value], figure / unit) for value, figure in line.items()))
+            style, point = STYLES[number % len(STYLES)]
             if self.in_words:
                 axis.bar([place + width * (number + 0.5) - 0.4 for place in places], figures, width, label=name)
             else:
-                axis.plot(places, figures, marker="o", markersize=4, label=name)
+                axis.plot(places, figures, linestyle=style, marker=point, markersize=4, label=name)
         axis.set_xticks(list(self.places.values()), self.values)
 
 
@@ -358,6 +319,11 @@ def words() -> argparse.ArgumentParser:
     run.add_argument("configs", metavar="CONFIG", nargs="+")
     run.add_argument("--out", required=True, metavar="FOLDER")
     run.add_argument("--without-log", action="store_true", help="there is no log, as after `cq_switch ideal`")
+    late = kinds.add_parser("late", help="draw how late cells leave cheaper switches")
+    late.add_argument("config", metavar="CONFIG")
+    late.add_argument("--iterations", type=cheaper.counts, default=[1, 4], metavar="N,..", help="of iSLIP")
+    late.add_argument("--by-rank", action="store_true", help="keep the queues by the ranks of the disciplines")
+    late.add_argument("--out", required=True, metavar="NAME", help="the name of the picture, without its ending")
     sweep = kinds.add_parser("sweep", help="draw a figure of a sweep")
     sweep.add_argument("csv", metavar="CSV")
     sweep.add_argument("--x", required=True, metavar="KEY")
@@ -376,6 +342,8 @@ def main() -> None:
         if options.kind == "sweep":
             sweep = Sweep(options.csv, options.x, options.y, options.by, options.where)
             draw_sweep(sweep, options.x, options.y, options.where, options.out, options.log)
+        elif options.kind == "late":
+            draw_late(read_configuration(options.config), options.iterations, options.by_rank, options.out)
         elif len(options.configs) > 2:
             raise Fault("one run, or two")
         else:
