@@ -19,23 +19,23 @@ use Rattle.cq_ideal.proofs.FlowFound.{cell_listed, found, found_here, other_slot
 -- ## Lists that are joined over a range
 
 -- the lists at n places from a on, end to end
-joined : (ℕ → List Cell) → ℕ → ℕ → List Cell
+unfoldable pub joined : (ℕ → List Cell) → ℕ → ℕ → List Cell
 joined g a zero = []
 joined g a (suc n) = g a ++ joined g (a + 1) n
 
-joined_none : (g : ℕ → List Cell) (a n : ℕ) → ((t : ℕ) → t < a + n → g t ≡ []) → joined g a n ≡ []
+pub joined_none : (g : ℕ → List Cell) (a n : ℕ) → ((t : ℕ) → t < a + n → g t ≡ []) → joined g a n ≡ []
 unfolding joined
 joined_none g a zero f = refl
 joined_none g a (suc n) f = ap (λ (l : List Cell). l ++ joined g (a + 1) n) (f a (omega arith)) ∙ joined_none g (a + 1) n (λ t l. f t (omega arith))
 
-joined_same : (g h : ℕ → List Cell) (a n : ℕ) → ((t : ℕ) → a ≤ t → g t ≡ h t) → joined g a n ≡ joined h a n
+pub joined_same : (g h : ℕ → List Cell) (a n : ℕ) → ((t : ℕ) → a ≤ t → g t ≡ h t) → joined g a n ≡ joined h a n
 unfolding joined
 joined_same g h a zero f = refl
 joined_same g h a (suc n) f =
     ap (λ (l : List Cell). l ++ joined g (a + 1) n) (f a (omega arith)) ∙ ap (λ (l : List Cell). h a ++ l) (joined_same g h (a + 1) n (λ t l. f t (omega arith)))
 
 -- what stands at one place more, with nothing before it
-joined_more : (g h : ℕ → List Cell) (s : ℕ) (a n : ℕ) → a ≤ s → s < a + n → ((t : ℕ) → t < s → g t ≡ []) → ((t : ℕ) → t < s + 1 → h t ≡ []) → ((t : ℕ) → s < t → g t ≡ h t) → joined g a n ≡ g s ++ joined h a n
+pub joined_more : (g h : ℕ → List Cell) (s : ℕ) (a n : ℕ) → a ≤ s → s < a + n → ((t : ℕ) → t < s → g t ≡ []) → ((t : ℕ) → t < s + 1 → h t ≡ []) → ((t : ℕ) → s < t → g t ≡ h t) → joined g a n ≡ g s ++ joined h a n
 unfolding joined
 joined_more g h s a zero le lt before none after = absurd (omega arith)
 joined_more g h s a (suc n) le lt before none after =

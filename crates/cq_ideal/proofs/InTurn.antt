@@ -1,15 +1,14 @@
 -- Cells that are ranked one after another. What came so far stands in front of the ranking of the others, and nobody came to the
 -- inputs behind.
-use Rattle.std.proofs.Common.{◌≡◌, ◌≢◌, ℕ, zero, suc, ◌+◌, ◌<◌, ◌≤◌, ◌^◌, List, [], ◌∷◌, ◌++◌, length, map, get_or, set, take, drop, replicate, Option, Some, None, Result, Ok, Err, refl, sym, ap, ◌∙◌, subst, arith, length-set, get_or-set_other}
-use Rattle.std.proofs.lemmas.Bool.{cond_below, cond_above}
+use Rattle.std.proofs.Common.{◌≡◌, ◌≢◌, ℕ, zero, suc, ◌+◌, ◌<◌, ◌≤◌, List, [], ◌∷◌, ◌++◌, length, map, get_or, set, take, drop, replicate, Option, Some, None, Result, Ok, Err, refl, sym, ap, ◌∙◌, subst, arith, length-set, get_or-set_other}
 use Rattle.std.proofs.lemmas.List.{ext_get_or, get_or-drop, length-drop, length-replicate, take-append-drop, take_more_set}
 use Rattle.std.proofs.lemmas.Option.{unwrap_or-slice_get}
 use Rattle.cq_base.specs.declared.cell.Cell.{Cell}
 use Rattle.cq_base.specs.declared.cell.Queued.{Queued}
 use Rattle.cq_base.specs.declared.cell.TagFault.{TagFault}
 use Rattle.cq_rank.specs.Machine.{Machine}
-use Rattle.cq_ideal.specs.Parts.{RanksView, rank_at, given_at, after_inputs}
-use Rattle.cq_ideal.specs.Ranking.{Ranking, AreForPorts, after_input, keyed, ranking}
+use Rattle.cq_ideal.specs.Parts.{RanksView, after_inputs}
+use Rattle.cq_ideal.specs.Ranking.{Ranking, AreForPorts, after_input, ranking}
 
 -- a cell at the end of those that came
 after_inputs-snoc : (came : List (Option Queued)) (q : Option Queued) (x : Result Ranking TagFault) →
@@ -27,35 +26,6 @@ after_inputs-ok (c ∷ came) r = ap (after_input c) (after_inputs-ok came r)
 after_inputs-fault : (came : List (Option Queued)) (fault : TagFault) → after_inputs came (Err fault) ≡ Err fault
 after_inputs-fault [] fault = refl
 after_inputs-fault (c ∷ came) fault = ap (after_input c) (after_inputs-fault came fault)
-
--- ## One input
-
--- the cell's rank fits
-pub ranking-fits : (ms : List Machine) (slot input : ℕ) (cell : Cell) (cells : List (Option Cell))
-    (states states' : List (List ℕ)) (q : Queued) → rank_at ms states cell.output cell.class < 2 ^ 128 →
-    q ≡ keyed cell (rank_at ms states cell.output cell.class) slot input →
-    states' ≡ given_at ms states cell.output cell.class →
-    ranking ms slot input (Some cell ∷ cells) states ≡ after_input (Some q)
-    (ranking ms slot (input + 1) cells states')
-ranking-fits ms slot input cell cells states states' q fits is given =
-    let rank = rank_at ms states cell.output cell.class in
-    let rest = ranking ms slot (input + 1) cells (given_at ms states cell.output cell.class) in
-    let fault : TagFault = record { slot = slot; input = input; output = cell.output } in
-    sym (cond_below rank (2 ^ 128) (after_input (Some (keyed cell rank slot input)) rest) (Err fault) fits)
-    ∙ ap (λ (p : Queued). after_input (Some p) rest) (sym is)
-    ∙ ap (λ s. after_input (Some q) (ranking ms slot (input + 1) cells s)) (sym given)
-
--- the cell's rank does not fit
-pub ranking-faults : (ms : List Machine) (slot input : ℕ) (cell : Cell) (cells : List (Option Cell))
-    (states : List (List ℕ)) (fault : TagFault) → 2 ^ 128 ≤ rank_at ms states cell.output cell.class →
-    fault ≡ record { slot = slot; input = input; output = cell.output } →
-    ranking ms slot input (Some cell ∷ cells) states ≡ Err fault
-ranking-faults ms slot input cell cells states fault past is =
-    let rank = rank_at ms states cell.output cell.class in
-    let rest = ranking ms slot (input + 1) cells (given_at ms states cell.output cell.class) in
-    let none : Result Ranking TagFault = Err (record { slot = slot; input = input; output = cell.output }) in
-    sym (cond_above rank (2 ^ 128) (after_input (Some (keyed cell rank slot input)) rest) none none past refl)
-    ∙ ap (λ (f : TagFault). Err f) (sym is)
 
 -- where no cell arrives any more nobody comes
 none_ranked : (ms : List Machine) (slot input : ℕ) (cells : List (Option Cell)) (states : List (List ℕ)) →

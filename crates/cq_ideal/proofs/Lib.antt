@@ -15,6 +15,7 @@ pub mod FlowRun
 pub mod FlowSlot
 pub mod FlowStands
 pub mod FlowTraffic
+pub mod AtInput
 pub mod Listed
 pub mod Placed
 pub mod Ports

@@ -1,9 +1,11 @@
 -- What is admitted at an input are whole packets.
-use Rattle.std.specs.Prelude.{◌≡◌, ℕ, ◌+◌, ◌≤◌, ◌⊎◌, Bool, true, false, List, [], ◌∷◌, filter, filter_map, Option, Ok}
+use Rattle.std.specs.Prelude.{◌≡◌, ℕ, ◌+◌, ◌<◌, ◌≤◌, ◌==◌, ◌⊎◌, Bool, true, false, List, [], ◌∷◌, map, filter, filter_map, Option, Ok}
 use Rattle.cq_base.specs.declared.cell.Cell.{Cell}
 use Rattle.cq_base.specs.Arrivals.{arrival_at}
+use Rattle.cq_base.specs.Arriving.{Arrival, traffic_of}
 use Rattle.cq_rank.specs.Machine.{Machine}
 use Rattle.cq_ideal.specs.Admission.{Admission, Marked, admission, admitted_in, is_first}
+use Rattle.cq_ideal.specs.Flows.{RiseByInput}
 use Rattle.cq_ideal.specs.IdealSlot.{IdealState}
 use Rattle.cq_ideal.specs.LimitedIdeal.{LimitedRan, limited_run}
 
@@ -18,6 +20,15 @@ AreJudged limits marks (cells ∷ traffic) (a ∷ admissions) =
 -- the cells that arrive at input i, slot by slot
 abbrev pub cells_at : ℕ → List (List (Option Cell)) → List Cell
 cells_at i traffic = filter_map (λ cells. arrival_at cells i) traffic
+
+-- the cells that come to input i, in the order of the arrivals
+abbrev pub came_at : ℕ → List Arrival → List Cell
+came_at i came = map (λ a. a.cell) (filter (λ a. a.cell.id.input == i) came)
+
+-- where arrivals rise by input, those are the cells that arrive at the input slot by slot
+abbrev pub CellsComeInOrder : Type 0
+CellsComeInOrder =
+    (i : ℕ) (came : List Arrival) → i < 64 → RiseByInput came → cells_at i (traffic_of came) ≡ came_at i came
 
 -- The cells are those of packets of rising numbers, from this number on, each with its first cell first; ahead of them may
 -- stand the rest of the packet before.

@@ -7,7 +7,7 @@ ghost use Rattle.cq_ideal.specs.LimitedExample.{discard_admissions, discard_ran,
 ghost use Rattle.cq_ideal.specs.LimitedFlows.{FlowsLeaveInPackets};
 ghost use Rattle.cq_ideal.specs.LimitedIdeal.{IsRunOfAdmitted, IsRunOfAll, LimitedRunIsWhole, empty_limited, limited_run};
 ghost use Rattle.cq_ideal.specs.Refused.{AreAllZero, EachCountsOnce, refused_counts, refused_in, with_refused};
-ghost use Rattle.cq_ideal.specs.WholePackets.{RunsAdmitWholePackets, WholePacketsAreAdmitted};
+ghost use Rattle.cq_ideal.specs.WholePackets.{CellsComeInOrder, RunsAdmitWholePackets, WholePacketsAreAdmitted};
 
 /// A run with limits is the run without limits of the arrivals that it admits, slot by slot. So what is said of
 /// runs without limits is said of admitted cells.
@@ -22,6 +22,8 @@ pub fn whole_packets_are_admitted()
     ensures run { RunsAdmitWholePackets }
     // and whatever the outputs hold as the arrivals are judged
     ensures judged { WholePacketsAreAdmitted }
+    // what comes to an input slot by slot are its arrivals in their order
+    ensures in_order { CellsComeInOrder }
 {}
 
 /// A run with limits has enough slots where the run without has: where no rank is a tag fault, all lists are

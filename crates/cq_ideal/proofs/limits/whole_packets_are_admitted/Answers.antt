@@ -1,5 +1,6 @@
 use Rattle.cq_ideal.specs.Admission.{admission, marks_after}
 use Rattle.cq_ideal.proofs.Admitted.{admitted_at}
+use Rattle.cq_ideal.proofs.AtInput.{come_in_order}
 use Rattle.cq_ideal.proofs.LimitedRuns.{judged}
 use Rattle.cq_ideal.proofs.Packets.{whole_packets}
 use Rattle.cq_ideal.proofs.limits.whole_packets_are_admitted.Goals as goal
@@ -13,3 +14,6 @@ returns-clause-run c = λ limits ms slot traffic old ran i is packets. whole_pac
 
 pub returns-clause-judged : goal.returns-clause-judged
 returns-clause-judged c = λ limits marks traffic i admissions is packets. whole_packets limits i marks traffic admissions is packets
+
+pub returns-clause-in_order : goal.returns-clause-in_order
+returns-clause-in_order c = λ i came inside rise. come_in_order i inside came rise
