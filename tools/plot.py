@@ -20,7 +20,7 @@ from typing import Any
 
 import cheaper
 from cq.config import Configuration, read_configuration
-from cq.drawing import COLOURS, STYLES, Picture, add_legend, pyplot, save, unit_of
+from cq.drawing import COLOURS, STYLES, Picture, pyplot, save, unit_of
 from cq.faults import Fault, guarded, reason
 from cq.figures import Series, Spread
 from cq.lines import NEVER
@@ -71,11 +71,17 @@ class Curves:
     def length_ns(self) -> int:
         return self.slots * self.configuration.slot_ns
 
-    def points(self, series: Series, unit: float, by_width: bool = False) -> tuple[list[float], list[float]]:
-        """The times of the bins, and their values, or these for each slot of a bin."""
+    def points(self, series: Series, unit: float) -> tuple[list[float], list[float]]:
+        """The times of the bins, and their values."""
         slots, values = series.points(self.slots)
-        width = series.width if by_width else 1
-        return [slot * self.configuration.slot_ns / unit for slot in slots], [value / width for value in values]
+        return [slot * self.configuration.slot_ns / unit for slot in slots], values
+
+    def steps(self, series: Series, unit: float, by_width: bool = False) -> tuple[list[float], list[float]]:
+        """The same with the end of the run, for steps; the values can be those for each slot of a bin."""
+        times, values = self.points(series, unit)
+        widths = [min(series.width, self.slots - at * series.width) if by_width else 1 for at in range(len(values))]
+        values = [value / width for value, width in zip(values, widths)]
+        return [*times, self.length_ns / unit], [*values, values[-1]]
 
 
 def names_of(runs: list[Curves]) -> list[str]:
@@ -101,15 +107,17 @@ def weights_of(runs: list[Curves], what: str) -> dict[int, float]:
 def draw_ports(library: Any, runs: list[Curves], name: str, what: str, label: str, port_name: str) -> None:
     """A row for each port, over time."""
     unit, unit_name = unit_of(max(run.length_ns for run in runs))
-    ports = busiest(weights_of(runs, what))
-    picture = Picture(library, names_of(runs), max(1, len(ports)), 0.9, label, f"time ({unit_name})")
+    weights = weights_of(runs, what)
+    ports = busiest(weights)
+    some = f"; {len(ports)} of {len(weights)} {port_name}s" if len(ports) < len(weights) else ""
+    picture = Picture(library, names_of(runs), max(1, len(ports)), 0.9, label, f"time ({unit_name}){some}")
     for run, column in zip(runs, picture.axes.T):
         for axis, port in zip(column, ports):
-            times, values = run.points(getattr(run, what)[port], unit, what == "load")
+            line: Series = getattr(run, what)[port]
             if what == "slack":
-                axis.plot(times, values, ".", color=COLOURS[0], markersize=3, clip_on=False)
+                axis.plot(*run.points(line, unit), ".", color=COLOURS[0], markersize=3, clip_on=False)
             else:
-                axis.fill_between(times, values, step="post", color=COLOURS[0], linewidth=0)
+                axis.fill_between(*run.steps(line, unit, what == "load"), step="post", color=COLOURS[0], linewidth=0)
             axis.set_ylabel(f"{port_name} {port}", fontsize="small")
             if what != "load":
                 axis.yaxis.get_major_locator().set_params(integer=True, nbins=4)
@@ -124,57 +132,58 @@ def draw_proposals(library: Any, runs: list[Curves], name: str) -> None:
     for run, column in zip(runs, picture.axes.T):
         for phase, axis in enumerate(column):
             axis.fill_between(
-                *run.points(run.most[phase], unit), step="post", color=COLOURS[4], linewidth=0, label="most"
+                *run.steps(run.most[phase], unit), step="post", color=COLOURS[4], linewidth=0, label="most"
             )
-            axis.step(*run.points(run.mean[phase], unit, True), where="post", color=COLOURS[0], label="mean")
+            axis.step(*run.steps(run.mean[phase], unit, True), where="post", color=COLOURS[0], label="mean")
             axis.set_ylabel(f"phase {phase + 1}", fontsize="small")
             axis.yaxis.get_major_locator().set_params(integer=True)
     picture.axes[0][0].set_ylim(bottom=0)
-    picture.axes[0][0].legend(ncols=2)
+    picture.legend(picture.axes[0][0].get_legend_handles_labels()[0])
     picture.save(name)
+
+
+def cells_and_waits(runs: list[Curves]) -> tuple[dict[int, float], dict[int, int]]:
+    """For each output that sends, how many cells it sends, and the longest wait of one in nanoseconds."""
+    cells: dict[int, float] = {}
+    longest: dict[int, int] = {}
+    for run in runs:
+        for (output, _), spread in run.waits.items():
+            wait = run.configuration.slot_ns * (spread.greatest() or 0)
+            cells[output] = cells.get(output, 0) + len(spread)
+            longest[output] = max(longest.get(output, 0), wait)
+    return cells, longest
 
 
 def draw_waits(library: Any, runs: list[Curves], name: str) -> None:
     """For each output and class how many cells waited how long, with median, 99th and greatest."""
-    cells: dict[int, float] = {}
-    for run in runs:
-        for (output, _), spread in run.waits.items():
-            cells[output] = cells.get(output, 0) + len(spread)
-    longest = {
-        at: max(
-            run.configuration.slot_ns * (spread.greatest() or 0)
-            for run in runs
-            for (output, _), spread in run.waits.items()
-            if output == at
-        )
-        for at in cells
-    }
+    cells, longest = cells_and_waits(runs)
     outputs = busiest({output: count for output, count in cells.items() if longest[output]} or cells)
     unit, unit_name = unit_of(max(longest.values()))
-    left_out = "; outputs at which no cell waits are left out" if len(outputs) < min(len(cells), MOST_ROWS) else ""
-    picture = Picture(
-        library,
-        names_of(runs),
-        len(outputs),
-        1.6,
-        "of 100 cells wait as long or longer",
-        f"wait of a cell ({unit_name}){left_out}",
-    )
+    some = f"; {len(outputs)} of {len(cells)} outputs" if len(outputs) < len(cells) else ""
+    label, below = "of 100 cells wait as long or longer", f"wait of a cell ({unit_name}){some}"
+    picture = Picture(library, names_of(runs), len(outputs), 1.6, label, below)
     for run, column in zip(runs, picture.axes.T):
         for axis, output in zip(column, outputs):
             for kind in (kind for at, kind in sorted(run.waits) if at == output):
                 draw_wait(axis, run.waits[output, kind], run.configuration.slot_ns / unit, COLOURS[kind % len(COLOURS)])
             axis.set_ylabel(f"output {output}", fontsize="small")
             axis.set_yscale("log")
-            axis.set_ylim(top=150)
+            axis.yaxis.set_major_locator(library.LogLocator(numticks=12))
             axis.yaxis.set_major_formatter(lambda value, _: f"{value:g}")
-    kinds = sorted({kind for run in runs for _, kind in run.waits})
-    add_legend(
-        picture,
-        [(COLOURS[kind % len(COLOURS)], "-", "", f"class {kind}") for kind in kinds]
-        + [("black", "", marker, word) for _, marker, word in MARKS],
-    )
+    most = max(len(spread) for run in runs for spread in run.waits.values())
+    picture.axes[0][0].set_ylim(70 / most, 150)
+    picture.legend(wait_legend(picture.axes[0][0], sorted({kind for run in runs for _, kind in run.waits})))
     picture.save(name)
+
+
+def wait_legend(axis: Any, kinds: list[int]) -> list[Any]:
+    """What stands for the classes and for the marks."""
+    entries = [(COLOURS[kind % len(COLOURS)], "-", "", f"class {kind}") for kind in kinds]
+    entries += [("black", "", marker, word) for _, marker, word in MARKS]
+    return [
+        axis.plot([], [], color=colour, linestyle=line, marker=marker, label=word)[0]
+        for colour, line, marker, word in entries
+    ]
 
 
 def draw_wait(axis: Any, spread: Spread, scale: float, colour: str) -> None:

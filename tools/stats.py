@@ -81,7 +81,7 @@ class Input:
     """What comes in at one input."""
 
     def __init__(self) -> None:
-        self.cells, self.ahead, self.slacks, self.length = 0, Spread(), Spread(), Mean()
+        self.cells, self.slacks, self.length = 0, Spread(), Mean()
 
 
 class Output:
@@ -193,9 +193,6 @@ class Stats:
 
     def document(self) -> dict[str, Any]:
         """All figures, as JSON has them."""
-        for number, packets in enumerate(self.run.captures.inputs):
-            for start, stamp_slot in zip(packets.starts, packets.stamp_slots):
-                self.inputs[number].ahead.add(start - stamp_slot)
         totals, ports = self.totals(), range(self.configuration.ports)
         return {
             "run": self._run_row(totals["all", "all"]),
@@ -256,12 +253,14 @@ class Stats:
         return row
 
     def _input_row(self, i: int) -> Row:
-        packets, figures = self.run.captures.inputs[i], self.inputs[i]
+        packets, figures, ahead = self.run.captures.inputs[i], self.inputs[i], Spread()
+        for start, stamp_slot in zip(packets.starts, packets.stamp_slots):
+            ahead.add(start - stamp_slot)
         row = (
             {"input": i, "packets": len(packets), "cells": figures.cells, "load": self._load(figures.cells)}
             | self._routes(packets)
-            | figures.ahead.row("ahead", "slots")
-            | figures.ahead.row("ahead", "ns", self.configuration.slot_ns)
+            | ahead.row("ahead", "slots")
+            | ahead.row("ahead", "ns", self.configuration.slot_ns)
         )
         if self.run.log:
             row |= {

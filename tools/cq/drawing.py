@@ -67,15 +67,10 @@ class Picture:
             column[-1].set_xlabel(below)
         self.figure.supylabel(label, fontsize="medium")
 
+    def legend(self, handles: list[Any]) -> None:
+        """Puts a legend below the picture."""
+        self.figure.legend(handles=handles, loc="upper center", bbox_to_anchor=(0.5, 0), ncols=min(6, len(handles)))
+
     def save(self, name: str) -> None:
         save(self.figure, name)
         self.library.close(self.figure)
-
-
-def add_legend(picture: Picture, entries: list[tuple[str, str, str, str]]) -> None:
-    """A legend below the picture, of colour, line, marker and word."""
-    handles = [
-        picture.axes[0][0].plot([], [], color=colour, linestyle=line, marker=marker, label=word)[0]
-        for colour, line, marker, word in entries
-    ]
-    picture.figure.legend(handles=handles, loc="upper center", bbox_to_anchor=(0.5, 0), ncols=min(6, len(handles)))
