@@ -88,6 +88,7 @@ class Greedy:
     name = "greedy"
 
     def match(self, wanted: list[int], queues: Queues) -> list[Pair]:
+        """The pairs of a slot, the first cell of the order among them."""
         heads = sorted(
             (queue[0][0], number, output)
             for number, row in enumerate(queues)
@@ -164,6 +165,7 @@ class Loss:
         self.late, self.only_late, self.early, self.packets, self.late_packets = Spread(), Spread(), 0, 0, 0
 
     def add(self, cell: Arrival, slot: int) -> None:
+        """Counts a cell that left in this slot."""
         late = max(0, slot - cell.ideal)
         self.late.add(late)
         if late:
@@ -173,6 +175,7 @@ class Loss:
         self.late_packets += cell.last and late > 0
 
     def row(self) -> dict[str, Any]:
+        """Its figures. Those in slots are of the late cells alone."""
         cells, late = len(self.late), len(self.only_late)
         return {
             "cells": cells,

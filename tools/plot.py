@@ -51,6 +51,7 @@ class Curves:
             self.add(slot)
 
     def add(self, slot: Slot) -> None:
+        """Notes what is drawn of a slot."""
         for cell in slot.sent:
             self.slots = slot.number + 1
             self.waits.setdefault((cell.output, cell.kind), Spread()).add(slot.number - cell.slot)
@@ -322,6 +323,7 @@ def names(text: str) -> list[str]:
 
 
 def words() -> argparse.ArgumentParser:
+    """What the tool can be asked for."""
     parser = argparse.ArgumentParser(description="Pictures of runs and of sweeps, as PNG and SVG.")
     kinds = parser.add_subparsers(dest="kind", required=True)
     run = kinds.add_parser("run", help="draw one run, or two side by side")

@@ -64,6 +64,7 @@ class Flow:
         self.delays.counts += other.delays.counts
 
     def row(self, slot_ns: int) -> Row:
+        """Its figures."""
         return (
             {
                 "packets": len(self.delays),
@@ -122,6 +123,7 @@ class Stats:
         return self.flows.setdefault((cell.output, cell.kind), Flow())
 
     def _refuse(self, cell: Cell, gone: list[Row]) -> None:
+        """Counts a cell that a limit refuses, and its packet where the cell is the first one."""
         flow = self._flow(cell)
         flow.refused_cells += 1
         if cell.part == 0:
@@ -129,6 +131,7 @@ class Stats:
             gone.append(self._packet(cell, None, None))
 
     def _send(self, number: int, cell: Cell, gone: list[Row]) -> None:
+        """Counts a cell that leaves in this slot, and its packet where the cell is the last one."""
         flow, wait, name = self._flow(cell), number - cell.slot, (cell.input, cell.packet)
         self.slots = number + 1
         flow.waits.add(wait)
@@ -210,6 +213,7 @@ class Stats:
         }
 
     def _run_row(self, whole: Flow) -> Row:
+        """The figures of the whole run, with what left in all."""
         configuration, cells = self.configuration, len(whole.waits)
         row: Row = {
             "configuration": configuration.name,
@@ -239,6 +243,7 @@ class Stats:
         return round(cells / self.slots, 3) if self.slots else 0.0
 
     def _output_row(self, j: int, flow: Flow) -> Row:
+        """The figures of an output, with what left there."""
         cells, output = len(flow.waits), self.outputs[j]
         row = {
             "output": j,
@@ -253,6 +258,7 @@ class Stats:
         return row
 
     def _input_row(self, i: int) -> Row:
+        """The figures of an input."""
         packets, figures, ahead = self.run.captures.inputs[i], self.inputs[i], Spread()
         for start, stamp_slot in zip(packets.starts, packets.stamp_slots):
             ahead.add(start - stamp_slot)

@@ -17,6 +17,7 @@ class Lines:
         self._advance()
 
     def _read(self, numbers: int) -> Iterator[tuple[int, ...]]:
+        """The lines of the file, as they are read."""
         try:
             with open(self.name, encoding="ascii") as file:
                 for line in file:

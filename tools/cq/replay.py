@@ -155,6 +155,7 @@ class Replay:
             raise Fault(f"{self.trace.name}: it ends before {next(iter(self.waiting.values()))} leaves")
 
     def _step(self, number: int) -> Slot:
+        """Goes through a slot."""
         slot = Slot(number)
         while self._next and self._next[0] == number:
             self._arrive(slot, *self._next[1:])

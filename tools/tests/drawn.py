@@ -130,6 +130,7 @@ def quantile(values: list[int], per_cent: int) -> int | None:
 
 
 def four(values: list[int], name: str, unit: str) -> dict[str, Any]:
+    """The four figures of a list."""
     return {
         f"{name}_mean_{unit}": round(sum(values) / len(values), 3) if values else None,
         f"{name}_median_{unit}": quantile(values, 50),
@@ -161,6 +162,7 @@ def flows_of(fabric: Watched) -> list[dict[str, Any]]:
 
 
 def outputs_of(fabric: Watched, slots: int) -> list[dict[str, Any]]:
+    """The figures of each output, by the model."""
     rows = []
     for j in fabric.ports:
         cells = sum(output == j for _, output, _ in fabric.sent)
@@ -178,6 +180,7 @@ def outputs_of(fabric: Watched, slots: int) -> list[dict[str, Any]]:
 
 
 def inputs_of(fabric: Watched, slots: int) -> list[dict[str, Any]]:
+    """The figures of each input, by the model."""
     switch, rows, starts = fabric.switch, [], {}
     for slot, cells in switch.arrivals().items():
         starts.update({(cell.input, cell.packet): slot for cell in cells if cell.index == 0})
