@@ -5,7 +5,8 @@
 
 For each switch the model of the fabric writes the files of a run, and notes its figures slot by slot from whole
 lists and buffers; `stats.py` has to find the same figures in the files. Each cheaper switch has to send each cell
-once, from its arrival on, with one cell at most from an input and to an output in a slot.
+once, from its arrival on, with one cell at most from an input and to an output in a slot, and a maximal one leaves no
+cell waiting whose input and output are both free.
 """
 
 import argparse
@@ -248,18 +249,24 @@ def compare(draw: random.Random) -> list[str]:
 
 
 def broken_switches(configuration: Any) -> list[str]:
-    """The cheaper switches that break what every crossbar keeps."""
-    cells, said = cheaper.cells_of(configuration), []
-    for scheduler in cheaper.schedulers(configuration.ports, [1, 2]):
+    """The cheaper switches that break what every crossbar keeps. With as many iterations as ports iSLIP is maximal, as
+    the greedy matching is: no cell waits while its input and its output are both free."""
+    cells, ports, said = cheaper.cells_of(configuration), configuration.ports, []
+    for make in cheaper.schedulers(ports, [1, ports]):
         for ranked in (False, True):
-            left = cheaper.simulate(cells, configuration.ports, scheduler(), ranked).left
-            pairs = [
-                (slot, side, port)
-                for cell, slot in zip(cells, left)
-                for side, port in (("in", cell.input), ("out", cell.output))
-            ]
-            if len(set(pairs)) < len(pairs) or any(slot < cell.slot for cell, slot in zip(cells, left)):
-                said.append(f"cheaper: {scheduler().name} is no crossbar")
+            scheduler = make()
+            left = cheaper.simulate(cells, ports, scheduler, ranked).left
+            used = {
+                (slot, side) for cell, slot in zip(cells, left) for side in (("in", cell.input), ("out", cell.output))
+            }
+            if len(used) < 2 * len(cells) or any(slot < cell.slot for cell, slot in zip(cells, left)):
+                said.append(f"cheaper: {scheduler.name} is no crossbar")
+            if scheduler.name != "iSLIP 1" and any(
+                (slot, ("in", cell.input)) not in used and (slot, ("out", cell.output)) not in used
+                for cell, last in zip(cells, left)
+                for slot in range(cell.slot, last)
+            ):
+                said.append(f"cheaper: {scheduler.name} is not maximal")
     return said
 
 
