@@ -44,5 +44,7 @@ if command -v zsh >/dev/null; then
             wrong=1
         fi
     done
+else
+    echo 'completions.sh: missing: zsh: its completions were not tried'
 fi
 exit "$wrong"
