@@ -1,0 +1,107 @@
+//! Damaged captures: each is refused by number and place, and nothing is written.
+use super::crossed::RUNS;
+use super::made::{answer, files_of, set_if_there};
+use super::{FRAME, NANOSECONDS, Packet, capture_of, files_with};
+use std::test::Fail;
+
+/// A capture: the first bytes in place of those of a header, the packets, what follows them, how many of
+/// all these bytes are there, and what is said of it.
+type Damage = (
+    &'static [u8],
+    &'static [Packet],
+    &'static [u8],
+    usize,
+    &'static str,
+);
+
+const PACKET: &[Packet] = &[(0, 0, 60, 60)];
+
+const LONGEST_AND_ONE: &[Packet] = &[(0, 0, 262_145, 262_145)];
+
+/// A record header that states one captured byte.
+const ONE_BYTE: [u8; 16] = [0, 0, 0, 0, 0, 0, 0, 0, 1, 0, 0, 0, 60, 0, 0, 0];
+
+/// A record header that states 2^32 - 1 captured bytes.
+const ALL_BYTES: [u8; 16] = [0, 0, 0, 0, 0, 0, 0, 0, 255, 255, 255, 255, 60, 0, 0, 0];
+
+/// The header that is written, of link type 113.
+const COOKED: [u8; 24] = [
+    0x4d, 0x3c, 0xb2, 0xa1, 2, 0, 4, 0, 0, 0, 0, 0, 0, 0, 0, 0, 0, 0, 4, 0, 113, 0, 0, 0,
+];
+
+/// The same, of version 2.3.
+const COOKED_2_3: [u8; 24] = [
+    0x4d, 0x3c, 0xb2, 0xa1, 2, 0, 3, 0, 0, 0, 0, 0, 0, 0, 0, 0, 0, 0, 4, 0, 113, 0, 0, 0,
+];
+
+/// Shorter than a header; no magic; another version; another link type; and records that are cut, or too
+/// long.
+const DAMAGES: [Damage; 20] = [
+    (&[], &[], &[], 0, "1"),
+    (&[], &[], &[], 23, "1"),
+    (&[0x34, 0xcd, 0xb2, 0xa1], &[], &[], 24, "2"),
+    (&[0x0a, 0x0d, 0x0d, 0x0a], &[], &[], 24, "2"),
+    (&[0x1f, 0x8b, 8, 8], &[], &[], 24, "2"),
+    (&[0; 24], &[], &[], 24, "2"),
+    (&[0x4d, 0x3c, 0xb2, 0xa1, 2, 0, 3], &[], &[], 24, "3"),
+    (&[0x4d, 0x3c, 0xb2, 0xa1, 4, 0, 2], &[], &[], 24, "3"),
+    (&[0xa1, 0xb2, 0x3c, 0x4d], &[], &[], 24, "3"),
+    (&COOKED_2_3, &[], &[], 24, "3"),
+    (&COOKED, &[], &[], 24, "4"),
+    (&[], &[], &[0; 15], 39, "5 at 24"),
+    (&[], PACKET, &[0], 101, "5 at 100"),
+    (&[], PACKET, &[], 34, "5 at 24"),
+    (&[], PACKET, &[], 99, "6 at 24"),
+    (&[], PACKET, &ONE_BYTE, 116, "6 at 100"),
+    (&[], LONGEST_AND_ONE, &[], 262_185, "7 at 24, length 262145"),
+    (&[], LONGEST_AND_ONE, &[], 99, "7 at 24, length 262145"),
+    (&[], &[], &ALL_BYTES, 40, "7 at 24, length 4294967295"),
+    (&[], PACKET, &ALL_BYTES, 116, "7 at 100, length 4294967295"),
+];
+
+#[test]
+fn a_damaged_capture_is_refused_by_number_and_place(rt: HostRuntime) -> Result<(), Fail> {
+    let alloc = rt.alloc();
+    for (first, packets, more, len, said) in DAMAGES {
+        assert!(rt; first.len() <= NANOSECONDS.len());
+        let mut header = first.to_vec(alloc)?;
+        header.extend_from_slice(&NANOSECONDS[first.len()..])?;
+        let mut input = capture_of(alloc, &header, packets)?;
+        input.extend_from_slice(more)?;
+        input.truncate(len);
+        let mut files = files_with(alloc, "a", &input)?;
+        let refused = answer(&rt, alloc, &["pass", "a", "b"], &mut files)?;
+        let line = format!(in alloc; "capture of input 0: {said}\n")?;
+        assert_eq!(rt; refused.code, 3, "{said}");
+        assert_eq!(rt; refused.err.bytes(), line.as_bytes(), "{said}");
+        assert_eq!(rt; files.bytes("a"), Some(input.as_slice()), "{said}");
+        assert_eq!(rt; files.bytes("b"), None, "{said}");
+    }
+    Ok(())
+}
+
+/// A big-endian capture with microseconds: one packet of 60 bytes, of which the frame's head is still to
+/// come.
+const BIG_ENDIAN: [u8; 40] = [
+    0xa1, 0xb2, 0xc3, 0xd4, 0, 2, 0, 4, 0, 0, 0, 0, 0, 0, 0, 0, 0, 4, 0, 0, 0, 0, 0, 1, //
+    0, 0, 0, 0, 0, 0, 0, 0, 0, 0, 0, 60, 0, 0, 0, 60,
+];
+
+#[test]
+fn a_capture_of_another_form_runs_as_one_of_the_written_form(rt: HostRuntime) -> Result<(), Fail> {
+    let alloc = rt.alloc();
+    let mut big = BIG_ENDIAN.to_vec(alloc)?;
+    big.extend_from_slice(&FRAME)?;
+    big.resize(100, 0)?;
+    let mut files = files_of(alloc, RUNS[0].inputs, 1, RUNS[0].keys)?;
+    set_if_there(&mut files, "in0.pcap", Some(&big))?;
+    let done = answer(&rt, alloc, &["run", "c.toml"], &mut files)?;
+    assert_eq!(rt; done.code, 0);
+    assert_eq!(rt; done.out.bytes(), RUNS[0].report.as_bytes());
+    assert_eq!(rt; files.bytes("trace.txt"), Some(RUNS[0].trace.as_bytes()));
+    assert_eq!(rt; files.bytes("log.txt"), Some(RUNS[0].log.as_bytes()));
+    let output = super::made::capture_of(alloc, RUNS[0].outputs[0])?;
+    assert_eq!(rt; files.bytes("out0.pcap"), Some(output.as_slice()));
+    assert_eq!(rt; files.bytes("out1.pcap"), Some(NANOSECONDS.as_slice()));
+    Ok(())
+}
