@@ -1,8 +1,6 @@
--- A sketch: no contract cites these definitions yet.
---
 -- When a log is that of a stable run, and where it first is not. A stable run is a run of the fabric in which each
 -- phase takes any stable matching. A log is judged phase by phase: what its lines of a phase say of cells, then
--- whether their matching is stable, and the fabric goes on with it.
+-- whether their matching is stable, and the fabric goes on with it. No contract cites these definitions yet.
 use Rattle.std.specs.Prelude.{◌≡◌, ◌≢◌, ℕ, ◌<◌, ◌≤◌, ◌&&◌, ◌==◌, nat_lt, ◌⊎◌, List, length, map, filter, find, take, slice_get, Option, Some}
 use Rattle.std.specs.List.{range_with_len}
 use Rattle.std.specs.Option.{option_map}

@@ -3,7 +3,7 @@ ghost use Rattle.std.specs.Prelude.{◌≡◌, ℕ, List, ◌∷◌, IfSome, IfN
 ghost use Rattle.cq_audit.specs.Trace.{DiffersFirst};
 
 /// The first line, from 1, in which the trace differs from the ideal one. None exactly where both are equal.
-/// A text that ends early differs in the line that it lacks.
+/// Where one of them ends and the other goes on, this is the line that goes on.
 pub fn audit_trace(trace: &[u8], ideal: &[u8]) -> Option<u64>
     ensures { MatchOption result (trace.now ≡ ideal.now) (DiffersFirst trace.now ideal.now) }
 {

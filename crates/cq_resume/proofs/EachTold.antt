@@ -1,6 +1,6 @@
--- Each text that is allowed is that of a state. From the front on: where a kind is due, the lines that lead to the end
--- of the text begin with those of this kind, each of which tells what its fields say, and what is behind them leads to
--- the end from where the next kind is due.
+-- Each text that is allowed is that of a state. From the front on: where a kind is due, the lines that lead to the
+-- end of the text begin with those of this kind, each of which tells what its fields say, and what is behind them
+-- leads to the end from where the next kind is due.
 use Rattle.std.proofs.Common.{◌≡◌, ℕ, ◌+◌, ◌<◌, ◌≤◌, List, [], ◌∷◌, ◌++◌, length, Option, refl, ap, sym, subst, ◌∙◌, arith, ⊎_elim, inl, inr}
 use Rattle.std.specs.Prelude.{IsTrue, ◌⊎◌}
 use Rattle.std.specs.List.{AllByRecursion}
@@ -51,7 +51,8 @@ module _ (k : Kind) (not_free : IsTrue (is_free k) → ⊥) (needs_one : (ports 
   no_more : (ports : ℕ) (xs : List Line) → Completes (at (k ∷ due) 1 ports) xs → Completes (at due 0 ports) xs
   no_more ports [] c = (ends k due 1 ports c).1
   no_more ports (x ∷ xs) c = ⊎_elim
-      (λ one. ⊎_elim (λ free. absurd (not_free free)) (λ low. let needs = needs_one ports in absurd (omega arith)) one.room)
+      (λ one. ⊎_elim (λ free. absurd (not_free free)) (λ low. let needs = needs_one ports in absurd (omega arith))
+      one.room)
       (λ later. later.1) (goes_on k due 1 ports x xs c)
 
   pub record OneTold (ports : ℕ) (xs : List Line) : Type 0 where
@@ -77,7 +78,8 @@ module _ (k : Kind) (not_free : IsTrue (is_free k) → ⊥) (needs_one : (ports 
 -- ## Many lines
 
 module _ {X : Type 0} (k : Kind) (due : List Kind) (ports : ℕ) (told : (fs : List (Option ℕ)) →
-    ports_behind ports k fs ≡ ports) (line : ℕ → X → Line) (value : List (Option ℕ) → X) (Is : X → Type 0) (reads : (seen :
+    ports_behind ports k fs ≡ ports) (line : ℕ → X → Line) (value : List (Option ℕ) → X) (Is : X → Type 0) (reads :
+    (seen :
     ℕ) (fs : List (Option ℕ)) → Within (ranges ports seen k) (further k) fs → (line_of k fs ≡ line seen (value fs)) × Is
     (value fs)) where
   -- the lines of this kind, and those behind them
@@ -93,7 +95,16 @@ module _ {X : Type 0} (k : Kind) (due : List Kind) (ports : ℕ) (told : (fs : L
   pub many_told : (xs : List Line) (seen : ℕ) → IsTrue (is_free k) ⊎ (seen ≤ needed ports k) →
       Completes (at (k ∷ due) seen ports) xs → ManyTold seen xs
   many_told [] seen few c = let end = ends k due seen ports c in
-      record { values = []; behind = []; is = refl; in_range = tt; enough = none end.0; few = none_few few; rest = end.1 }
+      record {
+        values = [];
+        behind = [];
+        is = refl;
+        in_range = tt;
+        enough = none end.0;
+        few = none_few few;
+        rest =
+            end.1;
+      }
     where
       none : needed ports k ≤ seen → needed ports k ≤ seen + 0
       none enough = omega arith

@@ -1,5 +1,6 @@
--- What the fields of a line tell. Fields are in the ranges of a kind of line exactly where they are the numbers of what
--- the line tells, and these are in their own ranges. Fields are taken one by one: each range asks for its own.
+-- What the fields of a line tell. Fields are in the ranges of a kind of line exactly where they are the numbers of
+-- what the line tells, and these are in their own ranges. Fields are taken one by one, for each range asks for its
+-- own.
 use Rattle.std.proofs.Common.{◌≡◌, ℕ, zero, suc, ◌-◌, ◌^◌, ◌<◌, ◌≤◌, true, false, List, [], ◌∷◌, length, map, get_or, Option, None, Some, refl, ap, sym, ◌∙◌, arith}
 use Rattle.std.proofs.lemmas.List.{length-map}
 use Rattle.std.specs.Prelude.{⊤, IfSome, unwrap_or}
@@ -89,7 +90,16 @@ named_fits ports c few is =
     let level = is.level in
     let rank = is.rank in (
       (omega arith, level, omega arith),
-      ((omega arith, omega arith, rank), (count_in_range c.slot is.slot, (low_in_range ports c.input few is.input, tt))),
+      (
+        (omega arith, omega arith, rank),
+        (
+          count_in_range c.slot is.slot,
+          (
+            low_in_range ports c.input few is.input,
+            tt,
+          ),
+        ),
+      ),
     )
 
 pub named_within : (ports : ℕ) (c : Named) → ports ≤ 64 → IsNamed ports c →
@@ -205,8 +215,12 @@ counts_told fs w =
     let e = first.is in
     let f = second.is in
     let low = first.high in
-    let high = second.high in
-    (whole ∙ ap (λ g. g ∷ get_or fs 1 None ∷ []) e ∙ ap (λ g. Some (number_at fs 0) ∷ g ∷ []) f, omega arith, omega arith)
+    let high = second.high in (
+      whole ∙ ap (λ g. g ∷ get_or fs 1 None ∷ []) e ∙ ap (λ g. Some (number_at fs 0) ∷ g ∷ []) f,
+      omega arith,
+      omega
+          arith,
+    )
 
 four : (fs : List (Option ℕ)) (a b c d : Option ℕ) (w x y z : ℕ) → fs ≡ a ∷ b ∷ c ∷ d ∷ [] → a ≡ Some w →
     b ≡ Some x → c ≡ Some y → d ≡ Some z → fs ≡ map Some (w ∷ x ∷ y ∷ z ∷ [])

@@ -1,7 +1,7 @@
--- States and texts stand one for one. What the lines of a text that is allowed tell is a state in range, and its lines
--- are those of the text. And who gathers what the lines of a state tell has the state again, so states with the same
--- lines are the same.
-use Rattle.std.proofs.Common.{◌≡◌, ℕ, ◌+◌, ◌≤◌, false, true, List, [], ◌∷◌, ◌++◌, length, map, Some, refl, ap, sym, subst, ◌∙◌, arith, append_assoc, ⊎_elim, inl, inr}
+-- States and texts stand one for one. What the lines of a text that is allowed tell is a state in range, and its
+-- lines are those of the text. And who gathers what the lines of a state tell has the state again, so states with
+-- the same lines are the same.
+use Rattle.std.proofs.Common.{◌≡◌, ℕ, ◌+◌, ◌≤◌, false, true, List, [], ◌∷◌, ◌++◌, length, map, drop, Option, Some, refl, ap, sym, subst, ◌∙◌, arith, append_assoc, ⊎_elim, inl, inr}
 use Rattle.std.specs.Prelude.{IsTrue, unwrap_or, ◌⊎◌}
 use Rattle.std.specs.List.{AllByRecursion}
 use Rattle.std.proofs.lemmas.List.{append-nil}
@@ -10,12 +10,13 @@ use Rattle.cq_resume.proofs.EachTold.{one_told, many_told, line_of}
 use Rattle.cq_resume.proofs.Fields.{version_told, end_told, count_told, counts_told, shape_told, seen_told, rank_told, named_told, sent_told, moved_told}
 use Rattle.cq_resume.proofs.OneReading.{state_is_exact}
 use Rattle.cq_resume.proofs.Written.{at, Completes, state_has_text}
+use Rattle.cq_resume.specs.declared.kind.Kind.{Kind}
 use Rattle.cq_resume.specs.declared.kind.Kind.TheVariants.{Version, Next, Shape, Sum, Input, Rank, Listed, Buffered, Sent, Moved, End}
 use Rattle.cq_resume.specs.declared.state.Seen.{Seen}
 use Rattle.cq_resume.specs.declared.state.Named.{Named}
 use Rattle.cq_resume.specs.declared.state.Sent as kept
 use Rattle.cq_resume.specs.declared.state.State.{State}
-use Rattle.cq_resume.specs.StateText.{Line, start, IsStateText}
+use Rattle.cq_resume.specs.StateText.{Line, kinds, start, IsStateText}
 use Rattle.cq_resume.specs.State.{IsInRange, IsSeen, AreRankNumbers, IsNamed, IsSent, IsMoved, state_lines, state_text, numbered, input_line, rank_line, cell_line, sent_line, moved_line}
 use Rattle.cq_resume.specs.Gather.{added, gathered, nothing, number_at, seen_of, rank_of, named_of, sent_of, moved_of}
 use Rattle.cq_resume.specs.OneText.{HaveOneText}
@@ -76,28 +77,34 @@ same_numbers (n ∷ ns) = ap (λ ms. n ∷ ms) (same_numbers ns)
 ranks_add : (xs : List (List ℕ)) (s : State) (rest : List Line) → gathered s (numbered rank_line 0 xs ++ rest)
     ≡ gathered (with_ranks s xs) rest
 ranks_add xs s rest = part_adds rank_line with_ranks (λ _. Unit {0}) (λ t. ap (λ l. record t { ranks = l }) (append-nil
-    t.ranks)) (λ t x ys. ap (λ l. record t { ranks = l }) (append_assoc t.ranks (x ∷ []) ys)) (λ t n x _. ap (λ ns. record
+    t.ranks)) (λ t x ys. ap (λ l. record t { ranks = l }) (append_assoc t.ranks (x ∷ []) ys)) (λ t n x _. ap (λ ns.
+    record
     t { ranks = t.ranks ++ ns ∷ [] }) (same_numbers x)) xs 0 s rest (all_any xs)
 
 listed_add : (xs : List Named) (s : State) (rest : List Line) → gathered s (map (cell_line Listed) xs ++ rest)
     ≡ gathered (with_listed s xs) rest
 listed_add xs s rest = ap (λ ls. gathered s (ls ++ rest)) (map_numbered (cell_line Listed) 0 xs)
-    ∙ part_adds (plain (cell_line Listed)) with_listed (λ _. Unit {0}) (λ t. ap (λ l. record t { listed = l }) (append-nil
-    t.listed)) (λ t x ys. ap (λ l. record t { listed = l }) (append_assoc t.listed (x ∷ []) ys)) (λ t n x _. refl) xs 0 s
+    ∙ part_adds (plain (cell_line Listed)) with_listed (λ _. Unit {0}) (λ t. ap (λ l. record t { listed = l })
+    (append-nil
+    t.listed)) (λ t x ys. ap (λ l. record t { listed = l }) (append_assoc t.listed (x ∷ []) ys)) (λ t n x _. refl)
+    xs 0 s
     rest (all_any xs)
 
 buffered_add : (xs : List Named) (s : State) (rest : List Line) → gathered s (map (cell_line Buffered) xs ++ rest)
     ≡ gathered (with_buffered s xs) rest
 buffered_add xs s rest = ap (λ ls. gathered s (ls ++ rest)) (map_numbered (cell_line Buffered) 0 xs)
     ∙ part_adds (plain (cell_line Buffered)) with_buffered (λ _. Unit {0}) (λ t. ap (λ l. record t { buffered = l })
-    (append-nil t.buffered)) (λ t x ys. ap (λ l. record t { buffered = l }) (append_assoc t.buffered (x ∷ []) ys)) (λ t n
+    (append-nil t.buffered)) (λ t x ys. ap (λ l. record t { buffered = l }) (append_assoc t.buffered (x ∷ []) ys))
+    (λ t n
     x _. refl) xs 0 s rest (all_any xs)
 
 sent_add : (xs : List kept.Sent) (s : State) (rest : List Line) → gathered s (map sent_line xs ++ rest)
     ≡ gathered (with_sent s xs) rest
 sent_add xs s rest = ap (λ ls. gathered s (ls ++ rest)) (map_numbered sent_line 0 xs)
-    ∙ part_adds (plain sent_line) with_sent (λ _. Unit {0}) (λ t. ap (λ l. record t { sent = l }) (append-nil t.sent)) (λ
-    t x ys. ap (λ l. record t { sent = l }) (append_assoc t.sent (x ∷ []) ys)) (λ t n x _. refl) xs 0 s rest (all_any xs)
+    ∙ part_adds (plain sent_line) with_sent (λ _. Unit {0}) (λ t. ap (λ l. record t { sent = l }) (append-nil
+    t.sent)) (λ
+    t x ys. ap (λ l. record t { sent = l }) (append_assoc t.sent (x ∷ []) ys)) (λ t n x _. refl) xs 0 s rest
+    (all_any xs)
 
 moved_again : (t : Transfer) → t.id.input ≡ t.input → moved_of (moved_line t).fields ≡ t
 moved_again t own = ap (λ i. record t { id = record (t.id) { input = i } }) (sym own)
@@ -146,48 +153,34 @@ unfolding Completes
 nothing_behind ports [] c = refl
 nothing_behind ports (x ∷ xs) c = absurd c.1.1
 
+told_line : {A : Type 0} {fs gs : List (Option ℕ)} (k : Kind) → (fs ≡ gs) × A → (line_of k fs ≡ line_of k gs) × A
+told_line k told = (ap (line_of k) told.0, told.1)
+
 pub each_told : (xs : List Line) → Completes start xs → (s : State) × IsInRange s × (xs ≡ state_lines s)
 unfolding state_lines
 each_told xs c =
-    let version = one_told Version false_is_not_true (λ _. refl) (Next ∷ Shape ∷ Sum ∷ Input ∷ Rank ∷ Listed ∷ Buffered
-    ∷ Sent ∷ Moved ∷ End ∷ []) 0 xs c in
-    let next = one_told Next false_is_not_true (λ _. refl) (Shape ∷ Sum ∷ Input ∷ Rank ∷ Listed ∷ Buffered ∷ Sent ∷ Moved
-    ∷ End ∷ []) 0 version.behind version.rest in
-    let shape = one_told Shape false_is_not_true (λ _. refl) (Sum ∷ Input ∷ Rank ∷ Listed ∷ Buffered ∷ Sent ∷ Moved ∷ End
-    ∷ []) 0 next.behind next.rest in
+    let version = one_told Version false_is_not_true (λ _. refl) (drop 1 kinds) 0 xs c in
+    let next = one_told Next false_is_not_true (λ _. refl) (drop 2 kinds) 0 version.behind version.rest in
+    let shape = one_told Shape false_is_not_true (λ _. refl) (drop 3 kinds) 0 next.behind next.rest in
     let ports : ℕ = number_at shape.fields 0 in
-    let sum = one_told Sum false_is_not_true (λ _. refl) (Input ∷ Rank ∷ Listed ∷ Buffered ∷ Sent ∷ Moved ∷ End ∷ [])
-    ports shape.behind shape.rest in
+    let sum = one_told Sum false_is_not_true (λ _. refl) (drop 4 kinds) ports shape.behind shape.rest in
     let is_shape = shape_told shape.fields shape.within in
     let next_told = count_told next.fields next.within in
     let sum_told = counts_told sum.fields sum.within in
     let some = is_shape.ports.0 in
-    let inputs = many_told Input (Rank ∷ Listed ∷ Buffered ∷ Sent ∷ Moved ∷ End ∷ []) ports (λ _. refl) input_line seen_of
-    IsSeen (λ i fs w. (ap (line_of Input) (seen_told i fs w).0, (seen_told i fs w).1)) sum.behind 0 (inr (omega arith))
-    sum.rest in
-    let ranks = many_told Rank (Listed ∷ Buffered ∷ Sent ∷ Moved ∷ End ∷ []) ports (λ _. refl) rank_line rank_of
-    AreRankNumbers (λ j fs w. (ap (line_of Rank) (rank_told j fs w).0, (rank_told j fs w).1)) inputs.behind 0 (inr (omega
-    arith)) inputs.rest in
-    let listed = many_told Listed (Buffered ∷ Sent ∷ Moved ∷ End ∷ []) ports (λ _. refl) (plain (cell_line Listed)) (λ fs.
-    named_of fs 0) (IsNamed ports) (λ _ fs w. (
-      ap (line_of Listed) (named_told ports fs some w).0,
-      (named_told ports fs
-          some w).1,
-    )) ranks.behind 0 (inl refl) ranks.rest in
-    let buffered = many_told Buffered (Sent ∷ Moved ∷ End ∷ []) ports (λ _. refl) (plain (cell_line Buffered)) (λ fs.
-    named_of fs 0) (IsNamed ports) (λ _ fs w. (
-      ap (line_of Buffered) (named_told ports fs some w).0,
-      (named_told ports fs
-          some w).1,
-    )) listed.behind 0 (inl refl) listed.rest in
-    let sent = many_told Sent (Moved ∷ End ∷ []) ports (λ _. refl) (plain sent_line) sent_of (IsSent ports) (λ _ fs w.
-    (ap (line_of Sent) (sent_told ports fs some w).0, (sent_told ports fs some w).1)) buffered.behind 0 (inl refl)
-    buffered.rest in
-    let moved = many_told Moved (End ∷ []) ports (λ _. refl) (plain moved_line) moved_of (IsMoved ports) (λ _ fs w. (
-      ap
-          (line_of Moved) (moved_told ports fs some w).0,
-      (moved_told ports fs some w).1,
-    )) sent.behind 0 (inl refl) sent.rest in
+    let inputs = many_told Input (drop 5 kinds) ports (λ _. refl) input_line seen_of IsSeen
+    (λ i fs w. told_line Input (seen_told i fs w)) sum.behind 0 (inr (omega arith)) sum.rest in
+    let ranks = many_told Rank (drop 6 kinds) ports (λ _. refl) rank_line rank_of AreRankNumbers
+    (λ j fs w. told_line Rank (rank_told j fs w)) inputs.behind 0 (inr (omega arith)) inputs.rest in
+    let listed = many_told Listed (drop 7 kinds) ports (λ _. refl) (plain (cell_line Listed)) (λ fs. named_of fs 0)
+    (IsNamed ports) (λ _ fs w. told_line Listed (named_told ports fs some w)) ranks.behind 0 (inl refl) ranks.rest in
+    let buffered = many_told Buffered (drop 8 kinds) ports (λ _. refl) (plain (cell_line Buffered))
+    (λ fs. named_of fs 0) (IsNamed ports) (λ _ fs w. told_line Buffered (named_told ports fs some w)) listed.behind 0
+    (inl refl) listed.rest in
+    let sent = many_told Sent (drop 9 kinds) ports (λ _. refl) (plain sent_line) sent_of (IsSent ports)
+    (λ _ fs w. told_line Sent (sent_told ports fs some w)) buffered.behind 0 (inl refl) buffered.rest in
+    let moved = many_told Moved (drop 10 kinds) ports (λ _. refl) (plain moved_line) moved_of (IsMoved ports)
+    (λ _ fs w. told_line Moved (moved_told ports fs some w)) sent.behind 0 (inl refl) sent.rest in
     let end = one_told End false_is_not_true (λ _. refl) [] ports moved.behind moved.rest in
     let s : State = record {
       head = record {
@@ -247,7 +240,8 @@ unfolding Completes
 have_one_text = record {
   allowed = state_has_text;
   one_state = λ s t is_s is_t e.
-      let same = state_is_exact.one_reading (state_lines s) (state_lines t) (state_text s) (state_has_text s is_s) (subst
+      let same = state_is_exact.one_reading (state_lines s) (state_lines t) (state_text s) (state_has_text s is_s)
+      (subst
       (λ text. IsStateText (state_lines t) text) (sym e) (state_has_text t is_t)) in
       sym (state_again s is_s) ∙ ap (gathered nothing) same ∙ state_again t is_t;
   each_told = λ xs text f. each_told xs (f.last, f.allowed, f.ended);

@@ -1,5 +1,5 @@
--- Writing a state's text part by part. A part is put line by line; and parts that are put one after another are one text,
--- which is seen from the end back: what is put last stands behind what was put before it.
+-- Writing a state's text part by part. A part is put line by line. Parts that are put one after another are one
+-- text, which is seen from the end back: what is put last stands behind what was put before it.
 use Rattle.std.proofs.Common.{◌≡◌, ℕ, ◌+◌, ◌<◌, ◌≤◌, List, [], ◌∷◌, ◌++◌, length, map, take, get_or, Option, ap, sym, ◌∙◌, arith, append_assoc, length-take}
 use Rattle.std.specs.List.{flat_map}
 use Rattle.std.proofs.lemmas.List.{append-nil, map-append, take_more, take_all}
@@ -66,7 +66,8 @@ module _ {X : Type 0} (xs : List X) (old : List ℕ) (k : Kind) where
       let size : 0 + length (take i xs) ≡ i = omega (arith, length-take i xs) in
       line_behind old now new (numbered line 0 (take i xs)) (line i x) e (f ∙ ap (λ z. now ++ spelled z) (same_line k fs
       (line i x) (own i x) fields))
-      ∙ ap (λ ls. old ++ text ls) (sym (ap (numbered line 0) (take_more xs i d inside) ∙ numbered_more line 0 (take i xs) x
+      ∙ ap (λ ls. old ++ text ls) (sym (ap (numbered line 0) (take_more xs i d inside) ∙ numbered_more line 0 (take
+      i xs) x
       ∙ ap (λ m. numbered line 0 (take i xs) ++ line m x ∷ []) size))
 
   pub numbered_lines_put : (line : ℕ → X → Line) (i : ℕ) (new : List ℕ) → length xs ≤ i →

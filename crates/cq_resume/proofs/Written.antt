@@ -74,7 +74,8 @@ numbered_part k due ports line own told (x ∷ xs) rest n few all low after =
     let count : n + length (x ∷ xs) ≡ (n + 1) + length xs = omega arith in
     one_more k due n ports ports (line n x) (numbered line (n + 1) xs ++ rest) (own n x) (inr here)
     ((all n (omega arith)).0) (told n x)
-    (numbered_part k due ports line own told xs rest (n + 1) (omega arith) (λ i small. (all i small).1) low (subst (λ m. Completes
+    (numbered_part k due ports line own told xs rest (n + 1) (omega arith) (λ i small. (all i small).1) low
+    (subst (λ m. Completes
     (at (k ∷ due) m ports) rest) count after))
 
 version_within : Within (ranges 0 0 Version) 0 (Some 1 ∷ [])
@@ -127,12 +128,14 @@ module _ (s : State) (is : IsInRange s) where
       (λ seen. skip Sent (Moved ∷ End ∷ []) seen s.head.ports _ (omega arith) (moved_due 0))
 
   cells_due : (k : Kind) (due : List Kind) (own : (seen : ℕ) → HasRoom s.head.ports k seen) (cells : List Named)
-      (rest : List Line) → ((seen : ℕ) → ranges s.head.ports seen k ≡ cell s.head.ports) → further k ≡ 0 → ((c : Named) →
+      (rest : List Line) → ((seen : ℕ) → ranges s.head.ports seen k ≡ cell s.head.ports) → further k ≡ 0 →
+      ((c : Named) →
       s.head.ports ≡ ports_behind s.head.ports k (cell_line k c).fields) → AllByRecursion (IsNamed s.head.ports) cells →
       ((seen : ℕ) → Completes (at (k ∷ due) seen s.head.ports) rest) → (seen : ℕ) →
       Completes (at (k ∷ due) seen s.head.ports) (map (cell_line k) cells ++ rest)
   cells_due k due own cells rest same none told all after = free_part k due s.head.ports (cell_line k) (λ _. refl) own
-      told cells rest (all_within _ _ (λ c is_named seen. subst (λ rs. Within rs (further k) (cell_line k c).fields) (sym
+      told cells rest (all_within _ _ (λ c is_named seen. subst (λ rs. Within rs (further k) (cell_line k c).fields)
+      (sym
       (same seen)) (subst (λ n. Within (cell s.head.ports) n (cell_line k c).fields) (sym none) (named_within
       s.head.ports c few is_named))) cells all) after
 
@@ -156,10 +159,12 @@ module _ (s : State) (is : IsInRange s) where
       _ _ (λ ns. rank_within j ns small) s.ranks is.ranks) few (skip Rank _ (0 + length s.ranks) s.head.ports _ told.1
       (listed_due 0))
 
-  inputs_due : Completes (at (Input ∷ Rank ∷ Listed ∷ Buffered ∷ Sent ∷ Moved ∷ End ∷ []) 0 s.head.ports) (from_inputs s)
+  inputs_due : Completes (at (Input ∷ Rank ∷ Listed ∷ Buffered ∷ Sent ∷ Moved ∷ End ∷ []) 0 s.head.ports)
+      (from_inputs s)
   inputs_due =
       let told = all_told (length s.inputs) is.inputs_told in
-      numbered_part Input _ s.head.ports input_line (λ _ _. refl) (λ _ _. refl) s.inputs _ 0 told.0 (λ i small. all_within
+      numbered_part Input _ s.head.ports input_line (λ _ _. refl) (λ _ _. refl) s.inputs _ 0 told.0 (λ i small.
+      all_within
       _ _ (λ x. seen_within i x small) s.inputs is.inputs) few (skip Input _ (0 + length s.inputs) s.head.ports _ told.1
       ranks_due)
 

@@ -7,7 +7,7 @@ ghost use Rattle.cq_resume.specs.StateText.{word, needed, is_free, ranges, furth
 use cq_lines::{Range, behind, take_fields_within};
 
 /// A kind of line, in the order in which they stand.
-#[derive(Clone, Copy, Debug, PartialEq, Eq)]
+#[derive(Clone, Copy)]
 pub enum Kind {
     /// Which form of text it is.
     Version,
@@ -108,7 +108,8 @@ pub fn take_kind<'a>(
     text: &'a [u8],
     to: &mut [Option<u128>; MOST_FIELDS],
 ) -> Option<(usize, &'a [u8])>
-    ensures found { IfSome result (λ f. (f.0 ≤ length to.new) × Within (ranges ports index kind) (further kind) (take f.0 to.new)
+    ensures found { IfSome result (λ f. (f.0 ≤ length to.new)
+        × Within (ranges ports index kind) (further kind) (take f.0 to.new)
         × (text.now ≡ line (word kind) (take f.0 to.new) ++ f.1.now)) }
     ensures none { IfNone result ((fs : List (Option ℕ)) (more : List ℕ) →
         Within (ranges ports index kind) (further kind) fs → text.now ≢ line (word kind) fs ++ more) }
@@ -125,7 +126,8 @@ fn take_kind_fields<'a>(
     text: &'a [u8],
     to: &mut [Option<u128>; MOST_FIELDS],
 ) -> Option<(usize, &'a [u8])>
-    ensures found { IfSome result (λ f. (f.0 ≤ length to.new) × Within (ranges ports index kind) (further kind) (take f.0 to.new)
+    ensures found { IfSome result (λ f. (f.0 ≤ length to.new)
+        × Within (ranges ports index kind) (further kind) (take f.0 to.new)
         × (text.now ≡ ending (take f.0 to.new) ++ f.1.now)) }
     ensures none { IfNone result ((fs : List (Option ℕ)) (more : List ℕ) →
         Within (ranges ports index kind) (further kind) fs → text.now ≢ ending fs ++ more) }

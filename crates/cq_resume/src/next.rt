@@ -96,7 +96,8 @@ fn take_due<'a>(
     to: &mut [Option<u128>; MOST_FIELDS],
 ) -> Option<(usize, &'a [u8])>
     ensures room { IfSome result (λ f. HasRoom ports kind seen) }
-    ensures found { IfSome result (λ f. (f.0 ≤ length to.new) × Within (ranges ports seen kind) (further kind) (take f.0 to.new)
+    ensures found { IfSome result (λ f. (f.0 ≤ length to.new)
+        × Within (ranges ports seen kind) (further kind) (take f.0 to.new)
         × (text.now ≡ line (word kind) (take f.0 to.new) ++ f.1.now)) }
     ensures none { IfNone result ((fs : List (Option ℕ)) (more : List ℕ) → HasRoom ports kind seen →
         Within (ranges ports seen kind) (further kind) fs → text.now ≢ line (word kind) fs ++ more) }

@@ -10,5 +10,6 @@ inputs-preserved c =
     c.inputs-test.true c.inputs.invariant c.input_fields.ensures c.in_ok-put_numbers.ensures
 
 pub returns : goal.returns
-returns c = numbered_lines_put c.args.inputs.now c.args.text.now.items kind.Input input_line c.inputs.input _ c.inputs-test.false
+returns c = numbered_lines_put c.args.inputs.now c.args.text.now.items kind.Input input_line c.inputs.input _
+    c.inputs-test.false
     c.inputs.invariant

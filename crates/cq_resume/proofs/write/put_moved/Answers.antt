@@ -10,5 +10,6 @@ moved-preserved c =
     c.moved-test.true c.moved.invariant c.moved_fields.ensures c.in_ok-put_numbers.ensures
 
 pub returns : goal.returns
-returns c = lines_put c.args.moved.now c.args.text.now.items kind.Moved moved_line c.moved.transfer-index _ c.moved-test.false
+returns c = lines_put c.args.moved.now c.args.text.now.items kind.Moved moved_line c.moved.transfer-index _
+    c.moved-test.false
     c.moved.invariant

@@ -10,5 +10,6 @@ sent-preserved c =
     c.sent-test.true c.sent.invariant c.sent_fields.ensures c.in_ok-put_numbers.ensures
 
 pub returns : goal.returns
-returns c = lines_put c.args.sent.now c.args.text.now.items kind.Sent sent_line c.sent.departure-index _ c.sent-test.false
+returns c = lines_put c.args.sent.now c.args.text.now.items kind.Sent sent_line c.sent.departure-index _
+    c.sent-test.false
     c.sent.invariant
