@@ -169,33 +169,19 @@ fn what_was_read_is_not_written_over_by_another_name(rt: HostRuntime) -> Result<
     let dotted = format!(in alloc; "/.{name}")?;
     fs::write(&rt, &name, TEXT)?;
     fs::hard_link(&rt, &name, &linked)?;
-    let mut files = HostFiles::new(alloc, &rt);
-    let _bytes = read_whole(alloc, &mut files, &name, 9)?;
-    for again in [&dotted, &linked] {
-        assert_eq!(rt;
-            write_whole(&mut files, again, b"lost"),
-            Err(WriteFault),
-            "{again}"
-        );
-        assert_eq!(rt;
-            fs::read(&rt, &name)?.as_slice(),
-            TEXT.as_slice(),
-            "{again}"
-        );
-    }
-    assert_eq!(rt; files.faults, 2);
-    // A file that was not read, and one under the name that it was read by, are written.
-    for written in [&other, &name] {
-        assert_eq!(rt;
-            write_whole(&mut files, written, b"new"),
-            Ok(()),
-            "{written}"
-        );
-        assert_eq!(rt;
-            fs::read(&rt, written)?.as_slice(),
-            b"new".as_slice(),
-            "{written}"
-        );
+    // What is written after that, and what it then has.
+    let cases: [(&str, Result<(), WriteFault>, &[u8]); 4] = [
+        (&dotted, Err(WriteFault), TEXT),
+        (&linked, Err(WriteFault), TEXT),
+        (&other, Ok(()), b"new"),
+        (&name, Ok(()), b"new"),
+    ];
+    for (written, wanted, left) in cases {
+        let mut files = HostFiles::new(alloc, &rt);
+        let _bytes = read_whole(alloc, &mut files, &name, 9)?;
+        assert_eq!(rt; write_whole(&mut files, written, b"new"), wanted, "{written}");
+        assert_eq!(rt; files.faults, u64::from(wanted.is_err()), "{written}");
+        assert_eq!(rt; fs::read(&rt, written)?.as_slice(), left, "{written}");
     }
     for gone in [&name, &linked, &other] {
         fs::remove_file(&rt, gone)?;
