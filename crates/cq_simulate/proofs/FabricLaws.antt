@@ -35,13 +35,18 @@ use Rattle.cq_laws.proofs.EndsTogether.{end_alike, slots_told, stable_whole}
 use Rattle.cq_laws.specs.Measures.{figures_of}
 use Rattle.cq_simulate.proofs.Departed.{runnable}
 
-slots_fit : (ports classes : ℕ) (came : List Arrival) (slot n : ℕ) → IsTraffic ports classes came → AllByRecursion (AreForPorts ports classes) (arriving_from came slot n)
+slots_fit : (ports classes : ℕ) (came : List Arrival) (slot n : ℕ) → IsTraffic ports classes came →
+    AllByRecursion (AreForPorts ports classes) (arriving_from came slot n)
 unfolding arriving_from
 slots_fit ports classes came slot zero traffic = tt
-slots_fit ports classes came slot (suc n) traffic = (arrivals_for ports classes came slot traffic, slots_fit ports classes came (slot + 1) n traffic)
+slots_fit ports classes came slot (suc n) traffic =
+    (arrivals_for ports classes came slot traffic, slots_fit ports classes came (slot + 1) n traffic)
 
 -- in a slot between states that agree both matchings are those of orders by first cells
-each_best : (ms : List Machine) (class_count slot : ℕ) (traffic : List (List (Option Cell))) (f g : Fabric) (ideal : IdealState) (rs : List SlotRecord) → Agrees slot f ideal → AllByRecursion (AreForPorts (length f.inputs) class_count) traffic → FabricRun IsInputBest ms slot traffic f rs g → AreInputBest rs
+each_best : (ms : List Machine) (class_count slot : ℕ) (traffic : List (List (Option Cell))) (f g : Fabric)
+    (ideal : IdealState) (rs : List SlotRecord) → Agrees slot f ideal →
+    AllByRecursion (AreForPorts (length f.inputs) class_count) traffic →
+    FabricRun IsInputBest ms slot traffic f rs g → AreInputBest rs
 each_best ms class_count slot [] f g ideal [] agrees come h = tt
 each_best ms class_count slot [] f g ideal (r ∷ rs) agrees come h = absurd h
 each_best ms class_count slot (cells ∷ traffic) f g ideal [] agrees come h = absurd h
@@ -51,30 +56,43 @@ each_best ms class_count slot (cells ∷ traffic) f g ideal (r ∷ rs) agrees co
     let ports = ports_kept ms slot class_count cells f next ideal r agrees come.0 stable in
     let before = (arrived ms slot class_count cells f next ideal r agrees come.0 stable).apart in
     let after = (after_sent ms slot class_count cells f next ideal r agrees come.0 stable).apart in (
-      (record { orders = orders_are r.arrived before; best = is.first_chosen }, record { orders = orders_are r.sent after; best = is.second_chosen }),
-      each_best ms class_count (slot + 1) traffic next g one.next rs one.agrees (subst (λ n. AllByRecursion (AreForPorts n class_count) traffic) (sym ports) come.1) rest,
+      (
+        record { orders = orders_are r.arrived before; best = is.first_chosen },
+        record { orders = orders_are r.sent after; best = is.second_chosen },
+      ),
+      each_best ms class_count (slot + 1) traffic next g one.next rs one.agrees (subst (λ n.
+          AllByRecursion (AreForPorts n class_count) traffic) (sym ports) come.1) rest,
     )
 
 module _ (setup : Setup) (came : List Arrival) where
-  traffic_fits : (n : ℕ) → IsTraffic (ports_of setup) (classes_of setup) came → AllByRecursion (AreForPorts (ports_of setup) (classes_of setup)) (first_slots came n)
+  traffic_fits : (n : ℕ) → IsTraffic (ports_of setup) (classes_of setup) came →
+      AllByRecursion (AreForPorts (ports_of setup) (classes_of setup)) (first_slots came n)
   traffic_fits n traffic = slots_fit (ports_of setup) (classes_of setup) came 0 n traffic
 
-  module _ (rs : List SlotRecord) (traffic : IsTraffic (ports_of setup) (classes_of setup) came) (is : IsFabricRun setup came rs) where
-    runs : FabricRun IsInputBest (machines_of setup) 0 (first_slots came (length rs)) (empty_fabric (ports_of setup) (openings_of setup)) rs is.end
-    runs = run_of_whole (FabricSlot IsInputBest (machines_of setup)) came (empty_fabric (ports_of setup) (openings_of setup)) rs IsEmptyFabric is.end is.runs
+  module _ (rs : List SlotRecord) (traffic : IsTraffic (ports_of setup) (classes_of setup) came)
+      (is : IsFabricRun setup came rs) where
+    runs : FabricRun IsInputBest (machines_of setup) 0 (first_slots came (length rs)) (empty_fabric (ports_of setup)
+        (openings_of setup)) rs is.end
+    runs = run_of_whole (FabricSlot IsInputBest (machines_of setup)) came (empty_fabric (ports_of setup)
+        (openings_of setup)) rs IsEmptyFabric is.end is.runs
 
-    fits : AllByRecursion (AreForPorts (length (empty_fabric (ports_of setup) (openings_of setup)).inputs) (classes_of setup)) (first_slots came (length rs))
-    fits = traffic_for_empty (ports_of setup) (openings_of setup) (classes_of setup) (first_slots came (length rs)) (traffic_fits (length rs) traffic)
+    fits : AllByRecursion (AreForPorts (length (empty_fabric (ports_of setup) (openings_of setup)).inputs)
+        (classes_of setup)) (first_slots came (length rs))
+    fits = traffic_for_empty (ports_of setup) (openings_of setup) (classes_of setup) (first_slots came (length rs))
+        (traffic_fits (length rs) traffic)
 
     -- the run of the ideal switch ends with that of the fabric
     alike : EndsAlike (machines_of setup) came (empty_ideal (ports_of setup) (openings_of setup)) rs is.end
     alike =
-        end_alike (machines_of setup) (ports_of setup) (classes_of setup) (openings_of setup) came rs is.end (traffic_fits (length rs) traffic)
+        end_alike (machines_of setup) (ports_of setup) (classes_of setup) (openings_of setup) came rs is.end
+        (traffic_fits (length rs) traffic)
         (stable_whole (machines_of setup) came (empty_fabric (ports_of setup) (openings_of setup)) is.end rs is.runs)
 
     pub best_in_each : AreInputBest rs
     best_in_each =
-        each_best (machines_of setup) (classes_of setup) 0 (first_slots came (length rs)) (empty_fabric (ports_of setup) (openings_of setup)) is.end (empty_ideal (ports_of setup) (openings_of setup)) rs
+        each_best (machines_of setup) (classes_of setup) 0 (first_slots came (length rs))
+        (empty_fabric (ports_of setup) (openings_of setup)) is.end (empty_ideal (ports_of setup)
+        (openings_of setup)) rs
         (empty_agree (ports_of setup) (openings_of setup)) fits runs
 
     pub slot_by_slot : SendsSlotBySlot setup came rs
@@ -89,22 +107,28 @@ module _ (setup : Setup) (came : List Arrival) where
 
     pub always_slack : AlwaysHasSlack rs
     always_slack =
-        run_slack (machines_of setup) (classes_of setup) 0 (first_slots came (length rs)) (empty_fabric (ports_of setup) (openings_of setup)) is.end (empty_ideal (ports_of setup) (openings_of setup)) rs
+        run_slack (machines_of setup) (classes_of setup) 0 (first_slots came (length rs))
+        (empty_fabric (ports_of setup) (openings_of setup)) is.end (empty_ideal (ports_of setup)
+        (openings_of setup)) rs
         (empty_agree (ports_of setup) (openings_of setup)) fits
-        (stable_run (machines_of setup) 0 (first_slots came (length rs)) (empty_fabric (ports_of setup) (openings_of setup)) is.end rs runs)
+        (stable_run (machines_of setup) 0 (first_slots came (length rs)) (empty_fabric (ports_of setup)
+        (openings_of setup)) is.end rs runs)
 
     pub as_many_slots : slots_ran setup came ≡ length rs
     as_many_slots = alike.slots
 
     pub slots_of_figures : IsSetup setup → (figures_of (ports_of setup) rs).slots ≡ length rs
     slots_of_figures in_range =
-        slots_told (machines_of setup) (ports_of setup) (classes_of setup) (openings_of setup) came rs is.end (traffic_fits (length rs) traffic)
+        slots_told (machines_of setup) (ports_of setup) (classes_of setup) (openings_of setup) came rs is.end
+        (traffic_fits (length rs) traffic)
         (runnable setup came in_range traffic).for_switch
         (stable_whole (machines_of setup) came (empty_fabric (ports_of setup) (openings_of setup)) is.end rs is.runs)
 
-  pub kept_as_ideal : (run : kept.FabricRun) → IsTraffic (ports_of setup) (classes_of setup) came → IsKeptOf setup came run → ideal_departures setup came ≡ Ok run.sent.items
+  pub kept_as_ideal : (run : kept.FabricRun) → IsTraffic (ports_of setup) (classes_of setup) came →
+      IsKeptOf setup came run → ideal_departures setup came ≡ Ok run.sent.items
   kept_as_ideal run traffic kept = sends_as_ideal kept.records traffic kept.is_run ∙ ap Ok (sym kept.sent)
 
   pub only_one : (rs ss : List SlotRecord) → IsFabricRun setup came rs → IsFabricRun setup came ss → rs ≡ ss
   only_one rs ss one other =
-      (one_whole (FabricSlot IsInputBest (machines_of setup)) (one_run (machines_of setup)) IsEmptyFabric came (empty_fabric (ports_of setup) (openings_of setup)) rs ss one.end other.end one.runs other.runs).0
+      (one_whole (FabricSlot IsInputBest (machines_of setup)) (one_run (machines_of setup)) IsEmptyFabric came
+      (empty_fabric (ports_of setup) (openings_of setup)) rs ss one.end other.end one.runs other.runs).0
