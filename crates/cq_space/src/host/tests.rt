@@ -179,7 +179,11 @@ fn what_was_read_is_not_written_over_by_another_name(rt: HostRuntime) -> Result<
     for (written, wanted, left) in cases {
         let mut files = HostFiles::new(alloc, &rt);
         let _bytes = read_whole(alloc, &mut files, &name, 9)?;
-        assert_eq!(rt; write_whole(&mut files, written, b"new"), wanted, "{written}");
+        assert_eq!(rt;
+            write_whole(&mut files, written, b"new"),
+            wanted,
+            "{written}"
+        );
         assert_eq!(rt; files.faults, u64::from(wanted.is_err()), "{written}");
         assert_eq!(rt; fs::read(&rt, written)?.as_slice(), left, "{written}");
     }
