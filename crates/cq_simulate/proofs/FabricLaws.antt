@@ -1,7 +1,7 @@
 -- What the laws of the fabric say of the run of a setup's fabric: the cells that arrive are for its ports and classes in every
 -- slot, and the run begins where nothing waits, where the fabric and the ideal switch agree.
-use Rattle.std.proofs.Common.{◌≡◌, ℕ, zero, suc, ◌+◌, List, [], ◌∷◌, Option, Ok, ap, ◌∙◌, refl, sym, subst}
-use Rattle.std.specs.Prelude.{IsOkAnd, Result, length}
+use Rattle.std.proofs.Common.{◌≡◌, ℕ, zero, suc, ◌+◌, ◌≤◌, List, [], ◌∷◌, Option, Ok, ap, ◌∙◌, refl, sym, subst}
+use Rattle.std.specs.Prelude.{All, IsOkAnd, Result, length}
 use Rattle.std.specs.List.{AllByRecursion}
 use Rattle.cq_base.specs.Arriving.{Arrival}
 use Rattle.cq_base.specs.declared.setup.Setup.{Setup}
@@ -34,6 +34,7 @@ use Rattle.cq_laws.proofs.Parted.{one_whole, run_of_whole}
 use Rattle.cq_laws.proofs.EndsTogether.{end_alike, slots_told, stable_whole}
 use Rattle.cq_laws.specs.Measures.{figures_of}
 use Rattle.cq_simulate.proofs.Departed.{runnable}
+use Rattle.cq_simulate.proofs.OnceASlot.{once_a_slot}
 
 slots_fit : (ports classes : ℕ) (came : List Arrival) (slot n : ℕ) → IsTraffic ports classes came →
     AllByRecursion (AreForPorts ports classes) (arriving_from came slot n)
@@ -132,3 +133,11 @@ module _ (setup : Setup) (came : List Arrival) where
   only_one rs ss one other =
       (one_whole (FabricSlot IsInputBest (machines_of setup)) (one_run (machines_of setup)) IsEmptyFabric came
       (empty_fabric (ports_of setup) (openings_of setup)) rs ss one.end other.end one.runs other.runs).0
+
+  -- no output has sent more cells than the run has slots
+  pub once_each_slot : (rs : List SlotRecord) → IsFabricRun setup came rs →
+      All (λ x. x.cells ≤ (figures_of (ports_of setup) rs).slots) (figures_of (ports_of setup) rs).outputs
+  once_each_slot rs is =
+      let start : Fabric = empty_fabric (ports_of setup) (openings_of setup) in
+      once_a_slot (machines_of setup) (first_slots came (length rs)) start is.end rs (ports_of setup)
+      (run_of_whole (FabricSlot IsInputBest (machines_of setup)) came start rs IsEmptyFabric is.end is.runs)

@@ -1,7 +1,6 @@
 use Rattle.std.proofs.Common.{◌≤◌, ◌∙◌, All, ap, sym, subst}
 use Rattle.cq_base.specs.declared.figures.Figures.{Figures}
-use Rattle.cq_route.specs.Tables.{ports_of}
-use Rattle.cq_simulate.proofs.OnceASlot.{once_a_slot}
+use Rattle.cq_simulate.proofs.FabricLaws.{once_each_slot}
 use Rattle.cq_run.proofs.Crossed.{is_crossed}
 use Rattle.cq_run.proofs.switching.switch_by_crossbar.Goals as goal
 
@@ -14,4 +13,4 @@ pub returns-clause-reportable : goal.returns-clause-reportable
 returns-clause-reportable g c =
     let kept = c.in_ok-run.ensures.run in
     let P : Figures → Type 0 = λ x. All (λ y. y.cells ≤ x.slots) x.outputs in
-    subst P (sym kept.figures) (once_a_slot _ _ _ _ kept.records (ports_of c.args.tables.now.setup) kept.is_run.runs)
+    subst P (sym kept.figures) (once_each_slot c.args.tables.now.setup c.in_ok-schedule.schedule.came kept.records kept.is_run)
