@@ -2,13 +2,13 @@
 -- changed in the pool changes at its one place in the order and nowhere else; a block that comes in under a number that
 -- was free or is new stands nowhere in the order, so that the blocks there stay; and so do the others where the first
 -- one becomes free.
-use Rattle.std.proofs.Common.{◌≡◌, ◌≢◌, ℕ, zero, suc, ◌+◌, ◌<◌, ◌≤◌, Bool, true, false, cond, Result, Ok, is_ok, List, [], ◌∷◌, ◌++◌, length, map, get_or, set, take, drop, refl, sym, ap, ◌∙◌, subst, ⊎_elim, arith, length-set, get_or-set_same, get_or-set_other}
+use Rattle.std.proofs.Common.{◌≡◌, ◌≢◌, ℕ, zero, suc, ◌+◌, ◌-◌, ◌<◌, ◌≤◌, Bool, true, false, cond, Result, Ok, is_ok, List, [], ◌∷◌, ◌++◌, length, map, get_or, set, take, drop, refl, sym, ap, ◌∙◌, subst, ⊎_elim, arith, length-set, get_or-set_same, get_or-set_other}
 use Rattle.std.specs.Prelude.{◌==◌, nat_lt, insert, remove}
 use Rattle.std.specs.List.{sum_by}
 use Rattle.std.proofs.lemmas.Bool.{cases_Bool, cases_lt, ltb-true, eq-eqb, ne_eqb, cond-true, cond-false}
-use Rattle.std.proofs.lemmas.List.{length_push, length-map, map-append, map-set, take-map, drop-map, get_or-map, get_or_past, get_or_read}
+use Rattle.std.proofs.lemmas.List.{take_rest, length_push, length-map, map-append, map-set, take-map, drop-map, get_or-map, get_or_past, get_or_read}
 use Rattle.std.proofs.lemmas.List.Edits.{length-insert}
-use Rattle.std.proofs.lemmas.List.Sums.{sum_by-cons, sum_by_push, sum_by-insert, get_or-le-sum_by}
+use Rattle.std.proofs.lemmas.List.Sums.{sum_by-cons, sum_by_push, sum_by-insert, sum_by-take-drop, get_or-le-sum_by}
 use Rattle.cq_base.specs.declared.cell.Queued.{Queued}
 use Rattle.cq_urgency.specs.Blocks.{BlocksView, block_at, cells_in_all, halved, without_first, in_order, bit, times, has, ArePlaced, ComesIn}
 
@@ -257,6 +257,15 @@ sum_counts (b ∷ bs) =
     let rest = sum_counts bs in
     let counts = sum_by-cons (λ (n : ℕ). n) (length b) (map (λ (block : List Queued). length block) bs) in
     let step = sum_by-cons (λ (block : List Queued). length block) b bs in omega arith
+
+pub sum_parts : (xs : List ℕ) (i : ℕ) → sum_by (λ n. n) (take i xs) + sum_by (λ n. n) (drop i xs) ≡ sum_by (λ n. n) xs
+sum_parts xs i = sum_by-take-drop (λ (n : ℕ). n) xs i
+
+pub sum_rest : (xs : List ℕ) (i : ℕ) →
+    sum_by (λ n. n) (take (length xs - i) (drop i xs)) + sum_by (λ n. n) (take i xs) ≡ sum_by (λ n. n) xs
+sum_rest xs i =
+    let parts = sum_parts xs i in
+    let rest = ap (λ (l : List ℕ). sum_by (λ n. n) l) (take_rest xs i) in omega arith
 
 -- the counts ahead of a place add up to the cells ahead
 pub counts_ahead : (pool : List (List Queued)) (order counts free : List ℕ) (blocks : List (List Queued)) →

@@ -69,6 +69,20 @@ fn sum_of(counts: &[usize]) -> usize
     sum
 }
 
+// The sum of the counts ahead of a place, where all add up to the whole: those ahead are added, or those behind are
+// taken off, whichever are fewer.
+#[tactic(auto, using(crate::proofs::Placed::sum_parts, crate::proofs::Placed::sum_rest))]
+fn sum_ahead(counts: &[usize], place: usize, whole: usize) -> usize
+    requires inside { place ≤ length counts.now }
+    requires whole { whole ≡ sum_by (λ n. n) counts.now }
+    ensures { result ≡ sum_by (λ n. n) (take place counts.now) }
+{
+    if place <= counts.len() / 2 {
+        return sum_of(&counts[..place]);
+    }
+    whole - sum_of(&counts[place..])
+}
+
 // A place in the order of blocks, and a place in this block.
 #[derive(Clone, Copy)]
 struct At {
@@ -123,13 +137,13 @@ impl Blocks {
         &self.pool[self.order[place]]
     }
 
-    /// How many cells stand in the blocks ahead of this place.
-    pub fn ahead(&self, place: usize) -> usize
+    /// How many of so many cells stand in the blocks ahead of this place.
+    pub fn ahead(&self, place: usize, cells: usize) -> usize
         requires inside { place ≤ length self.now.blocks }
-        requires fits { cells_in_all self.now.blocks < 2 ^ 64 }
+        requires cells { cells ≡ cells_in_all self.now.blocks }
         ensures { result ≡ cells_in_all (take place self.now.blocks) }
     {
-        sum_of(&self.counts[..place])
+        sum_ahead(&self.counts, place, cells)
     }
 
     /// The cell that has so many ahead.

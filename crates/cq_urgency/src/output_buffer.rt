@@ -15,7 +15,8 @@ use std::marker::Model;
 ///
 /// The cells stand in the order of their keys, so no two of them have the same key. They stand in blocks of at most 64.
 /// The block of a key is found by halving, on the first cells of the blocks, and its place there by halving in the
-/// block. A cushion adds the counts of the blocks ahead, which is one addition a block.
+/// block. A cushion adds the counts of the blocks ahead, or takes those of the blocks behind off the whole, whichever
+/// are fewer: one addition a block, and at most one for 64 cells.
 ///
 /// A full block is split in half where a cell comes in, and only the first block loses cells. So each other block has
 /// 32 cells at least, and a 32nd of the room and one more is enough blocks.
@@ -113,7 +114,7 @@ fn cushion_in(blocks: &Blocks, key: Key, len: u64) -> u64
         return 0;
     }
     let spot = spot_of(blocks, key);
-    (blocks.ahead(spot.block) + spot.within) as u64
+    (blocks.ahead(spot.block, len as usize) + spot.within) as u64
 }
 
 // Where it stands once its block was split into two of 32.

@@ -4,10 +4,9 @@ use Rattle.cq_urgency.proofs.Flattened.{length-flattened}
 use Rattle.cq_urgency.proofs.Halving.{cushion_le}
 use Rattle.cq_urgency.proofs.output_buffer.cushion_in.Goals as goal
 
-pub ahead-requires-clause-fits : goal.ahead-requires-clause-fits
-ahead-requires-clause-fits c =
-    let size = length-flattened c.args.blocks.now.blocks in let counted = c.requires.counted in
-    let small = c.ranges.len in omega arith
+pub ahead-requires-clause-cells : goal.ahead-requires-clause-cells
+ahead-requires-clause-cells c =
+    let size = length-flattened c.args.blocks.now.blocks in let counted = c.requires.counted in omega arith
 
 pub overflow_add-result : goal.overflow_add-result
 overflow_add-result c =
