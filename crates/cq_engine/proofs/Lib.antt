@@ -3,6 +3,7 @@ pub mod Ranked
 pub mod Told
 pub mod Came
 pub mod Queued
+pub mod Newest
 pub mod Empty
 pub mod Slot
 pub mod Seen

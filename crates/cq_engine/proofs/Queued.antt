@@ -1,16 +1,13 @@
 -- Lists and buffers with their rooms. A cell that goes into a list takes the room that the list has for it, and a cell that
 -- leaves gives it back, so that no list and no buffer can hold more cells, or fewer, than before.
-use Rattle.std.proofs.Common.{◌≡◌, ℕ, zero, suc, ◌+◌, ◌<◌, ◌≤◌, cond, eqb, List, [], ◌∷◌, ◌++◌, length, map, get_or, take, drop, Option, Some, None, refl, sym, ap, ◌∙◌, subst, ⊎_elim, arith, replicate}
+use Rattle.std.proofs.Common.{◌≡◌, ℕ, zero, suc, ◌+◌, ◌<◌, ◌≤◌, cond, List, [], ◌∷◌, ◌++◌, length, map, get_or, take, drop, Option, Some, None, refl, sym, ap, ◌∙◌, subst, ⊎_elim, arith, replicate}
 use Rattle.std.specs.Prelude.{is_some, slice_get}
-use Rattle.std.specs.List.{position_or_len}
 use Rattle.std.proofs.Math.ListN.{get_or-map}
-use Rattle.std.proofs.lemmas.Bool.{cases_lt, cond_both, eq-eqb, ne_eqb}
-use Rattle.std.proofs.lemmas.Option.{same_Some}
+use Rattle.std.proofs.lemmas.Bool.{cases_lt, cond_both}
 use Rattle.std.proofs.lemmas.List.{length-map, get_or_past, ext_get_or, drop_all, take_all, append-nil, get_or-replicate}
 use Rattle.std.proofs.lemmas.List.Edits.{length-insert}
 use Rattle.cq_base.specs.declared.cell.Queued.{Queued}
 use Rattle.cq_base.specs.Cells.{HasOtherKey, MoreUrgentAhead, cushion, is_for, first_for, without_first, place_of_arrival}
-use Rattle.cq_base.proofs.Lists.{first_here, first_later}
 use Rattle.cq_ideal.specs.IdealSlot.{fronts, rests}
 use Rattle.cq_list.specs.InputList.{Waiting, cells_of}
 use Rattle.cq_urgency.specs.OutputBuffer.{Buffered, cells_in}
@@ -270,16 +267,3 @@ popped_by b b' q first cells spare =
     let had : Buffered = record { cells = b'.cells; spare = b'.spare } in
     let want : Buffered = record { cells = drop 1 b.cells; spare = b.spare + cond (is_some (slice_get b.cells 0)) 1 0 } in
     let same : had ≡ want = cc in same
-
-from_place : (xs : List Queued) (i : ℕ) (q : Queued) → slice_get xs i ≡ Some q → drop i xs ≡ q ∷ drop (i + 1) xs
-from_place [] i q h = absurd (let P : ⊥ = cc in P)
-from_place (x ∷ xs) zero q h = let same : x ≡ q = same_Some x q h in ap (λ (y : Queued). y ∷ xs) same
-from_place (x ∷ xs) (suc i) q h = let next : suc i + 1 ≡ suc (i + 1) = omega arith in from_place xs i q h ∙ ap (λ n. q ∷ drop n (x ∷ xs)) (sym next)
-
-pub position_here : (slot : ℕ) (xs : List Queued) (i : ℕ) (q : Queued) → slice_get xs i ≡ Some q → q.key.slot ≡ slot → position_or_len (λ x. eqb x.key.slot slot) (drop i xs) ≡ 0
-position_here slot xs i q at is =
-    ap (position_or_len (λ (x : Queued). eqb x.key.slot slot)) (from_place xs i q at) ∙ first_here (λ (x : Queued). eqb x.key.slot slot) q (drop (i + 1) xs) (eq-eqb q.key.slot slot is)
-
-pub position_later : (slot : ℕ) (xs : List Queued) (i : ℕ) (q : Queued) → slice_get xs i ≡ Some q → (q.key.slot ≡ slot → ⊥) → position_or_len (λ x. eqb x.key.slot slot) (drop i xs) ≡ 1 + position_or_len (λ x. eqb x.key.slot slot) (drop (i + 1) xs)
-position_later slot xs i q at other =
-    ap (position_or_len (λ (x : Queued). eqb x.key.slot slot)) (from_place xs i q at) ∙ first_later (λ (x : Queued). eqb x.key.slot slot) q (drop (i + 1) xs) (ne_eqb q.key.slot slot other)

@@ -4,7 +4,7 @@
 -- which a cell waits or comes has room for one: where the first matching fills that room, the output sends a cell and has it
 -- again.
 use Rattle.std.proofs.Common.{◌≡◌, ℕ, zero, suc, ◌+◌, ◌-◌, ◌<◌, ◌≤◌, eqb, Bool, true, false, List, [], ◌∷◌, ◌++◌, length, map, get_or, drop, Option, Some, None, Ok, refl, sym, ap, ◌∙◌, subst, inl, inr, ⊎_elim, arith, ◌⊎◌}
-use Rattle.std.specs.Prelude.{if◌then◌else◌, min, max, fold, sum, filter, slice_get, is_some, option_and_then}
+use Rattle.std.specs.Prelude.{min, max, fold, sum, filter, slice_get, is_some, option_and_then}
 use Rattle.std.specs.List.{enumerate_from, list_any, position_or_len, reduce}
 use Rattle.std.specs.Option.{option_map}
 use Rattle.std.proofs.lemmas.Bool.{cond_both, eqb-true, eq-eqb}
@@ -17,7 +17,7 @@ use Rattle.cq_base.specs.declared.figures.InputFigures.{InputFigures}
 use Rattle.cq_base.specs.declared.figures.OutputFigures.{OutputFigures}
 use Rattle.cq_base.specs.declared.figures.Figures.{Figures}
 use Rattle.cq_base.specs.Arrivals.{arrival_at}
-use Rattle.cq_base.specs.Cells.{cushion, is_for, put}
+use Rattle.cq_base.specs.Cells.{ArrivedBefore, cushion, is_for, put}
 use Rattle.cq_rank.specs.Machine.{Machine}
 use Rattle.cq_ideal.specs.Ranking.{ranking, AreForPorts}
 use Rattle.cq_ideal.specs.IdealSlot.{fronts, rests, all_told}
@@ -44,7 +44,8 @@ use Rattle.cq_laws.proofs.LeastSlack.{by_arrivals, more_after}
 use Rattle.cq_laws.proofs.OneSlot.{same_slot, sound_from}
 use Rattle.cq_engine.specs.Parts.{Queues, FitLists, CanCross, fabric_of}
 use Rattle.cq_engine.specs.Engine.{IsInStep, CountsFit, waiting_for, arriving_for}
-use Rattle.cq_engine.specs.Measuring.{arriving_slack, input_counted, output_counted}
+use Rattle.cq_engine.specs.Measuring.{IsNewest, arriving_slack, input_counted, output_counted}
+use Rattle.cq_engine.proofs.Newest.{newest_arrived}
 use Rattle.cq_engine.proofs.Changed.{length-by_place}
 use Rattle.cq_engine.proofs.Queued.{has_cell}
 
@@ -206,6 +207,15 @@ module _ (ms : List Machine) (slot : ℕ) (x : Figures) (q0 : Queues) (ranks0 : 
   module _ (q1 : Queues) (ports1 : length q1.inputs ≡ length q0.inputs) (lists1 : (i : ℕ) → list_of q1.inputs i ≡ list_arrived (fabric_of q0 []) (came_to came i) (list_of q0.inputs i)) (buffers1 : q1.buffers ≡ q0.buffers) (to1 : q1.to_outputs ≡ q0.to_outputs) where
     arrive : Arrives ms slot cells came (fabric_of q0 ranks0) (fabric_of q1 ranks1)
     arrive = record { ranked = ranked; ports = ports1; lists = λ i. lists1 i ∙ list_same q0 [] ranks0 (came_to came i) (list_of q0.inputs i); buffers = buffers1 }
+
+    -- a cell that came is the newest of its list
+    pub came_newest : (i : ℕ) (c : Queued) → came_to came i ≡ Some c → IsNewest c (list_of q1.inputs i)
+    came_newest i c is =
+        let old = list_of q0.inputs i in
+        let before : ArrivedBefore c.key.slot old =
+        all_from _ old (λ d h. let lt = sound0.early.waiting i d h in let at = keyed.slot_is i c is in omega arith) in
+        let arrived = lists1 i ∙ ap (λ o. list_arrived (fabric_of q0 []) o old) is in
+        subst (IsNewest c) (sym arrived) (newest_arrived (cushion_of (fabric_of q0 []) c) c old before)
 
     sound1 : Sound (slot + 1) (fabric_of q1 ranks1)
     sound1 = arrived_sound ms slot cells came (fabric_of q0 ranks0) (fabric_of q1 ranks1) arrive keyed sound0 up.agrees.slack

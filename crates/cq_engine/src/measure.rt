@@ -4,9 +4,10 @@ ghost use Rattle.std.specs.List.{enumerate_from};
 ghost use Rattle.cq_base.specs.declared.cell.Queued.{Queued};
 ghost use Rattle.cq_base.specs.declared.figures.InputFigures.{InputFigures as OfInput};
 ghost use Rattle.cq_base.specs.declared.figures.OutputFigures.{OutputFigures as OfOutput};
+ghost use Rattle.cq_prefs.specs.FirstCells.{list_of};
 ghost use Rattle.cq_laws.specs.Measures.{either_by};
 ghost use Rattle.cq_laws.specs.Phases.{came_to};
-ghost use Rattle.cq_engine.specs.Measuring.{arriving_slack, input_counted, output_counted, wait_of};
+ghost use Rattle.cq_engine.specs.Measuring.{IsNewest, arriving_slack, input_counted, output_counted, wait_of};
 
 use crate::queues::Queues;
 use cq_base::{InputFigures, OutputFigures, Queued, Sequence, Slot};
@@ -37,6 +38,7 @@ fn greater(a: Option<u64>, b: Option<u64>) -> Option<u64>
 fn slack_of(queues: &Queues, input: usize, came: Option<Queued>) -> Option<u64>
     requires input { input < length queues.now.inputs }
     requires output { (c : Queued) → came ≡ Some c → c.cell.output < length queues.now.inputs }
+    requires newest { (c : Queued) → came ≡ Some c → IsNewest c (list_of queues.now.inputs input) }
     ensures { result ≡ arriving_slack queues.now input came }
 {
     match came {
@@ -65,6 +67,7 @@ fn input_counted(
 ) -> InputFigures
     requires input { input < length queues.now.inputs }
     requires output { (c : Queued) → came ≡ Some c → c.cell.output < length queues.now.inputs }
+    requires newest { (c : Queued) → came ≡ Some c → IsNewest c (list_of queues.now.inputs input) }
     requires count { figures.cells < 2 ^ 64 - 1 }
     ensures { result ≡ input_counted queues.now input came figures }
 {
@@ -105,6 +108,7 @@ pub fn count_inputs(
 )
     requires ports { length inputs.old ≡ length queues.now.inputs }
     requires outputs { (i : ℕ) (c : Queued) → came_to came.now i ≡ Some c → c.cell.output < length queues.now.inputs }
+    requires newest { (i : ℕ) (c : Queued) → came_to came.now i ≡ Some c → IsNewest c (list_of queues.now.inputs i) }
     requires counts { (i : ℕ) (x : OfInput) → slice_get inputs.old i ≡ Some x → x.cells < 2 ^ 64 - 1 }
     ensures { inputs.new ≡ map (λ at. input_counted queues.now at.0 (came_to came.now at.0) at.1) (enumerate_from 0 inputs.old) }
 {

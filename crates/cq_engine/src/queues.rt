@@ -9,6 +9,7 @@ ghost use Rattle.cq_prefs.specs.FirstCells.{list_of, orders_of};
 ghost use Rattle.cq_prefs.specs.Moves.{Moves, transfers_of};
 ghost use Rattle.cq_prefs.specs.Pairing.{IsInputBest, proposals};
 ghost use Rattle.cq_laws.specs.Phases.{came_to, list_arrived};
+ghost use Rattle.cq_engine.specs.Measuring.{IsNewest};
 ghost use Rattle.cq_engine.specs.Parts.{CanCross, FitEach, FitLists, buffer_room, fabric_of, front_of, list_at, list_room, list_with, popped};
 
 use cq_base::{NoMemory, Queued, Room, Slot, Transfer};
@@ -35,6 +36,7 @@ impl Model for Queues {
     ghost use Rattle.cq_list.specs.InputList.{cells_of};
     ghost use Rattle.cq_urgency.specs.OutputBuffer.{cells_in};
     ghost use Rattle.cq_prefs.specs.Orders.{ports};
+    ghost use Rattle.cq_engine.specs.Measuring.{IsNewest};
     ghost use Rattle.cq_engine.specs.Parts.{Queues as Held, AreSquare, list_room, buffer_room};
 
     ghost Value = { Held };
@@ -82,18 +84,6 @@ fn pop_each(buffers: &mut [OutputBuffer]) -> [Option<Queued>; 64]
         gone[output] = buffers[output].pop();
     }
     gone
-}
-
-// The place of the first cell that arrived in the slot, or the end.
-fn place_of_slot(list: &InputList, slot: Slot) -> u64
-    ensures { result ≡ position_or_len (λ x. x.key.slot == slot) list.now.cells }
-{
-    for place in 0..list.len() {
-        if list.at(place).key.slot == slot {
-            return place;
-        }
-    }
-    list.len()
 }
 
 // A list for each of these rooms, over as many outputs.
@@ -170,13 +160,16 @@ impl Queues {
         self.lists[input].len()
     }
 
-    /// The slack of the cell that arrived in its slot at an input.
+    /// The slack of the cell that arrived in its slot at an input. Its key finds it there, however many cells wait.
     pub fn slack_of(&self, input: usize, queued: &Queued) -> u64
         requires input { input < length self.now.inputs }
         requires output { queued.now.cell.output < length self.now.inputs }
+        requires newest { IsNewest queued.now (list_of self.now.inputs input) }
         ensures { result ≡ cushion queued.now.key (list_of self.now.buffers queued.now.cell.output) - position_or_len (λ x. x.key.slot == queued.now.key.slot) (list_of self.now.inputs input) }
     {
-        let place = place_of_slot(&self.lists[input], queued.key.slot);
+        let list = &self.lists[input];
+        let _waiting = list.outputs();
+        let place = list.place_of_key(queued.cell.output, queued.key);
         self.buffers[queued.cell.output as usize]
             .cushion(queued.key)
             .saturating_sub(place)

@@ -6,7 +6,7 @@ use Rattle.cq_ideal.specs.IdealSlot.{all_told, fronts, departures_in}
 use Rattle.cq_prefs.specs.Moves.{transfers_of}
 use Rattle.cq_engine.specs.Engine.{EngineView, IsInStep, HaveListRoom, SlotDone}
 use Rattle.cq_engine.specs.Parts.{fabric_of}
-use Rattle.cq_engine.proofs.Slot.{came_outputs, fits_lists, can_cross_first, can_cross_second, few_cross, whole_slot}
+use Rattle.cq_engine.proofs.Slot.{came_outputs, came_newest, fits_lists, can_cross_first, can_cross_second, few_cross, whole_slot}
 use Rattle.cq_engine.proofs.Seen.{up_at, come_at, buffer_room_at}
 use Rattle.cq_engine.proofs.engine.Engine.slot.Goals as goal
 
@@ -29,6 +29,16 @@ count_inputs-requires-clause-outputs g c =
     let up = up_at g.R.Rank.machine c.args.slot c.args.self.now e.ranks.fixed e.ranks.states e.queues e.figures e.next e.stopped c.self.view_is c.requires.running c.requires.next c.self.invariant.1 in
     let come = come_at g.R.Rank.machine classes cells c.args.self.now e.ranks.fixed e.ranks.states e.queues e.figures e.next e.stopped c.self.view_is c.requires.arrivals in
     λ i q is. subst (λ (n : ℕ). q.cell.output < n) (sym c.arrive.ensures.ports) (came_outputs ms c.args.slot e.figures e.queues e.ranks.states cells classes c.in-Ok.came c.take.new.self.states up come c.in-Ok.ensures.came i q is)
+
+pub count_inputs-requires-clause-newest : goal.count_inputs-requires-clause-newest
+count_inputs-requires-clause-newest g c =
+    let e = c.self.inside in
+    let ms = map g.R.Rank.machine e.ranks.fixed in
+    let classes = class_count (map g.R.Rank.machine c.args.self.now.fixed) in
+    let cells = c.args.arrivals.now in
+    let up = up_at g.R.Rank.machine c.args.slot c.args.self.now e.ranks.fixed e.ranks.states e.queues e.figures e.next e.stopped c.self.view_is c.requires.running c.requires.next c.self.invariant.1 in
+    let come = come_at g.R.Rank.machine classes cells c.args.self.now e.ranks.fixed e.ranks.states e.queues e.figures e.next e.stopped c.self.view_is c.requires.arrivals in
+    came_newest ms c.args.slot e.figures e.queues e.ranks.states cells classes c.in-Ok.came c.take.new.self.states up come c.in-Ok.ensures.came c.arrive.new.self c.arrive.ensures.ports c.arrive.ensures.lists c.arrive.ensures.buffers c.arrive.ensures.to_outputs
 
 pub cross-first-requires-clause-cells : goal.cross-first-requires-clause-cells
 cross-first-requires-clause-cells g c =
