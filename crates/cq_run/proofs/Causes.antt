@@ -112,8 +112,8 @@ cut_causes v known plan old new by rose = record {
   complete = λ f o. absurd (elim rose as (λ _. ⊥) [ inl r ↦ f r | inr r ↦ o r ]);
 }
 
-command_causes : (command : Command) (old new : World) (end : Result (Unit {0}) Stop) → CommandEnds command old new end → StatusCauses (judged command) (known_to command old.files).told old new (status_of end)
-command_causes command old new (Ok x) h = record {
+command_causes : (R W : List ℕ → Type 0) (T : Type 0) (command : Command) (old new : World) (end : Result (Unit {0}) Stop) → CommandEnds R W T command old new end → StatusCauses (judged command) (known_to command old.files).told old new (status_of end)
+command_causes R W T command old new (Ok x) h = record {
   by_verdict = λ _ _ _. told_map (known_to command old.files).told _ _ (λ m e. aimed_status (judged command m) (λ aim. Meets aim h.0) e) h.1.verdict;
   done = λ _. told_map (known_to command old.files).told _ _ (λ m e. aimed (judged command m) (λ aim. Meets aim h.0) (λ aim. (plan : Plan) × Meets aim plan × IsDone plan old new) (λ aim meets. (h.0, meets, h.2)) e) h.1.verdict;
   read = λ e. cc;
@@ -123,8 +123,8 @@ command_causes command old new (Ok x) h = record {
   uncounted = λ _ _. (h.2.files_uncounted, h.2.out_uncounted);
   complete = λ _ _. told_map (known_to command old.files).told _ _ (λ m e. inl (aimed_status (judged command m) (λ aim. Meets aim h.0) e)) h.1.verdict;
 }
-command_causes command old new (Err (Halted (Refused r))) h = refusal_causes (judged command) (known_to command old.files).told r old new h.0.0 (same_faults command old.files new.files h.0.1) h.1
-command_causes command old new (Err (Halted (Unread name))) h = record {
+command_causes R W T command old new (Err (Halted (Refused r))) h = refusal_causes (judged command) (known_to command old.files).told r old new h.0.0 (same_faults command old.files new.files h.0.1) h.1
+command_causes R W T command old new (Err (Halted (Unread name))) h = record {
   by_verdict = λ r _ _. absurd (r refl);
   done = λ e. cc;
   read = λ _. inr (rose_known command old.files new.files h.0.0);
@@ -134,9 +134,9 @@ command_causes command old new (Err (Halted (Unread name))) h = record {
   uncounted = λ r _. absurd (r refl);
   complete = λ f _. absurd (f (rose_known command old.files new.files h.0.0));
 }
-command_causes command old new (Err (Halted NoMemory)) h = memory_causes (judged command) (known_to command old.files).told old new (same_faults command old.files new.files h.0) h.1
-command_causes command old new (Err (Cut (File name))) h = cut_causes (judged command) (known_to command old.files).told h.0 old new h.1.verdict (inl (cut_rose h.0.writes name old.files new.files h.2.0))
-command_causes command old new (Err (Cut Output)) h = cut_causes (judged command) (known_to command old.files).told h.0 old new h.1.verdict (inr h.2.cause)
+command_causes R W T command old new (Err (Halted NoMemory)) h = memory_causes (judged command) (known_to command old.files).told old new (same_faults command old.files new.files h.0) h.1
+command_causes R W T command old new (Err (Cut (File name))) h = cut_causes (judged command) (known_to command old.files).told h.0 old new h.1.verdict (inl (cut_rose h.0.writes name old.files new.files h.2.0))
+command_causes R W T command old new (Err (Cut Output)) h = cut_causes (judged command) (known_to command old.files).told h.0 old new h.1.verdict (inr h.2.0.cause)
 
 untouched : (old new : World) → new ≡ old → IsUntouched old new
 untouched old new e = record { told = ap (λ w. w.files.told) e; out = ap (λ w. w.out) e }
@@ -155,13 +155,13 @@ words_causes old new end (e, h) =
       complete = λ _ _. told_any old.files.told _ (λ m. inl refl);
     }
 
-causes : (command : Option Command) (old new : World) (end : Result (Unit {0}) Stop) → MatchOption command (WordsEnd old new end) (λ c. CommandEnds c old new end) → StatusCauses (judged_or_words command) (known_by command old.files) old new (status_of end)
-causes None old new end h = words_causes old new end h
-causes (Some c) old new end h = command_causes c old new end h
+causes : (R W : List ℕ → Type 0) (T : Type 0) (command : Option Command) (old new : World) (end : Result (Unit {0}) Stop) → MatchOption command (WordsEnd old new end) (λ c. CommandEnds R W T c old new end) → StatusCauses (judged_or_words command) (known_by command old.files) old new (status_of end)
+causes R W T None old new end h = words_causes old new end h
+causes R W T (Some c) old new end h = command_causes R W T c old new end h
 
 -- the top call's status is that of its end
-pub causes_at : (command : Option Command) (old new : World) (end : Result (Unit {0}) Stop) (answer : Status) → answer ≡ status_of end → MatchOption command (WordsEnd old new end) (λ c. CommandEnds c old new end) → StatusCauses (judged_or_words command) (known_by command old.files) old new answer
-causes_at command old new end answer e h = let P : Status → Type 0 = λ s. StatusCauses (judged_or_words command) (known_by command old.files) old new s in subst P (sym e) (causes command old new end h)
+pub causes_at : (R W : List ℕ → Type 0) (T : Type 0) (command : Option Command) (old new : World) (end : Result (Unit {0}) Stop) (answer : Status) → answer ≡ status_of end → MatchOption command (WordsEnd old new end) (λ c. CommandEnds R W T c old new end) → StatusCauses (judged_or_words command) (known_by command old.files) old new answer
+causes_at R W T command old new end answer e h = let P : Status → Type 0 = λ s. StatusCauses (judged_or_words command) (known_by command old.files) old new s in subst P (sym e) (causes R W T command old new end h)
 
 -- only words that are no command are refused as such
 
@@ -176,15 +176,15 @@ not_refused : (command : Command) (told : Option Contents) → IsRefused (judged
 not_refused command None h = cc
 not_refused command (Some m) h = never_words command m h
 
-not_words : (command : Command) (old new : World) (end : Result (Unit {0}) Stop) → CommandEnds command old new end → status_of end ≡ status.Words → ⊥
-not_words command old new (Ok x) h e = cc
-not_words command old new (Err (Halted (Refused r))) h e =
+not_words : (R W : List ℕ → Type 0) (T : Type 0) (command : Command) (old new : World) (end : Result (Unit {0}) Stop) → CommandEnds R W T command old new end → status_of end ≡ status.Words → ⊥
+not_words R W T command old new (Ok x) h e = cc
+not_words R W T command old new (Err (Halted (Refused r))) h e =
     let P : Refusal → Type 0 = λ s. IsRefused (judged command) (known_to command old.files).told s in
     not_refused command (known_to command old.files).told (subst P (words_is r e) h.0.0)
-not_words command old new (Err (Halted (Unread name))) h e = cc
-not_words command old new (Err (Halted NoMemory)) h e = cc
-not_words command old new (Err (Cut at)) h e = cc
+not_words R W T command old new (Err (Halted (Unread name))) h e = cc
+not_words R W T command old new (Err (Halted NoMemory)) h e = cc
+not_words R W T command old new (Err (Cut at)) h e = cc
 
-pub only_words : (command : Option Command) (old new : World) (end : Result (Unit {0}) Stop) (answer : Status) → answer ≡ status_of end → MatchOption command (WordsEnd old new end) (λ c. CommandEnds c old new end) → answer ≡ status.Words → command ≡ None
-only_words None old new end answer e h w = refl
-only_words (Some c) old new end answer e h w = absurd (not_words c old new end h (sym e ∙ w))
+pub only_words : (R W : List ℕ → Type 0) (T : Type 0) (command : Option Command) (old new : World) (end : Result (Unit {0}) Stop) (answer : Status) → answer ≡ status_of end → MatchOption command (WordsEnd old new end) (λ c. CommandEnds R W T c old new end) → answer ≡ status.Words → command ≡ None
+only_words R W T None old new end answer e h w = refl
+only_words R W T (Some c) old new end answer e h w = absurd (not_words R W T c old new end h (sym e ∙ w))

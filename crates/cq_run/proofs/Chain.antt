@@ -82,6 +82,10 @@ module _ {A B : Type 0} (j : Contents → Result A Refusal) (f : A → Contents 
         uncounted = h.uncounted ∙ g.uncounted;
       }
 
+-- an answer says nothing of names that are unread
+pub judges_any : {A : Type 0} (j : Contents → Result A Refusal) (R S : List ℕ → Type 0) (old new : Space) (x : A) → Judges j R old new (Ok x) → Judges j S old new (Ok x)
+judges_any j R S old new x h = record { ok = h.ok; halt = tt; closed = h.closed; told = h.told; uncounted = h.uncounted }
+
 -- a computation that ends without an answer, where nothing was read
 pub judges_computed_err : {A : Type 0} (r : Result A Refusal) (R : List ℕ → Type 0) (at : Space) (halt : Halt) → at.mode ≡ Closed → IsHaltOf r halt → Judges (λ (m : Contents). r) R at at (Err halt)
 judges_computed_err r R at halt c h = record { ok = tt; halt = halts_computed r R at at halt refl h; closed = c; told = refl; uncounted = tt }

@@ -29,25 +29,30 @@ file_from (w ∷ ws) name old mid new t l (inl h) = inl (h.0, short_from w old m
 file_from (w ∷ ws) name old mid new t l (inr h) =
     inr (h.0, record { told = h.1.told ∙ ap (replaced w.0 w.1) t; uncounted = h.1.uncounted ∙ l }, h.2)
 
-cut_from : (plan : Plan) (old mid new : World) (at : Unwritten) → mid.files.told ≡ old.files.told → mid.files.faults ≡ old.files.faults → mid.out ≡ old.out → IsCut plan mid new at → IsCut plan old new at
-cut_from plan old mid new (File name) t l o h = (file_from plan.writes name old.files mid.files new.files t l h.0, h.1 ∙ o)
-cut_from plan old mid new Output t l o h = record {
-  cause = let P : Taken → Type 0 = λ s. Rose s.faults new.out.faults in subst P o h.cause;
-  told = h.told ∙ ap (all_replaced plan.writes) t;
-  files_uncounted = h.files_uncounted ∙ l;
-  out = let P : Taken → Type 0 = λ s. (n : ℕ) × (new.out.bytes ≡ append_known s.bytes (take n plan.text)) in subst P o h.out;
-}
+cut_from : (U V : List ℕ → Type 0) (T : Type 0) (plan : Plan) (old mid new : World) (at : Unwritten) → ((name : List ℕ) → U name → V name) → mid.files.told ≡ old.files.told → mid.files.faults ≡ old.files.faults → mid.out ≡ old.out → IsCut U T plan mid new at → IsCut V T plan old new at
+cut_from U V T plan old mid new (File name) i t l o h = (file_from plan.writes name old.files mid.files new.files t l h.0, h.1 ∙ o, i name h.2)
+cut_from U V T plan old mid new Output i t l o h = (
+  record {
+    cause = let P : Taken → Type 0 = λ s. Rose s.faults new.out.faults in subst P o h.0.cause;
+    told = h.0.told ∙ ap (all_replaced plan.writes) t;
+    files_uncounted = h.0.files_uncounted ∙ l;
+    out = let P : Taken → Type 0 = λ s. (n : ℕ) × (new.out.bytes ≡ append_known s.bytes (take n plan.text)) in subst P o h.0.out;
+  },
+  h.1,
+)
 
 -- a command whose plan was cut short ends so
-pub cut_ends : (command : Command) (plan : Plan) (old mid new : World) (at : Unwritten) (end : Result (Unit {0}) Stop) → IsErrAnd end (λ stop. stop ≡ Cut at) → IsPlanned command old.files plan → mid.files.told ≡ old.files.told → mid.files.faults ≡ old.files.faults → mid.out ≡ old.out → IsCut plan mid new at → CommandEnds command old new end
-cut_ends command plan old mid new at (Ok x) e j t l o h = absurd e
-cut_ends command plan old mid new at (Err stop) e j t l o h =
-    let P : Stop → Type 0 = λ s. CommandEnds command old new (Err s) in
-    subst P (sym e) (plan, j, cut_from plan old mid new at t l o h)
+pub cut_ends : (R U V : List ℕ → Type 0) (T : Type 0) (command : Command) (plan : Plan) (old mid new : World) (at : Unwritten) (end : Result (Unit {0}) Stop) → IsErrAnd end (λ stop. stop ≡ Cut at) → IsPlanned command old.files plan
+    → ((name : List ℕ) → U name → V name) → mid.files.told ≡ old.files.told → mid.files.faults ≡ old.files.faults → mid.out ≡ old.out → IsCut U T plan mid new at → CommandEnds R V T command old new end
+cut_ends R U V T command plan old mid new at (Ok x) e j i t l o h = absurd e
+cut_ends R U V T command plan old mid new at (Err stop) e j i t l o h =
+    let P : Stop → Type 0 = λ s. CommandEnds R V T command old new (Err s) in
+    subst P (sym e) (plan, j, cut_from U V T plan old mid new at i t l o h)
 
 -- a command whose plan is done ends so
-pub done_ends : (command : Command) (plan : Plan) (old mid new : World) (x : Unit {0}) → IsPlanned command old.files plan → mid.files.told ≡ old.files.told → mid.files.faults ≡ old.files.faults → mid.out ≡ old.out → IsDone plan mid new → CommandEnds command old new (Ok x)
-done_ends command plan old mid new x j t l o h = (
+pub done_ends : (R W : List ℕ → Type 0) (T : Type 0) (command : Command) (plan : Plan) (old mid new : World) (x : Unit {0}) → IsPlanned command old.files plan → mid.files.told ≡ old.files.told → mid.files.faults ≡ old.files.faults → mid.out ≡ old.out → IsDone plan mid new
+    → CommandEnds R W T command old new (Ok x)
+done_ends R W T command plan old mid new x j t l o h = (
   plan,
   j,
   record {

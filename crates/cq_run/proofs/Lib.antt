@@ -4,6 +4,7 @@ pub mod Stays
 pub mod Captures
 pub mod TooLong
 pub mod Configured
+pub mod Failed
 pub mod Chain
 pub mod Never
 pub mod Ports

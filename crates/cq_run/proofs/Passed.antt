@@ -12,7 +12,7 @@ use Rattle.cq_run.specs.Judging.{Judges}
 use Rattle.cq_run.specs.Plan.{Plan}
 use Rattle.cq_run.specs.Planning.{Plans}
 use Rattle.cq_run.specs.Plans.{capture_out, passed}
-use Rattle.cq_run.specs.Verdict.{◌>>=◌, capture_in, ideally_sent, judged, MayRead}
+use Rattle.cq_run.specs.Verdict.{◌>>=◌, capture_in, ideally_sent, judged}
 use Rattle.cq_run.specs.declared.refusal.Refusal.{Refusal}
 use Rattle.cq_run.proofs.Captures.{plan_is}
 use Rattle.cq_run.proofs.Planned.{plans_computed}
@@ -32,9 +32,9 @@ module _ (from to : List ℕ) (t : Tables) (packets : List Captured) (captures :
       ∙ ap (λ (x : Tables). (to, capture_out x (packets ∷ []) sent 0) ∷ []) plain)
       none
 
-  pub plans_passed : (old mid : Space) (plan : Plan) → Judges (capture_in from 0 t.limit_bytes) (λ asked. asked ≡ from) old mid (Ok packets) → ideally_sent t captures ≡ Ok sent
-      → plan.writes ≡ (to, capture_out t captures sent 0) ∷ [] → plan.text ≡ [] → Plans (judged (Pass from to)) (MayRead (Pass from to)) old mid (Ok plan)
-  plans_passed old mid plan g h writes none =
-      let P : Tables → Type 0 = λ x. Judges (capture_in from 0 x.limit_bytes) (λ asked. asked ≡ from) old mid (Ok packets) in
-      plans_computed (capture_in from 0 (plain_tables from to).limit_bytes) (λ (ps : List Captured). ideally_sent (plain_tables from to) (ps ∷ []) >>= aim_of ps) (λ asked. asked ≡ from) (λ asked. asked ≡ from) old mid packets
+  pub plans_passed : (R S : List ℕ → Type 0) (old mid : Space) (plan : Plan) → Judges (capture_in from 0 t.limit_bytes) R old mid (Ok packets) → ideally_sent t captures ≡ Ok sent
+      → plan.writes ≡ (to, capture_out t captures sent 0) ∷ [] → plan.text ≡ [] → Plans (judged (Pass from to)) S old mid (Ok plan)
+  plans_passed R S old mid plan g h writes none =
+      let P : Tables → Type 0 = λ x. Judges (capture_in from 0 x.limit_bytes) R old mid (Ok packets) in
+      plans_computed (capture_in from 0 (plain_tables from to).limit_bytes) (λ (ps : List Captured). ideally_sent (plain_tables from to) (ps ∷ []) >>= aim_of ps) R S old mid packets
       (Exactly (passed from to packets sent)) plan (subst P plain g) (ap (λ (r : Result (List Departure) Refusal). r >>= aim_of packets) (sent_is h)) (plan_passed plan writes none)

@@ -18,7 +18,7 @@ use Rattle.cq_run.specs.Headline.{Emulates}
 use Rattle.cq_run.specs.Judging.{IsHaltOf, Judges}
 use Rattle.cq_run.specs.Plan.{Plan}
 use Rattle.cq_run.specs.Planning.{Plans, known_to}
-use Rattle.cq_run.specs.Verdict.{◌>>=◌, ideally_sent, tables_in, captures_in, judged, MayRead, MayWrite}
+use Rattle.cq_run.specs.Verdict.{◌>>=◌, ideally_sent, tables_in, captures_in, judged, MayWrite}
 use Rattle.cq_run.proofs.Chain.{judges_then, judges_after, judges_both, judges_computed, judges_computed_err}
 use Rattle.cq_run.proofs.Stays.{tables_stay}
 use Rattle.cq_run.proofs.Told.{told_map}
@@ -44,9 +44,9 @@ aimed_at : (v : Result Aim Refusal) (aim : Aim) (plan : Plan) → v ≡ Ok aim �
 aimed_at v aim plan e h = let P : Result Aim Refusal → Type 0 = λ r. IsOkAnd r (λ a. Meets a plan) in subst P (sym e) h
 
 -- a plan that was judged is one of the command
-pub planned : (command : Command) (old new : Space) (plan : Plan) → Plans (judged command) (MayRead command) (known_to command old) (known_to command new) (Ok plan)
+pub planned : (command : Command) (R : List ℕ → Type 0) (old new : Space) (plan : Plan) → Plans (judged command) R (known_to command old) (known_to command new) (Ok plan)
     → AllByRecursion (λ write. MayWrite command write.0) plan.writes → IfSome old.told (λ m. Emulates command m plan) → IsPlanned command old plan
-planned command old new plan (aim, meets, judges) names emulates = record {
+planned command R old new plan (aim, meets, judges) names emulates = record {
   verdict = told_map (known_to command old).told _ _ (λ m e. aimed_at (judged command m) aim plan e meets) judges.ok;
   names = names;
   emulates = emulates;
@@ -77,17 +77,17 @@ module _ (aim_of : Tables → List (List Captured) → List Departure → Aim) (
   all_of m = tables_in config m >>= (λ t. captures_in t m >>= (λ captures. sent_after t captures))
 
   -- the captures end it
-  pub captures_halt : (t : Tables) (halt : Halt) → Judges (tables_in config) (λ name. name ≡ config) old mid (Ok t) → Judges (captures_in t) (λ _. Unit {0}) mid new (Err halt) → Judges all_of (λ _. Unit {0}) old new (Err halt)
-  captures_halt t halt g h =
-      judges_after (tables_in config) (λ (t : Tables) (m : Contents). captures_in t m >>= (λ captures. sent_after t captures)) (λ name. name ≡ config) (λ _. Unit {0}) (λ _. Unit {0}) old mid new t halt (tables_stay config) (λ name u. u) g
-      (judges_then (captures_in t) (λ (captures : List (List Captured)) (m : Contents). sent_after t captures) (λ _. Unit {0}) (λ _. Unit {0}) mid new halt (λ name u. u) h)
+  pub captures_halt : (Q R S : List ℕ → Type 0) (t : Tables) (halt : Halt) → ((name : List ℕ) → R name → S name) → Judges (tables_in config) Q old mid (Ok t) → Judges (captures_in t) R mid new (Err halt) → Judges all_of S old new (Err halt)
+  captures_halt Q R S t halt i g h =
+      judges_after (tables_in config) (λ (t : Tables) (m : Contents). captures_in t m >>= (λ captures. sent_after t captures)) Q R S old mid new t halt (tables_stay config) i g
+      (judges_then (captures_in t) (λ (captures : List (List Captured)) (m : Contents). sent_after t captures) R R mid new halt (λ name u. u) h)
 
   -- both are read, and the ideal run has no fault
-  pub captures_plan : (t : Tables) (captures : List (List Captured)) (sent : List Departure) (plan : Plan) → Judges (tables_in config) (λ name. name ≡ config) old mid (Ok t) → Judges (captures_in t) (λ _. Unit {0}) mid new (Ok captures)
-      → ideally_sent t captures ≡ Ok sent → Meets (aim_of t captures sent) plan → Plans all_of (λ _. Unit {0}) old new (Ok plan)
-  captures_plan t captures sent plan g h e meets =
-      plans_then (tables_in config) (λ (t : Tables) (m : Contents). captures_in t m >>= (λ captures. sent_after t captures)) (λ name. name ≡ config) (λ _. Unit {0}) (λ _. Unit {0}) old mid new t plan g
-      (plans_computed (captures_in t) (sent_after t) (λ _. Unit {0}) (λ _. Unit {0}) mid new captures (aim_of t captures sent) plan h (ap (λ (r : Result (List Departure) Refusal). r >>= (λ ds. let a : Result Aim Refusal = Ok (aim_of t captures ds) in a)) e) meets)
+  pub captures_plan : (Q R S : List ℕ → Type 0) (t : Tables) (captures : List (List Captured)) (sent : List Departure) (plan : Plan) → Judges (tables_in config) Q old mid (Ok t) → Judges (captures_in t) R mid new (Ok captures)
+      → ideally_sent t captures ≡ Ok sent → Meets (aim_of t captures sent) plan → Plans all_of S old new (Ok plan)
+  captures_plan Q R S t captures sent plan g h e meets =
+      plans_then (tables_in config) (λ (t : Tables) (m : Contents). captures_in t m >>= (λ captures. sent_after t captures)) Q R S old mid new t plan g
+      (plans_computed (captures_in t) (sent_after t) R R mid new captures (aim_of t captures sent) plan h (ap (λ (r : Result (List Departure) Refusal). r >>= (λ ds. let a : Result Aim Refusal = Ok (aim_of t captures ds) in a)) e) meets)
 
 -- ## Judging made traffic
 

@@ -10,7 +10,7 @@ use Rattle.cq_run.specs.declared.stop.Halt.{Halt}
 use Rattle.cq_run.specs.Judging.{Judges}
 use Rattle.cq_run.specs.Verdict.{◌>>=◌, packets_at, captures_from}
 use Rattle.cq_run.proofs.Stays.{captures_from_stay}
-use Rattle.cq_run.proofs.Chain.{judges_then, judges_after, judges_both, judges_computed, judges_as_ok, judges_as_err}
+use Rattle.cq_run.proofs.Chain.{judges_then, judges_after, judges_any, judges_both, judges_computed, judges_as_ok, judges_as_err}
 
 abbrev Packets : Type 0
 Packets = List Captured
@@ -49,10 +49,10 @@ module _ (limit : ℕ) (rows : List PortRow) (k : ℕ) (row : PortRow) (inside :
       sym (ap (λ (rs : List PortRow). captures_from limit 0 rs m) around ∙ split_at limit 0 k (take k rows) row (drop (k + 1) rows) m (omega (arith, length_before)))
 
   -- what ends reading at this port ends reading them all
-  pub ends_all : (R : List ℕ → Type 0) (old mid new : Space) (made : List Packets) (halt : Halt) → Judges (captures_from limit 0 (take k rows)) R old mid (Ok made) → Judges (packets_at k limit row.read) R mid new (Err halt) → Judges (captures_from limit 0 rows) R old new (Err halt)
-  ends_all R old mid new made halt g h =
-      judges_as_err (λ (m : Contents). captures_from limit 0 (take k rows) m >>= (λ made. then_rest made m)) (captures_from limit 0 rows) all_is R old new halt
-      (judges_after (captures_from limit 0 (take k rows)) then_rest R R R old mid new made halt (captures_from_stay limit 0 (take k rows)) (λ name r. r) g
+  pub ends_all : (Q R S : List ℕ → Type 0) (old mid new : Space) (made : List Packets) (halt : Halt) → ((name : List ℕ) → R name → S name) → Judges (captures_from limit 0 (take k rows)) Q old mid (Ok made) → Judges (packets_at k limit row.read) R mid new (Err halt) → Judges (captures_from limit 0 rows) S old new (Err halt)
+  ends_all Q R S old mid new made halt i g h =
+      judges_as_err (λ (m : Contents). captures_from limit 0 (take k rows) m >>= (λ made. then_rest made m)) (captures_from limit 0 rows) all_is S old new halt
+      (judges_after (captures_from limit 0 (take k rows)) then_rest Q R S old mid new made halt (captures_from_stay limit 0 (take k rows)) i g
       (judges_then (packets_at k limit row.read) (λ (q : Packets) (m : Contents). captures_from limit (k + 1) (drop (k + 1) rows) m >>= (λ rest. let s : Result (List Packets) Refusal = Ok (made ++ q ∷ rest) in s)) R R mid new halt (λ name r. r) h))
 
   abbrev then_this : List Packets → Contents → Result (List Packets) Refusal
@@ -66,18 +66,18 @@ module _ (limit : ℕ) (rows : List PortRow) (k : ℕ) (row : PortRow) (inside :
   more_is m = sym (ap (λ (rs : List PortRow). captures_from limit 0 rs m) take_more_is ∙ split_at limit 0 k (take k rows) row [] m (omega (arith, length_before)))
 
   -- one port more
-  pub reads_more : (R : List ℕ → Type 0) (old mid new : Space) (made : List Packets) (q : Packets) (more : List Packets) → more ≡ made ++ q ∷ [] → Judges (captures_from limit 0 (take k rows)) R old mid (Ok made) → Judges (packets_at k limit row.read) R mid new (Ok q) → Judges (captures_from limit 0 (take (k + 1) rows)) R old new (Ok more)
-  reads_more R old mid new made q more e g h =
+  pub reads_more : (Q R : List ℕ → Type 0) (old mid new : Space) (made : List Packets) (q : Packets) (more : List Packets) → more ≡ made ++ q ∷ [] → Judges (captures_from limit 0 (take k rows)) R old mid (Ok made) → Judges (packets_at k limit row.read) Q mid new (Ok q) → Judges (captures_from limit 0 (take (k + 1) rows)) R old new (Ok more)
+  reads_more Q R old mid new made q more e g h =
       let P : List Packets → Type 0 = λ x. Judges (captures_from limit 0 (take (k + 1) rows)) R old new (Ok x) in
       subst P (sym e)
       (judges_as_ok (λ (m : Contents). captures_from limit 0 (take k rows) m >>= (λ made. then_this made m)) (captures_from limit 0 (take (k + 1) rows)) more_is R old new (made ++ q ∷ [])
       (judges_both (captures_from limit 0 (take k rows)) then_this R R R old mid new made (made ++ q ∷ []) g
-      (judges_both (packets_at k limit row.read) (λ (p : Packets) (m : Contents). let s : Result (List Packets) Refusal = Ok (made ++ p ∷ []) in s) R R R mid new new q (made ++ q ∷ []) h
+      (judges_both (packets_at k limit row.read) (λ (p : Packets) (m : Contents). let s : Result (List Packets) Refusal = Ok (made ++ p ∷ []) in s) Q R R mid new new q (made ++ q ∷ []) h
       (judges_computed (Ok (made ++ q ∷ [])) R new (made ++ q ∷ []) h.closed refl))))
 
 -- all ports were read
-pub reads_all : (limit : ℕ) (rows : List PortRow) (k : ℕ) (R : List ℕ → Type 0) (old new : Space) (made : List Packets) → length rows ≤ k → Judges (captures_from limit 0 (take k rows)) R old new (Ok made) → Judges (captures_from limit 0 rows) R old new (Ok made)
-reads_all limit rows k R old new made over h = let P : List PortRow → Type 0 = λ rs. Judges (captures_from limit 0 rs) R old new (Ok made) in subst P (take_all k rows over) h
+pub reads_all : (limit : ℕ) (rows : List PortRow) (k : ℕ) (Q R : List ℕ → Type 0) (old new : Space) (made : List Packets) → length rows ≤ k → Judges (captures_from limit 0 (take k rows)) Q old new (Ok made) → Judges (captures_from limit 0 rows) R old new (Ok made)
+reads_all limit rows k Q R old new made over h = judges_any (captures_from limit 0 rows) Q R old new made (let P : List PortRow → Type 0 = λ rs. Judges (captures_from limit 0 rs) Q old new (Ok made) in subst P (take_all k rows over) h)
 
 -- no port was read yet
 pub reads_none : (limit : ℕ) (rows : List PortRow) (R : List ℕ → Type 0) (at : Space) (made : List Packets) → at.mode ≡ Closed → made ≡ [] → Judges (captures_from limit 0 (take 0 rows)) R at at (Ok made)

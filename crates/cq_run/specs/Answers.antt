@@ -7,8 +7,8 @@ use Rattle.cq_run.specs.Ending.{Ends, status_of}
 use Rattle.cq_run.specs.Line.{Tells}
 
 -- the answer is the status of an end that the words may come to, and the error sink is told of that end
-pub record Answers (words : List (List ℕ)) (old new : World) (err_old err_new : Taken) (answer : Status) : Type 0 where
+pub record Answers (unread unwritten : List ℕ → Type 0) (untaken : Type 0) (words : List (List ℕ)) (old new : World) (err_old err_new : Taken) (answer : Status) : Type 0 where
   pub end : Result (Unit {0}) Stop
-  pub ends : Ends words old new end
+  pub ends : Ends unread unwritten untaken words old new end
   pub status : answer ≡ status_of end
   pub tells : Tells end err_old err_new

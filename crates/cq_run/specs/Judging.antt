@@ -17,11 +17,12 @@ IsRefused judge told refusal = MatchOption told (IsTrue (meaning_of refusal).unt
 abbrev pub IsToRead : {A : Type 0} → (Contents → Result A Refusal) → Option Contents → List ℕ → Type 0
 IsToRead judge told name = IfSome told (λ m. judge (remove m name) ≡ Err (Missing name))
 
--- why judging ends without an answer: a fault is counted where a name is unread, and nowhere else
+-- why judging ends without an answer: a fault is counted where a name is unread, and nowhere else. What more is known of such a
+-- name is the parameter: that it may be read, and that it was a call to read it that failed
 abbrev pub Halts : {A : Type 0} → (Contents → Result A Refusal) → (List ℕ → Type 0) → Space → Space → Halt → Type 0
-Halts judge may_read old new (Refused refusal) = IsRefused judge old.told refusal × (new.faults ≡ old.faults)
-Halts judge may_read old new (Unread name) = Rose old.faults new.faults × may_read name × IsToRead judge old.told name
-Halts judge may_read old new NoMemory = new.faults ≡ old.faults
+Halts judge unread old new (Refused refusal) = IsRefused judge old.told refusal × (new.faults ≡ old.faults)
+Halts judge unread old new (Unread name) = Rose old.faults new.faults × unread name × IsToRead judge old.told name
+Halts judge unread old new NoMemory = new.faults ≡ old.faults
 
 -- why a computation ends without an answer: it is refused so, or memory ran out
 abbrev pub IsHaltOf : {A : Type 0} → Result A Refusal → Halt → Type 0
@@ -30,9 +31,9 @@ IsHaltOf judged (Unread name) = ⊥
 IsHaltOf judged NoMemory = Unit {0}
 
 -- what a call that judges contents answers and leaves
-pub record Judges {A : Type 0} (judge : Contents → Result A Refusal) (may_read : List ℕ → Type 0) (old new : Space) (result : Result A Halt) : Type 0 where
+pub record Judges {A : Type 0} (judge : Contents → Result A Refusal) (unread : List ℕ → Type 0) (old new : Space) (result : Result A Halt) : Type 0 where
   pub ok : IfOk result (λ x. IfSome old.told (λ m. judge m ≡ Ok x))
-  pub halt : IfErr result (Halts judge may_read old new)
+  pub halt : IfErr result (Halts judge unread old new)
   pub closed : new.mode ≡ Closed
   pub told : new.told ≡ old.told
   pub uncounted : OnOk result (new.faults ≡ old.faults)

@@ -13,8 +13,8 @@ use Rattle.cq_run.specs.Plan.{Plan}
 
 -- what a call that judges a command answers and leaves
 abbrev pub Plans : (Contents → Result Aim Refusal) → (List ℕ → Type 0) → Space → Space → Result Plan Halt → Type 0
-Plans judge may_read old new (Ok plan) = (aim : Aim) × Meets aim plan × Judges judge may_read old new (Ok aim)
-Plans judge may_read old new (Err halt) = Judges judge may_read old new (Err halt)
+Plans judge unread old new (Ok plan) = (aim : Aim) × Meets aim plan × Judges judge unread old new (Ok aim)
+Plans judge unread old new (Err halt) = Judges judge unread old new (Err halt)
 
 -- the file space as a command knows it. One that reads nothing comes to the same whatever the contents, told or not
 abbrev pub known_to : Command → Space → Space

@@ -42,7 +42,8 @@ pub record IsCutAtOutput (plan : Plan) (old new : World) : Type 0 where
   pub files_uncounted : new.files.faults ≡ old.files.faults
   pub out : (n : ℕ) × (new.out.bytes ≡ append_known old.out.bytes (take n plan.text))
 
--- where writing stopped, and what it left; standard output comes after all files
-abbrev pub IsCut : Plan → World → World → Unwritten → Type 0
-IsCut plan old new (File name) = IsCutAtFile plan.writes name old.files new.files × (new.out ≡ old.out)
-IsCut plan old new Output = IsCutAtOutput plan old new
+-- where writing stopped, and what it left; standard output comes after all files. What is known of the call that failed are the
+-- parameters: that it was one to write the name, or one on standard output
+abbrev pub IsCut : (List ℕ → Type 0) → Type 0 → Plan → World → World → Unwritten → Type 0
+IsCut unwritten untaken plan old new (File name) = IsCutAtFile plan.writes name old.files new.files × (new.out ≡ old.out) × unwritten name
+IsCut unwritten untaken plan old new Output = IsCutAtOutput plan old new × untaken

@@ -2,6 +2,7 @@
 ghost use Rattle.std.specs.Prelude.{◌≡◌, [], IfErr, IfOk, IfSome, IsOk};
 ghost use Rattle.std.specs.Int.{IsInRange};
 ghost use Rattle.std.specs.List.{AllByRecursion};
+ghost use Rattle.cq_space.specs.Failing.{Fails, Reads};
 ghost use Rattle.cq_space.specs.Space.{Closed};
 ghost use Rattle.cq_gen.specs.Packets.{soak_captures};
 ghost use Rattle.cq_gen.specs.Tables.{soak_tables};
@@ -35,8 +36,9 @@ pub fn judge<R: Threads + Sync, F: Files, G: Gate>(
 ) -> Result<Work, Halt>
     requires closed { (F.space files.old).mode ≡ Closed }
     requires range { IsWithinRange command }
-    ensures judges { Plans (judged command) (MayRead command)
+    ensures judges { Plans (judged command) (λ name. MayRead command name × Fails F.space F.may_fail F.keeps (Reads name) files.old files.new)
         (known_to command (F.space files.old)) (known_to command (F.space files.new)) result }
+    ensures kept { F.keeps files.old files.new }
     ensures names { IfOk result (λ plan. AllByRecursion (λ write. MayWrite command write.0) plan.writes) }
     ensures emulates { IfOk result (λ plan. IfSome (F.space files.old).told (λ m. Emulates command m plan)) }
     ensures closed { (F.space files.new).mode ≡ Closed }
@@ -62,7 +64,9 @@ fn pass<R: Threads + Sync, F: Files, G: Gate>(
 ) -> Result<Work, Halt>
     requires { (F.space files.old).mode ≡ Closed }
     ensures judges { let command = Command.Pass from to in
-        Plans (judged command) (MayRead command) (F.space files.old) (F.space files.new) result }
+        Plans (judged command) (λ name. MayRead command name × Fails F.space F.may_fail F.keeps (Reads name) files.old files.new)
+        (F.space files.old) (F.space files.new) result }
+    ensures kept { F.keeps files.old files.new }
     ensures names { let command = Command.Pass from to in
         IfOk result (λ plan. AllByRecursion (λ write. MayWrite command write.0) plan.writes) }
 {
@@ -78,7 +82,9 @@ fn pass<R: Threads + Sync, F: Files, G: Gate>(
 fn check<F: Files>(alloc: Global, files: &mut F, config: Name) -> Result<Work, Halt>
     requires { (F.space files.old).mode ≡ Closed }
     ensures judges { let command = Command.Check config in
-        Plans (judged command) (MayRead command) (F.space files.old) (F.space files.new) result }
+        Plans (judged command) (λ name. MayRead command name × Fails F.space F.may_fail F.keeps (Reads name) files.old files.new)
+        (F.space files.old) (F.space files.new) result }
+    ensures kept { F.keeps files.old files.new }
     ensures names { let command = Command.Check config in
         IfOk result (λ plan. AllByRecursion (λ write. MayWrite command write.0) plan.writes) }
 {
@@ -94,7 +100,9 @@ fn ideal<R: Threads + Sync, F: Files>(
 ) -> Result<Work, Halt>
     requires { (F.space files.old).mode ≡ Closed }
     ensures judges { let command = Command.Ideal config in
-        Plans (judged command) (MayRead command) (F.space files.old) (F.space files.new) result }
+        Plans (judged command) (λ name. MayRead command name × Fails F.space F.may_fail F.keeps (Reads name) files.old files.new)
+        (F.space files.old) (F.space files.new) result }
+    ensures kept { F.keeps files.old files.new }
     ensures names { let command = Command.Ideal config in
         IfOk result (λ plan. AllByRecursion (λ write. MayWrite command write.0) plan.writes) }
 {
@@ -113,7 +121,9 @@ fn run<R: Threads + Sync, F: Files, G: Gate>(
 ) -> Result<Work, Halt>
     requires { (F.space files.old).mode ≡ Closed }
     ensures judges { let command = Command.Run config in
-        Plans (judged command) (MayRead command) (F.space files.old) (F.space files.new) result }
+        Plans (judged command) (λ name. MayRead command name × Fails F.space F.may_fail F.keeps (Reads name) files.old files.new)
+        (F.space files.old) (F.space files.new) result }
+    ensures kept { F.keeps files.old files.new }
     ensures names { let command = Command.Run config in
         IfOk result (λ plan. AllByRecursion (λ write. MayWrite command write.0) plan.writes) }
     ensures emulates { IfOk result (λ plan. IfSome (F.space files.old).told (λ m. IsEmulation config m plan)) }

@@ -1,5 +1,6 @@
 //! Writing what is planned.
 ghost use Rattle.std.specs.Prelude.{◌≡◌, IfErr, OnOk};
+ghost use Rattle.cq_space.specs.Failing.{Fails, FailsTaking, Writes};
 ghost use Rattle.cq_space.specs.Space.{Closed};
 ghost use Rattle.cq_run.specs.World.{world};
 ghost use Rattle.cq_run.specs.Writing.{IsDone, IsCut, IsCutAtFile, all_replaced};
@@ -15,8 +16,9 @@ pub fn perform<F: Files, O: Sink>(files: &mut F, out: &mut O, work: Work) -> Res
     requires { (F.space files.old).mode ≡ Closed }
     ensures done { OnOk result (IsDone work (world F.space O.taken O.faults files.old out.old)
         (world F.space O.taken O.faults files.new out.new)) }
-    ensures cut { IfErr result (IsCut work (world F.space O.taken O.faults files.old out.old)
-        (world F.space O.taken O.faults files.new out.new)) }
+    ensures cut { IfErr result (IsCut (λ name. Fails F.space F.may_fail F.keeps (Writes name) files.old files.new)
+        (FailsTaking O.taken O.faults O.may_fail O.keeps out.old out.new) work
+        (world F.space O.taken O.faults files.old out.old) (world F.space O.taken O.faults files.new out.new)) }
     ensures closed { (F.space files.new).mode ≡ Closed }
 {
     let (writes, text) = work.into_parts();
@@ -35,6 +37,7 @@ fn write_all<F: Files>(files: &mut F, mut writes: Vec<Write>) -> Result<(), Name
     ensures done { OnOk result ((F.space files.new).told ≡ all_replaced writes.items (F.space files.old).told) }
     ensures uncounted { OnOk result ((F.space files.new).faults ≡ (F.space files.old).faults) }
     ensures cut { IfErr result (λ name. IsCutAtFile writes.items name (F.space files.old) (F.space files.new)) }
+    ensures why { IfErr result (λ name. Fails F.space F.may_fail F.keeps (Writes name) files.old files.new) }
     ensures closed { (F.space files.new).mode ≡ Closed }
 {
     while !writes.is_empty() {

@@ -1,6 +1,7 @@
 //! Reading what a command names. Nothing is written here.
 ghost use Rattle.std.specs.Prelude.{◌≡◌, ◌≤◌, ◌^◌, ◌∷◌, ◌++◌, [], IfOk, OnOk, length};
 ghost use Rattle.cq_route.specs.Tables.{AreTables, ports_of};
+ghost use Rattle.cq_space.specs.Failing.{Fails, Reads};
 ghost use Rattle.cq_space.specs.Space.{Closed};
 ghost use Rattle.cq_run.specs.Judging.{Judges};
 ghost use Rattle.cq_run.specs.Verdict.{capture_in, captures_in, packets_at, tables_in};
@@ -26,8 +27,9 @@ pub fn read_configuration<F: Files>(
     name: Name,
 ) -> Result<Tables, Halt>
     requires { (F.space files.old).mode ≡ Closed }
-    ensures judges { Judges (tables_in name) (λ asked. asked ≡ name)
+    ensures judges { Judges (tables_in name) (λ asked. (asked ≡ name) × Fails F.space F.may_fail F.keeps (Reads asked) files.old files.new)
         (F.space files.old) (F.space files.new) result }
+    ensures kept { F.keeps files.old files.new }
     ensures in_range { IfOk result (λ tables. AreTables tables) }
 {
     match read_whole(alloc, files, name.text(), LONGEST_CONFIGURATION) {
@@ -62,8 +64,9 @@ pub fn read_input<F: Files>(
 ) -> Result<Capture, Halt>
     requires closed { (F.space files.old).mode ≡ Closed }
     requires limit { limit ≤ 2 ^ 28 }
-    ensures { Judges (capture_in name input limit) (λ asked. asked ≡ name)
+    ensures judges { Judges (capture_in name input limit) (λ asked. (asked ≡ name) × Fails F.space F.may_fail F.keeps (Reads asked) files.old files.new)
         (F.space files.old) (F.space files.new) result }
+    ensures kept { F.keeps files.old files.new }
 {
     let refused = |fault| Halt::Refused {
         refusal: Refusal::Capture { input, fault },
@@ -92,8 +95,9 @@ fn read_port<F: Files>(
 ) -> Result<Capture, Halt>
     requires closed { (F.space files.old).mode ≡ Closed }
     requires limit { limit ≤ 2 ^ 28 }
-    ensures { Judges (packets_at input limit row.now.read) (λ _. Unit {0})
+    ensures judges { Judges (packets_at input limit row.now.read) (λ asked. Fails F.space F.may_fail F.keeps (Reads asked) files.old files.new)
         (F.space files.old) (F.space files.new) result }
+    ensures kept { F.keeps files.old files.new }
 {
     match &row.read {
         None => Ok(Capture::empty(alloc)),
@@ -112,8 +116,9 @@ pub fn read_inputs<F: Files>(
 ) -> Result<Sequence<Capture>, Halt>
     requires closed { (F.space files.old).mode ≡ Closed }
     requires tables { AreTables tables.now }
-    ensures judges { Judges (captures_in tables.now) (λ _. Unit {0})
+    ensures judges { Judges (captures_in tables.now) (λ asked. Fails F.space F.may_fail F.keeps (Reads asked) files.old files.new)
         (F.space files.old) (F.space files.new) result }
+    ensures kept { F.keeps files.old files.new }
     ensures each { IfOk result (λ captures. length captures ≡ ports_of tables.now.setup) }
 {
     let rows = tables.ports.as_slice();

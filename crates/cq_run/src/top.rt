@@ -1,5 +1,6 @@
 //! The top call.
 ghost use Rattle.std.specs.Prelude.{◌≡◌, ℕ, List, None, Some, IfSome, map, string_bytes};
+ghost use Rattle.cq_space.specs.Failing.{Fails, FailsTaking, Reads, Writes};
 ghost use Rattle.cq_space.specs.Space.{Closed};
 ghost use Rattle.cq_words.specs.Words.{command_for};
 ghost use Rattle.cq_run.specs.Headline.{IsEmulation};
@@ -30,11 +31,11 @@ use std::thread::Threads;
 /// - `Configuration`: the configuration is refused, for the first check that does not hold.
 /// - `Capture`: the capture of an input is at fault, that of the lowest input.
 /// - `Tag`: a rank of the ideal run does not fit 128 bits.
-/// - `ReadFault`: the name of the line is to be read and is not there, or the count of faults of the file
-///   space rose in this call.
-/// - `WriteFault`: the count of faults of the file space rose once the files before the one of the line
-///   were whole, or that of `out` rose once all files were. The file of the line is as before or has a
-///   front of its bytes, and those after it are as before.
+/// - `ReadFault`: the name of the line is the first to be read that is not there, or whose reading failed:
+///   up to a call that reads it the count of faults of the file space was as before, and in that call it rose.
+/// - `WriteFault`: the count of faults of the file space rose in a call that writes the name of the line, once
+///   the files before it were whole, or that of `out` rose once all files were. The file of the line is as
+///   before or has a front of its bytes, and those after it are as before.
 /// - `NoMemory`: there was not the memory to keep the words of a command, or to build all that is to be written.
 ///
 /// All bytes are ready before the first is written, so with every status but `Done` and `WriteFault` no
@@ -50,7 +51,9 @@ pub fn switch_top<R: Threads + Sync, F: Files, O: Sink, E: Sink, G: Gate>(
     gate: &G,
 ) -> Status
     requires { (F.space files.old).mode ≡ Closed }
-    ensures answer { Answers (map string_bytes words.now)
+    ensures answer { Answers (λ name. Fails F.space F.may_fail F.keeps (Reads name) files.old files.new)
+        (λ name. Fails F.space F.may_fail F.keeps (Writes name) files.old files.new)
+        (FailsTaking O.taken O.faults O.may_fail O.keeps out.old out.new) (map string_bytes words.now)
         (world F.space O.taken O.faults files.old out.old)
         (world F.space O.taken O.faults files.new out.new)
         (taken_by E.taken E.faults err.old) (taken_by E.taken E.faults err.new) result }
@@ -87,7 +90,9 @@ fn run<R: Threads + Sync, F: Files, O: Sink, G: Gate>(
     gate: &G,
 ) -> Result<(), Stop>
     requires { (F.space files.old).mode ≡ Closed }
-    ensures ends { Ends (map string_bytes words.now)
+    ensures ends { Ends (λ name. Fails F.space F.may_fail F.keeps (Reads name) files.old files.new)
+        (λ name. Fails F.space F.may_fail F.keeps (Writes name) files.old files.new)
+        (FailsTaking O.taken O.faults O.may_fail O.keeps out.old out.new) (map string_bytes words.now)
         (world F.space O.taken O.faults files.old out.old)
         (world F.space O.taken O.faults files.new out.new) result }
     ensures closed { (F.space files.new).mode ≡ Closed }
@@ -110,7 +115,9 @@ fn obey<R: Threads + Sync, F: Files, O: Sink, G: Gate>(
 ) -> Result<(), Stop>
     requires closed { (F.space files.old).mode ≡ Closed }
     requires range { IsWithinRange command }
-    ensures ends { CommandEnds command
+    ensures ends { CommandEnds (λ name. Fails F.space F.may_fail F.keeps (Reads name) files.old files.new)
+        (λ name. Fails F.space F.may_fail F.keeps (Writes name) files.old files.new)
+        (FailsTaking O.taken O.faults O.may_fail O.keeps out.old out.new) command
         (world F.space O.taken O.faults files.old out.old)
         (world F.space O.taken O.faults files.new out.new) result }
     ensures closed { (F.space files.new).mode ≡ Closed }

@@ -19,8 +19,8 @@ returns-clause-judges g c =
     let one : c.deref.result.now ≡ c.in_ok-capture.capture ∷ [] = c.deref.ensures.value ∙ c.in_ok-put_capture.ensures ∙ ap (λ (cs : List (List Captured)). cs ++ c.in_ok-capture.capture ∷ []) c.new-captures.ensures.items in
     let plain : c.in_ok-tables.tables ≡ plain_tables c.args.from c.args.to = c.in_ok-tables.ensures.tables ∙ ap (λ from. plain_tables from c.text-2.result.now) c.text.ensures ∙ ap (plain_tables c.args.from) c.text-2.ensures in
     let crossed = c.in_ok-crossed.ensures.crossed in
-    plans_passed c.args.from c.args.to c.in_ok-tables.tables c.in_ok-capture.capture c.deref.result.now c.in_ok-crossed.crossed.switched.sent.items plain one (g.F.Files.space c.args.files.now) (g.F.Files.space c.read_input.new.files) c.in_ok-build_passed.field-0
-    c.in_ok-capture.ensures crossed.switched.sent
+    plans_passed c.args.from c.args.to c.in_ok-tables.tables c.in_ok-capture.capture c.deref.result.now c.in_ok-crossed.crossed.switched.sent.items plain one _ _ (g.F.Files.space c.args.files.now) (g.F.Files.space c.read_input.new.files) c.in_ok-build_passed.field-0
+    c.in_ok-capture.ensures.judges crossed.switched.sent
     (c.in_ok-build_passed.ensures.writes
     ∙ ap (λ (run : Switched). (c.args.to, capture_out c.in_ok-tables.tables c.put_capture.new.captures.items run.sent.items 0) ∷ []) c.into_switched-switched.ensures
     ∙ ap (λ (cs : List (List Captured)). (c.args.to, capture_out c.in_ok-tables.tables cs c.in_ok-crossed.crossed.switched.sent.items 0) ∷ []) (sym c.deref.ensures.value)) c.in_ok-build_passed.ensures.text

@@ -6,9 +6,9 @@ use Rattle.cq_run.proofs.reading.read_configuration.Goals as goal
 pub returns-in-Err-Fault-clause-judges : goal.returns-in-Err-Fault-clause-judges
 returns-in-Err-Fault-clause-judges g c = record {
   ok = tt;
-  halt = (c.in-Err-Fault.ensures.fault (ap Err c.in-Err-Fault.field-0-is), refl, configuration_is_to_read (g.F.Files.space c.args.files.now).told c.args.name);
-  closed = c.read_whole.ensures.closed;
-  told = c.read_whole.ensures.told;
+  halt = (c.in-Err-Fault.ensures.whole.fault (ap Err c.in-Err-Fault.field-0-is), (refl, c.in-Err-Fault.ensures.why (ap Err c.in-Err-Fault.field-0-is)), configuration_is_to_read (g.F.Files.space c.args.files.now).told c.args.name);
+  closed = c.read_whole.ensures.whole.closed;
+  told = c.read_whole.ensures.whole.told;
   uncounted = tt;
 }
 
@@ -16,9 +16,9 @@ pub returns-in-Err-Long-clause-judges : goal.returns-in-Err-Long-clause-judges
 returns-in-Err-Long-clause-judges g c = record {
   ok = tt;
   halt =
-      let long = c.in-Err-Long.ensures.long _ (ap Err c.in-Err-Long.field-0-is) in
-      (configuration_long (g.F.Files.space c.args.files.now).told c.args.name _ _ c.text.ensures c.in_ok-of-in-Err-Long.ensures long.1, long_is_no_fault _ _ _ c.in-Err-Long.field-0-is c.in-Err-Long.ensures.uncounted);
-  closed = c.read_whole.ensures.closed;
-  told = c.read_whole.ensures.told;
+      let long = c.in-Err-Long.ensures.whole.long _ (ap Err c.in-Err-Long.field-0-is) in
+      (configuration_long (g.F.Files.space c.args.files.now).told c.args.name _ _ c.text.ensures c.in_ok-of-in-Err-Long.ensures long.1, long_is_no_fault _ _ _ c.in-Err-Long.field-0-is c.in-Err-Long.ensures.whole.uncounted);
+  closed = c.read_whole.ensures.whole.closed;
+  told = c.read_whole.ensures.whole.told;
   uncounted = tt;
 }

@@ -3,11 +3,11 @@ use Rattle.std.specs.Prelude.{Err}
 use Rattle.cq_run.proofs.Removed.{capture_is_to_read}
 use Rattle.cq_run.proofs.reading.read_input.Goals as goal
 
-pub returns-in-Err-Fault : goal.returns-in-Err-Fault
-returns-in-Err-Fault g c = record {
+pub returns-in-Err-Fault-clause-judges : goal.returns-in-Err-Fault-clause-judges
+returns-in-Err-Fault-clause-judges g c = record {
   ok = tt;
-  halt = (c.in-Err-Fault.ensures.fault (ap Err c.in-Err-Fault.field-0-is), refl, capture_is_to_read (g.F.Files.space c.args.files.now).told c.args.name c.args.input c.args.limit);
-  closed = c.read_whole.ensures.closed;
-  told = c.read_whole.ensures.told;
+  halt = (c.in-Err-Fault.ensures.whole.fault (ap Err c.in-Err-Fault.field-0-is), (refl, c.in-Err-Fault.ensures.why (ap Err c.in-Err-Fault.field-0-is)), capture_is_to_read (g.F.Files.space c.args.files.now).told c.args.name c.args.input c.args.limit);
+  closed = c.read_whole.ensures.whole.closed;
+  told = c.read_whole.ensures.whole.told;
   uncounted = tt;
 }

@@ -9,4 +9,5 @@ abbrev pub invariant-ports : goal.invariant-ports
 invariant-ports g l = record {
   judged : Judges (captures_from l.tables.limit_bytes 0 (take l.input l.rows)) (λ _. Unit {0}) (g.F.Files.space l.fn.files) (g.F.Files.space l.files) (Ok l.captures.items);
   each : length l.captures.items ≡ l.input;
+  kept : g.F.Files.keeps l.fn.files l.files;
 }
