@@ -15,6 +15,7 @@ mod ranks;
 #[cfg(test)]
 mod tests;
 
+pub use cq_base::{Figures, InputFigures, OutputFigures};
 pub use cq_crew::{Gate, OpenGate};
 pub use engine::Engine;
 pub use laws::cells_are_kept;

@@ -10,7 +10,8 @@ use Rattle.cq_tables.specs.declared.place.Array.TheVariants.{Ports}
 use Rattle.cq_tables.specs.declared.place.Place.TheVariants.{Element, Top}
 use Rattle.cq_tables.specs.Check.{Check, Refuses, at, first, otherwise, refused, unless}
 use Rattle.cq_tables.specs.Place.{path}
-use Rattle.cq_tables.specs.Document.{Named, apart_from, clash, file_check, files_before, files_of, is_named, is_taken, names_of, read_at, read_clashes, write_clashes, written_at}
+use Rattle.cq_tables.specs.Document.{Named, apart_from, clash, file_check, files_of, names_of, read_at, written_at}
+use Rattle.cq_tables.specs.Files.{files_before, is_named, is_taken, read_clashes, write_clashes}
 use Rattle.cq_tables.proofs.Checks.{first-append, here_in, first_none}
 
 or_assoc : (a b c : Bool) → ((a || b) || c) ≡ (a || (b || c))

@@ -1,5 +1,5 @@
 -- A configuration: its checks, in order, and the tables that it gives where they all hold.
-use Rattle.std.specs.Prelude.{◌≡◌, ℕ, suc, Bool, true, false, not, ◌&&◌, ◌||◌, if◌then◌else◌, nat_le, nat_lt, List, [], ◌∷◌, ◌++◌, codes, length, take, map, is_some, Option, None, Some, option_map, unwrap_or, Result, Ok, Err}
+use Rattle.std.specs.Prelude.{◌≡◌, ℕ, suc, Bool, true, false, not, ◌&&◌, if◌then◌else◌, nat_le, nat_lt, List, [], ◌∷◌, ◌++◌, codes, length, take, map, is_some, Option, None, Some, option_map, unwrap_or, Result, Ok, Err}
 use Rattle.std.specs.List.{list_any}
 use Rattle.std.specs.Str.{bytes_eq, is_utf8}
 use Rattle.toml.specs.Data.{Data, Members, no_members, get_member}
@@ -265,26 +265,6 @@ names_of i row = read_of i row ++ (written_at (Element Ports i) (codes "write") 
 abbrev pub files_of : ℕ → List PortRow → List Named
 files_of i [] = []
 files_of i (row ∷ rows) = names_of i row ++ files_of (suc i) rows
-
--- the files that the whole run and its first ports name
-abbrev pub files_before : Tables → ℕ → List Named
-files_before t i = written_at Top (codes "trace") t.trace ∷ written_at Top (codes "log") t.log ∷ files_of 0 (take i t.ports)
-
--- whether a port names the file, where that clashes
-abbrev pub is_named : List ℕ → Bool → PortRow → Bool
-is_named file is_read row = unwrap_or (option_map (λ read. not is_read && bytes_eq file read) row.read) false || bytes_eq file row.write
-
--- whether the whole run or one of its first ports names the file, where that clashes
-abbrev pub is_taken : Tables → ℕ → List ℕ → Bool → Bool
-is_taken t i file is_read = bytes_eq file t.trace || (bytes_eq file t.log || list_any (is_named file is_read) (take i t.ports))
-
--- whether the file that a port reads clashes with one that is named before it
-abbrev pub read_clashes : Tables → ℕ → PortRow → Bool
-read_clashes t i row = unwrap_or (option_map (λ read. is_taken t i read true) row.read) false
-
--- whether the file that a port writes clashes with one that is named before it
-abbrev pub write_clashes : Tables → ℕ → PortRow → Bool
-write_clashes t i row = is_taken t i row.write false || unwrap_or (option_map (λ read. bytes_eq row.write read) row.read) false
 
 -- all files, in order
 abbrev pub files_in : Tables → List Named

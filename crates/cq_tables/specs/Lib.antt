@@ -3,3 +3,4 @@ pub mod Place
 pub mod Value
 pub mod Key
 pub mod Document
+pub mod Files

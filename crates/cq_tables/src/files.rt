@@ -3,7 +3,8 @@ ghost use Rattle.std.specs.Prelude.{◌≡◌, ◌||◌, false, option_map, unwr
 ghost use Rattle.std.specs.List.{list_any};
 ghost use Rattle.std.specs.Str.{bytes_eq};
 ghost use Rattle.cq_tables.specs.Check.{Refuses, first};
-ghost use Rattle.cq_tables.specs.Document.{apart_from, file_check, files_before, is_named, names_of, read_clashes, write_clashes};
+ghost use Rattle.cq_tables.specs.Document.{apart_from, file_check, names_of};
+ghost use Rattle.cq_tables.specs.Files.{files_before, is_named, read_clashes, write_clashes};
 
 use crate::place::{Array, Place};
 use crate::refusal::{TableRefusal, Wrong, refusal};

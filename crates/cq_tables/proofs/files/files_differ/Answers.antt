@@ -1,7 +1,8 @@
 use Rattle.std.proofs.Common.{◌≡◌, ◌<◌, ◌≤◌, true, false, get_or, length, IfErr, rules}
 use Rattle.std.specs.Str.{bytes_eq}
 use Rattle.cq_tables.specs.Check.{Refuses, first}
-use Rattle.cq_tables.specs.Document.{apart_from, files_before, names_of}
+use Rattle.cq_tables.specs.Document.{apart_from, names_of}
+use Rattle.cq_tables.specs.Files.{files_before}
 use Rattle.cq_tables.proofs.Apart.{apart_all, apart_first, apart_next, apart_stops, log_clashes}
 use Rattle.cq_tables.proofs.files.files_differ.Goals as goal
 

@@ -1,5 +1,5 @@
 use Rattle.std.proofs.Common.{◌≡◌, true, false}
-use Rattle.cq_tables.specs.Document.{read_clashes, write_clashes}
+use Rattle.cq_tables.specs.Files.{read_clashes, write_clashes}
 use Rattle.cq_tables.proofs.Apart.{port_apart, port_read, port_write}
 use Rattle.cq_tables.proofs.files.port_files.Goals as goal
 
