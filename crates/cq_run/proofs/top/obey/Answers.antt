@@ -21,6 +21,6 @@ pub returns-clause-ends : goal.returns-clause-ends
 returns-clause-ends g c =
     let whole = world g.F.Files.space g.O.Sink.taken g.O.Sink.faults in
     let work = c.in_ok-work.ensures in
-    done_ends _ _ _ c.args.command c.in_ok-work.work (whole c.args.files.now c.args.out.now) (whole c.judge.new.files c.args.out.now) (whole c.perform.new.files c.perform.new.out) tt
+    done_ends (λ _. Unit {0}) (λ _. Unit {0}) (Unit {0}) c.args.command c.in_ok-work.work (whole c.args.files.now c.args.out.now) (whole c.judge.new.files c.args.out.now) (whole c.perform.new.files c.perform.new.out) tt
     (planned c.args.command _ (g.F.Files.space c.args.files.now) (g.F.Files.space c.judge.new.files) c.in_ok-work.work work.judges work.names work.emulates) work.told
     (plans_uncounted c.args.command _ (g.F.Files.space c.args.files.now) (g.F.Files.space c.judge.new.files) c.in_ok-work.work work.judges) refl c.in_ok-perform.ensures.done

@@ -21,5 +21,5 @@ returns-in-Err-clause-words_only g c =
 pub returns-in-Ok-clause-causes : goal.returns-in-Ok-clause-causes
 returns-in-Ok-clause-causes g c =
     let whole = world g.F.Files.space g.O.Sink.taken g.O.Sink.faults in
-    causes_at _ _ _ (command_for (map string_bytes c.args.words.now)) (whole c.args.files.now c.args.out.now) (whole c.run.new.files c.run.new.out)
+    causes_at (λ _. Unit {0}) (λ _. Unit {0}) (Unit {0}) (command_for (map string_bytes c.args.words.now)) (whole c.args.files.now c.args.out.now) (whole c.run.new.files c.run.new.out)
     (Ok tt) Done refl c.in-Ok.ensures.ends
