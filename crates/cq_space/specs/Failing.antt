@@ -22,7 +22,7 @@ Writes name (Writing own) Write = own ≡ name
 Writes name (Writing own) Finish = own ≡ name
 Writes name _ _ = ⊥
 
--- up to some moment no call had failed; then a call of this kind did, and nothing came after it
+-- up to some moment no fault was counted; then a call of this kind failed, and nothing came after it
 pub record Fails {S : Type 0} (space : S → Space) (may_fail : Call → S → S → Type 0) (keeps : S → S → Type 0) (kind : Mode → Call → Type 0) (old new : S) : Type 0 where
   pub before : S
   pub call : Call

@@ -1,4 +1,4 @@
-use Rattle.std.proofs.Common.{refl, ◌≡◌}
+use Rattle.std.proofs.Common.{refl}
 use Rattle.std.specs.Prelude.{Result, Ok}
 use Rattle.cq_route.specs.declared.tables.Tables.{Tables}
 use Rattle.cq_run.specs.Aim.{Aim, Exactly}
