@@ -4,7 +4,7 @@
 -- which a cell waits or comes has room for one: where the first matching fills that room, the output sends a cell and has it
 -- again.
 use Rattle.std.proofs.Common.{◌≡◌, ℕ, zero, suc, ◌+◌, ◌-◌, ◌<◌, ◌≤◌, eqb, Bool, true, false, List, [], ◌∷◌, ◌++◌, length, map, get_or, drop, Option, Some, None, Ok, refl, sym, ap, ◌∙◌, subst, inl, inr, ⊎_elim, arith, ◌⊎◌}
-use Rattle.std.specs.Prelude.{min, max, fold, sum, filter, slice_get, is_some, option_and_then}
+use Rattle.std.specs.Prelude.{if◌then◌else◌, min, max, fold, sum, filter, slice_get, is_some, option_and_then}
 use Rattle.std.specs.List.{enumerate_from, list_any, position_or_len, reduce}
 use Rattle.std.specs.Option.{option_map}
 use Rattle.std.proofs.lemmas.Bool.{cond_both, eqb-true, eq-eqb}
@@ -31,7 +31,7 @@ use Rattle.cq_laws.specs.Phases.{came_to, list_arrived, Arrives, Transfers, Depa
 use Rattle.cq_laws.specs.FabricSlot.{SlotRecord, FabricSlot}
 use Rattle.cq_laws.specs.Records.{transfers_in}
 use Rattle.cq_laws.specs.Measures.{figures_after, input_after, output_after, either_by, least_slack, slacks, slack_on_arrival, proposals_in}
-use Rattle.cq_laws.proofs.Members.{among_at, first_at, among_insert, left_among}
+use Rattle.cq_laws.proofs.Members.{all_from, among_at, first_at, among_insert, left_among}
 use Rattle.cq_laws.proofs.Sound.{Sound}
 use Rattle.cq_laws.proofs.AfterArrivals.{Keyed, arrived_sound}
 use Rattle.cq_laws.proofs.AfterTransfer.{moved_sound}
