@@ -3,7 +3,6 @@
 -- taken are the rows sent. Where nothing was sent, nothing was taken either.
 use Rattle.std.proofs.Common.{◌≡◌, ℕ, List, [], ◌∷◌, ◌++◌, refl, ap, sym, subst, ◌∙◌}
 use Rattle.std.specs.Prelude.{Err, IfSome, Option, Some}
-use Rattle.rtrb.specs.Ring.{sent}
 use Rattle.cq_pcap.specs.declared.capture.PacketRow.{PacketRow}
 use Rattle.cq_pcap.specs.declared.read.PcapRefusal.{PcapRefusal}
 use Rattle.cq_pcap.specs.Faults.{Fault, fault_of}
@@ -14,7 +13,7 @@ use Rattle.cq_stream.specs.declared.item.Item.{Item}
 use Rattle.cq_stream.specs.declared.item.Order.{Order}
 use Rattle.cq_stream.specs.declared.item.Order.TheVariants.{Send, Alone}
 use Rattle.cq_stream.specs.declared.outcome.Done.{Done}
-use Rattle.cq_stream.specs.Stream.{HasObeyed, HasRun, items_of}
+use Rattle.cq_stream.specs.Stream.{HasObeyed, HasRun, all_sent, bytes_of, fault_found, items_of}
 
 -- the fault of a file is read
 pub unread : (bytes : List ℕ) (refusal : PcapRefusal) (rows : List PacketRow)
@@ -49,9 +48,9 @@ sent_are_taken Send bytes fault sent waiting rows h e =
 sent_are_taken Alone bytes fault sent waiting rows h e = absurd (some_item rows waiting (e ∙ h.1))
 
 -- the rows that were taken are those of the file, where its reader left this
-pub closes : (done : Done) (rows : List PacketRow) (taken after all waiting : List Item) → HasRun done
-    → taken ≡ items_of rows → after ≡ taken → all ≡ sent done.items → after ++ waiting ≡ all
-    → AreRowsUntil done.bytes.items done.fault rows
-closes done rows taken after all waiting ran t a s fifo =
-    sent_are_taken ran.order done.bytes.items done.fault (sent done.items) waiting rows ran.obeyed
-    (ap (λ items. items ++ waiting) (sym t ∙ sym a) ∙ fifo ∙ s)
+pub closes : (done : Done) (rows : List PacketRow) (taken after waiting : List Item) → HasRun done
+    → taken ≡ items_of rows → after ≡ taken → after ++ waiting ≡ all_sent done
+    → AreRowsUntil (bytes_of done) (fault_found done) rows
+closes done rows taken after waiting ran t a fifo =
+    sent_are_taken ran.order (bytes_of done) (fault_found done) (all_sent done) waiting rows ran.obeyed
+    (ap (λ items. items ++ waiting) (sym t ∙ sym a) ∙ fifo)

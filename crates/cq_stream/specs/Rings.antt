@@ -1,18 +1,22 @@
 -- What contracts see of a reader and of its intake.
 use Rattle.std.specs.Prelude.{ℕ, List}
-use Rattle.rtrb.specs.Ring.{IsPair, SameConsumer, known_items, received, sent}
+use Rattle.rtrb.specs.Ring.{IsPair, SameConsumer, SameProducer, consumer_capacity, known_items, received, sent}
 use Rattle.cq_stream.specs.declared.item.Item.{Item}
 use Rattle.cq_stream.specs.declared.item.Order.{Order}
 use Rattle.cq_stream.specs.declared.reader.Reader.{Reader}
 use Rattle.cq_stream.specs.declared.intake.Intake.{Intake}
 
--- the two were made together: their ring of items is the same
+-- the two were made together: they hold the ends of one ring of items and of one ring of orders
 abbrev pub IsPairOf : Reader → Intake → Type 0
-IsPairOf reader intake = IsPair reader.items intake.items
+IsPairOf reader intake = IsPair reader.items intake.items × IsPair intake.orders reader.orders
 
 -- the intake is of the same reader as before
 abbrev pub SameReader : Intake → Intake → Type 0
-SameReader old new = SameConsumer old.items new.items
+SameReader old new = SameConsumer old.items new.items × SameProducer old.orders new.orders
+
+-- for how many items the ring has room
+abbrev pub room_of : Intake → ℕ
+room_of intake = consumer_capacity intake.items
 
 -- the bytes that the reader is to decode
 abbrev pub bytes_to_read : Reader → List ℕ

@@ -1,6 +1,6 @@
 -- What a reader sends and what it leaves.
 use Rattle.std.specs.Prelude.{◌≡◌, ℕ, List, [], ◌∷◌, ◌++◌, map, Option, None}
-use Rattle.rtrb.specs.Ring.{IsPair, SameProducer, received, sent}
+use Rattle.rtrb.specs.Ring.{IsPair, SameConsumer, SameProducer, received, sent}
 use Rattle.cq_pcap.specs.declared.capture.PacketRow.{PacketRow}
 use Rattle.cq_pcap.specs.declared.read.PcapRefusal.{PcapRefusal}
 use Rattle.cq_pcap.specs.Rows.{AreRowsUntil}
@@ -12,7 +12,7 @@ use Rattle.cq_stream.specs.declared.reader.Reader.{Reader}
 use Rattle.cq_stream.specs.declared.intake.Intake.{Intake}
 use Rattle.cq_stream.specs.declared.outcome.Done.{Done}
 use Rattle.cq_stream.specs.declared.outcome.DoneOf.{DoneOf}
-use Rattle.cq_stream.specs.Rings.{bytes_to_read}
+use Rattle.cq_stream.specs.Rings.{bytes_to_read, told}
 
 -- the items of a file with these rows
 abbrev pub items_of : List PacketRow → List Item
@@ -43,20 +43,36 @@ bytes_of done = done.bytes.items
 abbrev pub fault_found : Done → Option PcapRefusal
 fault_found done = done.fault
 
--- it was left by the reader of this intake
+-- all that it had sent
+abbrev pub all_sent : Done → List Item
+all_sent done = sent done.items
+
+-- it was left by the reader of this intake: it holds the other ends of both rings
 abbrev pub IsLeftTo : Intake → Done → Type 0
-IsLeftTo intake done = IsPair done.items intake.items
+IsLeftTo intake done = IsPair done.items intake.items × IsPair intake.orders done.orders
 
 -- it was left by a reader that received one order and obeyed it
 pub record HasRun (done : Done) : Type 0 where
   pub order : Order
   pub one : received done.orders ≡ order ∷ []
-  pub obeyed : HasObeyed order (bytes_of done) (fault_found done) (sent done.items)
+  pub obeyed : HasObeyed order (bytes_of done) (fault_found done) (all_sent done)
+
+-- it was left by a reader that was told one order through this intake, and obeyed it
+pub record DidAsTold (intake : Intake) (done : Done) : Type 0 where
+  pub order : Order
+  pub one : told intake ≡ order ∷ []
+  pub obeyed : HasObeyed order (bytes_of done) (fault_found done) (all_sent done)
+
+-- the same is left as before
+abbrev pub SameLeft : Done → Done → Type 0
+SameLeft old new =
+    (bytes_of new ≡ bytes_of old) × (fault_found new ≡ fault_found old) × (all_sent new ≡ all_sent old)
 
 -- this reader left this
 pub record IsDoneOf (reader : Reader) (done : Done) : Type 0 where
   pub bytes : bytes_of done ≡ bytes_to_read reader
-  pub ring : SameProducer reader.items done.items
+  pub items : SameProducer reader.items done.items
+  pub orders : SameConsumer reader.orders done.orders
   pub ran : HasRun done
 
 -- the reader whose end is promised

@@ -16,7 +16,8 @@ use std::thread::yield_now;
 const FIRST: u64 = 24;
 
 pub(crate) fn next_order<R: Wait>(rt: &R, orders: &mut Consumer<Order>) -> Order
-    ensures { received orders.new ≡ received orders.old ++ result ∷ [] }
+    ensures ring { SameConsumer orders.old orders.new }
+    ensures received { received orders.new ≡ received orders.old ++ result ∷ [] }
 {
     'turns: for _ in rt.forever() {
         if let Ok(order) = orders.pop() {

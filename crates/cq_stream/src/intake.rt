@@ -1,5 +1,5 @@
 //! The caller's ends of the two rings.
-ghost use Rattle.std.specs.Prelude.{◌≡◌, ◌+◌, length};
+ghost use Rattle.std.specs.Prelude.{◌+◌, ◌≤◌, length};
 ghost use Rattle.rtrb.specs.Ring.{known_free, sent};
 
 use crate::answer::answer;
@@ -13,7 +13,8 @@ pub struct Intake {
     pub(crate) items: Consumer<Item>,
     pub(crate) orders: Producer<Order>,
     // There is room for the one order.
-    ghost slot: { known_free orders + length (sent orders) ≡ 1 },
+    ghost slot: { 1 ≤ known_free orders + length (sent orders) },
+    ghost once: { length (sent orders) ≤ 1 },
 }
 
 impl Intake {
@@ -24,7 +25,7 @@ impl Intake {
     ghost use Rattle.cq_pcap.specs.Rows.{AreRowsUntil};
     ghost use Rattle.cq_stream.specs.declared.item.Order.TheVariants as order;
     ghost use Rattle.cq_stream.specs.Rings.{SameReader, taken, told, waiting};
-    ghost use Rattle.cq_stream.specs.Stream.{HasRun, IsLeftTo, bytes_of, fault_found, items_of};
+    ghost use Rattle.cq_stream.specs.Stream.{DidAsTold, HasRun, IsLeftTo, SameLeft, all_sent, bytes_of, fault_found, items_of};
 
     /// Tells the reader to send. It has been told nothing before.
     pub fn send(&mut self)
@@ -59,6 +60,25 @@ impl Intake {
         }
     }
 
+    /// Brings both ends of both rings together, once the reader has left its own. Here they show that it
+    /// was told one order and obeyed it: told to send, it has sent a row for each record and then
+    /// `Ended`, taken or not. They show too that what was taken and what still waits is all that was sent.
+    pub fn meet(&mut self, done: &mut Done)
+        requires done { IsLeftTo self.old done.old }
+        requires ran { HasRun done.old }
+        ensures obeyed { DidAsTold self.old done.old }
+        ensures all { taken self.new ++ waiting self.new ≡ all_sent done.new }
+        ensures taken { taken self.new ≡ taken self.old }
+        ensures told { told self.new ≡ told self.old }
+        ensures reader { SameReader self.old self.new }
+        ensures same { SameLeft done.old done.new }
+        ensures left { IsLeftTo self.new done.new }
+        ensures ran { HasRun done.new }
+    {
+        self.items.slots_beside(&mut done.items);
+        done.orders.slots_beside(&mut self.orders);
+    }
+
     /// What `read_capture` answers on the reader's bytes, where the last item taken was `Ended` and
     /// these are the rows taken. They are those of the capture, or of the records before the fault, in
     /// order, whole and once. A refusal is the fault that the reader found, and never want of memory.
@@ -70,21 +90,19 @@ impl Intake {
         ensures faulty { IfErr result (λ refusal. IfSome (fault_of refusal) (IsFaulty (bytes_of done))) }
         ensures read { IfOk result (λ packets. packets_of (bytes_of done) ≡ Ok packets) }
         ensures unread { IfErr result (λ refusal. IfSome (fault_of refusal) (λ fault. packets_of (bytes_of done) ≡ Err fault)) }
+        ensures obeyed { DidAsTold self done }
         ensures found { IfErr result (λ refusal. fault_found done ≡ Some refusal) }
         ensures rows { AreRowsUntil (bytes_of done) (fault_found done) rows.items }
     {
-        let Intake {
-            mut items,
-            orders: _,
-        } = self;
+        let mut intake = self;
+        let mut done = done;
+        intake.meet(&mut done);
         let Done {
             bytes,
             fault,
-            items: mut sent,
+            items: _,
             orders: _,
         } = done;
-        // Both ends of the ring stand here: what was taken is all that was sent.
-        items.slots_beside(&mut sent);
         answer(bytes, fault, rows)
     }
 }

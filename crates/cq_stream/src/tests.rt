@@ -61,8 +61,9 @@ fn rows_come_from_a_thread_in_order(rt: HostRuntime) -> Result<(), Fail> {
         return Err(Fail::new("no thread"));
     };
     let rows = rows_taken(rt.alloc(), &mut intake)?;
-    let done = child.join(&rt);
+    let mut done = child.join(&rt);
     assert!(rt; done.shown());
+    intake.meet(&mut done);
     let capture = intake.close(done, rows)?;
     assert_eq!(rt; capture.rows().len(), 5);
     for k in 0..capture.rows().len() {
@@ -102,7 +103,8 @@ fn a_reader_that_is_alone_sends_nothing(rt: HostRuntime) -> Result<(), Fail> {
     let file = five_packets();
     let (reader, mut intake) = pair(rt.alloc(), file.to_vec(rt.alloc())?, 2)?;
     intake.alone();
-    let done = reader.run(&rt, 0, OpenWatch);
+    let mut done = reader.run(&rt, 0, OpenWatch);
+    intake.meet(&mut done);
     assert!(rt; intake.take().is_none());
     assert_eq!(rt; done.bytes().as_slice(), file.as_slice());
     Ok(())

@@ -1,6 +1,6 @@
 use Rattle.std.proofs.Common.{◌≡◌}
-use Rattle.rtrb.specs.Ring.{received}
+use Rattle.rtrb.specs.Ring.{SameConsumer, received}
 use Rattle.cq_stream.proofs.finding.next_order.Given as goal
 
 abbrev pub invariant-turns : goal.invariant-turns
-invariant-turns g l = received l.orders ≡ received l.initial.orders
+invariant-turns g l = (received l.orders ≡ received l.initial.orders) × SameConsumer l.initial.orders l.orders
