@@ -8,3 +8,4 @@ pub mod Arrived
 pub mod Packets
 pub mod Laid
 pub mod Rising
+mod Upcoming

@@ -20,12 +20,12 @@ use Rattle.cq_cells.proofs.Owned.{AllFrom, counted, end_of-append}
 use Rattle.cq_cells.proofs.Packets.{few_by, early_by, ends_before}
 
 -- what holds of two lists' items holds of all
-all_append : (P : Arrival → Type 0) (xs ys : List Arrival) → AllByRecursion P xs → AllByRecursion P ys → AllByRecursion P (xs ++ ys)
+pub all_append : (P : Arrival → Type 0) (xs ys : List Arrival) → AllByRecursion P xs → AllByRecursion P ys → AllByRecursion P (xs ++ ys)
 all_append P [] ys a b = b
 all_append P (x ∷ xs) ys a b = (a.0, all_append P xs ys a.1 b)
 
 -- what holds for each number holds of all
-all_flat : (P : Arrival → Type 0) (f : ℕ → List Arrival) (a n : ℕ) → ((k : ℕ) → a ≤ k → k < a + n → AllByRecursion P (f k)) → AllByRecursion P (flat_map f (range_with_len a n))
+pub all_flat : (P : Arrival → Type 0) (f : ℕ → List Arrival) (a n : ℕ) → ((k : ℕ) → a ≤ k → k < a + n → AllByRecursion P (f k)) → AllByRecursion P (flat_map f (range_with_len a n))
 all_flat P f a zero h = tt
 all_flat P f a (suc n) h = all_append P (f a) (flat_map f (range_with_len (a + 1) n)) (h a (omega arith) (omega arith)) (all_flat P f (a + 1) n (λ k b e. h k (omega arith) (omega arith)))
 
@@ -33,7 +33,7 @@ all_pieces : (P : Arrival → Type 0) (s : ℕ) (f : ℕ → Cell) (a n : ℕ) �
 all_pieces P s f a zero h = tt
 all_pieces P s f a (suc n) h = (h a, all_pieces P s f (a + 1) n h)
 
-all_each : (P Q : Arrival → Type 0) (xs : List Arrival) → ((a : Arrival) → P a → Q a) → AllByRecursion P xs → AllByRecursion Q xs
+pub all_each : (P Q : Arrival → Type 0) (xs : List Arrival) → ((a : Arrival) → P a → Q a) → AllByRecursion P xs → AllByRecursion Q xs
 all_each P Q [] h a = tt
 all_each P Q (x ∷ xs) h a = (h x a.0, all_each P Q xs h a.1)
 

@@ -2,3 +2,4 @@ pub mod Schedule
 pub mod Traffic
 pub mod Scheduled
 pub mod Lines
+pub mod NextArrival

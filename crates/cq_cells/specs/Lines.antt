@@ -43,6 +43,11 @@ pub record IsBegun (rows : List Row) (slot n : ℕ) : Type 0 where
   pub before : (k : ℕ) → k < n → (row_at rows k).start ≤ slot
   pub after : (k : ℕ) → n ≤ k → k < length rows → slot < (row_at rows k).start
 
+-- the packets below place n have arrived before the slot, and no other has arrived whole
+pub record IsEnded (rows : List Row) (slot n : ℕ) : Type 0 where
+  pub before : (k : ℕ) → k < n → (row_at rows k).start + (row_at rows k).cells ≤ slot
+  pub after : (k : ℕ) → n ≤ k → k < length rows → slot < (row_at rows k).start + (row_at rows k).cells
+
 -- the arrivals of the lines, one line after another
 abbrev pub all_of : List (List Arrival) → List Arrival
 all_of lines = flat_map (λ line. line) lines

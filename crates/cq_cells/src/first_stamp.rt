@@ -24,8 +24,8 @@ fn earliest(rows: &[PacketRow]) -> Option<u64>
     rows.iter().map(|row| row.stamp).min()
 }
 
-// The lesser of two stamps, or the one that there is.
-fn earlier(a: Option<u64>, b: Option<u64>) -> Option<u64>
+/// The lesser of two numbers, or the one that there is.
+pub fn earlier(a: Option<u64>, b: Option<u64>) -> Option<u64>
     ensures { result ≡ earlier a b }
 {
     match (a, b) {

@@ -3,7 +3,8 @@
 ghost use Rattle.std.specs.Prelude.{◌≡◌, ℕ, ◌+◌, ◌-◌, ◌/◌, ◌==◌, ◌^◌, ◌<◌, ◌≤◌, find, length, map, max, option_map, slice_index_or, IfOk};
 ghost use Rattle.std.specs.List.Sorted.{IsNonDecreasingBy};
 ghost use Rattle.cq_base.specs.Arriving.{end_of};
-ghost use Rattle.cq_cells.specs.Lines.{AreAdded, IsBegun, row_cell};
+ghost use Rattle.cq_cells.specs.Lines.{AreAdded, AreRows, IsBegun, IsEnded, row_cell};
+ghost use Rattle.cq_cells.specs.NextArrival.{IsNextArrival};
 ghost use Rattle.cq_cells.specs.Schedule.{arrivals_at, cells_of, first_stamp as first_stamp_of, packets_of};
 ghost use Rattle.cq_cells.specs.Traffic.{IsRecorded};
 ghost use Rattle.cq_route.specs.Route.{route};
@@ -86,6 +87,17 @@ impl Line {
         Some(row.cell(self.cell_bytes, id))
     }
 
+    // The least slot from this one on in which a cell arrives, or None where there is none.
+    pub fn next_arrival(&self, from: Slot) -> Option<Slot>
+        ensures { IsNextArrival self.now from result }
+    {
+        let packet = ended(&self.rows, self.cell_bytes, from);
+        if packet == self.rows.len() {
+            return None;
+        }
+        Some(self.rows[packet].start.max(from))
+    }
+
     // The arrivals at an input, whose packets go where they are routed. Each is counted for its output. The
     // error is want of memory.
     pub fn of(
@@ -138,6 +150,15 @@ fn begun(rows: &[Row], slot: Slot) -> usize
     ensures begun { IsBegun rows.now slot result }
 {
     rows.partition_point(|row| row.start <= slot)
+}
+
+// How many packets have arrived whole before the slot.
+fn ended(rows: &[Row], cell_bytes: u32, slot: Slot) -> usize
+    requires { AreRows cell_bytes rows.now }
+    ensures few { result ≤ length rows.now }
+    ensures ended { IsEnded rows.now slot result }
+{
+    rows.partition_point(|row| u64::from(row.cells) <= slot.saturating_sub(row.start))
 }
 
 // The row of a packet that can begin in this slot at the earliest.

@@ -3,12 +3,13 @@ ghost use Rattle.std.specs.Prelude.{◌≡◌, ℕ, ◌^◌, ◌<◌, ◌≤◌,
 ghost use Rattle.std.specs.List.{range_with_len};
 ghost use Rattle.cq_base.specs.Arriving.{arriving, arriving_at, end_of};
 ghost use Rattle.cq_cells.specs.Lines.{AreAdded, AreOwn, all_of};
+ghost use Rattle.cq_cells.specs.NextArrival.{IsNextArrival};
 ghost use Rattle.cq_cells.specs.Schedule.{arrivals_at, first_stamp as first_stamp_of, packets_of};
 ghost use Rattle.cq_cells.specs.Scheduled.{schedule_of};
 ghost use Rattle.cq_cells.specs.Traffic.{IsRecorded, IsShort, IsTraffic, is_from, is_to, number_of};
 ghost use Rattle.cq_route.specs.Tables.{AreTables, classes_of, ports_of};
 
-use crate::first_stamp::first_stamp;
+use crate::first_stamp::{earlier, first_stamp};
 use crate::line::Line;
 use crate::routes::routes_of;
 use cq_base::{Arrivals, Cell, NoMemory, Port, Slot};
@@ -86,6 +87,14 @@ impl Schedule {
         ensures { result ≡ arriving self.now.came slot }
     {
         arrivals_of(&self.lines, slot)
+    }
+
+    /// The least slot from this one on in which a cell arrives, or None where none arrives any more. It is looked
+    /// up by halving at each input.
+    pub fn next_arrival(&self, from: Slot) -> Option<Slot>
+        ensures { IsNextArrival self.now.came from result }
+    {
+        next_of(&self.lines, from)
     }
 
     /// The stamp from which slots are counted, in nanoseconds: the least one, or 0 where there is no
@@ -203,4 +212,16 @@ fn arrivals_of(lines: &[Line], slot: Slot) -> Arrivals
         }
     }
     arrivals
+}
+
+// The least slot from this one on in which a cell arrives at the inputs of these lines, or None where there is
+// none.
+fn next_of(lines: &[Line], from: Slot) -> Option<Slot>
+    ensures { IsNextArrival (all_of lines.now) from result }
+{
+    let mut next = None;
+    'lines: for line in lines {
+        next = earlier(next, line.next_arrival(from));
+    }
+    next
 }
