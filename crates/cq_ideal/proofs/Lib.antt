@@ -30,3 +30,4 @@ pub mod Whole
 pub mod Parted
 pub mod Ends
 pub mod LastSlot
+pub mod Resting

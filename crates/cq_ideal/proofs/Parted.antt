@@ -71,7 +71,7 @@ quiet_from came (suc n) slot le =
     ∙ ap (λ (l : List (List (Option Cell))). no_arrivals ∷ l) (quiet_from came n (slot + 1) (omega arith))
 
 -- a slot, and then the run from it on
-abbrev next_slot : List Machine → ℕ → List (List (Option Cell)) → Result Sent TagFault → Result Ran TagFault
+abbrev pub next_slot : List Machine → ℕ → List (List (Option Cell)) → Result Sent TagFault → Result Ran TagFault
 next_slot ms slot traffic x =
     elim x [ Ok sent ↦ then_ran sent.gone (ideal_run ms slot traffic sent.after) | Err fault ↦ Err fault ]
 

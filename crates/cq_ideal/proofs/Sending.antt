@@ -14,22 +14,22 @@ use Rattle.cq_ideal.specs.Parts.{RanksView, QueuesView, list_at}
 
 -- ## Lists that are new up to a place, and old from it on
 
-abbrev changed_to : {X : Type 0} → List X → List X → ℕ → List X
+abbrev pub changed_to : {X : Type 0} → List X → List X → ℕ → List X
 changed_to new old j = take j new ++ drop j old
 
-at_place : {X : Type 0} (new old : List X) (j : ℕ) (d : X) → length new ≡ length old → j < length old → get_or (changed_to new old j) j d ≡ get_or old j d
+pub at_place : {X : Type 0} (new old : List X) (j : ℕ) (d : X) → length new ≡ length old → j < length old → get_or (changed_to new old j) j d ≡ get_or old j d
 at_place new old j d same inside =
     ap (λ l. get_or (take j new ++ l) j d) (drop_more old j d inside)
     ∙ get_or_at (take j new) (get_or old j d) (drop (j + 1) old) d j (length-take-le j new (omega arith))
 
-next_place : {X : Type 0} (new old : List X) (j : ℕ) (y d : X) → length new ≡ length old → j < length old → y ≡ get_or new j d → set (changed_to new old j) j y ≡ changed_to new old (j + 1)
+pub next_place : {X : Type 0} (new old : List X) (j : ℕ) (y d : X) → length new ≡ length old → j < length old → y ≡ get_or new j d → set (changed_to new old j) j y ≡ changed_to new old (j + 1)
 next_place new old j y d same inside is =
     ap (λ l. set (take j new ++ l) j y) (drop_more old j d inside)
     ∙ set_at (take j new) (get_or old j d) (drop (j + 1) old) y j (length-take-le j new (omega arith))
     ∙ sym (append_assoc (take j new) (y ∷ []) (drop (j + 1) old))
     ∙ ap (λ l. l ++ drop (j + 1) old) (ap (λ v. take j new ++ v ∷ []) is ∙ sym (take_more new j d (omega arith)))
 
-at_end : {X : Type 0} (new old : List X) (j : ℕ) → length new ≡ length old → length old ≤ j → changed_to new old j ≡ new
+pub at_end : {X : Type 0} (new old : List X) (j : ℕ) → length new ≡ length old → length old ≤ j → changed_to new old j ≡ new
 at_end new old j same end = ap (λ l. take j new ++ l) (drop_all j old end) ∙ append-nil (take j new) ∙ take_all j new (omega arith)
 
 -- ## The walk
@@ -48,7 +48,7 @@ pub length-told : (ms : List Machine) (gone : List (Option Queued)) (ranks : Lis
 unfolding all_told
 length-told ms gone ranks = length-map-range_with_len (λ j. told (machine_at ms j) (get_or ranks j []) (get_or gone j None)) 0 (length ranks)
 
-told_at : (ms : List Machine) (gone : List (Option Queued)) (ranks : List (List ℕ)) (j : ℕ) → j < length ranks → get_or (all_told ms gone ranks) j [] ≡ told (machine_at ms j) (get_or ranks j []) (get_or gone j None)
+pub told_at : (ms : List Machine) (gone : List (Option Queued)) (ranks : List (List ℕ)) (j : ℕ) → j < length ranks → get_or (all_told ms gone ranks) j [] ≡ told (machine_at ms j) (get_or ranks j []) (get_or gone j None)
 unfolding all_told
 told_at ms gone ranks j inside = get_or-map-range_with_len (λ j. told (machine_at ms j) (get_or ranks j []) (get_or gone j None)) 0 (length ranks) j j [] inside (omega arith)
 

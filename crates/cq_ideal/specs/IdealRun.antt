@@ -1,5 +1,5 @@
 -- Whole runs of the ideal switch.
-use Rattle.std.specs.Prelude.{◌≡◌, ℕ, ◌+◌, List, [], ◌∷◌, ◌++◌, All, Option, Result, Ok, Err, replicate}
+use Rattle.std.specs.Prelude.{◌≡◌, ℕ, ◌+◌, List, [], ◌∷◌, ◌++◌, All, Option, None, Result, Ok, Err, replicate}
 use Rattle.cq_base.specs.declared.cell.Cell.{Cell}
 use Rattle.cq_base.specs.declared.cell.Departure.{Departure}
 use Rattle.cq_base.specs.declared.cell.Queued.{Queued}
@@ -11,6 +11,10 @@ use Rattle.cq_ideal.specs.IdealSlot.{IdealState, ideal_slot, departures_in}
 pub record Ran : Type 0 where
   pub gone : List (List (Option Queued))
   pub after : IdealState
+
+-- a run of so many slots that ends in this state, in which none of so many outputs sends a cell
+abbrev pub nothing_sent : ℕ → ℕ → IdealState → Ran
+nothing_sent slots ports after = record { gone = replicate slots (replicate ports None); after = after }
 
 -- a slot, and then the slots that follow
 abbrev pub then_ran : List (Option Queued) → Result Ran TagFault → Result Ran TagFault

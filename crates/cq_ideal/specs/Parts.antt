@@ -1,12 +1,12 @@
 -- What clauses see of the parts of an ideal switch, and of the cells of a slot that go through them.
-use Rattle.std.specs.Prelude.{◌≡◌, ℕ, ◌+◌, ◌-◌, ◌<◌, ◌≤◌, length, slice_index, false, if◌then◌else◌, List, [], ◌∷◌, Option, Some, None, Result, slice_set, slice_index_or}
+use Rattle.std.specs.Prelude.{◌≡◌, ℕ, ◌+◌, ◌-◌, ◌<◌, ◌≤◌, length, slice_index, false, if◌then◌else◌, List, [], ◌∷◌, Option, Some, None, Result, replicate, slice_set, slice_index_or}
 use Rattle.cq_base.specs.declared.cell.Queued.{Queued}
 use Rattle.cq_base.specs.declared.cell.TagFault.{TagFault}
 use Rattle.cq_base.specs.Cells.{EachPair, is_for, put}
 use Rattle.cq_base.specs.Key.{is_before}
 use Rattle.cq_rank.specs.Machine.{Machine, machine_at}
 use Rattle.cq_rank.specs.Switch.{AreForOneSwitch}
-use Rattle.cq_ideal.specs.IdealSlot.{IdealState}
+use Rattle.cq_ideal.specs.IdealSlot.{IdealState, all_told}
 use Rattle.cq_ideal.specs.Ranking.{Ranking, after_input}
 
 -- the rank machines: the numbers that give them, and their states
@@ -43,6 +43,10 @@ rank_at ms ranks j class = (machine_at ms j).ranked (slice_index_or ranks j []) 
 -- the rank states after that
 abbrev pub given_at : List Machine → List (List ℕ) → ℕ → ℕ → List (List ℕ)
 given_at ms ranks j class = slice_set ranks j ((machine_at ms j).given (slice_index_or ranks j []) class)
+
+-- the rank states after a slot in which none of so many outputs sent a cell
+abbrev pub all_idle : List Machine → ℕ → List (List ℕ) → List (List ℕ)
+all_idle ms ports ranks = all_told ms (replicate ports None) ranks
 
 -- the state of a switch of these parts
 abbrev pub state_of : RanksView → QueuesView → IdealState

@@ -1,8 +1,9 @@
 //! The ideal switch, slot by slot.
-ghost use Rattle.std.specs.Prelude.{◌≡◌, ◌↔◌, ◌+◌, ◌-◌, ◌^◌, ◌<◌, ◌≤◌, IsTrue, false, is_err, All, IfOk, OnOk, OnErr, [], length, map};
+ghost use Rattle.std.specs.Prelude.{◌≡◌, ◌↔◌, ◌+◌, ◌-◌, ◌^◌, ◌<◌, ◌≤◌, IsTrue, false, is_err, All, IfOk, OnOk, OnErr, Ok, [], length, map, replicate};
+ghost use Rattle.cq_base.specs.Arrivals.{no_arrivals};
 ghost use Rattle.cq_rank.specs.Switch.{AreForOneSwitch, class_count};
 ghost use Rattle.cq_ideal.specs.Ideal.{HasRoomFor, HaveLeft, SpareFollows, answer_to};
-ghost use Rattle.cq_ideal.specs.IdealRun.{empty_ideal};
+ghost use Rattle.cq_ideal.specs.IdealRun.{IsEmptyIdeal, empty_ideal, ideal_run, nothing_sent};
 ghost use Rattle.cq_ideal.specs.IdealSlot.{ideal_slot};
 ghost use Rattle.cq_ideal.specs.Ranking.{AreForPorts};
 
@@ -99,6 +100,24 @@ impl<R: Rank> Ideal<R> {
         send(&mut self.ranks, &mut self.queues, slot, sent);
         self.next = slot + 1;
         Ok(())
+    }
+
+    /// All slots from the next one up to this one, in which no cell arrives. None waits either, so no output sends
+    /// a cell, and they take no longer than one slot: each machine is told once that its output was idle, since a
+    /// second idle slot would change nothing.
+    pub fn rest(&mut self, to: Slot)
+        requires running { self.old.stopped ≡ false }
+        requires empty { IsEmptyIdeal self.old.state }
+        requires later { self.old.next < to }
+        ensures slots { ideal_run (map R.machine self.old.fixed) self.old.next (replicate (to - self.old.next) no_arrivals) self.old.state ≡ Ok (nothing_sent (to - self.old.next) (length self.old.fixed) self.new.state) }
+        ensures next { self.new.next ≡ to }
+        ensures lists { self.new.state.lists ≡ self.old.state.lists }
+        ensures fixed { self.new.fixed ≡ self.old.fixed }
+        ensures rooms { self.new.rooms ≡ self.old.rooms }
+        ensures running { self.new.stopped ≡ false }
+    {
+        self.ranks.rest();
+        self.next = to;
     }
 
     /// Whether a slot had a tag fault. No slot follows it.

@@ -3,7 +3,7 @@ ghost use Rattle.std.specs.Prelude.{◌≡◌, ◌↔◌, ◌+◌, ◌<◌, ◌�
 ghost use Rattle.cq_base.specs.declared.cell.Cell.{Cell};
 ghost use Rattle.cq_rank.specs.Machine.{machine_at, told};
 ghost use Rattle.cq_rank.specs.Switch.{AreForOneSwitch, class_count};
-ghost use Rattle.cq_ideal.specs.Parts.{rank_at, given_at};
+ghost use Rattle.cq_ideal.specs.Parts.{all_idle, rank_at, given_at};
 ghost use Rattle.cq_ideal.specs.Ranking.{AreForPorts, after_input, keyed, ranking};
 
 use cq_base::{Arrivals, Cell, Class, Key, Port, Queued, Slot, TagFault};
@@ -34,6 +34,16 @@ fn tell<R: Rank>(rank: &mut R, gone: Option<Queued>)
         Some(queued) => rank.sent(queued.key.rank),
         None => rank.idle(),
     }
+}
+
+// A machine is told that its output was idle. A second idle slot would change nothing, as its state has its size.
+fn tell_idle<R: Rank>(rank: &mut R)
+    ensures fixed { R.fixed rank.new ≡ R.fixed rank.old }
+    ensures state { R.state rank.new ≡ told (R.machine (R.fixed rank.old)) (R.state rank.old) None }
+    ensures sized { length (R.state rank.old) ≡ (R.machine (R.fixed rank.old)).size }
+{
+    let _classes = rank.classes();
+    rank.idle();
 }
 
 impl<R: Rank> Ranks<R> {
@@ -144,5 +154,29 @@ impl<R: Rank> Ranks<R> {
         ensures states { self.new.states ≡ slice_set self.old.states output (told (machine_at (map R.machine self.old.fixed) output) (slice_index_or self.old.states output []) gone) }
     {
         tell(&mut self.ranks[output as usize], gone);
+    }
+
+    // The output was idle.
+    fn idle(&mut self, output: Port)
+        requires { output < length self.old.fixed }
+        ensures fixed { self.new.fixed ≡ self.old.fixed }
+        ensures states { self.new.states ≡ slice_set self.old.states output (told (machine_at (map R.machine self.old.fixed) output) (slice_index_or self.old.states output []) None) }
+        ensures sized { length (slice_index_or self.old.states output []) ≡ (machine_at (map R.machine self.old.fixed) output).size }
+    {
+        tell_idle(&mut self.ranks[output as usize]);
+    }
+
+    /// All outputs were idle. However many more idle slots follow, they change nothing.
+    pub fn rest(&mut self)
+        requires few { length self.old.fixed ≤ 64 }
+        requires states { length self.old.states ≡ length self.old.fixed }
+        ensures fixed { self.new.fixed ≡ self.old.fixed }
+        ensures states { self.new.states ≡ all_idle (map R.machine self.old.fixed) (length self.old.fixed) self.old.states }
+        ensures again { all_idle (map R.machine self.old.fixed) (length self.old.fixed) self.new.states ≡ self.new.states }
+    {
+        let ports = self.len();
+        'outputs: for output in 0..ports {
+            self.idle(output);
+        }
     }
 }
