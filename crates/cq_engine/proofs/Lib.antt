@@ -10,3 +10,4 @@ pub mod Seen
 pub mod Begin
 pub mod Kept
 pub mod Worked
+mod Rested

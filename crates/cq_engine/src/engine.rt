@@ -1,9 +1,13 @@
 //! The engine: a fabric, slot by slot.
-ghost use Rattle.std.specs.Prelude.{◌≡◌, ◌↔◌, ◌+◌, ◌-◌, ◌*◌, ◌^◌, ◌<◌, ◌≤◌, IsTrue, false, is_err, IfOk, OnOk, OnErr, length, map, max};
+ghost use Rattle.std.specs.Prelude.{◌≡◌, ◌↔◌, ◌+◌, ◌-◌, ◌*◌, ◌^◌, ◌<◌, ◌≤◌, IsTrue, false, is_err, IfOk, OnOk, OnErr, length, map, max, replicate};
+ghost use Rattle.cq_base.specs.Arrivals.{no_arrivals};
 ghost use Rattle.cq_rank.specs.Switch.{AreForOneSwitch, class_count};
 ghost use Rattle.cq_ideal.specs.Ranking.{AreForPorts, ranking};
 ghost use Rattle.cq_laws.specs.Fabric.{empty_fabric, IsEmptyFabric};
+ghost use Rattle.cq_laws.specs.FabricRun.{FabricRun};
 ghost use Rattle.cq_laws.specs.Measures.{no_figures};
+ghost use Rattle.cq_laws.specs.Quiet.{quiet_slots};
+ghost use Rattle.cq_prefs.specs.Pairing.{IsInputBest};
 ghost use Rattle.cq_engine.specs.Engine.{HaveBufferRoom, HaveListRoom, SlotDone, answer_to, ports_of};
 
 use crate::depart::depart;
@@ -200,6 +204,27 @@ impl<R: Rank> Engine<R> {
         count_proposals(&mut self.figures, first.proposals, second.proposals);
         self.next = slot + 1;
         Ok(())
+    }
+
+    /// All slots from the next one up to this one, in which no cell arrives. None waits either, so nothing crosses,
+    /// no output sends and no figure changes, and they take no longer than one slot: each machine is told once that
+    /// its output was idle, since a second idle slot would change nothing.
+    pub fn rest(&mut self, to: Slot)
+        requires running { self.old.stopped ≡ false }
+        requires empty { IsEmptyFabric self.old.fabric }
+        requires later { self.old.next < to }
+        ensures slots { FabricRun IsInputBest (map R.machine self.old.fixed) self.old.next (replicate (to - self.old.next) no_arrivals) self.old.fabric (quiet_slots (map R.machine self.old.fixed) (to - self.old.next) self.old.next (ports_of self.old) self.old.fabric.ranks) self.new.fabric }
+        ensures figures { self.new.figures ≡ self.old.figures }
+        ensures next { self.new.next ≡ to }
+        ensures inputs { self.new.fabric.inputs ≡ self.old.fabric.inputs }
+        ensures buffers { self.new.fabric.buffers ≡ self.old.fabric.buffers }
+        ensures fixed { self.new.fixed ≡ self.old.fixed }
+        ensures from_inputs { self.new.from_inputs ≡ self.old.from_inputs }
+        ensures to_outputs { self.new.to_outputs ≡ self.old.to_outputs }
+        ensures running { self.new.stopped ≡ false }
+    {
+        self.ranks.rest();
+        self.next = to;
     }
 
     /// Whether a slot had a tag fault. No slot follows it.

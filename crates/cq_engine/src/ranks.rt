@@ -1,9 +1,10 @@
 //! The rank machines of all outputs.
-ghost use Rattle.std.specs.Prelude.{◌≡◌, ◌↔◌, ◌+◌, ◌<◌, ◌≤◌, ◌^◌, ◌∷◌, List, Option, Ok, Err, IfErr, IfOk, IsErr, OnErr, OnOk, length, map, slice_index_or, slice_set, []};
+ghost use Rattle.std.specs.Prelude.{◌≡◌, ◌↔◌, ◌+◌, ◌<◌, ◌≤◌, ◌^◌, ◌∷◌, List, Option, Ok, Err, IfErr, IfOk, IsErr, None, OnErr, OnOk, length, map, slice_index_or, slice_set, []};
 ghost use Rattle.cq_base.specs.declared.cell.Cell.{Cell};
 ghost use Rattle.cq_rank.specs.Machine.{machine_at, told};
 ghost use Rattle.cq_rank.specs.Switch.{AreForOneSwitch, class_count};
 ghost use Rattle.cq_ideal.specs.IdealSlot.{all_told};
+ghost use Rattle.cq_ideal.specs.Parts.{all_idle};
 ghost use Rattle.cq_ideal.specs.Ranking.{AreForPorts, after_input, keyed, ranking};
 ghost use Rattle.cq_engine.specs.Parts.{rank_at, given_at};
 
@@ -36,6 +37,16 @@ fn tell<R: Rank>(rank: &mut R, gone: Option<Queued>)
         Some(queued) => rank.sent(queued.key.rank),
         None => rank.idle(),
     }
+}
+
+// A machine is told that its output was idle. A second idle slot would change nothing, as its state has its size.
+fn tell_idle<R: Rank>(rank: &mut R)
+    ensures fixed { R.fixed rank.new ≡ R.fixed rank.old }
+    ensures state { R.state rank.new ≡ told (R.machine (R.fixed rank.old)) (R.state rank.old) None }
+    ensures sized { length (R.state rank.old) ≡ (R.machine (R.fixed rank.old)).size }
+{
+    let _classes = rank.classes();
+    rank.idle();
 }
 
 impl<R: Rank> Ranks<R> {
@@ -148,6 +159,28 @@ impl<R: Rank> Ranks<R> {
     {
         'outputs: for output in 0..self.len() {
             self.told(output as Port, gone[output]);
+        }
+    }
+
+    // The output was idle.
+    fn idle(&mut self, output: Port)
+        requires { output < length self.old.fixed }
+        ensures fixed { self.new.fixed ≡ self.old.fixed }
+        ensures states { self.new.states ≡ slice_set self.old.states output (told (machine_at (map R.machine self.old.fixed) output) (slice_index_or self.old.states output []) None) }
+        ensures sized { length (slice_index_or self.old.states output []) ≡ (machine_at (map R.machine self.old.fixed) output).size }
+    {
+        tell_idle(&mut self.ranks[output as usize]);
+    }
+
+    /// All outputs were idle. However many more idle slots follow, they change nothing.
+    pub fn rest(&mut self)
+        requires { length self.old.fixed ≤ 64 }
+        ensures fixed { self.new.fixed ≡ self.old.fixed }
+        ensures states { self.new.states ≡ all_idle (map R.machine self.old.fixed) (length self.old.fixed) self.old.states }
+        ensures again { all_idle (map R.machine self.old.fixed) (length self.old.fixed) self.new.states ≡ self.new.states }
+    {
+        'outputs: for output in 0..self.len() {
+            self.idle(output as Port);
         }
     }
 }

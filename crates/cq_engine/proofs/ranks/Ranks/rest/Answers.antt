@@ -1,0 +1,24 @@
+use Rattle.std.proofs.Common.{arith}
+use Rattle.cq_ideal.proofs.Resting.{resting_again, resting_first, resting_last, resting_next}
+use Rattle.cq_engine.proofs.ranks.Ranks.rest.Goals as goal
+
+pub outputs-init : goal.outputs-init
+outputs-init g c = resting_first g.R.Rank.machine c.args.self.now.fixed c.args.self.now.states c.len-output-end.ensures.states
+
+pub outputs-preserved : goal.outputs-preserved
+outputs-preserved g c =
+    let ports = c.len-output-end.ensures.value in
+    let inside = c.outputs-test.true in
+    resting_next g.R.Rank.machine c.args.self.now.fixed c.args.self.now.states c.len-output-end.ensures.states c.outputs.output c.outputs.self.fixed c.outputs.self.states c.idle.new.self.fixed c.idle.new.self.states c.outputs.invariant (omega arith) c.idle.ensures.fixed c.idle.ensures.states c.idle.ensures.sized
+
+pub returns-clause-states : goal.returns-clause-states
+returns-clause-states g c =
+    let ports = c.len-output-end.ensures.value in
+    let past = c.outputs-test.false in
+    resting_last g.R.Rank.machine c.args.self.now.fixed c.args.self.now.states c.len-output-end.ensures.states c.outputs.output c.outputs.self.fixed c.outputs.self.states c.outputs.invariant (omega arith)
+
+pub returns-clause-again : goal.returns-clause-again
+returns-clause-again g c =
+    let ports = c.len-output-end.ensures.value in
+    let past = c.outputs-test.false in
+    resting_again g.R.Rank.machine c.args.self.now.fixed c.args.self.now.states c.len-output-end.ensures.states c.outputs.output c.outputs.self.fixed c.outputs.self.states c.outputs.invariant (omega arith) g.met.R.Rank.laws
