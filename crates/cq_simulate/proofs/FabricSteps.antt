@@ -1,7 +1,8 @@
 -- What each step of the loop over the slots of the fabric asks for, where so many slots are left as are not yet over.
-use Rattle.std.proofs.Common.{◌≡◌, ◌↔◌, ℕ, suc, ◌+◌, ◌-◌, ◌*◌, ◌<◌, ◌≤◌, ◌^◌, Bool, true, false, List, length, map, Option, Some, Result, Ok, Err, refl, sym, ap, ◌∙◌, subst, arith}
+use Rattle.std.proofs.Common.{◌≡◌, ◌↔◌, ℕ, suc, ◌+◌, ◌-◌, ◌*◌, ◌<◌, ◌≤◌, ◌^◌, Bool, true, false, List, length, map, replicate, Option, Some, Result, Ok, Err, refl, sym, ap, ◌∙◌, subst, ⊎_elim, arith}
 use Rattle.std.specs.Prelude.{IsTrue, slice_index}
-use Rattle.cq_base.specs.Arrivals.{arrival_at}
+use Rattle.std.proofs.lemmas.Bool.{cases_lt}
+use Rattle.cq_base.specs.Arrivals.{arrival_at, no_arrivals}
 use Rattle.cq_base.specs.Arriving.{Arrival, arriving, end_of, enough, traffic_of}
 use Rattle.cq_base.specs.Room.{RoomView}
 use Rattle.cq_base.specs.declared.cell.Cell.{Cell}
@@ -13,14 +14,19 @@ use Rattle.cq_engine.specs.Engine.{EngineView, HaveBufferRoom, HaveListRoom, Slo
 use Rattle.cq_ideal.specs.IdealRun.{empty_ideal, ideal_run, departures_ran}
 use Rattle.cq_ideal.specs.Ranking.{AreForPorts, Ranking, ranking}
 use Rattle.cq_laws.specs.Fabric.{IsEmptyFabric}
+use Rattle.cq_laws.specs.FabricRun.{FabricRun}
+use Rattle.cq_laws.specs.Quiet.{quiet_slots}
+use Rattle.cq_prefs.specs.Pairing.{IsInputBest}
 use Rattle.cq_rank.specs.Machine.{Machine}
 use Rattle.cq_rank.specs.Switch.{class_count}
 use Rattle.cq_simulate.proofs.FabricComing.{arrives_found, from_here, same_count}
 use Rattle.cq_simulate.proofs.FabricCounts.{one_if, square_few}
 use Rattle.cq_simulate.proofs.FabricRunning.{Crossing, crossing_fault, crossing_first, crossing_left, crossing_next, crossing_over, switch_of}
 use Rattle.cq_simulate.proofs.Running.{for_here}
-use Rattle.cq_simulate.proofs.Steps.{arrivals_for}
+use Rattle.cq_simulate.proofs.Steps.{arrivals_for, ends_early}
+use Rattle.cq_simulate.proofs.FabricStretches.{crossing_rest, same_fabric}
 use Rattle.cq_simulate.specs.FabricReady.{HasRun, IsReadyFabric}
+use Rattle.cq_simulate.specs.Stretch.{FabricHasRested, IsQuiet}
 
 pub goes_on : (b : Bool) (end slot : ℕ) (Empty : Type 0) → b ≡ false → (IsTrue b ↔ ((end ≤ slot) × Empty)) → end ≤ slot → Empty → ⊥
 goes_on b end slot Empty going iff le none = let over : b ≡ true = iff.1 (le, none) in let P : ⊥ = cc in P
@@ -121,6 +127,35 @@ module _ (M : List ℕ → Machine) (came : List Arrival) (first : EngineView) (
         (ap (λ (fixed : List (List ℕ)). ranking (map M fixed) slot 0 (arriving came slot) now.fabric.ranks) (sym b.fixed)
         ∙ ap (λ (l : List (Option Cell)). ranking (map M now.fixed) slot 0 l now.fabric.ranks) (sym are)
         ∙ rank_err (ranking (map M now.fixed) slot 0 cells now.fabric.ranks) fault answer)
+
+  -- a stretch is skipped
+  module _ (slot next : ℕ) (now new : EngineView) (sent : RoomView Departure) (note : RoomView Transfer) (b : Before slot now sent note) (quiet : IsQuiet came slot next) (rested : FabricHasRested (map M now.fixed) slot next now new) where
+    ran : FabricRun IsInputBest (map M first.fixed) slot (replicate (next - slot) no_arrivals) now.fabric (quiet_slots (map M first.fixed) (next - slot) slot (length now.fixed) now.fabric.ranks) new.fabric
+    ran = subst (λ (fixed : List (List ℕ)). FabricRun IsInputBest (map M fixed) slot (replicate (next - slot) no_arrivals) now.fabric (quiet_slots (map M fixed) (next - slot) slot (length now.fixed) now.fabric.ranks) new.fabric) b.fixed rested.ran
+
+    pub at_rest : Before next new sent note
+    at_rest =
+        let late : slot ≤ next = quiet.late in
+        let more = quiet.more in
+        let some = ends_early came in
+        let left : enough came - slot ≡ next - slot + (enough came - next) = ⊎_elim (λ lt. let before = more lt in omega arith) (λ ge. omega arith) (cases_lt slot next) in
+        let there : slot + (next - slot) ≡ next = omega arith in
+        let classes = class_count (map M first.fixed) in
+        subst (λ (t : ℕ). Crossing (map M first.fixed) came first first_sent t (enough came - next) new sent note) there
+        (crossing_rest (map M first.fixed) came first first_sent sent note (length now.fixed) classes ready.ports
+        (λ t. arrivals_for (length first.fixed) classes came t ready.traffic) (next - slot) slot (enough came - next) (enough came - slot) now.fabric.ranks now new left b
+        (λ t from to. quiet.none t from (omega arith)) (λ some. let before = more (omega arith) in omega arith) ran
+        rested.figures (rested.reached ∙ sym there) rested.running rested.fixed rested.from_inputs rested.to_outputs)
+
+    pub more_at_rest : (end_of came ≤ slot → IsEmptyFabric now.fabric → ⊥) → end_of came ≤ next → IsEmptyFabric new.fabric → ⊥
+    more_at_rest more le empty =
+        ⊎_elim
+        (λ lt. let before = quiet.more lt in omega arith)
+        (λ ge.
+        let late : slot ≤ next = quiet.late in
+        let same : new.fabric ≡ now.fabric = same_fabric (map M first.fixed) (next - slot) slot (length now.fixed) now.fabric.ranks now.fabric new.fabric (omega arith) ran in
+        more (omega arith) (subst IsEmptyFabric same empty))
+        (cases_lt slot next)
 
   pub at_end : (slot : ℕ) (now : EngineView) (sent : RoomView Departure) (note : RoomView Transfer) → Before slot now sent note → end_of came ≤ slot → IsEmptyFabric now.fabric → HasRun (map M first.fixed) came first now sent note
   at_end slot now sent note b le empty = crossing_over (map M first.fixed) came first first_sent slot (enough came - slot) now sent note b le empty

@@ -13,3 +13,5 @@ pub mod Packed
 pub mod Running
 pub mod Steps
 pub mod Taking
+pub mod Stretches
+pub mod FabricStretches

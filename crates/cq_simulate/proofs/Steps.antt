@@ -1,5 +1,5 @@
 -- What each step of the loop over the slots asks for, where so many slots are left as are not yet over.
-use Rattle.std.proofs.Common.{◌≡◌, ◌↔◌, ℕ, suc, ◌+◌, ◌-◌, ◌<◌, ◌≤◌, Bool, true, false, List, [], length, map, get_or, Option, Some, None, Result, Ok, Err, refl, sym, ap, ◌∙◌, subst, ⊎_elim, arith}
+use Rattle.std.proofs.Common.{◌≡◌, ◌↔◌, ℕ, suc, ◌+◌, ◌-◌, ◌<◌, ◌≤◌, ◌^◌, Bool, true, false, List, [], length, map, replicate, get_or, Option, Some, None, Result, Ok, Err, refl, sym, ap, ◌∙◌, subst, ⊎_elim, arith}
 use Rattle.std.specs.Prelude.{IsTrue, All, IfOk, slice_index}
 use Rattle.std.specs.List.{AllByRecursion, range_with_len}
 use Rattle.std.proofs.lemmas.Bool.{cases_lt}
@@ -10,7 +10,7 @@ use Rattle.cq_base.specs.declared.cell.Cell.{Cell}
 use Rattle.cq_base.specs.declared.cell.Departure.{Departure}
 use Rattle.cq_base.specs.declared.cell.Queued.{Queued}
 use Rattle.cq_base.specs.declared.cell.TagFault.{TagFault}
-use Rattle.cq_base.specs.Arrivals.{arrival_at}
+use Rattle.cq_base.specs.Arrivals.{arrival_at, no_arrivals}
 use Rattle.cq_base.specs.Arriving.{Arrival, arriving, arriving_at, end_of, enough, traffic_of}
 use Rattle.cq_base.specs.Room.{RoomView}
 use Rattle.cq_cells.specs.Traffic.{IsInRange, IsTraffic, number_of, is_to}
@@ -18,12 +18,14 @@ use Rattle.cq_rank.specs.Machine.{Machine}
 use Rattle.cq_rank.specs.Switch.{class_count}
 use Rattle.cq_ideal.specs.Ideal.{IdealSwitch, HasRoomFor, HaveLeft, answer_to, count_for}
 use Rattle.cq_ideal.specs.IdealSlot.{IdealState, Sent, ideal_slot}
-use Rattle.cq_ideal.specs.IdealRun.{Ran, ideal_run, departures_ran}
+use Rattle.cq_ideal.specs.IdealRun.{Ran, ideal_run, departures_ran, nothing_sent}
 use Rattle.cq_ideal.specs.Ranking.{AreForPorts}
 use Rattle.cq_ideal.proofs.FlowPut.{all_from}
 use Rattle.cq_ideal.proofs.FlowFound.{cell_listed, found, all_found, arriving_is}
 use Rattle.cq_simulate.specs.Ready.{IsReady}
+use Rattle.cq_simulate.specs.Stretch.{HasRested, IsQuiet}
 use Rattle.cq_ideal.proofs.Waiting.{waiting}
+use Rattle.cq_simulate.proofs.Stretches.{running_rest, same_state}
 use Rattle.cq_simulate.proofs.Running.{Running, running_first, running_next, running_over, running_fault, slot_left, for_here, run_from, sent_from}
 use Rattle.cq_ideal.specs.Ending.{arriving_from}
 use Rattle.cq_ideal.proofs.Ends.{none_waits, nothing_left}
@@ -82,6 +84,11 @@ pub whole_run : (ms : List Machine) (came : List Arrival) (state : IdealState) �
 unfolding run_from arriving_from traffic_of
 whole_run ms came state = departures_are (ideal_run ms 0 (traffic_of came) state)
 
+-- the slots do not end before the arrivals
+pub ends_early : (came : List Arrival) → end_of came ≤ enough came
+unfolding enough
+ends_early came = omega arith
+
 slot_ok : (x : Result Sent TagFault) → Ok tt ≡ answer_to x → (sent : Sent) × (x ≡ Ok sent)
 slot_ok (Ok sent) e = (sent, refl)
 slot_ok (Err fault) e = absurd (let P : ⊥ = cc in P)
@@ -106,6 +113,9 @@ module _ (M : List ℕ → Machine) (came : List Arrival) (first : IdealSwitch) 
 
     r_next : Running (map M first.fixed) came first first_sent slot (suc (enough came - (slot + 1))) now sent
     r_next = subst (λ (n : ℕ). Running (map M first.fixed) came first first_sent slot n now sent) one_more r
+
+    pub early : slot < 2 ^ 64 - 1
+    early = let l = a_slot_left in let short : enough came ≤ 2 ^ 63 + 2 ^ 35 = ready.short in omega arith
 
     pub arrivals_fit : (cells : List (Option Cell)) → cells ≡ arriving came slot → AreForPorts (length now.fixed) (class_count (map M now.fixed)) cells
     arrivals_fit cells are =
@@ -144,6 +154,32 @@ module _ (M : List ℕ → Machine) (came : List Arrival) (first : IdealSwitch) 
         whole_run (map M first.fixed) came first.state
         ∙ running_fault (map M first.fixed) came first first_sent slot (enough came - (slot + 1)) now sent fault r_next
         (sym (as_now cells are) ∙ slot_err (ideal_slot (map M now.fixed) slot cells now.state) fault answer)
+
+  -- a stretch is skipped
+  module _ (slot next : ℕ) (now new : IdealSwitch) (sent : RoomView Departure) (r : Before slot now sent) (quiet : IsQuiet came slot next) (rested : HasRested (map M now.fixed) slot next now new) where
+    ran : ideal_run (map M first.fixed) slot (replicate (next - slot) no_arrivals) now.state ≡ Ok (nothing_sent (next - slot) (length now.fixed) new.state)
+    ran = subst (λ (fixed : List (List ℕ)). ideal_run (map M fixed) slot (replicate (next - slot) no_arrivals) now.state ≡ Ok (nothing_sent (next - slot) (length now.fixed) new.state)) r.fixed rested.ran
+
+    pub at_rest : Before next new sent
+    at_rest =
+        let late : slot ≤ next = quiet.late in
+        let more = quiet.more in
+        let some = ends_early came in
+        let left : enough came - slot ≡ next - slot + (enough came - next) = ⊎_elim (λ lt. let before = more lt in omega arith) (λ ge. omega arith) (cases_lt slot next) in
+        let there : slot + (next - slot) ≡ next = omega arith in
+        subst (λ (t : ℕ). Running (map M first.fixed) came first first_sent t (enough came - next) new sent) there
+        (running_rest (map M first.fixed) came first first_sent sent (length now.fixed) (next - slot) slot (enough came - next) (enough came - slot) now new left r
+        (λ t from to. quiet.none t from (omega arith)) ran (rested.reached ∙ sym there) rested.running rested.fixed rested.rooms)
+
+    pub more_at_rest : (end_of came ≤ slot → waiting now.state.lists ≡ 0 → ⊥) → end_of came ≤ next → waiting new.state.lists ≡ 0 → ⊥
+    more_at_rest more le none =
+        ⊎_elim
+        (λ lt. let before = quiet.more lt in omega arith)
+        (λ ge.
+        let late : slot ≤ next = quiet.late in
+        let same : now.state ≡ new.state = same_state (map M first.fixed) (next - slot) slot (length now.fixed) now.state new.state (omega arith) ran in
+        more (omega arith) (ap (λ (s : IdealState). waiting s.lists) same ∙ none))
+        (cases_lt slot next)
 
   pub at_end : (slot : ℕ) (now : IdealSwitch) (sent : RoomView Departure) → Before slot now sent → end_of came ≤ slot → All (λ cells. cells ≡ []) now.state.lists → departures_ran (ideal_run (map M first.fixed) 0 (traffic_of came) first.state) ≡ Ok sent.items
   at_end slot now sent r le none =

@@ -4,3 +4,4 @@ pub mod IdealRuns
 pub mod Packets
 pub mod Pieces
 pub mod Ready
+pub mod Stretch

@@ -1,5 +1,5 @@
 //! The run of the fabric.
-ghost use Rattle.std.specs.Prelude.{◌≡◌, ◌↔◌, ◌≤◌, IsTrue, IfOk, IfErr, Ok, Err, OnOk, length, map};
+ghost use Rattle.std.specs.Prelude.{◌≡◌, ◌↔◌, ◌≤◌, IsTrue, false, IfOk, IfErr, Ok, Err, OnOk, length, map};
 ghost use Rattle.std.specs.List.{range_with_len};
 ghost use Rattle.cq_base.specs.Arriving.{end_of, traffic_of};
 ghost use Rattle.cq_cells.specs.Traffic.{IsTraffic, IsShort, is_from, number_of};
@@ -9,9 +9,11 @@ ghost use Rattle.cq_route.specs.Tables.{AreTables, classes_of, ports_of};
 ghost use Rattle.cq_simulate.specs.FabricReady.{HasRun, IsReadyFabric};
 ghost use Rattle.cq_simulate.specs.FabricRuns.{IsKeptOf};
 ghost use Rattle.cq_simulate.specs.IdealRuns.{ideal_departures, IsRefusalOf};
+ghost use Rattle.cq_simulate.specs.Stretch.{FabricHasRested, IsQuiet};
 
 use crate::RunRefusal;
 use crate::ideal_run::rooms_of;
+use crate::stretch::quiet_until;
 use cq_base::{Departure, Figures, NoMemory, Room, Slot, TagFault, Transfer};
 use cq_cells::Schedule;
 use cq_crew::Gate;
@@ -35,7 +37,8 @@ pub struct FabricRun {
 
 /// Runs the fabric over a schedule of the same ports and classes, from slot 0 until no cell arrives any
 /// more and none waits. As many workers as the tables say propose at once, and `gate` is told of their steps.
-/// Neither changes anything of what is done.
+/// Neither changes anything of what is done. It takes time for the slots in which a cell waits or comes, and
+/// none for those between them.
 ///
 /// - `Tag`: a rank does not fit 128 bits; the first such fault of the ideal switch.
 /// - `NoMemory`: there was not the memory for the lists, the buffers, the departures and the transfers.
@@ -96,6 +99,25 @@ fn is_over<R: Rank>(engine: &Engine<R>, schedule: &Schedule, slot: Slot) -> bool
     schedule.end() <= slot && engine.empty()
 }
 
+// Where no cell waits, the slots up to the next arrival are skipped: the fabric rests. The answer is the slot that
+// comes then.
+fn skip<R: Rank>(engine: &mut Engine<R>, schedule: &Schedule, slot: Slot) -> Slot
+    requires running { engine.old.stopped ≡ false }
+    requires next { engine.old.next ≡ slot }
+    ensures quiet { IsQuiet schedule.now.came slot result }
+    ensures rested { FabricHasRested (map R.machine engine.old.fixed) slot result engine.old engine.new }
+{
+    if !engine.empty() {
+        return slot;
+    }
+    let next = quiet_until(schedule, slot);
+    if next == slot {
+        return slot;
+    }
+    engine.rest(next);
+    next
+}
+
 // Runs a fabric over all cells that arrive. The error is the first tag fault of the ideal switch.
 fn run_slots<T: Threads + Sync, R: Rank, G: Gate>(
     rt: &T,
@@ -112,6 +134,7 @@ fn run_slots<T: Threads + Sync, R: Rank, G: Gate>(
 {
     let mut slot = 0;
     'slots: while !is_over(engine, schedule, slot) {
+        slot = skip(engine, schedule, slot);
         let arrivals = schedule.arrivals_at(slot);
         engine.slot(rt, alloc, slot, &arrivals, gate, sent, note)?;
         slot += 1;

@@ -1,5 +1,5 @@
 //! The run of the ideal switch.
-ghost use Rattle.std.specs.Prelude.{◌≡◌, ◌↔◌, ◌+◌, ◌<◌, ◌≤◌, ◌^◌, IsTrue, All, Ok, Err, IfOk, IfErr, OnOk, [], map};
+ghost use Rattle.std.specs.Prelude.{◌≡◌, ◌↔◌, ◌+◌, ◌<◌, ◌≤◌, ◌^◌, IsTrue, false, All, Ok, Err, IfOk, IfErr, OnOk, [], map};
 ghost use Rattle.std.specs.List.{range_with_len};
 ghost use Rattle.cq_base.specs.Arriving.{end_of, traffic_of};
 ghost use Rattle.cq_cells.specs.Traffic.{IsTraffic, IsShort, is_to, number_of};
@@ -8,8 +8,10 @@ ghost use Rattle.cq_route.specs.Tables.{AreTables, classes_of, ports_of};
 ghost use Rattle.cq_ideal.specs.Ending.{slots_of};
 ghost use Rattle.cq_simulate.specs.IdealRuns.{ideal_departures, slots_ran, IsRefusalOf};
 ghost use Rattle.cq_simulate.specs.Ready.{IsReady};
+ghost use Rattle.cq_simulate.specs.Stretch.{HasRested, IsQuiet};
 
 use crate::RunRefusal;
+use crate::stretch::quiet_until;
 use cq_base::{Departure, NoMemory, Room, Slot, TagFault};
 use cq_cells::Schedule;
 use cq_ideal::Ideal;
@@ -28,7 +30,8 @@ pub struct IdealRun {
 }
 
 /// Runs the ideal switch over a schedule of the same ports and classes, from slot 0 until no cell
-/// arrives any more and none waits.
+/// arrives any more and none waits. It takes time for the slots in which a cell waits or comes, and none for those
+/// between them.
 ///
 /// - `Tag`: a rank does not fit 128 bits; the first such fault of the ideal switch.
 /// - `NoMemory`: there was not the memory for the lists and the departures.
@@ -76,6 +79,25 @@ fn is_over<R: Rank>(ideal: &Ideal<R>, schedule: &Schedule, slot: Slot) -> bool
     schedule.end() <= slot && ideal.empty()
 }
 
+// Where no cell waits, the slots up to the next arrival are skipped: the switch rests. The answer is the slot that
+// comes then.
+fn skip<R: Rank>(ideal: &mut Ideal<R>, schedule: &Schedule, slot: Slot) -> Slot
+    requires running { ideal.old.stopped ≡ false }
+    requires next { ideal.old.next ≡ slot }
+    ensures quiet { IsQuiet schedule.now.came slot result }
+    ensures rested { HasRested (map R.machine ideal.old.fixed) slot result ideal.old ideal.new }
+{
+    if !ideal.empty() {
+        return slot;
+    }
+    let next = quiet_until(schedule, slot);
+    if next == slot {
+        return slot;
+    }
+    ideal.rest(next);
+    next
+}
+
 // Runs a switch over all cells that arrive. The error is its first tag fault.
 fn run_slots<R: Rank>(
     ideal: &mut Ideal<R>,
@@ -89,6 +111,7 @@ fn run_slots<R: Rank>(
 {
     let mut slot = 0;
     'slots: while !is_over(ideal, schedule, slot) {
+        slot = skip(ideal, schedule, slot);
         let arrivals = schedule.arrivals_at(slot);
         ideal.slot(slot, &arrivals, sent)?;
         slot += 1;

@@ -7,6 +7,7 @@ mod idle;
 mod laws;
 mod packets;
 mod refusal;
+mod stretch;
 #[cfg(test)]
 mod tests;
 

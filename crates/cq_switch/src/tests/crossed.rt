@@ -71,7 +71,7 @@ pub(super) const RUNS: [Run; 3] = [
 ];
 
 /// Runs by keys of their own.
-const RUNS_BY_KEYS: [Run; 4] = [
+const RUNS_BY_KEYS: [Run; 5] = [
     Run {
         shows: "ranks are equal, and the cell of the later input goes first, since it came a slot earlier",
         keys: Keys {
@@ -99,6 +99,22 @@ const RUNS_BY_KEYS: [Run; 4] = [
         report: "slots 3\nproposals 2\nmost 1\n\
             input 0 cells 2 longest 1 slack 0\n\
             output 0 cells 2 idle 1 wait 0\n",
+    },
+    Run {
+        shows: "an hour of slots of a nanosecond, in which nothing comes and nothing waits, and which begin a fair \
+            output's ranks anew",
+        keys: Keys {
+            first: "slot_ns = 1\n",
+            port: "discipline = \"fair\"\n",
+            last: "[[class]]\ncost = \"340282366920938463463374607431768211455\"\n",
+        },
+        inputs: &[&[(0, 0, 0, 60), (3600, 0, 0, 60)]],
+        outputs: &[&[(0, 0, 0, 60), (3600, 0, 0, 60)]],
+        trace: "0 0 0 0 0\n3600000000000 0 0 1 0\n",
+        log: "0 1 0 0 0 0\n3600000000000 1 0 0 1 0\n",
+        report: "slots 3600000000001\nproposals 2\nmost 1\n\
+            input 0 cells 2 longest 1 slack 0\n\
+            output 0 cells 2 idle 3599999999999 wait 0\n",
     },
     Run {
         shows: "seconds are written modulo 2^32",

@@ -1,0 +1,100 @@
+-- Stretches of slots that the fabric skips. What is known before the first of them is known after each, as after any slot:
+-- none sends a cell, moves one or changes a figure.
+use Rattle.std.proofs.Common.{◌≡◌, ℕ, zero, suc, ◌+◌, ◌<◌, ◌≤◌, false, List, [], ◌++◌, length, replicate, Option, refl, sym, ap, ◌∙◌, subst, arith}
+use Rattle.std.proofs.lemmas.List.{append-nil}
+use Rattle.cq_base.specs.Arrivals.{no_arrivals}
+use Rattle.cq_base.specs.Arriving.{Arrival, arriving, end_of}
+use Rattle.cq_base.specs.Room.{RoomView}
+use Rattle.cq_base.specs.declared.cell.Cell.{Cell}
+use Rattle.cq_base.specs.declared.cell.Departure.{Departure}
+use Rattle.cq_base.specs.declared.cell.Transfer.{Transfer}
+use Rattle.cq_engine.specs.Engine.{EngineView, SlotDone}
+use Rattle.cq_ideal.specs.IdealSlot.{departures_in}
+use Rattle.cq_ideal.specs.Ranking.{AreForPorts}
+use Rattle.cq_laws.proofs.QuietSlots.{quiet_figures, quiet_transfers}
+use Rattle.cq_laws.specs.Fabric.{Fabric}
+use Rattle.cq_laws.specs.FabricRun.{FabricRun}
+use Rattle.cq_laws.specs.Quiet.{idled, quiet_slot, quiet_slots}
+use Rattle.cq_laws.specs.Records.{transfers_in}
+use Rattle.cq_prefs.specs.Pairing.{IsInputBest}
+use Rattle.cq_rank.specs.Machine.{Machine}
+use Rattle.cq_simulate.proofs.FabricRunning.{Crossing, crossing_next}
+use Rattle.cq_simulate.proofs.Stretches.{nobody_departs}
+
+pub same_fabric : (ms : List Machine) (k slot ports : ℕ) (ranks : List (List ℕ)) (f g : Fabric) → k ≡ 0 →
+    FabricRun IsInputBest ms slot (replicate k no_arrivals) f (quiet_slots ms k slot ports ranks) g → g ≡ f
+same_fabric ms zero slot ports ranks f g none ran = ran
+same_fabric ms (suc k) slot ports ranks f g none ran = absurd (omega arith)
+
+quiet_gone : (ms : List Machine) (slot ports : ℕ) (ranks : List (List ℕ)) →
+    departures_in slot (quiet_slot ms slot ports ranks).gone ≡ []
+unfolding quiet_slot
+quiet_gone ms slot ports ranks = nobody_departs ports slot
+
+pub crossing_rest : (ms : List Machine) (came : List Arrival) (first : EngineView) (first_sent sent : RoomView Departure)
+    (note : RoomView Transfer) (ports classes : ℕ) → length first.fixed ≤ 64 →
+    ((t : ℕ) → AreForPorts (length first.fixed) classes (arriving came t)) →
+    (k slot n m : ℕ) (ranks : List (List ℕ)) (now after : EngineView) → m ≡ k + n →
+    Crossing ms came first first_sent slot m now sent note →
+    ((t : ℕ) → slot ≤ t → t < slot + k → arriving came t ≡ no_arrivals) → (0 < k → slot + k < end_of came) →
+    FabricRun IsInputBest ms slot (replicate k no_arrivals) now.fabric (quiet_slots ms k slot ports ranks) after.fabric →
+    after.figures ≡ now.figures → after.next ≡ slot + k → after.stopped ≡ false → after.fixed ≡ now.fixed →
+    after.from_inputs ≡ now.from_inputs → after.to_outputs ≡ now.to_outputs →
+    Crossing ms came first first_sent (slot + k) n after sent note
+crossing_rest ms came first first_sent sent note ports classes few for_ports zero slot n m ranks now after left c quiet more ran
+    figures next running fixed from_inputs to_outputs =
+    let at : slot ≡ slot + 0 = omega arith in
+    let is_next : now.next ≡ after.next = c.next ∙ at ∙ sym next in
+    let fabric : now.fabric ≡ after.fabric = sym ran in
+    let same : now ≡ after = λ e. record {
+      fixed = sym fixed e;
+      fabric = fabric e;
+      from_inputs = sym from_inputs e;
+      to_outputs = sym to_outputs e;
+      figures = sym figures e;
+      next = is_next e;
+      stopped = (c.running ∙ sym running) e;
+    } in
+    let count : m ≡ n = omega arith in
+    subst (λ (s : ℕ). Crossing ms came first first_sent s n after sent note) at
+    (subst (λ (l : ℕ). Crossing ms came first first_sent slot l after sent note) count
+    (subst (λ (v : EngineView). Crossing ms came first first_sent slot m v sent note) same c))
+crossing_rest ms came first first_sent sent note ports classes few for_ports (suc k) slot n zero ranks now after left c quiet more ran
+    figures next running fixed from_inputs to_outputs = absurd (omega arith)
+crossing_rest ms came first first_sent sent note ports classes few for_ports (suc k) slot n (suc m) ranks now after left c quiet more ran
+    figures next running fixed from_inputs to_outputs =
+    let r = quiet_slot ms slot ports ranks in
+    let leave : departures_in slot r.gone ≡ [] = quiet_gone ms slot ports ranks in
+    let cross : transfers_in r ≡ [] = quiet_transfers ms slot ports ranks in
+    let none_leave = ap (λ (l : List Departure). length l) leave in
+    let none_cross = ap (λ (l : List Transfer). length l) cross in
+    let some = more (omega arith) in
+    let quiet_here : arriving came slot ≡ no_arrivals = quiet slot (omega arith) (omega arith) in
+    let middle : EngineView = record {
+      fixed = now.fixed;
+      fabric = ran.0;
+      from_inputs = now.from_inputs;
+      to_outputs = now.to_outputs;
+      figures = now.figures;
+      next = slot + 1;
+      stopped = false;
+    } in
+    let done : SlotDone ms slot no_arrivals now middle sent sent note note = record {
+      of_slot = r;
+      is_slot = ran.1;
+      departed = sym (append-nil sent.items) ∙ ap (λ (l : List Departure). sent.items ++ l) (sym leave);
+      departed_room = omega arith;
+      crossed = sym (append-nil note.items) ∙ ap (λ (l : List Transfer). note.items ++ l) (sym cross);
+      crossed_room = omega arith;
+      counted = sym (quiet_figures ms slot ports ranks now.figures);
+    } in
+    let after_one : Crossing ms came first first_sent (slot + 1) m middle sent note =
+    crossing_next ms came first first_sent slot m now sent note middle sent note classes c (λ le empty. omega arith) few
+    (for_ports slot)
+    (subst (λ (cells : List (Option Cell)). SlotDone ms slot cells now middle sent sent note note) (sym quiet_here) done)
+    refl refl refl refl refl in
+    let at : slot + 1 + k ≡ slot + suc k = omega arith in
+    subst (λ (s : ℕ). Crossing ms came first first_sent s n after sent note) at
+    (crossing_rest ms came first first_sent sent note ports classes few for_ports k (slot + 1) n m (idled ms ports ranks) middle after
+    (omega arith) after_one (λ t from to. quiet t (omega arith) (omega arith)) (λ pos. omega arith) ran.2 figures (next ∙ sym at) running
+    fixed from_inputs to_outputs)

@@ -1,0 +1,12 @@
+//! Stretches of slots in which no cell arrives.
+ghost use Rattle.cq_simulate.specs.Stretch.{IsQuiet};
+
+use cq_base::Slot;
+use cq_cells::Schedule;
+
+/// The slot up to which no cell arrives: that of the next arrival, or this one where none arrives any more.
+pub fn quiet_until(schedule: &Schedule, slot: Slot) -> Slot
+    ensures { IsQuiet schedule.now.came slot result }
+{
+    schedule.next_arrival(slot).unwrap_or(slot)
+}
