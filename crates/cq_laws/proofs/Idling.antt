@@ -5,9 +5,9 @@ use Rattle.std.proofs.lemmas.List.{ext_get_or}
 use Rattle.std.proofs.lemmas.List.FromFn.{get_or-map-range_with_len, length-map-range_with_len}
 use Rattle.cq_base.specs.declared.cell.Queued.{Queued}
 use Rattle.cq_rank.specs.Machine.{Machine, machine_at, told}
+use Rattle.cq_ideal.proofs.Resting.{none_at}
 use Rattle.cq_ideal.specs.IdealSlot.{all_told}
 use Rattle.cq_laws.specs.Quiet.{KeepLaws, idled, idled_for}
-use Rattle.cq_laws.proofs.QuietSlots.{none_at}
 
 module _ (ms : List Machine) (n : ℕ) where
   told_idle : List (List ℕ) → ℕ → List ℕ

@@ -1,6 +1,6 @@
 -- Where no cell waits and none comes, nothing is offered: the matching of nobody is the only one, nothing moves, and no figure
 -- changes. Only the rank machines are told that their outputs were idle.
-use Rattle.std.proofs.Common.{◌≡◌, ℕ, zero, suc, ◌+◌, ◌-◌, ◌<◌, false, cond, List, [], ◌∷◌, ◌++◌, length, map, Option, Some, None, Ok, refl, sym, ap, ◌∙◌, subst, arith}
+use Rattle.std.proofs.Common.{◌≡◌, ℕ, zero, suc, ◌+◌, ◌-◌, ◌<◌, false, cond, List, [], ◌∷◌, ◌++◌, length, map, Option, Some, None, refl, sym, ap, ◌∙◌, subst, arith}
 use Rattle.std.specs.Prelude.{All, max, min, is_some, slice_index_or, filter_map, replicate, sum, fold}
 use Rattle.std.specs.List.{range_with_len, enumerate_from, list_any, reduce, cons_option}
 use Rattle.std.specs.Option.{option_map}
@@ -12,9 +12,9 @@ use Rattle.cq_base.specs.declared.figures.OutputFigures.{OutputFigures}
 use Rattle.cq_base.specs.declared.figures.Figures.{Figures}
 use Rattle.cq_base.specs.Arrivals.{no_arrivals}
 use Rattle.cq_rank.specs.Machine.{Machine}
-use Rattle.cq_ideal.specs.Ranking.{ranking, after_input}
-use Rattle.cq_ideal.specs.IdealSlot.{fronts, rests, departures_from, departures_in}
+use Rattle.cq_ideal.specs.IdealSlot.{departures_from, departures_in}
 use Rattle.cq_ideal.specs.IdealRun.{departures_of}
+use Rattle.cq_ideal.proofs.Resting.{nobody_sends, none_at, nothing_left, ranked_none}
 use Rattle.cq_prefs.specs.Orders.{Orders, ports, outputs_of, place_in, IsOffered}
 use Rattle.cq_prefs.specs.Pairing.{Partners, partner_of, depth, partner_place, spent, proposals, IsStable, IsInputBest}
 use Rattle.cq_prefs.specs.FirstCells.{list_of, orders_of, output_order}
@@ -29,25 +29,6 @@ use Rattle.cq_laws.specs.Quiet.{idled, quiet_slot, quiet_slots, idled_for}
 use Rattle.cq_laws.proofs.AddingUp.{map-constant}
 use Rattle.cq_laws.proofs.OneRun.{outputs_at}
 use Rattle.cq_laws.proofs.WholeRuns.{empty_list}
-
--- ## Nobody, nothing
-
-pub none_at : {X : Type 0} (n i : ℕ) → ◌≡◌ {A = Option X} (slice_index_or (replicate n None) i None) None
-none_at zero i = refl
-none_at (suc n) zero = refl
-none_at (suc n) (suc i) = none_at n i
-
-nobody_sends : (n : ℕ) → replicate n None ≡ fronts (replicate n [])
-nobody_sends zero = refl
-nobody_sends (suc n) = ap (λ l. None ∷ l) (nobody_sends n)
-
-nothing_left : (n : ℕ) → replicate n [] ≡ rests (replicate n [])
-nothing_left zero = refl
-nothing_left (suc n) = ap (λ l. [] ∷ l) (nothing_left n)
-
-ranked_none : (ms : List Machine) (slot i n : ℕ) (ranks : List (List ℕ)) → ranking ms slot i (replicate n None) ranks ≡ Ok (record { came = replicate n None; ranks = ranks })
-ranked_none ms slot i zero ranks = refl
-ranked_none ms slot i (suc n) ranks = ap (after_input None) (ranked_none ms slot (i + 1) n ranks)
 
 -- ## Nothing is offered
 
@@ -222,7 +203,7 @@ empty_is f empty square =
 
 -- ## Many such slots
 
-no_departures : (n slot j : ℕ) → departures_from slot j (no_cells n) ≡ []
+pub no_departures : (n slot j : ℕ) → departures_from slot j (no_cells n) ≡ []
 no_departures zero slot j = refl
 no_departures (suc n) slot j = no_departures n slot (j + 1)
 

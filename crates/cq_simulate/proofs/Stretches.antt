@@ -19,8 +19,9 @@ use Rattle.cq_ideal.proofs.FlowFound.{arriving_is}
 use Rattle.cq_ideal.proofs.Parted.{first_slot}
 use Rattle.cq_ideal.specs.Ideal.{IdealSwitch}
 use Rattle.cq_ideal.specs.IdealRun.{Ran, ideal_run, nothing_sent}
-use Rattle.cq_ideal.specs.IdealSlot.{IdealState, departures_from, departures_in, ideal_slot}
+use Rattle.cq_ideal.specs.IdealSlot.{IdealState, departures_in, ideal_slot}
 use Rattle.cq_laws.proofs.AddingUp.{map-constant}
+use Rattle.cq_laws.proofs.QuietSlots.{no_departures}
 use Rattle.cq_rank.specs.Machine.{Machine}
 use Rattle.cq_simulate.proofs.Running.{Running, running_next}
 use Rattle.cq_simulate.specs.Stretch.{HasRested, IsQuiet}
@@ -66,13 +67,9 @@ quiet_to_next came slot (Some next) is = record {
 
 -- ## The ideal switch
 
-none_depart : (n slot j : ℕ) → departures_from slot j (replicate n None) ≡ []
-none_depart zero slot j = refl
-none_depart (suc n) slot j = none_depart n slot (j + 1)
-
 pub nobody_departs : (n slot : ℕ) → departures_in slot (replicate n None) ≡ []
 unfolding departures_in
-nobody_departs n slot = none_depart n slot 0
+nobody_departs n slot = no_departures n slot 0
 
 pub same_state : (ms : List Machine) (k slot ports : ℕ) (s t : IdealState) → k ≡ 0 →
     ideal_run ms slot (replicate k no_arrivals) s ≡ Ok (nothing_sent k ports t) → s ≡ t
