@@ -46,8 +46,10 @@ fn a_state_is_read_and_written_again(rt: HostRuntime) {
         Ok(state) => {
             assert_eq!(rt; state.head.next, 1);
             assert_eq!(rt; state.buffered.as_slice().len(), 1);
-            assert_eq!(rt; state.buffered.as_slice()[0].input, 1);
-            assert_eq!(rt; state.moved.as_slice()[1].phase, 2);
+            let first = state.buffered.as_slice().get(0);
+            assert_eq!(rt; first.map(|named| named.input), Some(1));
+            let second = state.moved.as_slice().get(1);
+            assert_eq!(rt; second.map(|transfer| transfer.phase), Some(2));
             match text_of(alloc, &state) {
                 Ok(text) => assert_eq!(rt; text.as_slice(), STATE),
                 Err(StateLong::Long) => assert!(rt; false, "it is not long"),
