@@ -5,8 +5,8 @@
 
 It prints three tables for README.md: `soak` over few slots, with more and more ports; `run` with one
 worker, where 16 inputs send to one output, over longer and longer captures; and `run` and `ideal` over
-captures in which nearly nothing happens. Rows that would take more than the limit are left out. It ends
-with status 1 where a run does.
+captures of two packets with more and more quiet slots between them. Rows that would take more than the
+limit are left out. It ends with status 1 where a run does.
 """
 
 import os
@@ -17,7 +17,7 @@ from measuring import (figure, instructions, make_captures, middle, model, parse
 
 PORTS, SLOTS = (4, 16, 64), 1000
 INPUTS, SIZES = 16, (15_625, 31_250, 62_500, 125_000, 250_000, 500_000, 1_000_000)
-QUIET_NS = 100_000_000
+QUIET_SLOTS = (10_000, 10_000_000, 10_000_000_000)
 GROWTH = 4  # of the time, where captures are twice as long
 SLOWER = 50  # what callgrind takes at least, times the run's own time
 TIMES = ("time", "processor time", "slots a second", "slots a processor second")
@@ -49,15 +49,13 @@ def with_cells(program, options):
             return
 
 
-def quiet(program, command, ports, options):
-    """Two packets a tenth of a second apart at one input, and none at the others."""
+def quiet(program, command, ports, slots, options):
+    """Two packets at one input with so many slots from the first to the second, and none at the others."""
     for number in range(ports):
-        write_capture(".", number, (0, QUIET_NS) if number == 0 else ())
+        write_capture(".", number, (0, slots * model().SLOT_NS) if number == 0 else ())
     words = [program, command, write_configuration(".", ports)]
     spent = middle([run(words) for _ in range(options.runs)])
-    slots = QUIET_NS // model().SLOT_NS + 1
-    return ("`%s`" % command, ports, whole(slots), "%.3f s" % spent.seconds, "%.3f s" % spent.busy,
-            whole(slots / spent.seconds), whole(slots / spent.busy))
+    return ("`%s`" % command, ports, whole(slots), "%.3f s" % spent.seconds, "%.3f s" % spent.busy)
 
 
 def main():
@@ -72,8 +70,9 @@ def main():
         os.chdir(folder)
         table(("bytes at an input", "cells in all", "longest list", "slots", *TIMES, "instructions a slot"),
               with_cells(program, options))
-        table(("command", "ports", "quiet slots", *TIMES),
-              (quiet(program, command, ports, options) for command in ("run", "ideal") for ports in PORTS))
+        table(("command", "ports", "quiet slots", "time", "processor time"),
+              (quiet(program, command, ports, slots, options)
+               for command in ("run", "ideal") for ports in PORTS for slots in QUIET_SLOTS))
 
 
 if __name__ == "__main__":
