@@ -140,10 +140,19 @@ def write_plan(config: str, folder: str, choices: list[Choice]) -> list[str]:
     return numbers
 
 
+def see_built(program: str) -> None:
+    """Calls the program once without words, so that a launcher builds it where need be, and not each run anew."""
+    called = subprocess.run([program], stdin=subprocess.DEVNULL, capture_output=True, text=True, check=False)
+    if called.returncode in (126, 127):
+        raise Fault(f"{program} cannot be called: {called.stderr.strip() or 'it is not there'}")
+
+
 def run_all(folder: str, numbers: list[str], options: argparse.Namespace) -> None:
     """Runs what is not done yet."""
     if not shutil.which("parallel"):
         raise Fault("GNU parallel is not there: `apt-get install parallel`")
+    if not options.sshlogin:
+        see_built(options.program)
     job = [sys.executable, ONE, "--program", options.program] + ["--keep"] * options.keep
     words = ["parallel", "--joblog", os.path.join(folder, "joblog"), "--resume-failed" if options.again else "--resume"]
     words += ["--bar"] * sys.stderr.isatty() + ["--jobs", options.jobs] * bool(options.jobs)
