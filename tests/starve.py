@@ -1,0 +1,322 @@
+#!/usr/bin/env python3
+"""Refuses the built program one growth of its memory after the other, and looks at what stands after each.
+
+    tests/starve.py --bin PROGRAM [--only CASE] [--jobs N]
+
+Each case is one command over a few small files, in a folder of its own. A library that is loaded ahead of the
+C library numbers the calls of `malloc`, `realloc` and `calloc` from 0. It refuses the one with the number N, or that
+one and all behind it, for every N in turn, until the numbers have gone past the last call of a run. What is counted
+begins where the loader is done, ahead of `main`. So it has the calls that the C library makes for the program, as
+where a thread is started, and none that the loader makes for itself. In two more rounds the starts of threads are
+numbered and refused in the same way.
+
+Every name that the program is to write is a file already, with other bytes, so that touching it shows. After each run
+one of these must stand, each with its whole line and with no other:
+
+- 0: the text and all files are right; where a name leads to a capture that was read, 6 for that name stands in its place;
+- 7, `no memory`, or 5, `read fault: NAME`, where there was no memory to keep a name that is read: all files are as
+  before, and no text was written;
+- 6, `write fault: NAME`, where there was no memory to keep a name that is written: the files ahead of it are right, it
+  and those behind it are as before, and no text was written;
+- 10, where there was no memory for the words, so by no number behind one that gave another status: nothing was written.
+
+Where a thread is refused, only the first may stand. A signal, or more than 10 seconds, is a failure. What is right
+stands in `examples/`, is worked by hand, or comes from `examples/fabric_model.py`, and so from no run of the program.
+
+The shim wants glibc and `cc`. With several workers a run may ask for more or less than the one before it, so a growth of
+theirs may be passed over. The last line is `starve: P passed, F failed`, and the status is 1 where one failed. No
+part of the gate.
+"""
+
+import argparse
+import collections
+import concurrent.futures
+import itertools
+import mmap
+import os
+import signal
+import struct
+import subprocess
+import sys
+import tempfile
+
+EXAMPLES = os.path.join(os.path.dirname(os.path.abspath(__file__)), "..", "examples")
+WALL = 10
+QUIET = 16  # so many numbers in turn that refuse nothing end a round
+NO_WORDS = 10  # the status of a call whose words could not be kept
+BEFORE = b"what stood here before\n"
+
+# What is asked for is told through a file in memory, since the program may end in any way.
+SHIM = r"""
+#define _GNU_SOURCE
+#include <dlfcn.h>
+#include <errno.h>
+#include <fcntl.h>
+#include <pthread.h>
+#include <stdatomic.h>
+#include <stdbool.h>
+#include <stdlib.h>
+#include <sys/mman.h>
+#include <unistd.h>
+
+void *__libc_malloc(size_t);
+void *__libc_calloc(size_t, size_t);
+void *__libc_realloc(void *, size_t);
+
+struct told { atomic_ulong growths, threads, refused, lost; };
+
+typedef int starter(pthread_t *, const pthread_attr_t *, void *(*)(void *), void *);
+
+static struct told *told;  // null until the loader is done
+static bool is_of_threads;
+static unsigned long from, to;
+static starter *start;
+
+static unsigned long number(const char *name) { return strtoul(getenv(name), NULL, 10); }
+
+__attribute__((constructor)) static void begin(void) {
+    start = (starter *)dlsym(RTLD_NEXT, "pthread_create");
+    is_of_threads = number("STARVE_THREADS");
+    from = number("STARVE_FROM");
+    to = number("STARVE_TO");
+    int file = open(getenv("STARVE_TOLD"), O_RDWR);
+    void *page = mmap(NULL, sizeof *told, PROT_READ | PROT_WRITE, MAP_SHARED, file, 0);
+    close(file);
+    if (start == NULL || page == MAP_FAILED)
+        abort();
+    told = page;
+}
+
+static bool is_refused(atomic_ulong *count, bool is_meant) {
+    unsigned long at = atomic_fetch_add(count, 1);
+    if (!is_meant || at < from || at > to)
+        return false;
+    atomic_fetch_add(&told->refused, 1);
+    errno = ENOMEM;
+    return true;
+}
+
+static bool is_growth_refused(void) { return told != NULL && is_refused(&told->growths, !is_of_threads); }
+
+void *malloc(size_t size) { return is_growth_refused() ? NULL : __libc_malloc(size); }
+
+void *calloc(size_t count, size_t size) { return is_growth_refused() ? NULL : __libc_calloc(count, size); }
+
+void *realloc(void *old, size_t size) { return is_growth_refused() ? NULL : __libc_realloc(old, size); }
+
+int pthread_create(pthread_t *thread, const pthread_attr_t *how, void *(*what)(void *), void *with) {
+    int error = is_refused(&told->threads, is_of_threads) ? EAGAIN : start(thread, how, what, with);
+    if (error != 0)
+        atomic_fetch_add(&told->lost, 1);
+    return error;
+}
+"""
+
+# A round is what is refused: growths or starts of threads, and whether all behind the first are refused too.
+Round = collections.namedtuple("Round", "name is_of_threads is_rest")
+ROUNDS = (Round("one growth", 0, False), Round("all growths from one on", 0, True),
+          Round("one thread", 1, False), Round("all threads from one on", 1, True))
+
+# How a run ended: its status, texts and files, and how many growths, threads and refusals were counted.
+Ended = collections.namedtuple("Ended", "status out err files growths threads refused lost")
+
+
+class Case:
+    """A command, what it reads, what it must write in this order, and what it must print.
+
+    Where the first name that it is to write leads to a capture that was read, this is `barred`, and nothing is written.
+    """
+
+    def __init__(self, name, words, reads, writes, text=b"", barred=None):
+        self.name, self.words, self.reads, self.writes, self.text, self.barred = name, words, reads, writes, text, barred
+        self.before = {**reads, **{name: BEFORE for name in writes if name != barred}}
+
+    def after(self, count):
+        """The files where the first so many are written, and the others are as before."""
+        return {**self.before, **dict(list(self.writes.items())[:count])}
+
+    def right(self):
+        """Status, line, text and files where nothing is refused that matters."""
+        if self.barred:
+            return 6, fault_line("write", self.barred), b"", self.before
+        return 0, b"", self.text, self.after(len(self.writes))
+
+    def permitted(self, is_of_threads):
+        """All that may stand."""
+        yield self.right()
+        if not is_of_threads:
+            yield 7, b"no memory\n", b"", self.before
+            yield NO_WORDS, b"", b"", self.before
+            for name in self.reads:
+                yield 5, fault_line("read", name), b"", self.before
+            for count, name in enumerate(self.writes):
+                yield 6, fault_line("write", name), b"", self.after(count)
+
+
+def fault_line(what, name):
+    return f"{what} fault: {name}\n".encode()
+
+
+def shipped(folder, *names):
+    found = {}
+    for name in names:
+        with open(os.path.join(EXAMPLES, folder, name), "rb") as file:
+            found[name] = file.read()
+    return found
+
+
+HEADER = struct.pack("<IHHiIII", 0xA1B23C4D, 2, 4, 0, 0, 262_144, 1)
+
+
+def two_ports(*writes):
+    """A configuration of two ports and two workers that writes these captures, and what it reads: a packet to output 0 each."""
+    lines = ["version = 1", "workers = 2", 'trace = "trace.txt"', 'log = "log.txt"']
+    for port, name in enumerate(writes):
+        lines += ["[[port]]", f'read = "in{port}.pcap"', f'write = "{name}"']
+    for port in range(len(writes)):
+        lines += ["[[address]]", f'mac = "02:00:00:00:00:0{port}"', f"output = {port}"]
+    reads = {"switch.toml": "\n".join(lines + [""]).encode()}
+    for port in range(len(writes)):
+        reads[f"in{port}.pcap"] = HEADER + record(0, port)
+    return reads
+
+
+def record(nanoseconds, source):
+    """A packet of 60 bytes to output 0, from the station of an input."""
+    frame = bytes.fromhex("020000000000" "02000000aa") + bytes([source]) + bytes.fromhex("88b5")
+    return struct.pack("<IIII", 0, nanoseconds, 60, 60) + frame.ljust(60, b"\0")
+
+
+# The packet of input 1 waits one slot for that of input 0.
+TWO_PORTS = {
+    "out0.pcap": HEADER + record(0, 0) + record(512, 1),
+    "out1.pcap": HEADER,
+    "trace.txt": b"0 0 0 0 0\n1 0 1 0 0\n",
+    "log.txt": b"0 1 0 0 0 0\n0 2 1 0 0 0\n",
+}
+TWO_PORTS_REPORT = b"""slots 2
+proposals 3
+most 2
+input 0 cells 1 longest 1 slack 0
+input 1 cells 1 longest 1 slack 0
+output 0 cells 2 idle 0 wait 1
+output 1 cells 0 idle 2 wait -
+"""
+
+
+def cases():
+    reads = shipped("three-ports", "switch.toml", "in0.pcap", "in1.pcap", "in2.pcap")
+    ideal = shipped("three-ports", "out0.pcap", "out1.pcap", "out2.pcap", "trace.txt")
+    crossed = {**ideal, **shipped("three-ports", "log.txt")}
+    config = shipped("three-ports", "switch.toml")
+    model = os.path.join(EXAMPLES, "fabric_model.py")
+    drawn = subprocess.run([sys.executable, model, "soak", "1", "4", "20"], capture_output=True, check=True).stdout
+    barred = {"./in0.pcap": b"", **{name: TWO_PORTS[name] for name in ("out1.pcap", "trace.txt", "log.txt")}}
+    return (
+        Case("pass", ["pass", "in.pcap", "out.pcap"], shipped("one-port", "in.pcap"), shipped("one-port", "out.pcap")),
+        Case("check", ["check", "switch.toml"], config, {}, b"ok ports 3 classes 1 addresses 2 rules 0\n"),
+        Case("ideal", ["ideal", "switch.toml"], reads, ideal),
+        Case("run", ["run", "switch.toml"], reads, crossed, *shipped("three-ports", "report.txt").values()),
+        Case("two workers", ["run", "switch.toml"], two_ports("out0.pcap", "out1.pcap"), TWO_PORTS, TWO_PORTS_REPORT),
+        Case("own capture", ["run", "switch.toml"], two_ports("./in0.pcap", "out1.pcap"), barred, barred="./in0.pcap"),
+        Case("soak", ["soak", "1", "4", "20"], {}, {}, drawn),
+    )
+
+
+def picture(folder):
+    found = {}
+    for name in sorted(os.listdir(folder)):
+        with open(os.path.join(folder, name), "rb") as file:
+            found[name] = file.read()
+    return found
+
+
+def run(program, shim, case, round_, at):
+    """Runs the case in a folder of its own, where what has this number is refused."""
+    with tempfile.TemporaryDirectory(prefix="starve-") as top, tempfile.TemporaryFile() as told:
+        folder = os.path.join(top, "case")
+        os.mkdir(folder)
+        for name, data in case.before.items():
+            with open(os.path.join(folder, name), "wb") as file:
+                file.write(data)
+        told.truncate(mmap.PAGESIZE)
+        words = {"LD_PRELOAD": shim, "STARVE_TOLD": f"/proc/{os.getpid()}/fd/{told.fileno()}",
+                 "STARVE_THREADS": round_.is_of_threads, "STARVE_FROM": at, "STARVE_TO": 2**64 - 1 if round_.is_rest else at}
+        done = subprocess.run([program, *case.words], cwd=folder, stdin=subprocess.DEVNULL, capture_output=True, timeout=WALL,
+                              env={**os.environ, **{name: str(word) for name, word in words.items()}})
+        counts = struct.unpack("@LLLL", told.read(32))
+        return Ended(done.returncode, done.stdout, done.stderr, picture(folder), *counts)
+
+
+def complaint(case, round_, ended):
+    """What is wrong with what stands, or None."""
+    if ended.status < 0:
+        return f"ended by {signal.Signals(-ended.status).name}"
+    found = ended.status, ended.err, ended.out, ended.files
+    near = [right for right in case.permitted(round_.is_of_threads) if right[:2] == found[:2]]
+    if not ended.refused and found != case.right():
+        near = []
+    if found in near:
+        return None
+    told = f"status {ended.status} with {ended.err.decode('utf-8', 'replace')!r}"
+    if near:
+        touched = sorted(name for name in {**ended.files, **near[0][3]} if ended.files.get(name) != near[0][3].get(name))
+        told += f", the text {'as it must be' if ended.out == near[0][2] else repr(ended.out)}, other files: {touched}"
+    return told
+
+
+def try_round(pool, program, shim, case, round_):
+    """Refuses one after the other until nothing is refused. Prints what came, and gives how many runs passed and failed."""
+    statuses, faults, refused, lost, has_words = collections.Counter(), [], 0, 0, False
+    for first in itertools.count(0, QUIET):
+        parts = [(at, pool.submit(run, program, shim, case, round_, at)) for at in range(first, first + QUIET)]
+        refused_before = refused
+        for at, part in parts:
+            try:
+                ended = part.result()
+            except subprocess.TimeoutExpired:
+                faults.append(f"{at}: more than {WALL} seconds")
+                refused += 1
+                continue
+            said = complaint(case, round_, ended)
+            if ended.status == NO_WORDS and has_words:
+                said = "the words were lost after a call that had them"
+            has_words = has_words or ended.status != NO_WORDS
+            if said:
+                faults.append(f"{at}: {said}")
+            statuses[ended.status] += 1
+            refused += ended.refused > 0
+            lost += ended.lost > 0
+        if refused == refused_before:
+            break
+    for fault in faults:
+        print(f"FAILS {case.name}, {round_.name}, number {fault}", flush=True)
+    told = ", ".join(f"status {status}: {count}" for status, count in sorted(statuses.items()))
+    print(f"{case.name}, {round_.name}: {refused} runs refused, {lost} without a thread; {told}", flush=True)
+    return statuses.total() - len(faults), len(faults)
+
+
+def main():
+    every = cases()
+    words = argparse.ArgumentParser(description="Refuses the built program one growth after the other.")
+    words.add_argument("--bin", required=True, help="the built program")
+    words.add_argument("--only", choices=[case.name for case in every], help="this case alone")
+    words.add_argument("--jobs", type=int, default=os.cpu_count())
+    given = words.parse_args()
+    program = os.path.abspath(given.bin)
+    passed = failed = 0
+    with tempfile.TemporaryDirectory(prefix="starve-") as folder, concurrent.futures.ThreadPoolExecutor(given.jobs) as pool:
+        shim = os.path.join(folder, "shim.so")
+        subprocess.run(["cc", "-std=c11", "-O2", "-Wall", "-Wextra", "-shared", "-fPIC", "-x", "c", "-o", shim, "-"],
+                       input=SHIM.encode(), check=True)
+        for case in every:
+            for round_ in ROUNDS:
+                if given.only in (None, case.name):
+                    more = try_round(pool, program, shim, case, round_)
+                    passed, failed = passed + more[0], failed + more[1]
+    print(f"starve: {passed} passed, {failed} failed")
+    return 1 if failed else 0
+
+
+if __name__ == "__main__":
+    sys.exit(main())
