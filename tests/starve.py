@@ -11,21 +11,22 @@ where a thread is started, and none that the loader makes for itself. In two mor
 numbered and refused in the same way.
 
 Every name that the program is to write is a file already, with other bytes, so that touching it shows. After each run
-one of these must stand, each with its whole line and with no other:
+one of these must stand, with its whole line and no other:
 
-- 0: the text and all files are right; where a name leads to a capture that was read, 6 for that name stands in its place;
-- 7, `no memory`, or 5, `read fault: NAME`, where there was no memory to keep a name that is read: all files are as
-  before, and no text was written;
-- 6, `write fault: NAME`, where there was no memory to keep a name that is written: the files ahead of it are right, it
-  and those behind it are as before, and no text was written;
-- 10, where there was no memory for the words, so by no number behind one that gave another status: nothing was written.
+- the right answer: 0 where the text and all files are right, or the refusal of a case that is to be refused, where all
+  files are as before, and no text was written. Words that are no command may have no other answer, but for 10;
+- 7, `no memory`: all files are as before, and no text was written;
+- 5, `read fault: NAME`, as where a name that is read could not be kept: the same;
+- 6, `write fault: NAME`, as where a name that is written could not be kept: the files ahead of it are right, it and
+  those behind it are as before, and no text was written;
+- 10, where the words could not be had, so by no number behind one that gave another status: nothing was written.
 
-Where a thread is refused, only the first may stand. A signal, or more than 10 seconds, is a failure. What is right
-stands in `examples/`, is worked by hand, or comes from `examples/fabric_model.py`, and so from no run of the program.
+Where nothing or a thread is refused, only the first may stand. A signal, or more than 10 seconds, is a failure. What is
+right stands in `examples/`, is worked by hand, or comes from `examples/fabric_model.py`, and so from no run of the program.
 
-The shim wants glibc and `cc`. With several workers a run may ask for more or less than the one before it, so a growth of
-theirs may be passed over. The last line is `starve: P passed, F failed`, and the status is 1 where one failed. No
-part of the gate.
+The library wants glibc and `cc`. With several workers a run may ask for more or less than the one before it, so a growth
+of theirs may be passed over. The last line is `starve: P passed, F failed`, and the status is 1 where one failed. No part
+of the gate.
 """
 
 import argparse
@@ -42,8 +43,10 @@ import tempfile
 
 EXAMPLES = os.path.join(os.path.dirname(os.path.abspath(__file__)), "..", "examples")
 WALL = 10
+NEVER = 2**64 - 1  # the number of no growth
 QUIET = 16  # so many numbers in turn that refuse nothing end a round
 NO_WORDS = 10  # the status of a call whose words could not be kept
+USAGE = (1, b"usage: cq_switch pass IN OUT | check CONFIG | ideal CONFIG | run CONFIG | soak SEED PORTS SLOTS\n")
 BEFORE = b"what stood here before\n"
 
 # What is asked for is told through a file in memory, since the program may end in any way.
@@ -105,6 +108,8 @@ void *calloc(size_t count, size_t size) { return is_growth_refused() ? NULL : __
 void *realloc(void *old, size_t size) { return is_growth_refused() ? NULL : __libc_realloc(old, size); }
 
 int pthread_create(pthread_t *thread, const pthread_attr_t *how, void *(*what)(void *), void *with) {
+    if (told == NULL)
+        return EAGAIN;
     int error = is_refused(&told->threads, is_of_threads) ? EAGAIN : start(thread, how, what, with);
     if (error != 0)
         atomic_fetch_add(&told->lost, 1);
@@ -114,41 +119,46 @@ int pthread_create(pthread_t *thread, const pthread_attr_t *how, void *(*what)(v
 
 # A round is what is refused: growths or starts of threads, and whether all behind the first are refused too.
 Round = collections.namedtuple("Round", "name is_of_threads is_rest")
-ROUNDS = (Round("one growth", 0, False), Round("all growths from one on", 0, True),
-          Round("one thread", 1, False), Round("all threads from one on", 1, True))
+ROUNDS = (Round("one growth", False, False), Round("all growths from one on", False, True),
+          Round("one thread", True, False), Round("all threads from one on", True, True))
 
-# How a run ended: its status, texts and files, and how many growths, threads and refusals were counted.
+# How a run ended: its status, texts and files; how many growths and threads it asked for, how many of them were refused
+# by the shim, and how many threads it did not get.
 Ended = collections.namedtuple("Ended", "status out err files growths threads refused lost")
 
 
 class Case:
     """A command, what it reads, what it must write in this order, and what it must print.
 
-    Where the first name that it is to write leads to a capture that was read, this is `barred`, and nothing is written.
+    Or it must be refused with this status and this line, and then it must write nothing.
     """
 
-    def __init__(self, name, words, reads, writes, text=b"", barred=None):
-        self.name, self.words, self.reads, self.writes, self.text, self.barred = name, words, reads, writes, text, barred
-        self.before = {**reads, **{name: BEFORE for name in writes if name != barred}}
+    def __init__(self, name, words, reads, writes, text=b"", refusal=None):
+        self.name, self.words, self.reads, self.writes, self.text, self.refusal = name, words, reads, writes, text, refusal
+        self.before = {**reads, **{name: BEFORE for name in writes}}
 
     def after(self, count):
         """The files where the first so many are written, and the others are as before."""
         return {**self.before, **dict(list(self.writes.items())[:count])}
 
     def right(self):
-        """Status, line, text and files where nothing is refused that matters."""
-        if self.barred:
-            return 6, fault_line("write", self.barred), b"", self.before
+        """Status, line, text and files where nothing is refused."""
+        if self.refusal:
+            return *self.refusal, b"", self.before
         return 0, b"", self.text, self.after(len(self.writes))
 
     def permitted(self, is_of_threads):
-        """All that may stand."""
+        """All that may stand where a growth or a thread is refused."""
         yield self.right()
-        if not is_of_threads:
-            yield 7, b"no memory\n", b"", self.before
-            yield NO_WORDS, b"", b"", self.before
-            for name in self.reads:
-                yield 5, fault_line("read", name), b"", self.before
+        if is_of_threads:
+            return
+        yield NO_WORDS, b"", b"", self.before
+        if self.refusal == USAGE:
+            return
+        yield 7, b"no memory\n", b"", self.before
+        for name in self.reads:
+            yield 5, fault_line("read", name), b"", self.before
+        if not self.refusal:
             for count, name in enumerate(self.writes):
                 yield 6, fault_line("write", name), b"", self.after(count)
 
@@ -169,16 +179,14 @@ HEADER = struct.pack("<IHHiIII", 0xA1B23C4D, 2, 4, 0, 0, 262_144, 1)
 
 
 def two_ports(*writes):
-    """A configuration of two ports and two workers that writes these captures, and what it reads: a packet to output 0 each."""
+    """A configuration of two ports and two workers that writes these captures, and two packets to output 0 that it reads."""
     lines = ["version = 1", "workers = 2", 'trace = "trace.txt"', 'log = "log.txt"']
     for port, name in enumerate(writes):
         lines += ["[[port]]", f'read = "in{port}.pcap"', f'write = "{name}"']
     for port in range(len(writes)):
         lines += ["[[address]]", f'mac = "02:00:00:00:00:0{port}"', f"output = {port}"]
-    reads = {"switch.toml": "\n".join(lines + [""]).encode()}
-    for port in range(len(writes)):
-        reads[f"in{port}.pcap"] = HEADER + record(0, port)
-    return reads
+    captures = {f"in{port}.pcap": HEADER + record(0, port) for port in range(len(writes))}
+    return {"switch.toml": "\n".join(lines + [""]).encode(), **captures}
 
 
 def record(nanoseconds, source):
@@ -204,22 +212,48 @@ output 1 cells 0 idle 2 wait -
 """
 
 
+# The finish of the second packet does not fit 128 bits.
+DEAR = b"""version = 1
+trace = "trace.txt"
+log = "log.txt"
+[[class]]
+cost = "340282366920938463463374607431768211455"
+[[port]]
+read = "in0.pcap"
+write = "out0.pcap"
+discipline = "fair"
+"""
+
+
 def cases():
     reads = shipped("three-ports", "switch.toml", "in0.pcap", "in1.pcap", "in2.pcap")
     ideal = shipped("three-ports", "out0.pcap", "out1.pcap", "out2.pcap", "trace.txt")
     crossed = {**ideal, **shipped("three-ports", "log.txt")}
-    config = shipped("three-ports", "switch.toml")
+    office = shipped("office", "office.toml", "uplink.pcap", "phones.pcap")
+    outputs = (f"{name}-out.pcap" for name in ("uplink", "phones", "servers", "spare"))
+    ranked = shipped("office", *outputs, "trace.txt", "log.txt")
     model = os.path.join(EXAMPLES, "fabric_model.py")
     drawn = subprocess.run([sys.executable, model, "soak", "1", "4", "20"], capture_output=True, check=True).stdout
-    barred = {"./in0.pcap": b"", **{name: TWO_PORTS[name] for name in ("out1.pcap", "trace.txt", "log.txt")}}
+    unknown = {"switch.toml": reads["switch.toml"] + b"zzz = 1\n"}
+    cut = {**reads, "in1.pcap": reads["in1.pcap"][:-1]}
+    dear = {"switch.toml": DEAR, "in0.pcap": HEADER + record(0, 0) + record(512, 0)}
+    run = ["run", "switch.toml"]
     return (
         Case("pass", ["pass", "in.pcap", "out.pcap"], shipped("one-port", "in.pcap"), shipped("one-port", "out.pcap")),
-        Case("check", ["check", "switch.toml"], config, {}, b"ok ports 3 classes 1 addresses 2 rules 0\n"),
+        Case("check", ["check", "switch.toml"], shipped("three-ports", "switch.toml"), {},
+             b"ok ports 3 classes 1 addresses 2 rules 0\n"),
         Case("ideal", ["ideal", "switch.toml"], reads, ideal),
-        Case("run", ["run", "switch.toml"], reads, crossed, *shipped("three-ports", "report.txt").values()),
-        Case("two workers", ["run", "switch.toml"], two_ports("out0.pcap", "out1.pcap"), TWO_PORTS, TWO_PORTS_REPORT),
-        Case("own capture", ["run", "switch.toml"], two_ports("./in0.pcap", "out1.pcap"), barred, barred="./in0.pcap"),
+        Case("run", run, reads, crossed, *shipped("three-ports", "report.txt").values()),
+        Case("office", ["run", "office.toml"], office, ranked, *shipped("office", "report.txt").values()),
+        Case("two workers", run, two_ports("out0.pcap", "out1.pcap"), TWO_PORTS, TWO_PORTS_REPORT),
         Case("soak", ["soak", "1", "4", "20"], {}, {}, drawn),
+        Case("no command", ["help"], {}, {}, refusal=USAGE),
+        Case("unknown key", run, unknown, crossed, refusal=(2, b"configuration: C5 at address[1].zzz\n")),
+        Case("cut capture", run, cut, crossed, refusal=(3, b"capture of input 1: 6 at 100\n")),
+        Case("too dear", run, dear, TWO_PORTS, refusal=(4, b"tag: slot 1, input 0, output 0\n")),
+        # A port would write over what was read, under another name.
+        Case("own capture", run, two_ports("./in0.pcap", "out1.pcap"), TWO_PORTS,
+             refusal=(6, fault_line("write", "./in0.pcap"))),
     )
 
 
@@ -241,7 +275,8 @@ def run(program, shim, case, round_, at):
                 file.write(data)
         told.truncate(mmap.PAGESIZE)
         words = {"LD_PRELOAD": shim, "STARVE_TOLD": f"/proc/{os.getpid()}/fd/{told.fileno()}",
-                 "STARVE_THREADS": round_.is_of_threads, "STARVE_FROM": at, "STARVE_TO": 2**64 - 1 if round_.is_rest else at}
+                 "STARVE_THREADS": int(round_.is_of_threads), "STARVE_FROM": at,
+                 "STARVE_TO": NEVER if round_.is_rest else at}
         done = subprocess.run([program, *case.words], cwd=folder, stdin=subprocess.DEVNULL, capture_output=True, timeout=WALL,
                               env={**os.environ, **{name: str(word) for name, word in words.items()}})
         counts = struct.unpack("@LLLL", told.read(32))
@@ -253,47 +288,63 @@ def complaint(case, round_, ended):
     if ended.status < 0:
         return f"ended by {signal.Signals(-ended.status).name}"
     found = ended.status, ended.err, ended.out, ended.files
-    near = [right for right in case.permitted(round_.is_of_threads) if right[:2] == found[:2]]
-    if not ended.refused and found != case.right():
-        near = []
-    if found in near:
+    permitted = list(case.permitted(round_.is_of_threads)) if ended.refused else [case.right()]
+    if found in permitted:
         return None
     told = f"status {ended.status} with {ended.err.decode('utf-8', 'replace')!r}"
-    if near:
-        touched = sorted(name for name in {**ended.files, **near[0][3]} if ended.files.get(name) != near[0][3].get(name))
-        told += f", the text {'as it must be' if ended.out == near[0][2] else repr(ended.out)}, other files: {touched}"
+    for _, _, text, files in (right for right in permitted if right[:2] == found[:2]):
+        differ = sorted(name for name in {**files, **ended.files} if files.get(name) != ended.files.get(name))
+        told += f", the text {'as it must be' if ended.out == text else repr(ended.out)}, files that differ: {differ}"
     return told
+
+
+def attempt(program, shim, case, round_, at):
+    """How a run ended, or None where it did not, and what is wrong with that, or None."""
+    try:
+        ended = run(program, shim, case, round_, at)
+    except subprocess.TimeoutExpired:
+        return None, f"more than {WALL} seconds"
+    return ended, complaint(case, round_, ended)
 
 
 def try_round(pool, program, shim, case, round_):
     """Refuses one after the other until nothing is refused. Prints what came, and gives how many runs passed and failed."""
     statuses, faults, refused, lost, has_words = collections.Counter(), [], 0, 0, False
     for first in itertools.count(0, QUIET):
-        parts = [(at, pool.submit(run, program, shim, case, round_, at)) for at in range(first, first + QUIET)]
+        parts = [(at, pool.submit(attempt, program, shim, case, round_, at)) for at in range(first, first + QUIET)]
         refused_before = refused
         for at, part in parts:
-            try:
-                ended = part.result()
-            except subprocess.TimeoutExpired:
-                faults.append(f"{at}: more than {WALL} seconds")
-                refused += 1
-                continue
-            said = complaint(case, round_, ended)
-            if ended.status == NO_WORDS and has_words:
-                said = "the words were lost after a call that had them"
-            has_words = has_words or ended.status != NO_WORDS
+            ended, said = part.result()
+            if ended:
+                if ended.status == NO_WORDS and has_words:
+                    said = "the words were lost after a call that had them"
+                has_words = has_words or ended.status != NO_WORDS
+                refused += ended.refused > 0
+                lost += ended.lost > 0
+            statuses[ended.status if ended else "none"] += 1
             if said:
                 faults.append(f"{at}: {said}")
-            statuses[ended.status] += 1
-            refused += ended.refused > 0
-            lost += ended.lost > 0
         if refused == refused_before:
             break
     for fault in faults:
         print(f"FAILS {case.name}, {round_.name}, number {fault}", flush=True)
-    told = ", ".join(f"status {status}: {count}" for status, count in sorted(statuses.items()))
-    print(f"{case.name}, {round_.name}: {refused} runs refused, {lost} without a thread; {told}", flush=True)
+    told = ", ".join(f"status {status}: {count}" for status, count in sorted(statuses.items(), key=lambda pair: str(pair[0]).rjust(4)))
+    print(f"{case.name}, {round_.name}: refused in {refused} runs, of which {lost} lacked a thread; {told}", flush=True)
     return statuses.total() - len(faults), len(faults)
+
+
+def try_case(pool, program, shim, case):
+    """Runs the case with nothing refused, and then all rounds in which something can be."""
+    ended, said = attempt(program, shim, case, ROUNDS[0], NEVER)
+    if not said and not ended.growths:
+        said = "it takes its memory in another way than by the C library"
+    if said:
+        print(f"FAILS {case.name}, nothing refused: {said}", flush=True)
+        return 0, 1
+    print(f"{case.name}: {ended.growths} growths, {ended.threads} threads")
+    rounds = (round_ for round_ in ROUNDS if ended.threads or not round_.is_of_threads)
+    counts = [try_round(pool, program, shim, case, round_) for round_ in rounds]
+    return 1 + sum(passed for passed, _ in counts), sum(failed for _, failed in counts)
 
 
 def main():
@@ -310,10 +361,9 @@ def main():
         subprocess.run(["cc", "-std=c11", "-O2", "-Wall", "-Wextra", "-shared", "-fPIC", "-x", "c", "-o", shim, "-"],
                        input=SHIM.encode(), check=True)
         for case in every:
-            for round_ in ROUNDS:
-                if given.only in (None, case.name):
-                    more = try_round(pool, program, shim, case, round_)
-                    passed, failed = passed + more[0], failed + more[1]
+            if given.only in (None, case.name):
+                more = try_case(pool, program, shim, case)
+                passed, failed = passed + more[0], failed + more[1]
     print(f"starve: {passed} passed, {failed} failed")
     return 1 if failed else 0
 
