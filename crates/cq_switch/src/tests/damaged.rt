@@ -100,8 +100,10 @@ fn a_capture_of_another_form_runs_as_one_of_the_written_form(rt: HostRuntime) ->
     assert_eq!(rt; done.out.bytes(), RUNS[0].report.as_bytes());
     assert_eq!(rt; files.bytes("trace.txt"), Some(RUNS[0].trace.as_bytes()));
     assert_eq!(rt; files.bytes("log.txt"), Some(RUNS[0].log.as_bytes()));
-    let output = super::made::capture_of(alloc, RUNS[0].outputs[0])?;
-    assert_eq!(rt; files.bytes("out0.pcap"), Some(output.as_slice()));
+    for frames in RUNS[0].outputs.iter().take(1) {
+        let output = super::made::capture_of(alloc, frames)?;
+        assert_eq!(rt; files.bytes("out0.pcap"), Some(output.as_slice()));
+    }
     assert_eq!(rt; files.bytes("out1.pcap"), Some(NANOSECONDS.as_slice()));
     Ok(())
 }

@@ -41,10 +41,11 @@ fn files_before(alloc: Global) -> Result<MemFiles, Fail>
 // The written names before the one at fault are whole, that one is as before where it was not begun,
 // empty where nothing was moved, and whole where it was not ended, and those after it are as before.
 fn assert_written(rt: &impl Abort, files: &MemFiles, done: &MemFiles, call: usize) {
+    let (at, step) = (call / 3, call % 3);
     for (i, name) in NAMES.iter().enumerate().skip(READ) {
-        let wanted = if call <= 3 * i {
+        let wanted = if at < i || at == i && step == 0 {
             Some(KEPT.as_slice())
-        } else if call == 3 * i + 1 {
+        } else if at == i && step == 1 {
             Some(b"".as_slice())
         } else {
             done.bytes(name)
@@ -63,13 +64,12 @@ fn assert_told(
 ) -> Result<(), Fail> {
     let at = call / 3;
     let (code, kind) = if at < READ { (5, "read") } else { (6, "write") };
-    let line = format!(in alloc; "{kind} fault: {}\n", NAMES[at])?;
+    let name = NAMES.get(at).copied().unwrap_or("");
+    let line = format!(in alloc; "{kind} fault: {name}\n")?;
+    let line = line.as_bytes();
+    let told = line.len().min(room);
     assert_eq!(rt; ended.code, code, "call {call}");
-    assert_eq!(rt;
-        ended.err.bytes(),
-        &line.as_bytes()[..line.len().min(room)],
-        "call {call}"
-    );
+    assert_eq!(rt; ended.err.bytes(), &line[..told], "call {call}");
     assert_eq!(rt; ended.out.bytes(), b"".as_slice(), "call {call}");
     Ok(())
 }
