@@ -32,9 +32,10 @@ fn files_before(alloc: Global) -> Result<MemFiles, Fail>
     ensures { IfOk result (λ files. files.mode ≡ Closed) }
 {
     let mut files = files_of(alloc, RUNS[0].inputs, 1, RUNS[0].keys)?;
-    for name in &NAMES[READ..] {
-        files.set(name, KEPT)?;
-    }
+    files.set("out0.pcap", KEPT)?;
+    files.set("out1.pcap", KEPT)?;
+    files.set("trace.txt", KEPT)?;
+    files.set("log.txt", KEPT)?;
     Ok(files)
 }
 
