@@ -1,7 +1,6 @@
 //! Damaged captures: each is refused by number and place, and nothing is written.
-use super::crossed::RUNS;
-use super::made::{answer, files_of, set_if_there};
-use super::{FRAME, NANOSECONDS, Packet, capture_of, files_with};
+use super::made::answer;
+use super::{NANOSECONDS, Packet, capture_of, files_with};
 use std::test::Fail;
 
 /// A capture: the first bytes in place of those of a header, the packets, what follows them, how many of
@@ -77,33 +76,5 @@ fn a_damaged_capture_is_refused_by_number_and_place(rt: HostRuntime) -> Result<(
         assert_eq!(rt; files.bytes("a"), Some(input.as_slice()), "{said}");
         assert_eq!(rt; files.bytes("b"), None, "{said}");
     }
-    Ok(())
-}
-
-/// A big-endian capture with microseconds: one packet of 60 bytes, of which the frame's head is still to
-/// come.
-const BIG_ENDIAN: [u8; 40] = [
-    0xa1, 0xb2, 0xc3, 0xd4, 0, 2, 0, 4, 0, 0, 0, 0, 0, 0, 0, 0, 0, 4, 0, 0, 0, 0, 0, 1, //
-    0, 0, 0, 0, 0, 0, 0, 0, 0, 0, 0, 60, 0, 0, 0, 60,
-];
-
-#[test]
-fn a_capture_of_another_form_runs_as_one_of_the_written_form(rt: HostRuntime) -> Result<(), Fail> {
-    let alloc = rt.alloc();
-    let mut big = BIG_ENDIAN.to_vec(alloc)?;
-    big.extend_from_slice(&FRAME)?;
-    big.resize(100, 0)?;
-    let mut files = files_of(alloc, RUNS[0].inputs, 1, RUNS[0].keys)?;
-    set_if_there(&mut files, "in0.pcap", Some(&big))?;
-    let done = answer(&rt, alloc, &["run", "c.toml"], &mut files)?;
-    assert_eq!(rt; done.code, 0);
-    assert_eq!(rt; done.out.bytes(), RUNS[0].report.as_bytes());
-    assert_eq!(rt; files.bytes("trace.txt"), Some(RUNS[0].trace.as_bytes()));
-    assert_eq!(rt; files.bytes("log.txt"), Some(RUNS[0].log.as_bytes()));
-    for frames in RUNS[0].outputs.iter().take(1) {
-        let output = super::made::capture_of(alloc, frames)?;
-        assert_eq!(rt; files.bytes("out0.pcap"), Some(output.as_slice()));
-    }
-    assert_eq!(rt; files.bytes("out1.pcap"), Some(NANOSECONDS.as_slice()));
     Ok(())
 }
