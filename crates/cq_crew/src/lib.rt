@@ -1,4 +1,4 @@
-//! Finds the matching of a half slot by several workers at once.
+//! Finds the matching of a phase by several workers at once.
 //!
 //! Each worker claims inputs and proposes for them, in a thread of its own, on a ledger that all of them share.
 //! Whoever claims what, and however their steps fall between one another, the answer is the one stable matching

@@ -1,4 +1,4 @@
-//! Finds the matching of a half slot by several workers at once, over shared words.
+//! Finds the matching of a phase by several workers at once, over shared words.
 //!
 //! Each proposal is one atomic step on the word of the output that is asked, and each claim of an input one
 //! atomic step on the word of claims. Whoever makes the steps, and however they fall between one another, a

@@ -1,4 +1,4 @@
-//! Finds the matching of a half slot.
+//! Finds the matching of a phase.
 //!
 //! Free inputs propose to outputs, one at a time, and each output keeps the best that it was offered. Whoever
 //! proposes next, it ends with the one stable matching that is best for the inputs, after as many proposals as

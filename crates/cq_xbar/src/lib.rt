@@ -1,6 +1,6 @@
 //! The crossbar, over which matched cells cross from the inputs to the outputs.
 //!
-//! In each half slot a matching says who may cross. This crate does what it says and no more: the contract names the
+//! In each phase a matching says who may cross. This crate does what it says and no more: the contract names the
 //! cell that leaves each list, the buffer that it comes to, and the note that is kept of it.
 #![tactic(auto)]
 
