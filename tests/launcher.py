@@ -18,7 +18,7 @@ ROOT = os.path.dirname(os.path.dirname(os.path.abspath(__file__)))
 PROGRAM = '#!/bin/sh\nprintf "%s\\n" "$LINE" >&2\nexit "$STATUS"\n'
 HEAD = 'version = 1\ntrace = "trace.txt"\nlog = "log.txt"\n'
 CONFIGURATIONS = {
-    "tables": HEAD + '[[port]]\nwrite = "o0"\n[[port]]\nread = "late.pcap" # "no"\nwrite = "o1"\n[[class]]\npriority = 7\n',
+    "tables": HEAD + '[[port]]\nwrite = "o0"\n[[port]]\nread = "late.pcap" # "no"\nwrite = "o1"\n[[class]]\n',
     "one line": HEAD + 'port = [{ write = "o0" }, { read = "late.pcap", write = "o1" }]\n',
     "many lines": HEAD + 'port = [\n  { write = "o0" },\n  { write = "o1", read = "late.pcap" }, # the last\n]\n',
     "read last": HEAD + 'port = [{ read = "first.pcap", write = "o0" }, { write = "o1", read = "late.pcap" }]\n',
@@ -83,7 +83,8 @@ class Launcher(unittest.TestCase):
         self.put("c.toml", CONFIGURATIONS["tables"])
         self.put("short.toml", HEAD + '[[port]]\nwrite = "o0"\n')
         self.put("broken.toml", HEAD + "port = [\n")
-        for name, path in (("c.toml", without_python), ("short.toml", None), ("broken.toml", None), ("none.toml", None)):
+        for name in ("c.toml", "short.toml", "broken.toml", "none.toml"):
+            path = without_python if name == "c.toml" else None
             with self.subTest(name):
                 self.assertEqual(self.call(REFUSED, "run", name, path=path),
                                  (3, f"{REFUSED}\n  the capture of input 1 {WORDS}\n"))

@@ -129,6 +129,7 @@ else
     missing+=('mandoc: the man page was not judged')
 fi
 try bash "$tools/tests/completions.sh"
+try "$python" "$root/tests/launcher.py"
 
 for what in "${missing[@]+"${missing[@]}"}"; do
     echo "check.sh: missing: $what"

@@ -31,6 +31,7 @@ from cq.faults import Fault, guarded
 from cq.toml import toml_text
 
 ONE = os.path.join(os.path.dirname(os.path.realpath(__file__)), "sweep_one.py")
+LAUNCHER = shlex.quote(os.path.join(ROOT, "cq_switch"))
 PREFIXES = {"": 1, "k": 10**3, "M": 10**6, "G": 10**9, "T": 10**12}
 LONGEST_INTEGER = 2**63 - 1  # of TOML; wider numbers are texts
 RUN_FIGURES = (
@@ -142,7 +143,7 @@ def write_plan(config: str, folder: str, choices: list[Choice]) -> list[str]:
 
 def see_built(program: str) -> None:
     """Calls the program once without words, so that a launcher builds it where need be, and not each run anew."""
-    called = subprocess.run([program], stdin=subprocess.DEVNULL, capture_output=True, text=True, check=False)
+    called = subprocess.run(shlex.split(program), stdin=subprocess.DEVNULL, capture_output=True, text=True, check=False)
     if called.returncode in (126, 127):
         raise Fault(f"{program} cannot be called: {called.stderr.strip() or 'it is not there'}")
 
@@ -195,7 +196,7 @@ def main() -> None:
     words.add_argument("config", metavar="CONFIG")
     words.add_argument("folder", metavar="FOLDER")
     words.add_argument("keys", metavar="KEY=VALUE,..", nargs="+")
-    words.add_argument("--program", default=os.path.join(ROOT, "cq_switch"), help="what is called with `run CONFIG`")
+    words.add_argument("--program", default=LAUNCHER, help="what is called with `run CONFIG`")
     words.add_argument("--jobs", help="how many runs at a time, as GNU parallel takes it")
     words.add_argument("--sshlogin", help="the machines to run on, as GNU parallel takes them")
     words.add_argument("--again", action="store_true", help="run those again that failed")
