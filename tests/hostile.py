@@ -1,7 +1,7 @@
 #!/usr/bin/env python3
 """Tries the built program on damaged captures and configurations.
 
-    tests/hostile.py --bin PROGRAM [--seed N] [--count N] [--only CASE] [--jobs N]
+    tests/hostile.py --bin PROGRAM [--seed N] [--count N] [--from CASE] [--only CASE] [--jobs N]
 
 Each case takes the files of a shipped example, damages one or more of them (bits turned, bytes cut,
 joined, repeated, put in; numbers and keys of a configuration changed), and runs one command on them
@@ -15,8 +15,10 @@ twice, each time in a folder of its own. It fails on
 - more than 2 seconds of processor time or 1 GB of memory;
 - a second run that differs in status, texts or files.
 
-A case depends on the seed and its number alone: `--only CASE` runs it again, and keeps its folder. The last
-line is `hostile: P passed, F failed`, and the status is 0 where none failed. No part of the gate.
+A case depends on the seed and its number alone: `--only CASE` runs it again, and keeps its folder. A run that was
+cut off goes on with `--from CASE`, the number in its last line on standard error; of the `--count` cases those ahead
+of it are left out. The last line is `hostile: P passed, F failed`, and the status is 0 where none failed. No part of
+the gate.
 """
 
 import argparse
@@ -34,6 +36,7 @@ import tempfile
 
 EXAMPLES = os.path.join(os.path.dirname(os.path.abspath(__file__)), "..", "examples")
 SECONDS, MEMORY, WALL = 2, 1 << 30, 60
+STEP, TOLD = 200, 5  # so many cases a worker takes at a time, and after so many times a line says how far they are
 LONGEST_RECORD = 262_144
 DEFAULT_LIMIT = 67_108_864
 MAGICS = {b"\xa1\xb2\xc3\xd4": ">", b"\xd4\xc3\xb2\xa1": "<", b"\xa1\xb2\x3c\x4d": ">", b"\x4d\x3c\xb2\xa1": "<"}
@@ -311,11 +314,30 @@ def try_range(program, seed, first, last):
     return counts, faults
 
 
+def try_all(program, given):
+    """How often each status came, and how many cases failed. The faults are printed as they are found."""
+    counts, failed = {}, 0
+    with concurrent.futures.ProcessPoolExecutor(given.jobs) as pool:
+        ends = [min(at + STEP, given.count) for at in range(given.first, given.count, STEP)]
+        parts = [pool.submit(try_range, program, given.seed, at, end) for at, end in zip([given.first] + ends, ends)]
+        for number, (end, part) in enumerate(zip(ends, parts), 1):
+            more, faults = part.result()
+            for status, count in more.items():
+                counts[status] = counts.get(status, 0) + count
+            for fault in faults:
+                print(fault, flush=True)
+            failed += len(faults)
+            if number % TOLD == 0:
+                print(f"hostile: the cases ahead of {end} are done", file=sys.stderr, flush=True)
+    return counts, failed
+
+
 def main():
     words = argparse.ArgumentParser(description="Tries the built program on damaged captures and configurations.")
     words.add_argument("--bin", required=True, help="the built program")
     words.add_argument("--seed", type=int, default=1)
-    words.add_argument("--count", type=int, default=1_000)
+    words.add_argument("--count", type=int, default=1_000, help="how many cases there are, from number 0 on")
+    words.add_argument("--from", type=int, default=0, dest="first", metavar="CASE", help="the cases ahead are done")
     words.add_argument("--only", type=int, help="this case alone, in a folder that stays")
     words.add_argument("--jobs", type=int, default=os.cpu_count())
     given = words.parse_args()
@@ -325,20 +347,10 @@ def main():
         case, status, said = try_case(program, given.seed, given.only, load_examples(), folder)
         print(f"{folder}: {' '.join(case.words)}: status {status}: {said or 'as it must be'}")
         return 1 if said else 0
-    step = 200
-    counts, failed = {}, 0
-    with concurrent.futures.ProcessPoolExecutor(given.jobs) as pool:
-        parts = [pool.submit(try_range, program, given.seed, at, min(at + step, given.count)) for at in range(0, given.count, step)]
-        for part in parts:
-            more, faults = part.result()
-            for status, count in more.items():
-                counts[status] = counts.get(status, 0) + count
-            for fault in faults:
-                print(fault, flush=True)
-            failed += len(faults)
+    counts, failed = try_all(program, given)
     told = ", ".join(f"status {status}: {counts[status]}" for status in sorted(counts, key=str))
     print(f"seed {given.seed}: {told}")
-    print(f"hostile: {given.count - failed} passed, {failed} failed")
+    print(f"hostile: {max(0, given.count - given.first) - failed} passed, {failed} failed")
     return 1 if failed else 0
 
 
