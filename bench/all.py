@@ -24,6 +24,7 @@ BUSY = 0.25  # the part of the processors that others may use before the figures
 PARTS = (
     ("Made traffic", "soak.py"),
     ("Sixteen ports", "fabric.py"),
+    ("What a cell costs", "cases.py"),
     ("How a slot grows", "growth.py"),
     ("The ideal switch", "ideal.py"),
     ("One port", "pass.py"),

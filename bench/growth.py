@@ -12,13 +12,14 @@ limit are left out. It ends with status 1 where a run does.
 import os
 import tempfile
 
-from measuring import (figure, instructions, make_captures, middle, model, parser, per, program_of, run, table, whole,
-                       write_capture, write_configuration)
+from measuring import (Traffic, figure, instructions, make_captures, middle, model, parser, per, program_of, run,
+                       table, whole, write_capture, write_configuration)
 
-PORTS, SLOTS = (4, 16, 64), 1000
-INPUTS, SIZES = 16, (15_625, 31_250, 62_500, 125_000, 250_000, 500_000, 1_000_000)
+PORTS, SLOTS = (4, 8, 16, 32, 64), 1000
+# The last three are such that 13,000, 30,000 and 100,000 cells wait at an input.
+INPUTS, SIZES = 16, (15_625, 31_250, 62_500, 125_000, 250_000, 500_000, 1_000_000, 2_250_000, 7_500_000)
 QUIET_SLOTS = (10_000, 10_000_000, 10_000_000_000)
-GROWTH = 4  # of the time, where captures are twice as long
+GROWTH = 4  # of the time, at most, from one size to the next
 SLOWER = 50  # what callgrind takes at least, times the run's own time
 TIMES = ("time", "processor time", "slots a second", "slots a processor second")
 
@@ -35,7 +36,7 @@ def with_cells(program, options):
     """A row for each size, until the next one would take too long."""
     words = [program, "run", write_configuration(".", INPUTS)]
     for size in SIZES:
-        _, cells = make_captures(".", INPUTS, int(size * options.scale), 1)
+        cells = make_captures(".", Traffic(INPUTS, 1), int(size * options.scale)).cells
         first = run(words, options.limit)
         if not first:
             return

@@ -10,21 +10,21 @@ with status 1 where a run does.
 import os
 import tempfile
 
-from measuring import (instructions, make_captures, megabytes, middle, parser, per, program_of, run, table, whole,
-                       write_configuration)
+from measuring import (Traffic, instructions, make_captures, megabytes, middle, parser, per, program_of, run, table,
+                       whole, write_configuration)
 
 PORTS, BYTES, TENTH = 8, 10_000_000, 10
 
 
 def row(program, size, options):
     words = [program, "ideal", write_configuration(".", PORTS)]
-    few, _ = make_captures(".", PORTS, size / TENTH, PORTS)
+    few = make_captures(".", Traffic(PORTS, PORTS), size / TENTH)
     counted = None if options.fast else instructions(words)
-    total, cells = make_captures(".", PORTS, size, PORTS)
+    total, cells, _ = make_captures(".", Traffic(PORTS, PORTS), size)
     spent = middle([run(words) for _ in range(options.runs)])
     return (PORTS, megabytes(total), whole(cells), "%.2f s" % spent.seconds, "%.2f s" % spent.busy,
             megabytes(total / spent.seconds), whole(cells / spent.seconds), megabytes(spent.peak),
-            "%.2f times" % (spent.peak / total), per(counted, few))
+            "%.2f times" % (spent.peak / total), per(counted, few.size), per(counted, few.cells))
 
 
 def main():
@@ -33,7 +33,8 @@ def main():
     with tempfile.TemporaryDirectory() as folder:
         os.chdir(folder)
         table(("ports", "captures", "cells", "time", "processor time", "a second", "cells a second", "peak memory",
-               "of the captures", "instructions a byte"), [row(program, BYTES * options.scale, options)])
+               "of the captures", "instructions a byte", "instructions a cell"),
+              [row(program, BYTES * options.scale, options)])
 
 
 if __name__ == "__main__":

@@ -20,6 +20,25 @@ WITHOUT_REP = {**os.environ, "GLIBC_TUNABLES": "glibc.cpu.x86_rep_movsb_threshol
                % (2**30, 2**30)}
 
 
+SHORTEST, CLASSES = 60, 8
+
+
+class Traffic(NamedTuple):
+    """What is drawn for the inputs: packets of 60 bytes up to the longest."""
+
+    ports: int
+    outputs: int  # to so many outputs, drawn alike,
+    most: int = 0  # but so many packets of ten to output 0
+    longest: int = 1514
+    load: int = 8  # of ten slots so many have a cell
+
+
+class Made(NamedTuple):
+    size: int  # of all captures together, in bytes
+    cells: int
+    slots: int  # in which cells arrive
+
+
 class Spent(NamedTuple):
     seconds: float  # by the clock
     busy: float  # of processors, by the program and by the system for it
@@ -123,38 +142,43 @@ def program_of(options):
     return os.path.abspath(options.program) if options.program else built_program()
 
 
-def configuration(ports, workers=1):
+def configuration(ports, workers=1, discipline=None):
+    """Each station is at the output of its number. With a discipline there are eight classes, by input."""
     lines = ["version = 1", "workers = %d" % workers, 'trace = "trace.txt"', 'log = "log.txt"']
-    lines += ['[[port]]\nread = "in%d.pcap"\nwrite = "out%d.pcap"' % (i, i) for i in range(ports)]
+    how = '\ndiscipline = "%s"' % discipline if discipline else ""
+    lines += ['[[port]]\nread = "in%d.pcap"\nwrite = "out%d.pcap"%s' % (i, i, how) for i in range(ports)]
     lines += ['[[address]]\nmac = "02:00:00:00:00:%02x"\noutput = %d' % (i, i) for i in range(ports)]
+    if discipline:
+        lines += ["[[class]]\npriority = %d\ncost = %d" % (CLASSES - 1 - k, 1 + k) for k in range(CLASSES)]
+        lines += ["[[rule]]\ninput = %d\nclass = %d" % (i, i % CLASSES) for i in range(ports)]
     return "\n".join(lines) + "\n"
 
 
-def write_configuration(folder, ports, workers=1):
+def write_configuration(folder, ports, workers=1, discipline=None):
     """Writes a switch.toml, and gives its name."""
     name = os.path.join(folder, "switch.toml")
     with open(name, "w", encoding="ascii") as file:
-        file.write(configuration(ports, workers))
+        file.write(configuration(ports, workers, discipline))
     return name
 
 
-def make_captures(folder, ports, size, outputs):
-    """Writes a capture of about `size` bytes for each port: packets of 60 to 1514 bytes to outputs drawn
-    among the first `outputs`, at about eight tenths of what a line can carry. The same arguments make the
-    same captures. The answer is how many bytes and how many cells they have."""
-    rules, draw, cells, total = model(), random.Random(SEED), 0, 0
-    for number in range(ports):
+def make_captures(folder, traffic, size):
+    """Writes a capture of about `size` bytes for each port. The same arguments make the same captures."""
+    rules, draw, cells, total, end = model(), random.Random(SEED), 0, 0, 0
+    for number in range(traffic.ports):
         stamp = BEGIN_SECONDS * rules.SECOND_NS
         with open(os.path.join(folder, "in%d.pcap" % number), "wb") as file:
             file.write(rules.NANOSECONDS)
             while file.tell() < size:
-                body = bytes([2, 0, 0, 0, 0, draw.randrange(outputs)]) + draw.randbytes(draw.randint(54, 1508))
+                to = 0 if traffic.most and draw.randrange(10) < traffic.most else draw.randrange(traffic.outputs)
+                body = bytes([2, 0, 0, 0, 0, to]) + draw.randbytes(draw.randint(SHORTEST - 6, traffic.longest - 6))
                 packet = rules.Packet(stamp, len(body), body)
                 file.write(rules.record(stamp // rules.SECOND_NS, stamp % rules.SECOND_NS, packet))
                 cells += rules.cells_of(packet)
-                stamp += rules.cells_of(packet) * rules.SLOT_NS * 10 // 8
+                stamp += rules.cells_of(packet) * rules.SLOT_NS * 10 // traffic.load
             total += file.tell()
-    return total, cells
+        end = max(end, stamp)
+    return Made(total, cells, (end - BEGIN_SECONDS * rules.SECOND_NS) // rules.SLOT_NS)
 
 
 def write_capture(folder, number, stamps):
