@@ -1,12 +1,11 @@
 -- No block is empty, and each but the first has 32 cells at least. Only the first block gets fewer cells, and a block
 -- that is split has 64. So the blocks are few: 32 times their number is at most 31 more than the number of cells, and
 -- where one is split, so it is afterwards.
-use Rattle.std.proofs.Common.{◌≡◌, ℕ, zero, suc, ◌+◌, ◌-◌, ◌*◌, ◌/◌, ◌<◌, ◌≤◌, List, [], ◌∷◌, ◌++◌, length, set, take, drop, ap, subst, sym, length-append, length-take, length-drop, length-set, arith}
-use Rattle.std.specs.Prelude.{◌==◌, insert}
+use Rattle.std.proofs.Common.{◌≡◌, ℕ, zero, suc, ◌+◌, ◌*◌, ◌/◌, ◌<◌, ◌≤◌, List, [], ◌∷◌, length, set, take, drop, ap, subst, sym, length-append, length-take, length-drop, arith}
+use Rattle.std.specs.Prelude.{insert}
 use Rattle.std.specs.List.{AllByRecursion}
-use Rattle.std.proofs.lemmas.Bool.{cond_both, eqb-false}
 use Rattle.cq_base.specs.declared.cell.Queued.{Queued}
-use Rattle.cq_urgency.specs.Blocks.{flattened, block_at, halved, without_first}
+use Rattle.cq_urgency.specs.Blocks.{flattened, block_at, halved}
 use Rattle.cq_urgency.specs.OutputBuffer.{AreFilled}
 use Rattle.cq_urgency.proofs.Flattened.{flattened-halved}
 

@@ -1,14 +1,11 @@
 -- Cells in blocks, one after another. What is done to one block is done to the cells where it stands, behind those of
 -- the blocks ahead.
-use Rattle.std.proofs.Common.{◌≡◌, ℕ, zero, suc, ◌+◌, ◌<◌, ◌≤◌, ◌-◌, true, false, List, [], ◌∷◌, ◌++◌, length, get_or, set, take, drop, Some, refl, sym, ap, ◌∙◌, append_assoc, length-append, take-append-drop, arith}
-use Rattle.std.specs.Prelude.{◌==◌, insert, slice_get}
-use Rattle.std.specs.List.{sum_by}
-use Rattle.std.proofs.lemmas.Bool.{cond_both, eqb-true}
-use Rattle.std.proofs.lemmas.List.{nil_from_length}
+use Rattle.std.proofs.Common.{◌≡◌, ℕ, zero, suc, ◌+◌, ◌<◌, ◌≤◌, ◌-◌, List, [], ◌∷◌, ◌++◌, length, set, take, drop, Some, refl, sym, ap, ◌∙◌, append_assoc, length-append, take-append-drop, arith}
+use Rattle.std.specs.Prelude.{insert, slice_get}
 use Rattle.std.proofs.lemmas.List.Edits.{insert-append_left, insert-append_right}
 use Rattle.std.proofs.lemmas.List.Sums.{sum_by-cons}
 use Rattle.cq_base.specs.declared.cell.Queued.{Queued}
-use Rattle.cq_urgency.specs.Blocks.{flattened, block_at, cells_in_all, halved, without_first}
+use Rattle.cq_urgency.specs.Blocks.{flattened, block_at, cells_in_all, halved}
 
 pub length-flattened : (blocks : List (List Queued)) → cells_in_all blocks ≡ length (flattened blocks)
 length-flattened [] = refl

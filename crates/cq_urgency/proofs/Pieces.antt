@@ -1,8 +1,8 @@
 -- Pieces of an array. The piece of n items from h on is take n (drop h xs). A part of the array that is written anew
 -- leaves what stands ahead of it and behind it.
-use Rattle.std.proofs.Common.{◌≡◌, ℕ, suc, ◌+◌, ◌-◌, ◌<◌, ◌≤◌, List, [], ◌∷◌, ◌++◌, length, set, get_or, take, drop, refl, sym, ap, ◌∙◌, append_assoc, length-append, length-take, length-drop, arith}
+use Rattle.std.proofs.Common.{◌≡◌, ℕ, ◌+◌, ◌-◌, ◌<◌, ◌≤◌, List, [], ◌∷◌, ◌++◌, length, set, get_or, take, drop, sym, ap, ◌∙◌, append_assoc, length-append, length-take, length-drop, arith}
 use Rattle.std.specs.Prelude.{insert}
-use Rattle.std.proofs.lemmas.List.{take_all, take-take, take_at, take-append-le, drop-drop, drop_at, drop-append-le, drop_more, drop_all, drop-take, set_at}
+use Rattle.std.proofs.lemmas.List.{take_all, take-take, take_at, drop-drop, drop_at, drop-append-le, drop_more, drop_all, drop-take, set_at}
 
 pub length_piece : {X : Type 0} (xs : List X) (h n : ℕ) → h + n ≤ length xs → length (take n (drop h xs)) ≡ n
 length_piece xs h n inside = let few = length-take n (drop h xs) in let left = length-drop h xs in omega arith
@@ -74,12 +74,3 @@ put_back xs ys rest y h n p few whole is left =
     ∙ append_assoc (take p (drop (h + 1) xs)) (y ∷ []) rest
     ∙ ap (λ l. take p (drop (h + 1) xs) ++ y ∷ l) (left ∙ sym (drop-drop p (h + 1) xs))
     ∙ ap (λ l. insert l p y) (sym all)
-
--- ## The upper half of the array, copied to the start of another one
-
-pub upper_half : {X : Type 0} (xs ys rest : List X) (h n m : ℕ) → n ≡ m + m → h ≡ 0 → length xs ≡ n →
-    ys ≡ drop m xs → take m (ys ++ rest) ≡ drop m (take n (drop h xs))
-upper_half xs ys rest h n m two none whole is =
-    let half : length ys ≡ m = let len = ap length is ∙ length-drop m xs in omega arith in
-    take_at ys rest m half ∙ is ∙ ap (drop m) (sym (take_all n xs (omega arith)))
-    ∙ ap (λ k. drop m (take n (drop k xs))) (sym none)

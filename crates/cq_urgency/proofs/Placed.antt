@@ -2,13 +2,14 @@
 -- changed in the pool changes at its one place in the order and nowhere else; a block that comes in under a number that
 -- was free or is new stands nowhere in the order, so that the blocks there stay; and so do the others where the first
 -- one becomes free.
-use Rattle.std.proofs.Common.{◌≡◌, ◌≢◌, ℕ, zero, suc, ◌+◌, ◌-◌, ◌<◌, ◌≤◌, Bool, true, false, cond, Result, Ok, is_ok, List, [], ◌∷◌, ◌++◌, length, map, get_or, set, take, drop, refl, sym, ap, ◌∙◌, subst, ⊎_elim, arith, length-set, get_or-set_same, get_or-set_other}
-use Rattle.std.specs.Prelude.{◌==◌, nat_lt, insert, remove}
+use Rattle.std.proofs.Common.{◌≡◌, ◌≢◌, ℕ, zero, suc, ◌+◌, ◌-◌, ◌<◌, ◌≤◌, Bool, true, false, cond, Result, Ok, is_ok, List, [], ◌∷◌, ◌++◌, length, map, get_or, set, take, drop, refl, sym, ap, ◌∙◌, ⊎_elim, arith, Some, length-set, length-take, length-drop, get_or-set_same, get_or-set_other, get_or-drop}
+use Rattle.std.specs.Prelude.{◌==◌, nat_lt, insert, remove, slice_get}
 use Rattle.std.specs.List.{sum_by}
-use Rattle.std.proofs.lemmas.Bool.{cases_Bool, cases_lt, ltb-true, eq-eqb, ne_eqb, cond-true, cond-false}
-use Rattle.std.proofs.lemmas.List.{take_rest, length_push, length-map, map-append, map-set, take-map, drop-map, get_or-map, get_or_past, get_or_read}
-use Rattle.std.proofs.lemmas.List.Edits.{length-insert}
+use Rattle.std.proofs.lemmas.Bool.{cases_Bool, cases_eq, cases_lt, ltb-true, lt-ltb, eq-eqb, ne_eqb, cond-true, cond-false}
+use Rattle.std.proofs.lemmas.List.{take_rest, take_more, drop_more, set-set, length_push, length-map, map-append, map-set, take-map, drop-map, get_or-map, get_or_past, get_or_read}
+use Rattle.std.proofs.lemmas.List.Edits.{length-insert, insert_end}
 use Rattle.std.proofs.lemmas.List.Sums.{sum_by-cons, sum_by_push, sum_by-insert, sum_by-take-drop, get_or-le-sum_by}
+use Rattle.std.proofs.lemmas.Option.{slice_get_read, slice_get_within, get_or_from_slice_get}
 use Rattle.cq_base.specs.declared.cell.Queued.{Queued}
 use Rattle.cq_urgency.specs.Blocks.{BlocksView, block_at, cells_in_all, halved, without_first, in_order, bit, times, has, ArePlaced, ComesIn}
 
@@ -94,6 +95,10 @@ module _ (pool : List (List Queued)) (order counts free : List ℕ) (p : ArePlac
   number_there = let once = p.once number in
       let some = times_read order i number inside is in has_inside pool number (omega arith)
 
+  pub not_free : times number free ≡ 0
+  not_free = let once = p.once number in let le = bit_le (nat_lt number (length pool)) in
+      let some = times_read order i number inside is in omega arith
+
   pub block_is : block_at (in_order pool order) i ≡ block_at pool number
   block_is = get_or-map (λ (n : ℕ). block_at pool n) order i number [] inside ∙ ap (block_at pool) (sym is)
 
@@ -175,6 +180,109 @@ module _ (pool : List (List Queued)) (order counts free : List ℕ) (p : ArePlac
             ∙ sym (map-insert (λ (b : List Queued). length b) (in_order pool order) i block)
             ∙ ap (map (λ (b : List Queued). length b)) (sym (come_order i));
       }
+
+-- ## The upper half of a block goes over to one that came in
+
+module _ (pool pool' : List (List Queued)) (free free' : List ℕ) (block : List Queued) (number other : ℕ)
+    (inside : number < length pool) (used : times number free ≡ 0)
+    (within : (n : ℕ) → times n free ≤ has pool n) (q : ComesIn pool free pool' free' block other) where
+  had : has pool number ≡ 1
+  had = ap bit (lt-ltb number (length pool) inside)
+
+  pub came_apart : other ≢ number
+  came_apart e =
+      let come = q.once number in let first = had in
+      let one = bit_same other number e in let le = bit_le (nat_lt number (length pool')) in absurd (omega arith)
+
+  pub came_others : block_at pool' number ≡ block_at pool number
+  came_others = q.others number (λ e. came_apart (sym e))
+
+  pub came_there : other < length pool'
+  came_there = let come = q.once other in let le = within other in
+      let one = bit_same other other refl in has_inside pool' other (omega arith)
+
+  pub came_inside : number < length pool'
+  came_inside = let come = q.once number in let first = had in has_inside pool' number (omega arith)
+
+  pub comes_parted : (front back : List Queued) →
+      ComesIn (set pool number front) free (set (set pool' other back) number front) free' back other
+  comes_parted front back =
+      let size : length (set pool number front) ≡ length pool = length-set pool number front in
+      let size' : length (set (set pool' other back) number front) ≡ length pool' =
+      length-set (set pool' other back) number front ∙ length-set pool' other back in
+      record {
+        at = set_others (set pool' other back) number front other came_apart
+            ∙ get_or-set_same pool' other back [] came_there;
+        others = λ n ne.
+            ⊎_elim (λ e.
+            ap (block_at (set (set pool' other back) number front)) e
+            ∙ get_or-set_same (set pool' other back) number front []
+            (let there = came_inside in let same = length-set pool' other back in omega arith)
+            ∙ sym (get_or-set_same pool number front [] inside)
+            ∙ ap (block_at (set pool number front)) (sym e))
+            (λ e.
+            set_others (set pool' other back) number front n e
+            ∙ set_others pool' other back n ne
+            ∙ q.others n ne
+            ∙ sym (set_others pool number front n e))
+            (cases_eq n number);
+        once = λ n.
+            let come = q.once n in
+            let one : has (set pool number front) n ≡ has pool n = ap (λ k. bit (nat_lt n k)) size in
+            let two : has (set (set pool' other back) number front) n ≡ has pool' n =
+            ap (λ k. bit (nat_lt n k)) size' in omega arith;
+        all = let all = q.all in omega arith;
+        fewer = q.fewer;
+        grown = λ l. q.grown (omega arith);
+      }
+
+-- what is read where one block was set
+pub read_other : (pool pool' : List (List Queued)) (from to : ℕ) (block read : List Queued) → to ≢ from →
+    from < length pool → pool' ≡ set pool to block → read ≡ get_or pool' from read → read ≡ block_at pool from
+read_other pool pool' from to block read apart inside is e =
+    let same = ap (λ (l : List (List Queued)). length l) is ∙ length-set pool to block in
+    get_or_read pool' from read (omega arith) e []
+    ∙ ap (λ (l : List (List Queued)). block_at l from) is
+    ∙ get_or-set_other pool to from block [] (λ e. apart (sym e))
+
+pub read_set : (pool pool' : List (List Queued)) (to : ℕ) (block read : List Queued) → to < length pool →
+    pool' ≡ set pool to block → read ≡ get_or pool' to read → read ≡ block
+read_set pool pool' to block read inside is e =
+    let same = ap (λ (l : List (List Queued)). length l) is ∙ length-set pool to block in
+    get_or_read pool' to read (omega arith) e []
+    ∙ ap (λ (l : List (List Queued)). block_at l to) is
+    ∙ get_or-set_same pool to block [] inside
+
+-- a cell of the upper half
+pub upper_shown : (block : List Queued) (place : ℕ) (x : Queued) → length block ≡ 64 → place < 32 →
+    slice_get block (place + 32) ≡ Some x → slice_get (drop 32 block) place ≡ Some x
+upper_shown block place x full early at =
+    let size = length-drop 32 block in
+    let sum : 32 + place ≡ place + 32 = omega arith in
+    slice_get_read (drop 32 block) (length (drop 32 block)) place x refl (omega arith)
+    (sym (get_or-drop 32 block place x ∙ ap (λ k. get_or block k x) sum
+    ∙ get_or_from_slice_get block (place + 32) x x at))
+
+pub upper_first : (block : List Queued) (x : Queued) → slice_get block 32 ≡ Some x →
+    x ∷ [] ≡ take 1 (drop 32 block)
+upper_first block x at = sym (ap (take 1)
+    (drop_more block 32 x (slice_get_within block 32 x at)
+    ∙ ap (λ y. y ∷ drop 33 block) (get_or_from_slice_get block 32 x x at)))
+
+-- the next cell of the upper half comes to the others
+pub moved_more : (pool pool' : List (List Queued)) (to place : ℕ) (half read : List Queued) (x : Queued) →
+    to < length pool → length half ≡ 32 → place < 32 → pool' ≡ set pool to (take place half) →
+    read ≡ get_or pool' to read → slice_get half place ≡ Some x →
+    set pool' to (insert read place x) ≡ set pool to (take (place + 1) half)
+moved_more pool pool' to place half read x there size early is e at =
+    let few : place ≡ length (take place half) = let len = length-take place half in omega arith in
+    ap (λ (l : List (List Queued)). set l to (insert read place x)) is
+    ∙ set-set pool to (take place half) (insert read place x)
+    ∙ ap (λ l. set pool to (insert l place x)) (read_set pool pool' to (take place half) read there is e)
+    ∙ ap (set pool to) (ap (λ n. insert (take place half) n x) few
+    ∙ insert_end (take place half) x
+    ∙ ap (λ y. take place half ++ y ∷ []) (sym (get_or_from_slice_get half place x x at))
+    ∙ sym (take_more half place x (omega arith)))
 
 -- ## The first block becomes free
 
@@ -299,12 +407,18 @@ module _ (pool : List (List Queued)) (order counts free : List ℕ) (blocks : Li
   pub in_pool : number < length pool
   in_pool = number_there pool order counts free w.placed i number in_order_there is
 
+  pub not_freed : times number free ≡ 0
+  not_freed = not_free pool order counts free w.placed i number in_order_there is
+
+  pub block_same : block_at pool number ≡ block_at blocks i
+  block_same =
+      sym (block_is pool order counts free w.placed i number in_order_there is)
+      ∙ ap (λ (l : List (List Queued)). block_at l i) w.seen
+
   -- what is read in the pool is the block
   pub read_is : (read : List Queued) → read ≡ get_or pool number read → read ≡ block_at blocks i
   read_is read e =
-      get_or_read pool number read in_pool e []
-      ∙ sym (block_is pool order counts free w.placed i number in_order_there is)
-      ∙ ap (λ (l : List (List Queued)). block_at l i) w.seen
+      get_or_read pool number read in_pool e [] ∙ block_same
 
   pub read_count : (count : ℕ) (read : List Queued) → count ≡ get_or counts i count →
       read ≡ get_or pool number read → count ≡ length read

@@ -3,9 +3,8 @@
 -- none, no cell from there on has one. The cells of lesser key are thus those ahead of the block and those of its own.
 --
 -- A full block that is split keeps each place: in its front half, or in its back half behind 32 cells more.
-use Rattle.std.proofs.Common.{◌≡◌, ℕ, zero, suc, ◌+◌, ◌<◌, ◌≤◌, true, false, List, [], ◌∷◌, ◌++◌, length, set, take, drop, Some, sym, ap, ◌∙◌, ⊎_elim, length-append, length-set, length-take, length-drop, get_or-set_same, arith}
-use Rattle.std.specs.Prelude.{insert, slice_get}
-use Rattle.std.specs.List.{AllByRecursion, sum_by}
+use Rattle.std.proofs.Common.{◌≡◌, ℕ, zero, suc, ◌+◌, ◌<◌, ◌≤◌, true, false, List, [], ◌∷◌, ◌++◌, length, set, take, drop, sym, ap, ◌∙◌, ⊎_elim, length-append, length-set, length-take, length-drop, get_or-set_same, arith}
+use Rattle.std.specs.List.{AllByRecursion}
 use Rattle.std.proofs.lemmas.Bool.{cases_Bool}
 use Rattle.std.proofs.lemmas.List.{take-append-le, take-take, take-set}
 use Rattle.std.proofs.lemmas.List.Edits.{length-insert, get_or-insert_below, get_or-insert_at}

@@ -144,19 +144,20 @@ impl Block {
         queued
     }
 
-    /// Takes the last 32 cells of a full block out, into a block of their own.
-    pub fn split_off(&mut self) -> Block
-        requires { length self.old ≡ 64 }
-        ensures front { self.new ≡ take 32 self.old }
-        ensures back { result ≡ drop 32 self.old }
+    /// This cell alone, in the place of those that it had.
+    pub fn restart(&mut self, queued: Queued)
+        ensures { self.new ≡ queued ∷ [] }
     {
-        let mut cells = self.cells;
-        cells[..32].copy_from_slice(&self.cells[32..]);
+        self.cells[0] = queued;
+        self.head = 0;
+        self.len = 1;
+    }
+
+    /// Leaves the first 32 cells of a full block alone.
+    pub fn keep_half(&mut self)
+        requires { length self.old ≡ 64 }
+        ensures { self.new ≡ take 32 self.old }
+    {
         self.len = 32;
-        Block {
-            cells,
-            head: 0,
-            len: 32,
-        }
     }
 }

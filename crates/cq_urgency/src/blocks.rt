@@ -1,7 +1,7 @@
 //! Cells in blocks, in an order of blocks.
-ghost use Rattle.std.specs.Prelude.{◌≡◌, ℕ, ◌+◌, ◌<◌, ◌≤◌, ◌^◌, ◌∷◌, [], Some, IfOk, length, map, take, insert, slice_get, slice_set, slice_index_or, vec_capacity};
+ghost use Rattle.std.specs.Prelude.{◌≡◌, ◌≢◌, ℕ, ◌+◌, ◌<◌, ◌≤◌, ◌^◌, ◌∷◌, ◌++◌, [], Some, IfOk, length, map, take, drop, insert, slice_get, slice_set, slice_index_or, vec_capacity};
 ghost use Rattle.std.specs.List.{sum_by};
-ghost use Rattle.cq_urgency.specs.Blocks.{flattened, block_at, cells_in_all, halved, without_first, times, has, ComesIn};
+ghost use Rattle.cq_urgency.specs.Blocks.{flattened, block_at, cells_in_all, halved, parted, without_first, times, has, ComesIn};
 
 use crate::block::Block;
 use cq_base::{NoMemory, Queued};
@@ -35,25 +35,69 @@ impl Model for Blocks {
     ghost invariant = { λ b. ArePlaced b.pool.items b.order.items b.counts.items b.free.items × HaveMemory b.most (length b.pool.items) (vec_capacity b.pool) (vec_capacity b.order) (vec_capacity b.counts) (vec_capacity b.free) };
 }
 
-// Puts a block into the pool, in place of a free one where there is one, and answers its number.
-fn put_block(pool: &mut Vec<Block>, free: &mut Vec<usize>, block: Block) -> usize
+// A new block of one cell. It is made apart from all callers, so that none of them has room for a block on its stack.
+#[inline(never)]
+fn push_block(pool: &mut Vec<Block>, queued: Queued)
+    requires { length pool.old.items < vec_capacity pool.old }
+    ensures blocks { pool.new.items ≡ pool.old.items ++ (queued ∷ []) ∷ [] }
+    ensures capacity { vec_capacity pool.new ≡ vec_capacity pool.old }
+{
+    pool.push_reserved(Block::of(queued));
+}
+
+// A block of one cell comes into the pool, in place of a free one where there is one. The answer is its number.
+fn put_block(pool: &mut Vec<Block>, free: &mut Vec<usize>, queued: Queued) -> usize
     requires within { (n : ℕ) → times n free.old.items ≤ has pool.old.items n }
     requires memory { length free.old.items ≡ 0 → length pool.old.items < vec_capacity pool.old }
-    ensures comes { ComesIn pool.old.items free.old.items pool.new.items free.new.items block result }
+    ensures comes { ComesIn pool.old.items free.old.items pool.new.items free.new.items (queued ∷ []) result }
     ensures pool { vec_capacity pool.new ≡ vec_capacity pool.old }
     ensures free { vec_capacity free.new ≡ vec_capacity free.old }
 {
     match free.pop() {
         Some(number) => {
-            pool[number] = block;
+            pool[number].restart(queued);
             number
         }
         None => {
             let number = pool.len();
-            pool.push_reserved(block);
+            push_block(pool, queued);
             number
         }
     }
+}
+
+// The upper half of a full block goes over to a block that has its first cell already.
+fn move_upper(pool: &mut Vec<Block>, from: usize, to: usize)
+    requires from { from < length pool.old.items }
+    requires to { to < length pool.old.items }
+    requires apart { to ≢ from }
+    requires full { length (block_at pool.old.items from) ≡ 64 }
+    requires first { block_at pool.old.items to ≡ take 1 (drop 32 (block_at pool.old.items from)) }
+    ensures moved { pool.new.items ≡ parted pool.old.items from to }
+    ensures capacity { vec_capacity pool.new ≡ vec_capacity pool.old }
+{
+    'moved: for place in 1..32_usize {
+        let queued = pool[from].at(place + 32);
+        pool[to].insert(place, queued);
+    }
+    pool[from].keep_half();
+}
+
+// The upper half of a full block becomes a block of its own. The answer is its number.
+fn put_upper(pool: &mut Vec<Block>, free: &mut Vec<usize>, number: usize) -> usize
+    requires there { number < length pool.old.items }
+    requires used { times number free.old.items ≡ 0 }
+    requires full { length (block_at pool.old.items number) ≡ 64 }
+    requires within { (n : ℕ) → times n free.old.items ≤ has pool.old.items n }
+    requires memory { length free.old.items ≡ 0 → length pool.old.items < vec_capacity pool.old }
+    ensures comes { ComesIn (slice_set pool.old.items number (take 32 (block_at pool.old.items number))) free.old.items pool.new.items free.new.items (drop 32 (block_at pool.old.items number)) result }
+    ensures pool { vec_capacity pool.new ≡ vec_capacity pool.old }
+    ensures free { vec_capacity free.new ≡ vec_capacity free.old }
+{
+    let first = pool[number].at(32);
+    let other = put_block(pool, free, first);
+    move_upper(pool, number, other);
+    other
 }
 
 // The sum of some counts.
@@ -162,7 +206,7 @@ impl Blocks {
         ensures blocks { self.new.blocks ≡ (queued ∷ []) ∷ [] }
         ensures most { self.new.most ≡ self.old.most }
     {
-        let number = put_block(&mut self.pool, &mut self.free, Block::of(queued));
+        let number = put_block(&mut self.pool, &mut self.free, queued);
         self.order.push_reserved(number);
         self.counts.push_reserved(1);
     }
@@ -189,8 +233,7 @@ impl Blocks {
         ensures most { self.new.most ≡ self.old.most }
     {
         let number = self.order[block];
-        let back = self.pool[number].split_off();
-        let other = put_block(&mut self.pool, &mut self.free, back);
+        let other = put_upper(&mut self.pool, &mut self.free, number);
         self.order.insert(block + 1, other).unwrap();
         self.counts[block] = 32;
         self.counts.insert(block + 1, 32).unwrap();

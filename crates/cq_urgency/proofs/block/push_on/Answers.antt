@@ -1,4 +1,4 @@
-use Rattle.std.proofs.Common.{◌≡◌, ◌∙◌, ap}
+use Rattle.std.proofs.Common.{◌∙◌, ap}
 use Rattle.std.specs.Prelude.{slice_set}
 use Rattle.cq_urgency.proofs.Pieces.{turned_on}
 use Rattle.cq_urgency.proofs.block.push_on.Goals as goal

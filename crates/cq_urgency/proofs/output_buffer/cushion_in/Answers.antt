@@ -1,4 +1,4 @@
-use Rattle.std.proofs.Common.{◌≡◌, ◌≤◌, ◌<◌, ◌+◌, length, arith}
+use Rattle.std.proofs.Common.{arith}
 use Rattle.cq_urgency.specs.Blocks.{flattened}
 use Rattle.cq_urgency.proofs.Flattened.{length-flattened}
 use Rattle.cq_urgency.proofs.Halving.{cushion_le}

@@ -1,6 +1,6 @@
-use Rattle.std.proofs.Common.{◌≡◌, ◌∙◌, ap}
+use Rattle.std.proofs.Common.{◌∙◌, ap}
 use Rattle.std.specs.Prelude.{insert}
-use Rattle.cq_base.specs.Cells.{cushion, put}
+use Rattle.cq_base.specs.Cells.{cushion}
 use Rattle.cq_urgency.specs.Blocks.{flattened}
 use Rattle.cq_urgency.proofs.Flattened.{insert_in}
 use Rattle.cq_urgency.proofs.Rising.{put_is}

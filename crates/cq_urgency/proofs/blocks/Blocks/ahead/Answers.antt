@@ -1,4 +1,4 @@
-use Rattle.std.proofs.Common.{◌≡◌, ◌≤◌, ◌∙◌, length, take, ap, sym, arith}
+use Rattle.std.proofs.Common.{◌∙◌, length, take, ap, sym, arith}
 use Rattle.std.specs.List.{sum_by}
 use Rattle.std.specs.Prelude.{ℕ, List}
 use Rattle.std.proofs.lemmas.List.{length-map}

@@ -1,4 +1,4 @@
-use Rattle.std.proofs.Common.{◌≡◌, ◌≤◌, ◌<◌, ◌+◌, ◌∙◌, length, take, ap, sym, subst, arith}
+use Rattle.std.proofs.Common.{◌≡◌, ◌<◌, ◌∙◌, take, ap, sym, subst, arith}
 use Rattle.std.specs.Prelude.{ℕ, List, slice_get, slice_index_or}
 use Rattle.std.specs.List.{sum_by}
 use Rattle.cq_base.specs.declared.cell.Queued.{Queued}

@@ -1,4 +1,4 @@
-use Rattle.std.proofs.Common.{◌≡◌, ◌<◌, length, arith}
+use Rattle.std.proofs.Common.{arith}
 use Rattle.cq_urgency.proofs.Placed.{kept, in_pool, read_is}
 use Rattle.cq_urgency.proofs.blocks.Blocks.block.Goals as goal
 

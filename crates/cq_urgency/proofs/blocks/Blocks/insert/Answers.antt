@@ -1,7 +1,6 @@
-use Rattle.std.proofs.Common.{◌≡◌, ◌<◌, ◌≤◌, ◌+◌, ◌∙◌, length, ap, sym, subst, length-set, arith}
+use Rattle.std.proofs.Common.{◌+◌, ◌∙◌, length, ap, length-set, arith}
 use Rattle.std.specs.Prelude.{insert, slice_set}
 use Rattle.std.proofs.lemmas.List.Edits.{length-insert}
-use Rattle.cq_urgency.specs.Blocks.{HaveMemory}
 use Rattle.cq_urgency.proofs.Placed.{kept, in_pool, read_is, read_count, seen_changed, placed_changed}
 use Rattle.cq_urgency.proofs.blocks.Blocks.insert.Goals as goal
 

@@ -1,6 +1,5 @@
-use Rattle.std.proofs.Common.{◌≡◌, ◌<◌, ◌≤◌, ◌+◌, ◌-◌, ◌∙◌, length, drop, ap, sym, length-drop, length-set, arith}
+use Rattle.std.proofs.Common.{◌-◌, ◌∙◌, length, drop, ap, sym, length-drop, length-set, arith}
 use Rattle.std.specs.Prelude.{slice_set}
-use Rattle.cq_urgency.specs.Blocks.{HaveMemory}
 use Rattle.cq_urgency.proofs.Placed.{kept, in_order_there, read_is, read_count, seen_changed, placed_changed, freed_order, freed_placed, without_block, without_cell}
 use Rattle.cq_urgency.proofs.blocks.Blocks.pop.Goals as goal
 

@@ -1,10 +1,10 @@
-use Rattle.std.proofs.Common.{◌≡◌, ◌<◌, ◌≤◌, ◌+◌, ◌∙◌, ◌∷◌, [], List, length, ⊎_elim, ap, sym, arith}
+use Rattle.std.proofs.Common.{◌≡◌, ◌∙◌, ◌∷◌, [], List, length, ⊎_elim, ap, sym, arith}
 use Rattle.std.specs.Prelude.{ℕ, insert}
 use Rattle.std.proofs.lemmas.List.{length-map}
 use Rattle.std.proofs.lemmas.List.Edits.{insert_end}
 use Rattle.cq_base.specs.declared.cell.Queued.{Queued}
 use Rattle.std.proofs.lemmas.Bool.{cases_lt}
-use Rattle.cq_urgency.specs.Blocks.{BlocksView, HaveMemory}
+use Rattle.cq_urgency.specs.Blocks.{BlocksView}
 use Rattle.cq_urgency.proofs.Placed.{kept, as_many, as_many_counts, come_placed}
 use Rattle.cq_urgency.proofs.blocks.Blocks.start.Goals as goal
 
@@ -16,7 +16,7 @@ invariant_of-self c =
     let none = ap (λ (l : List (List Queued)). length l) c.requires.none in
     let even : length b.counts.items ≡ length b.order.items = ap (λ (l : List ℕ). length l) (as_many_counts _ _ _ _ _ w)
     ∙ length-map c.args.self.now.blocks (λ (block : List Queued). length block) ∙ sym many in
-    let one : 1 ≡ length c.of.result = sym (ap length c.of.ensures) in
+    let one : 1 ≡ length (c.args.queued ∷ []) = omega arith in
     let placed = come_placed _ _ _ _ w.placed _ _ _ _ c.put_block-number.ensures.comes (length b.order.items) 1
     (omega arith) one in
     let order = c.push_reserved.ensures.items ∙ sym (insert_end b.order.items c.put_block-number.result) in

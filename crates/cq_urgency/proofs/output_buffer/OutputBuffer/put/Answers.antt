@@ -1,5 +1,5 @@
-use Rattle.std.proofs.Common.{◌≡◌, ◌<◌, ◌≤◌, ◌+◌, ◌-◌, ◌/◌, ◌∙◌, length, ap, sym, subst, arith}
-use Rattle.cq_base.specs.Cells.{IsRising, HasOtherKey, put}
+use Rattle.std.proofs.Common.{◌≡◌, ◌∙◌, length, ap, sym, subst, arith}
+use Rattle.cq_base.specs.Cells.{IsRising, HasOtherKey}
 use Rattle.cq_urgency.specs.Blocks.{flattened}
 use Rattle.cq_urgency.specs.OutputBuffer.{Buffered}
 use Rattle.cq_urgency.proofs.Rising.{rising_put, length_put}
