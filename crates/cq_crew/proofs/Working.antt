@@ -7,7 +7,7 @@ use Rattle.cq_prefs.specs.declared.outcome.Outcome.{Outcome}
 use Rattle.cq_ledger.specs.declared.view.View.{View}
 use Rattle.cq_ledger.specs.Plays.{IsFew}
 use Rattle.cq_ledger.specs.Seats.{LedgerState, SeatState, IsSeatOf, IsProposed}
-use Rattle.cq_ledger.specs.Steps.{claim_refused, claim_taken, joined}
+use Rattle.cq_ledger.specs.Steps.{claim_refused, claim_taken, first_tried, joined}
 use Rattle.cq_ledger.specs.Views.{bit, HasClaimed}
 use Rattle.cq_ledger.proofs.Views.{bit-or_same, bit-left}
 use Rattle.cq_crew.specs.Work.{HasTried, HaveTried, ProposesFor, Grows, IsIdleAfter, HasWorked}
@@ -47,6 +47,14 @@ grows-joined v w = record { claims = λ q h. bit-left v.claims w.claims q h; see
 pub tried-grown : (v w : View) → Grows v w → (i : ℕ) → HasTried v i → HasTried w i
 tried-grown v w g i (inl h) = inl (g.claims i h)
 tried-grown v w g i (inr h) = inr (g.seen i h)
+
+-- the first input, and then those after it
+pub tried-first : (v w : View) (k : ℕ) → Grows v w → HasTried v k → (n : ℕ) → HaveTried w (k + 1) n → HaveTried w k n
+tried-first v w k g here n above i low high = go (cases_eq i k)
+  where
+    go : (i ≡ k) ⊎ (i ≢ k) → HasTried w i
+    go (inl e) = let P : ℕ → Type 0 = λ m. HasTried w m in subst P (sym e) (tried-grown v w g k here)
+    go (inr d) = above i (let l : k ≤ i = low in let e : i ≢ k = d in omega arith) high
 
 -- one input more
 pub tried-next : (v w : View) (k n : ℕ) → Grows v w → HaveTried v k n → HasTried w n → HaveTried w k (n + 1)
@@ -97,6 +105,18 @@ tried-joined v w x n is tried i low high =
     let P : View → Type 0 = λ y. HasTried y i in
     subst P (sym is) (tried-grown v (joined v w) (grows-joined v w) i (tried i low high))
 
+-- ## The worker's own number
+
+-- one input more was tried by a worker that has begun
+pub begun-still : (v : View) (worker i : ℕ) → v.began ≡ Some worker → first_tried v.began i ≡ Some worker
+begun-still v worker i is = ap (λ (o : Option ℕ). first_tried o i) is
+
+-- the first input that a worker tries is that of its number
+pub begun-first : (v : View) (worker : ℕ) → v.began ≡ None → first_tried v.began worker ≡ Some worker
+begun-first v worker is = ap (λ (o : Option ℕ). first_tried o worker) is
+
+-- ## A whole work
+
 -- both halves of the inputs
 pub worked : (l : LedgerState) (u : View) (s t : SeatState) (k n : ℕ) → n ≡ ports l.offers → IsIdleAfter l u s → HaveTried s.view k n → IsIdleAfter l s.view t → HaveTried t.view 0 k → HasWorked l u t
 worked l u s t k n is a above b below =
@@ -121,12 +141,21 @@ pub hand-some : (hand : Option (ℕ × ℕ)) (shown : Option ℕ) (input : ℕ) 
 hand-some None shown input e f = absurd (let g : None ≡ Some input = sym e ∙ f in let P : ⊥ = cc in P)
 hand-some (Some h) shown input e f = refl
 
+-- what is told of a proposal: the input that the hand shows, and the answer
+pub hand-told : (hand : Option (ℕ × ℕ)) (shown : Option ℕ) (input : ℕ) (answer : Outcome) → shown ≡ option_map (λ (h : ℕ × ℕ). h.0) hand
+    → shown ≡ Some input → option_map {U = ℕ × Outcome} (λ (h : ℕ × ℕ). (h.0, answer)) hand ≡ Some (input, answer)
+hand-told None shown input answer e f = absurd (let g : None ≡ Some input = sym e ∙ f in let P : ⊥ = cc in P)
+hand-told (Some h) shown input answer e f =
+    let is : Some h.0 ≡ Some input = sym e ∙ f in
+    let same : h.0 ≡ input = cc is in
+    ap (λ (i : ℕ). let o : Option (ℕ × Outcome) = Some (i, answer) in o) same
+
 pub hand-none : (hand : Option (ℕ × ℕ)) (shown : Option ℕ) → shown ≡ option_map (λ (h : ℕ × ℕ). h.0) hand → shown ≡ None → hand ≡ None
 hand-none None shown e f = refl
 hand-none (Some h) shown e f = absurd (let g : Some h.0 ≡ None = sym e ∙ f in let P : ⊥ = cc in P)
 
 pub proposes-same : (v : View) → ProposesFor v v
-proposes-same v = record { claims = refl; seen = refl; made = omega arith }
+proposes-same v = record { claims = refl; seen = refl; began = refl; made = omega arith }
 
 pub proposes-next : (u v w : View) (answer : Outcome) → ProposesFor u v → IsSome v.hand → ((i p : ℕ) → v.hand ≡ Some (i, p) → IsProposed v i p answer w) → ProposesFor u w
 proposes-next u v w answer before some is = go v.hand refl some
@@ -139,6 +168,7 @@ proposes-next u v w answer before some is = go v.hand refl some
         record {
           claims = ap (λ (x : View). x.claims) view ∙ before.claims;
           seen = ap (λ (x : View). x.seen) view ∙ before.seen;
+          began = ap (λ (x : View). x.began) view ∙ before.began;
           made = let m = before.made in omega arith;
         }
 

@@ -17,6 +17,7 @@ HaveTried v a b = (i : ℕ) → a ≤ i → i < b → HasTried v i
 pub record ProposesFor (v w : View) : Type 0 where
   pub claims : w.claims ≡ v.claims
   pub seen : w.seen ≡ v.seen
+  pub began : w.began ≡ v.began
   pub made : v.made ≤ w.made
 
 -- claims and proposals led from one view to another: what was claimed and seen still is, and no proposal is forgotten

@@ -24,6 +24,7 @@ pub(crate) fn work_all<R: Threads + Sync, G: Gate>(
 ) -> LedgerSeat
     requires seat { IsSeatOf ledger.now seat }
     requires hand { seat.view.hand ≡ None }
+    requires began { seat.view.began ≡ None }
     requires some { 1 ≤ count }
     requires workers { first + count ≤ inputs }
     requires inputs { inputs ≡ ports ledger.now.offers }
@@ -40,6 +41,7 @@ pub(crate) fn work_all<R: Threads + Sync, G: Gate>(
         requires sync { IsSync R.row × IsSync G.row }
         requires seat { IsSeatOf ledger.now seat }
         requires hand { seat.view.hand ≡ None }
+        requires began { seat.view.began ≡ None }
         requires some { 1 ≤ low }
         requires workers { first + low ≤ inputs }
         requires inputs { inputs ≡ ports ledger.now.offers }
@@ -49,6 +51,7 @@ pub(crate) fn work_all<R: Threads + Sync, G: Gate>(
         requires sync { IsSync R.row × IsSync G.row }
         requires seat { IsSeatOf ledger.now other }
         requires hand { other.view.hand ≡ None }
+        requires began { other.view.began ≡ None }
         requires some { 1 ≤ high }
         requires workers { middle + high ≤ inputs }
         requires inputs { inputs ≡ ports ledger.now.offers }

@@ -10,10 +10,11 @@ pub trait Gate: Sync {
     /// A worker has claimed an input. It has not proposed for it yet.
     fn claimed(&self, worker: u16, input: Port);
 
-    /// An input has proposed, and this came of it. `seat` is the seat of the worker that made the proposal, and its
-    /// view keeps the same outcome.
+    /// An input has proposed, and this came of it. `seat` is the seat of the worker that made the proposal: its view
+    /// keeps this input and this outcome as its last, and it began with the input of the worker's number.
     fn proposed(&self, worker: u16, input: Port, outcome: Outcome, seat: &LedgerSeat)
-        requires told { seat.now.view.told ≡ Some outcome };
+        requires worker { seat.now.view.began ≡ Some worker }
+        requires told { seat.now.view.told ≡ Some (input, outcome) };
 }
 
 /// A gate that does nothing.

@@ -1,7 +1,8 @@
 //! One worker's work on its seat.
-ghost use Rattle.std.specs.Prelude.{◌≡◌, ◌<◌, ◌≤◌, None};
+ghost use Rattle.std.specs.Prelude.{◌≡◌, ◌<◌, ◌≤◌, None, Some};
 ghost use Rattle.cq_prefs.specs.Orders.{ports};
 ghost use Rattle.cq_ledger.specs.Seats.{IsSeatOf};
+ghost use Rattle.cq_ledger.specs.Steps.{first_tried};
 ghost use Rattle.cq_crew.specs.Work.{HasTried, HasWorked, HaveTried, IsIdleAfter, ProposesFor};
 
 use crate::gate::Gate;
@@ -19,16 +20,18 @@ pub(crate) fn work<G: Gate>(
 ) -> LedgerSeat
     requires seat { IsSeatOf ledger.now seat }
     requires hand { seat.view.hand ≡ None }
-    requires worker { worker ≤ inputs }
+    requires began { seat.view.began ≡ None }
+    requires worker { worker < inputs }
     requires inputs { inputs ≡ ports ledger.now.offers }
     ensures { HasWorked ledger.now seat.view result }
 {
-    claim_between(ledger, &mut seat, worker, worker, inputs, gate);
+    claim_one(ledger, &mut seat, worker, worker, gate);
+    claim_between(ledger, &mut seat, worker, worker + 1, inputs, gate);
     claim_between(ledger, &mut seat, worker, 0, worker, gate);
     seat
 }
 
-// Tries to claim the inputs from one number up to another.
+// Tries to claim the inputs from one number up to another, for a worker that has begun.
 fn claim_between<G: Gate>(
     ledger: &Ledger,
     seat: &mut LedgerSeat,
@@ -39,23 +42,28 @@ fn claim_between<G: Gate>(
 )
     requires seat { IsSeatOf ledger.now seat.old }
     requires hand { seat.old.view.hand ≡ None }
+    requires began { seat.old.view.began ≡ Some worker }
     requires order { from ≤ to }
     requires to { to ≤ ports ledger.now.offers }
     ensures idle { IsIdleAfter ledger.now seat.old.view seat.new }
     ensures tried { HaveTried seat.new.view from to }
+    ensures began { seat.new.view.began ≡ Some worker }
 {
     'inputs: for input in from..to {
         claim_one(ledger, seat, worker, input, gate);
     }
 }
 
-// Tries to claim an input, and proposes until the hand is empty where it was unclaimed.
+// Tries to claim an input, and proposes until the hand is empty where it was unclaimed. The first that a worker tries is
+// that of its own number.
 fn claim_one<G: Gate>(ledger: &Ledger, seat: &mut LedgerSeat, worker: u16, input: Port, gate: &G)
     requires seat { IsSeatOf ledger.now seat.old }
     requires hand { seat.old.view.hand ≡ None }
     requires input { input < ports ledger.now.offers }
+    requires first { first_tried seat.old.view.began input ≡ Some worker }
     ensures idle { IsIdleAfter ledger.now seat.old.view seat.new }
     ensures tried { HasTried seat.new.view input }
+    ensures began { seat.new.view.began ≡ Some worker }
 {
     if !ledger.claim(seat, input) {
         return;
@@ -66,7 +74,8 @@ fn claim_one<G: Gate>(ledger: &Ledger, seat: &mut LedgerSeat, worker: u16, input
 
 // Proposes until the hand is empty.
 fn propose_all<G: Gate>(ledger: &Ledger, seat: &mut LedgerSeat, worker: u16, gate: &G)
-    requires { IsSeatOf ledger.now seat.old }
+    requires seat { IsSeatOf ledger.now seat.old }
+    requires began { seat.old.view.began ≡ Some worker }
     ensures seat { IsSeatOf ledger.now seat.new }
     ensures hand { seat.new.view.hand ≡ None }
     ensures proposes { ProposesFor seat.old.view seat.new.view }

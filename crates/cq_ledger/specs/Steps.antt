@@ -23,7 +23,7 @@ first_words o = 0 ∷ replicate (ports o) (ports o)
 
 -- the view of a seat that has claimed and made nothing
 abbrev pub blank : Orders → View
-blank o = record { claims = 0; hand = None; made = 0; seen = 0; told = None; offers = o }
+blank o = record { claims = 0; hand = None; made = 0; seen = 0; began = None; told = None; offers = o }
 
 -- ## A claim
 
@@ -35,13 +35,34 @@ words_claimed words i = slice_set words 0 (bit_or (claim_word words) (2 ^ i))
 unfoldable pub hand_at : Orders → ℕ → ℕ → Option (ℕ × ℕ)
 hand_at o i p = if nat_lt p (length (outputs_of o i)) then Some (i, p) else None
 
+-- the input that was tried first, after one more was tried
+abbrev pub first_tried : Option ℕ → ℕ → Option ℕ
+first_tried None i = Some i
+first_tried (Some k) i = Some k
+
 -- the view after a claim that found input i unclaimed: it is claimed, and in the hand at its first place
 abbrev pub claim_taken : View → ℕ → View
-claim_taken v i = record { claims = bit_or v.claims (2 ^ i); hand = hand_at v.offers i 0; made = v.made; seen = v.seen; told = v.told; offers = v.offers }
+claim_taken v i = record {
+  claims = bit_or v.claims (2 ^ i);
+  hand = hand_at v.offers i 0;
+  made = v.made;
+  seen = v.seen;
+  began = first_tried v.began i;
+  told = v.told;
+  offers = v.offers;
+}
 
 -- the view after a claim that found input i claimed
 abbrev pub claim_refused : View → ℕ → View
-claim_refused v i = record { claims = v.claims; hand = v.hand; made = v.made; seen = bit_or v.seen (2 ^ i); told = v.told; offers = v.offers }
+claim_refused v i = record {
+  claims = v.claims;
+  hand = v.hand;
+  made = v.made;
+  seen = bit_or v.seen (2 ^ i);
+  began = first_tried v.began i;
+  told = v.told;
+  offers = v.offers;
+}
 
 -- ## A proposal
 
@@ -71,7 +92,15 @@ hand_after o i p Rejected = hand_at o i (p + 1)
 
 -- the view after input i proposed at place p, with this outcome
 abbrev pub proposing : View → ℕ → ℕ → Outcome → View
-proposing v i p answer = record { claims = v.claims; hand = hand_after v.offers i p answer; made = v.made + 1; seen = v.seen; told = Some answer; offers = v.offers }
+proposing v i p answer = record {
+  claims = v.claims;
+  hand = hand_after v.offers i p answer;
+  made = v.made + 1;
+  seen = v.seen;
+  began = v.began;
+  told = Some (i, answer);
+  offers = v.offers;
+}
 
 -- the same by what the word was
 abbrev pub proposed : View → ℕ → ℕ → ℕ → View
@@ -81,7 +110,15 @@ proposed v i p found = proposing v i p (answer_of v.offers i p found)
 
 -- two views as one, where both hands are empty
 abbrev pub joined : View → View → View
-joined v w = record { claims = bit_or v.claims w.claims; hand = None; made = v.made + w.made; seen = bit_or v.seen w.seen; told = v.told; offers = v.offers }
+joined v w = record {
+  claims = bit_or v.claims w.claims;
+  hand = None;
+  made = v.made + w.made;
+  seen = bit_or v.seen w.seen;
+  began = v.began;
+  told = v.told;
+  offers = v.offers;
+}
 
 -- the view that is left of a seat that was joined away
 abbrev pub spent : View

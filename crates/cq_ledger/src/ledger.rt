@@ -1,5 +1,5 @@
 //! The shared words, and the calls on them.
-ghost use Rattle.std.specs.Prelude.{◌≡◌, ℕ, ◌+◌, ◌<◌, Some, None, IsSome, IsTrue, IsFalse, IfOk};
+ghost use Rattle.std.specs.Prelude.{◌≡◌, ℕ, ◌+◌, ◌<◌, Some, None, IsSome, IsTrue, IsFalse, IfOk, option_map};
 ghost use Rattle.cq_prefs.specs.Orders.{ports};
 ghost use Rattle.cq_prefs.specs.Pairing.{IsInputBest, proposals};
 ghost use Rattle.cq_ledger.specs.Plays.{IsFew};
@@ -90,7 +90,8 @@ impl Ledger {
     /// comes exactly where it was the greater position of another input: the hand has that one, at the place
     /// after this output. Rejected comes exactly where it was a lesser position: the input goes on to its next
     /// place. A hand whose input has no output left is empty. The seat made one proposal more, and never more
-    /// than the number of ports squared. Its view keeps the answer, also where the hand ends empty.
+    /// than the number of ports squared. Its view keeps the input that proposed and the answer, also where the hand
+    /// ends empty.
     pub fn propose(&self, seat: &mut LedgerSeat) -> Outcome
         requires seat { IsSeatOf self.now seat.old }
         requires hand { IsSome seat.old.view.hand }
@@ -98,7 +99,7 @@ impl Ledger {
         ensures proposed { (i p : ℕ) → seat.old.view.hand ≡ Some (i, p) → IsProposed seat.old.view i p result seat.new.view }
         ensures made { seat.new.view.made ≡ seat.old.view.made + 1 }
         ensures few { IsFew seat.new.view }
-        ensures told { seat.new.view.told ≡ Some result }
+        ensures told { seat.new.view.told ≡ option_map (λ h. (h.0, result)) seat.old.view.hand }
     {
         let (input, place) = match seat.hand {
             Some(hand) => hand,

@@ -16,8 +16,10 @@ pub struct View {
     pub ghost made: { ℕ },
     /// A bit for each input that the seat has found claimed.
     pub ghost seen: { ℕ },
-    /// What the last proposal by this seat came to, or None before the first. A join leaves it.
-    pub ghost told: { Option Outcome },
+    /// The input that the seat tried to claim first, or None before that. A join leaves it.
+    pub ghost began: { Option ℕ },
+    /// The input that proposed last by this seat, and what came of it, or None before the first. A join leaves it.
+    pub ghost told: { Option (ℕ × Outcome) },
     /// The offers of the ledger.
     pub ghost offers: { Orders },
 }

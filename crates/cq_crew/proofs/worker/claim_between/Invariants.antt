@@ -1,6 +1,7 @@
+use Rattle.std.proofs.Common.{◌≡◌, Some}
 use Rattle.cq_crew.specs.Work.{HaveTried, IsIdleAfter}
 use Rattle.cq_crew.proofs.worker.claim_between.Given as goal
 
--- the inputs before this one were tried
+-- the inputs before this one were tried, by a worker that has begun
 abbrev pub invariant-inputs : goal.invariant-inputs
-invariant-inputs g l = IsIdleAfter l.ledger l.initial.seat.view l.seat × HaveTried l.seat.view l.from l.input
+invariant-inputs g l = IsIdleAfter l.ledger l.initial.seat.view l.seat × (HaveTried l.seat.view l.from l.input × (l.seat.view.began ≡ Some l.worker))
