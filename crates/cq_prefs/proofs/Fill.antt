@@ -1,17 +1,15 @@
 -- Offers made from the lists of a switch are the orders of their cells. The orders of the inputs are those read from
 -- the lists. The order of each output is that of the keys that were read, and these are the keys of the first cells.
-use Rattle.std.proofs.Common.{◌≡◌, ℕ, zero, suc, ◌+◌, ◌-◌, ◌<◌, ◌≤◌, ◌⊎◌, inl, inr, List, [], ◌∷◌, ◌++◌, length, take, map, get_or, set, replicate, Option, Some, None, refl, sym, ap, ◌∙◌, subst, ⊎_elim, arith}
+use Rattle.std.proofs.Common.{◌≡◌, ℕ, zero, suc, ◌+◌, ◌<◌, ◌≤◌, ◌⊎◌, inl, inr, List, [], ◌∷◌, length, map, get_or, set, Some, None, refl, sym, ap, ◌∙◌, subst, ⊎_elim, arith}
 use Rattle.std.specs.Prelude.{All}
 use Rattle.std.specs.List.{range_with_len}
 use Rattle.std.proofs.lemmas.Bool.{cases_lt, cases_eq}
 use Rattle.std.proofs.lemmas.List.{length-map, length-set, get_or_past, get_or-set_same, get_or-set_other, ext_get_or}
 use Rattle.std.proofs.lemmas.List.FromFn.{get_or-map-range_with_len, length-map-range_with_len}
-use Rattle.std.proofs.Math.Seq.{take-nil}
-use Rattle.cq_base.specs.declared.key.Key.{Key}
 use Rattle.cq_base.specs.Cells.{first_for}
 use Rattle.cq_list.specs.InputList.{Waiting, AreWaiting, cells_of}
 use Rattle.cq_prefs.specs.Orders.{Orders, ports, AreOffers}
-use Rattle.cq_prefs.specs.FirstCells.{list_of, output_order, first_key, places_by_key, input_order, orders_of}
+use Rattle.cq_prefs.specs.FirstCells.{list_of, output_order, input_order, orders_of}
 use Rattle.cq_prefs.proofs.OutputOrder.{has_output}
 use Rattle.cq_prefs.proofs.InputOrder.{OutputsInRange, are_offers}
 use Rattle.cq_prefs.proofs.Placed.{outputs_below}
@@ -20,23 +18,9 @@ mapped_twice : {X Y Z : Type 0} (f : Y → Z) (g : X → Y) (xs : List X) → ma
 mapped_twice f g [] = refl
 mapped_twice f g (x ∷ xs) = ap (λ l. f (g x) ∷ l) (mapped_twice f g xs)
 
-mapped_replicate : {X Y : Type 0} (f : X → Y) (n : ℕ) (x : X) → map f (replicate n x) ≡ replicate n (f x)
-mapped_replicate f zero x = refl
-mapped_replicate f (suc n) x = ap (λ l. f x ∷ l) (mapped_replicate f n x)
-
--- what a list that was empty shows once it is filled up with something that shows y
-pub filled_up : {X Y : Type 0} (f : X → Y) (n len : ℕ) (old items : List X) (x : X) (y : Y) → items ≡ take n old ++ replicate (n - len) x → old ≡ [] → len ≡ 0 → f x ≡ y → map f items ≡ replicate n y
-filled_up {X} f n len old items x y e none no_len same =
-    ap (map f) e
-    ∙ ap (λ (l : List X). map f (take n l ++ replicate (n - len) x)) none
-    ∙ ap (λ (l : List X). map f (l ++ replicate (n - len) x)) (take-nil n)
-    ∙ ap (λ k. map f (replicate k x)) (let s : n - len ≡ n = omega arith in s)
-    ∙ mapped_replicate f n x
-    ∙ ap (replicate n) same
-
 -- ## The lists
 
-cells_at : (lists : List Waiting) (i : ℕ) (d : Waiting) → i < length lists → list_of (cells_of lists) i ≡ (get_or lists i d).cells
+pub cells_at : (lists : List Waiting) (i : ℕ) (d : Waiting) → i < length lists → list_of (cells_of lists) i ≡ (get_or lists i d).cells
 cells_at [] i d l = absurd (omega arith)
 cells_at (w ∷ lists) zero d l = refl
 cells_at (w ∷ lists) (suc i) d l = cells_at lists i d (omega arith)
@@ -57,10 +41,6 @@ in_range_of lists n waiting same size i j c found = go (cases_lt i (length lists
         omega (arith, length-map lists (λ (w : Waiting). w.cells))
 
 -- ## The orders
-
--- the order of an output, from the keys that were read
-pub order_from_keys : (lists : List Waiting) (j : ℕ) (keys : List (Option Key)) (row : List ℕ) → keys ≡ map (λ w. first_key j w.cells) lists → row ≡ places_by_key keys → row ≡ input_order (cells_of lists) j
-order_from_keys lists j keys row e f = f ∙ ap places_by_key (e ∙ mapped_twice (first_key j) (λ (w : Waiting). w.cells) lists)
 
 -- the orders of the outputs before output n are made
 pub record Made (lists : List Waiting) (n : ℕ) (rows : List (List ℕ)) : Type 0 where

@@ -4,9 +4,14 @@ pub mod Members
 pub mod OutputOrder
 pub mod Sorted
 pub mod InputOrder
+pub mod OneOrder
 pub mod ByKey
+pub mod PutBack
+pub mod OneRow
 pub mod Placed
 pub mod Fill
+pub mod Renewing
+pub mod Changes
 pub mod Pairs
 pub mod Best
 pub mod Steps

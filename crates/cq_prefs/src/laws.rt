@@ -14,3 +14,8 @@ pub fn one_is_input_best()
 pub fn orders_are_by_first_cells()
     ensures { (lists : List (List Queued)) → FirstKeysDiffer lists → AreOrdersOf lists (orders_of lists) }
 {}
+
+/// There is only one way to order by first cells: what the offers of lists mean determines them.
+pub fn one_order_is_by_first_cells()
+    ensures { (lists : List (List Queued)) (o p : Orders) → AreOrdersOf lists o → AreOrdersOf lists p → o ≡ p }
+{}

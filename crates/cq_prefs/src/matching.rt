@@ -1,6 +1,6 @@
 //! Matchings of inputs with outputs.
 //!
-//! A matching is made and read in every half slot, so it takes no memory: it is plain data with a place for
+//! A matching is made and read in every phase, so it takes no memory: it is plain data with a place for
 //! each of the 64 ports that a switch may have.
 ghost use Rattle.std.specs.Prelude.{◌≡◌, ◌<◌, ◌≤◌, length, replicate, None};
 ghost use Rattle.cq_prefs.specs.Pairing.{ArePairs, partner_of, with_pair, without_pair, IsFreeInput, IsFreeOutput};
@@ -48,6 +48,7 @@ impl Matching {
     pub fn ports(&self) -> u16
         ensures value { result ≡ length self.now }
         ensures few { length self.now ≤ 64 }
+        ensures pairs { ArePairs self.now }
     {
         self.ports
     }

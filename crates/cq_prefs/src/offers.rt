@@ -1,12 +1,15 @@
 //! Who offers a cell to whom, and whom each port prefers.
-ghost use Rattle.std.specs.Prelude.{◌≡◌, ◌<◌, ◌≤◌, ◌↔◌, [], All, IsSome, IfSome, IfOk, length, map, replicate};
+ghost use Rattle.std.specs.Prelude.{◌≡◌, ◌<◌, ◌≤◌, ◌↔◌, [], All, IsSome, IfSome, IfOk, length, replicate};
 ghost use Rattle.cq_list.specs.InputList.{cells_of};
 ghost use Rattle.cq_prefs.specs.FirstCells.{AreOrdersOf, FirstKeysDiffer, orders_of};
+ghost use Rattle.cq_prefs.specs.Renewal.{AreSameWithout};
 ghost use Rattle.cq_prefs.specs.Orders.{AreOffers, IsOffered, no_offers, ports, outputs_of, inputs_of, place_of, position_of};
 
+use crate::Matching;
 use crate::by_key::inputs_by_key;
-use crate::input_offers::{InputOffers, offers_of};
+use crate::by_place::order_outputs;
 use crate::preference::Preference;
+use crate::renewal::{renew_inputs, renew_outputs};
 use cq_base::{NoMemory, Port};
 use cq_list::InputList;
 use std::alloc::Global;
@@ -16,7 +19,7 @@ use std::marker::Model;
 /// first.
 #[derive(Drop)]
 pub struct Offers {
-    by_input: Vec<InputOffers>,
+    by_input: Vec<Preference>,
     by_output: Vec<Preference>,
 }
 
@@ -26,29 +29,20 @@ impl Model for Offers {
 
     ghost Value = { Orders };
 
-    ghost view = { λ a. record { outputs = map (λ o. o.outputs) a.by_input.items; inputs = a.by_output.items } };
+    ghost view = { λ a. record { outputs = a.by_input.items; inputs = a.by_output.items } };
 
     ghost invariant = { λ a.
-        let o : Orders = record { outputs = map (λ o. o.outputs) a.by_input.items; inputs = a.by_output.items } in
+        let o : Orders = record { outputs = a.by_input.items; inputs = a.by_output.items } in
         AreOffers o × (ports o ≤ 64) };
 }
 
-// So many inputs that offer nothing.
-fn no_inputs(alloc: Global, ports: u16) -> Result<Vec<InputOffers>, NoMemory>
-    ensures { IfOk result (λ inputs. map (λ o. o.outputs) inputs.items ≡ replicate ports []) }
+// So many ports that prefer nobody.
+fn no_orders(alloc: Global, ports: u16) -> Result<Vec<Preference>, NoMemory>
+    ensures { IfOk result (λ orders. orders.items ≡ replicate ports []) }
 {
-    let mut inputs = Vec::new(alloc);
-    inputs.resize(ports as usize, InputOffers::none())?;
-    Ok(inputs)
-}
-
-// So many outputs that are offered nothing.
-fn no_outputs(alloc: Global, ports: u16) -> Result<Vec<Preference>, NoMemory>
-    ensures { IfOk result (λ outputs. outputs.items ≡ replicate ports []) }
-{
-    let mut outputs = Vec::new(alloc);
-    outputs.resize(ports as usize, Preference::none())?;
-    Ok(outputs)
+    let mut orders = Vec::new(alloc);
+    orders.resize(ports as usize, Preference::none())?;
+    Ok(orders)
 }
 
 impl Offers {
@@ -58,8 +52,8 @@ impl Offers {
         ensures { IfOk result (λ offers. offers ≡ no_offers ports) }
     {
         Ok(Offers {
-            by_input: no_inputs(alloc, ports)?,
-            by_output: no_outputs(alloc, ports)?,
+            by_input: no_orders(alloc, ports)?,
+            by_output: no_orders(alloc, ports)?,
         })
     }
 
@@ -77,16 +71,39 @@ impl Offers {
     /// Input i and output j are offered to each other where list i has a cell for j. An input prefers the outputs
     /// in the order of its first cells for them, an output prefers the inputs by the keys of these cells.
     ///
-    /// Each list is read once. It takes no memory.
+    /// It takes no memory.
     pub fn fill(&mut self, lists: &[InputList])
         requires lists { length lists.now ≡ ports self.old }
         requires outputs { All (λ list. list.outputs ≡ ports self.old) lists.now }
         ensures orders { self.new ≡ orders_of (cells_of lists.now) }
         ensures first_cells { FirstKeysDiffer (cells_of lists.now) → AreOrdersOf (cells_of lists.now) self.new }
     {
-        offers_of(&mut self.by_input, lists);
+        order_outputs(&mut self.by_input, lists);
         for output in 0..lists.len() {
-            self.by_output[output] = inputs_by_key(&self.by_input, output as Port);
+            self.by_output[output] = inputs_by_key(lists, output as Port);
+        }
+    }
+
+    /// The offers of lists in which only the cells of the inputs for their partners have changed: with these pairs
+    /// taken out of all orders, the offers are those of the lists.
+    ///
+    /// Each input that has a partner moves in the order of this partner, and the partner in that of the input. All other
+    /// orders are left as they are. It takes no memory.
+    pub fn renew(&mut self, lists: &[InputList], changed: &Matching)
+        requires lists { length lists.now ≡ ports self.old }
+        requires outputs { All (λ list. list.outputs ≡ ports self.old) lists.now }
+        requires keys { FirstKeysDiffer (cells_of lists.now) }
+        requires ports { length changed.now ≡ ports self.old }
+        requires others { AreSameWithout changed.now self.old (orders_of (cells_of lists.now)) }
+        ensures orders { self.new ≡ orders_of (cells_of lists.now) }
+        ensures first_cells { AreOrdersOf (cells_of lists.now) self.new }
+    {
+        'inputs: for input in 0..changed.ports() {
+            if let Some(output) = changed.partner_of(input) {
+                let at = input as usize;
+                renew_outputs(&mut self.by_input[at], &lists[at], output);
+                renew_inputs(&mut self.by_output[output as usize], lists, output, input);
+            }
         }
     }
 
@@ -104,7 +121,7 @@ impl Offers {
         requires { input < ports self.now }
         ensures { result.now ≡ outputs_of self.now input }
     {
-        self.by_input[input as usize].outputs.as_slice()
+        self.by_input[input as usize].as_slice()
     }
 
     /// The inputs that have a cell for an output, the most wanted first.
@@ -120,7 +137,7 @@ impl Offers {
         ensures offered { IsSome result ↔ IsOffered self.now input output }
         ensures place { IfSome result (λ place. place ≡ place_of self.now input output) }
     {
-        self.by_input.get(input as usize)?.outputs.place_of(output)
+        self.by_input.get(input as usize)?.place_of(output)
     }
 
     /// The place of an input in the order of an output, or None where they are not offered to each other.

@@ -1,4 +1,4 @@
-//! What proposals come to: one of them, and all those of a half slot.
+//! What proposals come to: one of them, and all those of a phase.
 //!
 //! Both stand here, and not with one way of making proposals, so that each way answers in the same words.
 
@@ -16,7 +16,7 @@ pub enum Outcome {
     Rejected,
 }
 
-/// One half slot's matching, and how many proposals were made for it.
+/// One phase's matching, and how many proposals were made for it.
 #[derive(Clone, Copy)]
 pub struct Phase {
     /// Who sends to whom.

@@ -1,15 +1,14 @@
-use Rattle.std.proofs.Common.{◌≡◌, ℕ, ◌<◌, ◌≤◌, length, map}
+use Rattle.std.proofs.Common.{◌≡◌, ◌≤◌, length, map}
 use Rattle.std.specs.Prelude.{All}
 use Rattle.cq_list.specs.InputList.{AreWaiting}
-use Rattle.cq_prefs.specs.FirstCells.{key_at, first_key, output_order}
+use Rattle.cq_prefs.specs.FirstCells.{output_order}
 use Rattle.cq_prefs.proofs.Fill.{Made}
 use Rattle.cq_prefs.proofs.offers.Offers.fill.Given as goal
 
 -- all lists are read, and the orders of the outputs before this one are made
 abbrev pub invariant-loop-output : goal.invariant-loop-output
 invariant-loop-output l = record {
-  outputs : map (λ o. o.outputs) l.self-inside.by_input.items ≡ map (λ w. output_order w.cells) l.lists;
-  keys : (j : ℕ) → j < 64 → map (λ o. key_at o.first_keys j) l.self-inside.by_input.items ≡ map (λ w. first_key j w.cells) l.lists;
+  outputs : l.self-inside.by_input.items ≡ map (λ w. output_order w.cells) l.lists;
   waiting : All (λ w. AreWaiting w.outputs w.cells) l.lists;
   few : length l.lists ≤ 64;
   made : Made l.lists l.output l.self-inside.by_output.items;

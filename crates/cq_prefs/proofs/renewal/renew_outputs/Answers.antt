@@ -1,0 +1,28 @@
+use Rattle.std.proofs.Common.{◌∙◌, sym, ap}
+use Rattle.std.specs.List.{position_or_len}
+use Rattle.cq_base.proofs.Lists.{taken_none}
+use Rattle.cq_prefs.proofs.OneRow.{output_gone, output_room, output_back}
+use Rattle.cq_prefs.proofs.Placed.{found_place}
+use Rattle.cq_prefs.proofs.renewal.renew_outputs.Goals as goal
+
+pub insert-requires-clause-room : goal.insert-requires-clause-room
+insert-requires-clause-room c =
+    let found = found_place c.args.output c.args.list.now.cells c.in-Some.place
+    (sym c.place_for.ensures ∙ c.in-Some.is) in
+    output_room c.args.list.now.cells c.args.output c.leave.new.self (c.leave.ensures ∙ c.requires.others) found.1
+    c.requires.few
+
+pub returns-in-Some : goal.returns-in-Some
+returns-in-Some c =
+    let found = found_place c.args.output c.args.list.now.cells c.in-Some.place
+    (sym c.place_for.ensures ∙ c.in-Some.is) in
+    c.insert.ensures
+    ∙ output_back c.args.list.now.cells c.args.output c.leave.new.self (c.leave.ensures ∙ c.requires.others)
+    c.in-Some.place c.place_by_place-at.result found.1 found.0
+    (c.place_by_place-at.ensures.place ∙ ap (position_or_len _) c.as_slice.ensures.ports)
+
+pub returns-in_default : goal.returns-in_default
+returns-in_default c =
+    let nobody = taken_none c.args.output c.args.list.now.cells (sym c.place_for.ensures ∙ c.in_default.is) in
+    output_gone c.args.list.now.cells c.args.output c.leave.new.self (c.leave.ensures ∙ c.requires.others)
+    (sym nobody.0)
