@@ -1,0 +1,58 @@
+//! Configurations.
+use cq_base::NoMemory;
+use std::alloc::Global;
+
+/// Keys of a configuration beside its files and its addresses: among the first keys, at port 0, and at
+/// the end.
+#[derive(Clone, Copy)]
+pub struct Keys {
+    /// Among the first keys.
+    pub first: &'static str,
+    /// At port 0.
+    pub port: &'static str,
+    /// At the end.
+    pub last: &'static str,
+}
+
+/// No keys: everything has its default.
+pub const DEFAULTS: Keys = Keys {
+    first: "",
+    port: "",
+    last: "",
+};
+
+/// A fair output, where a cell costs 2^128 - 1.
+pub const DEAREST: Keys = Keys {
+    first: "",
+    port: "discipline = \"fair\"\n",
+    last: "[[class]]\ncost = \"340282366920938463463374607431768211455\"\n",
+};
+
+/// The configuration of a switch with so many workers, whose input i reads `in<i>.pcap` and whose output
+/// i, with the address that ends in i, writes `out<i>.pcap`.
+pub fn configuration(
+    alloc: Global,
+    ports: usize,
+    workers: u8,
+    keys: Keys,
+) -> Result<String, NoMemory> {
+    let mut text = format!(in alloc;
+        "version = 1\ntrace = \"trace.txt\"\nlog = \"log.txt\"\nworkers = {workers}\n{}",
+        keys.first
+    )?;
+    for i in 0..ports {
+        let own = if i == 0 { keys.port } else { "" };
+        let port = format!(in alloc;
+            "[[port]]\nread = \"in{i}.pcap\"\nwrite = \"out{i}.pcap\"\n{own}"
+        )?;
+        text.push_str(&port)?;
+    }
+    for i in 0..ports {
+        let address = format!(in alloc;
+            "[[address]]\nmac = \"02:00:00:00:00:0{i}\"\noutput = {i}\n"
+        )?;
+        text.push_str(&address)?;
+    }
+    text.push_str(keys.last)?;
+    Ok(text)
+}

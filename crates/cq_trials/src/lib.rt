@@ -1,0 +1,25 @@
+//! Trials of the top call over files in memory.
+//!
+//! The crate exists for the tests of the whole program, its own and those of the program's crate. It makes
+//! what a trial begins with, captures and configurations, keeps them on a `Disk`, has the top call answer
+//! words over it, and compares. The program uses nothing of it.
+//!
+//! Whether a trial ends as it should is a `bool` here, and the tests assert it: so a test is short, and its
+//! proof too.
+#![tactic(auto)]
+
+mod capture;
+mod disk;
+mod keys;
+#[cfg(test)]
+mod tests;
+mod trial;
+mod worked;
+
+pub use capture::{
+    FRAME, Frame, MICROSECONDS, NANOSECONDS, Packet, capture_of, capture_with, put_packet,
+};
+pub use disk::Disk;
+pub use keys::{DEAREST, DEFAULTS, Keys, configuration};
+pub use trial::{Ended, answer, refuses, watched, words_of};
+pub use worked::{Run, TWO_FOR_ONE};

@@ -1,0 +1,82 @@
+//! Worked runs: what a switch is told, and all that it writes.
+use crate::{DEFAULTS, Disk, Ended, Frame, Keys, answer, capture_of};
+use cq_base::NoMemory;
+use std::alloc::Global;
+use std::thread::Threads;
+
+/// A run: what it shows, its configuration, the frames of each input and of each output, and the texts.
+#[derive(Clone, Copy)]
+pub struct Run {
+    /// What it shows.
+    pub shows: &'static str,
+    /// What its configuration has beside its files and its addresses.
+    pub keys: Keys,
+    /// The frames of each input.
+    pub inputs: &'static [&'static [Frame]],
+    /// The frames of each output.
+    pub outputs: &'static [&'static [Frame]],
+    /// The lines of `trace.txt`.
+    pub trace: &'static str,
+    /// The lines of `log.txt`.
+    pub log: &'static str,
+    /// What standard output takes.
+    pub report: &'static str,
+}
+
+/// Two inputs with a cell for one output.
+pub const TWO_FOR_ONE: Run = Run {
+    shows: "two inputs with a cell for one output: the lesser goes first",
+    keys: DEFAULTS,
+    inputs: &[&[(0, 0, 0, 60)], &[(0, 0, 0, 60)]],
+    outputs: &[&[(0, 0, 0, 60), (0, 512, 0, 60)], &[]],
+    trace: "0 0 0 0 0\n1 0 1 0 0\n",
+    log: "0 1 0 0 0 0\n0 2 1 0 0 0\n",
+    report: "slots 2\nproposals 3\nmost 2\n\
+        input 0 cells 1 longest 1 slack 0\n\
+        input 1 cells 1 longest 1 slack 0\n\
+        output 0 cells 2 idle 0 wait 1\n\
+        output 1 cells 0 idle 2 wait -\n",
+};
+
+impl Run {
+    /// What the run begins with, where it has so many workers.
+    pub fn disk(&self, alloc: Global, workers: u8) -> Result<Disk, NoMemory> {
+        Disk::of_switch(alloc, self.inputs, workers, self.keys)
+    }
+
+    /// Whether the captures and the trace are those of the run.
+    pub fn is_sent(&self, alloc: Global, disk: &Disk) -> Result<bool, NoMemory> {
+        for (j, frames) in self.outputs.iter().enumerate() {
+            let name = format!(in alloc; "out{j}.pcap")?;
+            let capture = capture_of(alloc, frames)?;
+            if !disk.holds(&name, &capture) {
+                return Ok(false);
+            }
+        }
+        Ok(disk.holds("trace.txt", self.trace.as_bytes()))
+    }
+
+    /// Whether a call that ended so, and left this disk, did all of the run.
+    pub fn is_crossed(&self, alloc: Global, ended: &Ended, disk: &Disk) -> Result<bool, NoMemory> {
+        let is_told = ended.is_done(self.report) && disk.holds("log.txt", self.log.as_bytes());
+        Ok(is_told && self.is_sent(alloc, disk)?)
+    }
+
+    /// Whether the crossbar switch does all of the run, from this disk on.
+    pub fn crosses<R: Threads + Sync>(
+        &self,
+        rt: &R,
+        alloc: Global,
+        disk: &mut Disk,
+    ) -> Result<bool, NoMemory> {
+        let ended = answer(rt, alloc, &["run", "c.toml"], disk)?;
+        self.is_crossed(alloc, &ended, disk)
+    }
+
+    /// Whether the ideal switch sends what the run sends, and touches no log.
+    pub fn is_ideal<R: Threads + Sync>(&self, rt: &R, alloc: Global) -> Result<bool, NoMemory> {
+        let mut disk = self.disk(alloc, 1)?;
+        let ended = answer(rt, alloc, &["ideal", "c.toml"], &mut disk)?;
+        Ok(ended.is_done("") && disk.lacks(&["log.txt"]) && self.is_sent(alloc, &disk)?)
+    }
+}
