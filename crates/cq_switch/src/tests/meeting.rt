@@ -1,13 +1,14 @@
 //! Two workers of one phase meet in a run of the whole program. It shows that both are at work at once.
 
-use super::crossed::{RUNS, assert_done, assert_sent};
-use super::made::{files_of, watched};
-use cq_base::Port;
+use super::crossed::THREE_INPUTS;
+use cq_base::{NoMemory, Port};
 use cq_crew::{Gate, LedgerSeat, Outcome};
+use cq_trials::{Run, TWO_FOR_ONE, watched};
+use std::alloc::Global;
 use std::sync::atomic::AtomicU64;
 use std::sync::atomic::Ordering::SeqCst;
 use std::test::Fail;
-use std::thread::yield_now;
+use std::thread::{Threads, yield_now};
 
 /// How many turns a claim is held for at most.
 const TURNS: u32 = 10_000_000;
@@ -96,19 +97,28 @@ impl Gate for Meeting {
     }
 }
 
+/// Whether the run with so many workers, of which the gate is told, does all.
+fn crosses<R: Threads + Sync, G: Gate>(
+    rt: &R,
+    alloc: Global,
+    run: &Run,
+    workers: u8,
+    gate: &G,
+) -> Result<bool, NoMemory> {
+    let mut disk = run.disk(alloc, workers)?;
+    let ended = watched(rt, alloc, &["run", "c.toml"], &mut disk, (1000, 100), gate)?;
+    run.is_crossed(alloc, &ended, &disk)
+}
+
 #[test]
 fn two_workers_meet(rt: HostRuntime) -> Result<(), Fail> {
-    let [run, _, _] = RUNS;
-    let mut files = files_of(rt.alloc(), run.inputs, 2, run.keys)?;
     let gate = Meeting::new();
-    let words = ["run", "c.toml"];
-    let done = watched(&rt, rt.alloc(), &words, &mut files, (1000, 100), &gate)?;
+    assert!(rt; crosses(&rt, rt.alloc(), &TWO_FOR_ONE, 2, &gate)?);
     assert_eq!(rt; gate.in_vain(), 0);
     assert_eq!(rt; gate.miscounted(), 0);
     // The first phase alone has two workers and two proposals.
     assert_eq!(rt; gate.proposals(), [1, 1]);
-    assert_done(&rt, &done, run.report, run.shows);
-    assert_sent(&rt, rt.alloc(), &files, run)
+    Ok(())
 }
 
 /// Counts the claims that it is told of, and those of workers beyond the first two.
@@ -132,15 +142,12 @@ impl Gate for Counting {
 #[test]
 fn no_more_workers_are_used_than_asked_for(rt: HostRuntime) -> Result<(), Fail> {
     // Three inputs have a cell in the first slot.
-    let [_, run, _] = RUNS;
     for workers in [1, 2] {
-        let mut files = files_of(rt.alloc(), run.inputs, workers, run.keys)?;
         let gate = Counting {
             claims: AtomicU64::new(0),
             beyond_two: AtomicU64::new(0),
         };
-        let words = ["run", "c.toml"];
-        watched(&rt, rt.alloc(), &words, &mut files, (1000, 100), &gate)?;
+        assert!(rt; crosses(&rt, rt.alloc(), &THREE_INPUTS, workers, &gate)?);
         assert_eq!(rt; gate.claims.load(SeqCst) > 0, workers > 1);
         assert_eq!(rt; gate.beyond_two.load(SeqCst), 0);
     }

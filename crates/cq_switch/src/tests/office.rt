@@ -1,11 +1,9 @@
 //! A switch of an office: an uplink and telephones, a priority and a fair output, and marks of two kinds.
 //!
 //! The same switch is shipped in `examples/office`, and told there.
-use super::crossed::assert_done;
-use super::made::{answer, configured, put_packet};
-use super::{MICROSECONDS, NANOSECONDS};
+use cq_base::NoMemory;
+use cq_trials::{Disk, MICROSECONDS, NANOSECONDS, answer, put_packet};
 use std::alloc::Global;
-use std::process::Abort;
 use std::test::Fail;
 use std::thread::Threads;
 
@@ -119,8 +117,25 @@ const PHONES_1: Packet = (
 /// To the servers.
 const PHONES_2: Packet = (60, &[2, 0, 0, 0, 0, 2, 2, 0, 0, 0, 0, 0xaa, 8, 0, 0x45]);
 
-/// A capture with this header, of packets at these subseconds of one second.
-fn capture_of(alloc: Global, header: &[u8], packets: &[(u32, Packet)]) -> Result<Vec<u8>, Fail> {
+/// Packets at these subseconds of one second.
+type Packets = &'static [(u32, Packet)];
+
+const UPLINK: Packets = &[(0, UPLINK_0), (1, UPLINK_1), (3, UPLINK_2)];
+
+const PHONES: Packets = &[(0, PHONES_0), (2, PHONES_1), (3, PHONES_2)];
+
+/// The captures that are written, and their packets.
+const WRITTEN: &[(&str, Packets)] = &[
+    ("uplink-out.pcap", &[(2048, PHONES_1)]),
+    (
+        "phones-out.pcap",
+        &[(1024, UPLINK_1), (1536, UPLINK_0), (3072, PHONES_0)],
+    ),
+    ("servers-out.pcap", &[(2560, UPLINK_2), (3072, PHONES_2)]),
+    ("spare-out.pcap", &[]),
+];
+
+fn capture_of(alloc: Global, header: &[u8], packets: Packets) -> Result<Vec<u8>, NoMemory> {
     let mut capture = header.to_vec(alloc)?;
     for (subseconds, (len, head)) in packets {
         let numbers = [1_700_000_000, *subseconds, *len, *len];
@@ -129,46 +144,35 @@ fn capture_of(alloc: Global, header: &[u8], packets: &[(u32, Packet)]) -> Result
     Ok(capture)
 }
 
-/// That the capture has these packets.
-fn assert_capture(
-    rt: &impl Abort,
-    alloc: Global,
-    bytes: Option<&[u8]>,
-    packets: &[(u32, Packet)],
-) -> Result<(), Fail> {
-    let capture = capture_of(alloc, &NANOSECONDS, packets)?;
-    assert_eq!(rt; bytes, Some(capture.as_slice()));
-    Ok(())
+fn disk_of(alloc: Global, workers: u8) -> Result<Disk, NoMemory> {
+    let text = format!(in alloc; "workers = {workers}\n{CONFIGURATION}")?;
+    let mut disk = Disk::new(alloc);
+    disk.set("c.toml", text.as_bytes())?;
+    disk.set("uplink.pcap", &capture_of(alloc, &MICROSECONDS, UPLINK)?)?;
+    disk.set("phones.pcap", &capture_of(alloc, &MICROSECONDS, PHONES)?)?;
+    Ok(disk)
 }
 
-fn assert_office<R: Abort + Threads + Sync>(
-    rt: &R,
-    alloc: Global,
-    workers: u8,
-) -> Result<(), Fail> {
-    let uplink = [(0, UPLINK_0), (1, UPLINK_1), (3, UPLINK_2)];
-    let phones = [(0, PHONES_0), (2, PHONES_1), (3, PHONES_2)];
-    let text = format!(in alloc; "workers = {workers}\n{CONFIGURATION}")?;
-    let mut files = configured(alloc, &text)?;
-    files.set("uplink.pcap", &capture_of(alloc, &MICROSECONDS, &uplink)?)?;
-    files.set("phones.pcap", &capture_of(alloc, &MICROSECONDS, &phones)?)?;
-    let done = answer(rt, alloc, &["run", "c.toml"], &mut files)?;
-    assert_done(rt, &done, REPORT, "an office");
-    assert_eq!(rt; files.bytes("trace.txt"), Some(TRACE.as_bytes()));
-    assert_eq!(rt; files.bytes("log.txt"), Some(LOG.as_bytes()));
-    let to_uplink = [(2048, PHONES_1)];
-    let to_phones = [(1024, UPLINK_1), (1536, UPLINK_0), (3072, PHONES_0)];
-    let to_servers = [(2560, UPLINK_2), (3072, PHONES_2)];
-    assert_capture(rt, alloc, files.bytes("uplink-out.pcap"), &to_uplink)?;
-    assert_capture(rt, alloc, files.bytes("phones-out.pcap"), &to_phones)?;
-    assert_capture(rt, alloc, files.bytes("servers-out.pcap"), &to_servers)?;
-    assert_capture(rt, alloc, files.bytes("spare-out.pcap"), &[])
+/// Whether the disk has the captures that are written, and the texts.
+fn is_sent(alloc: Global, disk: &Disk) -> Result<bool, NoMemory> {
+    for (name, packets) in WRITTEN {
+        if !disk.holds(name, &capture_of(alloc, &NANOSECONDS, packets)?) {
+            return Ok(false);
+        }
+    }
+    Ok(disk.holds("trace.txt", TRACE.as_bytes()) && disk.holds("log.txt", LOG.as_bytes()))
+}
+
+fn sends<R: Threads + Sync>(rt: &R, alloc: Global, workers: u8) -> Result<bool, NoMemory> {
+    let mut disk = disk_of(alloc, workers)?;
+    let done = answer(rt, alloc, &["run", "c.toml"], &mut disk)?;
+    Ok(done.is_done(REPORT) && is_sent(alloc, &disk)?)
 }
 
 #[test]
 fn an_office_sends_by_urgency_whatever_the_workers(rt: HostRuntime) -> Result<(), Fail> {
     for workers in [1, 2, 64] {
-        assert_office(&rt, rt.alloc(), workers)?;
+        assert!(rt; sends(&rt, rt.alloc(), workers)?, "{workers} workers");
     }
     Ok(())
 }

@@ -2,13 +2,13 @@
 //! program's traces are its traces.
 //!
 //! It shares no line with the crates: it counts slots one by one, looks through all cells in each, and
-//! sorts a list whenever a cell comes. Slots, cells and outputs are those of `made::configuration`.
+//! sorts a list whenever a cell comes. Slots, cells and outputs are those of `cq_trials::configuration`.
 ghost use Rattle.std.specs.Prelude.{◌<◌};
 
 use super::crossed::RUNS;
-use super::made::{DEFAULTS, Frame, answer, files_of};
+use cq_base::NoMemory;
+use cq_trials::{DEFAULTS, Disk, Frame, answer};
 use std::alloc::Global;
-use std::process::Abort;
 use std::test::Fail;
 use std::thread::Threads;
 
@@ -54,7 +54,7 @@ fn origin_of(inputs: &[&[Frame]]) -> u64 {
 
 /// The slots in which the frames of an input start: each in its stamp slot, at 512 ns a slot, or in the
 /// first slot after the cells of the frame before it, whichever is later.
-fn starts_of(alloc: Global, frames: &[Frame], origin: u64) -> Result<Vec<u64>, Fail> {
+fn starts_of(alloc: Global, frames: &[Frame], origin: u64) -> Result<Vec<u64>, NoMemory> {
     let mut starts = Vec::new(alloc);
     let mut free = 0u64;
     for frame in frames {
@@ -71,7 +71,7 @@ fn put_cells(
     packet: usize,
     frame: Frame,
     start: u64,
-) -> Result<(), Fail> {
+) -> Result<(), NoMemory> {
     for number in 0..cells_of(frame) {
         let cell = (start.saturating_add(number), input, packet, number);
         arrivals.push((cell, output_of(frame)))?;
@@ -80,7 +80,7 @@ fn put_cells(
 }
 
 /// All cells of all inputs.
-fn arrivals_of(alloc: Global, inputs: &[&[Frame]]) -> Result<Vec<Arrival>, Fail> {
+fn arrivals_of(alloc: Global, inputs: &[&[Frame]]) -> Result<Vec<Arrival>, NoMemory> {
     let origin = origin_of(inputs);
     let mut arrivals = Vec::new(alloc);
     for (input, frames) in inputs.iter().enumerate() {
@@ -93,7 +93,7 @@ fn arrivals_of(alloc: Global, inputs: &[&[Frame]]) -> Result<Vec<Arrival>, Fail>
 }
 
 /// Puts the cells that arrive in the slot into the lists of their outputs.
-fn arrive(lists: &mut Vec<Vec<Cell>>, arrivals: &[Arrival], slot: u64) -> Result<(), Fail> {
+fn arrive(lists: &mut Vec<Vec<Cell>>, arrivals: &[Arrival], slot: u64) -> Result<(), NoMemory> {
     for (cell, output) in arrivals {
         if cell.0 == slot
             && let Some(list) = lists.get_mut(usize::from(*output))
@@ -111,7 +111,7 @@ fn send(
     slot: u64,
     trace: &mut String,
     alloc: Global,
-) -> Result<(), Fail> {
+) -> Result<(), NoMemory> {
     for (output, list) in lists.iter_mut().enumerate() {
         if !list.is_empty() {
             let (_, input, packet, number) = list.remove(0);
@@ -123,7 +123,7 @@ fn send(
 }
 
 /// The departures of a switch whose inputs have these frames.
-fn trace_of(alloc: Global, inputs: &[&[Frame]]) -> Result<String, Fail> {
+fn trace_of(alloc: Global, inputs: &[&[Frame]]) -> Result<String, NoMemory> {
     let arrivals = arrivals_of(alloc, inputs)?;
     let mut lists = Vec::new(alloc);
     for _ in inputs {
@@ -174,7 +174,7 @@ impl Draws {
     }
 
     /// Three to six frames.
-    fn frames(&mut self, alloc: Global, ports: u32) -> Result<Vec<Frame>, Fail>
+    fn frames(&mut self, alloc: Global, ports: u32) -> Result<Vec<Frame>, NoMemory>
         requires some { 0 < ports }
         requires few { ports < 5 }
     {
@@ -187,7 +187,7 @@ impl Draws {
 }
 
 /// The frames of two to four inputs.
-fn drawn_inputs(alloc: Global, seed: u64) -> Result<Vec<Vec<Frame>>, Fail> {
+fn drawn_inputs(alloc: Global, seed: u64) -> Result<Vec<Vec<Frame>>, NoMemory> {
     let mut draws = Draws { state: seed };
     let ports = 2 + draws.below(3);
     let mut inputs = Vec::new(alloc);
@@ -197,10 +197,23 @@ fn drawn_inputs(alloc: Global, seed: u64) -> Result<Vec<Vec<Frame>>, Fail> {
     Ok(inputs)
 }
 
+/// Whether the program writes the plain switch's trace, by either switch.
+fn agrees<R: Threads + Sync>(rt: &R, alloc: Global, inputs: &[&[Frame]]) -> Result<bool, NoMemory> {
+    let trace = trace_of(alloc, inputs)?;
+    for command in ["ideal", "run"] {
+        let mut disk = Disk::of_switch(alloc, inputs, 1, DEFAULTS)?;
+        let done = answer(rt, alloc, &[command, "c.toml"], &mut disk)?;
+        if done.code != 0 || !disk.holds("trace.txt", trace.as_bytes()) {
+            return Ok(false);
+        }
+    }
+    Ok(true)
+}
+
 /// What the frames show, the frames of the one input, and the slots in which they start.
 type Line = (&'static str, &'static [Frame], &'static [u64]);
 
-const LINES: [Line; 3] = [
+const LINES: &[Line] = &[
     (
         "one, two and two cells at once",
         &[(0, 0, 0, 64), (0, 0, 0, 65), (0, 0, 0, 128)],
@@ -214,30 +227,22 @@ const LINES: [Line; 3] = [
     ("a busy line", &[(0, 0, 0, 200), (0, 512, 0, 60)], &[0, 4]),
 ];
 
-/// That the program writes the plain switch's trace, by either switch.
-fn assert_agreement<R: Abort + Threads + Sync>(
+/// Whether the frames of one input start in these slots, also in the program.
+fn starts_at<R: Threads + Sync>(
     rt: &R,
     alloc: Global,
-    case: &str,
-    inputs: &[&[Frame]],
-) -> Result<(), Fail> {
-    let trace = trace_of(alloc, inputs)?;
-    for command in ["ideal", "run"] {
-        let mut files = files_of(alloc, inputs, 1, DEFAULTS)?;
-        let done = answer(rt, alloc, &[command, "c.toml"], &mut files)?;
-        assert_eq!(rt; done.code, 0, "{case}");
-        assert_eq!(rt; files.bytes("trace.txt"), Some(trace.as_bytes()), "{case}");
-    }
-    Ok(())
+    frames: &[Frame],
+    starts: &[u64],
+) -> Result<bool, NoMemory> {
+    let inputs = [frames];
+    let plain = starts_of(alloc, frames, origin_of(&inputs))?;
+    Ok(plain.as_slice() == starts && agrees(rt, alloc, &inputs)?)
 }
 
 #[test]
 fn one_line_is_as_in_the_plain_switch(rt: HostRuntime) -> Result<(), Fail> {
     for (case, frames, starts) in LINES {
-        let inputs = [frames];
-        let plain = starts_of(rt.alloc(), frames, origin_of(&inputs))?;
-        assert_eq!(rt; plain.as_slice(), starts, "{case}");
-        assert_agreement(&rt, rt.alloc(), case, &inputs)?;
+        assert!(rt; starts_at(&rt, rt.alloc(), frames, starts)?, "{case}");
     }
     Ok(())
 }
@@ -245,22 +250,27 @@ fn one_line_is_as_in_the_plain_switch(rt: HostRuntime) -> Result<(), Fail> {
 #[test]
 fn worked_runs_are_as_in_the_plain_switch(rt: HostRuntime) -> Result<(), Fail> {
     for run in RUNS {
-        assert_agreement(&rt, rt.alloc(), run.shows, run.inputs)?;
+        assert!(rt; agrees(&rt, rt.alloc(), run.inputs)?, "{}", run.shows);
     }
     Ok(())
 }
 
+fn agrees_on_drawn<R: Threads + Sync>(rt: &R, alloc: Global, seed: u64) -> Result<bool, NoMemory> {
+    let drawn = drawn_inputs(alloc, seed)?;
+    let mut inputs = Vec::new(alloc);
+    for frames in &drawn {
+        inputs.push(frames.as_slice())?;
+    }
+    agrees(rt, alloc, &inputs)
+}
+
 #[test]
 fn drawn_traffic_is_as_in_the_plain_switch(rt: HostRuntime) -> Result<(), Fail> {
-    let alloc = rt.alloc();
     for seed in 1..9 {
-        let case = format!(in alloc; "drawn from {seed}")?;
-        let drawn = drawn_inputs(alloc, seed)?;
-        let mut inputs = Vec::new(alloc);
-        for frames in &drawn {
-            inputs.push(frames.as_slice())?;
-        }
-        assert_agreement(&rt, alloc, &case, &inputs)?;
+        assert!(rt;
+            agrees_on_drawn(&rt, rt.alloc(), seed)?,
+            "drawn from {seed}"
+        );
     }
     Ok(())
 }
