@@ -1,8 +1,8 @@
 -- Two texts differ in one line first. What both begin with, up to where they have no byte in common, leaves no choice:
 -- of two such beginnings neither is longer, for there the texts would have a byte in common.
-use Rattle.std.proofs.Common.{◌≡◌, ◌≢◌, ℕ, ◌+◌, List, [], ◌∷◌, ◌++◌, drop, refl, ap, sym, subst, ◌∙◌}
+use Rattle.std.proofs.Common.{◌≡◌, ◌≢◌, ℕ, ◌+◌, List, [], ◌∷◌, ◌++◌, drop, refl, ap, sym, ◌∙◌}
 use Rattle.std.proofs.lemmas.List.{append_cancel_left}
-use Rattle.cq_audit.specs.Trace.{feeds, DiffersFirst, IsTraceExact}
+use Rattle.cq_audit.specs.Trace.{feeds, IsTraceExact}
 
 -- the texts have no byte in common at their front
 abbrev Parted : List ℕ → List ℕ → Type 0

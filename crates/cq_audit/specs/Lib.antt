@@ -1,4 +1,6 @@
 pub mod Log
 pub mod Refusals
-pub mod Audit
+pub mod Pairs
+pub mod Phase
+pub mod StableRun
 pub mod Trace

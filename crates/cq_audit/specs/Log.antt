@@ -1,5 +1,6 @@
 -- The log of a run: its transfers, one line each, in order.
 use Rattle.std.specs.Prelude.{◌≡◌, ℕ, ◌<◌, ◌≤◌, ◌^◌, ◌⊎◌, List, [], ◌∷◌, Option, None, Some, IfSome, ⊤}
+use Rattle.std.specs.List.{AllByRecursion}
 use Rattle.cq_base.specs.declared.cell.Transfer.{Transfer}
 use Rattle.cq_base.specs.Texts.{log_line}
 use Rattle.cq_lines.specs.Texts.{IsText, IsFirstFault, IsExact}
@@ -28,6 +29,11 @@ numbers_behind t = Some t.phase ∷ Some t.input ∷ Some t.output ∷ Some t.id
 abbrev pub IsBefore : Transfer → Transfer → Type 0
 IsBefore t u = (t.slot < u.slot) ⊎ ((t.slot ≡ u.slot) × ((t.phase < u.phase) ⊎ ((t.phase ≡ u.phase) × (t.input <
     u.input))))
+
+-- the transfers cross a switch of so many ports, each behind those before it
+abbrev pub AreInOrder : ℕ → List Transfer → Type 0
+AreInOrder ports [] = Unit {0}
+AreInOrder ports (t ∷ note) = IsOf ports t × AllByRecursion (IsBefore t) note × AreInOrder ports note
 
 -- where a line comes is told by the transfer of the line before it, if there is one: a later transfer may come
 abbrev pub Comes : ℕ → Option Transfer → Transfer → Option Transfer → Type 0

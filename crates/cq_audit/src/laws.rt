@@ -1,6 +1,7 @@
 //! What a log says.
 ghost use Rattle.std.specs.Prelude.{ℕ};
 ghost use Rattle.cq_audit.specs.Log.{IsLogExact};
+ghost use Rattle.cq_audit.specs.Phase.{IsPhaseExact};
 ghost use Rattle.cq_audit.specs.Trace.{IsTraceExact};
 
 /// A log is read in one way, or refused at one line, and never both. It does nothing: its contract is the
@@ -15,4 +16,11 @@ pub fn logs_are_exact()
 #[tactic(auto, using(crate::proofs::OneDifference::trace_is_exact))]
 pub fn traces_are_exact()
     ensures { IsTraceExact }
+{}
+
+/// The lines of a phase are the transfers of one stable matching, or have one fault, and never both. It does
+/// nothing: its contract is the claim.
+#[tactic(auto, using(crate::proofs::PhaseExact::phase_is_exact))]
+pub fn phases_are_exact()
+    ensures { IsPhaseExact }
 {}

@@ -1,13 +1,22 @@
 //! Checks the log and the trace of any maker.
+//!
+//! A log is read line by line, and its lines are held phase by phase against what the lists of the inputs offer.
+//! Nothing here knows how a matching is found.
 #![tactic(auto)]
 
+mod blocking;
 mod laws;
 mod log;
+mod pairs;
+mod phase;
 #[cfg(test)]
 mod tests;
+mod told;
 mod trace;
 mod transfer;
 
-pub use laws::{logs_are_exact, traces_are_exact};
+pub use laws::{logs_are_exact, phases_are_exact, traces_are_exact};
 pub use log::{LogRefusal, read_log};
+pub use pairs::Pairs;
+pub use phase::{PhaseFault, stable_told};
 pub use trace::audit_trace;

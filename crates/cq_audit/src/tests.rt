@@ -1,6 +1,12 @@
 //! A log and a trace that were worked by hand, and what is wrong with others.
-use crate::{LogRefusal, audit_trace, read_log};
-use cq_base::{CellId, Transfer};
+ghost use Rattle.std.specs.Prelude.{◌≡◌, ◌<◌, All, IfOk, length};
+ghost use Rattle.cq_prefs.specs.Orders.{ports};
+ghost use Rattle.cq_audit.specs.Phase.{AreOfPhase};
+
+use crate::{LogRefusal, PhaseFault, audit_trace, read_log, stable_told};
+use cq_base::{Cell, CellId, Key, Port, Queued, Transfer};
+use cq_list::InputList;
+use cq_prefs::Offers;
 use std::alloc::Global;
 use std::test::Fail;
 
@@ -67,4 +73,96 @@ fn a_trace_differs_in_its_first_line_that_is_other(rt: HostRuntime) {
     for (trace, line) in cases {
         assert_eq!(rt; audit_trace(trace, TRACE), line);
     }
+}
+
+// The id of the first cell of an input.
+fn first_of(input: Port) -> CellId {
+    CellId {
+        input,
+        packet: 0,
+        index: 0,
+    }
+}
+
+// The list of an input of two, with one cell, which is for output 0.
+fn one_waits(alloc: Global, input: Port) -> Result<InputList, Fail>
+    ensures { IfOk result (λ list. list.outputs ≡ 2) }
+{
+    let mut list = InputList::new(alloc, 2, 1)?;
+    list.insert(
+        Queued {
+            cell: Cell {
+                id: first_of(input),
+                output: 0,
+                class: 0,
+                last: true,
+                at: 0,
+                len: 64,
+            },
+            key: Key {
+                rank: 0,
+                slot: 0,
+                input,
+            },
+        },
+        0,
+    );
+    Ok(list)
+}
+
+// The line of an input whose first cell crosses to an output.
+fn crossing(input: Port, output: Port) -> Transfer
+    ensures slot { result.slot ≡ 0 }
+    ensures phase { result.phase ≡ 1 }
+    ensures input { result.input ≡ input }
+    ensures output { result.output ≡ output }
+{
+    Transfer {
+        slot: 0,
+        phase: 1,
+        input,
+        output,
+        id: first_of(input),
+    }
+}
+
+// What is wrong with these lines, if anything is.
+fn verdict(lists: &[InputList], offers: &mut Offers, lines: &[Transfer]) -> Option<PhaseFault>
+    requires ports { length lists.now ≡ ports offers.old }
+    requires lists { All (λ list. list.outputs ≡ ports offers.old) lists.now }
+    requires lines { AreOfPhase (length lists.now) 0 1 lines.now }
+    ensures offers { ports offers.new ≡ ports offers.old }
+{
+    match stable_told(lists, offers, 0, 1, lines) {
+        Ok(_) => None,
+        Err(fault) => Some(fault),
+    }
+}
+
+#[test]
+fn a_phase_is_refused_at_its_first_wrong_line_or_first_unsettled_pair(
+    rt: HostRuntime,
+) -> Result<(), Fail> {
+    let lists = [one_waits(rt.alloc(), 0)?, one_waits(rt.alloc(), 1)?];
+    let mut offers = Offers::new(rt.alloc(), 2)?;
+    let first = crossing(0, 0);
+    let second = crossing(1, 0);
+    assert_eq!(rt; verdict(&lists, &mut offers, &[first]), None);
+    assert_eq!(rt;
+        verdict(&lists, &mut offers, &[]),
+        Some(PhaseFault::Blocking(0, 0))
+    );
+    assert_eq!(rt;
+        verdict(&lists, &mut offers, &[second]),
+        Some(PhaseFault::Blocking(0, 0))
+    );
+    assert_eq!(rt;
+        verdict(&lists, &mut offers, &[crossing(0, 1)]),
+        Some(PhaseFault::WrongLine(0))
+    );
+    assert_eq!(rt;
+        verdict(&lists, &mut offers, &[first, second]),
+        Some(PhaseFault::WrongLine(1))
+    );
+    Ok(())
 }

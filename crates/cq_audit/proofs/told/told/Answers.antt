@@ -1,0 +1,78 @@
+use Rattle.std.proofs.Common.{◌≡◌, ◌+◌, ◌<◌, length, List, Some, sym, ◌∙◌, subst, arith}
+use Rattle.std.proofs.lemmas.List.{length-map}
+use Rattle.cq_base.specs.declared.cell.Queued.{Queued}
+use Rattle.cq_list.specs.InputList.{Waiting, cells_of}
+use Rattle.cq_prefs.specs.Pairing.{with_pair}
+use Rattle.cq_audit.specs.Log.{IsOf}
+use Rattle.cq_audit.specs.Phase.{first_id}
+use Rattle.cq_audit.proofs.TellingLines.{ToldUntil, all_right, all_told, cells_at, line_holds, no_line, right_line}
+use Rattle.cq_audit.proofs.told.told.Goals as goal
+use Rattle.cq_audit.proofs.told.told.Goals.{in-Some+then-is_right, in_default}
+
+pub is_right-requires : goal.is_right-requires
+is_right-requires c =
+    let of = line_holds c.inputs.input (IsOf (length c.args.lists.now)) c.args.lines.now c.in-Some.line
+    c.requires.lines (sym c.line_of.ensures ∙ c.in-Some.is) in
+    let output = of.output in
+    let size = c.inputs.invariant.size in
+    let long = length-map c.args.lists.now (λ (w : Waiting). w.cells) in omega arith
+
+pub join-requires-clause-output : goal.join-requires-clause-output
+join-requires-clause-output c =
+    let of = line_holds c.inputs.input (IsOf (length c.args.lists.now)) c.args.lines.now c.in-Some.line
+    c.requires.lines (sym c.line_of.ensures ∙ c.in-Some.is) in
+    let output = of.output in
+    let size = c.inputs.invariant.size in
+    let long = length-map c.args.lists.now (λ (w : Waiting). w.cells) in omega arith
+
+pub inputs-preserved : goal.inputs-preserved
+inputs-preserved c =
+    let lists = c.args.lists.now in
+    let lines = c.args.lines.now in
+    let n = c.inputs.input in
+    let size = c.inputs.invariant.size in
+    let long = length-map lists (λ (w : Waiting). w.cells) in
+    let inside = c.inputs-test.true in
+    let few = c.requires.few in
+    let most = c.inputs.auto.input-end in
+    let here : n < length lists = omega arith in
+    let below : n < length (cells_of lists) = omega arith in
+    elim c.match-line_of.branch [
+      | in-Some+then-is_right w ↦
+          let t = w.in-Some.line in
+          let stands = sym c.line_of.ensures ∙ w.in-Some.is in
+          let of = line_holds n (IsOf (length lists)) lines t c.requires.lines stands in
+          let output = of.output in
+          let list = cells_at lists n w.index-lists-input.result here (sym w.index-lists-input.is) in
+          let names = subst (λ (cells : List Queued). first_id t.output cells ≡ Some t.id) (sym list)
+          (w.is_right.ensures.right w.if-is_right.true) in
+          let free = w.is_right.ensures.free w.if-is_right.true in
+          let joined : with_pair c.inputs.pairs n t.output ≡ c.match-line_of.pairs =
+          let a = w.pairs-is in let b = w.join.ensures in cc in
+          subst (ToldUntil (cells_of lists) lines (n + 1)) joined
+          (right_line (cells_of lists) lines n c.inputs.pairs c.inputs.invariant t stands below (omega arith) names
+          free)
+      | in_default w ↦
+          let stays : c.inputs.pairs ≡ c.match-line_of.pairs = let a = w.pairs-is in cc in
+          subst (ToldUntil (cells_of lists) lines (n + 1)) stays
+          (no_line (cells_of lists) lines n c.inputs.pairs c.inputs.invariant below
+          (sym c.line_of.ensures ∙ w.in_default.is))
+    ]
+
+pub returns-clause-pairs : goal.returns-clause-pairs
+returns-clause-pairs c =
+    let long = length-map c.args.lists.now (λ (w : Waiting). w.cells) in
+    let past = c.inputs-test.false in
+    let most = c.inputs.auto.input-end in
+    let few = c.requires.few in
+    all_told (cells_of c.args.lists.now) c.args.lines.now c.inputs.input c.inputs.pairs c.inputs.invariant
+    (length c.args.lists.now) (sym long) (omega arith)
+
+pub returns-clause-right : goal.returns-clause-right
+returns-clause-right c =
+    let long = length-map c.args.lists.now (λ (w : Waiting). w.cells) in
+    let past = c.inputs-test.false in
+    let most = c.inputs.auto.input-end in
+    let few = c.requires.few in
+    all_right (cells_of c.args.lists.now) c.args.lines.now c.inputs.input c.inputs.pairs c.inputs.invariant
+    (length c.args.lists.now) (sym long) (omega arith) c.requires.lines
