@@ -6,3 +6,5 @@ pub mod Stable
 pub mod TellingLines
 pub mod LinesMoved
 pub mod PhaseExact
+pub mod Phases
+pub mod Rising

@@ -8,6 +8,7 @@ mod blocking;
 mod laws;
 mod log;
 mod pairs;
+mod parted;
 mod phase;
 #[cfg(test)]
 mod tests;
@@ -18,5 +19,6 @@ mod transfer;
 pub use laws::{logs_are_exact, phases_are_exact, traces_are_exact};
 pub use log::{LogRefusal, read_log};
 pub use pairs::Pairs;
+pub use parted::part;
 pub use phase::{PhaseFault, stable_told};
 pub use trace::audit_trace;

@@ -3,7 +3,7 @@ ghost use Rattle.std.specs.Prelude.{◌≡◌, ◌<◌, All, IfOk, length};
 ghost use Rattle.cq_prefs.specs.Orders.{ports};
 ghost use Rattle.cq_audit.specs.Phase.{AreOfPhase};
 
-use crate::{LogRefusal, PhaseFault, audit_trace, read_log, stable_told};
+use crate::{LogRefusal, PhaseFault, audit_trace, part, read_log, stable_told};
 use cq_base::{Cell, CellId, Key, Port, Queued, Transfer};
 use cq_list::InputList;
 use cq_prefs::Offers;
@@ -165,4 +165,13 @@ fn a_phase_is_refused_at_its_first_wrong_line_or_first_unsettled_pair(
         Some(PhaseFault::WrongLine(1))
     );
     Ok(())
+}
+
+#[test]
+fn the_lines_of_a_phase_stand_at_the_front(rt: HostRuntime) {
+    let lines = [crossing(0, 0), crossing(1, 1)];
+    let (first, behind) = part(&lines, 0, 1);
+    assert_eq!(rt; (first.len(), behind.len()), (2, 0));
+    let (second, behind) = part(&lines, 0, 2);
+    assert_eq!(rt; (second.len(), behind.len()), (0, 2));
 }
