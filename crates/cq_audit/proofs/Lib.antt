@@ -8,3 +8,4 @@ pub mod LinesMoved
 pub mod PhaseExact
 pub mod Phases
 pub mod Rising
+pub mod Crossings

@@ -1,3 +1,4 @@
+pub mod Crossing
 pub mod Log
 pub mod Refusals
 pub mod Pairs

@@ -5,6 +5,7 @@
 #![tactic(auto)]
 
 mod blocking;
+mod crossing;
 mod laws;
 mod log;
 mod pairs;
@@ -16,6 +17,7 @@ mod told;
 mod trace;
 mod transfer;
 
+pub use crossing::cross;
 pub use laws::{logs_are_exact, phases_are_exact, traces_are_exact};
 pub use log::{LogRefusal, read_log};
 pub use pairs::Pairs;
