@@ -9,3 +9,4 @@ pub mod PhaseExact
 pub mod Phases
 pub mod Rising
 pub mod Crossings
+pub mod Following

@@ -1,6 +1,13 @@
 //! What a log says.
-ghost use Rattle.std.specs.Prelude.{ℕ, List};
+ghost use Rattle.std.specs.Prelude.{◌≡◌, ℕ, List, Option};
+ghost use Rattle.cq_base.specs.declared.cell.Cell.{Cell};
 ghost use Rattle.cq_base.specs.declared.cell.Transfer.{Transfer};
+ghost use Rattle.cq_ideal.specs.Admission.{Marked};
+ghost use Rattle.cq_rank.specs.Machine.{Machine};
+ghost use Rattle.cq_prefs.specs.Pairing.{IsStable};
+ghost use Rattle.cq_laws.specs.Fabric.{Fabric};
+ghost use Rattle.cq_laws.specs.LimitedFabric.{LimitedFabricRun, LimitedRecord, slots_in};
+ghost use Rattle.cq_laws.specs.Records.{transfers_of_run};
 ghost use Rattle.cq_audit.specs.Log.{AreInOrder, IsLog, IsLogExact};
 ghost use Rattle.cq_audit.specs.Phase.{IsPhaseExact};
 ghost use Rattle.cq_audit.specs.Trace.{IsTraceExact};
@@ -26,4 +33,15 @@ pub fn traces_are_exact()
 #[tactic(auto, using(crate::proofs::PhaseExact::phase_is_exact))]
 pub fn phases_are_exact()
     ensures { IsPhaseExact }
+{}
+
+/// Of the stable runs over the same slots from one state, one has these transfers: in each phase they tell the
+/// matching. So a replay has no choice. It does nothing: its contract is the claim.
+#[tactic(auto, using(crate::proofs::Following::one_stable_run))]
+pub fn transfers_tell_the_run()
+    ensures { (limits : List (Option ℕ)) (ms : List Machine) (slot : ℕ) (traffic : List (List (Option Cell)))
+        (f g h : Marked Fabric) (rs ss : List LimitedRecord) →
+        LimitedFabricRun IsStable limits ms slot traffic f rs g →
+        LimitedFabricRun IsStable limits ms slot traffic f ss h →
+        transfers_of_run (slots_in rs) ≡ transfers_of_run (slots_in ss) → (rs ≡ ss) × (g ≡ h) }
 {}

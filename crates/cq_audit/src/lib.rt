@@ -18,7 +18,7 @@ mod trace;
 mod transfer;
 
 pub use crossing::cross;
-pub use laws::{logs_are_exact, phases_are_exact, traces_are_exact};
+pub use laws::{logs_are_exact, phases_are_exact, traces_are_exact, transfers_tell_the_run};
 pub use log::{LogRefusal, read_log};
 pub use pairs::Pairs;
 pub use parted::part;
