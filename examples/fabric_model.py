@@ -13,7 +13,7 @@ through whole lists in every slot, and takes what it is given as sound: it refus
 import sys
 
 from model import Packet
-from switch_model import Queued, Switch
+from switch_model import Limits, Queued, Switch
 
 
 class Fabric:
@@ -21,7 +21,7 @@ class Fabric:
     a buffer of cells at each output."""
 
     def __init__(self, switch):
-        self.switch, self.ranks = switch, switch.ranks()
+        self.switch, self.ranks, self.limits = switch, switch.ranks(), Limits(switch.limits)
         self.ports = range(len(self.ranks))
         self.lists, self.buffers = [[] for _ in self.ports], [[] for _ in self.ports]
         self.sent, self.crossed, self.proposals = [], [], []
@@ -37,8 +37,14 @@ class Fabric:
         later = [place for place, other in enumerate(line) if other.cell.output == queued.cell.output and queued < other]
         line.insert(min([self.cushion(queued), len(line)] + later), queued)
 
+    def held(self, output):
+        """How many cells for the output are in the switch."""
+        return len(self.buffers[output]) + sum(queued.cell.output == output for line in self.lists for queued in line)
+
     def arrive(self, slot, cells):
         for cell in cells:
+            if not self.limits.admits(cell, self.held(cell.output)):
+                continue
             self.insert(Queued(self.ranks[cell.output].rank(cell.kind), slot, cell.input, cell))
             self.cells[cell.input] += 1
         for i, line in enumerate(self.lists):
@@ -107,6 +113,7 @@ class Fabric:
         for j in self.ports:
             waits = [slot - queued.slot for slot, output, queued in self.sent if output == j]
             lines.append("output %d cells %d idle %d wait %s" % (j, len(waits), slots - len(waits), max(waits, default="-")))
+        lines += ["limit %d refused %d cells %d" % (j, *counts) for j, counts in self.limits.refused.items()]
         return "\n".join(lines) + "\n"
 
     def write(self):

@@ -90,6 +90,28 @@ class Ranks:
             self.now = sent.rank
 
 
+class Limits:
+    """The limits of the outputs. A packet is refused whole where its output holds as many cells or more as its first one
+    arrives: a mark at its input then stays up to its last cell."""
+
+    def __init__(self, limits):
+        self.limits, self.marks = limits, set()
+        self.refused = {output: [0, 0] for output, limit in enumerate(limits) if limit is not None}
+
+    def admits(self, cell, held):
+        """Whether a cell is admitted that arrives where its output holds so many; a refused one is counted."""
+        limit = self.limits[cell.output]
+        if cell.index == 0:
+            self.marks.discard(cell.input)
+            if limit is not None and held >= limit:
+                self.marks.add(cell.input)
+        if cell.input not in self.marks:
+            return True
+        self.refused[cell.output][0] += cell.index == 0
+        self.refused[cell.output][1] += 1
+        return False
+
+
 class Switch:
     def __init__(self, tables, captures):
         self.cell_bytes = tables.get("cell_bytes", 64)
@@ -100,6 +122,7 @@ class Switch:
         self.outputs = {bytes.fromhex(a["mac"].replace(":", "")): a["output"] for a in tables.get("address", [])}
         self.rules = tables.get("rule", [])
         self.disciplines = [port.get("discipline", "first-come") for port in tables["port"]]
+        self.limits = [port.get("limit") for port in tables["port"]]
         self.classes = tables.get("class", [{}])
         self.captures = captures
         self.first_stamp = min((p.stamp for packets in captures for p in packets), default=0)
@@ -139,10 +162,12 @@ class Switch:
 
     def departures(self):
         """Slot, output and cell, in order of slot and then output."""
+        limits = Limits(self.limits)
         arrivals, queues, ranks, slot, sent = self.arrivals(), [[] for _ in self.written], self.ranks(), 0, []
         while arrivals or any(queues):
             for cell in arrivals.pop(slot, []):
-                queues[cell.output].append(Queued(ranks[cell.output].rank(cell.kind), slot, cell.input, cell))
+                if limits.admits(cell, len(queues[cell.output])):
+                    queues[cell.output].append(Queued(ranks[cell.output].rank(cell.kind), slot, cell.input, cell))
             for output, queue in enumerate(queues):
                 queue.sort()
                 first = queue.pop(0) if queue else None
