@@ -1,21 +1,16 @@
--- A walk along the blocks: where a block is passed, what is looked for is looked for behind it.
-use Rattle.std.proofs.Common.{◌≡◌, ℕ, zero, suc, ◌+◌, ◌-◌, ◌<◌, ◌≤◌, eqb, cond, Bool, List, [], ◌∷◌, ◌++◌, length, get_or, take, drop, sym, ap, ◌∙◌, arith, length-append}
-use Rattle.std.specs.Prelude.{◌&&◌, filter}
+-- A walk along the blocks, from the first on or from the last back. The places ahead of the block behind a block are
+-- those ahead of it and its own; so what is counted grows by a block's numbers, or shrinks by them.
+use Rattle.std.proofs.Common.{◌≡◌, ℕ, zero, suc, ◌+◌, ◌-◌, ◌<◌, ◌≤◌, Bool, List, [], ◌∷◌, ◌++◌, length, get_or, take, drop, sym, ap, ◌∙◌, arith, length-append, take-append-drop}
+use Rattle.std.specs.Prelude.{filter}
 use Rattle.std.specs.List.{concat}
-use Rattle.std.proofs.lemmas.Bool.{cond_both}
-use Rattle.std.proofs.lemmas.List.{drop_all, get_or_read, take-append-le, append-nil}
+use Rattle.std.proofs.lemmas.List.{get_or_read, take_more, take-append-le, append-nil}
 use Rattle.std.proofs.lemmas.List.Elements.{filter-append}
+use Rattle.std.proofs.lemmas.List.Folds.{concat-append}
 use Rattle.cq_list.specs.Split.{place_of_nth, is_output, count_of}
-use Rattle.cq_list.specs.Places.{IsSpot}
+use Rattle.cq_list.specs.Places.{IsSpot, IsAhead}
+use Rattle.cq_list.proofs.Counts.{count_le}
 use Rattle.cq_list.proofs.Nth.{nth_inside, nth_in_front, nth_behind}
 use Rattle.cq_list.proofs.Blocks.{rest_more, ahead_more, whole_is}
-
-pub nth_le : {X : Type 0} (p : X → Bool) (k : ℕ) (xs : List X) → place_of_nth p k xs ≤ length xs
-nth_le p k [] = omega arith
-nth_le p k (x ∷ xs) =
-    let rest = nth_le p (cond (p x) (k - 1) k) xs in
-    cond_both (p x && eqb k 0) 0 (1 + place_of_nth p (cond (p x) (k - 1) k) xs) (λ n. n ≤ length (x ∷ xs))
-    (λ _. omega arith) (λ _. omega arith)
 
 pub nth_end : {X : Type 0} (p : X → Bool) (k : ℕ) (xs : List X) → k ≡ length (filter p xs) →
     place_of_nth p k xs ≡ length xs
@@ -24,15 +19,15 @@ nth_end p k xs all =
     let same = ap (place_of_nth p k) (append-nil xs) in
     omega arith
 
-pub none_past : (blocks : List (List ℕ)) (i j : ℕ) → length blocks ≤ i → count_of j (concat (drop i blocks)) ≡ 0
-none_past blocks i j past = ap (λ l. count_of j (concat l)) (drop_all i blocks past)
-
 take_past : (xs ys : List ℕ) (n : ℕ) → length xs ≤ n → take n (xs ++ ys) ≡ xs ++ take (n - length xs) ys
 take_past [] ys n past = let e : n ≡ n - 0 = omega arith in ap (λ m. take m ys) e
 take_past (x ∷ xs) ys zero past = absurd (omega arith)
 take_past (x ∷ xs) ys (suc n) past =
     let e : n - length xs ≡ suc n - length (x ∷ xs) = omega arith in
     ap (λ l. x ∷ l) (take_past xs ys n (omega arith) ∙ ap (λ m. xs ++ take m ys) e)
+
+pub count_all_le : (blocks : List (List ℕ)) (i j : ℕ) → count_of j (concat (take i blocks)) ≤ length (concat blocks)
+count_all_le blocks i j = let le = count_le j (concat (take i blocks)) in let whole = whole_is blocks i in omega arith
 
 module _ (blocks : List (List ℕ)) (i : ℕ) (block : List ℕ) (inside : i < length blocks)
     (is_read : block ≡ get_or blocks i block) where
@@ -45,39 +40,64 @@ module _ (blocks : List (List ℕ)) (i : ℕ) (block : List ℕ) (inside : i < l
   pub ahead_next : length (concat (take i blocks)) + length block ≡ length (concat (take (i + 1) blocks))
   ahead_next = let more = ahead_more blocks i inside in let same = ap length block_is in omega arith
 
+  pub count_next : (j : ℕ) →
+      count_of j (concat (take i blocks)) + count_of j block ≡ count_of j (concat (take (i + 1) blocks))
+  count_next j =
+      let ahead : List ℕ = concat (take i blocks) in
+      let more = ap (count_of j) (ap concat (take_more blocks i [] inside)
+      ∙ concat-append (take i blocks) (get_or blocks i [] ∷ []))
+      ∙ ap length (filter-append (is_output j) ahead (get_or blocks i [] ++ []))
+      ∙ length-append (filter (is_output j) ahead) (filter (is_output j) (get_or blocks i [] ++ [])) in
+      let same = ap (count_of j) (append-nil (get_or blocks i []) ∙ sym block_is) in omega arith
+
+  pub ahead_with : (j places own more count : ℕ) → IsAhead blocks j i places own → more ≡ length block →
+      count ≡ count_of j block → IsAhead blocks j (i + 1) (places + more) (own + count)
+  ahead_with j places own more count ahead long many =
+      let all = ahead.all in let few = ahead.few in
+      record { all = let next = ahead_next in omega arith; few = let next = count_next j in omega arith }
+
+  pub ahead_without : (j places own less count : ℕ) → IsAhead blocks j (i + 1) places own → less ≡ length block →
+      count ≡ count_of j block → IsAhead blocks j i (places - less) (own - count)
+  ahead_without j places own less count ahead long many =
+      let all = ahead.all in let few = ahead.few in
+      record { all = let next = ahead_next in omega arith; few = let next = count_next j in omega arith }
+
   pub rest_next : length (concat (drop i blocks)) ≡ length block + length (concat (drop (i + 1) blocks))
   rest_next = ap length rest_is ∙ length-append block (concat (drop (i + 1) blocks))
 
   pub block_fits : length (concat (take i blocks)) + length block ≤ length (concat blocks)
   block_fits = let whole = whole_is blocks i in let rest = rest_next in omega arith
 
-  pub count_rest : (j : ℕ) → count_of j (concat (drop i blocks))
-      ≡ count_of j block + count_of j (concat (drop (i + 1) blocks))
-  count_rest j =
-      ap (count_of j) rest_is
-      ∙ ap length (filter-append (is_output j) block (concat (drop (i + 1) blocks)))
-      ∙ length-append (filter (is_output j) block) (filter (is_output j) (concat (drop (i + 1) blocks)))
+  -- the place of number k where the block has it
+  module _ (j k places own : ℕ) (ahead : IsAhead blocks j i places own) (late : own ≤ k)
+      (early : k < count_of j (concat (take (i + 1) blocks))) where
+    pub own_inside : k - own < count_of j block
+    own_inside = let next = count_next j in let few = ahead.few in omega arith
 
-  -- the place of number k in the block, as a spot
-  pub nth_spot : (j k first within : ℕ) → first ≡ length (concat (take i blocks)) → k < count_of j block →
-      within ≡ place_of_nth (is_output j) k block → IsSpot blocks (first + within) i within
-  nth_spot j k first within ahead early is =
-      record {
-        inside = inside;
-        short = let there = nth_inside (is_output j) k block early in let same = ap length block_is in omega arith;
-        at = omega arith;
-      }
+    pub nth_place : (within : ℕ) → within ≡ place_of_nth (is_output j) (k - own) block →
+        places + within ≡ place_of_nth (is_output j) k (concat blocks)
+    nth_place within is =
+        let p : ℕ → Bool = is_output j in
+        let whole : concat blocks ≡ concat (take i blocks) ++ concat (drop i blocks) =
+        ap concat (sym (take-append-drop i blocks)) ∙ concat-append (take i blocks) (drop i blocks) in
+        let all = ahead.all in let few = ahead.few in let inside = own_inside in
+        let left : k - count_of j (concat (take i blocks)) ≡ k - own = omega arith in
+        let found = ap (place_of_nth p k) whole
+        ∙ nth_behind p k (concat (take i blocks)) (concat (drop i blocks)) (omega arith) in
+        let rest = ap (λ n. place_of_nth p n (concat (drop i blocks))) left
+        ∙ ap (place_of_nth p (k - own)) rest_is
+        ∙ nth_in_front p (k - own) block (concat (drop (i + 1) blocks)) inside in
+        omega arith
 
-  pub nth_in_block : (j k : ℕ) → k < count_of j block →
-      place_of_nth (is_output j) k (concat (drop i blocks)) ≡ place_of_nth (is_output j) k block
-  nth_in_block j k early = ap (place_of_nth (is_output j) k) rest_is
-      ∙ nth_in_front (is_output j) k block (concat (drop (i + 1) blocks)) early
-
-  pub nth_past_block : (j k : ℕ) → count_of j block ≤ k →
-      place_of_nth (is_output j) k (concat (drop i blocks)) ≡ length block + place_of_nth (is_output j)
-      (k - count_of j block) (concat (drop (i + 1) blocks))
-  nth_past_block j k late = ap (place_of_nth (is_output j) k) rest_is
-      ∙ nth_behind (is_output j) k block (concat (drop (i + 1) blocks)) late
+    pub nth_spot : (within : ℕ) → within ≡ place_of_nth (is_output j) (k - own) block →
+        IsSpot blocks (places + within) i within
+    nth_spot within is =
+        record {
+          inside = inside;
+          short = let there = nth_inside (is_output j) (k - own) block own_inside in
+              let same = ap length block_is in omega arith;
+          at = let all = ahead.all in omega arith;
+        }
 
   pub count_in_block : (j n : ℕ) → n ≤ length block →
       count_of j (take n (concat (drop i blocks))) ≡ count_of j (take n block)
@@ -93,3 +113,23 @@ module _ (blocks : List (List ℕ)) (i : ℕ) (block : List ℕ) (inside : i < l
       ∙ ap (count_of j) (take_past block (concat (drop (i + 1) blocks)) n late)
       ∙ ap length (filter-append (is_output j) block back)
       ∙ length-append (filter (is_output j) block) (filter (is_output j) back)
+
+-- ## From the last block back
+
+module _ (blocks : List (List ℕ)) (passed : ℕ) (block : List ℕ) (len end : ℕ) (left : passed < length blocks)
+    (is_read : block ≡ get_or blocks (length blocks - 1 - passed) block) (long : len ≡ length block)
+    (ends : end ≡ length (concat (take (length blocks - passed) blocks))) where
+  pub starts_back : length (concat (take (length blocks - 1 - passed) blocks)) + len ≡ end
+  starts_back =
+      let i : ℕ = length blocks - 1 - passed in
+      let next : i + 1 ≡ length blocks - passed = omega arith in
+      let ahead = ahead_next blocks i block (omega arith) is_read in
+      let same = ap (λ n. length (concat (take n blocks))) next in omega arith
+
+  pub spot_back : (place : ℕ) → place < end → end - len ≤ place →
+      IsSpot blocks place (length blocks - 1 - passed) (place - (end - len))
+  spot_back place early late =
+      let inside : length blocks - 1 - passed < length blocks = omega arith in
+      let start = starts_back in
+      let size = ap length (block_is blocks (length blocks - 1 - passed) block inside is_read) in
+      record { inside = inside; short = omega arith; at = omega arith }

@@ -20,6 +20,14 @@ use Rattle.cq_list.specs.InputList.{Waiting, StandFor, cells_in}
 use Rattle.cq_list.proofs.Split.{merged_is, with_queued, split_arrived, split_left, both_is_nth, first-is-head, position_or_len-map, length-filter-map, cell_at}
 use Rattle.cq_list.proofs.Waiting.{are_waiting_arrived, are_waiting_left}
 
+-- an output with a cell is one of them
+pub queue_inside : (queues : List (List Queued)) (j : ℕ) (x : Queued) → slice_get (queue_of queues j) 0 ≡ Some x →
+    j < length queues
+queue_inside queues j x head =
+    let some = slice_get_within (queue_of queues j) 0 x head in
+    ⊎_elim (λ l. l) (λ past. absurd (let none = ap length (get_or_past queues j [] past) in omega arith))
+    (cases_lt j (length queues))
+
 -- they stand for no other cells than those that are seen
 pub cells_are : (outputs : ℕ) (places : PlacesView) (pool : PoolView) (xs : List Queued) →
     StandFor outputs places pool xs → cells_in places pool ≡ xs

@@ -1,6 +1,7 @@
 -- The places of a list, in blocks, and what clauses see of them.
 use Rattle.std.specs.Prelude.{◌≡◌, ℕ, ◌+◌, ◌*◌, ◌<◌, ◌≤◌, List, [], ◌∷◌, ◌++◌, length, take, drop, remove, slice_set, slice_index_or}
 use Rattle.std.specs.List.{concat}
+use Rattle.cq_list.specs.Split.{count_of}
 
 -- the output of each place in order, and how many more places there is room for
 pub record PlacesView : Type 0 where
@@ -40,3 +41,8 @@ pub record IsSpot (blocks : List (List ℕ)) (place block within : ℕ) : Type 0
   pub inside : block < length blocks
   pub short : within < length (slice_index_or blocks block [])
   pub at : length (concat (take block blocks)) + within ≡ place
+
+-- how many places stand ahead of a block, and how many of these are output j's
+pub record IsAhead (blocks : List (List ℕ)) (j block places own : ℕ) : Type 0 where
+  pub all : places ≡ length (concat (take block blocks))
+  pub few : own ≡ count_of j (concat (take block blocks))

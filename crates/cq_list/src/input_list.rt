@@ -44,7 +44,7 @@ fn place_behind(places: &Places, output: Port, ahead: usize, all: usize) -> usiz
     if ahead == all {
         return places.len();
     }
-    places.place_of(output, ahead)
+    places.place_of(output, ahead, all)
 }
 
 impl InputList {
@@ -100,7 +100,7 @@ impl InputList {
         match self.pool.first(output) {
             None => None,
             Some(_) => {
-                self.places.remove_first(output);
+                self.places.remove_first(output, self.pool.len_of(output));
                 Some(self.pool.take(output))
             }
         }
@@ -112,7 +112,10 @@ impl InputList {
     {
         match self.pool.first(output) {
             None => None,
-            Some(_) => Some(self.places.place_of(output, 0) as u64),
+            Some(_) => {
+                let all = self.pool.len_of(output);
+                Some(self.places.place_of(output, 0, all) as u64)
+            }
         }
     }
 

@@ -2,7 +2,7 @@
 ghost use Rattle.std.specs.Prelude.{◌≡◌, ℕ, ◌+◌, ◌<◌, ◌≤◌, ◌++◌, ◌^◌, [], Some, IfOk, length, take, drop, insert, remove, slice_get, slice_set, slice_index_or, vec_len, vec_capacity};
 ghost use Rattle.std.specs.List.{AllByRecursion, position_or_len, concat};
 ghost use Rattle.cq_list.specs.Split.{is_output, place_of_nth, count_of};
-ghost use Rattle.cq_list.specs.Places.{IsSpot, AreFilled, HaveMemory, joined, pulled};
+ghost use Rattle.cq_list.specs.Places.{IsSpot, IsAhead, AreFilled, HaveMemory, joined, pulled};
 
 use crate::block::Block;
 use cq_base::{NoMemory, Port};
@@ -13,8 +13,9 @@ use std::marker::Model;
 ///
 /// The places stand in blocks of at most 64, and each block but the last has at least 16, so that memory for a block in
 /// 16 places is enough. A full block is split into two of 32, which 16 places or more have to leave before they are
-/// joined again. A place is found by the blocks' lengths and an output's by their counts: a call reads a number or two
-/// of each block ahead, and searches one block.
+/// joined again. A place is found by the blocks' lengths and an output's by their counts, from the nearer end: a call
+/// reads two numbers of each block that it passes, and searches one block. So what stands near the start or the end is
+/// found at once, and what stands in the middle of 50,000 places behind some 400 blocks.
 #[derive(Drop)]
 pub struct Places {
     blocks: Vec<Block>,
@@ -41,9 +42,16 @@ struct Spot {
     within: usize,
 }
 
-// Where a place stands.
+// How many places stand ahead of a block, and how many of these are an output's.
+#[derive(Clone, Copy)]
+struct Ahead {
+    places: usize,
+    own: usize,
+}
+
+// Where a place stands, from the first block on.
 #[tactic(auto, using(crate::proofs::Blocks::ahead_more, crate::proofs::Blocks::whole_is))]
-fn spot_of(blocks: &[Block], place: usize) -> Spot
+fn spot_from_start(blocks: &[Block], place: usize) -> Spot
     requires { place < length (concat blocks.now) }
     ensures { IsSpot blocks.now place result.block result.within }
 {
@@ -58,23 +66,105 @@ fn spot_of(blocks: &[Block], place: usize) -> Spot
     unreachable!()
 }
 
-// The place of an output that has so many of its places ahead, and where it stands.
-fn find_nth(blocks: &[Block], output: Port, ahead: usize) -> (usize, Spot)
+// Where a place stands, from the last block back.
+fn spot_from_end(blocks: &[Block], place: usize, len: usize) -> Spot
+    requires inside { place < len }
+    requires len { len ≡ length (concat blocks.now) }
+    ensures { IsSpot blocks.now place result.block result.within }
+{
+    let mut end = len;
+    'each: for passed in 0..blocks.len() {
+        let block = blocks.len() - 1 - passed;
+        end -= blocks[block].len();
+        if end <= place {
+            return Spot {
+                block,
+                within: place - end,
+            };
+        }
+    }
+    unreachable!()
+}
+
+// Where a place stands, from the nearer end.
+fn spot_of(blocks: &[Block], place: usize, len: usize) -> Spot
+    requires inside { place < len }
+    requires len { len ≡ length (concat blocks.now) }
+    ensures { IsSpot blocks.now place result.block result.within }
+{
+    if place <= len / 2 {
+        return spot_from_start(blocks, place);
+    }
+    spot_from_end(blocks, place, len)
+}
+
+// What stands ahead of the block behind a block.
+fn with_block(blocks: &[Block], block: usize, output: Port, ahead: Ahead) -> Ahead
+    requires inside { block < length blocks.now }
+    requires ahead { IsAhead blocks.now output block ahead.places ahead.own }
     requires fits { length (concat blocks.now) < 2 ^ 64 }
-    requires there { ahead < count_of output (concat blocks.now) }
-    ensures place { result.0 ≡ place_of_nth (is_output output) ahead (concat blocks.now) }
+    ensures { IsAhead blocks.now output (block + 1) result.places result.own }
+{
+    let places = &blocks[block];
+    Ahead {
+        places: ahead.places + places.len(),
+        own: ahead.own + places.count(output),
+    }
+}
+
+// What stands ahead of a block, by what stands ahead of the block behind it.
+fn without_block(blocks: &[Block], block: usize, output: Port, ahead: Ahead) -> Ahead
+    requires inside { block < length blocks.now }
+    requires ahead { IsAhead blocks.now output (block + 1) ahead.places ahead.own }
+    ensures { IsAhead blocks.now output block result.places result.own }
+{
+    let places = &blocks[block];
+    Ahead {
+        places: ahead.places - places.len(),
+        own: ahead.own - places.count(output),
+    }
+}
+
+// The place of an output that has so many of its places ahead, and where it stands, in the block that has it.
+fn nth_in(
+    blocks: &[Block],
+    block: usize,
+    output: Port,
+    number: usize,
+    ahead: Ahead,
+) -> (usize, Spot)
+    requires inside { block < length blocks.now }
+    requires ahead { IsAhead blocks.now output block ahead.places ahead.own }
+    requires fits { length (concat blocks.now) < 2 ^ 64 }
+    requires late { ahead.own ≤ number }
+    requires early { number < count_of output (concat (take (block + 1) blocks.now)) }
+    ensures place { result.0 ≡ place_of_nth (is_output output) number (concat blocks.now) }
     ensures spot { IsSpot blocks.now result.0 result.1.block result.1.within }
 {
-    let mut left = ahead;
-    let mut first = 0;
-    'each: for (block, places) in blocks.iter().enumerate() {
-        let count = places.count(output);
-        if left < count {
-            let within = places.place_of(output, left);
-            return (first + within, Spot { block, within });
+    let within = blocks[block].place_of(output, number - ahead.own);
+    (ahead.places + within, Spot { block, within })
+}
+
+// The same in all blocks. It is looked for from both ends at once, so it is met from the nearer one.
+fn find_nth(blocks: &[Block], output: Port, number: usize, all: Ahead) -> (usize, Spot)
+    requires all { IsAhead blocks.now output (length blocks.now) all.places all.own }
+    requires there { number < all.own }
+    ensures place { result.0 ≡ place_of_nth (is_output output) number (concat blocks.now) }
+    ensures spot { IsSpot blocks.now result.0 result.1.block result.1.within }
+{
+    let mut front = Ahead { places: 0, own: 0 };
+    let mut back = all;
+    'each: for first in 0..blocks.len() {
+        let next = with_block(blocks, first, output, front);
+        if number < next.own {
+            return nth_in(blocks, first, output, number, front);
         }
-        left -= count;
-        first += places.len();
+        front = next;
+        let last = blocks.len() - 1 - first;
+        back = without_block(blocks, last, output, back);
+        if back.own <= number {
+            return nth_in(blocks, last, output, number, back);
+        }
     }
     unreachable!()
 }
@@ -113,17 +203,18 @@ fn in_halves(spot: Spot) -> Spot
 }
 
 // Where a place stands in a block with room: a full block is split in two.
-fn spot_with_room(blocks: &mut Vec<Block>, place: usize) -> Spot
+fn spot_with_room(blocks: &mut Vec<Block>, place: usize, len: usize) -> Spot
     requires filled { AreFilled blocks.old.items }
     requires memory { HaveMemory (length (concat blocks.old.items)) (vec_capacity blocks.old) }
-    requires inside { place < length (concat blocks.old.items) }
+    requires inside { place < len }
+    requires len { len ≡ length (concat blocks.old.items) }
     ensures places { concat blocks.new.items ≡ concat blocks.old.items }
     ensures filled { AreFilled blocks.new.items }
     ensures spot { IsSpot blocks.new.items place result.block result.within }
     ensures room { length (slice_index_or blocks.new.items result.block []) < 64 }
     ensures capacity { vec_capacity blocks.new ≡ vec_capacity blocks.old }
 {
-    let spot = spot_of(blocks, place);
+    let spot = spot_of(blocks, place, len);
     let block = &mut blocks[spot.block];
     if block.len() < 64 {
         return spot;
@@ -185,16 +276,17 @@ fn append(blocks: &mut Vec<Block>, output: Port)
 }
 
 // A place ahead of another one.
-fn insert_inside(blocks: &mut Vec<Block>, place: usize, output: Port)
+fn insert_inside(blocks: &mut Vec<Block>, place: usize, len: usize, output: Port)
     requires filled { AreFilled blocks.old.items }
     requires memory { HaveMemory (length (concat blocks.old.items)) (vec_capacity blocks.old) }
-    requires inside { place < length (concat blocks.old.items) }
+    requires inside { place < len }
+    requires len { len ≡ length (concat blocks.old.items) }
     requires in_range { output < 64 }
     ensures places { concat blocks.new.items ≡ insert (concat blocks.old.items) place output }
     ensures filled { AreFilled blocks.new.items }
     ensures capacity { vec_capacity blocks.new ≡ vec_capacity blocks.old }
 {
-    let spot = spot_with_room(blocks, place);
+    let spot = spot_with_room(blocks, place, len);
     let block = &mut blocks[spot.block];
     block.insert(spot.within, output);
 }
@@ -294,7 +386,7 @@ impl Places {
         requires { place < length self.now.outputs }
         ensures { slice_get self.now.outputs place ≡ Some result }
     {
-        let spot = spot_of(&self.blocks, place);
+        let spot = spot_of(&self.blocks, place, self.len);
         self.blocks[spot.block].at(spot.within)
     }
 
@@ -306,13 +398,21 @@ impl Places {
         count_in(&self.blocks, output, place)
     }
 
-    /// The place of an output that has so many of its places ahead.
-    pub fn place_of(&self, output: Port, ahead: usize) -> usize
-        requires { ahead < count_of output self.now.outputs }
+    /// The place of an output that has so many of its places ahead, where it has so many in all.
+    pub fn place_of(&self, output: Port, ahead: usize, all: usize) -> usize
+        requires all { all ≡ count_of output self.now.outputs }
+        requires there { ahead < all }
         ensures { result ≡ place_of_nth (is_output output) ahead self.now.outputs }
     {
-        let _len = self.len;
-        let (place, _) = find_nth(&self.blocks, output, ahead);
+        let (place, _) = find_nth(
+            &self.blocks,
+            output,
+            ahead,
+            Ahead {
+                places: self.len,
+                own: all,
+            },
+        );
         place
     }
 
@@ -327,20 +427,28 @@ impl Places {
         if place == self.len {
             append(&mut self.blocks, output);
         } else {
-            insert_inside(&mut self.blocks, place, output);
+            insert_inside(&mut self.blocks, place, self.len, output);
         }
         self.len += 1;
     }
 
-    /// Takes the first place of an output out, which gives its room back.
+    /// Takes the first place of an output out, of so many in all, which gives its room back.
     #[tactic(auto, using(crate::proofs::Nth::nth_is_first))]
-    pub fn remove_first(&mut self, output: Port)
-        requires { 0 < count_of output self.old.outputs }
+    pub fn remove_first(&mut self, output: Port, all: usize)
+        requires all { all ≡ count_of output self.old.outputs }
+        requires some { 0 < all }
         ensures outputs { self.new.outputs ≡ remove self.old.outputs (position_or_len (is_output output) self.old.outputs) }
         ensures spare { self.new.spare ≡ self.old.spare + 1 }
     {
-        let _len = self.len;
-        let (place, spot) = find_nth(&self.blocks, output, 0);
+        let (place, spot) = find_nth(
+            &self.blocks,
+            output,
+            0,
+            Ahead {
+                places: self.len,
+                own: all,
+            },
+        );
         remove_at(&mut self.blocks, place, spot);
         self.len -= 1;
     }

@@ -1,13 +1,12 @@
-use Rattle.std.proofs.Common.{◌≡◌, ◌+◌, ◌<◌, take, drop, length}
-use Rattle.std.specs.List.{concat}
-use Rattle.cq_list.specs.Split.{is_output, place_of_nth, count_of}
+use Rattle.std.proofs.Common.{◌-◌, ◌<◌, ◌≤◌, length}
+use Rattle.cq_list.specs.Places.{IsAhead}
 use Rattle.cq_list.proofs.places.find_nth.Given as goal
 
--- the blocks that are left give the rest of the answer
+-- the place is in a block that neither end has passed
 abbrev pub invariant-each : goal.invariant-each
 invariant-each l = record {
-  rest : place_of_nth (is_output l.output) l.ahead (concat l.blocks)
-      ≡ l.first + place_of_nth (is_output l.output) l.left (concat (drop l.block l.blocks));
-  first : l.first ≡ length (concat (take l.block l.blocks));
-  there : l.left < count_of l.output (concat (drop l.block l.blocks));
+  front : IsAhead l.blocks l.output l.first l.front.places l.front.own;
+  back : IsAhead l.blocks l.output (length l.blocks - l.first) l.back.places l.back.own;
+  late : l.front.own ≤ l.number;
+  early : l.number < l.back.own;
 }

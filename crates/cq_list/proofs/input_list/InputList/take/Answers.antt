@@ -2,7 +2,7 @@ use Rattle.std.proofs.Common.{◌∙◌, ◌≡◌, sym, arith}
 use Rattle.cq_base.specs.Cells.{without_first}
 use Rattle.cq_base.proofs.Lists.{taken_none}
 use Rattle.cq_list.specs.InputList.{StandFor}
-use Rattle.cq_list.proofs.Kept.{seen, kept, cells_are, position-none, some_places, first_is, left}
+use Rattle.cq_list.proofs.Kept.{seen, kept, cells_are, position-none, counted, queue_inside, some_places, first_is, left}
 use Rattle.cq_list.proofs.input_list.InputList.take.Goals as goal
 
 pub returns-in-None-clause-first : goal.returns-in-None-clause-first
@@ -17,10 +17,19 @@ returns-in-None-clause-cells c =
     (taken_none c.args.output c.args.self.now.cells
     (position-none _ _ _ _ had c.args.output (sym c.first.ensures ∙ c.in-None.is))).1
 
-pub remove_first-requires : goal.remove_first-requires
-remove_first-requires c =
+pub len_of-requires : goal.len_of-requires
+len_of-requires c = queue_inside _ c.args.output _ (sym c.first.ensures ∙ c.in-Some.is)
+
+pub remove_first-requires-clause-all : goal.remove_first-requires-clause-all
+remove_first-requires-clause-all c =
     let had = seen _ _ _ _ c.self.invariant c.self.view_is in
-    some_places _ _ _ _ had c.args.output _ (sym c.first.ensures ∙ c.in-Some.is)
+    c.len_of.ensures ∙ counted _ _ _ _ had c.args.output
+
+pub remove_first-requires-clause-some : goal.remove_first-requires-clause-some
+remove_first-requires-clause-some c =
+    let had = seen _ _ _ _ c.self.invariant c.self.view_is in
+    let some = some_places _ _ _ _ had c.args.output _ (sym c.first.ensures ∙ c.in-Some.is) in
+    let all = c.len_of.ensures ∙ counted _ _ _ _ had c.args.output in omega arith
 
 -- what the new places and the new pool stand for
 now : (c : goal.After-take) → StandFor c.self.inside.outputs c.remove_first.new.self c.take.new.self

@@ -1,6 +1,6 @@
 use Rattle.std.proofs.Common.{◌≡◌, ◌+◌, take, length}
 use Rattle.std.specs.List.{concat}
-use Rattle.cq_list.proofs.places.spot_of.Given as goal
+use Rattle.cq_list.proofs.places.spot_from_start.Given as goal
 
 abbrev pub invariant-each : goal.invariant-each
 invariant-each l = length (concat (take l.block l.blocks)) + l.within ≡ l.place

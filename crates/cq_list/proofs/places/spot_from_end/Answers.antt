@@ -1,0 +1,34 @@
+use Rattle.std.proofs.Common.{◌≡◌, ◌+◌, ◌-◌, ◌∙◌, length, take, ap, sym, arith}
+use Rattle.std.specs.List.{concat}
+use Rattle.std.proofs.lemmas.List.{take_all}
+use Rattle.cq_list.proofs.BlockWalk.{starts_back, spot_back}
+use Rattle.cq_list.proofs.places.spot_from_end.Goals as goal
+
+pub each-init : goal.each-init
+each-init c =
+    record {
+      end = c.requires.len
+          ∙ ap (λ l. length (concat l)) (sym (take_all (length c.args.blocks.now - 0) c.args.blocks.now (omega arith)));
+      early = c.requires.inside;
+    }
+
+pub overflow_sub-end : goal.overflow_sub-end
+overflow_sub-end c =
+    let start = starts_back c.args.blocks.now c.each.passed c.index-blocks-block.result _ _ c.each-test.true
+    c.index-blocks-block.is c.len-end.ensures.len c.each.invariant.end in omega arith
+
+pub returns-then-end-place : goal.returns-then-end-place
+returns-then-end-place c =
+    spot_back c.args.blocks.now c.each.passed c.index-blocks-block.result _ _ c.each-test.true
+    c.index-blocks-block.is c.len-end.ensures.len c.each.invariant.end c.args.place c.each.invariant.early
+    c.if-end-place.true
+
+pub each-preserved : goal.each-preserved
+each-preserved c =
+    let start = starts_back c.args.blocks.now c.each.passed c.index-blocks-block.result _ _ c.each-test.true
+    c.index-blocks-block.is c.len-end.ensures.len c.each.invariant.end in
+    let left = c.each-test.true in let late = c.if-end-place.false in
+    let same : length c.args.blocks.now - 1 - c.each.passed ≡ length c.args.blocks.now - (c.each.passed + 1) =
+    omega arith in
+    let end = ap (λ n. length (concat (take n c.args.blocks.now))) same in
+    record { end = omega arith; early = omega arith }

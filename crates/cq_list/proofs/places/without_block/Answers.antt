@@ -1,0 +1,19 @@
+use Rattle.std.proofs.Common.{arith}
+use Rattle.cq_list.proofs.BlockWalk.{ahead_without, ahead_next, count_next}
+use Rattle.cq_list.proofs.places.without_block.Goals as goal
+
+pub overflow_sub-result : goal.overflow_sub-result
+overflow_sub-result c =
+    let next = ahead_next c.args.blocks.now _ c.index-blocks-block.result c.requires.inside c.index-blocks-block.is in
+    let all = c.requires.ahead.all in let len = c.len.ensures.len in omega arith
+
+pub overflow_sub-result-2 : goal.overflow_sub-result-2
+overflow_sub-result-2 c =
+    let next = count_next c.args.blocks.now _ c.index-blocks-block.result c.requires.inside c.index-blocks-block.is
+    c.args.output in
+    let few = c.requires.ahead.few in let count = c.count.ensures in omega arith
+
+pub returns : goal.returns
+returns c =
+    ahead_without c.args.blocks.now _ c.index-blocks-block.result c.requires.inside c.index-blocks-block.is c.args.output
+    _ _ _ _ c.requires.ahead c.len.ensures.len c.count.ensures
