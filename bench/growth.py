@@ -18,7 +18,7 @@ from measuring import (Traffic, figure, instructions, make_captures, middle, mod
 PORTS, SLOTS = (4, 8, 16, 32, 64), 1000
 # The last three are such that 13,000, 30,000 and 100,000 cells wait at an input.
 INPUTS, SIZES = 16, (15_625, 31_250, 62_500, 125_000, 250_000, 500_000, 1_000_000, 2_250_000, 7_500_000)
-QUIET_SLOTS = (10_000, 10_000_000, 10_000_000_000)
+QUIET_PORTS, QUIET_SLOTS = (4, 16, 64), (10_000, 10_000_000, 10_000_000_000)
 GROWTH = 4  # of the time, at most, from one size to the next
 SLOWER = 50  # what callgrind takes at least, times the run's own time
 TIMES = ("time", "processor time", "slots a second", "slots a processor second")
@@ -73,7 +73,7 @@ def main():
               with_cells(program, options))
         table(("command", "ports", "quiet slots", "time", "processor time"),
               (quiet(program, command, ports, slots, options)
-               for command in ("run", "ideal") for ports in PORTS for slots in QUIET_SLOTS))
+               for command in ("run", "ideal") for ports in QUIET_PORTS for slots in QUIET_SLOTS))
 
 
 if __name__ == "__main__":
