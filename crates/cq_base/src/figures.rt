@@ -9,7 +9,7 @@ pub struct InputFigures {
     /// The greatest length of its list after the arrivals of a slot, in cells.
     pub longest: u64,
     /// The least slack, in cells, that a cell in its list had after the arrivals of a slot: by so much
-    /// its cushion exceeded its thread. None where the list never had a cell.
+    /// its cushion exceeded its input thread. None where the list never had a cell.
     pub slack: Option<u64>,
 }
 

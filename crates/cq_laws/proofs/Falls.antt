@@ -1,6 +1,6 @@
--- How far a slack falls. A cell that arrives stands no further back than its cushion, moves each other cell of its list back
--- by one place at most, and changes no buffer. A departure takes one cell from a buffer, so it lowers each cushion by one at
--- most, and no thread changes.
+-- How far a slack falls. An arriving cell goes in at its cushion or ahead of it; no other cell of the list goes back by more
+-- than a place, and no buffer changes. A departure takes one cell from a buffer, so it lowers each cushion by one at most, and
+-- no input thread changes.
 use Rattle.std.proofs.Common.{◌≡◌, ℕ, zero, suc, ◌+◌, ◌≤◌, ◌⊎◌, List, [], ◌∷◌, Option, Some, None, refl, sym, ap, ◌∙◌, inl, inr, ⊎_elim, arith, drop}
 use Rattle.std.specs.Prelude.{slice_get}
 use Rattle.cq_base.specs.declared.key.Key.{Key}

@@ -170,7 +170,7 @@ module _ (ms : List Machine) (slot class_count : ℕ) (cells : List (Option Cell
       inr (record { before = b.before; stood = b.stood; fallen = omega arith }))
       (arrivals_fall ms (slot + 1) cells' came' g next arrive i t c at)
 
-  -- the thread with which a cell arrives is the place where it goes in
+  -- the input thread with which a cell arrives is the place where it goes in
   pub arrival_place : (i : ℕ) (c : Queued) → came_to r.came i ≡ Some c → position_or_len (λ x. x.key.slot == r.slot) (input r.arrived i) ≡ place_of_arrival (cushion_of f c) c (input f i)
   arrival_place i c came =
       let old = old_sound ms slot class_count cells f g ideal r agrees come step in

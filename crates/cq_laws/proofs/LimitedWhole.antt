@@ -90,7 +90,7 @@ module _ (limits : List (Option ℕ)) (ms : List Machine) (class_count : ℕ) wh
       ∙ ap (then_limited (record { admission = r.admission; gone = r.of_slot.gone; after = one.next }))
       (same_limited_stop (slot + 1) traffic run.0 one.next rs fault went.stands run.2)
 
-  -- after the arrivals of each slot no thread is greater than its cushion
+  -- after the arrivals of each slot no input thread is greater than its cushion
   pub limited_run_slack : (slot : ℕ) (traffic : List (List (Option Cell))) (f g : Marked Fabric)
       (ideal : Marked IdealState) (rs : List LimitedRecord) → Stands slot traffic f ideal →
       LimitedFabricRun IsStable limits ms slot traffic f rs g → AllByRecursion (λ r. HasSlack 0 r.of_slot.arrived) rs

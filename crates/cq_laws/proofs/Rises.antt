@@ -1,5 +1,5 @@
 -- How much a slack rises. A stable matching leaves a cell at an input only where the input gave a cell that stood ahead of it,
--- or its output got a cell that is more urgent: else the input and the output would be a pair that blocks. So its thread falls
+-- or its output got a cell that is more urgent: else the input and the output would be a pair that blocks. So its input thread falls
 -- or its cushion rises, and neither ever goes the other way. It follows that the most urgent cell for an output is never left:
 -- it would have slack 1, so a cushion, so a more urgent cell for the same output.
 use Rattle.std.proofs.Common.{◌≡◌, ◌≢◌, ℕ, zero, suc, ◌+◌, ◌<◌, ◌≤◌, ◌⊎◌, List, [], ◌∷◌, Option, Some, None, refl, sym, ap, ◌∙◌, subst, inl, inr, ⊎_elim, arith}

@@ -56,7 +56,7 @@ module _ (ms : List Machine) (class_count : ℕ) where
       ap (goes_on ms slot traffic) one.sent
       ∙ ap (then_ran r.gone) (same_stop (slot + 1) traffic run.0 one.next rs fault one.agrees (subst (λ n. AllByRecursion (AreForPorts n class_count) traffic) (sym ports) come.1) run.2)
 
-  -- after the arrivals of each slot no thread is greater than its cushion
+  -- after the arrivals of each slot no input thread is greater than its cushion
   pub run_slack : (slot : ℕ) (traffic : List (List (Option Cell))) (f g : Fabric) (ideal : IdealState) (rs : List SlotRecord) → Agrees slot f ideal → AllByRecursion (AreForPorts (length f.inputs) class_count) traffic → FabricRun IsStable ms slot traffic f rs g → AllByRecursion (λ r. HasSlack 0 r.arrived) rs
   run_slack slot [] f g ideal [] agrees come run = tt
   run_slack slot [] f g ideal (r ∷ rs) agrees come run = absurd run

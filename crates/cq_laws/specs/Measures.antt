@@ -14,7 +14,7 @@ use Rattle.cq_laws.specs.FabricSlot.{SlotRecord}
 
 -- ## What one record says
 
--- the slack of each cell that waits at input i, from the first on. After arrivals no thread exceeds its cushion, so that
+-- the slack of each cell that waits at input i, from the first on. After arrivals no input thread exceeds its cushion, so that
 -- nothing is cut off here
 unfoldable pub slacks : Fabric → ℕ → List ℕ
 slacks f i = map (λ at. cushion_of f at.1 - at.0) (enumerate_from 0 (input f i))

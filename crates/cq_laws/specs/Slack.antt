@@ -4,7 +4,7 @@ use Rattle.std.specs.Prelude.{◌≡◌, ℕ, ◌+◌, ◌≤◌, ◌⊎◌, Lis
 use Rattle.cq_base.specs.declared.cell.Queued.{Queued}
 use Rattle.cq_laws.specs.Fabric.{Fabric, input, cushion_of}
 
--- every waiting cell has slack n at least: n and its thread are no more than its cushion
+-- every waiting cell has slack n at least: n and its input thread are no more than its cushion
 abbrev pub HasSlack : ℕ → Fabric → Type 0
 HasSlack n f = (i thread : ℕ) (c : Queued) → slice_get (input f i) thread ≡ Some c → n + thread ≤ cushion_of f c
 
@@ -20,12 +20,12 @@ pub record Falls (n : ℕ) (old new : Fabric) (i thread : ℕ) (c : Queued) : Ty
   pub stood : slice_get (input old i) before ≡ Some c
   pub fallen : cushion_of old c + thread ≤ n + cushion_of new c + before
 
--- a cell arrived at the input, and its thread is no more than its cushion: it has slack 0 at least
+-- a cell arrived at the input, and its input thread is no more than its cushion: it has slack 0 at least
 pub record ArrivesWithSlack (came : List (Option Queued)) (new : Fabric) (i thread : ℕ) (c : Queued) : Type 0 where
   pub arrived : slice_index_or came i None ≡ Some c
   pub within : thread ≤ cushion_of new c
 
--- the relation holds of each cell that waits, with its input and its thread
+-- the relation holds of each cell that waits, with its input and its input thread
 abbrev pub EachWaiting : (ℕ → ℕ → Queued → Type 0) → Fabric → Type 0
 EachWaiting R f = (i thread : ℕ) (c : Queued) → slice_get (input f i) thread ≡ Some c → R i thread c
 

@@ -45,7 +45,7 @@ pub fn least_slack_is_on_arrival()
         Agrees slot f ideal → AreForPorts (length f.inputs) class_count cells → FabricSlot IsStable ms slot cells f r g →
         (x : Figures) → HasMoreSlack x f → HasMoreSlack (figures_after x r) g }
     ensures begin { (ports : ℕ) (ranks : List (List ℕ)) → HasMoreSlack (no_figures ports) (empty_fabric ports ranks) }
-    // the thread with which a cell arrives is the place at which it goes in
+    // the input thread with which a cell arrives is the place at which it goes in
     ensures place { (ms : List Machine) (slot class_count : ℕ) (cells : List (Option Cell)) (f g : Fabric) (ideal : IdealState) (r : SlotRecord) →
         Agrees slot f ideal → AreForPorts (length f.inputs) class_count cells → FabricSlot IsStable ms slot cells f r g →
         (i : ℕ) (c : Queued) → came_to r.came i ≡ Some c →

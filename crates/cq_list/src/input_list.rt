@@ -62,9 +62,9 @@ impl InputList {
         })
     }
 
-    /// A cell arrives. Its cushion is the number of more urgent cells that wait in the buffer of its output. It
-    /// goes in at the least of three places: its cushion, the place of the first less urgent cell for the same
-    /// output, and the end. The other cells keep their order. It takes room for one cell and no memory.
+    /// A cell arrives. Its cushion is the number of more urgent cells that wait in the buffer of its output. Three
+    /// places bound where it goes in, and it takes the least: its cushion, that of the first less urgent cell for
+    /// its output, and the end. The other cells keep their order. It takes room for one cell and no memory.
     pub fn insert(&mut self, queued: Queued, cushion: u64)
         requires spare { 0 < self.old.spare }
         requires in_range { queued.cell.output < self.old.outputs }

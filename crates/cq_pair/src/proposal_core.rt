@@ -16,7 +16,7 @@ use std::marker::Model;
 /// takes no memory. Contracts see the positions that the outputs hold, the places where the inputs propose next,
 /// the pairs of those who are held, the free inputs, and how many proposals were made.
 ///
-/// An input is free where no output holds it and its order has an output to which it has not proposed.
+/// An input is free while nobody holds it and somebody in its order has not been asked.
 #[derive(Drop)]
 pub struct Core {
     positions: PerPort,

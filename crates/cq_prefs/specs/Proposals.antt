@@ -29,7 +29,7 @@ start o = record { positions = replicate (ports o) (ports o); places = replicate
 abbrev pub Holds : Orders → State → ℕ → ℕ → Type 0
 Holds o s j i = (position_held s j ≡ position_of o j i) × (position_of o j i < length (inputs_of o j))
 
--- an input is free where no output holds it and its order has an output to which it has not proposed
+-- an input is free while nobody holds it and somebody in its order has not been asked
 pub record IsFree (o : Orders) (s : State) (i : ℕ) : Type 0 where
   pub left : next_place s i < length (outputs_of o i)
   pub unheld : (j : ℕ) → Holds o s j i → ⊥

@@ -15,7 +15,7 @@ use cq_list::InputList;
 use std::alloc::Global;
 use std::marker::Model;
 
-/// The offers of a switch: per input its order of outputs, and per output its order of inputs, the most wanted
+/// The offers of a switch: whom each input would send to, and from whom each output would take, the most wanted
 /// first.
 #[derive(Drop)]
 pub struct Offers {
