@@ -3,6 +3,8 @@ pub mod Ranked
 pub mod Told
 pub mod Came
 pub mod Queued
+pub mod Offered
+pub mod NoOffers
 pub mod Newest
 pub mod Empty
 pub mod Slot

@@ -11,7 +11,7 @@ use Rattle.cq_base.specs.Cells.{HasOtherKey, MoreUrgentAhead, cushion, is_for, f
 use Rattle.cq_ideal.specs.IdealSlot.{fronts, rests}
 use Rattle.cq_list.specs.InputList.{Waiting, cells_of}
 use Rattle.cq_urgency.specs.OutputBuffer.{Buffered, cells_in}
-use Rattle.cq_prefs.specs.FirstCells.{list_of, HasCellFor, AreOrdersOf, orders_of}
+use Rattle.cq_prefs.specs.FirstCells.{list_of, HasCellFor, FirstKeysDiffer, AreOrdersOf, orders_of}
 use Rattle.cq_prefs.specs.Moves.{Moves, list_taken}
 use Rattle.cq_prefs.specs.Orders.{Orders}
 use Rattle.cq_prefs.specs.Pairing.{Partners, partner_of, IsInputBest}
@@ -19,7 +19,8 @@ use Rattle.cq_prefs.proofs.InputOrder.{are_orders}
 use Rattle.cq_xbar.specs.Crossbar.{HaveCells, HaveRoom, MovesRoom, list_spare, buffer_spare}
 use Rattle.cq_xbar.proofs.OneEach.{partner_or_free, put_length}
 use Rattle.cq_laws.specs.Phases.{came_to, list_arrived}
-use Rattle.cq_engine.specs.Parts.{Queues, FitLists, CanCross, FitEach, AreSquare, list_room, buffer_room, fabric_of, no_list, list_at, list_with, front_of, popped}
+use Rattle.cq_laws.proofs.Members.{among_at, first_at}
+use Rattle.cq_engine.specs.Parts.{Queues, FitLists, KeysApart, CanCross, FitEach, AreSquare, list_room, buffer_room, fabric_of, no_list, list_at, list_with, front_of, popped}
 
 -- what a slice of a vector leaves of the vector
 pub whole : {X : Type 0} (n : ℕ) (xs old : List X) → n ≡ length xs → length old ≡ length xs → take n (xs ++ drop (length xs) old) ≡ xs
@@ -63,7 +64,7 @@ list_room-is lists i = let r = room-at lists i in let c = ap length (cells-at li
 buffer_room-is : (buffers : List Buffered) (j : ℕ) → get_or (map buffer_room buffers) j 0 ≡ length (list_of (cells_in buffers) j) + buffer_spare buffers j
 buffer_room-is buffers j = let r = buffer_room-at buffers j in let c = ap length (cells_in-at buffers j) in let s = buffer_spare-at buffers j in omega arith
 
-get_or_same : {X : Type 0} (xs : List X) (i : ℕ) (d e : X) → i < length xs → get_or xs i d ≡ get_or xs i e
+pub get_or_same : {X : Type 0} (xs : List X) (i : ℕ) (d e : X) → i < length xs → get_or xs i d ≡ get_or xs i e
 get_or_same [] i d e l = absurd (omega arith)
 get_or_same (x ∷ xs) zero d e l = refl
 get_or_same (x ∷ xs) (suc i) d e l = get_or_same xs i d e (omega arith)
@@ -151,9 +152,16 @@ module _ (lists : List Waiting) (buffers : List Buffered) (came : List (Option Q
 
 -- ## A transfer
 
+-- first cells for one output in different lists have different keys
+pub firsts_apart : (lists : List (List Queued)) → KeysApart lists → FirstKeysDiffer lists
+firsts_apart lists apart j i k c d a b e =
+    let p = first_at (is_for j) (list_of lists i) c a in
+    let q = first_at (is_for j) (list_of lists k) d b in
+    apart i k c d (among_at (list_of lists i) p.place c p.at) (among_at (list_of lists k) q.place d q.at) e
+
 pub has_cell : (lists : List (List Queued)) (buffers : List (List Queued)) (from to : List ℕ) (o : Orders) (m : Partners) → CanCross (record { inputs = lists; buffers = buffers; from_inputs = from; to_outputs = to }) → o ≡ orders_of lists → IsInputBest o m → HaveCells m lists
 has_cell lists buffers from to o m can is best i j p =
-    let are : AreOrdersOf lists o = subst (AreOrdersOf lists) (sym is) (are_orders lists can.differ) in
+    let are : AreOrdersOf lists o = subst (AreOrdersOf lists) (sym is) (are_orders lists (firsts_apart lists can.apart)) in
     ((are.outputs i).offered j).0 (best.stable.matching.offered i j p)
 
 pub have_room : (lists : List Waiting) (buffers : List Buffered) (m : Partners) → CanCross (shown lists buffers) → HaveCells m (cells_of lists) → HaveRoom m buffers

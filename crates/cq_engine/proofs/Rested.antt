@@ -1,14 +1,12 @@
 -- Slots in which nothing waits and nothing comes. The first of them tells each machine that its output was idle, and the
 -- others change nothing. After them the fabric is as empty as before, so it is in step with an ideal switch that is empty too.
-use Rattle.std.proofs.Common.{◌≡◌, ℕ, zero, suc, ◌<◌, ◌≤◌, List, [], length, replicate, Some, refl, sym, ap, ◌∙◌, subst, arith}
+use Rattle.std.proofs.Common.{◌≡◌, ℕ, zero, suc, ◌<◌, ◌≤◌, List, length, replicate, refl, sym, ap, ◌∙◌, subst, arith}
 use Rattle.std.specs.Prelude.{slice_get}
 use Rattle.cq_base.specs.Arrivals.{no_arrivals}
 use Rattle.cq_base.specs.declared.figures.Figures.{Figures}
-use Rattle.cq_base.specs.declared.figures.InputFigures.{InputFigures}
-use Rattle.cq_base.specs.declared.figures.OutputFigures.{OutputFigures}
 use Rattle.cq_rank.specs.Machine.{Machine}
 use Rattle.cq_ideal.specs.IdealRun.{empty_ideal}
-use Rattle.cq_ideal.specs.IdealSlot.{IdealState, all_told}
+use Rattle.cq_ideal.specs.IdealSlot.{IdealState}
 use Rattle.cq_ideal.specs.Parts.{all_idle}
 use Rattle.cq_prefs.specs.Pairing.{IsInputBest}
 use Rattle.cq_laws.specs.Agreement.{Agrees}

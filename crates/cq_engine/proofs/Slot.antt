@@ -12,6 +12,7 @@ use Rattle.std.proofs.lemmas.List.{length-map}
 use Rattle.std.proofs.lemmas.Option.{same_Some}
 use Rattle.cq_base.specs.declared.cell.Cell.{Cell}
 use Rattle.cq_base.specs.declared.cell.Queued.{Queued}
+use Rattle.cq_base.specs.declared.key.Key.{Key}
 use Rattle.cq_base.specs.declared.cell.Transfer.{Transfer}
 use Rattle.cq_base.specs.declared.figures.InputFigures.{InputFigures}
 use Rattle.cq_base.specs.declared.figures.OutputFigures.{OutputFigures}
@@ -42,7 +43,7 @@ use Rattle.cq_laws.proofs.Falls.{rest_of}
 use Rattle.cq_laws.proofs.InputBest.{stable_slot}
 use Rattle.cq_laws.proofs.LeastSlack.{by_arrivals, more_after}
 use Rattle.cq_laws.proofs.OneSlot.{same_slot, sound_from}
-use Rattle.cq_engine.specs.Parts.{Queues, FitLists, CanCross, fabric_of}
+use Rattle.cq_engine.specs.Parts.{Queues, ComeApart, FitLists, CanCross, fabric_of}
 use Rattle.cq_engine.specs.Engine.{IsInStep, CountsFit, waiting_for, arriving_for}
 use Rattle.cq_engine.specs.Measuring.{IsNewest, arriving_slack, input_counted, output_counted}
 use Rattle.cq_engine.proofs.Newest.{newest_arrived}
@@ -82,7 +83,7 @@ can_cross : (slot : ℕ) (q : Queues) (ranks : List (List ℕ)) → Sound slot (
 can_cross slot q ranks sound room =
     let firsts = firsts_cross slot (fabric_of q ranks) sound in
     record {
-      differ = firsts.differ;
+      apart = λ i k c d a b e. (sound.apart.waiting i k c d a b e).0;
       room = λ i j has. let p = first_at (is_for j) (list_of q.inputs i) has.0 has.1 in room i j has.0 (among_at (list_of q.inputs i) p.place has.0 p.at) (eqb-true has.0.cell.output j p.passes);
       keys = firsts.keys;
     }
@@ -197,6 +198,18 @@ module _ (ms : List Machine) (slot : ℕ) (x : Figures) (q0 : Queues) (ranks0 : 
 
   pub came_outputs : (i : ℕ) (c : Queued) → came_to came i ≡ Some c → c.cell.output < length q0.inputs
   came_outputs i c is = keyed.outputs i c is
+
+  -- no waiting cell has the key of one that came, which has its own slot, and no two of these have the same
+  pub come_apart : ComeApart came q0.inputs
+  come_apart =
+      record {
+        waiting = λ i k c d a b e. (sound0.apart.waiting i k c d a b e).0;
+        older = λ i k c d is h e.
+            let lt = sound0.early.waiting k d h in
+            let at = keyed.slot_is i c is in
+            let same = ap (λ (x : Key). x.slot) e in omega arith;
+        each = λ i k c d a b e. sym (keyed.input_is i c a) ∙ ap (λ (x : Key). x.input) e ∙ keyed.input_is k d b;
+      }
 
   pub fits_lists : ((i : ℕ) (cell : Cell) → arrival_at cells i ≡ Some cell → 0 < get_or q0.from_inputs i 0 - length (list_of q0.inputs i)) → FitLists came q0
   fits_lists room i c is =

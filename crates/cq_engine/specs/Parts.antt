@@ -1,14 +1,15 @@
 -- What clauses see of the parts of an engine: its rank machines, and the lists and buffers in which cells wait.
-use Rattle.std.specs.Prelude.{◌≡◌, ℕ, ◌+◌, ◌-◌, ◌<◌, ◌≤◌, if◌then◌else◌, is_some, All, List, [], ◌∷◌, length, drop, slice_get, slice_index, slice_index_or, slice_set, Option, Some, None, Result}
+use Rattle.std.specs.Prelude.{◌≡◌, ◌≢◌, ℕ, ◌+◌, ◌-◌, ◌<◌, ◌≤◌, if◌then◌else◌, is_some, All, List, [], ◌∷◌, length, drop, slice_get, slice_index, slice_index_or, slice_set, Option, Some, None, Result}
 use Rattle.cq_base.specs.declared.cell.Queued.{Queued}
 use Rattle.cq_base.specs.declared.cell.TagFault.{TagFault}
 use Rattle.cq_base.specs.Cells.{HasOtherKey, MoreUrgentAhead, cushion, first_for, with_arrival}
 use Rattle.cq_rank.specs.Machine.{Machine, machine_at}
 use Rattle.cq_ideal.specs.Ranking.{Ranking, after_input}
-use Rattle.cq_list.specs.InputList.{Waiting}
+use Rattle.cq_list.specs.InputList.{Waiting, cells_of}
 use Rattle.cq_urgency.specs.OutputBuffer.{Buffered}
-use Rattle.cq_prefs.specs.FirstCells.{list_of, HasCellFor, FirstKeysDiffer}
-use Rattle.cq_laws.specs.Fabric.{Fabric}
+use Rattle.cq_prefs.specs.FirstCells.{list_of, HasCellFor, orders_of}
+use Rattle.cq_prefs.specs.Orders.{Orders, ports}
+use Rattle.cq_laws.specs.Fabric.{Fabric, IsAmong}
 use Rattle.cq_laws.specs.Phases.{came_to}
 
 -- the rank machines: the numbers that give them, and their states
@@ -61,10 +62,21 @@ pub record FitsList (q : Queues) (i : ℕ) (c : Queued) : Type 0 where
 abbrev pub FitLists : List (Option Queued) → Queues → Type 0
 FitLists came q = (i : ℕ) (c : Queued) → came_to came i ≡ Some c → FitsList q i c
 
--- the cells can cross: first cells for one output have different keys in different lists, and where there is one the output's
--- buffer has room and no cell with its key
+-- two cells with one key wait at one input
+abbrev pub KeysApart : List (List Queued) → Type 0
+KeysApart lists = (i k : ℕ) (c d : Queued) →
+    IsAmong c (list_of lists i) → IsAmong d (list_of lists k) → c.key ≡ d.key → i ≡ k
+
+-- the keys of the cells that come are new: no waiting cell has one, and no two of these cells have the same
+pub record ComeApart (came : List (Option Queued)) (lists : List (List Queued)) : Type 0 where
+  pub waiting : KeysApart lists
+  pub older : (i k : ℕ) (c d : Queued) → came_to came i ≡ Some c → IsAmong d (list_of lists k) → d.key ≢ c.key
+  pub each : (i k : ℕ) (c d : Queued) → came_to came i ≡ Some c → came_to came k ≡ Some d → c.key ≡ d.key → i ≡ k
+
+-- the cells can cross: no cells in different lists have the same key, and where there is a first cell for an output the
+-- output's buffer has room and no cell with its key
 pub record CanCross (q : Queues) : Type 0 where
-  pub differ : FirstKeysDiffer q.inputs
+  pub apart : KeysApart q.inputs
   pub room : (i j : ℕ) → HasCellFor (list_of q.inputs i) j → length (list_of q.buffers j) < slice_index q.to_outputs j
   pub keys : (i j : ℕ) (c : Queued) → first_for j (list_of q.inputs i) ≡ Some c → HasOtherKey c (list_of q.buffers j)
 
@@ -109,3 +121,17 @@ pub record AreSquare (lists : List Waiting) (buffers : List Buffered) (offers : 
   pub as_many : length buffers ≡ length lists
   pub offered : offers ≡ length lists
   pub outputs : All (λ list. list.outputs ≡ length lists) lists
+
+-- and the offers are those of the lists
+pub record AreOffered (lists : List Waiting) (buffers : List Buffered) (offers : Orders) : Type 0 where
+  pub square : AreSquare lists buffers (ports offers)
+  pub offered : offers ≡ orders_of (cells_of lists)
+
+-- one cell comes to the list of input i of lists that are offered: no waiting cell has its key
+pub record Comes (lists : List Waiting) (offers : Orders) (i : ℕ) (c : Queued) : Type 0 where
+  pub inside : i < length lists
+  pub few : length lists ≤ 64
+  pub outputs : All (λ list. list.outputs ≡ length lists) lists
+  pub offered : offers ≡ orders_of (cells_of lists)
+  pub waiting : KeysApart (cells_of lists)
+  pub older : (k : ℕ) (d : Queued) → IsAmong d (list_of (cells_of lists) k) → d.key ≢ c.key

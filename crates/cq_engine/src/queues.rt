@@ -1,5 +1,5 @@
 //! The lists of all inputs, and the buffers of all outputs.
-ghost use Rattle.std.specs.Prelude.{◌≡◌, ◌==◌, ◌+◌, ◌-◌, ◌*◌, ◌<◌, ◌≤◌, ◌++◌, ℕ, [], All, IfOk, IsTrue, None, length, map, replicate, take};
+ghost use Rattle.std.specs.Prelude.{◌≡◌, ◌≢◌, ◌==◌, ◌+◌, ◌-◌, ◌*◌, ◌<◌, ◌≤◌, ◌++◌, ℕ, [], All, IfOk, IsTrue, None, Some, length, map, replicate, take};
 ghost use Rattle.std.specs.List.{list_all, position_or_len};
 ghost use Rattle.cq_base.specs.Cells.{cushion};
 ghost use Rattle.cq_ideal.specs.IdealSlot.{fronts, rests};
@@ -7,15 +7,18 @@ ghost use Rattle.cq_list.specs.InputList.{cells_of};
 ghost use Rattle.cq_urgency.specs.OutputBuffer.{cells_in};
 ghost use Rattle.cq_prefs.specs.FirstCells.{list_of, orders_of};
 ghost use Rattle.cq_prefs.specs.Moves.{Moves, transfers_of};
-ghost use Rattle.cq_prefs.specs.Pairing.{IsInputBest, proposals};
+ghost use Rattle.cq_crew.specs.Settling.{IsBestPhase};
+ghost use Rattle.cq_prefs.specs.Orders.{outputs_of};
+ghost use Rattle.cq_prefs.specs.Pairing.{IsInputBest, proposals, with_pair};
+ghost use Rattle.cq_xbar.specs.Crossbar.{HaveCells, HaveRoom, KeysAreNew, MovesRoom};
 ghost use Rattle.cq_laws.specs.Phases.{came_to, list_arrived};
 ghost use Rattle.cq_engine.specs.Measuring.{IsNewest};
-ghost use Rattle.cq_engine.specs.Parts.{CanCross, FitEach, FitLists, buffer_room, fabric_of, front_of, list_at, list_room, list_with, popped};
+ghost use Rattle.cq_engine.specs.Parts.{CanCross, ComeApart, Comes, FitEach, FitLists, Fits, KeysApart, buffer_room, fabric_of, front_of, list_at, list_room, list_with, popped};
 
-use cq_base::{NoMemory, Queued, Room, Slot, Transfer};
+use cq_base::{NoMemory, Port, Queued, Room, Slot, Transfer};
 use cq_crew::{Gate, Phase, pair_phase};
 use cq_list::InputList;
-use cq_prefs::Offers;
+use cq_prefs::{Matching, Offers};
 use cq_urgency::OutputBuffer;
 use cq_xbar::transfer;
 use std::alloc::Global;
@@ -35,9 +38,7 @@ impl Model for Queues {
     ghost use Rattle.std.specs.Prelude.{map};
     ghost use Rattle.cq_list.specs.InputList.{cells_of};
     ghost use Rattle.cq_urgency.specs.OutputBuffer.{cells_in};
-    ghost use Rattle.cq_prefs.specs.Orders.{ports};
-    ghost use Rattle.cq_engine.specs.Measuring.{IsNewest};
-    ghost use Rattle.cq_engine.specs.Parts.{Queues as Held, AreSquare, list_room, buffer_room};
+    ghost use Rattle.cq_engine.specs.Parts.{Queues as Held, AreOffered, list_room, buffer_room};
 
     ghost Value = { Held };
 
@@ -48,22 +49,128 @@ impl Model for Queues {
       to_outputs = map buffer_room a.buffers.items;
     } };
 
-    ghost invariant = { λ a. AreSquare a.lists.items a.buffers.items (ports a.offers) };
+    ghost invariant = { λ a. AreOffered a.lists.items a.buffers.items a.offers };
 }
 
-// Each cell that came goes into the list of its input, with the cushion that it has in the buffer of its output.
-fn insert_each(lists: &mut [InputList], buffers: &[OutputBuffer], came: &[Option<Queued>; 64])
+// The one pair of an input and an output.
+fn one_pair(ports: u16, input: Port, output: Port) -> Matching
+    requires few { ports ≤ 64 }
+    requires input { input < ports }
+    requires output { output < ports }
+    ensures { result ≡ with_pair (replicate ports None) input output }
+{
+    let mut pair = Matching::none(ports);
+    pair.join(input, output);
+    pair
+}
+
+// A cell that came goes into the list of its input, with the cushion that it has in the buffer of its output. The
+// offers follow.
+fn insert_one(
+    lists: &mut [InputList],
+    buffers: &[OutputBuffer],
+    offers: &mut Offers,
+    input: usize,
+    queued: Queued,
+)
+    requires fits { Fits (cells_in buffers.now) (list_at lists.old input) queued }
+    requires comes { Comes lists.old offers.old input queued }
+    ensures ports { length lists.new ≡ length lists.old }
+    ensures list { list_at lists.new input ≡ list_with (cells_in buffers.now) (Some queued) (list_at lists.old input) }
+    ensures others { (i : ℕ) → i ≢ input → list_at lists.new i ≡ list_at lists.old i }
+    ensures offers { offers.new ≡ orders_of (cells_of lists.new) }
+{
+    let output = queued.cell.output;
+    let cushion = buffers[output as usize].cushion(queued.key);
+    lists[input].insert(queued, cushion);
+    let pair = one_pair(lists.len() as u16, input as Port, output);
+    offers.renew(lists, &pair);
+}
+
+// Each cell that came goes into the list of its input.
+fn insert_each(
+    lists: &mut [InputList],
+    buffers: &[OutputBuffer],
+    offers: &mut Offers,
+    came: &[Option<Queued>; 64],
+)
     requires few { length lists.old ≤ 64 }
     requires fit { FitEach (cells_in buffers.now) came.now lists.old }
+    requires come { ComeApart came.now (cells_of lists.old) }
+    requires outputs { All (λ list. list.outputs ≡ length lists.old) lists.old }
+    requires offers { offers.old ≡ orders_of (cells_of lists.old) }
     ensures ports { length lists.new ≡ length lists.old }
     ensures lists { (i : ℕ) → i < length lists.old → list_at lists.new i ≡ list_with (cells_in buffers.now) (came_to came.now i) (list_at lists.old i) }
+    ensures offers { offers.new ≡ orders_of (cells_of lists.new) }
 {
     'inputs: for input in 0..lists.len() {
         if let Some(queued) = came[input] {
-            let cushion = buffers[queued.cell.output as usize].cushion(queued.key);
-            lists[input].insert(queued, cushion);
+            insert_one(lists, buffers, offers, input, queued);
         }
     }
+}
+
+// Whether no input offers anything.
+fn nothing_offered(offers: &Offers) -> bool
+    ensures { IsTrue result → (i : ℕ) → outputs_of offers.now i ≡ [] }
+{
+    for input in 0..offers.ports() {
+        if !offers.outputs_of(input).is_empty() {
+            return false;
+        }
+    }
+    true
+}
+
+// The input-best matching with its number of proposals. Where nothing is offered none is looked for.
+fn settle<T: Threads + Sync, G: Gate>(
+    rt: &T,
+    alloc: Global,
+    offers: &Offers,
+    workers: u16,
+    gate: &G,
+) -> Phase
+    requires some { 1 ≤ workers }
+    requires few { workers ≤ 64 }
+    ensures { IsBestPhase offers.now result }
+{
+    if nothing_offered(offers) {
+        return Phase {
+            matching: Matching::none(offers.ports()),
+            proposals: 0,
+        };
+    }
+    pair_phase(rt, alloc, offers, workers, gate).phase()
+}
+
+// The first cells of the pairs of a matching cross, and are noted. The offers follow.
+fn cross_matched(
+    matching: &Matching,
+    lists: &mut [InputList],
+    buffers: &mut [OutputBuffer],
+    offers: &mut Offers,
+    slot: Slot,
+    phase: u8,
+    note: &mut Room<Transfer>,
+)
+    requires lists { length lists.old ≡ length matching.now }
+    requires buffers { length buffers.old ≡ length matching.now }
+    requires cells { HaveCells matching.now (cells_of lists.old) }
+    requires keys { KeysAreNew matching.now (cells_of lists.old) (cells_in buffers.old) }
+    requires room { HaveRoom matching.now buffers.old }
+    requires note { length matching.now ≤ note.old.spare }
+    requires apart { KeysApart (cells_of lists.old) }
+    requires outputs { All (λ list. list.outputs ≡ length lists.old) lists.old }
+    requires offers { offers.old ≡ orders_of (cells_of lists.old) }
+    ensures moves { Moves matching.now (cells_of lists.old) (cells_in buffers.old) (cells_of lists.new) (cells_in buffers.new) }
+    ensures room { MovesRoom matching.now lists.old buffers.old lists.new buffers.new }
+    ensures outputs { map (λ list. list.outputs) lists.new ≡ map (λ list. list.outputs) lists.old }
+    ensures offers { offers.new ≡ orders_of (cells_of lists.new) }
+    ensures note { note.new.items ≡ note.old.items ++ transfers_of matching.now (cells_of lists.old) slot phase }
+    ensures note_room { note.new.spare + length (transfers_of matching.now (cells_of lists.old) slot phase) ≡ note.old.spare }
+{
+    transfer(matching, lists, buffers, slot, phase, note);
+    offers.renew(lists, matching);
 }
 
 /// No cell in any of 64 places.
@@ -177,18 +284,20 @@ impl Queues {
 
     /// The cells arrive, each at its input.
     pub fn arrive(&mut self, came: &[Option<Queued>; 64])
-        requires { FitLists came.now self.old }
+        requires fit { FitLists came.now self.old }
+        requires come { ComeApart came.now self.old.inputs }
         ensures ports { length self.new.inputs ≡ length self.old.inputs }
         ensures lists { (i : ℕ) → list_of self.new.inputs i ≡ list_arrived (fabric_of self.old []) (came_to came.now i) (list_of self.old.inputs i) }
         ensures buffers { self.new.buffers ≡ self.old.buffers }
         ensures from_inputs { self.new.from_inputs ≡ self.old.from_inputs }
         ensures to_outputs { self.new.to_outputs ≡ self.old.to_outputs }
     {
-        insert_each(&mut self.lists, &self.buffers, came);
+        insert_each(&mut self.lists, &self.buffers, &mut self.offers, came);
     }
 
     /// The input-best matching of the offers is transferred, and noted. So many workers at most propose at once
-    /// where it is found. The answer is the matching with its number of proposals.
+    /// where it is found, and it is not looked for where nothing is offered. The answer is the matching with its
+    /// number of proposals.
     pub fn cross<T: Threads + Sync, G: Gate>(
         &mut self,
         rt: &T,
@@ -212,12 +321,12 @@ impl Queues {
         ensures note { note.new.items ≡ note.old.items ++ transfers_of result.matching self.old.inputs slot phase }
         ensures note_room { note.new.spare + length (transfers_of result.matching self.old.inputs slot phase) ≡ note.old.spare }
     {
-        self.offers.fill(&self.lists);
-        let settled = pair_phase(rt, alloc, &self.offers, workers, gate).phase();
-        transfer(
+        let settled = settle(rt, alloc, &self.offers, workers, gate);
+        cross_matched(
             &settled.matching,
             &mut self.lists,
             &mut self.buffers,
+            &mut self.offers,
             slot,
             phase,
             note,

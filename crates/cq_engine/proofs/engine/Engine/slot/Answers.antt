@@ -6,12 +6,12 @@ use Rattle.cq_ideal.specs.IdealSlot.{all_told, fronts, departures_in}
 use Rattle.cq_prefs.specs.Moves.{transfers_of}
 use Rattle.cq_engine.specs.Engine.{EngineView, IsInStep, HaveListRoom, SlotDone}
 use Rattle.cq_engine.specs.Parts.{fabric_of}
-use Rattle.cq_engine.proofs.Slot.{came_outputs, came_newest, fits_lists, can_cross_first, can_cross_second, few_cross, whole_slot}
+use Rattle.cq_engine.proofs.Slot.{came_outputs, came_newest, come_apart, fits_lists, can_cross_first, can_cross_second, few_cross, whole_slot}
 use Rattle.cq_engine.proofs.Seen.{up_at, come_at, buffer_room_at}
 use Rattle.cq_engine.proofs.engine.Engine.slot.Goals as goal
 
-pub arrive-requires : goal.arrive-requires
-arrive-requires g c =
+pub arrive-requires-clause-fit : goal.arrive-requires-clause-fit
+arrive-requires-clause-fit g c =
     let e = c.self.inside in
     let ms = map g.R.Rank.machine e.ranks.fixed in
     let classes = class_count (map g.R.Rank.machine c.args.self.now.fixed) in
@@ -19,6 +19,16 @@ arrive-requires g c =
     let up = up_at g.R.Rank.machine c.args.slot c.args.self.now e.ranks.fixed e.ranks.states e.queues e.figures e.next e.stopped c.self.view_is c.requires.running c.requires.next c.self.invariant.1 in
     let come = come_at g.R.Rank.machine classes cells c.args.self.now e.ranks.fixed e.ranks.states e.queues e.figures e.next e.stopped c.self.view_is c.requires.arrivals in
     fits_lists ms c.args.slot e.figures e.queues e.ranks.states cells classes c.in-Ok.came c.take.new.self.states up come c.in-Ok.ensures.came (subst (HaveListRoom cells) (sym c.self.view_is) c.requires.list_room)
+
+pub arrive-requires-clause-come : goal.arrive-requires-clause-come
+arrive-requires-clause-come g c =
+    let e = c.self.inside in
+    let ms = map g.R.Rank.machine e.ranks.fixed in
+    let classes = class_count (map g.R.Rank.machine c.args.self.now.fixed) in
+    let cells = c.args.arrivals.now in
+    let up = up_at g.R.Rank.machine c.args.slot c.args.self.now e.ranks.fixed e.ranks.states e.queues e.figures e.next e.stopped c.self.view_is c.requires.running c.requires.next c.self.invariant.1 in
+    let come = come_at g.R.Rank.machine classes cells c.args.self.now e.ranks.fixed e.ranks.states e.queues e.figures e.next e.stopped c.self.view_is c.requires.arrivals in
+    come_apart ms c.args.slot e.figures e.queues e.ranks.states cells classes c.in-Ok.came c.take.new.self.states up come c.in-Ok.ensures.came
 
 pub count_inputs-requires-clause-outputs : goal.count_inputs-requires-clause-outputs
 count_inputs-requires-clause-outputs g c =

@@ -6,10 +6,9 @@ use Rattle.cq_prefs.specs.FirstCells.{orders_of, output_order}
 use Rattle.cq_prefs.specs.Moves.{Moves}
 use Rattle.cq_prefs.specs.Orders.{Orders, ports}
 use Rattle.cq_prefs.specs.Pairing.{Partners, IsInputBest, proposals}
-use Rattle.cq_prefs.specs.declared.outcome.Phase.{Phase}
-use Rattle.cq_crew.specs.Settling.{phase_of}
 use Rattle.cq_xbar.specs.Crossbar.{HaveCells, HaveRoom, MovesRoom}
-use Rattle.cq_engine.specs.Parts.{Queues as Held, CanCross, AreSquare, list_room, buffer_room}
+use Rattle.cq_engine.specs.Parts.{Queues as Held, KeysApart, CanCross, AreSquare, AreOffered, list_room, buffer_room}
+use Rattle.cq_engine.proofs.Offered.{as_offered}
 use Rattle.cq_engine.proofs.Queued.{shown, whole, has_cell, have_room, lists_long, buffers_long, crossed_list_rooms, crossed_buffer_rooms, crossed_square}
 use Rattle.cq_engine.proofs.queues.Queues.cross.Goals as goal
 
@@ -29,35 +28,41 @@ crossed m lists got buffers given lists' buffers' e f have moves rooms outputs =
       outputs = outputs ∙ ap (map (λ (w : Waiting). w.outputs)) e;
     }
 
-have_cells : (lists got : List Waiting) (buffers : List Buffered) (now : Held) (o : Orders) (m found : Partners) → got ≡ lists → shown lists buffers ≡ now → CanCross now → o ≡ orders_of (cells_of got) → IsInputBest o found → m ≡ found → HaveCells m (cells_of lists)
-have_cells lists got buffers now o m found e view can orders best is =
-    has_cell (cells_of lists) (cells_in buffers) (map list_room lists) (map buffer_room buffers) o m (subst CanCross (sym view) can) (orders ∙ ap (λ (ls : List Waiting). orders_of (cells_of ls)) e) (subst (IsInputBest o) (sym is) best)
+have_cells : (lists : List Waiting) (buffers : List Buffered) (now : Held) (o : Orders) (m : Partners) →
+    shown lists buffers ≡ now → CanCross now → o ≡ orders_of (cells_of lists) → IsInputBest o m → HaveCells m (cells_of lists)
+have_cells lists buffers now o m view can orders best =
+    has_cell (cells_of lists) (cells_in buffers) (map list_room lists) (map buffer_room buffers) o m (subst CanCross (sym view) can) orders best
 
-pub transfer-requires-clause-cells : goal.transfer-requires-clause-cells
-transfer-requires-clause-cells g c =
+pub cross_matched-requires-clause-cells : goal.cross_matched-requires-clause-cells
+cross_matched-requires-clause-cells g c =
     let lists = c.self.inside.lists.items in
     let buffers = c.self.inside.buffers.items in
-    let m = c.phase-settled.result.matching in
-    let have = have_cells lists c.deref.result.now buffers c.args.self.now c.fill.new.self m (phase_of c.pair_phase.result).matching c.deref.ensures.value c.self.view_is c.requires.cells c.fill.ensures.orders c.pair_phase.ensures.phase.best (ap (λ (p : Phase). p.matching) c.phase-settled.ensures) in
+    let m = c.settle-settled.result.matching in
+    let have = have_cells lists buffers c.args.self.now c.self.inside.offers m c.self.view_is c.requires.cells c.self.invariant.offered c.settle-settled.ensures.best in
     subst (λ (ls : List Waiting). HaveCells m (cells_of ls)) (sym c.deref_mut.ensures.value) have
 
-pub transfer-requires-clause-room : goal.transfer-requires-clause-room
-transfer-requires-clause-room g c =
+pub cross_matched-requires-clause-room : goal.cross_matched-requires-clause-room
+cross_matched-requires-clause-room g c =
     let lists = c.self.inside.lists.items in
     let buffers = c.self.inside.buffers.items in
-    let m = c.phase-settled.result.matching in
-    let have = have_cells lists c.deref.result.now buffers c.args.self.now c.fill.new.self m (phase_of c.pair_phase.result).matching c.deref.ensures.value c.self.view_is c.requires.cells c.fill.ensures.orders c.pair_phase.ensures.phase.best (ap (λ (p : Phase). p.matching) c.phase-settled.ensures) in
+    let m = c.settle-settled.result.matching in
+    let have = have_cells lists buffers c.args.self.now c.self.inside.offers m c.self.view_is c.requires.cells c.self.invariant.offered c.settle-settled.ensures.best in
     subst (HaveRoom m) (sym c.deref_mut-2.ensures.value) (have_room lists buffers m (subst CanCross (sym c.self.view_is) c.requires.cells) have)
+
+pub cross_matched-requires-clause-apart : goal.cross_matched-requires-clause-apart
+cross_matched-requires-clause-apart g c =
+    subst (λ (ls : List Waiting). KeysApart (cells_of ls)) (sym c.deref_mut.ensures.value)
+    (subst (λ (q : Held). KeysApart q.inputs) (sym c.self.view_is) c.requires.cells.apart)
 
 pub invariant_of-self : goal.invariant_of-self
 invariant_of-self g c =
     let lists = c.self.inside.lists.items in
     let buffers = c.self.inside.buffers.items in
-    let new = c.transfer.new.lists in
-    let filled = c.transfer.new.buffers in
-    let m = c.phase-settled.result.matching in
-    let have = have_cells lists c.deref.result.now buffers c.args.self.now c.fill.new.self m (phase_of c.pair_phase.result).matching c.deref.ensures.value c.self.view_is c.requires.cells c.fill.ensures.orders c.pair_phase.ensures.phase.best (ap (λ (p : Phase). p.matching) c.phase-settled.ensures) in
-    let x = crossed m lists c.deref_mut.result.now buffers c.deref_mut-2.result.now new filled c.deref_mut.ensures.value c.deref_mut-2.ensures.value have c.transfer.ensures.moves c.transfer.ensures.room c.transfer.ensures.outputs in
+    let new = c.cross_matched.new.lists in
+    let filled = c.cross_matched.new.buffers in
+    let m = c.settle-settled.result.matching in
+    let have = have_cells lists buffers c.args.self.now c.self.inside.offers m c.self.view_is c.requires.cells c.self.invariant.offered c.settle-settled.ensures.best in
+    let x = crossed m lists c.deref_mut.result.now buffers c.deref_mut-2.result.now new filled c.deref_mut.ensures.value c.deref_mut-2.ensures.value have c.cross_matched.ensures.moves c.cross_matched.ensures.room c.cross_matched.ensures.outputs in
     let long = lists_long m lists buffers new filled x.have x.moves x.rooms in
     let longer = buffers_long m lists buffers new filled x.have x.moves x.rooms in
     let size = c.deref_mut.ensures.len in
@@ -66,36 +71,41 @@ invariant_of-self g c =
     let values = ap length c.deref_mut-2.ensures.value in
     let is : take c.self.inside.lists.len (new ++ drop (length new) lists) ≡ new = whole c.self.inside.lists.len new lists (omega arith) (omega arith) in
     let are : take c.self.inside.buffers.len (filled ++ drop (length filled) buffers) ≡ filled = whole c.self.inside.buffers.len filled buffers (omega arith) (omega arith) in
-    let offered : ports c.self.inside.offers ≡ ports c.fill.new.self =
-    c.self.invariant.offered ∙ sym (ap ports c.fill.ensures.orders ∙ length-map (cells_of c.deref.result.now) output_order ∙ length-map c.deref.result.now (λ (w : Waiting). w.cells) ∙ ap length c.deref.ensures.value) in
-    subst (λ (ls : List Waiting). AreSquare ls (take c.self.inside.buffers.len (filled ++ drop (length filled) buffers)) (ports c.fill.new.self)) (sym is)
-    (subst (λ (bs : List Buffered). AreSquare new bs (ports c.fill.new.self)) (sym are)
-    (subst (AreSquare new filled) offered
-    (crossed_square m lists buffers new filled x.have x.moves x.rooms (ports c.self.inside.offers) c.self.invariant x.outputs)))
+    let follows = c.cross_matched.ensures.offers in
+    let square = crossed_square m lists buffers new filled x.have x.moves x.rooms (ports c.self.inside.offers) c.self.invariant.square x.outputs in
+    let offered : ports c.self.inside.offers ≡ ports c.cross_matched.new.offers =
+    as_offered lists c.self.inside.offers c.self.invariant.offered ∙ sym long ∙ sym (as_offered new c.cross_matched.new.offers follows) in
+    subst (λ (ls : List Waiting). AreOffered ls (take c.self.inside.buffers.len (filled ++ drop (length filled) buffers)) c.cross_matched.new.offers) (sym is)
+    (subst (λ (bs : List Buffered). AreOffered new bs c.cross_matched.new.offers) (sym are)
+    (record { square = subst (AreSquare new filled) offered square; offered = follows }))
+
+pub returns-clause-best : goal.returns-clause-best
+returns-clause-best g c =
+    subst (λ (o : Orders). IsInputBest o c.settle-settled.result.matching)
+    (c.self.invariant.offered ∙ ap (λ (q : Held). orders_of q.inputs) c.self.view_is) c.settle-settled.ensures.best
 
 pub returns-clause-proposals : goal.returns-clause-proposals
 returns-clause-proposals g c =
-    ap (λ (p : Phase). p.proposals) c.phase-settled.ensures ∙ c.pair_phase.ensures.phase.count
-    ∙ ap (λ (p : Phase). proposals c.fill.new.self p.matching) (sym c.phase-settled.ensures)
-    ∙ ap (λ (o : Orders). proposals o c.phase-settled.result.matching) (c.fill.ensures.orders ∙ ap (λ (ls : List Waiting). orders_of (cells_of ls)) c.deref.ensures.value ∙ ap (λ (q : Held). orders_of q.inputs) c.self.view_is)
+    c.settle-settled.ensures.count
+    ∙ ap (λ (o : Orders). proposals o c.settle-settled.result.matching)
+    (c.self.invariant.offered ∙ ap (λ (q : Held). orders_of q.inputs) c.self.view_is)
 
 pub returns-clause-few : goal.returns-clause-few
 returns-clause-few g c =
-    let n : ports c.fill.new.self ≡ length c.args.self.now.inputs =
-    ap ports c.fill.ensures.orders ∙ length-map (cells_of c.deref.result.now) output_order ∙ ap (λ (ls : List Waiting). length (cells_of ls)) c.deref.ensures.value ∙ ap (λ (q : Held). length q.inputs) c.self.view_is in
-    let most = c.pair_phase.ensures.phase.few in
-    let made = ap (λ (p : Phase). p.proposals) c.phase-settled.ensures in
-    subst (λ (k : ℕ). c.phase-settled.result.proposals ≤ k * k) n (omega arith)
+    let n : ports c.self.inside.offers ≡ length c.args.self.now.inputs =
+    ap ports c.self.invariant.offered ∙ length-map (cells_of c.self.inside.lists.items) output_order
+    ∙ ap (λ (q : Held). length q.inputs) c.self.view_is in
+    subst (λ (k : ℕ). c.settle-settled.result.proposals ≤ k * k) n c.settle-settled.ensures.few
 
 pub returns-clause-from_inputs : goal.returns-clause-from_inputs
 returns-clause-from_inputs g c =
     let lists = c.self.inside.lists.items in
     let buffers = c.self.inside.buffers.items in
-    let new = c.transfer.new.lists in
-    let filled = c.transfer.new.buffers in
-    let m = c.phase-settled.result.matching in
-    let have = have_cells lists c.deref.result.now buffers c.args.self.now c.fill.new.self m (phase_of c.pair_phase.result).matching c.deref.ensures.value c.self.view_is c.requires.cells c.fill.ensures.orders c.pair_phase.ensures.phase.best (ap (λ (p : Phase). p.matching) c.phase-settled.ensures) in
-    let x = crossed m lists c.deref_mut.result.now buffers c.deref_mut-2.result.now new filled c.deref_mut.ensures.value c.deref_mut-2.ensures.value have c.transfer.ensures.moves c.transfer.ensures.room c.transfer.ensures.outputs in
+    let new = c.cross_matched.new.lists in
+    let filled = c.cross_matched.new.buffers in
+    let m = c.settle-settled.result.matching in
+    let have = have_cells lists buffers c.args.self.now c.self.inside.offers m c.self.view_is c.requires.cells c.self.invariant.offered c.settle-settled.ensures.best in
+    let x = crossed m lists c.deref_mut.result.now buffers c.deref_mut-2.result.now new filled c.deref_mut.ensures.value c.deref_mut-2.ensures.value have c.cross_matched.ensures.moves c.cross_matched.ensures.room c.cross_matched.ensures.outputs in
     let long = lists_long m lists buffers new filled x.have x.moves x.rooms in
     let size = c.deref_mut.ensures.len in
     let value = ap length c.deref_mut.ensures.value in
@@ -106,11 +116,11 @@ pub returns-clause-to_outputs : goal.returns-clause-to_outputs
 returns-clause-to_outputs g c =
     let lists = c.self.inside.lists.items in
     let buffers = c.self.inside.buffers.items in
-    let new = c.transfer.new.lists in
-    let filled = c.transfer.new.buffers in
-    let m = c.phase-settled.result.matching in
-    let have = have_cells lists c.deref.result.now buffers c.args.self.now c.fill.new.self m (phase_of c.pair_phase.result).matching c.deref.ensures.value c.self.view_is c.requires.cells c.fill.ensures.orders c.pair_phase.ensures.phase.best (ap (λ (p : Phase). p.matching) c.phase-settled.ensures) in
-    let x = crossed m lists c.deref_mut.result.now buffers c.deref_mut-2.result.now new filled c.deref_mut.ensures.value c.deref_mut-2.ensures.value have c.transfer.ensures.moves c.transfer.ensures.room c.transfer.ensures.outputs in
+    let new = c.cross_matched.new.lists in
+    let filled = c.cross_matched.new.buffers in
+    let m = c.settle-settled.result.matching in
+    let have = have_cells lists buffers c.args.self.now c.self.inside.offers m c.self.view_is c.requires.cells c.self.invariant.offered c.settle-settled.ensures.best in
+    let x = crossed m lists c.deref_mut.result.now buffers c.deref_mut-2.result.now new filled c.deref_mut.ensures.value c.deref_mut-2.ensures.value have c.cross_matched.ensures.moves c.cross_matched.ensures.room c.cross_matched.ensures.outputs in
     let long = buffers_long m lists buffers new filled x.have x.moves x.rooms in
     let size = c.deref_mut-2.ensures.len in
     let value = ap length c.deref_mut-2.ensures.value in

@@ -4,7 +4,7 @@ use Rattle.cq_ideal.specs.IdealSlot.{fronts, rests}
 use Rattle.cq_list.specs.InputList.{Waiting}
 use Rattle.cq_urgency.specs.OutputBuffer.{Buffered, cells_in}
 use Rattle.cq_prefs.specs.Orders.{ports}
-use Rattle.cq_engine.specs.Parts.{Queues as Held, AreSquare, buffer_room, front_of, popped}
+use Rattle.cq_engine.specs.Parts.{Queues as Held, AreOffered, buffer_room, front_of, popped}
 use Rattle.cq_engine.proofs.Queued.{whole, fronts_shown, rests_shown, rooms_shown, popped_square}
 use Rattle.cq_engine.proofs.queues.Queues.depart.Goals as goal
 
@@ -18,12 +18,15 @@ pub invariant_of-self : goal.invariant_of-self
 invariant_of-self c =
     let buffers = c.self.inside.buffers.items in
     let is = left c.self.inside.buffers.len buffers c.deref_mut.result.now c.pop_each.new.buffers c.deref_mut.ensures.value c.deref_mut.ensures.len c.pop_each.ensures.buffers in
-    subst (λ (bs : List Buffered). AreSquare c.self.inside.lists.items bs (ports c.self.inside.offers)) (sym is)
-    (popped_square c.self.inside.lists.items buffers (ports c.self.inside.offers) c.self.invariant)
+    subst (λ (bs : List Buffered). AreOffered c.self.inside.lists.items bs c.self.inside.offers) (sym is)
+    (record {
+      square = popped_square c.self.inside.lists.items buffers (ports c.self.inside.offers) c.self.invariant.square;
+      offered = c.self.invariant.offered;
+    })
 
 pub returns-clause-gone : goal.returns-clause-gone
 returns-clause-gone c =
-    let square = c.self.invariant in
+    let square = c.self.invariant.square in
     let as_many = square.as_many in
     let value = ap length c.deref_mut.ensures.value in
     let inputs = ap (λ (q : Held). length q.inputs) c.self.view_is in

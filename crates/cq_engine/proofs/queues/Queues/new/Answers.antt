@@ -5,6 +5,7 @@ use Rattle.cq_base.specs.declared.cell.Queued.{Queued}
 use Rattle.cq_urgency.specs.OutputBuffer.{Buffered}
 use Rattle.cq_prefs.specs.Orders.{ports}
 use Rattle.cq_engine.proofs.Queued.{new_square}
+use Rattle.cq_engine.proofs.Offered.{none_offered}
 use Rattle.cq_engine.proofs.queues.Queues.new.Goals as goal
 
 pub invariant_of-result : goal.invariant_of-result
@@ -17,4 +18,7 @@ invariant_of-result c =
     let long = sym (length-map lists (λ (w : Waiting). w.cells)) ∙ ap length c.in_ok-new_lists.ensures.cells ∙ length-replicate k none in
     let as_many = sym (length-map buffers (λ (b : Buffered). b.cells)) ∙ ap length c.in_ok-new_buffers.ensures.cells ∙ length-replicate (length c.args.to_outputs.now) none ∙ square in
     let offered = ap ports c.in_ok-new.ensures ∙ length-replicate k [] in
-    new_square lists buffers (ports c.in_ok-new.field-0) k c.requires.few offered c.in_ok-new_lists.ensures.outputs long as_many
+    record {
+      square = new_square lists buffers (ports c.in_ok-new.field-0) k c.requires.few offered c.in_ok-new_lists.ensures.outputs long as_many;
+      offered = c.in_ok-new.ensures ∙ none_offered lists k c.in_ok-new_lists.ensures.cells;
+    }

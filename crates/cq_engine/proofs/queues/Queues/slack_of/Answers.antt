@@ -37,7 +37,7 @@ returns c =
     let seen_there = ap (λ (q : Queues). q.buffers) c.self.view_is in
     let inside_too : output < length buffers =
     let many = ap length seen in let long = length-map lists (λ (w : Waiting). w.cells) in
-    let as_many = c.self.invariant.as_many in let output = c.requires.output in omega arith in
+    let as_many = c.self.invariant.square.as_many in let output = c.requires.output in omega arith in
     let read_too = get_or_read buffers output _ inside_too c.index.ensures none in
     let cushion_is : c.cushion.result ≡ cushion key (list_of c.args.self.now.buffers output) =
     c.cushion.ensures

@@ -1,0 +1,55 @@
+-- Where nothing is offered the empty matching is the best for the inputs, and no proposal is made: no offered pair is
+-- left out, and no input has an order to go down.
+use Rattle.std.proofs.Common.{◌≡◌, ℕ, ◌<◌, ◌≤◌, List, [], ◌∷◌, length, replicate, Option, Some, None, refl, sym, ap, ◌∙◌, ⊎_elim, arith}
+use Rattle.std.specs.List.{range_with_len, sum_by}
+use Rattle.std.proofs.lemmas.Bool.{cases_lt}
+use Rattle.std.proofs.lemmas.List.{length-replicate, get_or_past}
+use Rattle.std.proofs.lemmas.List.Sums.{sum-map, sum_by-cons}
+use Rattle.cq_prefs.specs.Orders.{Orders, ports, outputs_of, IsOffered}
+use Rattle.cq_prefs.specs.Pairing.{partner_of, depth, spent, proposals, IsInputBest}
+use Rattle.cq_prefs.proofs.Pairs.{nobody}
+
+zeros : (f : ℕ → ℕ) (xs : List ℕ) → ((k : ℕ) → f k ≡ 0) → sum_by f xs ≡ 0
+zeros f [] none = refl
+zeros f (x ∷ xs) none =
+    let here = none x in
+    let rest = zeros f xs none in
+    let all = sum_by-cons f x xs in
+    omega arith
+
+module _ (o : Orders) (none : (i : ℕ) → outputs_of o i ≡ []) where
+  not_offered : (i j : ℕ) → IsOffered o i j → ⊥
+  not_offered i j h = let e = ap length (none i) in omega arith
+
+  nobody_has : (i j : ℕ) → partner_of (replicate (ports o) None) i ≡ Some j → ⊥
+  nobody_has i j h = let gone : None ≡ Some j = sym (nobody (ports o) i) ∙ h in let P : ⊥ = cc in P
+
+  pub none_best : IsInputBest o (replicate (ports o) None)
+  none_best =
+      let free : Option ℕ = None in
+      record {
+        stable = record {
+          matching = record {
+            size = length-replicate (ports o) free;
+            offered = λ i j h. absurd (nobody_has i j h);
+            once = λ i k j h _. absurd (nobody_has i j h);
+          };
+          settled = λ i j h _. absurd (not_offered i j h);
+        };
+        best = λ m _ i.
+            let e = ap length (none i) in
+            let at = ap (depth (outputs_of o i)) (nobody (ports o) i) in omega arith;
+      }
+
+  pub none_proposed : 0 ≡ proposals o (replicate (ports o) None)
+  none_proposed =
+      sym
+      (sum-map (λ i. spent (outputs_of o i) (partner_of (replicate (ports o) None) i)) (range_with_len 0 (ports o))
+      ∙ zeros (λ i. spent (outputs_of o i) (partner_of (replicate (ports o) None) i)) (range_with_len 0 (ports o))
+      (λ i. ap (spent (outputs_of o i)) (nobody (ports o) i) ∙ ap length (none i)))
+
+-- the orders before the last are empty, and past the last there is none
+pub none_at_all : (o : Orders) (n : ℕ) → ports o ≤ n → ((i : ℕ) → i < n → outputs_of o i ≡ []) → (i : ℕ) →
+    outputs_of o i ≡ []
+none_at_all o n all none i =
+    ⊎_elim (none i) (λ past. get_or_past o.outputs i [] (omega arith)) (cases_lt i n)
