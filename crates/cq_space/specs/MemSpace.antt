@@ -76,6 +76,10 @@ MayPass s = next_fails s.calls ≡ false
 abbrev pub IsCounted : MemSpace → MemSpace → Type 0
 IsCounted old new = new.calls ≡ one_more old.calls
 
+-- the call was not counted
+abbrev pub IsUncounted : MemSpace → MemSpace → Type 0
+IsUncounted old new = new.calls ≡ old.calls
+
 -- n more bytes of the open name do not go past its cut, and are no more than one call may move
 abbrev pub MayMove : MemSpace → ℕ → Type 0
 MayMove s n = StaysBefore (cut_at s.mode s.read_cuts s.write_cuts) (moved_at s.mode s.contents) n × IsShort s.calls n

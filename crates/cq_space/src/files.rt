@@ -24,8 +24,8 @@ pub struct Failed;
 ///   implementation keeps it in a `u64` that stays at its last value. A call that does not fail leaves
 ///   the count as it was.
 ///
-/// An implementation may promise more, by the members `may_fail`, `may_pass`, `may_move`, `keeps` and `counts`. Files that
-/// fail only where a test sets them to fail are an example.
+/// An implementation may promise more, by the members `may_fail`, `may_pass`, `may_move`, `keeps`, `counts` and `leaves`.
+/// Files that fail only where a test sets them to fail are an example.
 pub trait Files {
     /// The mode, the told contents and the count of faults.
     ghost space: { Self → Space };
@@ -44,6 +44,9 @@ pub trait Files {
 
     /// What each call that can fail moves on beside the meaning, from before it to after it.
     ghost counts: { Self → Self → Type 0 } = { λ _ _. Unit {0} };
+
+    /// What the one call that cannot fail leaves beside the meaning, from before it to after it.
+    ghost leaves: { Self → Self → Type 0 } = { λ _ _. Unit {0} };
 
     /// Begins to read a name from its first byte. The mode has to be closed.
     ///
@@ -88,6 +91,7 @@ pub trait Files {
         ensures closed { (space self.new).mode ≡ Closed }
         ensures told { (space self.new).told ≡ (space self.old).told }
         ensures uncounted { (space self.new).faults ≡ (space self.old).faults }
+        ensures left { leaves self.old self.new }
         ensures kept { keeps self.old self.new };
 
     /// Begins to write a name, with no bytes. The mode has to be closed.

@@ -3,7 +3,7 @@ ghost use Rattle.std.specs.Prelude.{◌≡◌, ◌+◌, ◌-◌, ◌<◌, ◌≤
 ghost use Rattle.std.specs.FinMap.{insert, get, empty};
 ghost use Rattle.cq_space.specs.Lasting.{cuts_last};
 ghost use Rattle.cq_space.specs.Space.{Closed};
-ghost use Rattle.cq_space.specs.MemSpace.{told_space, IsCounted, MayFail, MayMove, MayPass, KeepsCuts};
+ghost use Rattle.cq_space.specs.MemSpace.{told_space, IsCounted, IsUncounted, MayFail, MayMove, MayPass, KeepsCuts};
 
 use crate::cut::before_cut;
 use crate::entries::{
@@ -180,6 +180,8 @@ impl Files for MemFiles {
     ghost keeps = { KeepsCuts };
 
     ghost counts = { IsCounted };
+
+    ghost leaves = { IsUncounted };
 
     ghost lasts = { cuts_last };
 
