@@ -32,7 +32,7 @@ use Rattle.cq_laws.proofs.Told.{transfers_tell}
 -- ## Transfers that stand before others
 
 module _ (P : Transfer → Type 0) where
-  NoneOf : List Transfer → Type 0
+  unfoldable pub NoneOf : List Transfer → Type 0
   NoneOf xs = AllByRecursion (λ t. P t → ⊥) xs
 
   no_head : (ys : List Transfer) (u : Transfer) (rest : List Transfer) → NoneOf ys → P u → ys ≡ u ∷ rest → ⊥
@@ -40,7 +40,7 @@ module _ (P : Transfer → Type 0) where
   no_head [] u rest none is e = cc
   no_head (y ∷ ys) u rest none is e = let same : y ≡ u = cc in none.0 (subst P (sym same) is)
 
-  same_parts : (xs ys us vs : List Transfer) → AllByRecursion P xs → NoneOf ys → AllByRecursion P us → NoneOf vs →
+  pub same_parts : (xs ys us vs : List Transfer) → AllByRecursion P xs → NoneOf ys → AllByRecursion P us → NoneOf vs →
       xs ++ ys ≡ us ++ vs → (xs ≡ us) × (ys ≡ vs)
   same_parts [] ys [] vs a b c d e = (refl, e)
   same_parts [] ys (u ∷ us) vs a b c d e = absurd (no_head ys u (us ++ vs) b c.0 e)
@@ -83,12 +83,12 @@ transfers_at m lists slot phase = all_noted (λ i. noted slot phase i (list_of l
     (λ t. (t.slot ≡ slot) × (t.phase ≡ phase)) (λ i t e. noted_at slot phase i (list_of lists i) (partner_of m i) t
     e) 0 (length m)
 
-weaker : (P Q : Transfer → Type 0) → ((t : Transfer) → P t → Q t) → (xs : List Transfer) → AllByRecursion P xs →
+pub weaker : (P Q : Transfer → Type 0) → ((t : Transfer) → P t → Q t) → (xs : List Transfer) → AllByRecursion P xs →
     AllByRecursion Q xs
 weaker P Q w [] all = tt
 weaker P Q w (x ∷ xs) all = (w x all.0, weaker P Q w xs all.1)
 
-both_hold : (P : Transfer → Type 0) (xs ys : List Transfer) → AllByRecursion P xs → AllByRecursion P ys →
+pub both_hold : (P : Transfer → Type 0) (xs ys : List Transfer) → AllByRecursion P xs → AllByRecursion P ys →
     AllByRecursion P (xs ++ ys)
 both_hold P [] ys a b = b
 both_hold P (x ∷ xs) ys a b = (a.0, both_hold P xs ys a.1 b)
@@ -212,7 +212,7 @@ module _ (ms : List Machine) where
         second.1,
       )
 
-slot_at : (MayChoose : Orders → Partners → Type 0) (ms : List Machine) (slot : ℕ) (cells : List (Option Cell))
+pub slot_at : (MayChoose : Orders → Partners → Type 0) (ms : List Machine) (slot : ℕ) (cells : List (Option Cell))
     (f g : Fabric)
     (r : SlotRecord) → FabricSlot MayChoose ms slot cells f r g → AllByRecursion (λ t. t.slot ≡ slot) (transfers_in r)
 unfolding transfers_in
@@ -241,7 +241,7 @@ module _ (limits : List (Option ℕ)) (ms : List Machine) where
       let marks = x.marks ∙ ap (λ (a : Admission). a.marks) judged ∙ sym y.marks in
       (λ k. record { admission = judged k; of_slot = one.0 k }, λ k. record { state = one.1 k; marks = marks k })
 
-  run_later : (slot : ℕ) (traffic : List (List (Option Cell))) (f g : Marked Fabric) (rs : List LimitedRecord) →
+  pub run_later : (slot : ℕ) (traffic : List (List (Option Cell))) (f g : Marked Fabric) (rs : List LimitedRecord) →
       LimitedFabricRun IsStable limits ms slot traffic f rs g →
       AllByRecursion (λ t. slot ≤ t.slot) (transfers_of_run (slots_in rs))
   unfolding transfers_of_run

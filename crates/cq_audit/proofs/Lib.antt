@@ -10,3 +10,4 @@ pub mod Phases
 pub mod Rising
 pub mod Crossings
 pub mod Following
+pub mod WholeFollowing

@@ -1,5 +1,6 @@
 //! What a log says.
 ghost use Rattle.std.specs.Prelude.{◌≡◌, ℕ, List, Option};
+ghost use Rattle.cq_base.specs.Arriving.{Arrival};
 ghost use Rattle.cq_base.specs.declared.cell.Cell.{Cell};
 ghost use Rattle.cq_base.specs.declared.cell.Transfer.{Transfer};
 ghost use Rattle.cq_ideal.specs.Admission.{Marked};
@@ -10,6 +11,7 @@ ghost use Rattle.cq_laws.specs.LimitedFabric.{LimitedFabricRun, LimitedRecord, s
 ghost use Rattle.cq_laws.specs.Records.{transfers_of_run};
 ghost use Rattle.cq_audit.specs.Log.{AreInOrder, IsLog, IsLogExact};
 ghost use Rattle.cq_audit.specs.Phase.{IsPhaseExact};
+ghost use Rattle.cq_audit.specs.StableRun.{StableRun};
 ghost use Rattle.cq_audit.specs.Trace.{IsTraceExact};
 
 /// A log is read in one way, or refused at one line, and never both. Each of its lines is behind all before it.
@@ -36,12 +38,17 @@ pub fn phases_are_exact()
 {}
 
 /// Of the stable runs over the same slots from one state, one has these transfers: in each phase they tell the
-/// matching. So a replay has no choice. It does nothing: its contract is the claim.
-#[tactic(auto, using(crate::proofs::Following::one_stable_run))]
+/// matching. So it is with whole runs, which end by themselves, and a replay has no choice. It does nothing: its
+/// contract is the claim.
+#[tactic(auto, using(crate::proofs::Following::one_stable_run, crate::proofs::WholeFollowing::one_whole_run))]
 pub fn transfers_tell_the_run()
-    ensures { (limits : List (Option ℕ)) (ms : List Machine) (slot : ℕ) (traffic : List (List (Option Cell)))
+    ensures slots { (limits : List (Option ℕ)) (ms : List Machine) (slot : ℕ) (traffic : List (List (Option Cell)))
         (f g h : Marked Fabric) (rs ss : List LimitedRecord) →
         LimitedFabricRun IsStable limits ms slot traffic f rs g →
         LimitedFabricRun IsStable limits ms slot traffic f ss h →
+        transfers_of_run (slots_in rs) ≡ transfers_of_run (slots_in ss) → (rs ≡ ss) × (g ≡ h) }
+    ensures whole { (limits : List (Option ℕ)) (ms : List Machine) (came : List Arrival)
+        (start g h : Marked Fabric) (rs ss : List LimitedRecord) →
+        StableRun limits ms came start rs g → StableRun limits ms came start ss h →
         transfers_of_run (slots_in rs) ≡ transfers_of_run (slots_in ss) → (rs ≡ ss) × (g ≡ h) }
 {}

@@ -1,0 +1,100 @@
+-- Of whole stable runs one has these transfers. The longer of two runs passes through as many slots as the other
+-- has, and its transfers in them are all those of the other, since its later ones are of later slots. So it is where
+-- the other ended: nothing is to come and nothing waits, and it ends there too.
+use Rattle.std.proofs.Common.{◌≡◌, ℕ, ◌+◌, ◌<◌, ◌≤◌, List, [], ◌∷◌, ◌++◌, length, take, drop, Option, refl, sym, ap, ◌∙◌, subst, ⊎_elim, arith, append_assoc, ◌-◌}
+use Rattle.std.specs.List.{AllByRecursion}
+use Rattle.std.proofs.lemmas.Bool.{cases_lt}
+use Rattle.std.proofs.lemmas.List.{append-nil, take-append-drop}
+use Rattle.cq_base.specs.Arriving.{Arrival}
+use Rattle.cq_base.specs.declared.cell.Cell.{Cell}
+use Rattle.cq_base.specs.declared.cell.Transfer.{Transfer}
+use Rattle.cq_ideal.specs.Admission.{Marked}
+use Rattle.cq_ideal.specs.Ending.{arriving_from, first_slots}
+use Rattle.cq_ideal.proofs.Parted.{arriving_length}
+use Rattle.cq_rank.specs.Machine.{Machine}
+use Rattle.cq_prefs.specs.Pairing.{IsStable}
+use Rattle.cq_laws.specs.Fabric.{Fabric, IsEmptyFabric}
+use Rattle.cq_laws.specs.LimitedFabric.{LimitedFabricRun, LimitedFabricSlot, LimitedRecord, slots_in}
+use Rattle.cq_laws.specs.Records.{transfers_in, transfers_of_run}
+use Rattle.cq_laws.proofs.Parted.{reach, run_of_whole}
+use Rattle.cq_audit.specs.StableRun.{StableRun}
+use Rattle.cq_audit.proofs.Following.{NoneOf, both_hold, one_stable_run, run_later, same_parts, slot_at, weaker}
+
+-- the transfers of records
+abbrev moved : List LimitedRecord → List Transfer
+moved rs = transfers_of_run (slots_in rs)
+
+moved_parts : (xs ys : List LimitedRecord) → moved (xs ++ ys) ≡ moved xs ++ moved ys
+unfolding transfers_of_run
+moved_parts [] ys = refl
+moved_parts (x ∷ xs) ys = ap (λ (l : List Transfer). transfers_in x.of_slot ++ l) (moved_parts xs ys)
+    ∙ sym (append_assoc (transfers_in x.of_slot) (moved xs) (moved ys))
+
+module _ (limits : List (Option ℕ)) (ms : List Machine) where
+  run_before : (slot : ℕ) (traffic : List (List (Option Cell))) (f g : Marked Fabric) (rs : List LimitedRecord) →
+      LimitedFabricRun IsStable limits ms slot traffic f rs g →
+      AllByRecursion (λ t. t.slot < slot + length traffic) (moved rs)
+  unfolding transfers_of_run
+  run_before slot [] f g [] x = tt
+  run_before slot [] f g (r ∷ rs) x = absurd x
+  run_before slot (cells ∷ traffic) f g [] x = absurd x
+  run_before slot (cells ∷ traffic) f g (r ∷ rs) x =
+      both_hold (λ t. t.slot < slot + length (cells ∷ traffic)) (transfers_in r.of_slot) (moved rs)
+      (weaker (λ t. t.slot ≡ slot) (λ t. t.slot < slot + length (cells ∷ traffic)) (λ t at. omega arith)
+      (transfers_in r.of_slot) (slot_at IsStable ms slot r.admission.cells f.state x.0.state r.of_slot x.1.runs))
+      (weaker (λ t. t.slot < slot + 1 + length traffic) (λ t. t.slot < slot + length (cells ∷ traffic))
+      (λ t below. omega arith) (moved rs) (run_before (slot + 1) traffic x.0 g rs x.2))
+
+  module _ (came : List Arrival) (start : Marked Fabric) where
+    Step : ℕ → List (Option Cell) → Marked Fabric → LimitedRecord → Marked Fabric → Type 0
+    Step = LimitedFabricSlot IsStable limits ms
+
+    nothing_waits : Marked Fabric → Type 0
+    nothing_waits f = IsEmptyFabric f.state
+
+    whole_run : (rs : List LimitedRecord) (g : Marked Fabric) → StableRun limits ms came start rs g →
+        LimitedFabricRun IsStable limits ms 0 (first_slots came (length rs)) start rs g
+    unfolding Step nothing_waits
+    whole_run rs g w = run_of_whole Step came start rs nothing_waits g w
+
+    no_longer : (rs ss : List LimitedRecord) (g h : Marked Fabric) → StableRun limits ms came start rs g →
+        StableRun limits ms came start ss h → moved rs ≡ moved ss → length rs ≤ length ss
+    unfolding Step NoneOf
+    no_longer rs ss g h w v same = ⊎_elim (λ (fewer : length ss < length rs). shorter fewer) (λ enough. enough)
+        (cases_lt (length ss) (length rs))
+      where
+        shorter : length ss < length rs → length rs ≤ length ss
+        shorter fewer =
+            let n = length ss in
+            let r = reach Step came start rs n (length rs) g (omega arith) (whole_run rs g w) in
+            let long = arriving_length came 0 n in
+            let first_before = run_before 0 (first_slots came n) start r.state (take n rs) r.after in
+            let others_before = run_before 0 (first_slots came n) start h ss (whole_run ss h v) in
+            let later = run_later limits ms n (arriving_from came n (length rs - n)) r.state g (drop n rs) r.rest in
+            let below : (xs : List LimitedRecord) → AllByRecursion (λ t. t.slot < 0 + length (first_slots came n))
+            (moved xs) →
+            AllByRecursion (λ t. t.slot < n) (moved xs) = λ xs all.
+            weaker (λ t. t.slot < 0 + length (first_slots came n)) (λ t. t.slot < n) (λ t b. omega arith) (moved xs)
+            all in
+            let parted : moved (take n rs) ++ moved (drop n rs) ≡ moved ss ++ [] =
+            sym (moved_parts (take n rs) (drop n rs)) ∙ ap moved (take-append-drop n rs) ∙ same ∙ sym
+            (append-nil (moved ss)) in
+            let both = same_parts (λ t. t.slot < n) (moved (take n rs)) (moved (drop n rs)) (moved ss) []
+            (below (take n rs) first_before)
+            (weaker (λ t. n ≤ t.slot) (λ t. t.slot < n → ⊥) (λ t l b. let P : ⊥ = omega arith in P)
+            (moved (drop n rs)) later)
+            (below ss others_before) tt parted in
+            let one = one_stable_run limits ms 0 (first_slots came n) start r.state h (take n rs) ss r.after
+            (whole_run ss h v) both.0 in
+            w.first n r.state r.after v.all_came
+            (subst (λ (f : Marked Fabric). IsEmptyFabric f.state) (sym one.1) v.empty)
+
+    pub one_whole_run : (rs ss : List LimitedRecord) (g h : Marked Fabric) → StableRun limits ms came start rs g →
+        StableRun limits ms came start ss h → moved rs ≡ moved ss → (rs ≡ ss) × (g ≡ h)
+    one_whole_run rs ss g h w v same =
+        let le = no_longer rs ss g h w v same in
+        let ge = no_longer ss rs h g v w (sym same) in
+        let long : length ss ≡ length rs = omega arith in
+        one_stable_run limits ms 0 (first_slots came (length rs)) start g h rs ss (whole_run rs g w)
+        (subst (λ n. LimitedFabricRun IsStable limits ms 0 (first_slots came n) start ss h) long (whole_run ss h v))
+        same
