@@ -24,6 +24,22 @@ admitted_at (false ∷ marks) (cell ∷ cells) zero = refl
 admitted_at (true ∷ marks) (cell ∷ cells) (suc i) = admitted_at marks cells i
 admitted_at (false ∷ marks) (cell ∷ cells) (suc i) = admitted_at marks cells i
 
+pub refused_at_input : (marks : List Bool) (cells : List (Option Cell)) (i : ℕ) → mark_at marks i ≡ true →
+    None ≡ arrival_at (admitted marks cells) i
+refused_at_input marks cells i up =
+    sym (admitted_at marks cells i ∙ ap (λ (b : Bool). unless b (arrival_at cells i)) up)
+
+pub admitted_at_input : (marks : List Bool) (cells : List (Option Cell)) (i : ℕ) → mark_at marks i ≡ false →
+    arrival_at cells i ≡ arrival_at (admitted marks cells) i
+admitted_at_input marks cells i down =
+    sym (admitted_at marks cells i ∙ ap (λ (b : Bool). unless b (arrival_at cells i)) down)
+
+pub length-admitted : (marks : List Bool) (cells : List (Option Cell)) → length (admitted marks cells) ≡ length cells
+length-admitted [] cells = refl
+length-admitted (mark ∷ marks) [] = refl
+length-admitted (true ∷ marks) (cell ∷ cells) = ap suc (length-admitted marks cells)
+length-admitted (false ∷ marks) (cell ∷ cells) = ap suc (length-admitted marks cells)
+
 of_unless : (mark : Bool) (x : Option Cell) (cell : Cell) → unless mark x ≡ Some cell → x ≡ Some cell
 of_unless true x cell h = absurd (let P : ⊥ = cc in P)
 of_unless false x cell h = h

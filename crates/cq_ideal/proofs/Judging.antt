@@ -1,14 +1,44 @@
 -- Arrivals that are judged one after another. The marks so far, and then those of judging what is left, are those of judging all.
-use Rattle.std.proofs.Common.{◌≡◌, ℕ, zero, suc, ◌+◌, ◌<◌, ◌≤◌, Bool, true, false, List, [], ◌∷◌, ◌++◌, length, take, drop, set, get_or, Option, Some, None, refl, sym, ap, ◌∙◌, subst, arith}
-use Rattle.std.proofs.lemmas.List.{length-set}
+-- And what the outputs hold so far, with those that are still to be admitted, is what they hold at the end.
+use Rattle.std.proofs.Common.{◌≡◌, ℕ, zero, suc, ◌+◌, ◌<◌, ◌≤◌, eqb, Bool, true, false, cond, List, [], ◌∷◌, ◌++◌, length, take, drop, set, get_or, Option, Some, None, refl, sym, ap, ◌∙◌, subst, inl, inr, arith, get_or-set_same, get_or-set_other}
+use Rattle.std.proofs.lemmas.Bool.{cases_Bool, eqb-true, eq-eqb}
+use Rattle.std.proofs.lemmas.List.{append-nil, drop_all, drop_more, drop-set-lt, get_or-drop, length-set, set-get_or, take_all}
+use Rattle.std.proofs.lemmas.Option.{unwrap_or-slice_get}
 use Rattle.cq_base.specs.declared.cell.Cell.{Cell}
-use Rattle.cq_ideal.specs.Admission.{mark_after, held_after, marks_after}
+use Rattle.cq_ideal.specs.Admission.{admitted, mark_after, held_after, marks_after}
+use Rattle.cq_ideal.specs.Ideal.{count_for}
+use Rattle.cq_ideal.specs.Limiter.{ComeToPorts, HasPorts, LimiterView}
 
-pub record Judging (limits : List (Option ℕ)) (cells : List (Option Cell)) (held₀ : List ℕ) (marks₀ : List Bool) (input : ℕ) (held : List ℕ) (marks : List Bool) : Type 0 where
-  pub judged : take input marks ++ marks_after limits held (drop input marks) (drop input cells) ≡ marks_after limits held₀ marks₀ cells
-  pub inputs : length marks ≡ length marks₀
-  pub outputs : length held ≡ length held₀
-  pub few : (j : ℕ) → get_or held j 0 ≤ get_or held₀ j 0 + input
+-- how many cells will have been admitted for output j
+abbrev to_admit : ℕ → List (Option ℕ) → List ℕ → List Bool → List (Option Cell) → ℕ
+to_admit j limits held marks cells = count_for j (admitted (marks_after limits held marks cells) cells)
+
+pub record Judging (cells : List (Option Cell)) (first : LimiterView) (input : ℕ) (now : LimiterView) : Type 0 where
+  pub limits : now.limits ≡ first.limits
+  pub refused : now.refused ≡ first.refused
+  pub inputs : length now.marks ≡ length first.marks
+  pub outputs : length now.held ≡ length first.held
+  pub judged :
+      take input now.marks ++ marks_after first.limits now.held (drop input now.marks) (drop input cells)
+      ≡ marks_after first.limits first.held first.marks cells
+  pub held : (j : ℕ) → get_or now.held j 0 + to_admit j first.limits now.held (drop input now.marks) (drop input cells)
+      ≡ get_or first.held j 0 + to_admit j first.limits first.held first.marks cells
+  pub few : (j : ℕ) →
+      get_or now.held j 0 + count_for j (drop input cells) ≤ get_or first.held j 0 + count_for j cells
+
+pub judging_first : (cells : List (Option Cell)) (first : LimiterView) → Judging cells first 0 first
+judging_first cells first =
+    record {
+      limits = refl;
+      refused = refl;
+      inputs = refl;
+      outputs = refl;
+      judged = refl;
+      held = λ j. refl;
+      few = λ j. omega arith;
+    }
+
+-- ## One arrival
 
 one_more : (limits : List (Option ℕ)) (held : List ℕ) (input : ℕ) (marks : List Bool) (cell : Option Cell)
     (rest : List (Option Cell)) (up : Bool) → up ≡ mark_after limits held (get_or marks input false) cell →
@@ -22,41 +52,175 @@ one_more limits held zero (mark ∷ marks) cell rest up e lt =
 one_more limits held (suc input) (mark ∷ marks) cell rest up e lt =
     ap (λ (l : List Bool). mark ∷ l) (one_more limits held input marks cell rest up e (omega arith))
 
--- what an output holds grows by one at most
-raised : (held : List ℕ) (o j : ℕ) → get_or (set held o (get_or held o 0 + 1)) j 0 ≤ get_or held j 0 + 1
-raised [] o j = omega arith
-raised (n ∷ held) zero zero = omega arith
-raised (n ∷ held) zero (suc j) = omega arith
-raised (n ∷ held) (suc o) zero = omega arith
-raised (n ∷ held) (suc o) (suc j) = raised held o j
+abbrev one_if : Bool → ℕ
+one_if b = cond b 1 0
 
-one_at_most : (up : Bool) (held : List ℕ) (cell : Option Cell) (j : ℕ) →
-    get_or (held_after up held cell) j 0 ≤ get_or held j 0 + 1
-one_at_most true held cell j = omega arith
-one_at_most false held None j = omega arith
-one_at_most false held (Some cell) j = raised held cell.output j
+-- what an output holds grows by one where the cell is for it
+raised : (held : List ℕ) (o j : ℕ) → o < length held →
+    get_or (set held o (get_or held o 0 + 1)) j 0 ≡ get_or held j 0 + one_if (eqb o j)
+raised held o j inside = elim (cases_Bool (eqb o j)) [
+  | inl same ↦
+      let e : o ≡ j = eqb-true o j same in
+      let one = ap one_if same in
+      let now : get_or (set held o (get_or held o 0 + 1)) j 0 ≡ get_or held j 0 + 1 =
+      subst (λ k. get_or (set held o (get_or held o 0 + 1)) k 0 ≡ get_or held k 0 + 1) e
+      (get_or-set_same held o (get_or held o 0 + 1) 0 inside) in
+      omega arith
+  | inr other ↦
+      let none = ap one_if other in
+      let now : get_or (set held o (get_or held o 0 + 1)) j 0 ≡ get_or held j 0 =
+      get_or-set_other held o j (get_or held o 0 + 1) 0
+      (λ e. absurd (let clash : true ≡ false = sym (eq-eqb o j (sym e)) ∙ other in cc)) in
+      omega arith
+]
 
 as_many : (up : Bool) (held : List ℕ) (cell : Option Cell) → length (held_after up held cell) ≡ length held
 as_many true held cell = refl
 as_many false held None = refl
 as_many false held (Some cell) = length-set held cell.output (get_or held cell.output 0 + 1)
 
-pub judged_next : (limits : List (Option ℕ)) (cells : List (Option Cell)) (held₀ : List ℕ) (marks₀ : List Bool)
-    (input : ℕ) (held : List ℕ) (marks : List Bool) (cell : Option Cell) (up : Bool) (held' : List ℕ) →
-    Judging limits cells held₀ marks₀ input held marks → input < length marks₀ →
-    drop input cells ≡ cell ∷ drop (input + 1) cells → up ≡ mark_after limits held (get_or marks input false) cell →
-    held' ≡ held_after up held cell → Judging limits cells held₀ marks₀ (input + 1) held' (set marks input up)
-judged_next limits cells held₀ marks₀ input held marks cell up held' j lt here e h =
-    let inputs = j.inputs in
-    let one = one_more limits held input marks cell (drop (input + 1) cells) up e (omega arith) in
+-- without a cell the outputs hold what they held
+pub none_held : (up : Bool) (held : List ℕ) → held_after up held None ≡ held
+none_held true held = refl
+none_held false held = refl
+
+-- an admitted cell is no longer to be admitted, but held
+module _ (limits : List (Option ℕ)) (held : List ℕ) (marks : List Bool) (rest : List (Option Cell)) (j : ℕ) where
+  admitted_one : (cell : Option Cell) (up : Bool) → ((c : Cell) → cell ≡ Some c → c.output < length held) →
+      get_or (held_after up held cell) j 0 + to_admit j limits (held_after up held cell) marks rest
+      ≡ get_or held j 0
+      + count_for j (admitted (up ∷ marks_after limits (held_after up held cell) marks rest) (cell ∷ rest))
+  admitted_one cell true inside = refl
+  admitted_one None false inside = refl
+  admitted_one (Some c) false inside = let more = raised held c.output j (inside c refl) in omega arith
+
+  held_one : (mark : Bool) (cell : Option Cell) (up : Bool) → ((c : Cell) → cell ≡ Some c → c.output < length held) →
+      up ≡ mark_after limits held mark cell →
+      get_or (held_after up held cell) j 0 + to_admit j limits (held_after up held cell) marks rest
+      ≡ get_or held j 0 + to_admit j limits held (mark ∷ marks) (cell ∷ rest)
+  held_one mark cell up inside e =
+      admitted_one cell up inside
+      ∙ ap (λ (b : Bool). get_or held j 0 + count_for j (admitted (b ∷ marks_after limits (held_after b held cell)
+      marks rest) (cell ∷ rest))) e
+
+few_one : (up : Bool) (held : List ℕ) (cell : Option Cell) (rest : List (Option Cell)) (j : ℕ) →
+    ((c : Cell) → cell ≡ Some c → c.output < length held) →
+    get_or (held_after up held cell) j 0 + count_for j rest ≤ get_or held j 0 + count_for j (cell ∷ rest)
+few_one true held None rest j inside = omega arith
+few_one true held (Some c) rest j inside = omega arith
+few_one false held None rest j inside = omega arith
+few_one false held (Some c) rest j inside = let more = raised held c.output j (inside c refl) in omega arith
+
+pub judged_next : (cells : List (Option Cell)) (first : LimiterView) (input : ℕ) (now after : LimiterView)
+    (cell : Option Cell) (up : Bool) → Judging cells first input now → input < length first.marks →
+    drop input cells ≡ cell ∷ drop (input + 1) cells →
+    ((c : Cell) → cell ≡ Some c → c.output < length first.held) →
+    up ≡ mark_after now.limits now.held (get_or now.marks input false) cell → after.marks ≡ set now.marks input up →
+    after.held ≡ held_after up now.held cell → after.limits ≡ now.limits → after.refused ≡ now.refused →
+    Judging cells first (input + 1) after
+judged_next cells first input now after cell up so_far lt here inside turned marks held limits refused =
+    let rest = drop (input + 1) cells in
+    let longer = so_far.inputs in
+    let wide = so_far.outputs in
+    let within : (c : Cell) → cell ≡ Some c → c.output < length now.held = λ c e. let l = inside c e in omega arith in
+    let e : up ≡ mark_after first.limits now.held (get_or now.marks input false) cell =
+    turned ∙ ap (λ (l : List (Option ℕ)). mark_after l now.held (get_or now.marks input false) cell) so_far.limits in
     let next : suc input ≡ input + 1 = omega arith in
+    let held' = held_after up now.held cell in
+    let behind : drop (input + 1) after.marks ≡ drop (input + 1) now.marks =
+    ap (drop (input + 1)) marks ∙ drop-set-lt (input + 1) now.marks input up (omega arith) in
+    let ahead : drop input now.marks ≡ get_or now.marks input false ∷ drop (input + 1) now.marks =
+    drop_more now.marks input false (omega arith) in
+    let one = one_more first.limits now.held input now.marks cell rest up e (omega arith) in
     record {
+      limits = limits ∙ so_far.limits;
+      refused = refused ∙ so_far.refused;
+      inputs = ap length marks ∙ length-set now.marks input up ∙ so_far.inputs;
+      outputs = ap length held ∙ as_many up now.held cell ∙ so_far.outputs;
       judged =
-          subst (λ (g : List ℕ). take (input + 1) (set marks input up) ++ marks_after limits g (drop (input + 1) (set marks input up)) (drop (input + 1) cells) ≡ marks_after limits held₀ marks₀ cells) (sym h)
-          (subst (λ (n : ℕ). take n (set marks input up) ++ marks_after limits (held_after up held cell) (drop n (set marks input up)) (drop (input + 1) cells) ≡ marks_after limits held₀ marks₀ cells) next
-          (one ∙ ap (λ (l : List (Option Cell)). take input marks ++ marks_after limits held (drop input marks) l) (sym here) ∙ j.judged));
-      inputs = length-set marks input up ∙ j.inputs;
-      outputs = ap length h ∙ as_many up held cell ∙ j.outputs;
-      few = λ k. let was = j.few k in let now = one_at_most up held cell k in let is = ap
-          (λ (l : List ℕ). get_or l k 0) h in omega arith;
+          ap (λ (l : List Bool). take (input + 1) l ++ marks_after first.limits after.held (drop (input + 1) l) rest)
+          marks
+          ∙ ap (λ (h : List ℕ). take (input + 1) (set now.marks input up) ++ marks_after first.limits h (drop (input
+          + 1) (set now.marks input up)) rest) held
+          ∙ ap (λ (n : ℕ). take n (set now.marks input up) ++ marks_after first.limits held' (drop n (set now.marks
+          input up)) rest) (sym next)
+          ∙ one
+          ∙ ap (λ (l : List (Option Cell)). take input now.marks ++ marks_after first.limits now.held (drop input
+          now.marks) l) (sym here)
+          ∙ so_far.judged;
+      held = λ j.
+          ap (λ (h : List ℕ). get_or h j 0 + to_admit j first.limits h (drop (input + 1) after.marks) rest) held
+          ∙ ap (λ (l : List Bool). get_or held' j 0 + to_admit j first.limits held' l rest) behind
+          ∙ held_one first.limits now.held (drop (input + 1) now.marks) rest j (get_or now.marks input false) cell up
+          within e
+          ∙ ap (λ (l : List Bool). get_or now.held j 0 + to_admit j first.limits now.held l (cell ∷ rest)) (sym ahead)
+          ∙ ap (λ (l : List (Option Cell)). get_or now.held j 0 + to_admit j first.limits now.held (drop input
+          now.marks) l) (sym here)
+          ∙ so_far.held j;
+      few = λ j.
+          let was = so_far.few j in
+          let less = few_one up now.held cell rest j within in
+          let is = ap (λ (l : List ℕ). get_or l j 0) held in
+          let count = ap (count_for j) here in
+          omega arith;
+    }
+
+-- where no cell arrives nothing changes
+pub judged_none : (cells : List (Option Cell)) (first : LimiterView) (input : ℕ) (now : LimiterView) →
+    Judging cells first input now → input < length first.marks → drop input cells ≡ None ∷ drop (input + 1) cells →
+    Judging cells first (input + 1) now
+judged_none cells first input now so_far lt here =
+    let mark = get_or now.marks input false in
+    judged_next cells first input now now None mark so_far lt here (λ c e. absurd (let no : ⊥ = cc in no)) refl
+    (sym (set-get_or now.marks input false)) (sym (none_held mark now.held)) refl refl
+
+-- there is a number to spare for a cell that arrives
+pub one_more_fits : (cells : List (Option Cell)) (first : LimiterView) (input : ℕ) (now : LimiterView) (c : Cell)
+    (most : ℕ) → Judging cells first input now → drop input cells ≡ Some c ∷ drop (input + 1) cells →
+    get_or first.held c.output 0 + count_for c.output cells < most → get_or now.held c.output 0 + 1 < most
+one_more_fits cells first input now c most so_far here few =
+    let was = so_far.few c.output in
+    let count = ap (count_for c.output) here in
+    let one = ap one_if (eq-eqb c.output c.output refl) in
+    omega arith
+
+-- ## All arrivals
+
+none_to_count : (j : ℕ) (cells : List (Option Cell)) → ((k : ℕ) (c : Cell) → get_or cells k None ≡ Some c → ⊥) →
+    count_for j cells ≡ 0
+none_to_count j [] none = refl
+none_to_count j (None ∷ cells) none = none_to_count j cells (λ k c at. none (suc k) c at)
+none_to_count j (Some c ∷ cells) none = absurd (none zero c refl)
+
+pub record Judged (cells : List (Option Cell)) (first now : LimiterView) : Type 0 where
+  pub marks : now.marks ≡ marks_after first.limits first.held first.marks cells
+  pub held : (j : ℕ) → get_or now.held j 0 ≡ get_or first.held j 0 + count_for j (admitted now.marks cells)
+  pub ports : HasPorts now
+
+pub judged_last : (cells : List (Option Cell)) (first : LimiterView) (input : ℕ) (now : LimiterView) →
+    Judging cells first input now → HasPorts first → ComeToPorts (length first.limits) cells →
+    length first.limits ≤ input → Judged cells first now
+judged_last cells first input now so_far has come past =
+    let none : Option Cell = None in
+    let inputs = so_far.inputs in
+    let outputs = so_far.outputs in
+    let many = has.marks in
+    let held = has.held in
+    let limits = ap length so_far.limits in
+    let over : drop input now.marks ≡ [] = drop_all input now.marks (omega arith) in
+    let marks : now.marks ≡ marks_after first.limits first.held first.marks cells =
+    sym (take_all input now.marks (omega arith)) ∙ sym (append-nil (take input now.marks))
+    ∙ ap (λ (l : List Bool). take input now.marks ++ marks_after first.limits now.held l (drop input cells)) (sym over)
+    ∙ so_far.judged in
+    record {
+      marks = marks;
+      held = λ j.
+          let nothing : count_for j (drop input cells) ≡ 0 = none_to_count j (drop input cells)
+          (λ k c at. let l = come.inputs (input + k) c
+          (unwrap_or-slice_get cells (input + k) none ∙ sym (get_or-drop input cells k none) ∙ at) in omega arith) in
+          let left = ap (λ (l : List Bool). to_admit j first.limits now.held l (drop input cells)) over in
+          let all = so_far.held j in
+          let same = ap (λ (l : List Bool). count_for j (admitted l cells)) marks in
+          omega arith;
+      ports = record { held = omega arith; marks = omega arith };
     }

@@ -1,4 +1,6 @@
 pub mod Judging
+pub mod Counting
+pub mod Holding
 pub mod TakenIn
 pub mod Came
 pub mod Admitted

@@ -1,21 +1,29 @@
 -- A run with limits is the run without limits of the admitted arrivals: both step through the same slots, and end at the same
 -- fault. Where no output has a limit all arrivals are admitted, so it is the run without limits of all arrivals.
-use Rattle.std.proofs.Common.{◌≡◌, ℕ, ◌+◌, Bool, List, [], ◌∷◌, Option, Result, Ok, Err, refl, sym, ap, ◌∙◌, subst}
+use Rattle.std.proofs.Common.{◌≡◌, ℕ, zero, suc, ◌+◌, Bool, List, [], ◌∷◌, map, replicate, Option, None, Result, Ok, Err, refl, sym, ap, ◌∙◌, subst}
 use Rattle.std.specs.List.{AllByRecursion}
 use Rattle.cq_base.specs.declared.cell.Cell.{Cell}
+use Rattle.cq_base.specs.Arrivals.{no_arrivals}
 use Rattle.cq_base.specs.declared.cell.TagFault.{TagFault}
+use Rattle.cq_base.specs.declared.cell.Queued.{Queued}
 use Rattle.cq_rank.specs.Machine.{Machine}
-use Rattle.cq_ideal.specs.Admission.{Admission, Marked, NoLimits, RefusesNone, admitted_in, marked, marks_down}
+use Rattle.cq_ideal.specs.Admission.{Admission, Marked, NoLimits, RefusesNone, admitted_in, marked, marks_down, nothing_refused}
 use Rattle.cq_ideal.specs.IdealSlot.{IdealState, Sent, ideal_slot}
-use Rattle.cq_ideal.specs.IdealRun.{Ran, then_ran, ideal_run}
-use Rattle.cq_ideal.specs.LimitedIdeal.{LimitedSent, LimitedRan, ideal_held, ideal_admission, with_admission, limited_slot, then_limited, in_front, limited_run, admitted_traffic, unlimited}
+use Rattle.cq_ideal.specs.IdealRun.{Ran, then_ran, ideal_run, nothing_sent}
+use Rattle.cq_ideal.specs.LimitedIdeal.{LimitedSent, LimitedRan, ideal_held, ideal_admission, with_admission, limited_slot, then_limited, in_front, limited_run, nothing_came, admitted_traffic, unlimited}
 use Rattle.cq_ideal.specs.WholePackets.{AreJudged}
-use Rattle.cq_ideal.proofs.Admitted.{no_limits_refuse_none}
+use Rattle.cq_ideal.proofs.Admitted.{no_arrivals_refuse_none, no_limits_refuse_none}
 
 -- a slot, and what follows where it had no fault
 then_run : List Machine → ℕ → List (List (Option Cell)) → Result Sent TagFault → Result Ran TagFault
 then_run ms slot traffic x =
     elim x [ Ok sent ↦ then_ran sent.gone (ideal_run ms (slot + 1) traffic sent.after) | Err fault ↦ Err fault ]
+
+-- a run without limits, as one with limits that refuses none of these arrivals
+abbrev pub none_refused_ran : List Bool → List (List (Option Cell)) → Result Ran TagFault → Result LimitedRan TagFault
+none_refused_ran marks traffic (Ok ran) =
+    Ok (record { admissions = map (nothing_refused marks) traffic; gone = ran.gone; after = marked marks ran.after })
+none_refused_ran marks traffic (Err fault) = Err fault
 
 module _ (limits : List (Option ℕ)) (ms : List Machine) where
   goes_on : ℕ → List (List (Option Cell)) → Result LimitedSent TagFault → Result LimitedRan TagFault
@@ -175,8 +183,79 @@ module _ (limits : List (Option ℕ)) (ms : List Machine) where
         unlimited (limited_run limits ms slot traffic (marked marks s)) ≡ ideal_run ms slot traffic s
     run_of_all slot traffic s none = run_of_admitted slot traffic (marked marks s) ∙ all_admitted slot traffic s none
 
+    -- and it admits all that comes, slot by slot
+    none_between : (cells : List (Option Cell)) (traffic : List (List (Option Cell))) (gone : List (Option Queued))
+        (after : IdealState) (x : Result Ran TagFault) →
+        then_limited (record { admission = nothing_refused marks cells; gone = gone; after = marked marks after })
+        (none_refused_ran marks traffic x) ≡ none_refused_ran marks (cells ∷ traffic) (then_ran gone x)
+    none_between cells traffic gone after (Ok ran) = refl
+    none_between cells traffic gone after (Err fault) = refl
+
+    goes_on_without : (slot : ℕ) (cells : List (Option Cell)) (traffic : List (List (Option Cell)))
+        (x : Result Sent TagFault) →
+        ((s : IdealState) → limited_run limits ms (slot + 1) traffic (marked marks s)
+        ≡ none_refused_ran marks traffic (ideal_run ms (slot + 1) traffic s)) →
+        goes_on slot traffic (with_admission (nothing_refused marks cells) x)
+        ≡ none_refused_ran marks (cells ∷ traffic) (then_run ms slot traffic x)
+    unfolding goes_on then_run
+    goes_on_without slot cells traffic (Ok sent) rest =
+        ap (then_limited (record {
+          admission = nothing_refused marks cells;
+          gone = sent.gone;
+          after =
+              marked marks sent.after;
+        })) (rest sent.after)
+        ∙ none_between cells traffic sent.gone sent.after (ideal_run ms (slot + 1) traffic sent.after)
+    goes_on_without slot cells traffic (Err fault) rest = refl
+
+    pub slot_of_none : (slot : ℕ) (cells : List (Option Cell)) (s : IdealState) → RefusesNone limits marks cells →
+        limited_slot limits ms slot cells (marked marks s)
+        ≡ with_admission (nothing_refused marks cells) (ideal_slot ms slot cells s)
+    unfolding limited_slot
+    slot_of_none slot cells s none =
+        ap (λ (a : Admission). with_admission a (ideal_slot ms slot a.cells s)) (none (ideal_held s))
+
+    pub run_of_none : (slot : ℕ) (traffic : List (List (Option Cell))) (s : IdealState) →
+        AllByRecursion (RefusesNone limits marks) traffic →
+        limited_run limits ms slot traffic (marked marks s)
+        ≡ none_refused_ran marks traffic (ideal_run ms slot traffic s)
+    unfolding limited_run ideal_run goes_on then_run
+    run_of_none slot [] s none = refl
+    run_of_none slot (cells ∷ traffic) s none =
+        ap (goes_on slot traffic) (slot_of_none slot cells s none.0)
+        ∙ goes_on_without slot cells traffic (ideal_slot ms slot cells s)
+        (λ after. run_of_none (slot + 1) traffic after none.1)
+
   pub none_refused_in : (ports : ℕ) (traffic : List (List (Option Cell))) → NoLimits limits →
       AllByRecursion (RefusesNone limits (marks_down ports)) traffic
   none_refused_in ports [] none = tt
   none_refused_in ports (cells ∷ traffic) none =
       (no_limits_refuse_none limits ports cells none, none_refused_in ports traffic none)
+
+-- ## Slots without arrivals
+
+none_in : (limits : List (Option ℕ)) (marks : List Bool) (slots : ℕ) →
+    AllByRecursion (RefusesNone limits marks) (replicate slots no_arrivals)
+none_in limits marks zero = tt
+none_in limits marks (suc slots) = (no_arrivals_refuse_none limits marks, none_in limits marks slots)
+
+each_same : {X Y : Type 0} (f : X → Y) (n : ℕ) (x : X) → map f (replicate n x) ≡ replicate n (f x)
+each_same f zero x = refl
+each_same f (suc n) x = ap (λ l. f x ∷ l) (each_same f n x)
+
+-- many slots in which nothing comes refuse nothing
+pub rest_refuses_none : (limits : List (Option ℕ)) (ms : List Machine) (slots slot ports : ℕ) (marks : List Bool)
+    (s after : IdealState) →
+    ideal_run ms slot (replicate slots no_arrivals) s ≡ Ok (nothing_sent slots ports after) →
+    limited_run limits ms slot (replicate slots no_arrivals) (marked marks s)
+    ≡ Ok (nothing_came slots ports (marked marks after))
+rest_refuses_none limits ms slots slot ports marks s after ran =
+    run_of_none limits ms marks slot (replicate slots no_arrivals) s (none_in limits marks slots)
+    ∙ ap (none_refused_ran marks (replicate slots no_arrivals)) ran
+    ∙ ap (λ (l : List Admission). Ok (record {
+      admissions = l;
+      gone = replicate slots (replicate ports None);
+      after =
+          marked marks after;
+    }))
+    (each_same (nothing_refused marks) slots no_arrivals)

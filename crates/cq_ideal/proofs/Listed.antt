@@ -1,15 +1,16 @@
 -- The list of one output among those of all. What stands at its place is read through all lists and all rooms, and a call
 -- that changes it changes these at its place alone.
-use Rattle.std.proofs.Common.{◌≡◌, ℕ, zero, suc, ◌<◌, ◌≤◌, eqb, Bool, true, List, [], ◌∷◌, length, map, get_or, set, replicate, refl, sym, ap, ◌∙◌, subst, arith}
+use Rattle.std.proofs.Common.{◌≡◌, ℕ, zero, suc, ◌+◌, ◌<◌, ◌≤◌, ◌^◌, eqb, Bool, true, List, [], ◌∷◌, ◌++◌, length, map, get_or, set, take, replicate, refl, sym, ap, ◌∙◌, subst, arith}
 use Rattle.std.specs.Prelude.{All, IsTrue, ◌↔◌}
 use Rattle.std.specs.List.{list_all}
-use Rattle.std.proofs.lemmas.List.{get_or-map, length-map, length-replicate, get_or-replicate, map-set}
+use Rattle.std.proofs.lemmas.List.{get_or-map, length-map, length-replicate, get_or-replicate, map-append, map-set, replicate-append-replicate, take_more}
+use Rattle.std.proofs.lemmas.List.Elements.{All-push}
 use Rattle.std.proofs.lemmas.List.Folds.{list_all-map}
 use Rattle.std.proofs.lemmas.List.Sums.{AllPass-from_list_all, list_all-from_AllPass}
 use Rattle.std.proofs.lemmas.Bool.{eqb-true, eq-eqb}
 use Rattle.std.proofs.Math.Seq.{map-set_same}
 use Rattle.cq_base.specs.declared.cell.Queued.{Queued}
-use Rattle.cq_ideal.specs.Parts.{AreWithinRooms, QueueView, QueuesView, list_at}
+use Rattle.cq_ideal.specs.Parts.{AreWithinRooms, IsWithin, QueueView, QueuesView, list_at}
 
 abbrev cells_in : QueueView → List Queued
 cells_in q = q.cells
@@ -33,30 +34,77 @@ module _ (items : List QueueView) (o : ℕ) (q : QueueView) (v : QueuesView) (in
   pub room_seen : q.room ≡ get_or v.rooms o 0
   room_seen = ap room_in is ∙ sym (get_or-map room_in items o q 0 here) ∙ ap (λ l. get_or l o 0) rooms_are
 
+  pub room_within : All IsWithin items → length q.cells ≤ q.room
+  room_within held = subst (λ (s : QueueView). length s.cells ≤ s.room) (sym is) (held o q here).0
+
+  pub room_few : All IsWithin items → q.room < 2 ^ 64
+  room_few held = subst (λ (s : QueueView). s.room < 2 ^ 64) (sym is) (held o q here).1
+
   pub lists_after : (s : QueueView) (x y : List Queued) → s.cells ≡ x → x ≡ y → map cells_in (set items o s) ≡ set v.lists o y
   lists_after s x y e f = map-set cells_in items o s ∙ ap (λ l. set l o s.cells) lists_are ∙ ap (set v.lists o) (e ∙ f)
 
   pub rooms_after : (s : QueueView) → s.room ≡ q.room → map room_in (set items o s) ≡ v.rooms
   rooms_after s e = map-set_same room_in items o s q (e ∙ ap room_in is) ∙ rooms_are
 
+-- the lists that were made so far are empty, and have the rooms of the first outputs
+pub record Made (rooms : List ℕ) (n : ℕ) (items : List QueueView) : Type 0 where
+  pub lists : map (λ q. q.cells) items ≡ replicate n []
+  pub rooms_are : map (λ q. q.room) items ≡ take n rooms
+  pub few : All (λ q. q.room < 2 ^ 64) items
+
+pub one_made : (rooms : List ℕ) (n : ℕ) (items more : List QueueView) (q : QueueView) → Made rooms n items →
+    more ≡ items ++ q ∷ [] → n < length rooms → q.cells ≡ [] → q.room ≡ get_or rooms n 0 → q.room < 2 ^ 64 →
+    Made rooms (n + 1) more
+one_made rooms n items more q made is inside empty room one =
+    let none : List Queued = [] in
+    let few : QueueView → Type 0 = λ q. q.room < 2 ^ 64 in
+    record {
+      lists =
+          ap (map cells_in) is ∙ map-append cells_in items (q ∷ [])
+          ∙ ap (λ (l : List (List Queued)). l ++ q.cells ∷ []) made.lists
+          ∙ ap (λ (c : List Queued). replicate n none ++ c ∷ []) empty
+          ∙ replicate-append-replicate n 1 none;
+      rooms_are =
+          ap (map room_in) is ∙ map-append room_in items (q ∷ [])
+          ∙ ap (λ (l : List ℕ). l ++ q.room ∷ []) made.rooms_are
+          ∙ ap (λ (r : ℕ). take n rooms ++ r ∷ []) room
+          ∙ sym (take_more rooms n 0 inside);
+      few = subst (All few) (sym is) (All-push few items q made.few one);
+    }
+
 -- empty lists are within any room
-pub empty_within : (items : List QueueView) (n : ℕ) → map cells_in items ≡ replicate n [] → All (λ q. length q.cells ≤ q.room) items
-empty_within items n e k d inside =
+pub empty_within : (items : List QueueView) (n : ℕ) → map cells_in items ≡ replicate n [] →
+    All (λ q. q.room < 2 ^ 64) items → All IsWithin items
+empty_within items n e few k d inside =
     let long = ap length e in
     let items_long = length-map items cells_in in
     let none : List Queued = [] in
     let count = length-replicate n none in
     let nothing : (get_or items k d).cells ≡ none = sym (get_or-map cells_in items k d none inside) ∙ ap (λ l. get_or l k none) e ∙ get_or-replicate n k none none (omega arith) in
     let zero = ap length nothing in
-    omega arith
+    (omega arith, few k d inside)
 
 -- each list is within its room
-pub within_rooms : (items : List QueueView) (v : QueuesView) → All (λ q. length q.cells ≤ q.room) items → record { lists = map cells_in items; rooms = map room_in items } ≡ v → AreWithinRooms v
+pub within_rooms : (items : List QueueView) (v : QueuesView) → All IsWithin items →
+    record { lists = map cells_in items; rooms = map room_in items } ≡ v → AreWithinRooms v
 within_rooms items v held view_is j = subst AreWithinRooms view_is (go items held) j
   where
-    go : (items : List QueueView) → All (λ q. length q.cells ≤ q.room) items → (j : ℕ) → length (list_at (map cells_in items) j) ≤ get_or (map room_in items) j 0
+    go : (items : List QueueView) → All IsWithin items → (j : ℕ) →
+        length (list_at (map cells_in items) j) ≤ get_or (map room_in items) j 0
     go [] held j = omega arith
-    go (q ∷ items) held zero = held zero q (omega arith)
+    go (q ∷ items) held zero = (held zero q (omega arith)).0
+    go (q ∷ items) held (suc j) = go items (λ k d inside. held (suc k) d (omega arith)) j
+
+-- and each room is a number of 64 bits
+pub few_rooms : (items : List QueueView) (v : QueuesView) → All IsWithin items →
+    record { lists = map cells_in items; rooms = map room_in items } ≡ v → (j : ℕ) → get_or v.rooms j 0 < 2 ^ 64
+few_rooms items v held view_is j =
+    let is = ap (λ (w : QueuesView). get_or w.rooms j 0) view_is in
+    let at = go items held j in omega arith
+  where
+    go : (items : List QueueView) → All IsWithin items → (j : ℕ) → get_or (map room_in items) j 0 < 2 ^ 64
+    go [] held j = omega arith
+    go (q ∷ items) held zero = (held zero q (omega arith)).1
     go (q ∷ items) held (suc j) = go items (λ k d inside. held (suc k) d (omega arith)) j
 
 -- a list without items has length 0

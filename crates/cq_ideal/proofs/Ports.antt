@@ -1,6 +1,6 @@
 -- Arrivals at the ports of a switch. No arrivals are for any ports, and one cell more, for one of the ports, is for them
 -- too. And no more cells come for an output than there are places.
-use Rattle.std.proofs.Common.{◌≡◌, ◌≢◌, ℕ, Result, Ok, Err, ◌+◌, ◌<◌, ◌≤◌, eqb, Bool, true, false, cond, List, [], ◌∷◌, length, get_or, set, Option, Some, None, sym, ap, ◌∙◌, inl, inr, ◌⊎◌, arith, get_or-set_same, get_or-set_other}
+use Rattle.std.proofs.Common.{◌≡◌, ◌≢◌, ℕ, Result, Ok, Err, ◌+◌, ◌<◌, ◌≤◌, eqb, Bool, true, false, cond, List, [], ◌∷◌, length, get_or, set, Option, Some, None, refl, sym, ap, ◌∙◌, inl, inr, ◌⊎◌, arith, get_or-set_same, get_or-set_other}
 use Rattle.std.specs.Prelude.{IfOk, OnOk}
 use Rattle.std.proofs.lemmas.Bool.{cases_Bool, cases_lt, eqb-true, eq-eqb}
 use Rattle.std.proofs.lemmas.List.{set_past, get_or-replicate, get_or_past, length-replicate}
@@ -8,9 +8,13 @@ use Rattle.std.proofs.lemmas.Option.{unwrap_or-slice_get, same_Some}
 use Rattle.cq_base.specs.declared.cell.Cell.{Cell}
 use Rattle.cq_base.specs.Arrivals.{arrival_at, no_arrivals, with_arrival}
 use Rattle.cq_base.specs.declared.cell.TagFault.{TagFault}
+use Rattle.cq_rank.specs.Machine.{Machine}
+use Rattle.cq_ideal.specs.Admission.{Admission, Marked, admission, admitted, marked, marks_after}
 use Rattle.cq_ideal.specs.Ideal.{answer_to, count_for}
-use Rattle.cq_ideal.specs.IdealSlot.{Sent}
+use Rattle.cq_ideal.specs.IdealSlot.{IdealState, Sent, ideal_slot}
+use Rattle.cq_ideal.specs.LimitedIdeal.{LimitedSent, ideal_admission, ideal_held, limited_slot, with_admission}
 use Rattle.cq_ideal.specs.Ranking.{AreForPorts}
+use Rattle.cq_ideal.proofs.Admitted.{length-admitted}
 
 -- nothing comes where nothing came
 none_at : (input : ℕ) (cell : Cell) → arrival_at no_arrivals input ≡ Some cell → ⊥
@@ -73,9 +77,33 @@ count_most j (Some cell ∷ cells) = go (eqb cell.output j) (count_most j cells)
     go true rest = omega arith
     go false rest = omega arith
 
--- what follows where a slot had no fault
-pub after_ok : (r : Result Sent TagFault) (answer : Result (Unit {0}) TagFault) (P : Sent → Type 0) (Q : Type 0) → answer ≡ answer_to r → IfOk r P → ((sent : Sent) → P sent → Q) → OnOk answer Q
-after_ok (Ok sent) (Ok done) P Q e p follows = follows sent p
-after_ok (Ok sent) (Err fault) P Q e p follows = tt
-after_ok (Err fault) (Ok done) P Q e p follows = absurd (let clash : ⊥ = cc in clash)
-after_ok (Err fault) (Err other) P Q e p follows = tt
+-- What follows where a slot had no fault, and it is known what became of its arrivals.
+module _ (limits : List (Option ℕ)) (ms : List Machine) (slot : ℕ) (cells : List (Option Cell)) (old : Marked
+    IdealState) where
+  judged_so : (a : Admission) (x : Result Sent TagFault) (answer : Result (Unit {0}) TagFault) (P : LimitedSent →
+      Type 0)
+      (Q : Type 0) → answer ≡ answer_to (with_admission a x) → IfOk (with_admission a x) P →
+      ((sent : LimitedSent) → sent.admission ≡ a → P sent → Q) → OnOk answer Q
+  judged_so a (Ok sent) (Ok done) P Q e p follows =
+      follows (record { admission = a; gone = sent.gone; after = marked a.marks sent.after }) refl p
+  judged_so a (Ok sent) (Err fault) P Q e p follows = tt
+  judged_so a (Err fault) (Ok done) P Q e p follows = absurd (let clash : ⊥ = cc in clash)
+  judged_so a (Err fault) (Err other) P Q e p follows = tt
+
+  pub after_slot : (answer : Result (Unit {0}) TagFault) (P : LimitedSent → Type 0) (Q : Type 0) →
+      answer ≡ answer_to (limited_slot limits ms slot cells old) → IfOk (limited_slot limits ms slot cells old) P →
+      ((sent : LimitedSent) → sent.admission ≡ ideal_admission limits cells old → P sent → Q) → OnOk answer Q
+  unfolding limited_slot
+  after_slot answer P Q e p follows =
+      let a = ideal_admission limits cells old in
+      judged_so a (ideal_slot ms slot a.cells old.state) answer P Q e p follows
+
+pub admitted_most : (limits : List (Option ℕ)) (cells : List (Option Cell)) (old : Marked IdealState) (a : Admission)
+    (j : ℕ) → a ≡ ideal_admission limits cells old → count_for j a.cells ≤ length cells
+unfolding admission
+admitted_most limits cells old a j is =
+    let marks = marks_after limits (ideal_held old.state) old.marks cells in
+    let most = count_most j (admitted marks cells) in
+    let long = length-admitted marks cells in
+    let same = ap (λ (x : Admission). count_for j x.cells) is in
+    omega arith

@@ -1,6 +1,6 @@
 -- Counts of what is refused. A count over two lists is the sum of the counts over each, so counts add up slot by slot, output by
 -- output. And an arriving cell is admitted or refused by the mark of its input, so it is counted once.
-use Rattle.std.proofs.Common.{◌≡◌, ℕ, ◌+◌, eqb, Bool, true, false, cond, List, [], ◌∷◌, ◌++◌, length, filter, Option, Some, None, refl, sym, ap, ◌∙◌, append_assoc, arith}
+use Rattle.std.proofs.Common.{◌≡◌, ℕ, zero, suc, ◌+◌, eqb, Bool, true, false, cond, List, [], ◌∷◌, ◌++◌, length, filter, replicate, Option, Some, None, refl, sym, ap, ◌∙◌, append_assoc, arith}
 use Rattle.std.specs.List.{enumerate_from, filter_map}
 use Rattle.std.specs.Option.{option_map}
 use Rattle.std.proofs.lemmas.List.{append-nil, length-append}
@@ -17,18 +17,18 @@ count_both : (p : Cell → Bool) (before now : List Cell) →
     length (filter p (before ++ now)) ≡ length (filter p before) + length (filter p now)
 count_both p before now = ap length (filter-append p before now) ∙ length-append (filter p before) (filter p now)
 
-cells_both : (j : ℕ) (before now : List Cell) →
+pub cells_both : (j : ℕ) (before now : List Cell) →
     cells_refused j (before ++ now) ≡ cells_refused j before + cells_refused j now
 unfolding cells_refused
 cells_both j before now = count_both _ before now
 
-packets_both : (j : ℕ) (before now : List Cell) →
+pub packets_both : (j : ℕ) (before now : List Cell) →
     packets_refused j (before ++ now) ≡ packets_refused j before + packets_refused j now
 unfolding packets_refused
 packets_both j before now = count_both _ before now
 
 -- the counts from output j on
-counts_from : ℕ → List (Option ℕ) → List Cell → List Refused
+pub counts_from : ℕ → List (Option ℕ) → List Cell → List Refused
 counts_from j limits cells = filter_map (λ at. option_map (refused_at cells at.0) at.1) (enumerate_from j limits)
 
 more_from : (j : ℕ) (limits : List (Option ℕ)) (before now : List Cell) →
@@ -41,6 +41,34 @@ more_from j (Some limit ∷ limits) before now =
     let cells = cells_both j before now in
     let rest = more_from (j + 1) limits before now in
     λ k. record { output = j; limit = limit; packets = packets k; cells = cells k } ∷ rest k
+
+-- where nothing was refused yet
+pub none_from : (j : ℕ) (limits : List (Option ℕ)) →
+    counts_from j (None ∷ limits) [] ≡ counts_from (j + 1) limits []
+unfolding counts_from
+none_from j limits = refl
+
+pub zero_counted : (j limit : ℕ) (limits : List (Option ℕ)) →
+    counts_from j (Some limit ∷ limits) []
+    ≡ record { output = j; limit = limit; packets = 0; cells = 0 } ∷ counts_from (j + 1) limits []
+unfolding counts_from cells_refused packets_refused
+zero_counted j limit limits = refl
+
+pub counts_from_first : (limits : List (Option ℕ)) → counts_from 0 limits [] ≡ refused_counts limits []
+unfolding refused_counts counts_from
+counts_from_first limits = refl
+
+pub counts_at_end : (j : ℕ) → counts_from j [] [] ≡ []
+unfolding counts_from
+counts_at_end j = refl
+
+-- where no output has a limit there is no count
+no_counts_from : (j n : ℕ) → counts_from j (replicate n None) [] ≡ []
+no_counts_from j zero = counts_at_end j
+no_counts_from j (suc n) = none_from j (replicate n None) ∙ no_counts_from (j + 1) n
+
+pub no_counts : (n : ℕ) → refused_counts (replicate n None) [] ≡ []
+no_counts n = sym (counts_from_first (replicate n None)) ∙ no_counts_from 0 n
 
 pub counts_more : (limits : List (Option ℕ)) (before now : List Cell) →
     refused_counts limits (before ++ now) ≡ with_refused now (refused_counts limits before)

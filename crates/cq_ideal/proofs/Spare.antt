@@ -1,5 +1,5 @@
 -- The spare of each list. A list takes in the cells that come for its output, and gives one away if it then has any.
-use Rattle.std.proofs.Common.{◌≡◌, ℕ, ◌+◌, ◌<◌, ◌≤◌, ◌^◌, Bool, true, false, cond, List, [], ◌∷◌, length, get_or, drop, Option, Some, None, Result, Ok, Err, refl, ap, subst, arith}
+use Rattle.std.proofs.Common.{◌≡◌, ℕ, ◌+◌, ◌<◌, ◌≤◌, ◌^◌, Bool, true, false, cond, List, [], ◌∷◌, length, get_or, drop, Option, Some, None, Result, Ok, Err, refl, ap, ◌∙◌, subst, arith}
 use Rattle.std.specs.Prelude.{nat_lt, is_some, IfOk, slice_get, slice_set}
 use Rattle.std.proofs.lemmas.List.{get_or-map}
 use Rattle.std.proofs.lemmas.List.FromFn.{get_or-map-range_with_len, length-map-range_with_len}
@@ -32,6 +32,13 @@ ranked_for ms slot input (Some cell ∷ cells) ranks j =
     go true rank fault (Err other) e = tt
     go false rank fault r e = tt
 
+-- so each output gets as many as came for it
+pub came_for : (ms : List Machine) (slot : ℕ) (cells : List (Option Cell)) (ranks : List (List ℕ)) (r : Ranking) →
+    ranking ms slot 0 cells ranks ≡ Ok r → (j : ℕ) → count_to j r.came ≡ count_for j cells
+came_for ms slot cells ranks r ok j =
+    let P : Result Ranking TagFault → Type 0 = λ x. IfOk x (λ r. count_to j r.came ≡ count_for j cells) in
+    subst P ok (ranked_for ms slot 0 cells ranks j)
+
 filled_at : (came : List (Option Queued)) (lists : List (List Queued)) (j : ℕ) → j < length lists → get_or (filled came lists) j [] ≡ put_all j came (get_or lists j [])
 unfolding filled
 filled_at came lists j inside = get_or-map-range_with_len (λ j. put_all j came (get_or lists j [])) 0 (length lists) j j [] inside (omega arith)
@@ -39,6 +46,12 @@ filled_at came lists j inside = get_or-map-range_with_len (λ j. put_all j came 
 pub length-filled : (came : List (Option Queued)) (lists : List (List Queued)) → length (filled came lists) ≡ length lists
 unfolding filled
 length-filled came lists = length-map-range_with_len (λ j. put_all j came (get_or lists j [])) 0 (length lists)
+
+-- each list then has the cells that came for its output beside its own
+pub filled_long : (came : List (Option Queued)) (lists : List (List Queued)) (j : ℕ) → j < length lists →
+    length (get_or (filled came lists) j []) ≡ length (get_or lists j []) + count_to j came
+filled_long came lists j inside =
+    ap (λ (xs : List Queued). length xs) (filled_at came lists j inside) ∙ length-put_all j came (get_or lists j [])
 
 -- what a list gives away, and what is left of it
 front_and_rest : (xs : List Queued) → cond (is_some (slice_get xs 0)) 1 0 + length (drop 1 xs) ≡ length xs

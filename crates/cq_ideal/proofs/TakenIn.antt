@@ -15,7 +15,8 @@ use Rattle.cq_base.specs.Cells.{put, is_for}
 use Rattle.cq_rank.specs.Machine.{Machine}
 use Rattle.cq_rank.specs.Switch.{AreForOneSwitch}
 use Rattle.cq_ideal.specs.IdealSlot.{filled, put_all}
-use Rattle.cq_ideal.specs.Parts.{RanksView, QueuesView, CameToPorts, FitTogether, HaveRoomFor, list_at, with_came, with_cell}
+use Rattle.cq_ideal.specs.Limiter.{HoldsLists, LimiterView}
+use Rattle.cq_ideal.specs.Parts.{AreParts, RanksView, QueuesView, CameToPorts, FitTogether, HaveRoomFor, list_at, with_came, with_cell}
 
 -- ## Putting cells into the lists
 
@@ -222,4 +223,22 @@ fit_same M ranks ranks_new queues queues_new fit fixed states lists rooms =
       states = states ∙ fit.states ∙ long;
       lists = lists ∙ fit.lists ∙ long;
       rooms = ap length rooms ∙ fit.rooms ∙ long;
+    }
+
+-- with a limiter of as many ports
+pub parts_same : (M : List ℕ → Machine) (ranks ranks_new : RanksView) (queues queues_new : QueuesView)
+    (limiter limiter_new : LimiterView) (stopped stopped_new : Bool) →
+    AreParts (map M ranks.fixed) ranks queues limiter stopped → ranks_new.fixed ≡ ranks.fixed →
+    length ranks_new.states ≡ length ranks.states → length queues_new.lists ≡ length queues.lists →
+    queues_new.rooms ≡ queues.rooms → length limiter_new.limits ≡ length limiter.limits →
+    length limiter_new.marks ≡ length limiter.marks → (stopped_new ≡ false → HoldsLists queues_new.lists limiter_new) →
+    AreParts (map M ranks_new.fixed) ranks_new queues_new limiter_new stopped_new
+parts_same M ranks ranks_new queues queues_new limiter limiter_new stopped stopped_new parts fixed states lists rooms
+    limits marks holds =
+    let long = ap length (sym (ap (map M) fixed)) in
+    record {
+      fit = fit_same M ranks ranks_new queues queues_new parts.fit fixed states lists rooms;
+      limits = limits ∙ parts.limits ∙ long;
+      marks = marks ∙ parts.marks ∙ long;
+      holds = holds;
     }

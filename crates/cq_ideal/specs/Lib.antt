@@ -7,6 +7,7 @@ pub mod IdealSlot
 pub mod LimitedExample
 pub mod LimitedFlows
 pub mod LimitedIdeal
+pub mod Limiter
 pub mod Parts
 pub mod Ranking
 pub mod Refused

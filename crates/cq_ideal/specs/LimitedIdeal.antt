@@ -1,11 +1,12 @@
 -- The ideal switch where outputs have limits: what is admitted of a slot's arrivals goes through the slot without limits.
-use Rattle.std.specs.Prelude.{◌≡◌, ℕ, ◌+◌, List, [], ◌∷◌, length, map, All, IfOk, Option, Result, Ok, Err}
+use Rattle.std.specs.Prelude.{◌≡◌, ℕ, ◌+◌, List, [], ◌∷◌, length, map, replicate, All, IfOk, Option, None, Result, Ok, Err}
 use Rattle.cq_base.specs.declared.cell.Cell.{Cell}
 use Rattle.cq_base.specs.declared.cell.Queued.{Queued}
 use Rattle.cq_base.specs.declared.cell.TagFault.{TagFault}
+use Rattle.cq_base.specs.Arrivals.{no_arrivals}
 use Rattle.cq_base.specs.Arriving.{Arrival, traffic_of}
 use Rattle.cq_rank.specs.Machine.{Machine}
-use Rattle.cq_ideal.specs.Admission.{Admission, Marked, NoLimits, admission, marked, unmarked}
+use Rattle.cq_ideal.specs.Admission.{Admission, Marked, NoLimits, admission, marked, nothing_refused, unmarked}
 use Rattle.cq_ideal.specs.IdealSlot.{IdealState, Sent, ideal_slot}
 use Rattle.cq_ideal.specs.IdealRun.{Ran, ideal_run, empty_ideal}
 
@@ -60,6 +61,15 @@ limited_run limits ms slot (cells ∷ traffic) old =
       | Ok sent ↦ then_limited sent (limited_run limits ms (slot + 1) traffic sent.after)
       | Err fault ↦ Err fault
     ]
+
+-- a run of so many slots that ends in this state, in which nothing arrives and none of so many outputs sends a cell
+abbrev pub nothing_came : ℕ → ℕ → Marked IdealState → LimitedRan
+nothing_came slots ports after =
+    record {
+      admissions = replicate slots (nothing_refused after.marks no_arrivals);
+      gone = replicate slots (replicate ports None);
+      after = after;
+    }
 
 -- nothing waits, all marks are down, and the rank machines are in these states
 abbrev pub empty_limited : ℕ → List (List ℕ) → Marked IdealState

@@ -1,5 +1,5 @@
 -- What clauses see of the parts of an ideal switch, and of the cells of a slot that go through them.
-use Rattle.std.specs.Prelude.{◌≡◌, ℕ, ◌+◌, ◌-◌, ◌<◌, ◌≤◌, length, slice_index, false, if◌then◌else◌, List, [], ◌∷◌, Option, Some, None, Result, replicate, slice_set, slice_index_or}
+use Rattle.std.specs.Prelude.{◌≡◌, ℕ, ◌+◌, ◌-◌, ◌<◌, ◌≤◌, ◌^◌, length, slice_index, Bool, false, if◌then◌else◌, List, [], ◌∷◌, Option, Some, None, Result, replicate, slice_set, slice_index_or}
 use Rattle.cq_base.specs.declared.cell.Queued.{Queued}
 use Rattle.cq_base.specs.declared.cell.TagFault.{TagFault}
 use Rattle.cq_base.specs.Cells.{EachPair, is_for, put}
@@ -7,6 +7,7 @@ use Rattle.cq_base.specs.Key.{is_before}
 use Rattle.cq_rank.specs.Machine.{Machine, machine_at}
 use Rattle.cq_rank.specs.Switch.{AreForOneSwitch}
 use Rattle.cq_ideal.specs.IdealSlot.{IdealState, all_told}
+use Rattle.cq_ideal.specs.Limiter.{HoldsLists, LimiterView}
 use Rattle.cq_ideal.specs.Ranking.{Ranking, after_input}
 
 -- the rank machines: the numbers that give them, and their states
@@ -22,6 +23,10 @@ AreInOrder cells = EachPair (λ a b. is_before b.key a.key ≡ false) cells
 pub record QueueView : Type 0 where
   pub cells : List Queued
   pub room : ℕ
+
+-- it has no more cells than it can hold
+abbrev pub IsWithin : QueueView → Type 0
+IsWithin q = (length q.cells ≤ q.room) × (q.room < 2 ^ 64)
 
 -- per output its list, and how many cells that can hold
 pub record QueuesView : Type 0 where
@@ -59,6 +64,14 @@ pub record FitTogether (ms : List Machine) (ranks : RanksView) (queues : QueuesV
   pub states : length ranks.states ≡ length ms
   pub lists : length queues.lists ≡ length ms
   pub rooms : length queues.rooms ≡ length ms
+
+-- the parts fit, and while the switch runs its outputs hold the cells of its lists
+pub record AreParts (ms : List Machine) (ranks : RanksView) (queues : QueuesView) (limiter : LimiterView) (stopped :
+    Bool) : Type 0 where
+  pub fit : FitTogether ms ranks queues
+  pub limits : length limiter.limits ≡ length ms
+  pub marks : length limiter.marks ≡ length ms
+  pub holds : stopped ≡ false → HoldsLists queues.lists limiter
 
 -- no list has more cells than it can hold
 abbrev pub AreWithinRooms : QueuesView → Type 0

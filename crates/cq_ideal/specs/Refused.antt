@@ -28,17 +28,19 @@ refused_at cells j limit =
 unfoldable pub refused_counts : List (Option ℕ) → List Cell → List Refused
 refused_counts limits cells = filter_map (λ at. option_map (refused_at cells at.0) at.1) (enumerate_from 0 limits)
 
--- the counts with these refused cells added
-abbrev pub with_refused : List Cell → List Refused → List Refused
-with_refused cells counts =
-    map
-    (λ r.
+-- a count with these refused cells added
+abbrev pub with_cells : List Cell → Refused → Refused
+with_cells cells r =
     record {
       output = r.output;
       limit = r.limit;
       packets = r.packets + packets_refused r.output cells;
       cells = r.cells + cells_refused r.output cells;
-    }) counts
+    }
+
+-- the counts with these refused cells added
+abbrev pub with_refused : List Cell → List Refused → List Refused
+with_refused cells counts = map (with_cells cells) counts
 
 -- nothing was refused
 abbrev pub AreAllZero : List Refused → Type 0

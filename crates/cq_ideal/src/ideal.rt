@@ -2,11 +2,16 @@
 ghost use Rattle.std.specs.Prelude.{◌≡◌, ◌↔◌, ◌+◌, ◌-◌, ◌^◌, ◌<◌, ◌≤◌, IsTrue, false, is_err, All, IfOk, OnOk, OnErr, Ok, [], length, map, replicate};
 ghost use Rattle.cq_base.specs.Arrivals.{no_arrivals};
 ghost use Rattle.cq_rank.specs.Switch.{AreForOneSwitch, class_count};
-ghost use Rattle.cq_ideal.specs.Ideal.{HasRoomFor, HaveLeft, SpareFollows, answer_to};
-ghost use Rattle.cq_ideal.specs.IdealRun.{IsEmptyIdeal, empty_ideal, ideal_run, nothing_sent};
-ghost use Rattle.cq_ideal.specs.IdealSlot.{ideal_slot};
+ghost use Rattle.cq_ideal.specs.Admission.{marks_down};
+ghost use Rattle.cq_ideal.specs.Ideal.{HasRoomFor, HaveLeft, SpareFollows, answer_to, its_slot, marked_state};
+ghost use Rattle.cq_ideal.specs.IdealRun.{IsEmptyIdeal, empty_ideal};
+ghost use Rattle.cq_ideal.specs.LimitedIdeal.{limited_run, nothing_came};
+ghost use Rattle.cq_ideal.specs.Limiter.{CanCount};
 ghost use Rattle.cq_ideal.specs.Ranking.{AreForPorts};
+ghost use Rattle.cq_ideal.specs.Refused.{refused_counts, with_refused};
 
+use crate::Refused;
+use crate::limiter::Limiter;
 use crate::queues::{Queues, nobody};
 use crate::ranks::Ranks;
 use crate::send::send;
@@ -16,15 +21,18 @@ use std::alloc::Global;
 use std::marker::Model;
 
 /// An ideal output-queued switch (the yardstick of Chuang, Goel, McKeown and Prabhakar 1999): each output
-/// has one list, in the order of keys. In a slot all arriving cells are ranked and put into the lists of
-/// their outputs, and then each output sends the first cell of its list, or is idle.
+/// has one list, in the order of keys. In a slot the arriving cells are ranked and put into the lists of
+/// their outputs, and then each output sends the first cell of its list, or is idle. Where an output has a limit
+/// and holds as many cells or more as the first cell of a packet arrives, that packet is refused whole.
 ///
-/// Contracts see the numbers that give the rank machines, the lists and the states of the machines, how
-/// many cells each list can hold, the next slot, and whether the switch is stopped.
+/// Contracts see the numbers that give the rank machines, the limits of the outputs, the lists and the states of the
+/// machines, the marks of the inputs, what was refused, how many cells each list can hold, the next slot, and whether
+/// the switch is stopped.
 #[derive(Drop)]
 pub struct Ideal<R: Rank> {
     ranks: Ranks<R>,
     queues: Queues,
+    limiter: Limiter,
     next: Slot,
     stopped: bool,
 }
@@ -32,29 +40,50 @@ pub struct Ideal<R: Rank> {
 impl<R: Rank> Model for Ideal<R> {
     ghost use Rattle.std.specs.Prelude.{map};
     ghost use Rattle.cq_ideal.specs.Ideal.{IdealSwitch};
-    ghost use Rattle.cq_ideal.specs.Parts.{FitTogether};
+    ghost use Rattle.cq_ideal.specs.Parts.{AreParts};
 
     ghost Value = { IdealSwitch };
 
-    ghost view = { λ a. record { fixed = a.ranks.fixed; state = record { lists = a.queues.lists; ranks = a.ranks.states }; rooms = a.queues.rooms; next = a.next; stopped = a.stopped } };
+    ghost view = { λ a. record {
+      fixed = a.ranks.fixed;
+      limits = a.limiter.limits;
+      state = record { lists = a.queues.lists; ranks = a.ranks.states };
+      marks = a.limiter.marks;
+      refused = a.limiter.refused;
+      rooms = a.queues.rooms;
+      next = a.next;
+      stopped = a.stopped;
+    } };
 
-    ghost invariant = { λ a. FitTogether (map R.machine a.ranks.fixed) a.ranks a.queues };
+    ghost invariant = { λ a. AreParts (map R.machine a.ranks.fixed) a.ranks a.queues a.limiter a.stopped };
 }
 
 impl<R: Rank> Ideal<R> {
     /// A switch with an output for each rank, which is not stopped. All lists are empty, list j has room for
-    /// `rooms[j]` cells, and the next slot is 0. The error is want of memory.
-    pub fn new(alloc: Global, ranks: Vec<R>, rooms: &[u64]) -> Result<Ideal<R>, NoMemory>
+    /// `rooms[j]` cells, and output j has the limit `limits[j]`, or none. No packet is refused, nothing was, and the
+    /// next slot is 0. The error is want of memory.
+    pub fn new(
+        alloc: Global,
+        ranks: Vec<R>,
+        rooms: &[u64],
+        limits: &[Option<u64>],
+    ) -> Result<Ideal<R>, NoMemory>
         requires machines { AreForOneSwitch (map R.machine (map R.fixed ranks.items)) }
         requires rooms { length rooms.now ≡ length ranks.items }
+        requires limits { length limits.now ≡ length ranks.items }
         ensures fixed { IfOk result (λ ideal. ideal.fixed ≡ map R.fixed ranks.items) }
         ensures state { IfOk result (λ ideal. ideal.state ≡ empty_ideal (length ranks.items) (map R.state ranks.items)) }
+        ensures limits { IfOk result (λ ideal. ideal.limits ≡ limits.now) }
+        ensures marks { IfOk result (λ ideal. ideal.marks ≡ marks_down (length ranks.items)) }
+        // which is 0 at each output that has a limit
+        ensures refused { IfOk result (λ ideal. ideal.refused ≡ refused_counts limits.now []) }
         ensures rooms { IfOk result (λ ideal. ideal.rooms ≡ rooms.now) }
         ensures next { IfOk result (λ ideal. ideal.next ≡ 0) }
         ensures stopped { IfOk result (λ ideal. ideal.stopped ≡ false) }
     {
         Ok(Ideal {
             queues: Queues::new(alloc, rooms)?,
+            limiter: Limiter::new(alloc, limits)?,
             ranks: Ranks::of(ranks),
             next: 0,
             stopped: false,
@@ -62,11 +91,11 @@ impl<R: Rank> Ideal<R> {
     }
 
     /// One slot: the cells arrive, and each output sends the first of its list or is idle. The departures
-    /// are put at the end of `sent`, in order of output. Each cell that arrives lowers the spare of its list
-    /// by one, and each that leaves raises it by one. It takes no memory.
+    /// are put at the end of `sent`, in order of output. Each cell that is admitted lowers the spare of its list
+    /// by one, and each that leaves raises it by one. The cells that are refused are counted. It takes no memory.
     ///
-    /// The error is the first rank, in order of input, that does not fit 128 bits. Then `sent`, the lists and the
-    /// next slot are as before, and the switch is stopped.
+    /// The error is the first rank, in order of input, that does not fit 128 bits. Then `sent`, the lists, the counts and
+    /// the next slot are as before, and the switch is stopped.
     pub fn slot(
         &mut self,
         slot: Slot,
@@ -78,46 +107,75 @@ impl<R: Rank> Ideal<R> {
         requires early { slot < 2 ^ 64 - 1 }
         requires arrivals { AreForPorts (length self.old.fixed) (class_count (map R.machine self.old.fixed)) arrivals.now }
         requires spare { HasRoomFor arrivals.now self.old }
+        requires refused { CanCount (length self.old.fixed) self.old.refused }
         requires sent { length self.old.fixed ≤ sent.old.spare }
-        ensures answer { result ≡ answer_to (ideal_slot (map R.machine self.old.fixed) slot arrivals.now self.old.state) }
-        ensures state { IfOk (ideal_slot (map R.machine self.old.fixed) slot arrivals.now self.old.state) (λ of_slot. self.new.state ≡ of_slot.after) }
-        ensures sent { IfOk (ideal_slot (map R.machine self.old.fixed) slot arrivals.now self.old.state) (λ of_slot. HaveLeft slot of_slot.gone sent.old sent.new) }
-        ensures spare { IfOk (ideal_slot (map R.machine self.old.fixed) slot arrivals.now self.old.state) (λ of_slot. SpareFollows arrivals.now of_slot.gone self.old self.new) }
+        ensures answer { result ≡ answer_to (its_slot (map R.machine self.old.fixed) slot arrivals.now self.old) }
+        ensures state { IfOk (its_slot (map R.machine self.old.fixed) slot arrivals.now self.old) (λ of_slot.
+            marked_state self.new ≡ of_slot.after) }
+        ensures sent { IfOk (its_slot (map R.machine self.old.fixed) slot arrivals.now self.old) (λ of_slot.
+            HaveLeft slot of_slot.gone sent.old sent.new) }
+        ensures spare { IfOk (its_slot (map R.machine self.old.fixed) slot arrivals.now self.old) (λ of_slot.
+            SpareFollows of_slot.admission.cells of_slot.gone self.old self.new) }
+        ensures refused { IfOk (its_slot (map R.machine self.old.fixed) slot arrivals.now self.old) (λ of_slot.
+            self.new.refused ≡ with_refused of_slot.admission.refused self.old.refused) }
         ensures next { OnOk result (self.new.next ≡ slot + 1) }
         ensures fixed { self.new.fixed ≡ self.old.fixed }
+        ensures limits { self.new.limits ≡ self.old.limits }
         ensures rooms { self.new.rooms ≡ self.old.rooms }
         ensures stopped { self.new.stopped ≡ is_err result }
         ensures unsent { OnErr result (sent.new ≡ sent.old) }
         ensures lists_stay { OnErr result (self.new.state.lists ≡ self.old.state.lists) }
+        ensures counts_stay { OnErr result (self.new.refused ≡ self.old.refused) }
         ensures next_stays { OnErr result (self.new.next ≡ self.old.next) }
     {
         let mut came = nobody();
-        if let Err(fault) = self.ranks.take(slot, arrivals, &mut came) {
+        self.queues.len();
+        self.limiter.judge(arrivals);
+        if let Err(fault) = self.ranks.take(slot, arrivals, &self.limiter, &mut came) {
             self.stopped = true;
             return Err(fault);
         }
+        self.limiter.count(arrivals);
         self.queues.arrive(&came);
-        send(&mut self.ranks, &mut self.queues, slot, sent);
+        send(
+            &mut self.ranks,
+            &mut self.queues,
+            &mut self.limiter,
+            slot,
+            sent,
+        );
         self.next = slot + 1;
         Ok(())
     }
 
     /// All slots from the next one up to this one, in which no cell arrives. None waits either, so no output sends
     /// a cell, and they take no longer than one slot: each machine is told once that its output was idle, since a
-    /// second idle slot would change nothing.
+    /// second idle slot would change nothing. The marks stay as they are, and nothing is refused.
     pub fn rest(&mut self, to: Slot)
         requires running { self.old.stopped ≡ false }
         requires empty { IsEmptyIdeal self.old.state }
         requires later { self.old.next < to }
-        ensures slots { ideal_run (map R.machine self.old.fixed) self.old.next (replicate (to - self.old.next) no_arrivals) self.old.state ≡ Ok (nothing_sent (to - self.old.next) (length self.old.fixed) self.new.state) }
+        ensures slots { limited_run self.old.limits (map R.machine self.old.fixed) self.old.next (replicate (to -
+            self.old.next) no_arrivals) (marked_state self.old) ≡ Ok (nothing_came (to - self.old.next) (length
+            self.old.fixed) (marked_state self.new)) }
         ensures next { self.new.next ≡ to }
         ensures lists { self.new.state.lists ≡ self.old.state.lists }
         ensures fixed { self.new.fixed ≡ self.old.fixed }
+        ensures limits { self.new.limits ≡ self.old.limits }
+        ensures marks { self.new.marks ≡ self.old.marks }
+        ensures refused { self.new.refused ≡ self.old.refused }
         ensures rooms { self.new.rooms ≡ self.old.rooms }
         ensures running { self.new.stopped ≡ false }
     {
         self.ranks.rest();
         self.next = to;
+    }
+
+    /// How many packets and cells were refused so far, at each output that has a limit, in order of output.
+    pub fn refused(&self) -> &[Refused]
+        ensures { result.now ≡ self.now.refused }
+    {
+        self.limiter.refused()
     }
 
     /// Whether a slot had a tag fault. No slot follows it.

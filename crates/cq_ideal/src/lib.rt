@@ -8,8 +8,8 @@
 mod ending;
 mod flows;
 mod ideal;
-mod judge;
 mod laws;
+mod limiter;
 mod limits;
 mod queue;
 mod queues;
@@ -23,6 +23,7 @@ pub use ending::{ideal_run_ends, last_slot_departs, more_slots_send_nothing};
 pub use flows::flows_leave_as_they_came;
 pub use ideal::Ideal;
 pub use laws::ideal_run_is_whole;
+pub use limiter::Limiter;
 pub use limits::{
     flows_leave_in_packets, limited_run_is_run_of_admitted, limited_run_is_whole,
     nothing_is_refused_without_limits, refused_counts_add_up, whole_packets_are_admitted,

@@ -1,5 +1,5 @@
 //! The list of one output.
-ghost use Rattle.std.specs.Prelude.{◌≡◌, ◌<◌, ◌≤◌, ◌==◌, IfOk, [], drop, length, slice_get};
+ghost use Rattle.std.specs.Prelude.{◌≡◌, ◌<◌, ◌≤◌, ◌==◌, ◌^◌, IfOk, [], drop, length, slice_get};
 ghost use Rattle.std.specs.List.{position_or_len};
 ghost use Rattle.cq_base.specs.Key.{is_before};
 ghost use Rattle.cq_base.specs.Cells.{put};
@@ -35,6 +35,7 @@ impl Queue {
     pub fn new(alloc: Global, room: u64) -> Result<Queue, NoMemory>
         ensures cells { IfOk result (λ queue. queue.cells ≡ []) }
         ensures room { IfOk result (λ queue. queue.room ≡ room) }
+        ensures few { IfOk result (λ queue. queue.room < 2 ^ 64) }
     {
         Ok(Queue {
             cells: VecDeque::with_capacity(alloc, room as usize)?,

@@ -1,5 +1,5 @@
 //! The lists of all outputs.
-ghost use Rattle.std.specs.Prelude.{◌≡◌, ◌<◌, ◌≤◌, ◌==◌, ◌↔◌, IsTrue, All, IfOk, IfSome, None, [], drop, length, replicate, slice_get, slice_index, slice_set};
+ghost use Rattle.std.specs.Prelude.{◌≡◌, ◌<◌, ◌≤◌, ◌==◌, ◌^◌, ◌↔◌, ℕ, IsTrue, All, IfOk, IfSome, None, [], drop, length, replicate, slice_get, slice_index, slice_set};
 ghost use Rattle.std.specs.List.{list_all};
 ghost use Rattle.cq_ideal.specs.IdealSlot.{filled};
 ghost use Rattle.cq_ideal.specs.Parts.{AreWithinRooms, CameToPorts, HaveRoomFor, list_at, with_came, with_cell};
@@ -16,14 +16,14 @@ pub struct Queues {
 }
 
 impl Model for Queues {
-    ghost use Rattle.std.specs.Prelude.{◌≤◌, All, length, map};
-    ghost use Rattle.cq_ideal.specs.Parts.{QueuesView};
+    ghost use Rattle.std.specs.Prelude.{All, map};
+    ghost use Rattle.cq_ideal.specs.Parts.{IsWithin, QueuesView};
 
     ghost Value = { QueuesView };
 
     ghost view = { λ a. record { lists = map (λ q. q.cells) a.queues.items; rooms = map (λ q. q.room) a.queues.items } };
 
-    ghost invariant = { λ a. All (λ q. length q.cells ≤ q.room) a.queues.items };
+    ghost invariant = { λ a. All IsWithin a.queues.items };
 }
 
 // Whether each of the lists is empty.
@@ -58,6 +58,7 @@ impl Queues {
         requires { length self.now.lists ≤ 64 }
         ensures len { result ≡ length self.now.lists }
         ensures within { AreWithinRooms self.now }
+        ensures few { (j : ℕ) → slice_index self.now.rooms j < 2 ^ 64 }
     {
         self.queues.len() as u16
     }

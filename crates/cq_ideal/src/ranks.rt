@@ -3,9 +3,11 @@ ghost use Rattle.std.specs.Prelude.{◌≡◌, ◌↔◌, ◌+◌, ◌<◌, ◌�
 ghost use Rattle.cq_base.specs.declared.cell.Cell.{Cell};
 ghost use Rattle.cq_rank.specs.Machine.{machine_at, told};
 ghost use Rattle.cq_rank.specs.Switch.{AreForOneSwitch, class_count};
+ghost use Rattle.cq_ideal.specs.Admission.{admitted};
 ghost use Rattle.cq_ideal.specs.Parts.{all_idle, rank_at, given_at};
 ghost use Rattle.cq_ideal.specs.Ranking.{AreForPorts, after_input, keyed, ranking};
 
+use crate::limiter::Limiter;
 use cq_base::{Arrivals, Cell, Class, Key, Port, Queued, Slot, TagFault};
 use cq_rank::{Rank, TagOverflow};
 use std::marker::Model;
@@ -121,28 +123,33 @@ impl<R: Rank> Ranks<R> {
         }
     }
 
-    /// The cells that arrive in a slot are ranked in order of input, each by its output's machine, and put into
+    /// The cells that are admitted in a slot are ranked in order of input, each by its output's machine, and put into
     /// `came` at the places of their inputs. The error is the first rank that does not fit 128 bits.
     pub fn take(
         &mut self,
         slot: Slot,
         arrivals: &Arrivals,
+        limiter: &Limiter,
         came: &mut [Option<Queued>; 64],
     ) -> Result<(), TagFault>
         requires machines { AreForOneSwitch (map R.machine self.old.fixed) }
         requires some { 0 < length self.old.fixed }
         requires few { length self.old.fixed ≤ 64 }
         requires arrivals { AreForPorts (length self.old.fixed) (class_count (map R.machine self.old.fixed)) arrivals.now }
+        requires marks { length limiter.now.marks ≡ length self.old.fixed }
         requires nobody { came.old ≡ replicate 64 None }
         ensures fixed { self.new.fixed ≡ self.old.fixed }
-        ensures came { OnOk result (ranking (map R.machine self.old.fixed) slot 0 arrivals.now self.old.states ≡ Ok (record { came = came.new; ranks = self.new.states })) }
+        ensures came { OnOk result (ranking (map R.machine self.old.fixed) slot 0 (admitted limiter.now.marks
+            arrivals.now) self.old.states ≡ Ok (record { came = came.new; ranks = self.new.states })) }
         ensures many { length self.new.states ≡ length self.old.states }
         ensures long { length came.new ≡ 64 }
-        ensures fault { IfErr result (λ fault. ranking (map R.machine self.old.fixed) slot 0 arrivals.now self.old.states ≡ Err fault) }
+        ensures fault { IfErr result (λ fault. ranking (map R.machine self.old.fixed) slot 0 (admitted
+            limiter.now.marks arrivals.now) self.old.states ≡ Err fault) }
     {
         let ports = self.len();
         'inputs: for input in 0..ports {
-            came[input as usize] = self.came(slot, input, arrivals.at(input))?;
+            let cell = limiter.admitted(arrivals, input);
+            came[input as usize] = self.came(slot, input, cell)?;
         }
         Ok(())
     }

@@ -2,13 +2,16 @@
 ghost use Rattle.std.specs.Prelude.{◌≡◌, ◌+◌, ◌<◌, ◌≤◌, ℕ, All, OnOk, false, is_err, length, map};
 ghost use Rattle.cq_rank.specs.Switch.{AreForOneSwitch, class_count};
 ghost use Rattle.cq_ideal.specs.Ideal.{spare_at};
+ghost use Rattle.cq_ideal.specs.Limiter.{CanCount};
 ghost use Rattle.cq_ideal.specs.Ranking.{AreForPorts};
 
-use crate::Ideal;
+use crate::{Ideal, Refused};
 use cq_base::{Arrivals, Cell, CellId, Class, Departure, NoMemory, Port, Room, TagFault};
 use cq_rank::{FirstCome, Rank, TagOverflow};
 use std::alloc::Global;
 use std::test::Fail;
+
+const NO_LIMITS: [Option<u64>; 3] = [None, None, None];
 
 // Ranks the cells of class 0 by 0, and refuses those of class 1.
 #[derive(Drop)]
@@ -40,9 +43,8 @@ impl Rank for RefusesClassOne {
     fn idle(&mut self) {}
 }
 
-// The arrivals, and a cell that comes to the input.
-#[tactic(auto, using(crate::proofs::Ports::for_ports_with))]
-fn and(mut arrivals: Arrivals, input: Port, packet: u32, output: Port, class: Class) -> Arrivals
+// The arrivals, and a packet of one cell that comes to the input.
+fn and(arrivals: Arrivals, input: Port, packet: u32, output: Port, class: Class) -> Arrivals
     requires input { input < 3 }
     requires output { output < 3 }
     requires class { class < 2 }
@@ -54,6 +56,18 @@ fn and(mut arrivals: Arrivals, input: Port, packet: u32, output: Port, class: Cl
         packet,
         index: 0,
     };
+    and_cell(arrivals, id, output, class)
+}
+
+// The arrivals, and the cell with this id.
+#[tactic(auto, using(crate::proofs::Ports::for_ports_with))]
+fn and_cell(mut arrivals: Arrivals, id: CellId, output: Port, class: Class) -> Arrivals
+    requires input { id.input < 3 }
+    requires output { output < 3 }
+    requires class { class < 2 }
+    requires arrivals { AreForPorts 3 2 arrivals }
+    ensures { AreForPorts 3 2 result }
+{
     let cell = Cell {
         id,
         output,
@@ -62,7 +76,7 @@ fn and(mut arrivals: Arrivals, input: Port, packet: u32, output: Port, class: Cl
         at: 0,
         len: 60,
     };
-    arrivals.set(input, cell);
+    arrivals.set(id.input, cell);
     arrivals
 }
 
@@ -87,12 +101,14 @@ fn step<R: Rank>(
     requires classes { class_count (map R.machine ideal.old.fixed) ≡ 2 }
     requires arrivals { AreForPorts 3 2 arrivals.now }
     requires spare { (j : ℕ) → j < 3 → 64 ≤ spare_at ideal.old j }
+    requires counts { CanCount 3 ideal.old.refused }
     requires sent { 3 ≤ sent.old.spare }
     ensures fixed { ideal.new.fixed ≡ ideal.old.fixed }
     ensures rooms { ideal.new.rooms ≡ ideal.old.rooms }
     ensures next { OnOk result (ideal.new.next ≡ ideal.old.next + 1) }
     ensures stopped { ideal.new.stopped ≡ is_err result }
     ensures spare { OnOk result ((j : ℕ) → j < 3 → spare_at ideal.old j ≤ spare_at ideal.new j + 64) }
+    ensures counts { OnOk result ((n : ℕ) → CanCount (n + 64) ideal.old.refused → CanCount n ideal.new.refused) }
 {
     let _places = arrivals.at(0);
     ideal.slot(ideal.next(), arrivals, sent)
@@ -112,36 +128,61 @@ fn note(left: &mut Vec<[u64; 4]>, sent: &Room<Departure>) -> Result<(), NoMemory
     Ok(())
 }
 
-// The departures of three slots, up to the first tag fault.
+// What three slots come to.
+#[derive(Drop)]
+struct Slots {
+    left: Vec<[u64; 4]>,
+    refused: Vec<Refused>,
+    fault: Option<TagFault>,
+}
+
+// Of a switch what leaves it, what it refused, and its tag fault.
+fn what_came<R: Rank>(
+    alloc: Global,
+    ideal: &Ideal<R>,
+    left: Vec<[u64; 4]>,
+    fault: Option<TagFault>,
+) -> Result<Slots, NoMemory> {
+    let mut refused = Vec::new(alloc);
+    refused.extend_from_slice(ideal.refused())?;
+    Ok(Slots {
+        left,
+        refused,
+        fault,
+    })
+}
+
+// Three slots, up to the first tag fault.
 fn departures<R: Rank>(
     alloc: Global,
     ranks: Vec<R>,
+    limits: [Option<u64>; 3],
     slots: [Arrivals; 3],
-) -> Result<(Vec<[u64; 4]>, Option<TagFault>), NoMemory>
+) -> Result<Slots, NoMemory>
     requires ports { length ranks.items ≡ 3 }
     requires machines { AreForOneSwitch (map R.machine (map R.fixed ranks.items)) }
     requires classes { class_count (map R.machine (map R.fixed ranks.items)) ≡ 2 }
     requires slots { All (AreForPorts 3 2) slots }
 {
     let mut left = Vec::new(alloc);
-    let mut ideal = Ideal::new(alloc, ranks, &[192, 192, 192])?;
+    let mut ideal = Ideal::new(alloc, ranks, &[192, 192, 192], &limits)?;
     'slots: for arrivals in &slots {
         let mut sent = Room::new(alloc, 3)?;
         if let Err(fault) = step(&mut ideal, arrivals, &mut sent) {
-            return Ok((left, Some(fault)));
+            return what_came(alloc, &ideal, left, Some(fault));
         }
         note(&mut left, &sent)?;
     }
-    Ok((left, None))
+    what_came(alloc, &ideal, left, None)
 }
 
 #[test]
 fn cells_for_one_output_leave_in_the_order_of_their_inputs(rt: HostRuntime) -> Result<(), Fail> {
     let ranks = vec![in rt.alloc(); FirstCome::new(2), FirstCome::new(2), FirstCome::new(2)]?;
     let both = and(and(nothing(), 1, 0, 0, 0), 0, 0, 0, 0);
-    let (left, fault) = departures(rt.alloc(), ranks, [both, nothing(), nothing()])?;
-    assert_eq!(rt; left.as_slice(), &[[0, 0, 0, 0], [1, 0, 1, 0]][..]);
-    assert!(rt; fault.is_none());
+    let ran = departures(rt.alloc(), ranks, NO_LIMITS, [both, nothing(), nothing()])?;
+    assert_eq!(rt; ran.left.as_slice(), &[[0, 0, 0, 0], [1, 0, 1, 0]][..]);
+    assert!(rt; ran.fault.is_none());
     Ok(())
 }
 
@@ -150,9 +191,9 @@ fn a_cell_does_not_wait_for_another_output(rt: HostRuntime) -> Result<(), Fail> 
     let ranks = vec![in rt.alloc(); FirstCome::new(2), FirstCome::new(2), FirstCome::new(2)]?;
     let all = and(and(and(nothing(), 0, 0, 0, 0), 1, 0, 0, 0), 2, 0, 0, 0);
     let later = and(nothing(), 2, 1, 1, 0);
-    let (left, _) = departures(rt.alloc(), ranks, [all, later, nothing()])?;
+    let ran = departures(rt.alloc(), ranks, NO_LIMITS, [all, later, nothing()])?;
     let sent = [[0, 0, 0, 0], [1, 0, 1, 0], [1, 1, 2, 1], [2, 0, 2, 0]];
-    assert_eq!(rt; left.as_slice(), &sent[..]);
+    assert_eq!(rt; ran.left.as_slice(), &sent[..]);
     Ok(())
 }
 
@@ -161,21 +202,51 @@ fn the_first_input_whose_rank_does_not_fit_stops_the_switch(rt: HostRuntime) -> 
     let ranks = vec![in rt.alloc(); RefusesClassOne, RefusesClassOne, RefusesClassOne]?;
     let first = and(and(nothing(), 0, 0, 2, 0), 1, 0, 1, 0);
     let second = and(and(and(nothing(), 0, 1, 0, 0), 1, 1, 2, 1), 2, 0, 1, 1);
-    let (left, fault) = departures(rt.alloc(), ranks, [first, second, nothing()])?;
-    assert_eq!(rt; left.as_slice(), &[[0, 1, 1, 0], [0, 2, 0, 0]][..]);
+    let ran = departures(rt.alloc(), ranks, NO_LIMITS, [first, second, nothing()])?;
+    assert_eq!(rt; ran.left.as_slice(), &[[0, 1, 1, 0], [0, 2, 0, 0]][..]);
     let stated = TagFault {
         slot: 1,
         input: 1,
         output: 2,
     };
-    assert_eq!(rt; fault, Some(stated));
+    assert_eq!(rt; ran.fault, Some(stated));
+    Ok(())
+}
+
+#[test]
+fn a_packet_that_finds_its_output_full_is_refused_whole(rt: HostRuntime) -> Result<(), Fail> {
+    let ranks = vec![in rt.alloc(); FirstCome::new(2), FirstCome::new(2), FirstCome::new(2)]?;
+    let first = and(and(nothing(), 0, 0, 0, 0), 1, 0, 0, 0);
+    let second = CellId {
+        input: 1,
+        packet: 0,
+        index: 1,
+    };
+    let rest = and_cell(nothing(), second, 0, 0);
+    let next = and(nothing(), 1, 1, 0, 0);
+    let limits = [Some(1), None, Some(2)];
+    let ran = departures(rt.alloc(), ranks, limits, [first, rest, next])?;
+    assert_eq!(rt; ran.left.as_slice(), &[[0, 0, 0, 0], [2, 0, 1, 1]][..]);
+    let at_zero = Refused {
+        output: 0,
+        limit: 1,
+        packets: 1,
+        cells: 2,
+    };
+    let at_two = Refused {
+        output: 2,
+        limit: 2,
+        packets: 0,
+        cells: 0,
+    };
+    assert_eq!(rt; ran.refused.as_slice(), &[at_zero, at_two][..]);
     Ok(())
 }
 
 #[test]
 fn a_new_switch_is_empty_and_runs(rt: HostRuntime) -> Result<(), Fail> {
     let ranks = vec![in rt.alloc(); FirstCome::new(1)]?;
-    let ideal = Ideal::new(rt.alloc(), ranks, &[1])?;
+    let ideal = Ideal::new(rt.alloc(), ranks, &[1], &[None])?;
     assert!(rt; ideal.empty());
     assert!(rt; !ideal.stopped());
     assert_eq!(rt; ideal.next(), 0);

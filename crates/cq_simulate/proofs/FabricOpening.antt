@@ -74,5 +74,16 @@ module _ (M : List ℕ → Machine) (setup : Setup) (came : List Arrival) (first
 
   pub ideal_of_setup : states ≡ openings_of setup → departures_ran (ideal_run (map M first.fixed) 0 (traffic_of came) (empty_ideal (length first.fixed) first.fabric.ranks)) ≡ ideal_departures setup came
   ideal_of_setup openings =
-      let beside : IdealSwitch = record { fixed = first.fixed; state = empty_ideal (length first.fixed) first.fabric.ranks; rooms = []; next = 0; stopped = false } in
+      let beside : IdealSwitch = record {
+        fixed = first.fixed;
+        limits = [];
+        state =
+            empty_ideal (length first.fixed) first.fabric.ranks;
+        marks = [];
+        refused = [];
+        rooms = [];
+        next =
+            0;
+        stopped = false;
+      } in
       run_of_setup M setup came beside (length first.fixed) first.fabric.ranks machines refl port_count (ap (λ (f : Fabric). f.ranks) state ∙ openings)

@@ -66,7 +66,10 @@ unfoldable pub switch_of : List Arrival → EngineView → IdealSwitch
 switch_of came e =
     record {
       fixed = e.fixed;
+      limits = [];
       state = empty_ideal (length e.fixed) e.fabric.ranks;
+      marks = [];
+      refused = [];
       rooms = map (λ j. number_of (is_to j) came) (range_with_len 0 (length e.fixed));
       next = 0;
       stopped = false;
@@ -283,7 +286,10 @@ module _ (ms : List Machine) (came : List Arrival) (first : EngineView) (first_s
       let of_slot : Sent = record { gone = r.gone; after = alike.next } in
       let switch : IdealSwitch = record {
         fixed = c.switch.fixed;
+        limits = [];
         state = alike.next;
+        marks = [];
+        refused = [];
         rooms = c.switch.rooms;
         next =
             slot + 1;

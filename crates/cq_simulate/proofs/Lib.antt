@@ -15,3 +15,4 @@ pub mod Steps
 pub mod Taking
 pub mod Stretches
 pub mod FabricStretches
+pub mod NoLimits

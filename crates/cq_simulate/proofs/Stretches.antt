@@ -2,7 +2,7 @@
 -- rests for where none waits. What is known of the ideal switch before the first of them is known after each, as after any slot:
 -- none sends a cell.
 use Rattle.std.proofs.Common.{◌≡◌, ℕ, zero, suc, ◌+◌, ◌-◌, ◌<◌, ◌≤◌, ◌&&◌, eqb, Bool, false, List, [], ◌∷◌, ◌++◌, length, replicate, Option, Some, None, Result, Ok, refl, sym, ap, ◌∙◌, inl, inr, subst, arith}
-use Rattle.std.specs.Prelude.{unwrap_or}
+use Rattle.std.specs.Prelude.{slice_index_or, unwrap_or}
 use Rattle.std.specs.List.{AllByRecursion}
 use Rattle.std.proofs.lemmas.Bool.{ne_eqb}
 use Rattle.std.proofs.lemmas.List.{append-nil}
@@ -23,7 +23,8 @@ use Rattle.cq_ideal.specs.IdealSlot.{IdealState, departures_in, ideal_slot}
 use Rattle.cq_laws.proofs.AddingUp.{map-constant}
 use Rattle.cq_laws.proofs.QuietSlots.{no_departures}
 use Rattle.cq_rank.specs.Machine.{Machine}
-use Rattle.cq_simulate.proofs.Running.{Running, running_next}
+use Rattle.cq_ideal.proofs.Waiting.{waiting}
+use Rattle.cq_simulate.proofs.Running.{Running, run_from, running_next, sent_after}
 use Rattle.cq_simulate.specs.Stretch.{HasRested, IsQuiet}
 
 -- ## Up to the next arrival
@@ -108,18 +109,28 @@ pub running_rest : (ms : List Machine) (came : List Arrival) (first : IdealSwitc
 running_rest ms came first first_sent sent ports zero slot n m now after left r quiet ran next running fixed rooms =
     let state : now.state ≡ after.state = same_state ms zero slot ports now.state after.state refl ran in
     let at : slot ≡ slot + 0 = omega arith in
-    let is_next : now.next ≡ after.next = r.next ∙ at ∙ sym next in
-    let same : now ≡ after = λ e. record {
-      fixed = sym fixed e;
-      state = state e;
-      rooms = sym rooms e;
-      next = is_next e;
-      stopped = (r.running ∙ sym running) e;
+    let waits = ap (λ (s : IdealState). waiting s.lists) state in
+    let spare = r.spare in
+    let few = r.few in
+    let same : Running ms came first first_sent slot m after sent = record {
+      left = r.left;
+      running = running;
+      next = next ∙ sym at;
+      fixed = fixed ∙ r.fixed;
+      rooms = rooms ∙ r.rooms;
+      whole = r.whole ∙ ap (λ (s : IdealState). sent_after sent.items (run_from ms came slot m s)) state;
+      ports = sym (ap (λ (s : IdealState). length s.lists) state) ∙ r.ports;
+      each = λ j inside.
+          let was = r.each j inside in
+          let list = ap (λ (s : IdealState). length (slice_index_or s.lists j [])) state in
+          omega arith;
+      spare = omega arith;
+      few = omega arith;
+      early = r.early;
     } in
     let count : m ≡ n = omega arith in
     subst (λ (s : ℕ). Running ms came first first_sent s n after sent) at
-    (subst (λ (l : ℕ). Running ms came first first_sent slot l after sent) count
-    (subst (λ (i : IdealSwitch). Running ms came first first_sent slot m i sent) same r))
+    (subst (λ (l : ℕ). Running ms came first first_sent slot l after sent) count same)
 running_rest ms came first first_sent sent ports (suc k) slot n zero now after left r quiet ran next running fixed rooms =
     absurd (omega arith)
 running_rest ms came first first_sent sent ports (suc k) slot n (suc m) now after left r quiet ran next running fixed rooms =
@@ -134,7 +145,17 @@ running_rest ms came first first_sent sent ports (suc k) slot n (suc m) now afte
     let leave : departures_in slot p.sent.gone ≡ [] = ap (departures_in slot) (sym here) ∙ nobody_departs ports slot in
     let few = ap (λ (l : List Departure). length l) leave in
     let quiet_here : arriving came slot ≡ no_arrivals = quiet slot (omega arith) (omega arith) in
-    let middle : IdealSwitch = record { fixed = now.fixed; state = p.sent.after; rooms = now.rooms; next = slot + 1; stopped = false } in
+    let middle : IdealSwitch = record {
+      fixed = now.fixed;
+      limits = now.limits;
+      state = p.sent.after;
+      marks =
+          now.marks;
+      refused = now.refused;
+      rooms = now.rooms;
+      next = slot + 1;
+      stopped = false;
+    } in
     let after_one : Running ms came first first_sent (slot + 1) m middle sent =
     running_next ms came first first_sent slot m now sent middle sent p.sent r
     (ap (λ (cells : List (Option Cell)). ideal_slot ms slot cells now.state) quiet_here ∙ p.ran_slot) refl

@@ -4,6 +4,7 @@ use Rattle.cq_base.specs.Arriving.{Arrival}
 use Rattle.cq_base.specs.Room.{RoomView}
 use Rattle.cq_base.specs.declared.cell.Departure.{Departure}
 use Rattle.cq_cells.specs.Traffic.{IsShort, IsTraffic, is_to, number_of}
+use Rattle.cq_ideal.specs.Admission.{NoLimits, marks_down}
 use Rattle.cq_ideal.specs.Ideal.{IdealSwitch}
 use Rattle.cq_ideal.specs.IdealRun.{empty_ideal}
 use Rattle.cq_rank.specs.Machine.{Machine}
@@ -22,3 +23,9 @@ pub record IsReady (ms : List Machine) (came : List Arrival) (ideal : IdealSwitc
   pub rooms : (j : ℕ) → j < length ideal.rooms → slice_index ideal.rooms j ≡ number_of (is_to j) came
   pub nothing : sent.items ≡ []
   pub spare : sent.spare ≡ length came + length ideal.fixed
+
+-- no output of the switch has a limit, no packet is refused, and so nothing was
+pub record HasNoLimits (ideal : IdealSwitch) : Type 0 where
+  pub limits : NoLimits ideal.limits
+  pub marks : ideal.marks ≡ marks_down (length ideal.fixed)
+  pub refused : ideal.refused ≡ []

@@ -1,7 +1,9 @@
-use Rattle.std.proofs.Common.{◌≡◌, ◌+◌, ◌++◌, map, length, sym, ap, ◌∙◌, arith, append-nil}
+use Rattle.std.proofs.Common.{◌≡◌, ◌+◌, ◌++◌, map, length, refl, sym, ap, ◌∙◌, arith, append-nil}
+use Rattle.std.proofs.lemmas.List.{length-map}
 use Rattle.cq_base.specs.declared.cell.Departure.{Departure}
 use Rattle.cq_base.specs.Room.{RoomView}
 use Rattle.cq_ideal.specs.IdealSlot.{fronts}
+use Rattle.cq_ideal.proofs.Holding.{SendsAll, holds_some, holds_without}
 use Rattle.cq_ideal.proofs.Sending.{Sending, sending_first, sending_next, sending_last, one_sent, length-told}
 use Rattle.cq_ideal.proofs.TakenIn.{fit_same}
 use Rattle.cq_ideal.proofs.send.send.Goals as goal
@@ -13,14 +15,37 @@ outputs-init g c =
     let lists = fit.lists in
     let fixed = fit.fixed in
     let room = c.requires.sent in
-    sending_first g.R.Rank.machine c.args.slot c.args.ranks.now c.args.queues.now c.args.sent.now (omega arith)
+    record {
+      sending = sending_first g.R.Rank.machine c.args.slot c.args.ranks.now c.args.queues.now c.args.sent.now (omega
+          arith);
+      holds = c.requires.holds;
+      kept = record { limits = refl; marks = refl; refused = refl };
+    }
+
+pub sent-requires-clause-output : goal.sent-requires-clause-output
+sent-requires-clause-output g c =
+    let long = c.outputs.invariant.sending.long in
+    let ports = c.len-ports.ensures.len in
+    let test = c.outputs-test.true in
+    let held = ap length c.outputs.invariant.holds.held in
+    let mapped = length-map c.outputs.queues.lists length in
+    omega arith
+
+pub sent-requires-clause-holds : goal.sent-requires-clause-holds
+sent-requires-clause-holds g c =
+    let long = c.outputs.invariant.sending.long in
+    let ports = c.len-ports.ensures.len in
+    let test = c.outputs-test.true in
+    holds_some c.outputs.queues.lists c.outputs.limiter c.outputs.output (omega arith) c.outputs.invariant.holds
+    c.pop-gone.result c.pop-gone.ensures.first
 
 pub outputs-preserved : goal.outputs-preserved
 outputs-preserved g c =
-    let inv = c.outputs.invariant in
+    let inv = c.outputs.invariant.sending in
     let fit = c.requires.fit in
     let lists = fit.lists in
     let states = fit.states in
+    let long = inv.long in
     let ports = c.len-ports.ensures.len in
     let test = c.outputs-test.true in
     let output = c.outputs.output in
@@ -28,18 +53,37 @@ outputs-preserved g c =
     let step : (sent : RoomView Departure) → sent.items ≡ c.outputs.sent.items ++ one_sent c.args.slot output gone → sent.spare + length (one_sent c.args.slot output gone) ≡ c.outputs.sent.spare → Sending g.R.Rank.machine c.args.slot c.args.ranks.now c.args.queues.now c.args.sent.now (output + 1) c.told.new.self c.pop-gone.new.self sent =
     λ sent items spare.
     sending_next g.R.Rank.machine c.args.slot c.args.ranks.now c.args.queues.now c.args.sent.now output c.outputs.ranks c.outputs.queues c.outputs.sent gone c.told.new.self c.pop-gone.new.self sent inv (omega arith) (omega arith) c.pop-gone.ensures.first c.pop-gone.ensures.lists c.pop-gone.ensures.rooms c.told.ensures.fixed c.told.ensures.states items spare in
+    let was = c.outputs.invariant.kept in
+    let keep : (sent : RoomView Departure) → Sending g.R.Rank.machine c.args.slot c.args.ranks.now c.args.queues.now
+    c.args.sent.now (output + 1) c.told.new.self c.pop-gone.new.self sent →
+    SendsAll g.R.Rank.machine c.args.slot c.args.ranks.now c.args.queues.now c.args.limiter.now c.args.sent.now
+    (output + 1) c.told.new.self c.pop-gone.new.self c.sent.new.self sent =
+    λ sent sending. record {
+      sending = sending;
+      holds = holds_without c.outputs.queues.lists c.outputs.limiter output (omega arith) c.outputs.invariant.holds
+          gone c.pop-gone.new.self.lists c.sent.new.self c.pop-gone.ensures.first c.pop-gone.ensures.lists
+          c.sent.ensures.held c.sent.ensures.limits;
+      kept = record {
+        limits = c.sent.ensures.limits ∙ was.limits;
+        marks = c.sent.ensures.marks
+            ∙ was.marks;
+        refused = c.sent.ensures.refused ∙ was.refused;
+      };
+    } in
     elim c.match-gone.branch [
       | in-Some w ↦
           let is = ap (one_sent c.args.slot output) (sym w.in-Some.is) in
           let long = ap length is in
           let spare = w.push.ensures.spare in
           let now = ap (λ (s : RoomView Departure). s.spare) w.sent-is in
-          step c.match-gone.sent (ap (λ (s : RoomView Departure). s.items) w.sent-is ∙ w.push.ensures.items ∙ ap (λ l. c.outputs.sent.items ++ l) is) (omega arith)
+          keep c.match-gone.sent (step c.match-gone.sent (ap (λ (s : RoomView Departure). s.items) w.sent-is
+          ∙ w.push.ensures.items ∙ ap (λ l. c.outputs.sent.items ++ l) is) (omega arith))
       | in-None w ↦
           let is = ap (one_sent c.args.slot output) (sym w.in-None.is) in
           let long = ap length is in
           let now = ap (λ (s : RoomView Departure). s.spare) w.sent-is in
-          step c.match-gone.sent (ap (λ (s : RoomView Departure). s.items) w.sent-is ∙ sym (append-nil c.outputs.sent.items) ∙ ap (λ l. c.outputs.sent.items ++ l) is) (omega arith)
+          keep c.match-gone.sent (step c.match-gone.sent (ap (λ (s : RoomView Departure). s.items) w.sent-is
+          ∙ sym (append-nil c.outputs.sent.items) ∙ ap (λ l. c.outputs.sent.items ++ l) is) (omega arith))
     ]
 
 pub returns-clause-states : goal.returns-clause-states
@@ -49,10 +93,12 @@ returns-clause-states g c =
     let states = fit.states in
     let ports = c.len-ports.ensures.len in
     let test = c.outputs-test.false in
-    (sending_last g.R.Rank.machine c.args.slot c.args.ranks.now c.args.queues.now c.args.sent.now c.outputs.output c.outputs.ranks c.outputs.queues c.outputs.sent c.outputs.invariant (omega arith) (omega arith)).states
+    (sending_last g.R.Rank.machine c.args.slot c.args.ranks.now c.args.queues.now c.args.sent.now c.outputs.output
+    c.outputs.ranks c.outputs.queues c.outputs.sent c.outputs.invariant.sending (omega arith) (omega
+    arith)).states
 
 pub returns-clause-fit : goal.returns-clause-fit
 returns-clause-fit g c =
-    let inv = c.outputs.invariant in
+    let inv = c.outputs.invariant.sending in
     let ms = map g.R.Rank.machine c.args.ranks.now.fixed in
     fit_same g.R.Rank.machine c.args.ranks.now c.outputs.ranks c.args.queues.now c.outputs.queues c.requires.fit inv.fixed (ap length (returns-clause-states g c) ∙ length-told ms (fronts c.args.queues.now.lists) c.args.ranks.now.states) inv.long inv.rooms

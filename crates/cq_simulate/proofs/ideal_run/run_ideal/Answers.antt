@@ -1,12 +1,13 @@
-use Rattle.std.proofs.Common.{◌≡◌, ℕ, List, length, map, ap, sym, ◌∙◌, arith}
+use Rattle.std.proofs.Common.{◌≡◌, ℕ, List, None, length, map, replicate, ap, sym, ◌∙◌, arith}
 use Rattle.std.specs.List.{range_with_len}
-use Rattle.std.proofs.lemmas.List.{length-map}
+use Rattle.std.proofs.lemmas.List.{length-map, length-replicate}
 use Rattle.std.proofs.lemmas.List.FromFn.{length-map-range_with_len}
 use Rattle.std.proofs.lemmas.Result.{err_from_is_err_and}
 use Rattle.cq_ideal.specs.Ending.{slots_of}
 use Rattle.cq_cells.specs.Traffic.{is_to, number_of}
 use Rattle.cq_scfq.specs.Discipline.{fixed_of, machine_from, state_of}
 use Rattle.cq_simulate.proofs.Departed.{slots_are}
+use Rattle.cq_simulate.proofs.NoLimits.{no_limits_at_first}
 use Rattle.cq_simulate.proofs.Opening.{few_cells, machine_count, ready, run_of_setup}
 use Rattle.cq_simulate.proofs.ideal_run.run_ideal.Goals as goal
 
@@ -25,8 +26,26 @@ new-requires-2-clause-rooms c =
     let len : c.len-ports.result ≡ length c.in_ok-ranks.ranks.items = omega (arith, c.len-ports.ensures, c.in_ok-ranks.ranks.ok) in
     ap (λ (l : List ℕ). length l) (c.as_slice.ensures.value ∙ c.in_ok-rooms.ensures) ∙ length-map-range_with_len f 0 c.len-ports.result ∙ len
 
-pub run_slots-requires : goal.run_slots-requires
-run_slots-requires c =
+pub new-requires-2-clause-limits : goal.new-requires-2-clause-limits
+new-requires-2-clause-limits c =
+    let len : c.len-ports.result ≡ length c.in_ok-ranks.ranks.items = omega (
+      arith,
+      c.len-ports.ensures,
+      c.in_ok-ranks.ranks.ok,
+    ) in
+    ap length (c.as_slice-2.ensures.value ∙ c.in_ok-limits.ensures) ∙ length-replicate c.len-ports.result None ∙ len
+
+pub run_slots-requires-clause-limits : goal.run_slots-requires-clause-limits
+run_slots-requires-clause-limits c =
+    let items = c.in_ok-ranks.ranks.items in
+    let len : c.len-ports.result ≡ length items = omega (arith, c.len-ports.ensures, c.in_ok-ranks.ranks.ok) in
+    no_limits_at_first c.in_ok-ideal.ideal (length items) c.as_slice-2.result.now
+    (c.as_slice-2.ensures.value ∙ c.in_ok-limits.ensures ∙ ap (λ (n : ℕ). replicate n None) len)
+    c.in_ok-ideal.ensures.limits c.in_ok-ideal.ensures.marks c.in_ok-ideal.ensures.refused
+    (ap length c.in_ok-ideal.ensures.fixed ∙ length-map items fixed_of)
+
+pub run_slots-requires-clause-ready : goal.run_slots-requires-clause-ready
+run_slots-requires-clause-ready c =
     let items = c.in_ok-ranks.ranks.items in
     let setup = c.args.tables.now.setup in
     let ideal = c.in_ok-ideal.ideal in

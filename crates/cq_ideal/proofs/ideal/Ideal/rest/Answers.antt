@@ -1,15 +1,29 @@
-use Rattle.std.proofs.Common.{length, map, refl, ap, ◌∙◌}
+use Rattle.std.proofs.Common.{◌-◌, Ok, length, map, refl, sym, ap, ◌∙◌}
+use Rattle.cq_ideal.specs.Admission.{marked}
 use Rattle.cq_ideal.specs.Ideal.{IdealSwitch}
+use Rattle.cq_ideal.specs.LimitedIdeal.{nothing_came}
+use Rattle.cq_ideal.specs.Parts.{state_of}
+use Rattle.cq_ideal.proofs.LimitedRuns.{rest_refuses_none}
 use Rattle.cq_ideal.proofs.Resting.{length-idle, rested}
-use Rattle.cq_ideal.proofs.TakenIn.{fit_same}
+use Rattle.cq_ideal.proofs.TakenIn.{parts_same}
 use Rattle.cq_ideal.proofs.ideal.Ideal.rest.Goals as goal
 
 pub invariant_of-self : goal.invariant_of-self
 invariant_of-self g c =
-    fit_same g.R.Rank.machine c.self.inside.ranks c.rest.new.self c.self.inside.queues c.self.inside.queues c.self.invariant c.rest.ensures.fixed
+    parts_same g.R.Rank.machine c.self.inside.ranks c.rest.new.self c.self.inside.queues c.self.inside.queues
+    c.self.inside.limiter c.self.inside.limiter c.self.inside.stopped c.self.inside.stopped c.self.invariant
+    c.rest.ensures.fixed
     (ap length c.rest.ensures.states ∙ length-idle (map g.R.Rank.machine c.self.inside.ranks.fixed) (length c.self.inside.ranks.fixed) c.self.inside.ranks.states) refl refl
+    refl refl c.self.invariant.holds
 
 pub returns-clause-slots : goal.returns-clause-slots
 returns-clause-slots g c =
-    rested g.R.Rank.machine c.self.inside.ranks c.rest.new.self c.self.inside.queues c.args.self.now c.args.to (ap (λ (v : IdealSwitch). v.fixed) c.self.view_is)
-    (ap (λ (v : IdealSwitch). v.state) c.self.view_is) c.self.invariant c.requires.empty c.requires.later c.rest.ensures.states c.rest.ensures.again
+    let ran = rested g.R.Rank.machine c.self.inside.ranks c.rest.new.self c.self.inside.queues c.args.self.now
+    c.args.to (ap (λ (v : IdealSwitch). v.fixed) c.self.view_is)
+    (ap (λ (v : IdealSwitch). v.state) c.self.view_is) c.self.invariant.fit c.requires.empty c.requires.later
+    c.rest.ensures.states c.rest.ensures.again in
+    rest_refuses_none c.args.self.now.limits (map g.R.Rank.machine c.args.self.now.fixed) (c.args.to -
+    c.args.self.now.next) c.args.self.now.next (length c.args.self.now.fixed) c.args.self.now.marks
+    c.args.self.now.state _ ran
+    ∙ ap (λ (v : IdealSwitch). Ok (nothing_came (c.args.to - c.args.self.now.next) (length c.args.self.now.fixed)
+    (marked v.marks (state_of c.rest.new.self c.self.inside.queues)))) (sym c.self.view_is)

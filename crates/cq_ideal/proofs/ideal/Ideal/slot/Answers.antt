@@ -1,99 +1,234 @@
-use Rattle.std.proofs.Common.{ℕ, ◌+◌, ◌≤◌, [], length, get_or, map, sym, ap, ◌∙◌, subst}
+use Rattle.std.proofs.Common.{ℕ, ◌+◌, ◌≤◌, List, [], length, get_or, map, sym, ap, ◌∙◌, subst, arith}
+use Rattle.std.specs.Prelude.{Bool}
 use Rattle.cq_rank.specs.Switch.{class_count}
+use Rattle.cq_ideal.specs.Admission.{admitted, marked, refused}
 use Rattle.cq_ideal.specs.Ideal.{IdealSwitch, answer_to}
 use Rattle.cq_ideal.specs.IdealSlot.{IdealState}
 use Rattle.cq_ideal.specs.Ranking.{AreForPorts, Ranking}
+use Rattle.cq_ideal.specs.Refused.{with_refused}
+use Rattle.cq_ideal.proofs.Admitted.{admitted_for_ports}
 use Rattle.cq_ideal.proofs.Came.{came_to_ports}
-use Rattle.cq_ideal.proofs.Spare.{length-filled, spare_follows}
-use Rattle.cq_ideal.proofs.Slot.{slot_ok, slot_fault, nothing_done, done, room_for_came, same_state}
+use Rattle.cq_ideal.proofs.Holding.{holds_filled}
+use Rattle.cq_ideal.proofs.Spare.{came_for, length-filled, spare_follows}
+use Rattle.cq_ideal.proofs.Slot.{admitted_ok, admitted_room, can_count, come_to_ports, done, fixed_is, holds, limited_fault, limited_ok, lists_are, nothing_done, numbers_fit, ports_are, ports_few, room_for_came, rooms_are, same_state}
 use Rattle.cq_ideal.proofs.TakenIn.{fit_same}
 use Rattle.cq_ideal.proofs.ideal.Ideal.slot.Goals as goal
 
+pub judge-requires-clause-few : goal.judge-requires-clause-few
+judge-requires-clause-few g c = ports_few g.R.Rank.machine c.args.arrivals.now c.args.self.now c.self.inside.ranks
+    c.self.inside.queues c.self.inside.limiter c.self.inside.next c.self.inside.stopped c.self.view_is
+    c.self.invariant c.requires.running
+
+pub judge-requires-clause-arrivals : goal.judge-requires-clause-arrivals
+judge-requires-clause-arrivals g c =
+    come_to_ports g.R.Rank.machine c.args.arrivals.now c.args.self.now c.self.inside.ranks c.self.inside.queues
+    c.self.inside.limiter c.self.inside.next c.self.inside.stopped c.self.view_is c.self.invariant
+    c.requires.running (class_count (map g.R.Rank.machine c.args.self.now.fixed)) c.requires.arrivals
+
+pub judge-requires-clause-held : goal.judge-requires-clause-held
+judge-requires-clause-held g c = numbers_fit g.R.Rank.machine c.args.arrivals.now c.args.self.now c.self.inside.ranks
+    c.self.inside.queues c.self.inside.limiter c.self.inside.next c.self.inside.stopped c.self.view_is
+    c.self.invariant c.requires.running c.requires.spare c.len.ensures.within c.len.ensures.few
+
+pub take-requires-clause-marks : goal.take-requires-clause-marks
+take-requires-clause-marks g c =
+    let marks = c.judge.ensures.ports.marks in
+    let limits = ap length c.judge.ensures.limits in
+    let ports = ports_are g.R.Rank.machine c.args.arrivals.now c.args.self.now c.self.inside.ranks
+    c.self.inside.queues c.self.inside.limiter c.self.inside.next c.self.inside.stopped c.self.view_is
+    c.self.invariant c.requires.running in
+    let fixed = ap length (fixed_is g.R.Rank.machine c.args.arrivals.now c.args.self.now c.self.inside.ranks
+    c.self.inside.queues c.self.inside.limiter c.self.inside.next c.self.inside.stopped c.self.view_is
+    c.self.invariant c.requires.running) in
+    omega arith
+
+pub count-requires-clause-few : goal.count-requires-clause-few
+count-requires-clause-few g c =
+    let limits = ap length c.judge.ensures.limits in
+    let few = ports_few g.R.Rank.machine c.args.arrivals.now c.args.self.now c.self.inside.ranks c.self.inside.queues
+    c.self.inside.limiter c.self.inside.next c.self.inside.stopped c.self.view_is c.self.invariant
+    c.requires.running in
+    omega arith
+
+pub count-requires-clause-refused : goal.count-requires-clause-refused
+count-requires-clause-refused g c =
+    can_count g.R.Rank.machine c.args.arrivals.now c.args.self.now c.self.inside.ranks c.self.inside.queues
+    c.self.inside.limiter c.self.inside.next c.self.inside.stopped c.self.view_is c.self.invariant
+    c.requires.running c.judge.new.self c.requires.refused c.judge.ensures.limits c.judge.ensures.refused
+
 pub arrive-requires-clause-ports : goal.arrive-requires-clause-ports
 arrive-requires-clause-ports g c =
-    let inv = c.self.invariant in
+    let inv = c.self.invariant.fit in
     let fixed = ap (λ (v : IdealSwitch). v.fixed) c.self.view_is in
     let ports = sym (ap length fixed) ∙ inv.fixed ∙ sym inv.lists in
     let came : Ranking = record { came = c.take.new.came; ranks = c.take.new.self.states } in
     let classes = class_count (map g.R.Rank.machine c.args.self.now.fixed) in
     let come = subst (λ n. AreForPorts n classes c.args.arrivals.now) ports c.requires.arrivals in
-    came_to_ports (map g.R.Rank.machine c.self.inside.ranks.fixed) c.args.slot _ classes c.args.arrivals.now c.self.inside.ranks.states came c.in_default.ensures.came come c.take.ensures.long
+    let cells = admitted c.judge.new.self.marks c.args.arrivals.now in
+    came_to_ports (map g.R.Rank.machine c.self.inside.ranks.fixed) c.args.slot _ classes cells
+    c.self.inside.ranks.states came c.in_default.ensures.came
+    (admitted_for_ports _ classes c.judge.new.self.marks c.args.arrivals.now come) c.take.ensures.long
 
 pub arrive-requires-clause-room : goal.arrive-requires-clause-room
 arrive-requires-clause-room g c =
-    let state = ap (λ (v : IdealSwitch). v.state) c.self.view_is in
-    let rooms = ap (λ (v : IdealSwitch). v.rooms) c.self.view_is in
     let came : Ranking = record { came = c.take.new.came; ranks = c.take.new.self.states } in
-    room_for_came (map g.R.Rank.machine c.self.inside.ranks.fixed) c.args.slot c.args.arrivals.now c.self.inside.ranks.states came c.args.self.now c.self.inside.queues c.in_default.ensures.came (ap (λ (s : IdealState). s.lists) state) rooms c.requires.spare
+    let cells = admitted c.judge.new.self.marks c.args.arrivals.now in
+    room_for_came (map g.R.Rank.machine c.self.inside.ranks.fixed) c.args.slot cells c.self.inside.ranks.states came
+    c.args.self.now c.self.inside.queues c.in_default.ensures.came
+    (lists_are g.R.Rank.machine c.args.arrivals.now c.args.self.now c.self.inside.ranks c.self.inside.queues
+    c.self.inside.limiter c.self.inside.next c.self.inside.stopped c.self.view_is c.self.invariant
+    c.requires.running) (rooms_are g.R.Rank.machine c.args.arrivals.now c.args.self.now c.self.inside.ranks
+    c.self.inside.queues c.self.inside.limiter c.self.inside.next c.self.inside.stopped c.self.view_is
+    c.self.invariant c.requires.running) (admitted_room g.R.Rank.machine c.args.arrivals.now c.args.self.now
+    c.self.inside.ranks c.self.inside.queues c.self.inside.limiter c.self.inside.next c.self.inside.stopped
+    c.self.view_is c.self.invariant c.requires.running c.judge.new.self.marks c.requires.spare)
 
 pub send-requires-clause-fit : goal.send-requires-clause-fit
 send-requires-clause-fit g c =
-    fit_same g.R.Rank.machine c.self.inside.ranks c.take.new.self c.self.inside.queues c.arrive.new.self c.self.invariant c.take.ensures.fixed c.take.ensures.many
+    fit_same g.R.Rank.machine c.self.inside.ranks c.take.new.self c.self.inside.queues c.arrive.new.self
+    c.self.invariant.fit c.take.ensures.fixed c.take.ensures.many
     (ap length c.arrive.ensures.lists ∙ length-filled c.take.new.came c.self.inside.queues.lists) c.arrive.ensures.rooms
 
+pub send-requires-clause-holds : goal.send-requires-clause-holds
+send-requires-clause-holds g c =
+    let came : Ranking = record { came = c.take.new.came; ranks = c.take.new.self.states } in
+    let cells = admitted c.judge.new.self.marks c.args.arrivals.now in
+    let held = c.count.ensures.held in
+    let long = ap length held in
+    let limits = ap length c.judge.ensures.limits in
+    let ports = c.judge.ensures.ports.held in
+    holds_filled c.take.new.came cells c.self.inside.queues.lists c.arrive.new.self.lists c.self.inside.limiter
+    c.count.new.self
+    (holds g.R.Rank.machine c.args.arrivals.now c.args.self.now c.self.inside.ranks c.self.inside.queues
+    c.self.inside.limiter c.self.inside.next c.self.inside.stopped c.self.view_is c.self.invariant
+    c.requires.running) c.arrive.ensures.lists (c.count.ensures.limits ∙ c.judge.ensures.limits) (omega arith)
+    (λ j inside. ap (λ (l : List ℕ). get_or l j 0) held ∙ c.judge.ensures.held j inside)
+    (came_for (map g.R.Rank.machine c.self.inside.ranks.fixed) c.args.slot cells c.self.inside.ranks.states came
+    c.in_default.ensures.came)
+
 pub returns-in-Err-clause-answer : goal.returns-in-Err-clause-answer
-returns-in-Err-clause-answer g c =
-    let fixed = ap (λ (v : IdealSwitch). v.fixed) c.self.view_is in
-    let state = ap (λ (v : IdealSwitch). v.state) c.self.view_is in
-    let e = slot_fault g.R.Rank.machine c.args.slot c.args.arrivals.now c.args.self.now c.self.inside.ranks c.self.inside.queues fixed state c.in-Err.fault c.in-Err.ensures.fault in
-    sym (ap answer_to e)
+returns-in-Err-clause-answer g c = sym (ap answer_to (limited_fault g.R.Rank.machine c.args.arrivals.now
+    c.args.self.now c.self.inside.ranks c.self.inside.queues c.self.inside.limiter c.self.inside.next
+    c.self.inside.stopped c.self.view_is c.self.invariant c.requires.running c.args.slot c.judge.new.self.marks
+    c.judge.ensures.marks c.in-Err.fault c.in-Err.ensures.fault))
 
 pub returns-in-Err-clause-state : goal.returns-in-Err-clause-state
-returns-in-Err-clause-state g c =
-    let fixed = ap (λ (v : IdealSwitch). v.fixed) c.self.view_is in
-    let state = ap (λ (v : IdealSwitch). v.state) c.self.view_is in
-    let e = slot_fault g.R.Rank.machine c.args.slot c.args.arrivals.now c.args.self.now c.self.inside.ranks c.self.inside.queues fixed state c.in-Err.fault c.in-Err.ensures.fault in
-    nothing_done _ c.in-Err.fault _ e
+returns-in-Err-clause-state g c = nothing_done _ c.in-Err.fault _ (limited_fault g.R.Rank.machine c.args.arrivals.now
+    c.args.self.now c.self.inside.ranks c.self.inside.queues c.self.inside.limiter c.self.inside.next
+    c.self.inside.stopped c.self.view_is c.self.invariant c.requires.running c.args.slot c.judge.new.self.marks
+    c.judge.ensures.marks c.in-Err.fault c.in-Err.ensures.fault)
 
 pub returns-in-Err-clause-sent : goal.returns-in-Err-clause-sent
-returns-in-Err-clause-sent g c =
-    let fixed = ap (λ (v : IdealSwitch). v.fixed) c.self.view_is in
-    let state = ap (λ (v : IdealSwitch). v.state) c.self.view_is in
-    let e = slot_fault g.R.Rank.machine c.args.slot c.args.arrivals.now c.args.self.now c.self.inside.ranks c.self.inside.queues fixed state c.in-Err.fault c.in-Err.ensures.fault in
-    nothing_done _ c.in-Err.fault _ e
+returns-in-Err-clause-sent g c = nothing_done _ c.in-Err.fault _ (limited_fault g.R.Rank.machine c.args.arrivals.now
+    c.args.self.now c.self.inside.ranks c.self.inside.queues c.self.inside.limiter c.self.inside.next
+    c.self.inside.stopped c.self.view_is c.self.invariant c.requires.running c.args.slot c.judge.new.self.marks
+    c.judge.ensures.marks c.in-Err.fault c.in-Err.ensures.fault)
 
 pub returns-in-Err-clause-spare : goal.returns-in-Err-clause-spare
-returns-in-Err-clause-spare g c =
-    let fixed = ap (λ (v : IdealSwitch). v.fixed) c.self.view_is in
-    let state = ap (λ (v : IdealSwitch). v.state) c.self.view_is in
-    let e = slot_fault g.R.Rank.machine c.args.slot c.args.arrivals.now c.args.self.now c.self.inside.ranks c.self.inside.queues fixed state c.in-Err.fault c.in-Err.ensures.fault in
-    nothing_done _ c.in-Err.fault _ e
+returns-in-Err-clause-spare g c = nothing_done _ c.in-Err.fault _ (limited_fault g.R.Rank.machine c.args.arrivals.now
+    c.args.self.now c.self.inside.ranks c.self.inside.queues c.self.inside.limiter c.self.inside.next
+    c.self.inside.stopped c.self.view_is c.self.invariant c.requires.running c.args.slot c.judge.new.self.marks
+    c.judge.ensures.marks c.in-Err.fault c.in-Err.ensures.fault)
+
+pub returns-in-Err-clause-refused : goal.returns-in-Err-clause-refused
+returns-in-Err-clause-refused g c = nothing_done _ c.in-Err.fault _ (limited_fault g.R.Rank.machine
+    c.args.arrivals.now c.args.self.now c.self.inside.ranks c.self.inside.queues c.self.inside.limiter
+    c.self.inside.next c.self.inside.stopped c.self.view_is c.self.invariant c.requires.running c.args.slot
+    c.judge.new.self.marks c.judge.ensures.marks c.in-Err.fault c.in-Err.ensures.fault)
+
+pub returns-in-Err-clause-limits : goal.returns-in-Err-clause-limits
+returns-in-Err-clause-limits g c = c.judge.ensures.limits ∙ ap (λ (v : IdealSwitch). v.limits) c.self.view_is
 
 pub returns-in-Err-clause-lists_stay : goal.returns-in-Err-clause-lists_stay
 returns-in-Err-clause-lists_stay g c = ap (λ (v : IdealSwitch). v.state.lists) c.self.view_is
 
+pub returns-in-Err-clause-counts_stay : goal.returns-in-Err-clause-counts_stay
+returns-in-Err-clause-counts_stay g c = c.judge.ensures.refused ∙ ap (λ (v : IdealSwitch). v.refused) c.self.view_is
+
 pub returns-clause-answer : goal.returns-clause-answer
-returns-clause-answer g c =
-    let fixed = ap (λ (v : IdealSwitch). v.fixed) c.self.view_is in
-    let state = ap (λ (v : IdealSwitch). v.state) c.self.view_is in
-    let e = slot_ok g.R.Rank.machine c.args.slot c.args.arrivals.now c.args.self.now c.self.inside.ranks c.self.inside.queues fixed state c.take.new.self c.arrive.new.self c.take.new.came c.in_default.ensures.came c.arrive.ensures.lists c.take.ensures.fixed in
-    sym (ap answer_to e)
+returns-clause-answer g c = sym (ap answer_to (limited_ok g.R.Rank.machine c.args.arrivals.now c.args.self.now
+    c.self.inside.ranks c.self.inside.queues c.self.inside.limiter c.self.inside.next c.self.inside.stopped
+    c.self.view_is c.self.invariant c.requires.running c.args.slot c.judge.new.self.marks c.judge.ensures.marks
+    c.take.new.self c.arrive.new.self c.take.new.came c.in_default.ensures.came c.arrive.ensures.lists
+    c.take.ensures.fixed))
 
 pub returns-clause-state : goal.returns-clause-state
 returns-clause-state g c =
-    let fixed = ap (λ (v : IdealSwitch). v.fixed) c.self.view_is in
-    let state = ap (λ (v : IdealSwitch). v.state) c.self.view_is in
-    let e = slot_ok g.R.Rank.machine c.args.slot c.args.arrivals.now c.args.self.now c.self.inside.ranks c.self.inside.queues fixed state c.take.new.self c.arrive.new.self c.take.new.came c.in_default.ensures.came c.arrive.ensures.lists c.take.ensures.fixed in
-    done _ _ _ e (same_state _ _ c.send.ensures.lists c.send.ensures.states)
+    let marks = c.send.ensures.marks ∙ c.count.ensures.marks in
+    let state = same_state (record {
+      lists = c.send.new.queues.lists;
+      ranks =
+          c.send.new.ranks.states;
+    }) _ c.send.ensures.lists c.send.ensures.states in
+    done _ _ _ (limited_ok g.R.Rank.machine c.args.arrivals.now c.args.self.now c.self.inside.ranks
+    c.self.inside.queues c.self.inside.limiter c.self.inside.next c.self.inside.stopped c.self.view_is
+    c.self.invariant c.requires.running c.args.slot c.judge.new.self.marks c.judge.ensures.marks c.take.new.self
+    c.arrive.new.self c.take.new.came c.in_default.ensures.came c.arrive.ensures.lists c.take.ensures.fixed)
+    (ap (λ (m : List Bool). marked m (record {
+      lists = c.send.new.queues.lists;
+      ranks =
+          c.send.new.ranks.states;
+    })) marks
+    ∙ ap (λ (s : IdealState). marked c.judge.new.self.marks s) state)
 
 pub returns-clause-sent : goal.returns-clause-sent
-returns-clause-sent g c =
-    let fixed = ap (λ (v : IdealSwitch). v.fixed) c.self.view_is in
-    let state = ap (λ (v : IdealSwitch). v.state) c.self.view_is in
-    let e = slot_ok g.R.Rank.machine c.args.slot c.args.arrivals.now c.args.self.now c.self.inside.ranks c.self.inside.queues fixed state c.take.new.self c.arrive.new.self c.take.new.came c.in_default.ensures.came c.arrive.ensures.lists c.take.ensures.fixed in
-    done _ _ _ e (record { items = c.send.ensures.items; spare = c.send.ensures.spare })
+returns-clause-sent g c = done _ _ _ (limited_ok g.R.Rank.machine c.args.arrivals.now c.args.self.now
+    c.self.inside.ranks c.self.inside.queues c.self.inside.limiter c.self.inside.next c.self.inside.stopped
+    c.self.view_is c.self.invariant c.requires.running c.args.slot c.judge.new.self.marks c.judge.ensures.marks
+    c.take.new.self c.arrive.new.self c.take.new.came c.in_default.ensures.came c.arrive.ensures.lists
+    c.take.ensures.fixed) (record { items = c.send.ensures.items; spare = c.send.ensures.spare })
 
 pub returns-clause-spare : goal.returns-clause-spare
 returns-clause-spare g c =
-    let fixed = ap (λ (v : IdealSwitch). v.fixed) c.self.view_is in
-    let state = ap (λ (v : IdealSwitch). v.state) c.self.view_is in
-    let inv = c.self.invariant in
-    let e = slot_ok g.R.Rank.machine c.args.slot c.args.arrivals.now c.args.self.now c.self.inside.ranks c.self.inside.queues fixed state c.take.new.self c.arrive.new.self c.take.new.came c.in_default.ensures.came c.arrive.ensures.lists c.take.ensures.fixed in
-    let rooms = ap (λ (v : IdealSwitch). v.rooms) c.self.view_is in
-    let lists = ap (λ (s : IdealState). s.lists) state in
-    let within = subst (λ l. (j : ℕ) → length (get_or l j []) ≤ get_or c.self.inside.queues.rooms j 0) lists c.arrive.ensures.within in
+    let inv = c.self.invariant.fit in
+    let cells = admitted c.judge.new.self.marks c.args.arrivals.now in
+    let e = admitted_ok g.R.Rank.machine c.args.arrivals.now c.args.self.now c.self.inside.ranks c.self.inside.queues
+    c.self.inside.limiter c.self.inside.next c.self.inside.stopped c.self.view_is c.self.invariant
+    c.requires.running c.args.slot c.judge.new.self.marks c.judge.ensures.marks c.take.new.self c.arrive.new.self
+    c.take.new.came c.in_default.ensures.came c.arrive.ensures.lists c.take.ensures.fixed in
+    let lists = lists_are g.R.Rank.machine c.args.arrivals.now c.args.self.now c.self.inside.ranks
+    c.self.inside.queues c.self.inside.limiter c.self.inside.next c.self.inside.stopped c.self.view_is
+    c.self.invariant c.requires.running in
+    let rooms = rooms_are g.R.Rank.machine c.args.arrivals.now c.args.self.now c.self.inside.ranks
+    c.self.inside.queues c.self.inside.limiter c.self.inside.next c.self.inside.stopped c.self.view_is
+    c.self.invariant c.requires.running in
+    let within = subst (λ l. (j : ℕ) → length (get_or l j []) ≤ get_or c.self.inside.queues.rooms j 0) lists
+    c.len.ensures.within in
     let held = subst (λ r. (j : ℕ) → length (get_or c.args.self.now.state.lists j []) ≤ get_or r j 0) rooms within in
-    let new : IdealSwitch = record { fixed = c.send.new.ranks.fixed; state = record { lists = c.send.new.queues.lists; ranks = c.send.new.ranks.states }; rooms = c.send.new.queues.rooms; next = c.args.slot + 1; stopped = c.self.inside.stopped } in
-    done _ _ _ e
-    (spare_follows _ c.args.slot c.args.arrivals.now c.args.self.now new _ c.requires.spare
+    let new : IdealSwitch = record {
+      fixed = c.send.new.ranks.fixed;
+      limits = c.send.new.limiter.limits;
+      state =
+          record { lists = c.send.new.queues.lists; ranks = c.send.new.ranks.states };
+      marks =
+          c.send.new.limiter.marks;
+      refused = c.send.new.limiter.refused;
+      rooms = c.send.new.queues.rooms;
+      next =
+          c.args.slot + 1;
+      stopped = c.self.inside.stopped;
+    } in
+    done _ _ _ (limited_ok g.R.Rank.machine c.args.arrivals.now c.args.self.now c.self.inside.ranks
+    c.self.inside.queues c.self.inside.limiter c.self.inside.next c.self.inside.stopped c.self.view_is
+    c.self.invariant c.requires.running c.args.slot c.judge.new.self.marks c.judge.ensures.marks c.take.new.self
+    c.arrive.new.self c.take.new.came c.in_default.ensures.came c.arrive.ensures.lists c.take.ensures.fixed)
+    (spare_follows _ c.args.slot cells c.args.self.now new _ (admitted_room g.R.Rank.machine c.args.arrivals.now
+    c.args.self.now c.self.inside.ranks c.self.inside.queues c.self.inside.limiter c.self.inside.next
+    c.self.inside.stopped c.self.view_is c.self.invariant c.requires.running c.judge.new.self.marks
+    c.requires.spare)
     (ap length (sym lists) ∙ inv.lists ∙ sym inv.rooms ∙ ap length rooms) held (c.send.ensures.rooms ∙ c.arrive.ensures.rooms ∙ rooms) e (same_state _ _ c.send.ensures.lists c.send.ensures.states))
+
+pub returns-clause-refused : goal.returns-clause-refused
+returns-clause-refused g c =
+    let was = c.judge.ensures.refused ∙ ap (λ (v : IdealSwitch). v.refused) c.self.view_is in
+    done _ _ _ (limited_ok g.R.Rank.machine c.args.arrivals.now c.args.self.now c.self.inside.ranks
+    c.self.inside.queues c.self.inside.limiter c.self.inside.next c.self.inside.stopped c.self.view_is
+    c.self.invariant c.requires.running c.args.slot c.judge.new.self.marks c.judge.ensures.marks c.take.new.self
+    c.arrive.new.self c.take.new.came c.in_default.ensures.came c.arrive.ensures.lists c.take.ensures.fixed)
+    (c.send.ensures.refused ∙ c.count.ensures.refused
+    ∙ ap (with_refused (refused c.judge.new.self.marks c.args.arrivals.now)) was)
+
+pub returns-clause-limits : goal.returns-clause-limits
+returns-clause-limits g c =
+    c.send.ensures.limits ∙ c.count.ensures.limits ∙ c.judge.ensures.limits
+    ∙ ap (λ (v : IdealSwitch). v.limits) c.self.view_is

@@ -1,9 +1,9 @@
-use Rattle.std.proofs.Common.{◌≤◌, length, ap, arith}
+use Rattle.std.proofs.Common.{length, ap, arith}
 use Rattle.cq_base.specs.Cells.{put}
 use Rattle.std.proofs.lemmas.List.Elements.{All-set}
 use Rattle.cq_ideal.proofs.TakenIn.{length-put}
-use Rattle.cq_ideal.specs.Parts.{QueueView}
-use Rattle.cq_ideal.proofs.Listed.{cells_seen, room_seen, lists_after, rooms_after}
+use Rattle.cq_ideal.specs.Parts.{IsWithin}
+use Rattle.cq_ideal.proofs.Listed.{cells_seen, room_few, room_seen, lists_after, rooms_after}
 use Rattle.cq_ideal.proofs.queues.Queues.put.Goals as goal
 
 pub put-requires : goal.put-requires
@@ -23,5 +23,7 @@ invariant_of-self c =
     let longer = ap length c.put.ensures.cells in
     let one = length-put c.args.queued c.index_mut.result.now.cells in
     let same = c.put.ensures.room in
-    let fits : length c.put.new.self.cells ≤ c.put.new.self.room = omega arith in
-    All-set (λ (q : QueueView). length q.cells ≤ q.room) c.self.inside.queues.items c.args.queued.cell.output c.put.new.self fits c.self.invariant
+    let here = room_few c.self.inside.queues.items c.args.queued.cell.output c.index_mut.result.now c.args.self.now
+    c.requires.output c.index_mut.ensures.value c.self.view_is c.self.invariant in
+    let fits : IsWithin c.put.new.self = (omega arith, omega arith) in
+    All-set IsWithin c.self.inside.queues.items c.args.queued.cell.output c.put.new.self fits c.self.invariant

@@ -1,5 +1,7 @@
+use Rattle.cq_ideal.specs.Admission.{admitted}
 use Rattle.cq_ideal.proofs.InTurn.{InTurn}
 use Rattle.cq_ideal.proofs.ranks.Ranks.take.Given as goal
 
 abbrev pub invariant-inputs : goal.invariant-inputs
-invariant-inputs g l = InTurn g.R.Rank.machine l.slot l.arrivals l.fn.self l.input l.self l.came
+invariant-inputs g l = InTurn g.R.Rank.machine l.slot (admitted l.limiter.marks l.arrivals) l.fn.self l.input l.self
+    l.came

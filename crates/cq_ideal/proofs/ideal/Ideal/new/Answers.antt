@@ -1,0 +1,29 @@
+use Rattle.std.proofs.Common.{◌≡◌, [], length, map, replicate, sym, ap, ◌∙◌, subst}
+use Rattle.std.proofs.lemmas.List.{length-map, length-replicate}
+use Rattle.cq_rank.specs.Switch.{AreForOneSwitch}
+use Rattle.cq_ideal.proofs.Holding.{holds_none}
+use Rattle.cq_ideal.proofs.ideal.Ideal.new.Goals as goal
+
+pub invariant_of-result : goal.invariant_of-result
+invariant_of-result g c =
+    let ms = map g.R.Rank.machine c.of.result.fixed in
+    let fixed = c.of.ensures.fixed in
+    let many : length ms ≡ length c.args.ranks.items =
+    length-map c.of.result.fixed g.R.Rank.machine ∙ ap length fixed ∙ length-map c.args.ranks.items g.R.Rank.fixed in
+    let lists : length c.in_ok-new.field-0.lists ≡ length c.args.ranks.items =
+    ap length c.in_ok-new.ensures.lists ∙ length-replicate (length c.args.rooms.now) [] ∙ c.requires.rooms in
+    let limits = c.requires.limits in
+    record {
+      fit = record {
+        machines = subst AreForOneSwitch (ap (map g.R.Rank.machine) (sym fixed)) c.requires.machines;
+        fixed = sym (length-map c.of.result.fixed g.R.Rank.machine);
+        states = ap length c.of.ensures.states ∙ length-map c.args.ranks.items g.R.Rank.state ∙ sym many;
+        lists = lists ∙ sym many;
+        rooms = ap length c.in_ok-new.ensures.rooms ∙ c.requires.rooms ∙ sym many;
+      };
+      limits = ap length c.in_ok-new-2.ensures.limits ∙ limits ∙ sym many;
+      marks = ap length c.in_ok-new-2.ensures.marks ∙ length-replicate (length c.args.limits.now) _ ∙ limits ∙ sym many;
+      holds = λ _. holds_none c.in_ok-new-2.field-0 (length c.args.limits.now) c.in_ok-new.field-0.lists
+          (ap length c.in_ok-new-2.ensures.limits) c.in_ok-new-2.ensures.held
+          (c.in_ok-new.ensures.lists ∙ ap (λ n. replicate n []) (c.requires.rooms ∙ sym limits));
+    }

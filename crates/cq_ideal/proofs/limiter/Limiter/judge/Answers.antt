@@ -1,0 +1,73 @@
+use Rattle.std.proofs.Common.{Some, false, get_or, drop, ◌+◌, ◌∷◌, refl, sym, ap, ◌∙◌, subst, arith}
+use Rattle.std.specs.Prelude.{Option}
+use Rattle.cq_base.specs.declared.cell.Cell.{Cell}
+use Rattle.cq_ideal.specs.Admission.{mark_after}
+use Rattle.cq_ideal.proofs.Judging.{Judging, judged_last, judged_next, judged_none, judging_first, one_more_fits}
+use Rattle.cq_ideal.proofs.TakenIn.{from_input}
+use Rattle.cq_ideal.proofs.limiter.Limiter.judge.Goals as goal
+use Rattle.cq_ideal.proofs.limiter.Limiter.judge.Goals.{in-Some, in-None}
+
+pub inputs-init : goal.inputs-init
+inputs-init c = judging_first c.args.arrivals.now c.args.self.now
+
+pub turn-requires-clause-few : goal.turn-requires-clause-few
+turn-requires-clause-few c =
+    let cell = c.in-Some.cell in
+    let few = c.requires.few in
+    let ports = c.len-ports.ensures.len in
+    let inside = c.inputs-test.true in
+    let at = sym c.in-Some.is ∙ c.at.ensures.answer in
+    let here = from_input c.args.arrivals.now c.inputs.input (Some cell) c.at.ensures.arrivals.places (omega arith)
+    at in
+    one_more_fits c.args.arrivals.now c.args.self.now c.inputs.input c.inputs.self cell _ c.inputs.invariant here
+    (c.requires.held cell.output (c.requires.arrivals.outputs c.inputs.input cell (sym at)))
+
+pub inputs-preserved : goal.inputs-preserved
+inputs-preserved c =
+    let few = c.requires.few in
+    let ports = c.len-ports.ensures.len in
+    let inside = c.inputs-test.true in
+    let marks = c.len-ports.ensures.ports.marks in
+    let held = c.len-ports.ensures.ports.held in
+    let input = c.inputs.input in
+    let cells = c.args.arrivals.now in
+    let first = c.args.self.now in
+    let now = c.inputs.self in
+    let here = from_input cells input c.at.result c.at.ensures.arrivals.places (omega arith) c.at.ensures.answer in
+    elim c.match-at.branch [
+      | in-Some w ↦
+          let cell : Option Cell = Some w.in-Some.cell in
+          let come = here ∙ ap (λ (o : Option Cell). o ∷ drop (input + 1) cells) w.in-Some.is in
+          subst (Judging cells first (input + 1)) (sym w.self-is)
+          (judged_next cells first input now w.turn.new.self cell
+          (mark_after now.limits now.held (get_or now.marks input false) cell) c.inputs.invariant (omega arith) come
+          (λ q e. let out = c.requires.arrivals.outputs input q (sym c.at.ensures.answer ∙ w.in-Some.is ∙ e) in
+          omega arith)
+          refl w.turn.ensures.marks w.turn.ensures.held w.turn.ensures.limits w.turn.ensures.refused)
+      | in-None w ↦
+          let come = here ∙ ap (λ (o : Option Cell). o ∷ drop (input + 1) cells) w.in-None.is in
+          subst (Judging cells first (input + 1)) (sym w.self-is)
+          (judged_none cells first input now c.inputs.invariant (omega arith) come)
+    ]
+
+pub returns-clause-marks : goal.returns-clause-marks
+returns-clause-marks c =
+    let ports = c.len-ports.ensures.len in
+    let past = c.inputs-test.false in
+    (judged_last c.args.arrivals.now c.args.self.now c.inputs.input c.inputs.self c.inputs.invariant
+    c.len-ports.ensures.ports c.requires.arrivals (omega arith)).marks
+
+pub returns-clause-held : goal.returns-clause-held
+returns-clause-held c =
+    let ports = c.len-ports.ensures.len in
+    let past = c.inputs-test.false in
+    let last = judged_last c.args.arrivals.now c.args.self.now c.inputs.input c.inputs.self c.inputs.invariant
+    c.len-ports.ensures.ports c.requires.arrivals (omega arith) in
+    λ j inside. last.held j
+
+pub returns-clause-ports : goal.returns-clause-ports
+returns-clause-ports c =
+    let ports = c.len-ports.ensures.len in
+    let past = c.inputs-test.false in
+    (judged_last c.args.arrivals.now c.args.self.now c.inputs.input c.inputs.self c.inputs.invariant
+    c.len-ports.ensures.ports c.requires.arrivals (omega arith)).ports

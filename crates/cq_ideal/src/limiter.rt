@@ -1,0 +1,276 @@
+//! What is refused where outputs have limits.
+//!
+//! A packet is refused whole, by what its output holds as its first cell arrives. How many cells that is stands in a
+//! number which is kept: it rises with each cell that is admitted, and falls as the switch tells that one has left.
+ghost use Rattle.std.specs.Prelude.{◌≡◌, ◌+◌, ◌<◌, ◌≤◌, ◌^◌, ◌∷◌, ℕ, Bool, Some, None, IfOk, IfSome, [], false, length, replicate, slice_index_or, slice_set};
+ghost use Rattle.cq_base.specs.declared.cell.Cell.{Cell};
+ghost use Rattle.cq_base.specs.Arrivals.{arrival_at};
+ghost use Rattle.cq_ideal.specs.Admission.{admitted, held_after, is_full, mark_after, mark_at, marks_after, marks_down, refused};
+ghost use Rattle.cq_ideal.specs.Ideal.{count_for};
+ghost use Rattle.cq_ideal.specs.Limiter.{CanCount, ComeToPorts, HasPorts, held_without, where_up};
+ghost use Rattle.cq_ideal.specs.Refused.{refused_counts, with_cells, with_refused};
+
+use crate::Refused;
+use cq_base::{Arrivals, Cell, NoMemory, Port, Queued};
+use std::alloc::Global;
+use std::marker::Model;
+
+/// Which packets are refused, and how many were. Contracts see the limits of the outputs, how many cells each output
+/// holds, the marks of the inputs, and the numbers of refused packets and cells.
+#[derive(Drop)]
+pub struct Limiter {
+    limits: Vec<Option<u64>>,
+    held: Vec<u64>,
+    marks: Vec<bool>,
+    refused: Vec<Refused>,
+}
+
+impl Model for Limiter {
+    ghost use Rattle.cq_ideal.specs.Limiter.{HasPorts, LimiterView};
+
+    ghost Value = { LimiterView };
+
+    ghost view = { λ a. record {
+      limits = a.limits.items;
+      held = a.held.items;
+      marks = a.marks.items;
+      refused =
+          a.refused.items;
+    } };
+
+    ghost invariant = { λ a. HasPorts (record {
+      limits = a.limits.items;
+      held = a.held.items;
+      marks =
+          a.marks.items;
+      refused = a.refused.items;
+    }) };
+}
+
+// Whether an output with this limit, or with none, is full when it holds so many cells.
+fn full(limit: Option<u64>, held: u64) -> bool
+    ensures { result ≡ is_full limit held }
+{
+    match limit {
+        None => false,
+        Some(limit) => limit <= held,
+    }
+}
+
+// Nothing was refused yet at the outputs that have a limit.
+fn none_refused(alloc: Global, limits: &[Option<u64>]) -> Result<Vec<Refused>, NoMemory>
+    requires { length limits.now ≤ 64 }
+    ensures { IfOk result (λ refused. refused.items ≡ refused_counts limits.now []) }
+{
+    let mut refused = Vec::new(alloc);
+    'outputs: for output in 0..limits.len() {
+        match limits[output] {
+            None => {}
+            Some(limit) => refused.push(Refused {
+                output: output as Port,
+                limit,
+                packets: 0,
+                cells: 0,
+            })?,
+        }
+    }
+    Ok(refused)
+}
+
+// The count of an output, with a refused cell added if it is for that output.
+fn with_cell(count: Refused, cell: Cell) -> Refused
+    requires packets { count.packets + 1 < 2 ^ 64 }
+    requires cells { count.cells + 1 < 2 ^ 64 }
+    ensures { result ≡ with_cells (cell ∷ []) count }
+{
+    if count.output != cell.output {
+        return count;
+    }
+    let first = if cell.id.index == 0 { 1 } else { 0 };
+    Refused {
+        output: count.output,
+        limit: count.limit,
+        packets: count.packets + first,
+        cells: count.cells + 1,
+    }
+}
+
+// A refused cell is added to the count of its output.
+fn tally(refused: &mut [Refused], cell: Cell)
+    requires { CanCount 1 refused.old }
+    ensures { refused.new ≡ with_refused (cell ∷ []) refused.old }
+{
+    'outputs: for place in 0..refused.len() {
+        refused[place] = with_cell(refused[place], cell);
+    }
+}
+
+impl Limiter {
+    /// No output holds a cell, no packet is refused, and nothing was. The error is want of memory.
+    pub fn new(alloc: Global, limits: &[Option<u64>]) -> Result<Limiter, NoMemory>
+        requires { length limits.now ≤ 64 }
+        ensures limits { IfOk result (λ limiter. limiter.limits ≡ limits.now) }
+        ensures held { IfOk result (λ limiter. limiter.held ≡ replicate (length limits.now) 0) }
+        ensures marks { IfOk result (λ limiter. limiter.marks ≡ marks_down (length limits.now)) }
+        ensures refused { IfOk result (λ limiter. limiter.refused ≡ refused_counts limits.now []) }
+    {
+        let refused = none_refused(alloc, limits)?;
+        let mut held = Vec::new(alloc);
+        held.resize(limits.len(), 0)?;
+        let mut marks = Vec::new(alloc);
+        marks.resize(limits.len(), false)?;
+        let mut kept = Vec::new(alloc);
+        kept.extend_from_slice(limits)?;
+        Ok(Limiter {
+            limits: kept,
+            held,
+            marks,
+            refused,
+        })
+    }
+
+    // Whether the mark of an input is up.
+    fn is_up(&self, input: Port) -> bool
+        requires { input < length self.now.marks }
+        ensures { result ≡ mark_at self.now.marks input }
+    {
+        self.marks[input as usize]
+    }
+
+    // The mark of an input at which this cell arrives, where it was this.
+    fn mark_after(&self, mark: bool, cell: Cell) -> bool
+        requires { cell.output < length self.now.limits }
+        ensures { result ≡ mark_after self.now.limits self.now.held mark (Some cell) }
+    {
+        let output = cell.output as usize;
+        if cell.id.index == 0 {
+            full(self.limits[output], self.held[output])
+        } else {
+            mark
+        }
+    }
+
+    // A cell that arrives at an input is judged, and its output holds it if it is admitted.
+    fn turn(&mut self, input: Port, cell: Cell)
+        requires input { input < length self.old.marks }
+        requires output { cell.output < length self.old.limits }
+        requires few { slice_index_or self.old.held cell.output 0 + 1 < 2 ^ 64 }
+        ensures marks { self.new.marks ≡ slice_set self.old.marks input (mark_after self.old.limits self.old.held
+            (mark_at self.old.marks input) (Some cell)) }
+        ensures held { self.new.held ≡ held_after (mark_after self.old.limits self.old.held (mark_at self.old.marks
+            input) (Some cell)) self.old.held (Some cell) }
+        ensures limits { self.new.limits ≡ self.old.limits }
+        ensures refused { self.new.refused ≡ self.old.refused }
+    {
+        let up = self.mark_after(self.is_up(input), cell);
+        self.marks[input as usize] = up;
+        if !up {
+            self.held[cell.output as usize] += 1;
+        }
+    }
+
+    // How many inputs there are.
+    fn len(&self) -> u16
+        requires { length self.now.limits ≤ 64 }
+        ensures len { result ≡ length self.now.limits }
+        ensures ports { HasPorts self.now }
+    {
+        self.limits.len() as u16
+    }
+
+    /// The arrivals of a slot are judged in order of input: which marks are up after it, and how many cells each
+    /// output holds with those that are admitted.
+    pub fn judge(&mut self, arrivals: &Arrivals)
+        requires few { length self.old.limits ≤ 64 }
+        requires arrivals { ComeToPorts (length self.old.limits) arrivals.now }
+        requires held { (j : ℕ) → j < length self.old.limits → slice_index_or self.old.held j 0 + count_for j
+            arrivals.now < 2 ^ 64 }
+        ensures marks { self.new.marks ≡ marks_after self.old.limits self.old.held self.old.marks arrivals.now }
+        ensures held { (j : ℕ) → j < length self.old.limits → slice_index_or self.new.held j 0 ≡ slice_index_or
+            self.old.held j 0 + count_for j (admitted self.new.marks arrivals.now) }
+        ensures limits { self.new.limits ≡ self.old.limits }
+        ensures refused { self.new.refused ≡ self.old.refused }
+        ensures ports { HasPorts self.new }
+    {
+        let ports = self.len();
+        'inputs: for input in 0..ports {
+            match arrivals.at(input) {
+                None => {}
+                Some(cell) => self.turn(input, cell),
+            }
+        }
+    }
+
+    /// The cell that arrives at an input, if it is admitted.
+    pub fn admitted(&self, arrivals: &Arrivals, input: Port) -> Option<Cell>
+        requires { input < length self.now.marks }
+        ensures answer { result ≡ arrival_at (admitted self.now.marks arrivals.now) input }
+        ensures arrives { (cell : Cell) → result ≡ Some cell → arrival_at arrivals.now input ≡ Some cell }
+        ensures places { length (admitted self.now.marks arrivals.now) ≡ 64 }
+    {
+        let up = self.is_up(input);
+        let cell = arrivals.at(input);
+        if up { None } else { cell }
+    }
+
+    // A refused cell is counted.
+    fn tally(&mut self, cell: Cell)
+        requires { CanCount 1 self.old.refused }
+        ensures refused { self.new.refused ≡ with_refused (cell ∷ []) self.old.refused }
+        ensures marks { self.new.marks ≡ self.old.marks }
+        ensures held { self.new.held ≡ self.old.held }
+        ensures limits { self.new.limits ≡ self.old.limits }
+    {
+        tally(&mut self.refused, cell);
+    }
+
+    // The cell that arrives at an input, if it is refused.
+    fn refused_at(&self, arrivals: &Arrivals, input: Port) -> Option<Cell>
+        requires { input < length self.now.marks }
+        ensures answer { result ≡ where_up (mark_at self.now.marks input) (arrival_at arrivals.now input) }
+        ensures places { length arrivals.now ≡ 64 }
+    {
+        let up = self.is_up(input);
+        let cell = arrivals.at(input);
+        if up { cell } else { None }
+    }
+
+    /// The cells of a slot that were refused as it was judged are counted.
+    pub fn count(&mut self, arrivals: &Arrivals)
+        requires few { length self.old.limits ≤ 64 }
+        requires refused { CanCount (length self.old.limits) self.old.refused }
+        ensures refused { self.new.refused ≡ with_refused (refused self.old.marks arrivals.now) self.old.refused }
+        ensures marks { self.new.marks ≡ self.old.marks }
+        ensures held { self.new.held ≡ self.old.held }
+        ensures limits { self.new.limits ≡ self.old.limits }
+    {
+        let ports = self.len();
+        'inputs: for input in 0..ports {
+            match self.refused_at(arrivals, input) {
+                None => {}
+                Some(cell) => self.tally(cell),
+            }
+        }
+    }
+
+    /// An output has sent this cell, which it holds no longer, or none.
+    pub fn sent(&mut self, output: Port, gone: Option<Queued>)
+        requires output { output < length self.old.held }
+        requires holds { IfSome gone (λ _. 0 < slice_index_or self.old.held output 0) }
+        ensures held { self.new.held ≡ held_without gone output self.old.held }
+        ensures marks { self.new.marks ≡ self.old.marks }
+        ensures refused { self.new.refused ≡ self.old.refused }
+        ensures limits { self.new.limits ≡ self.old.limits }
+    {
+        if gone.is_some() {
+            self.held[output as usize] -= 1;
+        }
+    }
+
+    /// The numbers of packets and cells that were refused, for each output that has a limit, in order of output.
+    pub fn refused(&self) -> &[Refused]
+        ensures { result.now ≡ self.now.refused }
+    {
+        self.refused.as_slice()
+    }
+}
