@@ -79,7 +79,7 @@ within [] t b at = absurd (let P : ⊥ = cc in P)
 within (a ∷ came) zero b at = omega arith
 within (a ∷ came) (suc t) b at = let rest = within came t b at in omega arith
 
-later_rise : (came : List Arrival) → AllPairs IsLater came → RiseByInput came
+pub later_rise : (came : List Arrival) → AllPairs IsLater came → RiseByInput came
 later_rise came later s t a b at_s at_t less same =
     let here : IsLater (get_or came s a) (get_or came t a) = later s t a less (within came t b at_t) in
     subst (λ (x : Arrival). IsLater x b) (get_or_from_slice_get came s a a at_s) (subst (λ (y : Arrival). IsLater (get_or came s a) y) (get_or_from_slice_get came t b a at_t) here) same

@@ -16,3 +16,4 @@ pub mod Taking
 pub mod Stretches
 pub mod FabricStretches
 pub mod NoLimits
+pub mod OfPackets
