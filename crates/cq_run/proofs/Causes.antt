@@ -12,9 +12,11 @@ use Rattle.cq_run.specs.declared.stop.Halt.TheVariants.{Refused, Unread, NoMemor
 use Rattle.cq_run.specs.declared.stop.Unwritten.TheVariants.{File, Output}
 use Rattle.cq_run.specs.declared.stop.Stop.{Stop}
 use Rattle.cq_run.specs.declared.stop.Stop.TheVariants.{Halted, Cut}
+use Rattle.cq_run.specs.Headline.{Emulates}
 use Rattle.cq_run.specs.Plan.{Plan}
 use Rattle.cq_run.specs.Aim.{Aim, Meets}
 use Rattle.cq_run.specs.Planning.{known_to, known_by}
+use Rattle.cq_run.specs.Reader.{Reader}
 use Rattle.cq_run.specs.Refusals.{meaning_of}
 use Rattle.cq_run.specs.Judging.{IsRefused}
 use Rattle.cq_run.specs.Verdict.{judged, judged_or_words}
@@ -112,19 +114,19 @@ cut_causes v known plan old new by rose = record {
   complete = λ f o. absurd (elim rose as (λ _. ⊥) [ inl r ↦ f r | inr r ↦ o r ]);
 }
 
-command_causes : (R W : List ℕ → Type 0) (T : Type 0) (command : Command) (old new : World) (end : Result (Unit {0}) Stop) → CommandEnds R W T command old new end → StatusCauses (judged command) (known_to command old.files).told old new (status_of end)
-command_causes R W T command old new (Ok x) h = record {
-  by_verdict = λ _ _ _. told_map (known_to command old.files).told _ _ (λ m e. aimed_status (judged command m) (λ aim. Meets aim h.0) e) h.1.verdict;
-  done = λ _. told_map (known_to command old.files).told _ _ (λ m e. aimed (judged command m) (λ aim. Meets aim h.0) (λ aim. (plan : Plan) × Meets aim plan × IsDone plan old new) (λ aim meets. (h.0, meets, h.2)) e) h.1.verdict;
+command_causes : (a : Reader) (R W : List ℕ → Type 0) (T : Type 0) (command : Command) (old new : World) (end : Result (Unit {0}) Stop) → CommandEnds a R W T command old new end → StatusCauses (judged a command) (known_to command old.files).told old new (status_of end)
+command_causes a R W T command old new (Ok x) h = record {
+  by_verdict = λ _ _ _. told_map (known_to command old.files).told _ _ (λ m e. aimed_status (judged a command m) (λ aim. Meets aim h.0) e) h.1.verdict;
+  done = λ _. told_map (known_to command old.files).told _ _ (λ m e. aimed (judged a command m) (λ aim. Meets aim h.0) (λ aim. (plan : Plan) × Meets aim plan × IsDone plan old new) (λ aim meets. (h.0, meets, h.2)) e) h.1.verdict;
   read = λ e. cc;
   write = λ e. cc;
   write_planned = λ e. cc;
   untouched = λ d _. absurd (d refl);
   uncounted = λ _ _. (h.2.files_uncounted, h.2.out_uncounted);
-  complete = λ _ _. told_map (known_to command old.files).told _ _ (λ m e. inl (aimed_status (judged command m) (λ aim. Meets aim h.0) e)) h.1.verdict;
+  complete = λ _ _. told_map (known_to command old.files).told _ _ (λ m e. inl (aimed_status (judged a command m) (λ aim. Meets aim h.0) e)) h.1.verdict;
 }
-command_causes R W T command old new (Err (Halted (Refused r))) h = refusal_causes (judged command) (known_to command old.files).told r old new h.0.0 (same_faults command old.files new.files h.0.1) h.1
-command_causes R W T command old new (Err (Halted (Unread name))) h = record {
+command_causes a R W T command old new (Err (Halted (Refused r))) h = refusal_causes (judged a command) (known_to command old.files).told r old new h.0.0 (same_faults command old.files new.files h.0.1) h.1
+command_causes a R W T command old new (Err (Halted (Unread name))) h = record {
   by_verdict = λ r _ _. absurd (r refl);
   done = λ e. cc;
   read = λ _. inr (rose_known command old.files new.files h.0.0);
@@ -134,16 +136,16 @@ command_causes R W T command old new (Err (Halted (Unread name))) h = record {
   uncounted = λ r _. absurd (r refl);
   complete = λ f _. absurd (f (rose_known command old.files new.files h.0.0));
 }
-command_causes R W T command old new (Err (Halted NoMemory)) h = memory_causes (judged command) (known_to command old.files).told old new (same_faults command old.files new.files h.0) h.1
-command_causes R W T command old new (Err (Cut (File name))) h = cut_causes (judged command) (known_to command old.files).told h.0 old new h.1.verdict (inl (cut_rose h.0.writes name old.files new.files h.2.0))
-command_causes R W T command old new (Err (Cut Output)) h = cut_causes (judged command) (known_to command old.files).told h.0 old new h.1.verdict (inr h.2.0.cause)
+command_causes a R W T command old new (Err (Halted NoMemory)) h = memory_causes (judged a command) (known_to command old.files).told old new (same_faults command old.files new.files h.0) h.1
+command_causes a R W T command old new (Err (Cut (File name))) h = cut_causes (judged a command) (known_to command old.files).told h.0 old new h.1.verdict (inl (cut_rose h.0.writes name old.files new.files h.2.0))
+command_causes a R W T command old new (Err (Cut Output)) h = cut_causes (judged a command) (known_to command old.files).told h.0 old new h.1.verdict (inr h.2.0.cause)
 
 untouched : (old new : World) → new ≡ old → IsUntouched old new
 untouched old new e = record { told = ap (λ w. w.files.told) e; out = ap (λ w. w.out) e }
 
-words_causes : (old new : World) (end : Result (Unit {0}) Stop) → WordsEnd old new end → StatusCauses (judged_or_words None) old.files.told old new (status_of end)
-words_causes old new end (e, h) =
-    let P : Result (Unit {0}) Stop → Type 0 = λ r. StatusCauses (judged_or_words None) old.files.told old new (status_of r) in
+words_causes : (a : Reader) (old new : World) (end : Result (Unit {0}) Stop) → WordsEnd old new end → StatusCauses (judged_or_words a None) old.files.told old new (status_of end)
+words_causes a old new end (e, h) =
+    let P : Result (Unit {0}) Stop → Type 0 = λ r. StatusCauses (judged_or_words a None) old.files.told old new (status_of r) in
     subst P (sym e) record {
       by_verdict = λ _ _ _. told_any old.files.told _ (λ m. refl);
       done = λ d. cc;
@@ -155,13 +157,13 @@ words_causes old new end (e, h) =
       complete = λ _ _. told_any old.files.told _ (λ m. inl refl);
     }
 
-causes : (R W : List ℕ → Type 0) (T : Type 0) (command : Option Command) (old new : World) (end : Result (Unit {0}) Stop) → MatchOption command (WordsEnd old new end) (λ c. CommandEnds R W T c old new end) → StatusCauses (judged_or_words command) (known_by command old.files) old new (status_of end)
-causes R W T None old new end h = words_causes old new end h
-causes R W T (Some c) old new end h = command_causes R W T c old new end h
+causes : (a : Reader) (R W : List ℕ → Type 0) (T : Type 0) (command : Option Command) (old new : World) (end : Result (Unit {0}) Stop) → MatchOption command (WordsEnd old new end) (λ c. CommandEnds a R W T c old new end) → StatusCauses (judged_or_words a command) (known_by command old.files) old new (status_of end)
+causes a R W T None old new end h = words_causes a old new end h
+causes a R W T (Some c) old new end h = command_causes a R W T c old new end h
 
 -- the top call's status is that of its end
-pub causes_at : (R W : List ℕ → Type 0) (T : Type 0) (command : Option Command) (old new : World) (end : Result (Unit {0}) Stop) (answer : Status) → answer ≡ status_of end → MatchOption command (WordsEnd old new end) (λ c. CommandEnds R W T c old new end) → StatusCauses (judged_or_words command) (known_by command old.files) old new answer
-causes_at R W T command old new end answer e h = let P : Status → Type 0 = λ s. StatusCauses (judged_or_words command) (known_by command old.files) old new s in subst P (sym e) (causes R W T command old new end h)
+pub causes_at : (a : Reader) (R W : List ℕ → Type 0) (T : Type 0) (command : Option Command) (old new : World) (end : Result (Unit {0}) Stop) (answer : Status) → answer ≡ status_of end → MatchOption command (WordsEnd old new end) (λ c. CommandEnds a R W T c old new end) → StatusCauses (judged_or_words a command) (known_by command old.files) old new answer
+causes_at a R W T command old new end answer e h = let P : Status → Type 0 = λ s. StatusCauses (judged_or_words a command) (known_by command old.files) old new s in subst P (sym e) (causes a R W T command old new end h)
 
 -- only words that are no command are refused as such
 
@@ -172,19 +174,38 @@ words_is (Configuration code path) e = cc
 words_is (Capture input fault) e = cc
 words_is (Tag fault) e = cc
 
-not_refused : (command : Command) (told : Option Contents) → IsRefused (judged command) told Words → ⊥
-not_refused command None h = cc
-not_refused command (Some m) h = never_words command m h
+not_refused : (a : Reader) (command : Command) (told : Option Contents) → IsRefused (judged a command) told Words → ⊥
+not_refused a command None h = cc
+not_refused a command (Some m) h = never_words a command m h
 
-not_words : (R W : List ℕ → Type 0) (T : Type 0) (command : Command) (old new : World) (end : Result (Unit {0}) Stop) → CommandEnds R W T command old new end → status_of end ≡ status.Words → ⊥
-not_words R W T command old new (Ok x) h e = cc
-not_words R W T command old new (Err (Halted (Refused r))) h e =
-    let P : Refusal → Type 0 = λ s. IsRefused (judged command) (known_to command old.files).told s in
-    not_refused command (known_to command old.files).told (subst P (words_is r e) h.0.0)
-not_words R W T command old new (Err (Halted (Unread name))) h e = cc
-not_words R W T command old new (Err (Halted NoMemory)) h e = cc
-not_words R W T command old new (Err (Cut at)) h e = cc
+not_words : (a : Reader) (R W : List ℕ → Type 0) (T : Type 0) (command : Command) (old new : World) (end : Result (Unit {0}) Stop) → CommandEnds a R W T command old new end → status_of end ≡ status.Words → ⊥
+not_words a R W T command old new (Ok x) h e = cc
+not_words a R W T command old new (Err (Halted (Refused r))) h e =
+    let P : Refusal → Type 0 = λ s. IsRefused (judged a command) (known_to command old.files).told s in
+    not_refused a command (known_to command old.files).told (subst P (words_is r e) h.0.0)
+not_words a R W T command old new (Err (Halted (Unread name))) h e = cc
+not_words a R W T command old new (Err (Halted NoMemory)) h e = cc
+not_words a R W T command old new (Err (Cut at)) h e = cc
 
-pub only_words : (R W : List ℕ → Type 0) (T : Type 0) (command : Option Command) (old new : World) (end : Result (Unit {0}) Stop) (answer : Status) → answer ≡ status_of end → MatchOption command (WordsEnd old new end) (λ c. CommandEnds R W T c old new end) → answer ≡ status.Words → command ≡ None
-only_words R W T None old new end answer e h w = refl
-only_words R W T (Some c) old new end answer e h w = absurd (not_words R W T c old new end h (sym e ∙ w))
+-- words that are no command end with the status of such words
+pub words_end : (a : Reader) (R W : List ℕ → Type 0) (T : Type 0) (command : Option Command) (old new : World) (end : Result (Unit {0}) Stop) (answer : Status) → answer ≡ status_of end
+    → MatchOption command (WordsEnd old new end) (λ c. CommandEnds a R W T c old new end) → command ≡ None → answer ≡ status.Words
+words_end a R W T None old new end answer e h none = e ∙ ap status_of h.0
+words_end a R W T (Some c) old new end answer e h none = absurd (let P : ⊥ = cc none in P)
+
+pub only_words : (a : Reader) (R W : List ℕ → Type 0) (T : Type 0) (command : Option Command) (old new : World) (end : Result (Unit {0}) Stop) (answer : Status) → answer ≡ status_of end → MatchOption command (WordsEnd old new end) (λ c. CommandEnds a R W T c old new end) → answer ≡ status.Words → command ≡ None
+only_words a R W T None old new end answer e h w = refl
+only_words a R W T (Some c) old new end answer e h w = absurd (not_words a R W T c old new end h (sym e ∙ w))
+
+-- ## The headline
+
+-- a command that is done emulates
+pub emulated : (a : Reader) (R W : List ℕ → Type 0) (T : Type 0) (command : Option Command) (old new : World)
+    → MatchOption command (WordsEnd old new (Ok tt)) (λ c. CommandEnds a R W T c old new (Ok tt)) → (c : Command) → command ≡ Some c
+    → IfSome old.files.told (λ m. (plan : Plan) × Emulates a c m plan × IsDone plan old new)
+emulated a R W T None old new h c e = absurd (let P : ⊥ = cc e in P)
+emulated a R W T (Some d) old new h c e =
+    let same : d ≡ c = cc e in
+    let P : Command → Type 0 = λ x. CommandEnds a R W T x old new (Ok tt) in
+    let ends : CommandEnds a R W T c old new (Ok tt) = subst P same h in
+    told_map old.files.told _ _ (λ m does. (ends.0, does, ends.2)) ends.1.emulates

@@ -82,6 +82,15 @@ module _ {A B : Type 0} (j : Contents → Result A Refusal) (f : A → Contents 
         uncounted = h.uncounted ∙ g.uncounted;
       }
 
+-- more may be said of names that are unread
+pub judges_more : {A : Type 0} (j : Contents → Result A Refusal) (R S : List ℕ → Type 0) (old new : Space) (result : Result A Halt) → ((name : List ℕ) → R name → S name)
+    → Judges j R old new result → Judges j S old new result
+judges_more j R S old new (Ok x) i h = record { ok = h.ok; halt = tt; closed = h.closed; told = h.told; uncounted = h.uncounted }
+judges_more j R S old new (Err (Refused refusal)) i h = record { ok = tt; halt = h.halt; closed = h.closed; told = h.told; uncounted = tt }
+judges_more j R S old new (Err (Unread name)) i h =
+    record { ok = tt; halt = (h.halt.0, i name h.halt.1, h.halt.2); closed = h.closed; told = h.told; uncounted = tt }
+judges_more j R S old new (Err NoMemory) i h = record { ok = tt; halt = h.halt; closed = h.closed; told = h.told; uncounted = tt }
+
 -- an answer says nothing of names that are unread
 pub judges_any : {A : Type 0} (j : Contents → Result A Refusal) (R S : List ℕ → Type 0) (old new : Space) (x : A) → Judges j R old new (Ok x) → Judges j S old new (Ok x)
 judges_any j R S old new x h = record { ok = h.ok; halt = tt; closed = h.closed; told = h.told; uncounted = h.uncounted }

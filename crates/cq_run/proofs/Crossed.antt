@@ -21,6 +21,7 @@ use Rattle.cq_run.specs.Headline.{IsEmulation, KeepsUp}
 use Rattle.cq_run.specs.Judging.{Judges}
 use Rattle.cq_run.specs.Plan.{Plan}
 use Rattle.cq_run.specs.Plans.{captures_out, crossed, reported}
+use Rattle.cq_run.specs.Reader.{Reader}
 use Rattle.cq_run.specs.Switching.{IsCrossed}
 use Rattle.cq_run.specs.Verdict.{sent_or_tag, tables_in, captures_in}
 use Rattle.cq_run.specs.declared.switching.Crossed.{Crossed}
@@ -64,8 +65,8 @@ module _ (t : Tables) (captures : List (List Captured)) (c : Crossed) (is : IsCr
   unfolding reported
   plan_reported writes text = plan_is plan _ _ writes (text ∙ ap report_of is.figures)
 
-  emulates_at : (config : List ℕ) (m : Contents) → plan ≡ crossed t captures c.switched.sent.items is.records → tables_in config m ≡ Ok t → captures_in t m ≡ Ok captures → IsEmulation config m plan
-  emulates_at config m e configured captured = record {
+  emulates_at : (r : Reader) (config : List ℕ) (m : Contents) → plan ≡ crossed t captures c.switched.sent.items is.records → tables_in config m ≡ Ok t → captures_in r t m ≡ Ok captures → IsEmulation r config m plan
+  emulates_at r config m e configured captured = record {
     tables = t;
     configured = configured;
     captures = captures;
@@ -75,12 +76,12 @@ module _ (t : Tables) (captures : List (List Captured)) (c : Crossed) (is : IsCr
     written = e ∙ ap (λ (sent : List Departure). crossed t captures sent is.records) is.departed;
   }
 
-  emulates_told : (config : List ℕ) (told : Option Contents) → plan ≡ crossed t captures c.switched.sent.items is.records → IfSome told (λ m. tables_in config m ≡ Ok t) → IfSome told (λ m. captures_in t m ≡ Ok captures) → IfSome told (λ m. IsEmulation config m plan)
-  emulates_told config None e g h = tt
-  emulates_told config (Some m) e g h = emulates_at config m e g h
+  emulates_told : (r : Reader) (config : List ℕ) (told : Option Contents) → plan ≡ crossed t captures c.switched.sent.items is.records → IfSome told (λ m. tables_in config m ≡ Ok t) → IfSome told (λ m. captures_in r t m ≡ Ok captures) → IfSome told (λ m. IsEmulation r config m plan)
+  emulates_told r config None e g h = tt
+  emulates_told r config (Some m) e g h = emulates_at r config m e g h
 
   -- what is written of a configuration and captures that were read
-  pub emulates : (config : List ℕ) (Q R : List ℕ → Type 0) (old mid new : Space) → plan ≡ crossed t captures c.switched.sent.items is.records → Judges (tables_in config) Q old mid (Ok t) → Judges (captures_in t) R mid new (Ok captures) → IfSome old.told (λ m. IsEmulation config m plan)
-  emulates config Q R old mid new e g h =
-      let P : Option Contents → Type 0 = λ o. IfSome o (λ m. captures_in t m ≡ Ok captures) in
-      emulates_told config old.told e g.ok (subst P g.told h.ok)
+  pub emulates : (r : Reader) (config : List ℕ) (Q R : List ℕ → Type 0) (old mid new : Space) → plan ≡ crossed t captures c.switched.sent.items is.records → Judges (tables_in config) Q old mid (Ok t) → Judges (captures_in r t) R mid new (Ok captures) → IfSome old.told (λ m. IsEmulation r config m plan)
+  emulates r config Q R old mid new e g h =
+      let P : Option Contents → Type 0 = λ o. IfSome o (λ m. captures_in r t m ≡ Ok captures) in
+      emulates_told r config old.told e g.ok (subst P g.told h.ok)

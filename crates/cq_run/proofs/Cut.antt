@@ -10,6 +10,7 @@ use Rattle.cq_words.specs.declared.command.Command.{Command}
 use Rattle.cq_run.specs.declared.stop.Stop.{Stop}
 use Rattle.cq_run.specs.declared.stop.Stop.TheVariants.{Cut}
 use Rattle.cq_run.specs.Plan.{Plan}
+use Rattle.cq_run.specs.Reader.{Reader}
 use Rattle.cq_run.specs.Ending.{CommandEnds, IsPlanned}
 use Rattle.cq_run.specs.World.{World, Taken}
 use Rattle.cq_run.specs.Writing.{IsDone, IsCut, IsCutAtFile, IsCutShort, all_replaced}
@@ -42,17 +43,17 @@ cut_from U V T plan old mid new Output i t l o h = (
 )
 
 -- a command whose plan was cut short ends so
-pub cut_ends : (R U V : List ℕ → Type 0) (T : Type 0) (command : Command) (plan : Plan) (old mid new : World) (at : Unwritten) (end : Result (Unit {0}) Stop) → IsErrAnd end (λ stop. stop ≡ Cut at) → IsPlanned command old.files plan
-    → ((name : List ℕ) → U name → V name) → mid.files.told ≡ old.files.told → mid.files.faults ≡ old.files.faults → mid.out ≡ old.out → IsCut U T plan mid new at → CommandEnds R V T command old new end
-cut_ends R U V T command plan old mid new at (Ok x) e j i t l o h = absurd e
-cut_ends R U V T command plan old mid new at (Err stop) e j i t l o h =
-    let P : Stop → Type 0 = λ s. CommandEnds R V T command old new (Err s) in
+pub cut_ends : (r : Reader) (R U V : List ℕ → Type 0) (T : Type 0) (command : Command) (plan : Plan) (old mid new : World) (at : Unwritten) (end : Result (Unit {0}) Stop) → IsErrAnd end (λ stop. stop ≡ Cut at) → IsPlanned r command old.files plan
+    → ((name : List ℕ) → U name → V name) → mid.files.told ≡ old.files.told → mid.files.faults ≡ old.files.faults → mid.out ≡ old.out → IsCut U T plan mid new at → CommandEnds r R V T command old new end
+cut_ends r R U V T command plan old mid new at (Ok x) e j i t l o h = absurd e
+cut_ends r R U V T command plan old mid new at (Err stop) e j i t l o h =
+    let P : Stop → Type 0 = λ s. CommandEnds r R V T command old new (Err s) in
     subst P (sym e) (plan, j, cut_from U V T plan old mid new at i t l o h)
 
 -- a command whose plan is done ends so
-pub done_ends : (R W : List ℕ → Type 0) (T : Type 0) (command : Command) (plan : Plan) (old mid new : World) (x : Unit {0}) → IsPlanned command old.files plan → mid.files.told ≡ old.files.told → mid.files.faults ≡ old.files.faults → mid.out ≡ old.out → IsDone plan mid new
-    → CommandEnds R W T command old new (Ok x)
-done_ends R W T command plan old mid new x j t l o h = (
+pub done_ends : (r : Reader) (R W : List ℕ → Type 0) (T : Type 0) (command : Command) (plan : Plan) (old mid new : World) (x : Unit {0}) → IsPlanned r command old.files plan → mid.files.told ≡ old.files.told → mid.files.faults ≡ old.files.faults → mid.out ≡ old.out → IsDone plan mid new
+    → CommandEnds r R W T command old new (Ok x)
+done_ends r R W T command plan old mid new x j t l o h = (
   plan,
   j,
   record {

@@ -15,3 +15,6 @@ pub mod Planned
 pub mod Crossed
 pub mod Passed
 pub mod Within
+pub mod OneReading
+pub mod OnePort
+pub mod AllLeave

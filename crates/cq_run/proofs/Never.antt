@@ -7,7 +7,6 @@ use Rattle.cq_base.specs.declared.cell.Departure.{Departure}
 use Rattle.cq_base.specs.declared.cell.TagFault.{TagFault}
 use Rattle.cq_pcap.specs.Captured.{Captured}
 use Rattle.cq_pcap.specs.Faults.{Fault}
-use Rattle.cq_pcap.specs.Reading.{packets_of}
 use Rattle.cq_cells.specs.Schedule.{arrivals}
 use Rattle.cq_route.specs.declared.tables.PortRow.{PortRow}
 use Rattle.cq_route.specs.declared.tables.Tables.{Tables}
@@ -24,6 +23,7 @@ use Rattle.cq_gen.specs.Packets.{soak_captures}
 use Rattle.cq_gen.specs.Tables.{soak_tables}
 use Rattle.cq_run.specs.Aim.{Aim, Exactly, Crossing, Reporting}
 use Rattle.cq_run.specs.Plans.{checked, passed, switched}
+use Rattle.cq_run.specs.Reader.{Reader}
 use Rattle.cq_run.specs.Verdict.{◌>>=◌, named, found_or_missing, tables_in, read_or_refused_for, capture_in, capture_of, read_or_faulty, packets_at, captures_from, captures_in, sent_or_tag, ideally_sent, judged}
 
 -- the words are not refused
@@ -57,43 +57,43 @@ never_tag (Err fault) h = cc
 never_tables : (name : List ℕ) (m : Contents) → IsOfContents (tables_in name m)
 never_tables name m = never_then (named m name) (λ bytes. read_or_refused_for (read_or_refused bytes)) (never_found name (get m name)) (λ bytes. never_configured (read_or_refused bytes))
 
-never_capture : (name : List ℕ) (input limit : ℕ) (m : Contents) → IsOfContents (capture_in name input limit m)
-never_capture name input limit m =
-    never_then (named m name) (capture_of input limit) (never_found name (get m name))
-    (λ bytes. never_long input limit (nat_lt limit (length bytes)) (read_or_faulty input (packets_of bytes)) (never_faulty input (packets_of bytes)))
+never_capture : (r : Reader) (name : List ℕ) (input limit : ℕ) (m : Contents) → IsOfContents (capture_in r name input limit m)
+never_capture r name input limit m =
+    never_then (named m name) (capture_of r input limit) (never_found name (get m name))
+    (λ bytes. never_long input limit (nat_lt limit (length bytes)) (read_or_faulty input (r.read bytes)) (never_faulty input (r.read bytes)))
 
-never_packets : (input limit : ℕ) (read : Option (List ℕ)) (m : Contents) → IsOfContents (packets_at input limit read m)
-never_packets input limit None m h = cc
-never_packets input limit (Some name) m h = never_capture name input limit m h
+never_packets : (r : Reader) (input limit : ℕ) (read : Option (List ℕ)) (m : Contents) → IsOfContents (packets_at r input limit read m)
+never_packets r input limit None m h = cc
+never_packets r input limit (Some name) m h = never_capture r name input limit m h
 
-never_captures : (limit input : ℕ) (rows : List PortRow) (m : Contents) → IsOfContents (captures_from limit input rows m)
+never_captures : (r : Reader) (limit input : ℕ) (rows : List PortRow) (m : Contents) → IsOfContents (captures_from r limit input rows m)
 unfolding captures_from
-never_captures limit input [] m h = cc
-never_captures limit input (row ∷ rows) m h =
-    never_then (packets_at input limit row.read m) (λ packets. captures_from limit (input + 1) rows m >>= (λ others. Ok (packets ∷ others))) (never_packets input limit row.read m)
-    (λ packets. never_then (captures_from limit (input + 1) rows m) (λ others. Ok (packets ∷ others)) (never_captures limit (input + 1) rows m) (λ others e. cc)) h
+never_captures r limit input [] m h = cc
+never_captures r limit input (row ∷ rows) m h =
+    never_then (packets_at r input limit row.read m) (λ packets. captures_from r limit (input + 1) rows m >>= (λ others. Ok (packets ∷ others))) (never_packets r input limit row.read m)
+    (λ packets. never_then (captures_from r limit (input + 1) rows m) (λ others. Ok (packets ∷ others)) (never_captures r limit (input + 1) rows m) (λ others e. cc)) h
 
 -- no command comes to that
-never_switched : (config : List ℕ) (m : Contents) (aim : Tables → List (List Captured) → List Departure → Aim)
-    → IsOfContents (tables_in config m >>= (λ tables. captures_in tables m >>= (λ captures. ideally_sent tables captures >>= (λ sent. Ok (aim tables captures sent)))))
-never_switched config m aim =
+never_switched : (r : Reader) (config : List ℕ) (m : Contents) (aim : Tables → List (List Captured) → List Departure → Aim)
+    → IsOfContents (tables_in config m >>= (λ tables. captures_in r tables m >>= (λ captures. ideally_sent tables captures >>= (λ sent. Ok (aim tables captures sent)))))
+never_switched r config m aim =
     let last : Tables → List (List Captured) → List Departure → Result Aim Refusal = λ tables captures sent. Ok (aim tables captures sent) in
-    never_then (tables_in config m) (λ tables. captures_in tables m >>= (λ captures. ideally_sent tables captures >>= (λ sent. last tables captures sent))) (never_tables config m)
-    (λ tables. never_then (captures_in tables m) (λ captures. ideally_sent tables captures >>= (λ sent. last tables captures sent)) (never_captures tables.limit_bytes 0 tables.ports m)
+    never_then (tables_in config m) (λ tables. captures_in r tables m >>= (λ captures. ideally_sent tables captures >>= (λ sent. last tables captures sent))) (never_tables config m)
+    (λ tables. never_then (captures_in r tables m) (λ captures. ideally_sent tables captures >>= (λ sent. last tables captures sent)) (never_captures r tables.limit_bytes 0 tables.ports m)
     (λ captures. never_then (ideally_sent tables captures) (λ sent. last tables captures sent) (never_tag (ideal_departures tables.setup (arrivals tables captures))) (λ sent e. cc)))
 
-pub never_words : (command : Command) (m : Contents) → IsOfContents (judged command m)
-never_words (Pass from to) m =
+pub never_words : (r : Reader) (command : Command) (m : Contents) → IsOfContents (judged r command m)
+never_words r (Pass from to) m =
     let tables = plain_tables from to in
     let aim : List Captured → List Departure → Result Aim Refusal = λ packets sent. Ok (Exactly (passed from to packets sent)) in
-    never_then (capture_in from 0 tables.limit_bytes m) (λ packets. ideally_sent tables (packets ∷ []) >>= (λ sent. aim packets sent)) (never_capture from 0 tables.limit_bytes m)
+    never_then (capture_in r from 0 tables.limit_bytes m) (λ packets. ideally_sent tables (packets ∷ []) >>= (λ sent. aim packets sent)) (never_capture r from 0 tables.limit_bytes m)
     (λ packets. never_then (ideally_sent tables (packets ∷ [])) (λ sent. aim packets sent) (never_tag (ideal_departures tables.setup (arrivals tables (packets ∷ [])))) (λ sent e. cc))
-never_words (Check config) m =
+never_words r (Check config) m =
     let aim : Tables → Result Aim Refusal = λ tables. Ok (Exactly (checked tables)) in
     never_then (tables_in config m) aim (never_tables config m) (λ tables e. cc)
-never_words (Ideal config) m = never_switched config m (λ tables captures sent. Exactly (switched tables captures sent))
-never_words (Run config) m = never_switched config m (λ tables captures sent. Crossing tables captures sent)
-never_words (Soak seed ports slots) m =
+never_words r (Ideal config) m = never_switched r config m (λ tables captures sent. Exactly (switched tables captures sent))
+never_words r (Run config) m = never_switched r config m (λ tables captures sent. Crossing tables captures sent)
+never_words r (Soak seed ports slots) m =
     let tables = soak_tables ports in
     let captures = soak_captures seed ports slots in
     let aim : List Departure → Result Aim Refusal = λ sent. Ok (Reporting tables captures) in

@@ -18,9 +18,10 @@ use Rattle.cq_run.specs.Headline.{Emulates}
 use Rattle.cq_run.specs.Judging.{IsHaltOf, Judges}
 use Rattle.cq_run.specs.Plan.{Plan}
 use Rattle.cq_run.specs.Planning.{Plans, known_to}
+use Rattle.cq_run.specs.Reader.{Reader}
 use Rattle.cq_run.specs.Verdict.{◌>>=◌, ideally_sent, tables_in, captures_in, judged, MayWrite}
 use Rattle.cq_run.proofs.Chain.{judges_then, judges_after, judges_both, judges_computed, judges_computed_err}
-use Rattle.cq_run.proofs.Stays.{tables_stay}
+use Rattle.cq_run.proofs.Stays.{captures_from_stay, tables_stay}
 use Rattle.cq_run.proofs.Told.{told_map}
 
 -- what a command knows of a file space has its count of faults
@@ -44,10 +45,10 @@ aimed_at : (v : Result Aim Refusal) (aim : Aim) (plan : Plan) → v ≡ Ok aim �
 aimed_at v aim plan e h = let P : Result Aim Refusal → Type 0 = λ r. IsOkAnd r (λ a. Meets a plan) in subst P (sym e) h
 
 -- a plan that was judged is one of the command
-pub planned : (command : Command) (R : List ℕ → Type 0) (old new : Space) (plan : Plan) → Plans (judged command) R (known_to command old) (known_to command new) (Ok plan)
-    → AllByRecursion (λ write. MayWrite command write.0) plan.writes → IfSome old.told (λ m. Emulates command m plan) → IsPlanned command old plan
-planned command R old new plan (aim, meets, judges) names emulates = record {
-  verdict = told_map (known_to command old).told _ _ (λ m e. aimed_at (judged command m) aim plan e meets) judges.ok;
+pub planned : (r : Reader) (command : Command) (R : List ℕ → Type 0) (old new : Space) (plan : Plan) → Plans (judged r command) R (known_to command old) (known_to command new) (Ok plan)
+    → AllByRecursion (λ write. MayWrite command write.0) plan.writes → IfSome old.told (λ m. Emulates r command m plan) → IsPlanned r command old plan
+planned r command R old new plan (aim, meets, judges) names emulates = record {
+  verdict = told_map (known_to command old).told _ _ (λ m e. aimed_at (judged r command m) aim plan e meets) judges.ok;
   names = names;
   emulates = emulates;
 }
@@ -64,30 +65,46 @@ pub plans_then : {A : Type 0} (j : Contents → Result A Refusal) (f : A → Con
 plans_then j f Q R S old mid new x plan g (aim, meets, judges) = (aim, meets, judges_both j f Q R S old mid new x aim g judges)
 
 -- judging that comes to a plan counts no fault
-pub plans_uncounted : (command : Command) (R : List ℕ → Type 0) (old new : Space) (plan : Plan) → Plans (judged command) R (known_to command old) (known_to command new) (Ok plan) → new.faults ≡ old.faults
-plans_uncounted command R old new plan (aim, meets, judges) = same_faults command old new judges.uncounted
+pub plans_uncounted : (r : Reader) (command : Command) (R : List ℕ → Type 0) (old new : Space) (plan : Plan) → Plans (judged r command) R (known_to command old) (known_to command new) (Ok plan) → new.faults ≡ old.faults
+plans_uncounted r command R old new plan (aim, meets, judges) = same_faults command old new judges.uncounted
 
 -- ## Judging a configuration, and then its captures
 
-module _ (aim_of : Tables → List (List Captured) → List Departure → Aim) (config : List ℕ) (old mid new : Space) where
+module _ (r : Reader) (aim_of : Tables → List (List Captured) → List Departure → Aim) (config : List ℕ) (old mid new : Space) where
   abbrev sent_after : Tables → List (List Captured) → Result Aim Refusal
   sent_after t captures = ideally_sent t captures >>= (λ sent. Ok (aim_of t captures sent))
 
   abbrev all_of : Contents → Result Aim Refusal
-  all_of m = tables_in config m >>= (λ t. captures_in t m >>= (λ captures. sent_after t captures))
+  all_of m = tables_in config m >>= (λ t. captures_in r t m >>= (λ captures. sent_after t captures))
 
   -- the captures end it
-  pub captures_halt : (Q R S : List ℕ → Type 0) (t : Tables) (halt : Halt) → ((name : List ℕ) → R name → S name) → Judges (tables_in config) Q old mid (Ok t) → Judges (captures_in t) R mid new (Err halt) → Judges all_of S old new (Err halt)
+  pub captures_halt : (Q R S : List ℕ → Type 0) (t : Tables) (halt : Halt) → ((name : List ℕ) → R name → S name) → Judges (tables_in config) Q old mid (Ok t) → Judges (captures_in r t) R mid new (Err halt) → Judges all_of S old new (Err halt)
   captures_halt Q R S t halt i g h =
-      judges_after (tables_in config) (λ (t : Tables) (m : Contents). captures_in t m >>= (λ captures. sent_after t captures)) Q R S old mid new t halt (tables_stay config) i g
-      (judges_then (captures_in t) (λ (captures : List (List Captured)) (m : Contents). sent_after t captures) R R mid new halt (λ name u. u) h)
+      judges_after (tables_in config) (λ (t : Tables) (m : Contents). captures_in r t m >>= (λ captures. sent_after t captures)) Q R S old mid new t halt (tables_stay config) i g
+      (judges_then (captures_in r t) (λ (captures : List (List Captured)) (m : Contents). sent_after t captures) R R mid new halt (λ name u. u) h)
+
+  sent_halt : (t : Tables) (captures : List (List Captured)) (halt : Halt) → IsHaltOf (ideally_sent t captures) halt → IsHaltOf (sent_after t captures) halt
+  sent_halt t captures (Refused refusal) h =
+      (ap (λ (s : Result (List Departure) Refusal). s >>= (λ ds. let a : Result Aim Refusal = Ok (aim_of t captures ds) in a)) h.0, h.1)
+  sent_halt t captures (Unread name) h = absurd h
+  sent_halt t captures NoMemory h = h
+
+  -- both are read, and the run ends it
+  pub run_halts : (Q R S : List ℕ → Type 0) (t : Tables) (captures : List (List Captured)) (halt : Halt) → Judges (tables_in config) Q old mid (Ok t)
+      → Judges (captures_in r t) R mid new (Ok captures) → IsHaltOf (ideally_sent t captures) halt → Judges all_of S old new (Err halt)
+  run_halts Q R S t captures halt g h ends =
+      judges_after (tables_in config) (λ (t : Tables) (m : Contents). captures_in r t m >>= (λ captures. sent_after t captures)) Q S S old mid new t halt (tables_stay config)
+      (λ name u. u) g
+      (judges_after (captures_in r t) (λ (captures : List (List Captured)) (m : Contents). sent_after t captures) R S S mid new new captures halt
+      (captures_from_stay r t.limit_bytes 0 t.ports) (λ name u. u) h
+      (judges_computed_err (sent_after t captures) S new halt h.closed (sent_halt t captures halt ends)))
 
   -- both are read, and the ideal run has no fault
-  pub captures_plan : (Q R S : List ℕ → Type 0) (t : Tables) (captures : List (List Captured)) (sent : List Departure) (plan : Plan) → Judges (tables_in config) Q old mid (Ok t) → Judges (captures_in t) R mid new (Ok captures)
+  pub captures_plan : (Q R S : List ℕ → Type 0) (t : Tables) (captures : List (List Captured)) (sent : List Departure) (plan : Plan) → Judges (tables_in config) Q old mid (Ok t) → Judges (captures_in r t) R mid new (Ok captures)
       → ideally_sent t captures ≡ Ok sent → Meets (aim_of t captures sent) plan → Plans all_of S old new (Ok plan)
   captures_plan Q R S t captures sent plan g h e meets =
-      plans_then (tables_in config) (λ (t : Tables) (m : Contents). captures_in t m >>= (λ captures. sent_after t captures)) Q R S old mid new t plan g
-      (plans_computed (captures_in t) (sent_after t) R R mid new captures (aim_of t captures sent) plan h (ap (λ (r : Result (List Departure) Refusal). r >>= (λ ds. let a : Result Aim Refusal = Ok (aim_of t captures ds) in a)) e) meets)
+      plans_then (tables_in config) (λ (t : Tables) (m : Contents). captures_in r t m >>= (λ captures. sent_after t captures)) Q R S old mid new t plan g
+      (plans_computed (captures_in r t) (sent_after t) R R mid new captures (aim_of t captures sent) plan h (ap (λ (s : Result (List Departure) Refusal). s >>= (λ ds. let a : Result Aim Refusal = Ok (aim_of t captures ds) in a)) e) meets)
 
 -- ## Judging made traffic
 
@@ -109,6 +126,15 @@ module _ (t : Tables) (captures : List (List Captured)) (s : Space) (closed : s.
       → Plans (λ (m : Contents). report_after (ideally_sent t captures)) R s s result
   plans_reported R (Ok plan) meets sent halts = (Reporting t captures, meets, judges_computed (report_after (ideally_sent t captures)) R s (Reporting t captures) closed (reported_ok (ideally_sent t captures) sent))
   plans_reported R (Err halt) meets sent halts = judges_computed_err (report_after (ideally_sent t captures)) R s halt closed (reported_halt (ideally_sent t captures) halt halts)
+
+-- whatever judging comes to, the file space is closed and its contents are as before
+pub plans_closed : (j : Contents → Result Aim Refusal) (R : List ℕ → Type 0) (old new : Space) (result : Result Plan Halt) → Plans j R old new result → new.mode ≡ Closed
+plans_closed j R old new (Ok plan) (aim, meets, judges) = judges.closed
+plans_closed j R old new (Err halt) judges = judges.closed
+
+pub plans_told : (j : Contents → Result Aim Refusal) (R : List ℕ → Type 0) (old new : Space) (result : Result Plan Halt) → Plans j R old new result → new.told ≡ old.told
+plans_told j R old new (Ok plan) (aim, meets, judges) = judges.told
+plans_told j R old new (Err halt) judges = judges.told
 
 -- a plan of any names
 pub all_any : (ws : List (List ℕ × List ℕ)) → AllByRecursion (λ _. Unit {0}) ws

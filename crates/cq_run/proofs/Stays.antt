@@ -12,6 +12,7 @@ use Rattle.cq_route.specs.declared.tables.PortRow.{PortRow}
 use Rattle.cq_tables.specs.Document.{read_or_refused}
 use Rattle.cq_run.specs.declared.refusal.Refusal.{Refusal}
 use Rattle.cq_run.specs.declared.refusal.Refusal.TheVariants.{Missing}
+use Rattle.cq_run.specs.Reader.{Reader}
 use Rattle.cq_run.specs.Verdict.{◌>>=◌, named, found_or_missing, tables_in, read_or_refused_for, capture_in, capture_of, packets_at, captures_from}
 
 -- without a name the judgement comes to the same, or misses that name
@@ -51,16 +52,19 @@ module _ {A B : Type 0} (j : Contents → Result A Refusal) (f : A → Contents 
 pub tables_stay : (name : List ℕ) → Stays (tables_in name)
 tables_stay name = then_stays (λ (m : Contents). named m name) (λ (bytes : List ℕ) (m : Contents). read_or_refused_for (read_or_refused bytes)) (named_stays name) (λ bytes. pure_stays _)
 
-pub capture_stays : (name : List ℕ) (input limit : ℕ) → Stays (capture_in name input limit)
-capture_stays name input limit = then_stays (λ (m : Contents). named m name) (λ (bytes : List ℕ) (m : Contents). capture_of input limit bytes) (named_stays name) (λ bytes. pure_stays _)
+pub capture_stays : (r : Reader) (name : List ℕ) (input limit : ℕ) → Stays (capture_in r name input limit)
+capture_stays r name input limit = then_stays (λ (m : Contents). named m name) (λ (bytes : List ℕ) (m : Contents). capture_of r input limit bytes) (named_stays name) (λ bytes. pure_stays _)
 
-pub packets_stay : (input limit : ℕ) (read : Option (List ℕ)) → Stays (packets_at input limit read)
-packets_stay input limit None = pure_stays _
-packets_stay input limit (Some name) = capture_stays name input limit
+pub packets_stay : (r : Reader) (input limit : ℕ) (read : Option (List ℕ)) → Stays (packets_at r input limit read)
+packets_stay r input limit None = pure_stays _
+packets_stay r input limit (Some name) = capture_stays r name input limit
 
-pub captures_from_stay : (limit input : ℕ) (rows : List PortRow) → Stays (captures_from limit input rows)
+pub captures_from_stay : (r : Reader) (limit input : ℕ) (rows : List PortRow) → Stays (captures_from r limit input rows)
 unfolding captures_from
-captures_from_stay limit input [] = pure_stays _
-captures_from_stay limit input (row ∷ rows) =
-    then_stays (packets_at input limit row.read) (λ (packets : List Captured) (m : Contents). captures_from limit (input + 1) rows m >>= (λ others. Ok (packets ∷ others))) (packets_stay input limit row.read)
-    (λ packets. then_stays (captures_from limit (input + 1) rows) (λ (others : List (List Captured)) (m : Contents). Ok (packets ∷ others)) (captures_from_stay limit (input + 1) rows) (λ others. pure_stays _))
+captures_from_stay r limit input [] = pure_stays _
+captures_from_stay r limit input (row ∷ rows) =
+    then_stays (packets_at r input limit row.read)
+    (λ (packets : List Captured) (m : Contents). captures_from r limit (input + 1) rows m >>= (λ others. Ok (packets ∷ others)))
+    (packets_stay r input limit row.read)
+    (λ packets. then_stays (captures_from r limit (input + 1) rows) (λ (others : List (List Captured)) (m : Contents). Ok (packets ∷ others))
+    (captures_from_stay r limit (input + 1) rows) (λ others. pure_stays _))

@@ -1,5 +1,8 @@
--- What holds of told contents.
-use Rattle.std.specs.Prelude.{Option, None, Some, IfSome, IsSomeAnd, MatchOption}
+-- What holds of told contents, and of what a sink tells.
+use Rattle.std.proofs.Common.{ℕ, List, inl, inr}
+use Rattle.std.specs.Prelude.{Option, None, Some, IfSome, IsSomeAnd, MatchOption, Result, Ok, Err}
+use Rattle.cq_run.specs.Line.{Puts, TakesText}
+use Rattle.cq_run.specs.World.{Taken}
 
 -- a fact that follows from another
 pub told_map : {A : Type 0} (told : Option A) (P Q : A → Type 0) → ((m : A) → P m → Q m) → IfSome told P → IfSome told Q
@@ -24,3 +27,8 @@ told_is_some (Some m) U P n h = h
 pub some_map : {A : Type 0} (told : Option A) (P Q : A → Type 0) → ((m : A) → P m → Q m) → IsSomeAnd told P → IsSomeAnd told Q
 some_map None P Q f h = h
 some_map (Some m) P Q f h = f m h
+
+-- a sink that was given a text took it, or, where that failed, a front of it
+pub took : {E : Type 0} (text : List ℕ) (old new : Taken) (result : Result (Unit {0}) E) → Puts text old new result → TakesText text old new
+took text old new (Ok x) h = inl h.bytes
+took text old new (Err e) h = inr (h.cause.failed, h.bytes)

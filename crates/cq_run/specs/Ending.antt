@@ -16,6 +16,7 @@ use Rattle.cq_run.specs.Plan.{Plan}
 use Rattle.cq_run.specs.Aim.{Aim, Meets}
 use Rattle.cq_run.specs.Headline.{Emulates}
 use Rattle.cq_run.specs.Planning.{known_to}
+use Rattle.cq_run.specs.Reader.{Reader}
 use Rattle.cq_run.specs.Refusals.{meaning_of}
 use Rattle.cq_run.specs.Verdict.{judged, MayRead, MayWrite}
 use Rattle.cq_run.specs.Judging.{Halts}
@@ -23,26 +24,27 @@ use Rattle.cq_run.specs.World.{World, IsUntouched}
 use Rattle.cq_run.specs.Writing.{IsDone, IsCut}
 
 -- the plan meets what the command aims at where that is known, and in any case it writes only names of the command
-pub record IsPlanned (command : Command) (old : Space) (plan : Plan) : Type 0 where
-  pub verdict : IfSome (known_to command old).told (λ m. IsOkAnd (judged command m) (λ aim. Meets aim plan))
-  pub emulates : IfSome old.told (λ m. Emulates command m plan)
+pub record IsPlanned (r : Reader) (command : Command) (old : Space) (plan : Plan) : Type 0 where
+  pub verdict : IfSome (known_to command old).told (λ m. IsOkAnd (judged r command m) (λ aim. Meets aim plan))
+  pub emulates : IfSome old.told (λ m. Emulates r command m plan)
   pub names : AllByRecursion (λ write. MayWrite command write.0) plan.writes
 
 -- how a command may end: its plan is done, nothing was written, or its plan was cut short. What is known of the call that failed are
 -- the parameters: that it reads the name, that it writes the name, or that it is one on standard output
-abbrev pub CommandEnds : (unread unwritten : List ℕ → Type 0) → Type 0 → Command → World → World → Result (Unit {0}) Stop → Type 0
-CommandEnds unread unwritten untaken command old new (Ok x) = (plan : Plan) × IsPlanned command old.files plan × IsDone plan old new
-CommandEnds unread unwritten untaken command old new (Err (Halted halt)) =
-    Halts (judged command) (λ name. MayRead command name × unread name) (known_to command old.files) (known_to command new.files) halt × IsUntouched old new
-CommandEnds unread unwritten untaken command old new (Err (Cut at)) = (plan : Plan) × IsPlanned command old.files plan × IsCut unwritten untaken plan old new at
+abbrev pub CommandEnds : Reader → (unread unwritten : List ℕ → Type 0) → Type 0 → Command → World → World → Result (Unit {0}) Stop → Type 0
+CommandEnds r unread unwritten untaken command old new (Ok x) = (plan : Plan) × IsPlanned r command old.files plan × IsDone plan old new
+CommandEnds r unread unwritten untaken command old new (Err (Halted halt)) =
+    Halts (judged r command) (λ name. MayRead command name × unread name) (known_to command old.files) (known_to command new.files) halt × IsUntouched old new
+CommandEnds r unread unwritten untaken command old new (Err (Cut at)) = (plan : Plan) × IsPlanned r command old.files plan × IsCut unwritten untaken plan old new at
 
 -- words that are no command are refused; files and standard output are as before, with their counts of faults
 abbrev pub WordsEnd : World → World → Result (Unit {0}) Stop → Type 0
 WordsEnd old new end = (end ≡ Err (Halted (Refused refusal.Words))) × (new ≡ old)
 
 -- how a run may end: by whether its words are a command
-abbrev pub Ends : (unread unwritten : List ℕ → Type 0) → Type 0 → List (List ℕ) → World → World → Result (Unit {0}) Stop → Type 0
-Ends unread unwritten untaken words old new end = MatchOption (command_for words) (WordsEnd old new end) (λ command. CommandEnds unread unwritten untaken command old new end)
+abbrev pub Ends : Reader → (unread unwritten : List ℕ → Type 0) → Type 0 → List (List ℕ) → World → World → Result (Unit {0}) Stop → Type 0
+Ends r unread unwritten untaken words old new end =
+    MatchOption (command_for words) (WordsEnd old new end) (λ command. CommandEnds r unread unwritten untaken command old new end)
 
 -- the status of a run that halts so
 abbrev pub halt_status : Halt → Status

@@ -1,19 +1,22 @@
--- What the program claims of `run CONFIG`, in one place.
-use Rattle.std.specs.Prelude.{◌≡◌, ℕ, List, Ok}
+-- What the program claims of `run CONFIG` and of `pass IN OUT`, in one place.
+use Rattle.std.specs.Prelude.{◌≡◌, ℕ, List, [], ◌∷◌, Ok}
 use Rattle.cq_cells.specs.Schedule.{arrivals}
 use Rattle.cq_ideal.specs.IdealRun.{departures_of}
 use Rattle.cq_laws.specs.Fabric.{IsEmptyFabric}
 use Rattle.cq_laws.specs.FabricSlot.{SlotRecord}
 use Rattle.cq_laws.specs.Records.{gone_in}
 use Rattle.cq_pcap.specs.Captured.{Captured}
+use Rattle.cq_route.specs.Plain.{plain_tables}
 use Rattle.cq_route.specs.declared.tables.Tables.{Tables}
 use Rattle.cq_simulate.specs.FabricRuns.{AlwaysHasSlack, AreInputBest, IsFabricRun, SendsSlotBySlot}
 use Rattle.cq_space.specs.Space.{Contents}
 use Rattle.cq_words.specs.declared.command.Command.{Command}
 use Rattle.cq_words.specs.declared.command.Command.TheVariants.{Pass, Check, Ideal, Run, Soak}
+use Rattle.cq_run.specs.Passing.{capture_of_all}
 use Rattle.cq_run.specs.Plan.{Plan}
-use Rattle.cq_run.specs.Plans.{crossed}
-use Rattle.cq_run.specs.Verdict.{tables_in, captures_in}
+use Rattle.cq_run.specs.Plans.{crossed, passed}
+use Rattle.cq_run.specs.Reader.{Reader}
+use Rattle.cq_run.specs.Verdict.{tables_in, capture_in, captures_in}
 
 -- The records, slot by slot, of the crossbar switch with the traffic of these captures: it keeps up with the ideal switch
 -- (Chuang, Goel, McKeown and Prabhakar 1999).
@@ -31,19 +34,30 @@ pub record KeepsUp (t : Tables) (captures : List (List Captured)) (rs : List Slo
 
 -- What is written for a configuration over these contents: the captures of what left each output, the trace, the log and the
 -- report of a switch that keeps up with the ideal one.
-pub record IsEmulation (config : List ℕ) (m : Contents) (plan : Plan) : Type 0 where
+pub record IsEmulation (r : Reader) (config : List ℕ) (m : Contents) (plan : Plan) : Type 0 where
   pub tables : Tables
   pub configured : tables_in config m ≡ Ok tables
   pub captures : List (List Captured)
-  pub captured : captures_in tables m ≡ Ok captures
+  pub captured : captures_in r tables m ≡ Ok captures
   pub records : List SlotRecord
   pub keeps_up : KeepsUp tables captures records
   pub written : plan ≡ crossed tables captures (departures_of 0 (gone_in records)) records
 
--- the same of a command that is `run CONFIG`; of the others nothing is said here
-abbrev pub Emulates : Command → Contents → Plan → Type 0
-Emulates (Pass from to) m plan = Unit {0}
-Emulates (Check config) m plan = Unit {0}
-Emulates (Ideal config) m plan = Unit {0}
-Emulates (Run config) m plan = IsEmulation config m plan
-Emulates (Soak seed ports slots) m plan = Unit {0}
+-- What is written of one capture over these contents: what left the one output of a switch of one port that keeps up with the
+-- ideal one, and nothing else. It is every packet of the capture, once and in its place, with the stamp of the slot in which its
+-- last cell arrived.
+pub record IsPassage (r : Reader) (from to : List ℕ) (m : Contents) (plan : Plan) : Type 0 where
+  pub packets : List Captured
+  pub captured : capture_in r from 0 (plain_tables from to).limit_bytes m ≡ Ok packets
+  pub records : List SlotRecord
+  pub keeps_up : KeepsUp (plain_tables from to) (packets ∷ []) records
+  pub written : plan ≡ passed from to packets (departures_of 0 (gone_in records))
+  pub whole : plan.writes ≡ (to, capture_of_all (plain_tables from to) packets) ∷ []
+
+-- the same of a command that crosses a switch and writes what left it; of the others nothing is said here
+abbrev pub Emulates : Reader → Command → Contents → Plan → Type 0
+Emulates r (Pass from to) m plan = IsPassage r from to m plan
+Emulates r (Check config) m plan = Unit {0}
+Emulates r (Ideal config) m plan = Unit {0}
+Emulates r (Run config) m plan = IsEmulation r config m plan
+Emulates r (Soak seed ports slots) m plan = Unit {0}

@@ -1,7 +1,9 @@
 pub mod Plan
 pub mod Plans
+pub mod Passing
 pub mod Aim
 pub mod Refusals
+pub mod Reader
 pub mod Verdict
 pub mod Judging
 pub mod Switching

@@ -1,5 +1,5 @@
 -- What is kept of a run until its bytes are built.
-use Rattle.std.specs.Prelude.{◌≡◌, List, Ok}
+use Rattle.std.specs.Prelude.{◌≡◌, ℕ, List, Option, None, Some, Ok}
 use Rattle.cq_cells.specs.Schedule.{first_stamp}
 use Rattle.cq_ideal.specs.IdealRun.{departures_of}
 use Rattle.cq_laws.specs.FabricSlot.{SlotRecord}
@@ -10,7 +10,8 @@ use Rattle.cq_route.specs.declared.tables.Tables.{Tables}
 use Rattle.cq_route.specs.Tables.{ports_of}
 use Rattle.cq_simulate.specs.declared.refusal.RunRefusal.{RunRefusal}
 use Rattle.cq_simulate.specs.declared.refusal.RunRefusal.TheVariants as run
-use Rattle.cq_run.specs.declared.refusal.Refusal.TheVariants.{Tag}
+use Rattle.cq_run.specs.declared.refusal.CaptureFault.{CaptureFault}
+use Rattle.cq_run.specs.declared.refusal.Refusal.TheVariants.{Capture, Tag}
 use Rattle.cq_run.specs.declared.stop.Halt.{Halt}
 use Rattle.cq_run.specs.declared.stop.Halt.TheVariants.{Refused, NoMemory}
 use Rattle.cq_run.specs.declared.switching.Crossed.{Crossed}
@@ -31,6 +32,11 @@ pub record IsCrossed (t : Tables) (captures : List (List Captured)) (c : Crossed
   pub departed : c.switched.sent.items ≡ departures_of 0 (gone_in records)
   pub note : c.note.items ≡ transfers_of_run records
   pub figures : c.figures ≡ figures_of (ports_of t.setup) records
+
+-- why the program stops where a capture cannot be read: it has this fault, or memory ran out
+abbrev pub halt_for : ℕ → Option CaptureFault → Halt
+halt_for input None = NoMemory
+halt_for input (Some fault) = Refused (Capture input fault)
 
 -- why the program stops where a run has no result
 abbrev pub halt_of : RunRefusal → Halt

@@ -1,4 +1,5 @@
--- What words and contents come to: what is aimed at, or the refusal that is met first.
+-- What words and contents come to: what is aimed at, or the refusal that is met first. Captures are read by the grammar: `r` is any
+-- reader that goes by it.
 use Rattle.std.specs.Prelude.{◌≡◌, ℕ, ◌+◌, if◌then◌else◌, nat_lt, List, [], ◌∷◌, length, Option, None, Some, Result, Ok, Err}
 use Rattle.std.specs.FinMap.{get}
 use Rattle.cq_base.specs.declared.cell.Departure.{Departure}
@@ -9,7 +10,6 @@ use Rattle.cq_gen.specs.Packets.{soak_captures}
 use Rattle.cq_gen.specs.Tables.{soak_tables}
 use Rattle.cq_pcap.specs.Captured.{Captured}
 use Rattle.cq_pcap.specs.Faults.{Fault}
-use Rattle.cq_pcap.specs.Reading.{packets_of}
 use Rattle.cq_route.specs.declared.tables.PortRow.{PortRow}
 use Rattle.cq_route.specs.declared.tables.Tables.{Tables}
 use Rattle.cq_route.specs.Plain.{plain_tables}
@@ -23,6 +23,7 @@ use Rattle.cq_run.specs.declared.refusal.Refusal.TheVariants.{Words, Missing, Co
 use Rattle.cq_run.specs.declared.refusal.CaptureFault.TheVariants.{Long}
 use Rattle.cq_words.specs.Words.{command_for}
 use Rattle.cq_run.specs.Aim.{Aim, Exactly, Crossing, Reporting}
+use Rattle.cq_run.specs.Reader.{Reader}
 use Rattle.cq_run.specs.Refusals.{capture_fault}
 use Rattle.cq_run.specs.Plans.{checked, passed, switched}
 
@@ -58,29 +59,30 @@ read_or_faulty input (Ok packets) = Ok packets
 read_or_faulty input (Err fault) = Err (Capture input (capture_fault fault))
 
 -- the packets of an input's capture; a file that is too long is refused before it is looked at
-abbrev pub capture_of : ℕ → ℕ → List ℕ → Result (List Captured) Refusal
-capture_of input limit bytes = if nat_lt limit (length bytes) then Err (Capture input (Long limit)) else read_or_faulty input (packets_of bytes)
+abbrev pub capture_of : Reader → ℕ → ℕ → List ℕ → Result (List Captured) Refusal
+capture_of r input limit bytes =
+    if nat_lt limit (length bytes) then Err (Capture input (Long limit)) else read_or_faulty input (r.read bytes)
 
 -- the packets of the capture of this name
-abbrev pub capture_in : List ℕ → ℕ → ℕ → Contents → Result (List Captured) Refusal
-capture_in name input limit m = named m name >>= capture_of input limit
+abbrev pub capture_in : Reader → List ℕ → ℕ → ℕ → Contents → Result (List Captured) Refusal
+capture_in r name input limit m = named m name >>= capture_of r input limit
 
 -- the packets that arrive at an input: it has none where no file is read for it
-abbrev pub packets_at : ℕ → ℕ → Option (List ℕ) → Contents → Result (List Captured) Refusal
-packets_at input limit None m = Ok []
-packets_at input limit (Some name) m = capture_in name input limit m
+abbrev pub packets_at : Reader → ℕ → ℕ → Option (List ℕ) → Contents → Result (List Captured) Refusal
+packets_at r input limit None m = Ok []
+packets_at r input limit (Some name) m = capture_in r name input limit m
 
 -- the packets of these ports, which are numbered from this one on; the lowest input that is refused is the answer
-unfoldable pub captures_from : ℕ → ℕ → List PortRow → Contents → Result (List (List Captured)) Refusal
-captures_from limit input [] m = Ok []
-captures_from limit input (row ∷ rows) m = do
-  packets ← packets_at input limit row.read m
-  others ← captures_from limit (input + 1) rows m
+unfoldable pub captures_from : Reader → ℕ → ℕ → List PortRow → Contents → Result (List (List Captured)) Refusal
+captures_from r limit input [] m = Ok []
+captures_from r limit input (row ∷ rows) m = do
+  packets ← packets_at r input limit row.read m
+  others ← captures_from r limit (input + 1) rows m
   Ok (packets ∷ others)
 
 -- the packets of all inputs
-abbrev pub captures_in : Tables → Contents → Result (List (List Captured)) Refusal
-captures_in tables m = captures_from tables.limit_bytes 0 tables.ports m
+abbrev pub captures_in : Reader → Tables → Contents → Result (List (List Captured)) Refusal
+captures_in r tables m = captures_from r tables.limit_bytes 0 tables.ports m
 
 -- the departures of a run, or its tag fault
 abbrev pub sent_or_tag : Result (List Departure) TagFault → Result (List Departure) Refusal
@@ -92,36 +94,36 @@ abbrev pub ideally_sent : Tables → List (List Captured) → Result (List Depar
 ideally_sent tables captures = sent_or_tag (ideal_departures tables.setup (arrivals tables captures))
 
 -- what a command comes to; a new command is one case here, in `MayRead` and in `MayWrite`, and in `known_to`, `IsWithinRange` and `Emulates`
-abbrev pub judged : Command → Contents → Result Aim Refusal
-judged (Pass from to) m = do
-  packets ← capture_in from 0 (plain_tables from to).limit_bytes m
+abbrev pub judged : Reader → Command → Contents → Result Aim Refusal
+judged r (Pass from to) m = do
+  packets ← capture_in r from 0 (plain_tables from to).limit_bytes m
   sent ← ideally_sent (plain_tables from to) (packets ∷ [])
   Ok (Exactly (passed from to packets sent))
-judged (Check config) m = do
+judged r (Check config) m = do
   tables ← tables_in config m
   Ok (Exactly (checked tables))
-judged (Ideal config) m = do
+judged r (Ideal config) m = do
   tables ← tables_in config m
-  captures ← captures_in tables m
+  captures ← captures_in r tables m
   sent ← ideally_sent tables captures
   Ok (Exactly (switched tables captures sent))
-judged (Run config) m = do
+judged r (Run config) m = do
   tables ← tables_in config m
-  captures ← captures_in tables m
+  captures ← captures_in r tables m
   sent ← ideally_sent tables captures
   Ok (Crossing tables captures sent)
-judged (Soak seed ports slots) m = do
+judged r (Soak seed ports slots) m = do
   sent ← ideally_sent (soak_tables ports) (soak_captures seed ports slots)
   Ok (Reporting (soak_tables ports) (soak_captures seed ports slots))
 
 -- words that are no command are refused before anything is read
-abbrev pub judged_or_words : Option Command → Contents → Result Aim Refusal
-judged_or_words None m = Err Words
-judged_or_words (Some command) m = judged command m
+abbrev pub judged_or_words : Reader → Option Command → Contents → Result Aim Refusal
+judged_or_words r None m = Err Words
+judged_or_words r (Some command) m = judged r command m
 
 -- what the words come to
-abbrev pub verdict : List (List ℕ) → Contents → Result Aim Refusal
-verdict words m = judged_or_words (command_for words) m
+abbrev pub verdict : Reader → List (List ℕ) → Contents → Result Aim Refusal
+verdict r words m = judged_or_words r (command_for words) m
 
 -- the names that the line of a read fault may have, whatever the contents: where a configuration says what is read, any
 abbrev pub MayRead : Command → List ℕ → Type 0

@@ -8,8 +8,9 @@ ghost use Rattle.cq_gen.specs.Packets.{soak_captures};
 ghost use Rattle.cq_gen.specs.Tables.{soak_tables};
 ghost use Rattle.cq_run.specs.Aim.{Meets, Reporting};
 ghost use Rattle.cq_run.specs.Judging.{IsHaltOf};
-ghost use Rattle.cq_run.specs.Headline.{Emulates, IsEmulation};
+ghost use Rattle.cq_run.specs.Headline.{Emulates, IsEmulation, IsPassage};
 ghost use Rattle.cq_run.specs.Planning.{Plans, known_to, IsWithinRange};
+ghost use Rattle.cq_run.specs.Reader.{Reader};
 ghost use Rattle.cq_run.specs.Verdict.{ideally_sent, judged, MayRead, MayWrite};
 
 use crate::build::{build_check, build_crossed, build_passed, build_report, build_switched};
@@ -26,7 +27,8 @@ use std::alloc::Global;
 use std::thread::Threads;
 
 /// What a command comes to: the work to be done, with all its bytes, or the first refusal. It reads
-/// only, and leaves the file space closed. The gate is told of the workers' steps, and changes no answer.
+/// only, and leaves the file space closed. The gate is told of the workers' steps, and changes no answer. The clauses hold
+/// for any reader of captures that goes by the grammar.
 pub fn judge<R: Threads + Sync, F: Files, G: Gate>(
     rt: &R,
     alloc: Global,
@@ -36,11 +38,12 @@ pub fn judge<R: Threads + Sync, F: Files, G: Gate>(
 ) -> Result<Work, Halt>
     requires closed { (F.space files.old).mode ≡ Closed }
     requires range { IsWithinRange command }
-    ensures judges { Plans (judged command) (λ name. MayRead command name × Fails F.space F.may_fail F.keeps (Reads name) files.old files.new)
+    ensures judges { (r : Reader) → Plans (judged r command)
+        (λ name. MayRead command name × Fails F.space F.may_fail F.keeps (Reads name) files.old files.new)
         (known_to command (F.space files.old)) (known_to command (F.space files.new)) result }
     ensures kept { F.keeps files.old files.new }
     ensures names { IfOk result (λ plan. AllByRecursion (λ write. MayWrite command write.0) plan.writes) }
-    ensures emulates { IfOk result (λ plan. IfSome (F.space files.old).told (λ m. Emulates command m plan)) }
+    ensures emulates { (r : Reader) → IfOk result (λ plan. IfSome (F.space files.old).told (λ m. Emulates r command m plan)) }
     ensures closed { (F.space files.new).mode ≡ Closed }
     ensures told { (F.space files.new).told ≡ (F.space files.old).told }
 {
@@ -64,11 +67,12 @@ fn pass<R: Threads + Sync, F: Files, G: Gate>(
 ) -> Result<Work, Halt>
     requires { (F.space files.old).mode ≡ Closed }
     ensures judges { let command = Command.Pass from to in
-        Plans (judged command) (λ name. MayRead command name × Fails F.space F.may_fail F.keeps (Reads name) files.old files.new)
+        (r : Reader) → Plans (judged r command) (λ name. MayRead command name × Fails F.space F.may_fail F.keeps (Reads name) files.old files.new)
         (F.space files.old) (F.space files.new) result }
     ensures kept { F.keeps files.old files.new }
     ensures names { let command = Command.Pass from to in
         IfOk result (λ plan. AllByRecursion (λ write. MayWrite command write.0) plan.writes) }
+    ensures emulates { (r : Reader) → IfOk result (λ plan. IfSome (F.space files.old).told (λ m. IsPassage r from to m plan)) }
 {
     let tables = Tables::plain(alloc, from.text(), to.text())?;
     let capture = read_input(alloc, files, from, 0, tables.limit_bytes)?;
@@ -82,7 +86,7 @@ fn pass<R: Threads + Sync, F: Files, G: Gate>(
 fn check<F: Files>(alloc: Global, files: &mut F, config: Name) -> Result<Work, Halt>
     requires { (F.space files.old).mode ≡ Closed }
     ensures judges { let command = Command.Check config in
-        Plans (judged command) (λ name. MayRead command name × Fails F.space F.may_fail F.keeps (Reads name) files.old files.new)
+        (r : Reader) → Plans (judged r command) (λ name. MayRead command name × Fails F.space F.may_fail F.keeps (Reads name) files.old files.new)
         (F.space files.old) (F.space files.new) result }
     ensures kept { F.keeps files.old files.new }
     ensures names { let command = Command.Check config in
@@ -100,7 +104,7 @@ fn ideal<R: Threads + Sync, F: Files>(
 ) -> Result<Work, Halt>
     requires { (F.space files.old).mode ≡ Closed }
     ensures judges { let command = Command.Ideal config in
-        Plans (judged command) (λ name. MayRead command name × Fails F.space F.may_fail F.keeps (Reads name) files.old files.new)
+        (r : Reader) → Plans (judged r command) (λ name. MayRead command name × Fails F.space F.may_fail F.keeps (Reads name) files.old files.new)
         (F.space files.old) (F.space files.new) result }
     ensures kept { F.keeps files.old files.new }
     ensures names { let command = Command.Ideal config in
@@ -121,12 +125,12 @@ fn run<R: Threads + Sync, F: Files, G: Gate>(
 ) -> Result<Work, Halt>
     requires { (F.space files.old).mode ≡ Closed }
     ensures judges { let command = Command.Run config in
-        Plans (judged command) (λ name. MayRead command name × Fails F.space F.may_fail F.keeps (Reads name) files.old files.new)
+        (r : Reader) → Plans (judged r command) (λ name. MayRead command name × Fails F.space F.may_fail F.keeps (Reads name) files.old files.new)
         (F.space files.old) (F.space files.new) result }
     ensures kept { F.keeps files.old files.new }
     ensures names { let command = Command.Run config in
         IfOk result (λ plan. AllByRecursion (λ write. MayWrite command write.0) plan.writes) }
-    ensures emulates { IfOk result (λ plan. IfSome (F.space files.old).told (λ m. IsEmulation config m plan)) }
+    ensures emulates { (r : Reader) → IfOk result (λ plan. IfSome (F.space files.old).told (λ m. IsEmulation r config m plan)) }
 {
     let tables = read_configuration(alloc, files, config)?;
     let captures = read_inputs(alloc, files, &tables)?;

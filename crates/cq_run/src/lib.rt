@@ -3,11 +3,12 @@
 //! A run has two halves. First the words and what they name are judged, and nothing is written: they
 //! come to a plan, or to the first refusal. Then the plan is performed. `specs/Verdict.antt` says what
 //! is judged, and `specs/Refusals.antt` what each refusal comes to; the contract of `switch_top` says
-//! what every answer of the program means.
+//! what every answer of the program means. Captures are read by the grammar of their format: `specs/Reader.antt`.
 #![tactic(auto)]
 
 mod build;
 mod judge;
+mod laws;
 mod perform;
 mod plan;
 mod reading;
@@ -19,6 +20,7 @@ mod top;
 
 pub use cq_simulate::{FabricRun, IdealRun, RunRefusal, packets_of, run_fabric, run_ideal};
 pub use cq_words::{Command, command_of};
+pub use laws::captures_are_read_in_one_way;
 pub use refusal::{CaptureFault, Refusal};
 pub use stop::{Halt, Stop, Unwritten};
 pub use top::switch_top;

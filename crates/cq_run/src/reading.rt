@@ -2,13 +2,18 @@
 ghost use Rattle.std.specs.Prelude.{◌≡◌, ◌≤◌, ◌^◌, ◌∷◌, ◌++◌, [], IfOk, OnOk, length};
 ghost use Rattle.cq_route.specs.Tables.{AreTables, ports_of};
 ghost use Rattle.cq_space.specs.Failing.{Fails, Reads};
+ghost use Rattle.std.specs.Option.{option_map};
+ghost use Rattle.cq_pcap.specs.Faults.{fault_of};
 ghost use Rattle.cq_space.specs.Space.{Closed};
 ghost use Rattle.cq_run.specs.Judging.{Judges};
+ghost use Rattle.cq_run.specs.Reader.{Reader};
+ghost use Rattle.cq_run.specs.Refusals.{capture_fault};
+ghost use Rattle.cq_run.specs.Switching.{halt_for};
 ghost use Rattle.cq_run.specs.Verdict.{capture_in, captures_in, packets_at, tables_in};
 
 use crate::{CaptureFault, Halt, Refusal};
 use cq_base::{Name, NoMemory, Sequence};
-use cq_pcap::{Capture, read_capture};
+use cq_pcap::{Capture, PcapRefusal, read_capture};
 use cq_route::{PortRow, Tables};
 use cq_space::{Files, ReadRefusal, read_whole};
 use cq_tables::{TableRefusal, read_tables};
@@ -54,7 +59,8 @@ pub fn read_configuration<F: Files>(
     }
 }
 
-/// The capture of an input, from the file of this name, if that has at most `limit` bytes.
+/// The capture of an input, from the file of this name, if that has at most `limit` bytes: what any reader that goes by the
+/// grammar makes of it.
 pub fn read_input<F: Files>(
     alloc: Global,
     files: &mut F,
@@ -64,24 +70,39 @@ pub fn read_input<F: Files>(
 ) -> Result<Capture, Halt>
     requires closed { (F.space files.old).mode ≡ Closed }
     requires limit { limit ≤ 2 ^ 28 }
-    ensures judges { Judges (capture_in name input limit) (λ asked. (asked ≡ name) × Fails F.space F.may_fail F.keeps (Reads asked) files.old files.new)
+    ensures judges { (r : Reader) → Judges (capture_in r name input limit)
+        (λ asked. (asked ≡ name) × Fails F.space F.may_fail F.keeps (Reads asked) files.old files.new)
         (F.space files.old) (F.space files.new) result }
     ensures kept { F.keeps files.old files.new }
 {
-    let refused = |fault| Halt::Refused {
-        refusal: Refusal::Capture { input, fault },
-    };
     match read_whole(alloc, files, name.text(), limit) {
         Ok(bytes) => match read_capture(alloc, bytes) {
             Ok(capture) => Ok(capture),
-            Err(refusal) => Err(CaptureFault::of(refusal).map_or(Halt::NoMemory, refused)),
+            Err(refusal) => Err(unreadable(input, refusal)),
         },
         Err(ReadRefusal::Missing) => Err(Halt::Refused {
             refusal: Refusal::Missing { name },
         }),
         Err(ReadRefusal::Fault) => Err(Halt::Unread { name }),
-        Err(ReadRefusal::Long { limit }) => Err(refused(CaptureFault::Long { limit })),
+        Err(ReadRefusal::Long { limit }) => Err(Halt::Refused {
+            refusal: Refusal::Capture {
+                input,
+                fault: CaptureFault::Long { limit },
+            },
+        }),
         Err(ReadRefusal::NoMemory) => Err(Halt::NoMemory),
+    }
+}
+
+// Why the capture of an input cannot be read.
+fn unreadable(input: u16, refusal: PcapRefusal) -> Halt
+    ensures { result ≡ halt_for input (option_map capture_fault (fault_of refusal)) }
+{
+    match CaptureFault::of(refusal) {
+        Some(fault) => Halt::Refused {
+            refusal: Refusal::Capture { input, fault },
+        },
+        None => Halt::NoMemory,
     }
 }
 
@@ -95,7 +116,8 @@ fn read_port<F: Files>(
 ) -> Result<Capture, Halt>
     requires closed { (F.space files.old).mode ≡ Closed }
     requires limit { limit ≤ 2 ^ 28 }
-    ensures judges { Judges (packets_at input limit row.now.read) (λ asked. Fails F.space F.may_fail F.keeps (Reads asked) files.old files.new)
+    ensures judges { (r : Reader) → Judges (packets_at r input limit row.now.read)
+        (λ asked. Fails F.space F.may_fail F.keeps (Reads asked) files.old files.new)
         (F.space files.old) (F.space files.new) result }
     ensures kept { F.keeps files.old files.new }
 {
@@ -116,7 +138,8 @@ pub fn read_inputs<F: Files>(
 ) -> Result<Sequence<Capture>, Halt>
     requires closed { (F.space files.old).mode ≡ Closed }
     requires tables { AreTables tables.now }
-    ensures judges { Judges (captures_in tables.now) (λ asked. Fails F.space F.may_fail F.keeps (Reads asked) files.old files.new)
+    ensures judges { (r : Reader) → Judges (captures_in r tables.now)
+        (λ asked. Fails F.space F.may_fail F.keeps (Reads asked) files.old files.new)
         (F.space files.old) (F.space files.new) result }
     ensures kept { F.keeps files.old files.new }
     ensures each { IfOk result (λ captures. length captures ≡ ports_of tables.now.setup) }

@@ -3,9 +3,10 @@ ghost use Rattle.std.specs.Prelude.{◌≡◌, ℕ, List, None, Some, IfSome, ma
 ghost use Rattle.cq_space.specs.Failing.{Fails, FailsTaking, Reads, Writes};
 ghost use Rattle.cq_space.specs.Space.{Closed};
 ghost use Rattle.cq_words.specs.Words.{command_for};
-ghost use Rattle.cq_run.specs.Headline.{IsEmulation};
+ghost use Rattle.cq_run.specs.Headline.{Emulates};
 ghost use Rattle.cq_run.specs.Plan.{Plan};
 ghost use Rattle.cq_run.specs.Planning.{IsWithinRange, known_by};
+ghost use Rattle.cq_run.specs.Reader.{Reader};
 ghost use Rattle.cq_run.specs.Verdict.{verdict};
 ghost use Rattle.cq_run.specs.Writing.{IsDone};
 ghost use Rattle.cq_run.specs.World.{world, taken_by};
@@ -41,6 +42,9 @@ use std::thread::Threads;
 /// All bytes are ready before the first is written, so with every status but `Done` and `WriteFault` no
 /// file is started and `out` is as before. The file space has to be closed, and is closed again. A
 /// failing `err` changes no status.
+///
+/// The clauses hold for any reader of captures that goes by the grammar of the format and its faults. Of bytes there is one
+/// answer that such a reader can give.
 pub fn switch_top<R: Threads + Sync, F: Files, O: Sink, E: Sink, G: Gate>(
     rt: &R,
     alloc: Global,
@@ -51,20 +55,20 @@ pub fn switch_top<R: Threads + Sync, F: Files, O: Sink, E: Sink, G: Gate>(
     gate: &G,
 ) -> Status
     requires { (F.space files.old).mode ≡ Closed }
-    ensures answer { Answers (λ name. Fails F.space F.may_fail F.keeps (Reads name) files.old files.new)
+    ensures answer { (r : Reader) → Answers r (λ name. Fails F.space F.may_fail F.keeps (Reads name) files.old files.new)
         (λ name. Fails F.space F.may_fail F.keeps (Writes name) files.old files.new)
         (FailsTaking O.taken O.faults O.may_fail O.keeps out.old out.new) (map string_bytes words.now)
         (world F.space O.taken O.faults files.old out.old)
         (world F.space O.taken O.faults files.new out.new)
         (taken_by E.taken E.faults err.old) (taken_by E.taken E.faults err.new) result }
-    ensures causes { StatusCauses (verdict (map string_bytes words.now))
+    ensures causes { (r : Reader) → StatusCauses (verdict r (map string_bytes words.now))
         (known_by (command_for (map string_bytes words.now)) (F.space files.old))
         (world F.space O.taken O.faults files.old out.old)
         (world F.space O.taken O.faults files.new out.new) result }
 
-    // The headline, of `run CONFIG`.
-    ensures headline { (config : List ℕ) → command_for (map string_bytes words.now) ≡ Some (Command.Run config) →
-        result ≡ Status.Done → IfSome (F.space files.old).told (λ m. (plan : Plan) × IsEmulation config m plan
+    // The headline, of `run CONFIG` and of `pass IN OUT`.
+    ensures headline { (r : Reader) (command : Command) → command_for (map string_bytes words.now) ≡ Some command →
+        result ≡ Status.Done → IfSome (F.space files.old).told (λ m. (plan : Plan) × Emulates r command m plan
         × IsDone plan (world F.space O.taken O.faults files.old out.old) (world F.space O.taken O.faults files.new out.new)) }
 
     // Also over files that tell nothing.
@@ -90,7 +94,7 @@ fn run<R: Threads + Sync, F: Files, O: Sink, G: Gate>(
     gate: &G,
 ) -> Result<(), Stop>
     requires { (F.space files.old).mode ≡ Closed }
-    ensures ends { Ends (λ name. Fails F.space F.may_fail F.keeps (Reads name) files.old files.new)
+    ensures ends { (r : Reader) → Ends r (λ name. Fails F.space F.may_fail F.keeps (Reads name) files.old files.new)
         (λ name. Fails F.space F.may_fail F.keeps (Writes name) files.old files.new)
         (FailsTaking O.taken O.faults O.may_fail O.keeps out.old out.new) (map string_bytes words.now)
         (world F.space O.taken O.faults files.old out.old)
@@ -115,7 +119,7 @@ fn obey<R: Threads + Sync, F: Files, O: Sink, G: Gate>(
 ) -> Result<(), Stop>
     requires closed { (F.space files.old).mode ≡ Closed }
     requires range { IsWithinRange command }
-    ensures ends { CommandEnds (λ name. Fails F.space F.may_fail F.keeps (Reads name) files.old files.new)
+    ensures ends { (r : Reader) → CommandEnds r (λ name. Fails F.space F.may_fail F.keeps (Reads name) files.old files.new)
         (λ name. Fails F.space F.may_fail F.keeps (Writes name) files.old files.new)
         (FailsTaking O.taken O.faults O.may_fail O.keeps out.old out.new) command
         (world F.space O.taken O.faults files.old out.old)

@@ -1,12 +1,91 @@
+use Rattle.std.proofs.Common.{ℕ, List}
 use Rattle.cq_gen.specs.Packets.{soak_captures}
 use Rattle.cq_gen.specs.Tables.{soak_tables}
-use Rattle.cq_words.specs.declared.command.Command.TheVariants.{Soak}
+use Rattle.cq_space.specs.Failing.{Fails, Reads}
+use Rattle.cq_words.specs.declared.command.Command.TheVariants.{Pass, Check, Ideal, Run, Soak}
 use Rattle.cq_run.specs.Planning.{known_to}
-use Rattle.cq_run.proofs.Planned.{plans_reported}
+use Rattle.cq_run.specs.Verdict.{judged, MayRead}
+use Rattle.cq_run.proofs.OneReading.{from_front}
+use Rattle.cq_run.proofs.Planned.{plans_closed, plans_reported, plans_told}
 use Rattle.cq_run.proofs.judge.judge.Goals as goal
 
 pub returns-in-Soak-clause-judges : goal.returns-in-Soak-clause-judges
-returns-in-Soak-clause-judges g c =
+returns-in-Soak-clause-judges g c = λ r.
     let command = Soak c.in-Soak.seed c.in-Soak.ports c.in-Soak.slots in
     rw c.in-Soak.is
     (plans_reported (soak_tables c.in-Soak.ports) (soak_captures c.in-Soak.seed c.in-Soak.ports c.in-Soak.slots) (known_to command (g.F.Files.space c.args.files.now)) c.requires.closed _ c.soak.result c.soak.ensures.meets c.soak.ensures.sent c.soak.ensures.refused)
+
+pub returns-in-Pass-clause-judges : goal.returns-in-Pass-clause-judges
+returns-in-Pass-clause-judges g c = rw c.in-Pass.is c.pass.ensures.judges
+
+pub returns-in-Ideal-clause-judges : goal.returns-in-Ideal-clause-judges
+returns-in-Ideal-clause-judges g c = rw c.in-Ideal.is c.ideal.ensures.judges
+
+pub returns-in-Run-clause-judges : goal.returns-in-Run-clause-judges
+returns-in-Run-clause-judges g c = rw c.in-Run.is c.run.ensures.judges
+
+pub returns-in-Pass-clause-emulates : goal.returns-in-Pass-clause-emulates
+returns-in-Pass-clause-emulates g c = rw c.in-Pass.is c.pass.ensures.emulates
+
+pub returns-in-Run-clause-emulates : goal.returns-in-Run-clause-emulates
+returns-in-Run-clause-emulates g c = rw c.in-Run.is c.run.ensures.emulates
+
+pub returns-in-Check-clause-judges : goal.returns-in-Check-clause-judges
+returns-in-Check-clause-judges g c = rw c.in-Check.is c.check.ensures.judges
+
+pub returns-in-Check-clause-names : goal.returns-in-Check-clause-names
+returns-in-Check-clause-names g c = rw c.in-Check.is c.check.ensures.names
+
+pub returns-in-Ideal-clause-names : goal.returns-in-Ideal-clause-names
+returns-in-Ideal-clause-names g c = rw c.in-Ideal.is c.ideal.ensures.names
+
+pub returns-in-Run-clause-names : goal.returns-in-Run-clause-names
+returns-in-Run-clause-names g c = rw c.in-Run.is c.run.ensures.names
+
+pub returns-in-Pass-clause-closed : goal.returns-in-Pass-clause-closed
+returns-in-Pass-clause-closed g c =
+    let command = Pass c.in-Pass.from c.in-Pass.to in
+    let R : List ℕ → Type 0 = λ name. MayRead command name × Fails g.F.Files.space g.F.Files.may_fail g.F.Files.keeps (Reads name) c.args.files.now c.pass.new.files in
+    plans_closed (judged from_front command) R (g.F.Files.space c.args.files.now) (g.F.Files.space c.pass.new.files) c.pass.result (c.pass.ensures.judges from_front)
+
+pub returns-in-Pass-clause-told : goal.returns-in-Pass-clause-told
+returns-in-Pass-clause-told g c =
+    let command = Pass c.in-Pass.from c.in-Pass.to in
+    let R : List ℕ → Type 0 = λ name. MayRead command name × Fails g.F.Files.space g.F.Files.may_fail g.F.Files.keeps (Reads name) c.args.files.now c.pass.new.files in
+    plans_told (judged from_front command) R (g.F.Files.space c.args.files.now) (g.F.Files.space c.pass.new.files) c.pass.result (c.pass.ensures.judges from_front)
+
+pub returns-in-Check-clause-closed : goal.returns-in-Check-clause-closed
+returns-in-Check-clause-closed g c =
+    let command = Check c.in-Check.config in
+    let R : List ℕ → Type 0 = λ name. MayRead command name × Fails g.F.Files.space g.F.Files.may_fail g.F.Files.keeps (Reads name) c.args.files.now c.check.new.files in
+    plans_closed (judged from_front command) R (g.F.Files.space c.args.files.now) (g.F.Files.space c.check.new.files) c.check.result (c.check.ensures.judges from_front)
+
+pub returns-in-Check-clause-told : goal.returns-in-Check-clause-told
+returns-in-Check-clause-told g c =
+    let command = Check c.in-Check.config in
+    let R : List ℕ → Type 0 = λ name. MayRead command name × Fails g.F.Files.space g.F.Files.may_fail g.F.Files.keeps (Reads name) c.args.files.now c.check.new.files in
+    plans_told (judged from_front command) R (g.F.Files.space c.args.files.now) (g.F.Files.space c.check.new.files) c.check.result (c.check.ensures.judges from_front)
+
+pub returns-in-Ideal-clause-closed : goal.returns-in-Ideal-clause-closed
+returns-in-Ideal-clause-closed g c =
+    let command = Ideal c.in-Ideal.config in
+    let R : List ℕ → Type 0 = λ name. MayRead command name × Fails g.F.Files.space g.F.Files.may_fail g.F.Files.keeps (Reads name) c.args.files.now c.ideal.new.files in
+    plans_closed (judged from_front command) R (g.F.Files.space c.args.files.now) (g.F.Files.space c.ideal.new.files) c.ideal.result (c.ideal.ensures.judges from_front)
+
+pub returns-in-Ideal-clause-told : goal.returns-in-Ideal-clause-told
+returns-in-Ideal-clause-told g c =
+    let command = Ideal c.in-Ideal.config in
+    let R : List ℕ → Type 0 = λ name. MayRead command name × Fails g.F.Files.space g.F.Files.may_fail g.F.Files.keeps (Reads name) c.args.files.now c.ideal.new.files in
+    plans_told (judged from_front command) R (g.F.Files.space c.args.files.now) (g.F.Files.space c.ideal.new.files) c.ideal.result (c.ideal.ensures.judges from_front)
+
+pub returns-in-Run-clause-closed : goal.returns-in-Run-clause-closed
+returns-in-Run-clause-closed g c =
+    let command = Run c.in-Run.config in
+    let R : List ℕ → Type 0 = λ name. MayRead command name × Fails g.F.Files.space g.F.Files.may_fail g.F.Files.keeps (Reads name) c.args.files.now c.run.new.files in
+    plans_closed (judged from_front command) R (g.F.Files.space c.args.files.now) (g.F.Files.space c.run.new.files) c.run.result (c.run.ensures.judges from_front)
+
+pub returns-in-Run-clause-told : goal.returns-in-Run-clause-told
+returns-in-Run-clause-told g c =
+    let command = Run c.in-Run.config in
+    let R : List ℕ → Type 0 = λ name. MayRead command name × Fails g.F.Files.space g.F.Files.may_fail g.F.Files.keeps (Reads name) c.args.files.now c.run.new.files in
+    plans_told (judged from_front command) R (g.F.Files.space c.args.files.now) (g.F.Files.space c.run.new.files) c.run.result (c.run.ensures.judges from_front)
