@@ -1,3 +1,4 @@
+-- Only proofs use this.
 -- What a worker's work does to its seat.
 use Rattle.std.specs.Prelude.{ℕ, ◌≡◌, ◌≤◌, ◌<◌, ◌⊎◌, None}
 use Rattle.cq_prefs.specs.Orders.{ports}

@@ -1,3 +1,4 @@
+-- Only proofs use this.
 -- What one slot adds to the figures of an input and of an output. The slack that is added is that of the cell that arrived.
 use Rattle.std.specs.Prelude.{◌≡◌, ℕ, ◌+◌, ◌-◌, ◌==◌, min, max, if◌then◌else◌, length, List, Option, Some, is_some, slice_get}
 use Rattle.std.specs.List.{position_or_len}

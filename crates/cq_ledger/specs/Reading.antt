@@ -1,3 +1,4 @@
+-- Only proofs use this.
 -- The words of a ledger beside a state of the proposals.
 use Rattle.std.specs.Prelude.{ℕ, suc, ◌≡◌, ◌<◌, List, slice_index}
 use Rattle.cq_prefs.specs.Orders.{Orders, ports}

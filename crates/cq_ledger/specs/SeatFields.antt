@@ -1,3 +1,4 @@
+-- Only proofs use this.
 -- How a seat keeps what it knows.
 use Rattle.std.specs.Prelude.{ℕ, ◌≡◌, ◌<◌, [], length, Option, Some}
 use Rattle.cq_prefs.specs.Orders.{outputs_of}

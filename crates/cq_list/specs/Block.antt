@@ -1,3 +1,4 @@
+-- Only proofs use this.
 -- The counts of a block of places.
 use Rattle.std.specs.Prelude.{◌≡◌, ℕ, ◌<◌, ◌≤◌, List, length, slice_index}
 use Rattle.std.specs.List.{AllByRecursion}

@@ -1,3 +1,4 @@
+-- Only proofs use this.
 -- How the open packets lie in a slab, each under the key that stands at its place.
 use Rattle.std.specs.Prelude.{◌≡◌, ℕ, List, Option, None, Some, option_map, slice_index_or}
 use Rattle.slab.specs.Slab.{Slab, get, ContainsKey}

@@ -1,3 +1,4 @@
+-- Only proofs use this.
 -- What the lines that were read so far tell of a state: each line adds what it tells.
 use Rattle.std.specs.Prelude.{ℕ, ◌+◌, ◌<◌, ◌^◌, List, [], ◌∷◌, ◌++◌, map, drop, get_or, unwrap_or, Option, None, ⊤}
 use Rattle.cq_base.specs.declared.cell.Transfer.{Transfer}

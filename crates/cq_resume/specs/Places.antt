@@ -1,3 +1,4 @@
+-- Only proofs use this.
 -- A place as the code keeps it.
 use Rattle.cq_resume.specs.StateText as text
 use Rattle.cq_resume.specs.declared.next.Place.{Place}

@@ -43,9 +43,9 @@ pub record IsEmulation (r : Reader) (config : List ℕ) (m : Contents) (plan : P
   pub keeps_up : KeepsUp tables captures records
   pub written : plan ≡ crossed tables captures (departures_of 0 (gone_in records)) records
 
--- What is written of one capture over these contents: what left the one output of a switch of one port that keeps up with the
--- ideal one, and nothing else. It is every packet of the capture, once and in its place, with the stamp of the slot in which its
--- last cell arrived.
+-- What is written of one capture over these contents: what left the one output of a switch of one port that keeps up with
+-- the ideal one, and nothing else. It is every packet of the capture, once and in its place, with the stamp of the slot in
+-- which its last cell arrived.
 pub record IsPassage (r : Reader) (from to : List ℕ) (m : Contents) (plan : Plan) : Type 0 where
   pub packets : List Captured
   pub captured : capture_in r from 0 (plain_tables from to).limit_bytes m ≡ Ok packets

@@ -4,8 +4,8 @@ use Rattle.cq_pcap.specs.Captured.{Captured}
 use Rattle.cq_pcap.specs.Faults.{Fault, IsFaulty}
 use Rattle.cq_pcap.specs.Record.{Spells}
 
--- what a file comes to: the packets that its bytes spell, or the first fault that they have. Of bytes there is one answer, and
--- some reader gives it (`captures_are_read_in_one_way`)
+-- what a file comes to: the packets that its bytes spell, or the first fault that they have. Of bytes there is one
+-- answer, and some reader gives it (`captures_are_read_in_one_way`)
 pub record Reader : Type 0 where
   pub read : List ℕ → Result (List Captured) Fault
   pub spelt : (bytes : List ℕ) (packets : List Captured) → Spells bytes packets → read bytes ≡ Ok packets

@@ -1,5 +1,5 @@
--- What words and contents come to: what is aimed at, or the refusal that is met first. Captures are read by the grammar: `r` is any
--- reader that goes by it.
+-- What words and contents come to: what is aimed at, or the refusal that is met first. Captures are read by the grammar:
+-- `r` is any reader that goes by it.
 use Rattle.std.specs.Prelude.{◌≡◌, ℕ, ◌+◌, if◌then◌else◌, nat_lt, List, [], ◌∷◌, length, Option, None, Some, Result, Ok, Err}
 use Rattle.std.specs.FinMap.{get}
 use Rattle.cq_base.specs.declared.cell.Departure.{Departure}

@@ -27,8 +27,8 @@ use std::alloc::Global;
 use std::thread::Threads;
 
 /// What a command comes to: the work to be done, with all its bytes, or the first refusal. It reads
-/// only, and leaves the file space closed. The gate is told of the workers' steps, and changes no answer. The clauses hold
-/// for any reader of captures that goes by the grammar.
+/// only, and leaves the file space closed. The gate is told of the workers' steps, and changes no answer. The
+/// clauses hold for any reader of captures that goes by the grammar.
 pub fn judge<R: Threads + Sync, F: Files, G: Gate>(
     rt: &R,
     alloc: Global,

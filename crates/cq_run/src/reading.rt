@@ -59,8 +59,8 @@ pub fn read_configuration<F: Files>(
     }
 }
 
-/// The capture of an input, from the file of this name, if that has at most `limit` bytes: what any reader that goes by the
-/// grammar makes of it.
+/// The capture of an input, from the file of this name, if that has at most `limit` bytes: what any reader that goes
+/// by the grammar makes of it.
 pub fn read_input<F: Files>(
     alloc: Global,
     files: &mut F,

@@ -43,8 +43,8 @@ use std::thread::Threads;
 /// file is started and `out` is as before. The file space has to be closed, and is closed again. A
 /// failing `err` changes no status.
 ///
-/// The clauses hold for any reader of captures that goes by the grammar of the format and its faults. Of bytes there is one
-/// answer that such a reader can give.
+/// The clauses hold for any reader of captures that goes by the grammar of the format and its faults. Of bytes there
+/// is one answer that such a reader can give.
 pub fn switch_top<R: Threads + Sync, F: Files, O: Sink, E: Sink, G: Gate>(
     rt: &R,
     alloc: Global,

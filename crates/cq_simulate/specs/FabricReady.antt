@@ -1,3 +1,4 @@
+-- Only proofs use this.
 -- A fabric that can run over all cells that arrive, and what its run leaves.
 use Rattle.std.specs.Prelude.{◌≡◌, ℕ, ◌+◌, ◌*◌, ◌<◌, ◌≤◌, ◌^◌, List, [], length, false, slice_index}
 use Rattle.cq_base.specs.Arriving.{Arrival}

@@ -1,3 +1,4 @@
+-- Only proofs use this.
 -- The pieces of the cells of captured packets, and what is open of a packet after some of its cells were taken.
 use Rattle.std.specs.Prelude.{ℕ, ◌≡◌, ◌+◌, ◌<◌, ◌≤◌, true, if◌then◌else◌, List, [], ◌∷◌, ◌++◌, length, take, drop, Option, None, Some}
 use Rattle.cq_base.specs.declared.cell.Cell.{Cell}

@@ -1,3 +1,4 @@
+-- Only proofs use this.
 -- Stretches of slots in which nothing comes and nothing waits.
 use Rattle.std.specs.Prelude.{◌≡◌, ℕ, ◌-◌, ◌<◌, ◌≤◌, List, length, false, Ok, replicate}
 use Rattle.cq_base.specs.Arrivals.{no_arrivals}

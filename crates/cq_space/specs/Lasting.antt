@@ -1,4 +1,5 @@
--- What the fakes keep beside their meaning stays over calls one after another. (For proofs: these are laws of the traits.)
+-- Only proofs use this.
+-- What the fakes keep beside their meaning stays over calls one after another.
 use Rattle.std.proofs.Common.{◌≡◌, ◌⊎◌, ◌∙◌, ℕ, ◌≤◌, inl, inr, refl, arith}
 use Rattle.cq_space.specs.Causes.{Rose}
 use Rattle.cq_space.specs.Failing.{Lasts}

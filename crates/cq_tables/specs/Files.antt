@@ -1,3 +1,4 @@
+-- Only proofs use this.
 -- How file names are compared port by port, in the words of the code that does it. What is refused is said by `file_check` of
 -- `Document`, which does not use these.
 use Rattle.std.specs.Prelude.{ℕ, Bool, true, false, not, ◌&&◌, ◌||◌, List, ◌∷◌, codes, take, option_map, unwrap_or}

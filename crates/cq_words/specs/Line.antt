@@ -1,3 +1,4 @@
+-- Only proofs use this.
 -- The command line as `clap` is told of it, and the command in what `clap` finds.
 use Rattle.std.specs.Prelude.{◌≡◌, ℕ, true, false, List, if◌then◌else◌, Option, Some, None, codes, option_and_then}
 use Rattle.std.specs.Str.{bytes_eq}
