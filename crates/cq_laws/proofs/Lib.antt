@@ -35,3 +35,4 @@ pub mod KeptParts
 pub mod EndsTogether
 pub mod Entered
 pub mod Told
+pub mod LimitedEnds

@@ -1,17 +1,18 @@
 -- The fabric where outputs have limits: what is admitted of a slot's arrivals goes through the slot without limits. It differs
 -- from the ideal switch only in where it counts what an output holds.
 use Rattle.std.specs.Prelude.{◌≡◌, ℕ, Bool, List, [], ◌∷◌, map, Option}
+use Rattle.cq_base.specs.Arriving.{Arrival}
 use Rattle.cq_base.specs.declared.cell.Cell.{Cell}
 use Rattle.cq_base.specs.declared.cell.TagFault.{TagFault}
 use Rattle.cq_rank.specs.Machine.{Machine}
 use Rattle.cq_ideal.specs.Admission.{Admission, Marked, admission, nothing_refused, unmarked}
 use Rattle.cq_prefs.specs.Orders.{Orders}
 use Rattle.cq_prefs.specs.Pairing.{Partners}
-use Rattle.cq_laws.specs.Fabric.{Fabric, empty_fabric}
+use Rattle.cq_laws.specs.Fabric.{Fabric, IsEmptyFabric, empty_fabric}
 use Rattle.cq_laws.specs.FabricRun.{IsFault}
 use Rattle.cq_laws.specs.FabricSlot.{SlotRecord, FabricSlot}
 use Rattle.cq_laws.specs.Holding.{fabric_held}
-use Rattle.cq_laws.specs.SlotBySlot.{RunBy, StopBy}
+use Rattle.cq_laws.specs.SlotBySlot.{RunBy, StopBy, WholeBy}
 
 -- what the fabric admits of a slot's arrivals
 abbrev pub fabric_admission : List (Option ℕ) → List (Option Cell) → Marked Fabric → Admission
@@ -39,6 +40,12 @@ LimitedFabricRun MayChoose limits ms slot traffic old rs new = RunBy (LimitedFab
 -- the records of some slots, and then a slot with a tag fault
 abbrev pub LimitedFabricStops : (Orders → Partners → Type 0) → List (Option ℕ) → List Machine → ℕ → List (List (Option Cell)) → Marked Fabric → List LimitedRecord → TagFault → Type 0
 LimitedFabricStops MayChoose limits ms slot traffic old rs fault = StopBy (LimitedFabricSlot MayChoose limits ms) (IsLimitedFault limits ms) slot traffic old rs fault
+
+-- the whole run over all cells that arrive: one record a slot, up to the last in which a cell arrives, waits or leaves
+abbrev pub LimitedWholeRun : (Orders → Partners → Type 0) → List (Option ℕ) → List Machine → List Arrival →
+    Marked Fabric → List LimitedRecord → Marked Fabric → Type 0
+LimitedWholeRun MayChoose limits ms came start rs end =
+    WholeBy (LimitedFabricSlot MayChoose limits ms) (λ f. IsEmptyFabric f.state) came start rs end
 
 -- nothing waits, all marks are down, and the rank machines are in these states
 abbrev pub empty_limited_fabric : ℕ → List (List ℕ) → Marked Fabric

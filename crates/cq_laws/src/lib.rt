@@ -26,8 +26,8 @@ pub use example::worked_run;
 pub use figures::figures_add_up;
 pub use least_slack::{least_slack_is_on_arrival, slack_never_falls};
 pub use limits::{
-    limited_runs_are_of_admitted, outputs_hold_as_many, quiet_slots_leave_marks,
-    runs_without_limits_are_as_before,
+    limited_runs_are_of_admitted, limited_runs_end_together, outputs_hold_as_many,
+    quiet_slots_leave_marks, runs_without_limits_are_as_before,
 };
 pub use phases::phases_keep_the_fabric;
 pub use quiet::quiet_slots_add_nothing;

@@ -5,10 +5,12 @@ ghost use Rattle.std.specs.List.{AllByRecursion};
 ghost use Rattle.cq_base.specs.declared.cell.Cell.{Cell};
 ghost use Rattle.cq_base.specs.declared.cell.TagFault.{TagFault};
 ghost use Rattle.cq_base.specs.Arrivals.{no_arrivals};
+ghost use Rattle.cq_base.specs.Arriving.{Arrival};
 ghost use Rattle.cq_rank.specs.Machine.{Machine};
 ghost use Rattle.cq_ideal.specs.Admission.{Marked, NoLimits, admitted_in, marked, marks_down, unmarked};
+ghost use Rattle.cq_ideal.specs.Ending.{first_slots};
 ghost use Rattle.cq_ideal.specs.IdealSlot.{IdealState};
-ghost use Rattle.cq_ideal.specs.LimitedIdeal.{admitted_traffic, ideal_admission, ideal_held};
+ghost use Rattle.cq_ideal.specs.LimitedIdeal.{admitted_traffic, empty_limited, ideal_admission, ideal_held};
 ghost use Rattle.cq_ideal.specs.Ranking.{AreForPorts};
 ghost use Rattle.cq_ideal.specs.WholePackets.{AreOfPackets, AreWholePackets, cells_at};
 ghost use Rattle.cq_prefs.specs.Pairing.{IsInputBest, IsStable};
@@ -17,8 +19,8 @@ ghost use Rattle.cq_laws.specs.Fabric.{Fabric, empty_fabric};
 ghost use Rattle.cq_laws.specs.FabricRun.{FabricRun, FabricStops};
 ghost use Rattle.cq_laws.specs.FabricSlot.{SlotRecord};
 ghost use Rattle.cq_laws.specs.Holding.{fabric_held};
-ghost use Rattle.cq_laws.specs.LimitedAgreement.{LimitedAgrees};
-ghost use Rattle.cq_laws.specs.LimitedFabric.{LimitedFabricRun, LimitedFabricSlot, LimitedFabricStops, LimitedRecord, admissions_in, fabric_admission, passed, slots_in};
+ghost use Rattle.cq_laws.specs.LimitedAgreement.{LimitedAgrees, LimitedEndsAlike};
+ghost use Rattle.cq_laws.specs.LimitedFabric.{LimitedFabricRun, LimitedFabricSlot, LimitedFabricStops, LimitedRecord, LimitedWholeRun, admissions_in, empty_limited_fabric, fabric_admission, passed, slots_in};
 ghost use Rattle.cq_laws.specs.LimitedQuiet.{quiet_limited_slot, quiet_limited_slots};
 ghost use Rattle.cq_laws.specs.Quiet.{idled, idled_for};
 
@@ -64,4 +66,19 @@ pub fn quiet_slots_leave_marks()
         LimitedFabricSlot IsInputBest limits ms slot no_arrivals (marked marks (empty_fabric ports ranks)) (quiet_limited_slot ms slot ports ranks marks) (marked marks (empty_fabric ports (idled ms ports ranks))) }
     ensures run { (limits : List (Option ℕ)) (ms : List Machine) (count slot ports : ℕ) (ranks : List (List ℕ)) (marks : List Bool) →
         LimitedFabricRun IsInputBest limits ms slot (replicate count no_arrivals) (marked marks (empty_fabric ports ranks)) (quiet_limited_slots ms count slot ports ranks marks) (marked marks (empty_fabric ports (idled_for ms count ports ranks))) }
+{}
+
+/// Whatever the limits, the fabric and the ideal switch end after the same slot, whichever stable matchings are taken,
+/// and have admitted, refused and sent the same. And the cells that arrive leave one whole run with input-best
+/// matchings, if there is one.
+pub fn limited_runs_end_together()
+    ensures end { (limits : List (Option ℕ)) (ms : List Machine) (ports class_count : ℕ) (ranks : List (List ℕ))
+        (came : List Arrival) (rs : List LimitedRecord) (g : Marked Fabric) →
+        AllByRecursion (AreForPorts ports class_count) (first_slots came (length rs)) →
+        LimitedWholeRun IsStable limits ms came (empty_limited_fabric ports ranks) rs g →
+        LimitedEndsAlike limits ms came (empty_limited ports ranks) rs g }
+    ensures one { (limits : List (Option ℕ)) (ms : List Machine) (came : List Arrival) (start g h : Marked Fabric)
+        (rs ss : List LimitedRecord) →
+        LimitedWholeRun IsInputBest limits ms came start rs g →
+        LimitedWholeRun IsInputBest limits ms came start ss h → (rs ≡ ss) × (g ≡ h) }
 {}
