@@ -1,7 +1,7 @@
 -- When a log is that of a stable run, and where it first is not that of one. A stable run is a run of the fabric in
 -- which each phase takes any stable matching. A log is judged phase by phase: what its lines of a phase say of
 -- cells, then whether their matching is stable, and the fabric goes on with it. Whether the run reaches a line is
--- judged at its end. No contract cites these definitions yet.
+-- judged at its end. `StableRun` is cited by a contract, the others by none yet.
 use Rattle.std.specs.Prelude.{◌≡◌, ℕ, ◌+◌, ◌≤◌, nat_lt, ◌⊎◌, List, length, filter, Option}
 use Rattle.cq_base.specs.Arriving.{Arrival, arriving, end_of}
 use Rattle.cq_base.specs.declared.cell.Queued.{Queued}

@@ -13,7 +13,7 @@ use cq_urgency::OutputBuffer;
 use cq_xbar::transfer;
 
 /// Makes the transfers that the lines of a phase tell, and notes them, where they are those of a stable matching. The
-/// error is the first fault of the lines, and then all is as before. It takes no memory.
+/// error is the first fault of the lines, and then the lists, the buffers and `note` are as before. It takes no memory.
 #[tactic(auto, using(crate::proofs::Crossings::as_long, crate::proofs::Crossings::have_cells, crate::proofs::Crossings::have_room, crate::proofs::Crossings::keys_are_new))]
 pub fn cross(
     lists: &mut [InputList],
