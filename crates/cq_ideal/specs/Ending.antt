@@ -27,7 +27,7 @@ pub record IsEnd {S : Type 0} (came : List Arrival) (After : ℕ → S → Type 
   pub empty : IsEmpty end
   pub first : (m : ℕ) (s : S) → After m s → end_of came ≤ m → IsEmpty s → n ≤ m
 
--- one more than the slot of the last departure, or 0 where there is none
+-- how many slots there are up to the last departure, its own included; 0 where none left
 abbrev pub slots_of : List Departure → ℕ
 slots_of [] = 0
 slots_of (d ∷ sent) = max (d.slot + 1) (slots_of sent)

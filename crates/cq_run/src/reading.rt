@@ -130,7 +130,7 @@ fn read_port<F: Files>(
     }
 }
 
-/// What arrives at each input, in order. The answer is that of the lowest input with a fault.
+/// What arrives at each input, in order. Where several have a fault, the first of these is told.
 pub fn read_inputs<F: Files>(
     alloc: Global,
     files: &mut F,

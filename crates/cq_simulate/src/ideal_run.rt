@@ -29,7 +29,7 @@ use std::alloc::Global;
 pub struct IdealRun {
     /// The departures, in order of slot, then output.
     pub sent: Room<Departure>,
-    /// One more than the slot of the last departure, or 0 where there is none.
+    /// How many slots there are up to the last departure, its own included; 0 where none left.
     pub slots: u64,
 }
 
@@ -165,7 +165,7 @@ fn run_slots<R: Rank>(
     Ok(())
 }
 
-// One more than the slot of the last departure, or 0 where there is none.
+// How many slots there are up to the last departure, its own included; 0 where none left.
 fn slots_of(sent: &[Departure]) -> u64
     requires { slots_of sent.now < 2 ^ 64 }
     ensures { result ≡ slots_of sent.now }

@@ -79,8 +79,8 @@ pub fn read_whole<F: Files>(
 /// Writes a name whole. The mode has to be closed. It takes no memory.
 ///
 /// After `Ok` the name's bytes are `bytes`. After a fault, which comes only where the count of faults
-/// rose in this call, by a call that writes this name, they are as before it or a prefix of `bytes`. After
-/// every answer the mode is closed, and the bytes of all other names are as before.
+/// rose in this call, by a call that writes this name, its bytes are those from before, or the front part
+/// of `bytes`. Whatever the answer, nothing is open then and no other name has changed.
 pub fn write_whole<F: Files>(files: &mut F, name: &str, bytes: &[u8]) -> Result<(), WriteFault>
     requires { (F.space files.old).mode ≡ Closed }
     ensures whole { WritesWhole (F.space files.old) (F.space files.new) name.now bytes.now result }
