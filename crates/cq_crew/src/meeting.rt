@@ -1,4 +1,4 @@
-//! A gate for tests, at which two workers meet. It shows that both are at work at once.
+//! A gate for tests, at which two workers or three meet. It shows that all are at work at once.
 
 use crate::{Gate, LedgerSeat, Outcome};
 use cq_base::Port;
@@ -9,10 +9,12 @@ use std::thread::yield_now;
 // How many turns a claim is held for at most.
 const TURNS: u32 = 10_000_000;
 
-// How many claims and proposals one worker has told of.
+// What one worker has told of.
 #[derive(Drop)]
 struct Told {
+    // A bit for each input that it claimed.
     claims: AtomicU64,
+    // How many proposals it made.
     proposals: AtomicU64,
 }
 
@@ -25,33 +27,41 @@ impl Told {
     }
 }
 
-/// Holds the first claim that it is told of until the other worker tells of one, and counts what it is told.
+/// Holds the first claim of each worker until all workers have told of one, and counts what it is told.
 #[derive(Drop)]
 pub(crate) struct Meeting {
+    workers: u16,
     zero: Told,
     one: Told,
-    // A bit for each input whose claim was told.
-    claimed: AtomicU64,
+    two: Told,
     held: AtomicU64,
     in_vain: AtomicU64,
     miscounted: AtomicU64,
-    unclaimed: AtomicU64,
+    misclaimed: AtomicU64,
 }
 
 impl Meeting {
-    pub(crate) fn new() -> Meeting {
+    /// A gate for two workers or three.
+    pub(crate) fn of(workers: u16) -> Meeting {
         Meeting {
+            workers,
             zero: Told::nothing(),
             one: Told::nothing(),
-            claimed: AtomicU64::new(0),
+            two: Told::nothing(),
             held: AtomicU64::new(0),
             in_vain: AtomicU64::new(0),
             miscounted: AtomicU64::new(0),
-            unclaimed: AtomicU64::new(0),
+            misclaimed: AtomicU64::new(0),
         }
     }
 
-    /// How many claims were held for all turns, and nobody else claimed.
+    /// Whether each worker has told of a claim.
+    pub(crate) fn have_met(&self) -> bool {
+        let two_have = self.claims_of(0) > 0 && self.claims_of(1) > 0;
+        two_have && (self.workers < 3 || self.claims_of(2) > 0)
+    }
+
+    /// How many claims were held for all turns, and some worker told of none.
     pub(crate) fn in_vain(&self) -> u64 {
         self.in_vain.load(SeqCst)
     }
@@ -61,9 +71,10 @@ impl Meeting {
         self.miscounted.load(SeqCst)
     }
 
-    /// How many proposals came for an input whose claim had not been told.
-    pub(crate) fn unclaimed(&self) -> u64 {
-        self.unclaimed.load(SeqCst)
+    /// How many claims were told again, and how many proposals were told by a worker that had not told of just the
+    /// claims of its seat, or for an input whose claim nobody had told.
+    pub(crate) fn misclaimed(&self) -> u64 {
+        self.misclaimed.load(SeqCst)
     }
 
     /// How many proposals were told to be held by an output that held nobody.
@@ -71,24 +82,42 @@ impl Meeting {
         self.held.load(SeqCst)
     }
 
-    /// How many proposals each of the two workers told of.
-    pub(crate) fn proposals(&self) -> [u64; 2] {
+    /// How many proposals each of the three workers told of.
+    pub(crate) fn proposals(&self) -> [u64; 3] {
         [
             self.zero.proposals.load(SeqCst),
             self.one.proposals.load(SeqCst),
+            self.two.proposals.load(SeqCst),
         ]
     }
 
-    fn has_told_claim_of(&self, input: Port) -> bool {
-        self.claimed.load(SeqCst) & bit_of(input) > 0
-    }
-
     fn told_by(&self, worker: u16) -> &Told {
-        if worker == 0 { &self.zero } else { &self.one }
+        match worker {
+            0 => &self.zero,
+            1 => &self.one,
+            _ => &self.two,
+        }
     }
 
-    fn told_beside(&self, worker: u16) -> &Told {
-        if worker == 0 { &self.one } else { &self.zero }
+    fn claims_of(&self, worker: u16) -> u64 {
+        self.told_by(worker).claims.load(SeqCst)
+    }
+
+    // Whether some worker has told of the claim of an input.
+    fn is_claimed(&self, input: Port) -> bool {
+        let claims = self.claims_of(0) | self.claims_of(1) | self.claims_of(2);
+        has_bit(claims, input)
+    }
+
+    // Whether a worker has told of just the claims of its seat.
+    fn has_told_claims_of(&self, worker: u16, seat: &LedgerSeat) -> bool {
+        let told = self.claims_of(worker);
+        'inputs: for input in 0..64 {
+            if seat.claimed(input) != has_bit(told, input) {
+                return false;
+            }
+        }
+        true
     }
 }
 
@@ -97,14 +126,19 @@ fn bit_of(input: Port) -> u64 {
     1u64.wrapping_shl(input as u32)
 }
 
+fn has_bit(inputs: u64, input: Port) -> bool {
+    inputs & bit_of(input) > 0
+}
+
 impl Gate for Meeting {
-    /// Returns once the other worker has told of a claim.
+    /// Returns once each worker has told of a claim.
     fn claimed(&self, worker: u16, input: Port) {
-        self.claimed.fetch_or(bit_of(input), SeqCst);
-        self.told_by(worker).claims.fetch_add(1, SeqCst);
-        let other = self.told_beside(worker);
+        if self.is_claimed(input) {
+            self.misclaimed.fetch_add(1, SeqCst);
+        }
+        self.told_by(worker).claims.fetch_or(bit_of(input), SeqCst);
         'turns: for _ in 0..TURNS {
-            if other.claims.load(SeqCst) > 0 {
+            if self.have_met() {
                 return;
             }
             yield_now();
@@ -113,8 +147,8 @@ impl Gate for Meeting {
     }
 
     fn proposed(&self, worker: u16, input: Port, outcome: Outcome, seat: &LedgerSeat) {
-        if !self.has_told_claim_of(input) {
-            self.unclaimed.fetch_add(1, SeqCst);
+        if !self.is_claimed(input) || !self.has_told_claims_of(worker, seat) {
+            self.misclaimed.fetch_add(1, SeqCst);
         }
         if outcome == Outcome::Held {
             self.held.fetch_add(1, SeqCst);

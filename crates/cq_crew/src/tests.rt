@@ -1,4 +1,4 @@
-//! Worked examples by one worker and by several, and two workers who wait for each other.
+//! Worked examples by one worker and by several, and workers who wait for one another.
 ghost use Rattle.std.specs.Prelude.{◌≡◌, ◌+◌, ◌<◌, ◌≤◌, length, IfOk};
 ghost use Rattle.cq_base.specs.Cells.{ArrivedBefore};
 
@@ -179,25 +179,30 @@ fn without_offers_there_is_nothing_to_share(rt: HostRuntime) -> Result<(), Fail>
     Ok(())
 }
 
-// What two workers come to who wait for each other's first claim: the partners, the number of proposals, and how many
-// of them were told to be held.
+// What two workers or three come to who wait for one another's first claim: the partners, the number of proposals,
+// and how many of them were told to be held.
 fn met<R: Threads + Sync>(
     rt: &R,
     alloc: Global,
     offers: &Offers,
-) -> Result<(Vec<Option<Port>>, u64, u64), Fail> {
-    let gate = Meeting::new();
-    let settled = pair_phase(rt, alloc, offers, 2, &gate);
+    workers: u16,
+) -> Result<(Vec<Option<Port>>, u64, u64), Fail>
+    requires some { 1 ≤ workers }
+    requires few { workers ≤ 64 }
+{
+    let gate = Meeting::of(workers);
+    let settled = pair_phase(rt, alloc, offers, workers, &gate);
     let phase = settled.phase();
-    let [zero, one] = gate.proposals();
-    if !is_shared(&settled) || zero == 0 || one == 0 || gate.in_vain() > 0 {
+    if !is_shared(&settled) || !gate.have_met() || gate.in_vain() > 0 {
         return Err(Fail::new("the workers did not meet"));
     }
-    if gate.miscounted() > 0 || zero.wrapping_add(one) != phase.proposals {
+    let [zero, one, two] = gate.proposals();
+    let told = zero.wrapping_add(one).wrapping_add(two);
+    if gate.miscounted() > 0 || told != phase.proposals {
         return Err(Fail::new("not each proposal was told, or more than were made"));
     }
-    if gate.unclaimed() > 0 {
-        return Err(Fail::new("a proposal was told before the claim"));
+    if gate.misclaimed() > 0 {
+        return Err(Fail::new("not each claim was told in time, or more than were made"));
     }
     Ok((
         partners(alloc, &phase.matching)?,
@@ -208,11 +213,23 @@ fn met<R: Threads + Sync>(
 
 #[test]
 fn two_workers_meet(rt: HostRuntime) -> Result<(), Fail> {
-    let (partners, proposals, held) = met(&rt, rt.alloc(), &offers_apart(rt.alloc())?)?;
+    let (partners, proposals, held) = met(&rt, rt.alloc(), &offers_apart(rt.alloc())?, 2)?;
     assert_eq!(rt; partners.as_slice(), [Some(0), Some(1)].as_slice());
     assert_eq!(rt; [proposals, held], [2, 2]);
-    let (partners, proposals, held) = met(&rt, rt.alloc(), &opposed_offers(rt.alloc(), 2)?)?;
+    let (partners, proposals, held) = met(&rt, rt.alloc(), &opposed_offers(rt.alloc(), 2)?, 2)?;
     assert_eq!(rt; partners.as_slice(), [Some(1), Some(0)].as_slice());
     assert_eq!(rt; [proposals, held], [3, 2]);
+    Ok(())
+}
+
+// With two workers, one of them claims an input that is not of its own number.
+#[test]
+fn two_workers_and_three_meet_over_three_inputs(rt: HostRuntime) -> Result<(), Fail> {
+    let offers = opposed_offers(rt.alloc(), 3)?;
+    for workers in [2u16, 3] {
+        let (partners, proposals, held) = met(&rt, rt.alloc(), &offers, workers)?;
+        assert_eq!(rt; partners.as_slice(), [Some(2), Some(1), Some(0)].as_slice());
+        assert_eq!(rt; [proposals, held], [6, 3]);
+    }
     Ok(())
 }
