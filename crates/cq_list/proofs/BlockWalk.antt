@@ -1,6 +1,6 @@
 -- A walk along the blocks, from the first on or from the last back. The places ahead of the block behind a block are
 -- those ahead of it and its own; so what is counted grows by a block's numbers, or shrinks by them.
-use Rattle.std.proofs.Common.{◌≡◌, ℕ, zero, suc, ◌+◌, ◌-◌, ◌<◌, ◌≤◌, Bool, List, [], ◌∷◌, ◌++◌, length, get_or, take, drop, sym, ap, ◌∙◌, arith, length-append, take-append-drop}
+use Rattle.std.proofs.Common.{◌≡◌, ℕ, zero, suc, ◌+◌, ◌-◌, ◌<◌, ◌≤◌, Bool, List, [], ◌∷◌, ◌++◌, length, get_or, take, drop, refl, sym, ap, ◌∙◌, arith, length-append, take-append-drop}
 use Rattle.std.specs.Prelude.{filter}
 use Rattle.std.specs.List.{concat}
 use Rattle.std.proofs.lemmas.List.{get_or_read, take_more, take-append-le, append-nil}
@@ -113,6 +113,16 @@ module _ (blocks : List (List ℕ)) (i : ℕ) (block : List ℕ) (inside : i < l
       ∙ ap (count_of j) (take_past block (concat (drop (i + 1) blocks)) n late)
       ∙ ap length (filter-append (is_output j) block back)
       ∙ length-append (filter (is_output j) block) (filter (is_output j) back)
+
+-- ## The first block
+
+pub none_ahead : (blocks : List (List ℕ)) (j : ℕ) → IsAhead blocks j 0 0 0
+none_ahead blocks j = record { all = refl; few = refl }
+
+pub some_blocks : (blocks : List (List ℕ)) (j k places own : ℕ) → IsAhead blocks j (length blocks) places own →
+    k < own → 0 < length blocks
+some_blocks [] j k places own all there = absurd (let few = all.few in omega arith)
+some_blocks (b ∷ bs) j k places own all there = omega arith
 
 -- ## From the last block back
 

@@ -145,8 +145,10 @@ fn nth_in(
     (ahead.places + within, Spot { block, within })
 }
 
-// The same in all blocks. It is looked for from both ends at once, so it is met from the nearer one.
-fn find_nth(blocks: &[Block], output: Port, number: usize, all: Ahead) -> (usize, Spot)
+// The same in all blocks. It is looked for from both ends at once, so it is met from the nearer one. It is kept apart
+// from its caller, which is then short enough to become a part of those that call it.
+#[inline(never)]
+fn find_from_ends(blocks: &[Block], output: Port, number: usize, all: Ahead) -> (usize, Spot)
     requires all { IsAhead blocks.now output (length blocks.now) all.places all.own }
     requires there { number < all.own }
     ensures place { result.0 ≡ place_of_nth (is_output output) number (concat blocks.now) }
@@ -167,6 +169,19 @@ fn find_nth(blocks: &[Block], output: Port, number: usize, all: Ahead) -> (usize
         }
     }
     unreachable!()
+}
+
+// The same, where the first block often has it.
+fn find_nth(blocks: &[Block], output: Port, number: usize, all: Ahead) -> (usize, Spot)
+    requires all { IsAhead blocks.now output (length blocks.now) all.places all.own }
+    requires there { number < all.own }
+    ensures place { result.0 ≡ place_of_nth (is_output output) number (concat blocks.now) }
+    ensures spot { IsSpot blocks.now result.0 result.1.block result.1.within }
+{
+    if number < blocks[0].count(output) {
+        return nth_in(blocks, 0, output, number, Ahead { places: 0, own: 0 });
+    }
+    find_from_ends(blocks, output, number, all)
 }
 
 // How many of the places ahead of this one are an output's.

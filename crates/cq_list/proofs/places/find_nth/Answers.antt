@@ -1,14 +1,16 @@
-use Rattle.std.proofs.Common.{◌≡◌, ℕ, ◌-◌, length, refl, subst, arith}
-use Rattle.cq_list.specs.Places.{IsAhead}
+use Rattle.std.proofs.Common.{arith}
+use Rattle.cq_list.proofs.BlockWalk.{none_ahead, some_blocks, count_next}
 use Rattle.cq_list.proofs.places.find_nth.Goals as goal
 
-pub each-init : goal.each-init
-each-init c =
-    let all : length c.args.blocks.now ≡ length c.args.blocks.now - 0 = omega arith in
-    record {
-      front = record { all = refl; few = refl };
-      back = subst (λ (n : ℕ). IsAhead c.args.blocks.now c.args.output n c.args.all.places c.args.all.own) all
-          c.requires.all;
-      late = omega arith;
-      early = c.requires.there;
-    }
+pub bounds-blocks-0 : goal.bounds-blocks-0
+bounds-blocks-0 c = some_blocks c.args.blocks.now c.args.output _ _ _ c.requires.all c.requires.there
+
+pub nth_in-requires-clause-ahead : goal.nth_in-requires-clause-ahead
+nth_in-requires-clause-ahead c = none_ahead c.args.blocks.now c.args.output
+
+pub nth_in-requires-clause-early : goal.nth_in-requires-clause-early
+nth_in-requires-clause-early c =
+    let inside = some_blocks c.args.blocks.now c.args.output _ _ _ c.requires.all c.requires.there in
+    let next = count_next c.args.blocks.now 0 c.index-blocks-0.result inside c.index-blocks-0.is c.args.output in
+    let none = (none_ahead c.args.blocks.now c.args.output).few in
+    let count = c.count.ensures in let few = c.if-number-count.true in omega arith

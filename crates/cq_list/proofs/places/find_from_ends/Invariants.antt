@@ -1,6 +1,6 @@
 use Rattle.std.proofs.Common.{◌-◌, ◌<◌, ◌≤◌, length}
 use Rattle.cq_list.specs.Places.{IsAhead}
-use Rattle.cq_list.proofs.places.find_nth.Given as goal
+use Rattle.cq_list.proofs.places.find_from_ends.Given as goal
 
 -- the place is in a block that neither end has passed
 abbrev pub invariant-each : goal.invariant-each
