@@ -6,3 +6,4 @@ pub mod Renewal
 pub mod Proposals
 pub mod Moves
 pub mod LeastFirst
+pub mod Followed

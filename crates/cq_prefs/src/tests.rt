@@ -4,6 +4,8 @@ ghost use Rattle.std.specs.Prelude.{◌≡◌, ◌+◌, ◌<◌, ◌≤◌, All,
 ghost use Rattle.cq_base.specs.Cells.{ArrivedBefore};
 ghost use Rattle.cq_prefs.specs.Orders.{ports};
 
+mod followed;
+
 use crate::Offers;
 use cq_base::{Cell, CellId, Key, Port, Queued};
 use cq_list::InputList;
@@ -14,6 +16,7 @@ use std::test::Fail;
 fn waiting(input: Port, output: Port, rank: u128, slot: u32) -> Queued
     ensures output { result.cell.output ≡ output }
     ensures slot { result.key.slot ≡ slot }
+    ensures input { result.key.input ≡ input }
 {
     Queued {
         cell: Cell {
