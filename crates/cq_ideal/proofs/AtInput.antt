@@ -1,7 +1,7 @@
 -- The cells that arrive at an input, slot by slot, are its arrivals in their order. In a slot the input's place shows what is found
 -- there; and the arrivals at one input rise in their slots, so where the first is taken off the list every later slot shows the
 -- same.
-use Rattle.std.proofs.Common.{◌≡◌, ℕ, zero, suc, ◌+◌, ◌<◌, List, [], ◌∷◌, ◌++◌, map, Option, Some, None, refl, sym, ap, ◌∙◌, ⊎_elim, arith}
+use Rattle.std.proofs.Common.{◌≡◌, ℕ, zero, suc, ◌+◌, ◌<◌, List, [], ◌∷◌, ◌++◌, map, Option, None, refl, sym, ap, ◌∙◌, ⊎_elim, arith}
 use Rattle.std.specs.Prelude.{◌==◌}
 use Rattle.std.specs.List.{AllByRecursion, cons_option, filter, range_with_len}
 use Rattle.std.proofs.lemmas.Bool.{cases_eq, cond-false, cond-true, eq-eqb, ne_eqb}
@@ -14,7 +14,7 @@ use Rattle.cq_base.proofs.Lists.{all_by}
 use Rattle.cq_ideal.specs.Flows.{RiseByInput}
 use Rattle.cq_ideal.specs.WholePackets.{came_at, cells_at}
 use Rattle.cq_ideal.proofs.FlowCount.{before_end}
-use Rattle.cq_ideal.proofs.FlowFound.{cell_listed, found, found_here, found_none, other_input, other_slot}
+use Rattle.cq_ideal.proofs.FlowFound.{cell_listed, found, found_here, found_none, listed, other_input, other_slot}
 use Rattle.cq_ideal.proofs.FlowPut.{all_from}
 use Rattle.cq_ideal.proofs.FlowTraffic.{joined, joined_more, joined_none, joined_same}
 
@@ -26,10 +26,6 @@ module _ (i : ℕ) (inside : i < 64) where
       let none : Option Cell = None in
       unwrap_or-slice_get (arriving came t) i none
       ∙ get_or-map-range_with_len (arriving_at came t) 0 64 i i none inside (omega arith)
-
-  listed : (o : Option Cell) (cells : List Cell) → cons_option o cells ≡ cell_listed o ++ cells
-  listed None cells = refl
-  listed (Some cell) cells = refl
 
   cells_from : (came : List Arrival) (a n : ℕ) →
       cells_at i (map (arriving came) (range_with_len a n)) ≡ joined (λ t. found came t i) a n

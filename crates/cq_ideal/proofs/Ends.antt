@@ -47,7 +47,7 @@ pub record Over (came : List Arrival) (n : ℕ) (x : Result Ran TagFault) : Type
   pub all_came : end_of came ≤ n
   pub empty : IsEmptyIdeal ran.after
 
-over_from_test : (came : List Arrival) (n : ℕ) (x : Result Ran TagFault) → is_over came n x ≡ true → Over came n x
+pub over_from_test : (came : List Arrival) (n : ℕ) (x : Result Ran TagFault) → is_over came n x ≡ true → Over came n x
 unfolding is_nil
 over_from_test came n (Ok ran) e =
     let both = and_parts (nat_le (end_of came) n) (list_all is_nil ran.after.lists) e in
@@ -69,7 +69,7 @@ test_from_over came n ran le empty =
     (list_all-from_AllPass is_nil ran.after.lists (λ k d inside.
     eq-eqb (length (get_or ran.after.lists k d)) 0 (ap length (empty k d inside))))
 
-test_after : (came : List Arrival) (n : ℕ) (x : Result Ran TagFault) (s : IdealState) →
+pub test_after : (came : List Arrival) (n : ℕ) (x : Result Ran TagFault) (s : IdealState) →
     IsOkAnd x (λ ran. ran.after ≡ s) → end_of came ≤ n → IsEmptyIdeal s → is_over came n x ≡ true
 test_after came n (Ok ran) s e le empty = test_from_over came n ran le (subst IsEmptyIdeal (sym e) empty)
 test_after came n (Err fault) s e le empty = absurd e

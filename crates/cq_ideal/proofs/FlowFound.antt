@@ -4,8 +4,9 @@
 use Rattle.std.proofs.Common.{◌≡◌, ℕ, zero, suc, ◌+◌, ◌≤◌, false, List, [], ◌∷◌, ◌++◌, length, map, Option, Some, None, refl, sym, ap, ◌∙◌, subst, ⊎_elim, arith}
 use Rattle.std.specs.Prelude.{◌==◌, find}
 use Rattle.std.specs.Option.{option_map}
-use Rattle.std.specs.List.{AllByRecursion, range_with_len}
+use Rattle.std.specs.List.{AllByRecursion, cons_option, range_with_len}
 use Rattle.std.proofs.lemmas.Bool.{cond_both, cases_eq, eqb-true, eq-eqb, ne_eqb, and_parts, and_from, and_left, and_right, cond-true, cond-false}
+use Rattle.std.proofs.lemmas.List.FromFn.{length-map-range_with_len}
 use Rattle.cq_base.specs.declared.cell.Cell.{Cell}
 use Rattle.cq_base.specs.Arriving.{Arrival, is_at, arriving_at, arriving}
 use Rattle.cq_ideal.proofs.FlowRank.{present}
@@ -14,6 +15,10 @@ use Rattle.cq_ideal.proofs.FlowRank.{present}
 abbrev pub cell_listed : Option Cell → List Cell
 cell_listed None = []
 cell_listed (Some cell) = cell ∷ []
+
+pub listed : (o : Option Cell) (cells : List Cell) → cons_option o cells ≡ cell_listed o ++ cells
+listed None cells = refl
+listed (Some cell) cells = refl
 
 -- the cell that arrives in a slot at an input, if one does
 unfoldable pub found : List Arrival → ℕ → ℕ → List Cell
@@ -62,6 +67,11 @@ length-found (x ∷ came) t k =
 pub arriving_is : (came : List Arrival) (t inputs : ℕ) → inputs ≡ 64 → arriving came t ≡ map (arriving_at came t) (range_with_len 0 inputs)
 unfolding arriving
 arriving_is came t inputs e = subst (λ (n : ℕ). arriving came t ≡ map (arriving_at came t) (range_with_len 0 n)) (sym e) refl
+
+pub length-arriving : (came : List Arrival) (t inputs : ℕ) → inputs ≡ 64 → length (arriving came t) ≡ inputs
+length-arriving came t inputs e =
+    ap (λ (l : List (Option Cell)). length l) (arriving_is came t inputs e)
+    ∙ length-map-range_with_len (arriving_at came t) 0 inputs
 
 pub present-cons : (o : Option Cell) (cells : List (Option Cell)) → present (o ∷ cells) ≡ cell_listed o ++ present cells
 present-cons None cells = refl

@@ -24,7 +24,7 @@ use Rattle.cq_ideal.proofs.Whole.{empty_at_end}
 
 -- ## The classes of what comes
 
-all_in_range : (P : List (Option Cell) → Type 0) (came : List Arrival) (a n : ℕ) → ((t : ℕ) → P (arriving came t)) → AllByRecursion P (map (arriving came) (range_with_len a n))
+pub all_in_range : (P : List (Option Cell) → Type 0) (came : List Arrival) (a n : ℕ) → ((t : ℕ) → P (arriving came t)) → AllByRecursion P (map (arriving came) (range_with_len a n))
 all_in_range P came a zero f = tt
 all_in_range P came a (suc n) f = (f a, all_in_range P came (a + 1) n f)
 

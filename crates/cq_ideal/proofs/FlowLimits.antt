@@ -1,26 +1,28 @@
--- Flows where outputs have limits. The run is the run without limits of the admitted cells, and leaves nothing, so of each flow
--- what leaves is what was admitted, in its order. The cells of a flow come at its input, and of those that come there whole packets
--- are admitted. So what leaves of a flow is what came of it, but for the packets that were refused.
-use Rattle.std.proofs.Common.{◌≡◌, ℕ, zero, suc, ◌+◌, ◌<◌, ◌≤◌, Bool, true, false, cond, List, [], ◌∷◌, ◌++◌, length, map, replicate, filter, ◌≤◌, Option, Some, None, Result, Ok, refl, sym, ap, ◌∙◌, subst, ⊎_elim, arith}
+-- Flows where outputs have limits. The run is the run without limits of the admitted cells, and leaves nothing, so of
+-- each flow what leaves is what was admitted, in its order. The cells of a flow come at its input, and of those that
+-- come there whole packets are admitted. So what leaves of a flow is what came of it, but for the packets that were
+-- refused, and these are refused with all their cells.
+use Rattle.std.proofs.Common.{◌≡◌, ℕ, zero, suc, ◌+◌, ◌<◌, ◌≤◌, Bool, true, false, cond, not, List, [], ◌∷◌, ◌++◌, length, replicate, filter, Option, Some, None, Result, Ok, refl, sym, ap, ◌∙◌, subst, ⊎_elim, arith}
 use Rattle.std.specs.Prelude.{◌&&◌, ◌==◌, All, IfOk}
-use Rattle.std.specs.List.{AllByRecursion, cons_option, range_with_len}
+use Rattle.std.specs.List.{AllByRecursion, cons_option}
 use Rattle.std.proofs.lemmas.Bool.{cases_lt, cond-false, and_left, and_right, ne_eqb}
 use Rattle.std.proofs.lemmas.List.{length-replicate}
 use Rattle.cq_base.specs.declared.cell.Cell.{Cell}
 use Rattle.cq_base.specs.declared.cell.Queued.{Queued}
-use Rattle.cq_base.specs.Arriving.{Arrival, arriving_at, arriving, enough, end_of, traffic_of}
+use Rattle.cq_base.specs.Arriving.{Arrival, enough, end_of, traffic_of}
 use Rattle.cq_base.specs.Arrivals.{arrival_at}
 use Rattle.cq_base.specs.declared.cell.TagFault.{TagFault}
 use Rattle.cq_rank.specs.Machine.{Machine, machine_at}
-use Rattle.cq_ideal.specs.Admission.{Admission, admission, admitted, admitted_in, marks_after, marks_down}
+use Rattle.cq_ideal.specs.Admission.{Admission, admission, admitted, admitted_in, mark_at, marks_after, marks_down}
 use Rattle.cq_ideal.specs.Flows.{IsForSwitch, IsRunnable, came_in_flow, left_in_flow}
 use Rattle.cq_ideal.specs.IdealRun.{Ran, departures_of, empty_ideal, ideal_run}
 use Rattle.cq_ideal.specs.LimitedFlows.{FlowsLeaveInPackets, LeaveInPackets}
 use Rattle.cq_ideal.specs.LimitedIdeal.{LimitedRan, empty_limited, limited_run}
-use Rattle.cq_ideal.specs.WholePackets.{AreJudged, AreOfPackets, AreWholePackets, cells_at}
+use Rattle.cq_ideal.specs.Refused.{refused_in}
+use Rattle.cq_ideal.specs.WholePackets.{AreJudged, AreOfPackets, cells_at}
 use Rattle.cq_ideal.proofs.EnoughSlots.{limited_empty_at_end}
 use Rattle.cq_ideal.proofs.FlowCount.{before_end}
-use Rattle.cq_ideal.proofs.FlowFound.{all_found, cell_listed, found}
+use Rattle.cq_ideal.proofs.FlowFound.{cell_listed}
 use Rattle.cq_ideal.proofs.FlowLaw.{classes, left_as_came, none_came}
 use Rattle.cq_ideal.proofs.FlowPut.{all_from}
 use Rattle.cq_ideal.proofs.FlowRank.{present, AreOfClasses}
@@ -28,7 +30,8 @@ use Rattle.cq_ideal.proofs.FlowRun.{flow_came, no_port}
 use Rattle.cq_ideal.proofs.FlowStands.{is_of_flow, of_flow, of_flow-cons}
 use Rattle.cq_ideal.proofs.FlowTraffic.{came_in_order}
 use Rattle.cq_ideal.proofs.LimitedRuns.{is_run_of, judged}
-use Rattle.cq_ideal.proofs.Packets.{whole_packets}
+use Rattle.cq_ideal.proofs.Packets.{TakenOrRefused, refused_here, taken_or_refused}
+use Rattle.cq_ideal.proofs.Standing.{StandAt, all_stand, of_input, refused_are, still_stand}
 
 -- ## What holds of the arrivals of each slot holds of the admitted ones
 
@@ -52,21 +55,6 @@ all_kept P (true ∷ marks) (None ∷ cells) all = all_kept P marks cells all
 all_kept P (false ∷ marks) (None ∷ cells) all = all_kept P marks cells all
 all_kept P (true ∷ marks) (Some cell ∷ cells) all = all_kept P marks cells all.1
 all_kept P (false ∷ marks) (Some cell ∷ cells) all = (all.0, all_kept P marks cells all.1)
-
--- each cell stands at the place of its input, from this input on
-abbrev StandAt : ℕ → List (Option Cell) → Type 0
-StandAt a [] = Unit {0}
-StandAt a (None ∷ cells) = StandAt (a + 1) cells
-StandAt a (Some cell ∷ cells) = (cell.id.input ≡ a) × StandAt (a + 1) cells
-
-still_stand : (a : ℕ) (marks : List Bool) (cells : List (Option Cell)) → StandAt a cells →
-    StandAt a (admitted marks cells)
-still_stand a [] cells at = at
-still_stand a (mark ∷ marks) [] at = tt
-still_stand a (true ∷ marks) (None ∷ cells) at = still_stand (a + 1) marks cells at
-still_stand a (false ∷ marks) (None ∷ cells) at = still_stand (a + 1) marks cells at
-still_stand a (true ∷ marks) (Some cell ∷ cells) at = still_stand (a + 1) marks cells at.1
-still_stand a (false ∷ marks) (Some cell ∷ cells) at = (at.0, still_stand (a + 1) marks cells at.1)
 
 -- ## A flow comes at its input
 
@@ -132,31 +120,6 @@ filter_both p q (cell ∷ cells) = go (p cell) (q cell) refl refl (filter_both p
 
 -- ## The arrivals of a run
 
-stand_arriving : (came : List Arrival) (t a n : ℕ) → StandAt a (map (arriving_at came t) (range_with_len a n))
-unfolding found
-stand_arriving came t a zero = tt
-stand_arriving came t a (suc n) =
-    go (arriving_at came t a) (map (arriving_at came t) (range_with_len (a + 1) n))
-    (all_found (λ cell. cell.id.input ≡ a) came t a (own came)) (stand_arriving came t (a + 1) n)
-  where
-    own : (came : List Arrival) → AllByRecursion (λ x. x.slot ≡ t → x.cell.id.input ≡ a → x.cell.id.input ≡ a) came
-    own [] = tt
-    own (x ∷ came) = (λ _ e. e, own came)
-
-    go : (o : Option Cell) (cells : List (Option Cell)) → AllByRecursion (λ cell. cell.id.input ≡ a) (cell_listed o) →
-        StandAt (a + 1) cells → StandAt a (o ∷ cells)
-    go None cells is at = at
-    go (Some cell) cells is at = (is.0, at)
-
-stand_in : (came : List Arrival) (a n : ℕ) → AllByRecursion (StandAt 0) (map (arriving came) (range_with_len a n))
-unfolding arriving
-stand_in came a zero = tt
-stand_in came a (suc n) = (stand_arriving came a 0 64, stand_in came (a + 1) n)
-
-all_stand : (came : List Arrival) → AllByRecursion (StandAt 0) (traffic_of came)
-unfolding traffic_of
-all_stand came = stand_in came 0 (enough came)
-
 came_at_input : (ms : List Machine) (ports : ℕ) (openings : List (List ℕ)) (came : List Arrival) →
     IsRunnable ms ports openings came → (i c j : ℕ) → flow_came i c j (traffic_of came) ≡ came_in_flow i c j came
 unfolding traffic_of enough
@@ -176,8 +139,9 @@ module _ (limits : List (Option ℕ)) (ms : List Machine) (ports : ℕ) (opening
   unfolding marks
   each_judged = judged limits ms 0 (traffic_of came) (empty_limited ports openings) ran is
 
-  whole : AreWholePackets (cells_at i (traffic_of came)) (cells_at i (admitted_in ran.admissions))
-  whole = whole_packets limits i marks (traffic_of came) ran.admissions each_judged packets
+  whole : TakenOrRefused 0 (mark_at marks i) (cells_at i (traffic_of came)) (cells_at i (admitted_in ran.admissions))
+      (refused_here limits i (traffic_of came) ran.admissions)
+  whole = taken_or_refused limits i 0 marks (traffic_of came) ran.admissions each_judged packets
 
   -- the test of a packet that is taken
   takes : Cell → Bool
@@ -225,11 +189,20 @@ module _ (limits : List (Option ℕ)) (ms : List Machine) (ports : ℕ) (opening
       no_port ms i c j (admitted_in ran.admissions) 0 (empty_ideal ports openings) without run (omega arith)
       ∙ ap (filter takes) (sym (none_came ms ports i c j came runs.for_switch le))
 
-  pub in_packets : LeaveInPackets came ran i
+  -- and all cells of the packets that are not taken are refused
+  pub in_packets : (leave : LeaveInPackets came ran i)
+      × (of_input i (refused_in ran.admissions)
+      ≡ filter (λ cell. not (leave.is_taken cell.id.packet)) (cells_at i (traffic_of came)))
   unfolding takes
-  in_packets =
-      record { is_taken = whole.is_taken; admitted = whole.are; left = λ c j. ⊎_elim (λ l. at_port c j l) (λ le. elsewhere c j le) (cases_lt j ports) }
+  in_packets = (
+    record {
+      is_taken = whole.is_taken;
+      admitted = whole.are;
+      left = λ c j. ⊎_elim (λ l. at_port c j l) (λ le. elsewhere c j le) (cases_lt j ports);
+    },
+    refused_are i limits marks (traffic_of came) ran.admissions each_judged (all_stand came) ∙ whole.others,
+  )
 
 pub flows_leave_in_packets : FlowsLeaveInPackets
 flows_leave_in_packets limits ms ports openings came ran runs is i packets =
-    in_packets limits ms ports openings came ran runs is i packets
+    (in_packets limits ms ports openings came ran runs is i packets).0

@@ -44,7 +44,7 @@ slot_is slot j [] some = absurd (omega arith)
 slot_is slot j (None ∷ gone) some = slot_is slot (j + 1) gone some
 slot_is slot j (Some q ∷ gone) some = let rest = slots_in slot (j + 1) gone in omega arith
 
-of_slot : (slot : ℕ) (gone : List (Option Queued)) → 0 < length (departures_in slot gone) →
+pub of_slot : (slot : ℕ) (gone : List (Option Queued)) → 0 < length (departures_in slot gone) →
     slots_of (departures_in slot gone) ≡ slot + 1
 unfolding departures_in
 of_slot slot gone some = slot_is slot 0 gone some

@@ -6,6 +6,7 @@ pub mod Came
 pub mod Admitted
 pub mod LimitedRuns
 pub mod Packets
+pub mod Standing
 pub mod EnoughSlots
 pub mod FlowCount
 pub mod FlowFound
@@ -33,3 +34,7 @@ pub mod Parted
 pub mod Ends
 pub mod LastSlot
 pub mod Resting
+pub mod LimitedParts
+pub mod LimitedEnds
+pub mod LimitedLast
+pub mod EachLeaves

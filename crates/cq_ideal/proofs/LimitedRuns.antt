@@ -234,7 +234,7 @@ module _ (limits : List (Option ℕ)) (ms : List Machine) where
 
 -- ## Slots without arrivals
 
-none_in : (limits : List (Option ℕ)) (marks : List Bool) (slots : ℕ) →
+pub none_in : (limits : List (Option ℕ)) (marks : List Bool) (slots : ℕ) →
     AllByRecursion (RefusesNone limits marks) (replicate slots no_arrivals)
 none_in limits marks zero = tt
 none_in limits marks (suc slots) = (no_arrivals_refuse_none limits marks, none_in limits marks slots)

@@ -4,7 +4,7 @@ use Rattle.std.proofs.Common.{◌≡◌, ℕ, zero, suc, ◌+◌, ◌≤◌, Lis
 use Rattle.std.specs.List.{range_with_len}
 use Rattle.std.proofs.lemmas.List.{nil_from_length}
 use Rattle.std.proofs.lemmas.List.FromFn.{length-map-range_with_len}
-use Rattle.cq_base.specs.Arriving.{Arrival, arriving, arriving_at, end_of}
+use Rattle.cq_base.specs.Arriving.{Arrival, arriving, end_of}
 use Rattle.cq_base.specs.Arrivals.{no_arrivals}
 use Rattle.cq_base.specs.declared.cell.Cell.{Cell}
 use Rattle.cq_base.specs.declared.cell.Departure.{Departure}
@@ -15,7 +15,7 @@ use Rattle.cq_ideal.specs.Ending.{arriving_from}
 use Rattle.cq_ideal.specs.IdealRun.{Ran, departures_of, ideal_run, then_ran}
 use Rattle.cq_ideal.specs.IdealSlot.{IdealState, Sent, departures_in, ideal_slot}
 use Rattle.cq_ideal.proofs.FlowCount.{none_after}
-use Rattle.cq_ideal.proofs.FlowFound.{arriving_is}
+use Rattle.cq_ideal.proofs.FlowFound.{length-arriving}
 use Rattle.cq_ideal.proofs.FlowRank.{present}
 use Rattle.cq_ideal.proofs.Waiting.{counted, quiet_slot, waiting}
 
@@ -57,8 +57,7 @@ nobody (Some cell ∷ cells) (suc n) long none = absurd (omega arith)
 none_arrive : (came : List Arrival) (t inputs : ℕ) → inputs ≡ 64 → end_of came ≤ t →
     arriving came t ≡ replicate inputs None
 none_arrive came t inputs are le =
-    nobody (arriving came t) inputs (ap (λ (l : List (Option Cell)). length l) (arriving_is came t inputs are)
-    ∙ length-map-range_with_len (arriving_at came t) 0 inputs) (none_after came t le)
+    nobody (arriving came t) inputs (length-arriving came t inputs are) (none_after came t le)
 
 -- from the end of the arrivals on none comes
 pub quiet_from : (came : List Arrival) (n slot : ℕ) → end_of came ≤ slot →

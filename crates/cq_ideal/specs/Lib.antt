@@ -1,9 +1,11 @@
 pub mod Admission
+pub mod EachOnce
 pub mod Ending
 pub mod Flows
 pub mod Ideal
 pub mod IdealRun
 pub mod IdealSlot
+pub mod LimitedEnding
 pub mod LimitedExample
 pub mod LimitedFlows
 pub mod LimitedIdeal

@@ -1,4 +1,3 @@
--- Only proofs use this.
 -- What clauses see of the parts of an ideal switch, and of the cells of a slot that go through them.
 use Rattle.std.specs.Prelude.{◌≡◌, ℕ, ◌+◌, ◌-◌, ◌<◌, ◌≤◌, ◌^◌, length, slice_index, Bool, false, if◌then◌else◌, List, [], ◌∷◌, Option, Some, None, Result, replicate, slice_set, slice_index_or}
 use Rattle.cq_base.specs.declared.cell.Queued.{Queued}

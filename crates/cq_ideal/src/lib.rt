@@ -9,6 +9,7 @@ mod ending;
 mod flows;
 mod ideal;
 mod laws;
+mod limited_ending;
 mod limiter;
 mod limits;
 mod queue;
@@ -23,10 +24,12 @@ pub use ending::{ideal_run_ends, last_slot_departs, more_slots_send_nothing};
 pub use flows::flows_leave_as_they_came;
 pub use ideal::Ideal;
 pub use laws::ideal_run_is_whole;
+pub use limited_ending::{limited_run_ends, more_limited_slots_send_nothing};
 pub use limiter::Limiter;
 pub use limits::{
-    flows_leave_in_packets, limited_run_is_run_of_admitted, limited_run_is_whole,
-    nothing_is_refused_without_limits, refused_counts_add_up, whole_packets_are_admitted,
-    worked_discard,
+    each_packet_leaves_or_is_refused, flows_leave_in_packets, limited_run_is_run_of_admitted,
+    limited_run_is_whole, nothing_is_refused_without_limits, refused_counts_add_up,
+    whole_packets_are_admitted, worked_discard,
 };
+pub use ranks::Ranks;
 pub use refused::Refused;

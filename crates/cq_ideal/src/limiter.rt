@@ -2,7 +2,7 @@
 //!
 //! A packet is refused whole, by what its output holds as its first cell arrives. How many cells that is stands in a
 //! number which is kept: it rises with each cell that is admitted, and falls as the switch tells that one has left.
-ghost use Rattle.std.specs.Prelude.{◌≡◌, ◌+◌, ◌<◌, ◌≤◌, ◌^◌, ◌∷◌, ℕ, Bool, Some, None, IfOk, IfSome, [], false, length, replicate, slice_index_or, slice_set};
+ghost use Rattle.std.specs.Prelude.{◌≡◌, ◌+◌, ◌<◌, ◌≤◌, ◌^◌, ◌∷◌, ℕ, Some, None, IfOk, IfSome, [], false, length, replicate, slice_index_or, slice_set};
 ghost use Rattle.cq_base.specs.declared.cell.Cell.{Cell};
 ghost use Rattle.cq_base.specs.Arrivals.{arrival_at};
 ghost use Rattle.cq_ideal.specs.Admission.{admitted, held_after, is_full, mark_after, mark_at, marks_after, marks_down, refused};
@@ -272,5 +272,17 @@ impl Limiter {
         ensures { result.now ≡ self.now.refused }
     {
         self.refused.as_slice()
+    }
+    /// These numbers, without the limiter.
+    pub fn into_refused(self) -> Vec<Refused>
+        ensures { result.items ≡ self.refused }
+    {
+        let Limiter {
+            limits: _,
+            held: _,
+            marks: _,
+            refused,
+        } = self;
+        refused
     }
 }

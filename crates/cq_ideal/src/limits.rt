@@ -3,6 +3,7 @@ ghost use Rattle.std.specs.Prelude.{◌≡◌, ℕ, ◌++◌, Bool, List, [], �
 ghost use Rattle.cq_base.specs.declared.cell.Cell.{Cell};
 ghost use Rattle.cq_base.specs.Arrivals.{no_arrivals};
 ghost use Rattle.cq_ideal.specs.Admission.{Admission, MarksDecide, NoLimits, RefusesNone, marks_down};
+ghost use Rattle.cq_ideal.specs.EachOnce.{EachLeavesOrIsRefused, RefusesNoneElsewhere};
 ghost use Rattle.cq_ideal.specs.LimitedExample.{discard_admissions, discard_ran, discard_refused, discard_slots, first_come_all, limit_one};
 ghost use Rattle.cq_ideal.specs.LimitedFlows.{FlowsLeaveInPackets};
 ghost use Rattle.cq_ideal.specs.LimitedIdeal.{IsRunOfAdmitted, IsRunOfAll, LimitedRunIsWhole, empty_limited, limited_run};
@@ -24,6 +25,14 @@ pub fn whole_packets_are_admitted()
     ensures judged { WholePacketsAreAdmitted }
     // what comes to an input slot by slot are its arrivals in their order
     ensures in_order { CellsComeInOrder }
+{}
+
+/// Every packet leaves or is refused, once, in a whole run without a tag fault: of the cells that come to an input
+/// those of some packets leave their outputs, and those of the others are refused, with none left over. And what is
+/// refused is for outputs that have limits.
+pub fn each_packet_leaves_or_is_refused()
+    ensures each { EachLeavesOrIsRefused }
+    ensures nowhere_else { RefusesNoneElsewhere }
 {}
 
 /// A run with limits has enough slots where the run without has: where no rank is a tag fault, all lists are

@@ -1,0 +1,285 @@
+-- Where the run of the ideal switch ends where outputs have limits. It is what `Ends` says of the run without limits:
+-- as many slots as are enough end with empty lists, so there is a least number of slots after which no cell is to
+-- come and none waits, and from there on the slots send nothing.
+use Rattle.std.proofs.Common.{◌≡◌, ℕ, ◌+◌, ◌-◌, ◌<◌, ◌≤◌, Bool, true, false, List, ◌++◌, length, get_or, Option, Result, Ok, Err, refl, sym, ap, ◌∙◌, subst, ⊎_elim, arith}
+use Rattle.std.specs.Prelude.{IfOk, IsOkAnd}
+use Rattle.std.specs.List.{position_or_len, range_with_len}
+use Rattle.std.proofs.lemmas.Bool.{cases_lt}
+use Rattle.std.proofs.lemmas.List.{append-nil}
+use Rattle.std.proofs.lemmas.Grind.{flat_map-append}
+use Rattle.std.proofs.lemmas.List.FromFn.{get_or-range_with_len, length-range_with_len}
+use Rattle.std.proofs.lemmas.List.Sums.{fails_before_first, passes_at_first, prefix_len-le-length}
+use Rattle.cq_base.specs.Arriving.{Arrival, end_of, enough, traffic_of}
+use Rattle.cq_base.specs.declared.cell.Cell.{Cell}
+use Rattle.cq_base.specs.declared.cell.Departure.{Departure}
+use Rattle.cq_base.specs.declared.cell.TagFault.{TagFault}
+use Rattle.cq_rank.specs.Machine.{Machine}
+use Rattle.cq_ideal.specs.Admission.{Admission, Marked, NoLimits, admitted_in, marks_down}
+use Rattle.cq_ideal.specs.Ending.{arriving_from, first_slots, is_over, slots_of_run, whole_ideal_run}
+use Rattle.cq_ideal.specs.IdealRun.{IsEmptyIdeal, Ran, departures_of, empty_ideal, ideal_run}
+use Rattle.cq_ideal.specs.IdealSlot.{IdealState}
+use Rattle.cq_ideal.specs.LimitedEnding.{LimitedIdealEnds, departures_limited, slots_of_limited_run, whole_limited_run}
+use Rattle.cq_ideal.specs.LimitedIdeal.{LimitedRan, empty_limited, limited_run, unlimited}
+use Rattle.cq_ideal.specs.Refused.{refused_in}
+use Rattle.cq_ideal.proofs.Ends.{all_slots, none_waits, over_from_test, test_after}
+use Rattle.cq_ideal.proofs.EnoughSlots.{as_many_slots, limited_empty_at_end}
+use Rattle.cq_ideal.proofs.LimitedParts.{LimitedHalves, behind, limited_going_on, limited_halves, limited_parts, limited_stays_empty}
+use Rattle.cq_ideal.proofs.LimitedRuns.{is_run_of, judged, none_refused_in, run_of_all}
+use Rattle.cq_ideal.proofs.Parted.{arriving_length, arriving_parts, departures_append, measured}
+
+-- the run without what is said of limits
+abbrev pub state_ran : LimitedRan → Ran
+state_ran ran = record { gone = ran.gone; after = ran.after.state }
+
+pub limited_test : (came : List Arrival) (n : ℕ) (x : Result LimitedRan TagFault) (s : Marked IdealState) →
+    IsOkAnd x (λ ran. ran.after ≡ s) → end_of came ≤ n → IsEmptyIdeal s.state → is_over came n (unlimited x) ≡ true
+limited_test came n (Ok ran) s e le empty =
+    test_after came n (Ok (state_ran ran)) s.state (ap (λ (m : Marked IdealState). m.state) e) le empty
+limited_test came n (Err fault) s e le empty = absurd e
+
+ran_from : (x : Result LimitedRan TagFault) (s : Marked IdealState) → IsOkAnd x (λ ran. ran.after ≡ s) →
+    (ran : LimitedRan) × (x ≡ Ok ran)
+ran_from (Ok ran) s e = (ran, refl)
+ran_from (Err fault) s e = absurd e
+
+-- a run sends in as many slots as it has
+pub gone_long : (limits : List (Option ℕ)) (ms : List Machine) (slot : ℕ) (traffic : List (List (Option Cell)))
+    (old : Marked IdealState) (ran : LimitedRan) → limited_run limits ms slot traffic old ≡ Ok ran →
+    length ran.gone ≡ length traffic
+gone_long limits ms slot traffic old ran is =
+    let run = is_run_of limits ms slot traffic old ran is in
+    (measured ms slot (admitted_in ran.admissions) old.state (state_ran ran) run).slots
+    ∙ as_many_slots limits old.marks traffic ran.admissions (judged limits ms slot traffic old ran is)
+
+module _ (limits : List (Option ℕ)) (ms : List Machine) (ports : ℕ) (ranks : List (List ℕ)) (came : List Arrival) where
+  -- the run over the first n slots
+  abbrev pub run_to : ℕ → Result LimitedRan TagFault
+  run_to n = limited_run limits ms 0 (first_slots came n) (empty_limited ports ranks)
+
+  abbrev pub over : ℕ → Bool
+  over n = is_over came n (unlimited (run_to n))
+
+  abbrev pub last : ℕ
+  last = slots_of_limited_run limits ms came (empty_limited ports ranks)
+
+  last_is : last ≡ position_or_len over (range_with_len 0 (enough came))
+  unfolding slots_of_limited_run
+  last_is = refl
+
+  pub limited_not_more : last ≤ enough came
+  limited_not_more =
+      let is = last_is in
+      let le : position_or_len over (range_with_len 0 (enough came)) ≤ length (range_with_len 0 (enough came)) =
+      prefix_len-le-length _ (range_with_len 0 (enough came)) in
+      let long = length-range_with_len 0 (enough came) in
+      omega arith
+
+  pub not_before : (m : ℕ) → m < last → over m ≡ false
+  not_before m lt =
+      let is = last_is in
+      let le = limited_not_more in
+      let at : get_or (range_with_len 0 (enough came)) m 0 ≡ 0 + m =
+      get_or-range_with_len 0 (enough came) m 0 (omega arith) in
+      let here : 0 + m ≡ m = omega arith in
+      ap over (sym (at ∙ here)) ∙ fails_before_first over (range_with_len 0 (enough came)) m 0 (omega arith)
+
+  over_at_last : last < enough came → over last ≡ true
+  over_at_last lt =
+      let is = last_is in
+      let long = length-range_with_len 0 (enough came) in
+      let at : get_or (range_with_len 0 (enough came)) last 0 ≡ 0 + last =
+      get_or-range_with_len 0 (enough came) last 0 (omega arith) in
+      let here : 0 + last ≡ last = omega arith in
+      ap over (sym (at ∙ here)) ∙ ap (λ (k : ℕ). over (get_or (range_with_len 0 (enough came)) k 0)) is
+      ∙ passes_at_first over (range_with_len 0 (enough came)) 0 (omega arith)
+
+  pub run_all : run_to (enough came) ≡ limited_run limits ms 0 (traffic_of came) (empty_limited ports ranks)
+  run_all = ap (λ l. limited_run limits ms 0 l (empty_limited ports ranks)) (all_slots came)
+
+  some_slots : end_of came ≤ enough came
+  unfolding enough
+  some_slots = omega arith
+
+  empty_after_all : (ran : LimitedRan) → run_to (enough came) ≡ Ok ran → IsEmptyIdeal ran.after.state
+  empty_after_all ran is =
+      let P : Result LimitedRan TagFault → Type 0 = λ x. IfOk x (λ ran. IsEmptyIdeal ran.after.state) in
+      subst P (sym run_all ∙ is) (limited_empty_at_end limits ms ports ranks came)
+
+  -- what is known where the run of so many slots meets no fault
+  pub limited_over_at_end : (ran : LimitedRan) → run_to last ≡ Ok ran →
+      (end_of came ≤ last) × IsEmptyIdeal ran.after.state
+  limited_over_at_end ran is =
+      ⊎_elim
+      (λ lt.
+      let o = over_from_test came last (unlimited (run_to last)) (over_at_last lt) in
+      let same : ◌≡◌ {A = Result Ran TagFault} (Ok o.ran) (Ok (state_ran ran)) = sym o.is ∙ ap unlimited is in
+      let one : o.ran ≡ state_ran ran = cc in
+      (o.all_came, subst (λ (r : Ran). IsEmptyIdeal r.after) one o.empty))
+      (λ ge.
+      let le = limited_not_more in
+      let some = some_slots in
+      let at : last ≡ enough came = omega arith in
+      let here : end_of came ≤ last = omega arith in
+      (here, empty_after_all ran (ap run_to (sym at) ∙ is)))
+      (cases_lt last (enough came))
+
+  pub at_ok : (x : Result LimitedRan TagFault) (ran : LimitedRan) → x ≡ Ok ran → IsOkAnd x (λ r. r.after ≡ ran.after)
+  at_ok x ran is = subst (λ (y : Result LimitedRan TagFault). IsOkAnd y (λ r. r.after ≡ ran.after)) (sym is) refl
+
+  pub limited_ends : (ran : LimitedRan) → whole_limited_run limits ms came (empty_limited ports ranks) ≡ Ok ran →
+      LimitedIdealEnds limits ms came (empty_limited ports ranks) last ran.after
+  unfolding whole_limited_run
+  limited_ends ran is =
+      let at = limited_over_at_end ran is in
+      record {
+        after = at_ok (run_to last) ran is;
+        all_came = at.0;
+        empty = at.1;
+        first = λ m s after le empty.
+            ⊎_elim
+            (λ lt. absurd (let P : true ≡ false = sym (limited_test came m (run_to m) s after le empty)
+            ∙ not_before m lt in let Q : ⊥ = cc in Q))
+            (λ ge. omega arith)
+            (cases_lt m last);
+      }
+
+  -- ## More slots, and fewer
+
+  -- the first slots of a run, and the others
+  pub cut_at : (m n : ℕ) (ran : LimitedRan) → m ≤ n → run_to n ≡ Ok ran →
+      LimitedHalves limits ms 0 m (first_slots came m) (arriving_from came m (n - m)) (empty_limited ports ranks) ran
+  cut_at m n ran le is =
+      let cut = arriving_parts came 0 m m (n - m) n (omega arith) (omega arith) in
+      let long = arriving_length came 0 m in
+      limited_halves limits ms 0 m (first_slots came m) (arriving_from came m (n - m)) (empty_limited ports ranks) ran
+      (omega arith) (ap (λ l. limited_run limits ms 0 l (empty_limited ports ranks)) cut ∙ is)
+
+  goes_on : (n k m : ℕ) → m ≡ n + k → run_to m ≡ limited_going_on limits ms n (arriving_from came n k) (run_to n)
+  goes_on n k m e =
+      let long = arriving_length came 0 n in
+      ap (λ l. limited_run limits ms 0 l (empty_limited ports ranks))
+      (sym (arriving_parts came 0 n n k m (omega arith) e))
+      ∙ limited_parts limits ms 0 n (first_slots came n) (arriving_from came n k) (empty_limited ports ranks)
+      (omega arith)
+
+  -- a run of so many slots that sends and refuses what this one does
+  pub record SameSlots (m : ℕ) (ran : LimitedRan) : Type 0 where
+    pub all : LimitedRan
+    pub is : run_to m ≡ Ok all
+    pub sent : departures_of 0 all.gone ≡ departures_of 0 ran.gone
+    pub refused : refused_in all.admissions ≡ refused_in ran.admissions
+
+  -- once it is over a run goes on, and sends and refuses nothing
+  more : (n k m : ℕ) (ran : LimitedRan) → m ≡ n + k → run_to n ≡ Ok ran → end_of came ≤ n →
+      IsEmptyIdeal ran.after.state → SameSlots m ran
+  more n k m ran e is le empty =
+      let quiet = limited_stays_empty limits ms came k n ran.after le (none_waits ran.after.state.lists empty) in
+      let len = arriving_length came 0 n in
+      let many = gone_long limits ms 0 (first_slots came n) (empty_limited ports ranks) ran is in
+      record {
+        all = record {
+          admissions = ran.admissions ++ quiet.ran.admissions;
+          gone = ran.gone ++ quiet.ran.gone;
+          after = quiet.ran.after;
+        };
+        is = goes_on n k m e ∙ ap (limited_going_on limits ms n (arriving_from came n k)) is
+            ∙ ap (behind ran.admissions ran.gone) quiet.is;
+        sent = departures_append 0 n ran.gone quiet.ran.gone (omega arith)
+            ∙ ap (λ (l : List Departure). departures_of 0 ran.gone ++ l) quiet.none
+            ∙ append-nil (departures_of 0 ran.gone);
+        refused = flat_map-append (λ (a : Admission). a.refused) ran.admissions quiet.ran.admissions
+            ∙ ap (λ (l : List Cell). refused_in ran.admissions ++ l) quiet.refused
+            ∙ append-nil (refused_in ran.admissions);
+      }
+
+  pub limited_found_end : (n : ℕ) (end : Marked IdealState) →
+      LimitedIdealEnds limits ms came (empty_limited ports ranks) n end → last ≡ n
+  limited_found_end n end y =
+      let test = limited_test came n (run_to n) end y.after y.all_came y.empty in
+      let le : last ≤ n =
+      ⊎_elim (λ (lt : n < last). absurd (let P : true ≡ false = sym test ∙ not_before n lt in let Q : ⊥ = cc in
+      Q)) (λ (ge : last ≤ n). ge) (cases_lt n last) in
+      let o = ran_from (run_to n) end y.after in
+      let f = cut_at last n o.0 le o.1 in
+      let at = limited_over_at_end f.first f.ran_first in
+      let ge = y.first last f.first.after (at_ok (run_to last) f.first f.ran_first) at.0 at.1 in
+      omega arith
+
+  never_both : (x : Result LimitedRan TagFault) (ran : LimitedRan) (fault : TagFault) → x ≡ Ok ran → x ≡ Err fault → ⊥
+  never_both x ran fault e f = let P : ◌≡◌ {A = Result LimitedRan TagFault} (Ok ran) (Err fault) = sym e
+      ∙ f in let Q : ⊥ = cc in Q
+
+  fault_kept : (m n : ℕ) (fault : TagFault) → m ≤ n → run_to m ≡ Err fault → run_to n ≡ Err fault
+  fault_kept m n fault le is = goes_on m (n - m) n (omega arith)
+      ∙ ap (limited_going_on limits ms m (arriving_from came m (n - m))) is
+
+  one_fault : (x : Result LimitedRan TagFault) (a b : TagFault) → x ≡ Err a → x ≡ Err b → a ≡ b
+  one_fault x a b e f = let P : ◌≡◌ {A = Result LimitedRan TagFault} (Err a) (Err b) = sym e ∙ f in cc
+
+  -- a fault in some slots is one of the whole run
+  faulty : (n : ℕ) (fault : TagFault) → run_to n ≡ Err fault → run_to last ≡ Err fault
+  faulty n fault is = by (run_to last) refl
+    where
+      by : (x : Result LimitedRan TagFault) → run_to last ≡ x → run_to last ≡ Err fault
+      by (Ok ran) e =
+          let at = limited_over_at_end ran e in
+          absurd
+          (⊎_elim
+          (λ (lt : n < last). never_both (run_to last) ran fault e (fault_kept n last fault (omega arith) is))
+          (λ (ge : last ≤ n). let m = more last (n - last) n ran (omega arith) e at.0 at.1 in
+          never_both (run_to n) m.all fault m.is is)
+          (cases_lt n last))
+      by (Err other) e =
+          let same : other ≡ fault =
+          ⊎_elim
+          (λ (lt : n < last). one_fault (run_to last) other fault e (fault_kept n last fault (omega arith) is))
+          (λ (ge : last ≤ n). one_fault (run_to n) other fault (fault_kept last n other ge e) is)
+          (cases_lt n last) in
+          e ∙ ap Err same
+
+  pub limited_whole_fault : (n : ℕ) (fault : TagFault) →
+      limited_run limits ms 0 (first_slots came n) (empty_limited ports ranks) ≡ Err fault →
+      whole_limited_run limits ms came (empty_limited ports ranks) ≡ Err fault
+  unfolding whole_limited_run
+  limited_whole_fault n fault is = faulty n fault is
+
+  -- the run over as many slots as are enough
+  pub limited_over_all : (ran : LimitedRan) → run_to last ≡ Ok ran → SameSlots (enough came) ran
+  limited_over_all ran is =
+      let at = limited_over_at_end ran is in
+      let le = limited_not_more in
+      more last (enough came - last) (enough came) ran (omega arith) is at.0 at.1
+
+  pub limited_same_sent : departures_limited (limited_run limits ms 0 (traffic_of came) (empty_limited ports ranks))
+      ≡ departures_limited (whole_limited_run limits ms came (empty_limited ports ranks))
+  unfolding whole_limited_run
+  limited_same_sent = sym (ap departures_limited run_all) ∙ by (run_to last) refl
+    where
+      by : (x : Result LimitedRan TagFault) → run_to last ≡ x →
+          departures_limited (run_to (enough came)) ≡ departures_limited (run_to last)
+      by (Ok ran) e =
+          let m = limited_over_all ran e in ap departures_limited m.is ∙ ap Ok m.sent ∙ sym (ap departures_limited e)
+      by (Err fault) e = ap departures_limited (fault_kept last (enough came) fault limited_not_more e)
+          ∙ sym (ap departures_limited e)
+
+-- ## Without limits
+
+module _ (limits : List (Option ℕ)) (ms : List Machine) (ports : ℕ) (ranks : List (List ℕ)) (came : List Arrival)
+    (none : NoLimits limits) where
+  same_runs : (n : ℕ) → unlimited (limited_run limits ms 0 (first_slots came n) (empty_limited ports ranks))
+      ≡ ideal_run ms 0 (first_slots came n) (empty_ideal ports ranks)
+  same_runs n =
+      run_of_all limits ms (marks_down ports) 0 (first_slots came n) (empty_ideal ports ranks)
+      (none_refused_in limits ms ports (first_slots came n) none)
+
+  pub slots_as_before : slots_of_limited_run limits ms came (empty_limited ports ranks)
+      ≡ slots_of_run ms came (empty_ideal ports ranks)
+  unfolding slots_of_limited_run slots_of_run
+  slots_as_before = λ k. position_or_len (λ n. is_over came n (same_runs n k)) (range_with_len 0 (enough came))
+
+  pub run_as_before : unlimited (whole_limited_run limits ms came (empty_limited ports ranks))
+      ≡ whole_ideal_run ms came (empty_ideal ports ranks)
+  unfolding whole_limited_run whole_ideal_run
+  run_as_before =
+      same_runs (slots_of_limited_run limits ms came (empty_limited ports ranks))
+      ∙ ap (λ (n : ℕ). ideal_run ms 0 (first_slots came n) (empty_ideal ports ranks)) slots_as_before

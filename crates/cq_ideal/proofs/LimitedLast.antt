@@ -1,0 +1,106 @@
+-- The slots of a run with limits are those up to the last arrival, or up to the last departure where that is later.
+-- Behind the last arrival the run goes on only while a cell waits. So a cell waits as the last such slot begins, and
+-- one departs in it.
+use Rattle.std.proofs.Common.{◌≡◌, ℕ, zero, suc, ◌+◌, ◌-◌, ◌<◌, ◌≤◌, true, false, List, [], ◌∷◌, ◌++◌, length, Option, Ok, refl, sym, ap, ◌∙◌, ⊎_elim, arith}
+use Rattle.std.specs.Prelude.{max}
+use Rattle.std.proofs.lemmas.Bool.{cases_lt}
+use Rattle.cq_base.specs.Arriving.{Arrival, end_of}
+use Rattle.cq_base.specs.declared.cell.Cell.{Cell}
+use Rattle.cq_base.specs.declared.cell.Queued.{Queued}
+use Rattle.cq_rank.specs.Machine.{Machine}
+use Rattle.cq_ideal.specs.Admission.{admitted_in}
+use Rattle.cq_ideal.specs.Ending.{arriving_from, first_slots, slots_of}
+use Rattle.cq_ideal.specs.IdealRun.{Ran, departures_of, ideal_run}
+use Rattle.cq_ideal.specs.IdealSlot.{IdealState, departures_in}
+use Rattle.cq_ideal.specs.LimitedEnding.{slots_of_limited_run, whole_limited_run}
+use Rattle.cq_ideal.specs.LimitedIdeal.{LimitedRan, empty_limited}
+use Rattle.cq_ideal.proofs.Ends.{nothing_left}
+use Rattle.cq_ideal.proofs.EnoughSlots.{as_many_slots}
+use Rattle.cq_ideal.proofs.LastSlot.{of_slot, slots_of-append, slots_within}
+use Rattle.cq_ideal.proofs.LimitedEnds.{at_ok, cut_at, gone_long, limited_over_at_end, limited_test, not_before, run_to, state_ran}
+use Rattle.cq_ideal.proofs.LimitedRuns.{is_run_of, judged}
+use Rattle.cq_ideal.proofs.Parted.{arriving_length, departures_append, first_slot, measured}
+use Rattle.cq_ideal.proofs.Waiting.{counted, some_waits, waiting}
+
+-- ## One slot
+
+-- where a cell waits one departs
+one_departs : (ms : List Machine) (slot : ℕ) (traffic : List (List (Option Cell))) (s : IdealState) (ran : Ran) →
+    length traffic ≡ 1 → 0 < waiting s.lists → ideal_run ms slot traffic s ≡ Ok ran →
+    slots_of (departures_of slot ran.gone) ≡ slot + 1
+unfolding departures_of
+one_departs ms slot [] s ran one some is = absurd (omega arith)
+one_departs ms slot (cells ∷ later ∷ traffic) s ran one some is = absurd (omega arith)
+one_departs ms slot (cells ∷ []) s ran one some is =
+    let p = first_slot ms slot cells [] s ran is in
+    let w = some_waits s.lists some in
+    let has = w.2 in
+    let here = of_slot slot p.sent.gone ((counted ms slot cells s p.sent p.ran_slot).departs w.0 w.1 (omega arith)) in
+    let none = (measured ms (slot + 1) [] p.sent.after p.second p.ran_second).slots in
+    let rest = slots_within (slot + 1) p.second.gone in
+    let both = slots_of-append (departures_in slot p.sent.gone) (departures_of (slot + 1) p.second.gone) in
+    let are : slots_of (departures_of slot ran.gone) ≡ slots_of
+    (departures_in slot p.sent.gone ++ departures_of (slot + 1) p.second.gone) =
+    ap (λ (r : Ran). slots_of (departures_of slot r.gone)) p.both in
+    omega arith
+
+-- ## The whole run
+
+module _ (limits : List (Option ℕ)) (ms : List Machine) (ports : ℕ) (ranks : List (List ℕ)) (came : List Arrival)
+    (ran : LimitedRan) (whole : whole_limited_run limits ms came (empty_limited ports ranks) ≡ Ok ran) where
+  abbrev slots : ℕ
+  slots = slots_of_limited_run limits ms came (empty_limited ports ranks)
+
+  it_is : run_to limits ms ports ranks came slots ≡ Ok ran
+  unfolding whole_limited_run
+  it_is = whole
+
+  -- behind the last arrival it goes on only while a cell waits
+  one_waits : (slot : ℕ) (first : LimitedRan) → slot < slots → end_of came ≤ slot →
+      run_to limits ms ports ranks came slot ≡ Ok first → 0 < waiting first.after.state.lists
+  one_waits slot first lt le is =
+      ⊎_elim (λ (some : 0 < waiting first.after.state.lists). some)
+      (λ (none : waiting first.after.state.lists ≤ 0).
+      let over = limited_test came slot (run_to limits ms ports ranks came slot) first.after
+      (at_ok limits ms ports ranks came (run_to limits ms ports ranks came slot) first is) le
+      (nothing_left first.after.state.lists (omega arith)) in
+      absurd (let P : true ≡ false = sym over ∙ not_before limits ms ports ranks came slot lt in let Q : ⊥ = cc in Q))
+      (cases_lt 0 (waiting first.after.state.lists))
+
+  late : (slot : ℕ) → slots ≡ slot + 1 → end_of came ≤ slot → slots_of (departures_of 0 ran.gone) ≡ slot + 1
+  late slot e le =
+      let cut = cut_at limits ms ports ranks came slot slots ran (omega arith) it_is in
+      let begun = cut.first.after in
+      let last_one = arriving_from came slot (slots - slot) in
+      let admissions = cut.second.admissions in
+      let one : length (admitted_in admissions) ≡ slots - slot =
+      as_many_slots limits begun.marks last_one admissions
+      (judged limits ms slot last_one begun cut.second cut.ran_second) ∙ arriving_length came slot (slots - slot) in
+      let here : slots_of (departures_of slot cut.second.gone) ≡ slot + 1 =
+      one_departs ms slot (admitted_in admissions) begun.state (state_ran cut.second) (omega arith)
+      (one_waits slot cut.first (omega arith) le cut.ran_first)
+      (is_run_of limits ms slot last_one begun cut.second cut.ran_second) in
+      let long = gone_long limits ms 0 (first_slots came slot) (empty_limited ports ranks) cut.first cut.ran_first
+      ∙ arriving_length came 0 slot in
+      let before = slots_within 0 cut.first.gone in
+      let both = slots_of-append (departures_of 0 cut.first.gone) (departures_of slot cut.second.gone) in
+      let are : slots_of (departures_of 0 ran.gone) ≡ slots_of
+      (departures_of 0 cut.first.gone ++ departures_of slot cut.second.gone) =
+      ap (λ (gone : List (List (Option Queued))). slots_of (departures_of 0 gone)) cut.gone
+      ∙ ap slots_of (departures_append 0 slot cut.first.gone cut.second.gone (omega arith)) in
+      omega arith
+
+  pub limited_slots : slots ≡ max (end_of came) (slots_of (departures_of 0 ran.gone))
+  limited_slots =
+      let come = (limited_over_at_end limits ms ports ranks came ran it_is).0 in
+      let long = gone_long limits ms 0 (first_slots came slots) (empty_limited ports ranks) ran it_is
+      ∙ arriving_length came 0 slots in
+      let within = slots_within 0 ran.gone in
+      by_number slots refl come (omega arith)
+    where
+      by_number : (n : ℕ) → slots ≡ n → end_of came ≤ n → slots_of (departures_of 0 ran.gone) ≤ n →
+          slots ≡ max (end_of came) (slots_of (departures_of 0 ran.gone))
+      by_number zero e come within = omega arith
+      by_number (suc slot) e come within =
+          ⊎_elim (λ (soon : end_of came < suc slot). let l = late slot (omega arith) (omega arith) in omega arith)
+          (λ (all : suc slot ≤ end_of came). omega arith) (cases_lt (end_of came) (suc slot))
