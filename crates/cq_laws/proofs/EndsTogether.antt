@@ -214,20 +214,25 @@ slots_add MayChoose ms slot last (cells ∷ traffic) f g (r ∷ rs) run =
     by true in_slot here both rest = let more = rest (max last (r.slot + 1)) in omega arith
     by false in_slot here both rest = let more = rest last in omega arith
 
+-- so the figures tell the slot of the last departure
+pub slots_of_figures : (MayChoose : Orders → Partners → Type 0) (ms : List Machine) (ports : ℕ)
+    (traffic : List (List (Option Cell))) (f g : Fabric) (rs : List SlotRecord) →
+    FabricRun MayChoose ms 0 traffic f rs g → (figures_of ports rs).slots ≡ slots_of (departures_of 0 (gone_in rs))
+unfolding figures_of
+slots_of_figures MayChoose ms ports traffic f g rs run =
+    let count = slots_add MayChoose ms 0 0 traffic f g rs run in omega arith
+
 pub slots_told : (ms : List Machine) (ports class_count : ℕ) (ranks : List (List ℕ)) (came : List Arrival)
     (rs : List SlotRecord) (g : Fabric) →
     AllByRecursion (AreForPorts ports class_count) (first_slots came (length rs)) →
     AllByRecursion (IsForSwitch ms ports) came → WholeRun IsStable ms came (empty_fabric ports ranks) rs g →
     (figures_of ports rs).slots ≡ length rs
-unfolding figures_of
 slots_told ms ports class_count ranks came rs g fit all w =
     let alike = end_alike ms ports class_count ranks came rs g fit w in
     let ran : Ran = record { gone = gone_in rs; after = alike.after } in
-    let last = last_departs ms ports ranks came all ran alike.ran in
-    let count = slots_add IsStable ms 0 0 (first_slots came (length rs)) (empty_fabric ports ranks) g rs
-    (run ms ports class_count ranks came rs g fit w) in
-    let slots = alike.slots in
-    omega arith
+    slots_of_figures IsStable ms ports (first_slots came (length rs)) (empty_fabric ports ranks) g rs
+    (run ms ports class_count ranks came rs g fit w)
+    ∙ last_departs ms ports ranks came all ran alike.ran ∙ alike.slots
 
 -- ## Slots behind the end
 

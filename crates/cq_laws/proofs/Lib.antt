@@ -36,3 +36,4 @@ pub mod EndsTogether
 pub mod Entered
 pub mod Told
 pub mod LimitedEnds
+pub mod Recorded

@@ -11,11 +11,12 @@ use Rattle.cq_ideal.specs.Admission.{Marked}
 use Rattle.cq_ideal.specs.Ending.{first_slots}
 use Rattle.cq_ideal.specs.IdealRun.{IsEmptyIdeal}
 use Rattle.cq_ideal.specs.IdealSlot.{IdealState}
+use Rattle.cq_ideal.specs.LimitedEnding.{LimitedIdealAfter}
 use Rattle.cq_ideal.specs.LimitedIdeal.{LimitedRan, empty_limited, limited_run}
 use Rattle.cq_ideal.specs.Ranking.{AreForPorts}
 use Rattle.cq_ideal.proofs.Parted.{arriving_length}
 use Rattle.cq_prefs.specs.Pairing.{IsInputBest, IsStable}
-use Rattle.cq_laws.specs.LimitedAgreement.{LimitedAgrees, LimitedEndsAlike, LimitedIdealAfter}
+use Rattle.cq_laws.specs.LimitedAgreement.{LimitedAgrees, LimitedEndsAlike}
 use Rattle.cq_laws.specs.LimitedFabric.{LimitedFabricRun, LimitedFabricSlot, LimitedRecord, LimitedWholeRun, admissions_in, empty_limited_fabric, slots_in}
 use Rattle.cq_laws.specs.Fabric.{Fabric, IsEmptyFabric}
 use Rattle.cq_laws.specs.Records.{gone_in}

@@ -1,14 +1,14 @@
 -- When a fabric with limits agrees with an ideal switch with limits, and what it is that they send and refuse the same.
-use Rattle.std.specs.Prelude.{◌≡◌, ℕ, ◌+◌, ◌↔◌, List, length, Option, Ok, Err, IsOkAnd}
+use Rattle.std.specs.Prelude.{◌≡◌, ℕ, ◌+◌, ◌↔◌, List, length, Option, Ok, Err}
 use Rattle.std.specs.List.{AllByRecursion}
 use Rattle.cq_base.specs.Arriving.{Arrival}
 use Rattle.cq_base.specs.declared.cell.Cell.{Cell}
 use Rattle.cq_base.specs.declared.cell.TagFault.{TagFault}
 use Rattle.cq_rank.specs.Machine.{Machine}
 use Rattle.cq_ideal.specs.Admission.{Marked}
-use Rattle.cq_ideal.specs.Ending.{IsEnd, first_slots}
-use Rattle.cq_ideal.specs.IdealRun.{IsEmptyIdeal}
+use Rattle.cq_ideal.specs.Ending.{first_slots}
 use Rattle.cq_ideal.specs.IdealSlot.{IdealState}
+use Rattle.cq_ideal.specs.LimitedEnding.{LimitedIdealEnds}
 use Rattle.cq_ideal.specs.LimitedIdeal.{LimitedRan, empty_limited, limited_slot, limited_run}
 use Rattle.cq_ideal.specs.Ranking.{AreForPorts}
 use Rattle.cq_ideal.specs.Refused.{refused_counts, refused_in}
@@ -71,18 +71,12 @@ pub record ActAlikeFromEmpty (MayChoose : Orders → Partners → Type 0) (limit
 
 -- ## Whole runs
 
--- the state of the ideal switch with limits after m slots, if no rank of these was a tag fault
-abbrev pub LimitedIdealAfter : List (Option ℕ) → List Machine → List Arrival → Marked IdealState → ℕ →
-    Marked IdealState → Type 0
-LimitedIdealAfter limits ms came start m s =
-    IsOkAnd (limited_run limits ms 0 (first_slots came m) start) (λ ran. ran.after ≡ s)
-
 -- The ideal switch ends after as many slots as these records are, and admits, refuses and sends what they say. Then both
 -- agree.
 pub record LimitedEndsAlike (limits : List (Option ℕ)) (ms : List Machine) (came : List Arrival)
     (ideal : Marked IdealState) (rs : List LimitedRecord) (f : Marked Fabric) : Type 0 where
   pub after : Marked IdealState
-  pub ends : IsEnd came (LimitedIdealAfter limits ms came ideal) (λ s. IsEmptyIdeal s.state) (length rs) after
+  pub ends : LimitedIdealEnds limits ms came ideal (length rs) after
   pub ran : limited_run limits ms 0 (first_slots came (length rs)) ideal ≡ Ok (record {
     admissions = admissions_in rs;
     gone = gone_in (slots_in rs);

@@ -5,11 +5,11 @@ use Rattle.cq_base.specs.Arriving.{Arrival}
 use Rattle.cq_base.specs.declared.cell.Cell.{Cell}
 use Rattle.cq_base.specs.declared.cell.TagFault.{TagFault}
 use Rattle.cq_rank.specs.Machine.{Machine}
-use Rattle.cq_ideal.specs.Admission.{Admission, Marked, admission, nothing_refused, unmarked}
+use Rattle.cq_ideal.specs.Admission.{Admission, Marked, admission, admitted_in, nothing_refused, unmarked}
 use Rattle.cq_prefs.specs.Orders.{Orders}
 use Rattle.cq_prefs.specs.Pairing.{Partners}
 use Rattle.cq_laws.specs.Fabric.{Fabric, IsEmptyFabric, empty_fabric}
-use Rattle.cq_laws.specs.FabricRun.{IsFault}
+use Rattle.cq_laws.specs.FabricRun.{FabricRun, IsFault}
 use Rattle.cq_laws.specs.FabricSlot.{SlotRecord, FabricSlot}
 use Rattle.cq_laws.specs.Holding.{fabric_held}
 use Rattle.cq_laws.specs.SlotBySlot.{RunBy, StopBy, WholeBy}
@@ -57,6 +57,14 @@ admissions_in rs = map (λ r. r.admission) rs
 
 abbrev pub slots_in : List LimitedRecord → List SlotRecord
 slots_in rs = map (λ r. r.of_slot) rs
+
+-- a run with limits is a run without, of what its own records say was admitted
+abbrev pub IsRunOfRecorded : (Orders → Partners → Type 0) → Type 0
+IsRunOfRecorded MayChoose =
+    (limits : List (Option ℕ)) (ms : List Machine) (slot : ℕ) (traffic : List (List (Option Cell)))
+    (f g : Marked Fabric) (rs : List LimitedRecord) →
+    LimitedFabricRun MayChoose limits ms slot traffic f rs g →
+    FabricRun MayChoose ms slot (admitted_in (admissions_in rs)) f.state (slots_in rs) g.state
 
 -- the records of slots in which nothing was refused, with these marks
 abbrev pub passed : List Bool → List (List (Option Cell)) → List SlotRecord → List LimitedRecord

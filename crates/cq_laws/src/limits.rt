@@ -1,6 +1,6 @@
 //! The fabric where outputs have limits: why it refuses what the ideal switch refuses, and why the laws of runs
 //! without limits hold of its runs. Each law is the contract of a function that does nothing.
-ghost use Rattle.std.specs.Prelude.{◌≡◌, ℕ, Bool, List, Option, length, replicate};
+ghost use Rattle.std.specs.Prelude.{◌≡◌, ℕ, Bool, List, Option, Err, length, replicate};
 ghost use Rattle.std.specs.List.{AllByRecursion};
 ghost use Rattle.cq_base.specs.declared.cell.Cell.{Cell};
 ghost use Rattle.cq_base.specs.declared.cell.TagFault.{TagFault};
@@ -10,6 +10,7 @@ ghost use Rattle.cq_rank.specs.Machine.{Machine};
 ghost use Rattle.cq_ideal.specs.Admission.{Marked, NoLimits, admitted_in, marked, marks_down, unmarked};
 ghost use Rattle.cq_ideal.specs.Ending.{first_slots};
 ghost use Rattle.cq_ideal.specs.IdealSlot.{IdealState};
+ghost use Rattle.cq_ideal.specs.LimitedEnding.{slots_of_limited_run, whole_limited_run};
 ghost use Rattle.cq_ideal.specs.LimitedIdeal.{admitted_traffic, empty_limited, ideal_admission, ideal_held};
 ghost use Rattle.cq_ideal.specs.Ranking.{AreForPorts};
 ghost use Rattle.cq_ideal.specs.WholePackets.{AreOfPackets, AreWholePackets, cells_at};
@@ -20,7 +21,7 @@ ghost use Rattle.cq_laws.specs.FabricRun.{FabricRun, FabricStops};
 ghost use Rattle.cq_laws.specs.FabricSlot.{SlotRecord};
 ghost use Rattle.cq_laws.specs.Holding.{fabric_held};
 ghost use Rattle.cq_laws.specs.LimitedAgreement.{LimitedAgrees, LimitedEndsAlike};
-ghost use Rattle.cq_laws.specs.LimitedFabric.{LimitedFabricRun, LimitedFabricSlot, LimitedFabricStops, LimitedRecord, LimitedWholeRun, admissions_in, empty_limited_fabric, fabric_admission, passed, slots_in};
+ghost use Rattle.cq_laws.specs.LimitedFabric.{IsRunOfRecorded, LimitedFabricRun, LimitedFabricSlot, LimitedFabricStops, LimitedRecord, LimitedWholeRun, admissions_in, empty_limited_fabric, fabric_admission, passed, slots_in};
 ghost use Rattle.cq_laws.specs.LimitedQuiet.{quiet_limited_slot, quiet_limited_slots};
 ghost use Rattle.cq_laws.specs.Quiet.{idled, idled_for};
 
@@ -36,6 +37,9 @@ pub fn outputs_hold_as_many()
 /// A run with limits is a run without, of the arrivals that the ideal switch admits. So every law on the runs
 /// of the fabric holds of it. And what is admitted at an input are whole packets.
 pub fn limited_runs_are_of_admitted()
+    // slot by slot, of what its own records say was admitted
+    ensures recorded { IsRunOfRecorded IsStable }
+    ensures recorded_input_best { IsRunOfRecorded IsInputBest }
     ensures run { (limits : List (Option ℕ)) (ms : List Machine) (slot class_count : ℕ) (traffic : List (List (Option Cell))) (f g : Marked Fabric) (ideal : Marked IdealState) (rs : List LimitedRecord) →
         LimitedAgrees slot f ideal → AllByRecursion (AreForPorts (length f.state.inputs) class_count) traffic → LimitedFabricRun IsStable limits ms slot traffic f rs g →
         FabricRun IsStable ms slot (admitted_traffic limits ms slot traffic ideal) f.state (slots_in rs) g.state }
@@ -77,6 +81,17 @@ pub fn limited_runs_end_together()
         AllByRecursion (AreForPorts ports class_count) (first_slots came (length rs)) →
         LimitedWholeRun IsStable limits ms came (empty_limited_fabric ports ranks) rs g →
         LimitedEndsAlike limits ms came (empty_limited ports ranks) rs g }
+    ensures slots { (limits : List (Option ℕ)) (ms : List Machine) (ports class_count : ℕ) (ranks : List (List ℕ))
+        (came : List Arrival) (rs : List LimitedRecord) (g : Marked Fabric) →
+        AllByRecursion (AreForPorts ports class_count) (first_slots came (length rs)) →
+        LimitedWholeRun IsStable limits ms came (empty_limited_fabric ports ranks) rs g →
+        slots_of_limited_run limits ms came (empty_limited ports ranks) ≡ length rs }
+    // or they stop at the same tag fault
+    ensures stop { (limits : List (Option ℕ)) (ms : List Machine) (ports class_count n : ℕ) (ranks : List (List ℕ))
+        (came : List Arrival) (rs : List LimitedRecord) (fault : TagFault) →
+        AllByRecursion (AreForPorts ports class_count) (first_slots came n) →
+        LimitedFabricStops IsStable limits ms 0 (first_slots came n) (empty_limited_fabric ports ranks) rs fault →
+        whole_limited_run limits ms came (empty_limited ports ranks) ≡ Err fault }
     ensures one { (limits : List (Option ℕ)) (ms : List Machine) (came : List Arrival) (start g h : Marked Fabric)
         (rs ss : List LimitedRecord) →
         LimitedWholeRun IsInputBest limits ms came start rs g →
