@@ -37,7 +37,7 @@ pub fn phases_are_exact()
     ensures { IsPhaseExact }
 {}
 
-/// Of the stable runs over the same slots from one state, one has these transfers: in each phase they tell the
+/// Of the stable runs over the same slots from one state, at most one has these transfers: in each phase they tell the
 /// matching. So it is with whole runs, which end by themselves, and a replay has no choice. It does nothing: its
 /// contract is the claim.
 #[tactic(auto, using(crate::proofs::Following::one_stable_run, crate::proofs::WholeFollowing::one_whole_run))]
