@@ -144,6 +144,7 @@ fn three_ports(alloc: Global) -> Result<Tables, NoMemory>
     let mut tables = Tables::plain(alloc, "in", "out")?;
     tables.setup.kinds = Sequence::of(Vec::from_array(alloc, [Kind::FirstCome; 3])?);
     tables.ports = Sequence::of(three_files(alloc)?);
+    tables.limits = Sequence::of(Vec::from_array(alloc, [None; 3])?);
     tables.addresses = Sequence::of(Vec::from_array(alloc, [one])?);
     Ok(tables)
 }

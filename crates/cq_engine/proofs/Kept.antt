@@ -1,6 +1,6 @@
 -- How many cells for an output there are. An arrival brings one more, a transfer moves one from the inputs to the output's
 -- buffer, and a departure takes one away.
-use Rattle.std.proofs.Common.{◌≡◌, ℕ, zero, suc, ◌+◌, ◌≤◌, eqb, Bool, List, [], ◌∷◌, length, drop, Option, Some, None, refl, sym, ap, ◌∙◌, subst, ⊎_elim, arith}
+use Rattle.std.proofs.Common.{◌≡◌, ℕ, zero, suc, ◌+◌, ◌≤◌, eqb, Bool, true, false, List, [], ◌∷◌, length, drop, Option, Some, None, refl, sym, ap, ◌∙◌, subst, ⊎_elim, arith}
 use Rattle.std.specs.Prelude.{if◌then◌else◌, is_some, filter, insert}
 use Rattle.std.proofs.Math.ListN.{get_or-map}
 use Rattle.std.proofs.lemmas.Bool.{cond_both}
@@ -21,7 +21,12 @@ use Rattle.cq_laws.specs.Phases.{came_to, list_arrived, Transfers}
 use Rattle.cq_laws.specs.FabricSlot.{SlotRecord, FabricSlot}
 use Rattle.cq_laws.proofs.Came.{came_from}
 use Rattle.cq_laws.proofs.Falls.{rest_of}
-use Rattle.cq_engine.specs.Engine.{waiting_for, arriving_for, held_for}
+use Rattle.cq_ideal.specs.Admission.{Admission, Marked, admission, mark_at, marks_after, unless}
+use Rattle.cq_ideal.specs.Ideal.{count_for}
+use Rattle.cq_ideal.proofs.Admitted.{admitted_at}
+use Rattle.cq_ideal.proofs.Refusals.{each_once}
+use Rattle.cq_laws.specs.LimitedFabric.{LimitedFabricSlot, LimitedRecord}
+use Rattle.cq_laws.specs.Holding.{fabric_held, waiting_for, held_for}
 
 abbrev bit : Bool → ℕ
 bit b = if b then 1 else 0
@@ -77,7 +82,7 @@ count_taken j (Some k) xs = count_left j k xs
 -- ## Sums over the inputs
 
 -- each list has no more than before, or one that arrives
-sum_comes : (j : ℕ) (new old : List (List Queued)) (cells : List (Option Cell)) → length new ≡ length old → ((i : ℕ) → count j (list_of new i) ≤ count j (list_of old i) + comes j (arrival_at cells i)) → waiting_for j new ≤ waiting_for j old + arriving_for j cells
+sum_comes : (j : ℕ) (new old : List (List Queued)) (cells : List (Option Cell)) → length new ≡ length old → ((i : ℕ) → count j (list_of new i) ≤ count j (list_of old i) + comes j (arrival_at cells i)) → waiting_for j new ≤ waiting_for j old + count_for j cells
 sum_comes j [] [] cells same each = omega arith
 sum_comes j [] (y ∷ old) cells same each = absurd (omega arith)
 sum_comes j (x ∷ new) [] cells same each = absurd (omega arith)
@@ -180,7 +185,7 @@ module _ (ms : List Machine) (slot : ℕ) (cells : List (Option Cell)) (f g : Fa
       let l = length_taken (partner_of r.second i) (input r.sent i) in
       omega arith
 
-  pub outputs_kept : (j : ℕ) → held_for j g ≤ held_for j f + arriving_for j cells
+  pub outputs_kept : (j : ℕ) → held_for j g ≤ held_for j f + count_for j cells
   outputs_kept j =
       let came = sum_comes j r.arrived.inputs f.inputs cells step.arrive.ports (λ i. let e = ap (count j) (step.arrive.lists i) in let l = came_one f j (came_to r.came i) (arrival_at cells i) (input f i) (came_is i) in omega arith) in
       let same = ap (λ bs. length (list_of bs j)) step.arrive.buffers in
@@ -189,4 +194,45 @@ module _ (ms : List Machine) (slot : ℕ) (cells : List (Option Cell)) (f g : Fa
       let rest = ap (λ bs. length (list_of bs j)) step.depart.buffers ∙ ap length (rest_of r.filled.buffers j) in
       let less = length_drop (buffer r.filled j) in
       let second = moved r.second r.sent g step.second_chosen step.finish j in
+      omega arith
+
+-- ## With limits
+
+fewer : (up : Bool) (o : Option Cell) → bit (is_some (unless up o)) ≤ bit (is_some o)
+fewer true o = omega arith
+fewer false o = omega arith
+
+-- what is admitted is no more than what arrives
+admitted_bit : (limits : List (Option ℕ)) (held : List ℕ) (marks : List Bool) (cells : List (Option Cell)) (a : Admission) →
+    a ≡ admission limits held marks cells → (i : ℕ) →
+    bit (is_some (arrival_at a.cells i)) ≤ bit (is_some (arrival_at cells i))
+unfolding admission
+admitted_bit limits held marks cells a is i =
+    let after = marks_after limits held marks cells in
+    let here = ap (λ (b : Admission). bit (is_some (arrival_at b.cells i))) is in
+    let at = ap (λ (o : Option Cell). bit (is_some o)) (admitted_at after cells i) in
+    let less = fewer (mark_at after i) (arrival_at cells i) in
+    omega arith
+
+admitted_count : (limits : List (Option ℕ)) (held : List ℕ) (marks : List Bool) (cells : List (Option Cell)) (a : Admission) →
+    a ≡ admission limits held marks cells → (j : ℕ) → count_for j a.cells ≤ count_for j cells
+unfolding admission
+admitted_count limits held marks cells a is j =
+    let here = ap (λ (b : Admission). count_for j b.cells) is in
+    let split = each_once j (marks_after limits held marks cells) cells in
+    omega arith
+
+module _ (limits : List (Option ℕ)) (ms : List Machine) (slot : ℕ) (cells : List (Option Cell)) (f g : Marked Fabric)
+    (r : LimitedRecord) (s : LimitedFabricSlot IsInputBest limits ms slot cells f r g) where
+  pub limited_lists_kept : (i : ℕ) →
+      length (input g.state i) ≤ length (input f.state i) + (if is_some (arrival_at cells i) then 1 else 0)
+  limited_lists_kept i =
+      let kept = lists_kept ms slot r.admission.cells f.state g.state r.of_slot s.runs i in
+      let less = admitted_bit limits (fabric_held f.state) f.marks cells r.admission s.admits i in
+      omega arith
+
+  pub limited_outputs_kept : (j : ℕ) → held_for j g.state ≤ held_for j f.state + count_for j cells
+  limited_outputs_kept j =
+      let kept = outputs_kept ms slot r.admission.cells f.state g.state r.of_slot s.runs j in
+      let less = admitted_count limits (fabric_held f.state) f.marks cells r.admission s.admits j in
       omega arith

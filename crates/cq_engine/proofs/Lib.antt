@@ -1,15 +1,15 @@
 pub mod Changed
-pub mod Ranked
 pub mod Told
-pub mod Came
 pub mod Queued
 pub mod Offered
 pub mod NoOffers
 pub mod Newest
 pub mod Empty
+pub mod Limits
 pub mod Slot
-pub mod Seen
+pub mod Shown
 pub mod Begin
 pub mod Kept
 pub mod Worked
 mod Rested
+pub mod Rooms

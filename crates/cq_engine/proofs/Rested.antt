@@ -1,10 +1,11 @@
 -- Slots in which nothing waits and nothing comes. The first of them tells each machine that its output was idle, and the
 -- others change nothing. After them the fabric is as empty as before, so it is in step with an ideal switch that is empty too.
-use Rattle.std.proofs.Common.{◌≡◌, ℕ, zero, suc, ◌<◌, ◌≤◌, List, length, replicate, refl, sym, ap, ◌∙◌, subst, arith}
+use Rattle.std.proofs.Common.{◌≡◌, ℕ, zero, suc, ◌<◌, ◌≤◌, Bool, List, Option, length, replicate, refl, sym, ap, ◌∙◌, subst, arith}
 use Rattle.std.specs.Prelude.{slice_get}
 use Rattle.cq_base.specs.Arrivals.{no_arrivals}
 use Rattle.cq_base.specs.declared.figures.Figures.{Figures}
 use Rattle.cq_rank.specs.Machine.{Machine}
+use Rattle.cq_ideal.specs.Admission.{marked}
 use Rattle.cq_ideal.specs.IdealRun.{empty_ideal}
 use Rattle.cq_ideal.specs.IdealSlot.{IdealState}
 use Rattle.cq_ideal.specs.Parts.{all_idle}
@@ -13,9 +14,15 @@ use Rattle.cq_laws.specs.Agreement.{Agrees}
 use Rattle.cq_laws.specs.Fabric.{Fabric, IsEmptyFabric, empty_fabric, input}
 use Rattle.cq_laws.specs.FabricRun.{FabricRun}
 use Rattle.cq_laws.specs.Quiet.{idled, idled_for, quiet_slots}
+use Rattle.cq_laws.specs.LimitedFabric.{LimitedFabricRun}
+use Rattle.cq_laws.specs.LimitedQuiet.{quiet_limited_slots}
+use Rattle.cq_laws.proofs.NothingRefused.{none_come, run_with}
 use Rattle.cq_laws.proofs.QuietSlots.{empty_is, quiet_run}
 use Rattle.cq_laws.proofs.WholeRuns.{empty_agree, no_place}
-use Rattle.cq_engine.specs.Engine.{IsInStep}
+use Rattle.cq_ideal.specs.Limiter.{LimiterView}
+use Rattle.cq_laws.specs.Holding.{fabric_held}
+use Rattle.cq_engine.specs.Engine.{HoldsFabric, IsInStep}
+use Rattle.cq_engine.specs.Parts.{Queues, fabric_of}
 
 -- ## The machines
 
@@ -93,3 +100,19 @@ rested_in_step ms slot later x f rested le empty had =
         outputs = λ j y at. let few = had.counts.outputs j y at in omega arith;
       };
     }
+
+-- what the outputs hold does not depend on the states of the rank machines
+pub still_held : (q : Queues) (ranks rested : List (List ℕ)) (l : LimiterView) → HoldsFabric (fabric_of q ranks) l →
+    HoldsFabric (fabric_of q rested) l
+unfolding fabric_held
+still_held q ranks rested l holds = record { ports = holds.ports; held = holds.held }
+
+-- with limits the marks stay, and nothing is refused
+pub rested_limited_run : (limits : List (Option ℕ)) (marks : List Bool) (ms : List Machine) (ports count slot : ℕ) (f : Fabric)
+    (rested : List (List ℕ)) → IsEmptyFabric f → length f.buffers ≡ length f.inputs → length f.inputs ≡ ports → 0 < count →
+    rested ≡ all_idle ms ports f.ranks → all_idle ms ports rested ≡ rested →
+    LimitedFabricRun IsInputBest limits ms slot (replicate count no_arrivals) (marked marks f)
+    (quiet_limited_slots ms count slot ports f.ranks marks) (marked marks (with_ranks f rested))
+rested_limited_run limits marks ms ports count slot f rested empty square long some is again =
+    run_with IsInputBest limits ms marks slot (replicate count no_arrivals) _ _ _
+    (none_come IsInputBest limits ms marks count) (rested_run ms ports count slot f rested empty square long some is again)

@@ -4,11 +4,11 @@
 -- which a cell waits or comes has room for one: where the first matching fills that room, the output sends a cell and has it
 -- again.
 use Rattle.std.proofs.Common.{◌≡◌, ℕ, zero, suc, ◌+◌, ◌-◌, ◌<◌, ◌≤◌, eqb, Bool, true, false, List, [], ◌∷◌, ◌++◌, length, map, get_or, drop, Option, Some, None, Ok, refl, sym, ap, ◌∙◌, subst, inl, inr, ⊎_elim, arith, ◌⊎◌}
-use Rattle.std.specs.Prelude.{if◌then◌else◌, min, max, fold, sum, filter, slice_get, is_some, option_and_then}
+use Rattle.std.specs.Prelude.{IfSome, if◌then◌else◌, min, max, fold, sum, filter, slice_get, is_some, option_and_then}
 use Rattle.std.specs.List.{enumerate_from, list_any, position_or_len, reduce}
 use Rattle.std.specs.Option.{option_map}
-use Rattle.std.proofs.lemmas.Bool.{cond_both, eqb-true, eq-eqb}
-use Rattle.std.proofs.lemmas.List.{length-map}
+use Rattle.std.proofs.lemmas.Bool.{cases_lt, cond_both, eqb-true, eq-eqb}
+use Rattle.std.proofs.lemmas.List.{get_or-map, get_or_past, length-map}
 use Rattle.std.proofs.lemmas.Option.{same_Some}
 use Rattle.cq_base.specs.declared.cell.Cell.{Cell}
 use Rattle.cq_base.specs.declared.cell.Queued.{Queued}
@@ -20,13 +20,15 @@ use Rattle.cq_base.specs.declared.figures.Figures.{Figures}
 use Rattle.cq_base.specs.Arrivals.{arrival_at}
 use Rattle.cq_base.specs.Cells.{ArrivedBefore, cushion, is_for, put}
 use Rattle.cq_rank.specs.Machine.{Machine}
+use Rattle.cq_ideal.specs.Limiter.{LimiterView}
 use Rattle.cq_ideal.specs.Ranking.{ranking, AreForPorts}
-use Rattle.cq_ideal.specs.IdealSlot.{fronts, rests, all_told}
+use Rattle.cq_ideal.specs.IdealSlot.{IdealState, fronts, rests, all_told}
 use Rattle.cq_prefs.specs.FirstCells.{list_of, orders_of, output_order}
 use Rattle.cq_prefs.specs.Moves.{Moves, list_taken, transfers_of}
 use Rattle.cq_prefs.specs.Pairing.{Partners, partner_of, IsInputBest, IsStable, proposals}
 use Rattle.cq_xbar.proofs.Noting.{noted_all, noted_few}
 use Rattle.cq_xbar.proofs.OneEach.{partner_or_free, put_length}
+use Rattle.cq_laws.specs.Agreement.{Agrees, SendsAlike}
 use Rattle.cq_laws.specs.Fabric.{Fabric, IsAmong, cushion_of}
 use Rattle.cq_laws.specs.Phases.{came_to, list_arrived, Arrives, Transfers, Departs}
 use Rattle.cq_laws.specs.FabricSlot.{SlotRecord, FabricSlot}
@@ -44,9 +46,12 @@ use Rattle.cq_laws.proofs.InputBest.{stable_slot}
 use Rattle.cq_laws.proofs.LeastSlack.{by_arrivals, more_after}
 use Rattle.cq_laws.proofs.OneSlot.{same_slot, sound_from}
 use Rattle.cq_engine.specs.Parts.{Queues, ComeApart, FitLists, CanCross, fabric_of}
-use Rattle.cq_engine.specs.Engine.{IsInStep, CountsFit, waiting_for, arriving_for}
+use Rattle.cq_ideal.specs.Ideal.{count_for}
+use Rattle.cq_laws.specs.Holding.{waiting_for}
+use Rattle.cq_engine.specs.Engine.{HoldsFabric, IsInStep, CountsFit}
 use Rattle.cq_engine.specs.Measuring.{IsNewest, arriving_slack, input_counted, output_counted}
 use Rattle.cq_engine.proofs.Newest.{newest_arrived}
+use Rattle.cq_engine.proofs.Shown.{held_at}
 use Rattle.cq_engine.proofs.Changed.{length-by_place}
 use Rattle.cq_engine.proofs.Queued.{has_cell}
 
@@ -67,7 +72,7 @@ waits_one j (cells ∷ lists) (suc i) c h e = let one = waits_one j lists i c h 
 abbrev bit : Bool → ℕ
 bit b = if b then 1 else 0
 
-arrives_one : (j : ℕ) (cells : List (Option Cell)) (i : ℕ) (cell : Cell) → arrival_at cells i ≡ Some cell → cell.output ≡ j → 1 ≤ arriving_for j cells
+arrives_one : (j : ℕ) (cells : List (Option Cell)) (i : ℕ) (cell : Cell) → arrival_at cells i ≡ Some cell → cell.output ≡ j → 1 ≤ count_for j cells
 arrives_one j [] i cell h e = absurd (let P : ⊥ = cc in P)
 arrives_one j (None ∷ cells) zero cell h e = absurd (let P : ⊥ = cc in P)
 arrives_one j (None ∷ cells) (suc i) cell h e = arrives_one j cells i cell h e
@@ -171,6 +176,9 @@ pub record Whole (ms : List Machine) (slot : ℕ) (cells : List (Option Cell)) (
   pub crossed : transfers_in of_slot ≡ noted
   pub figures : y ≡ figures_after x of_slot
   pub in_step : IsInStep ms (slot + 1) y g
+  pub ideal : IdealState
+  pub agreed : Agrees slot f ideal
+  pub alike : SendsAlike ms slot cells ideal left g
 
 -- how many transfers a matching has
 pub few_cross : (m : Partners) (lists : List (List Queued)) (slot phase : ℕ) → IsInputBest (orders_of lists) m → length (transfers_of m lists slot phase) ≤ length lists
@@ -233,7 +241,16 @@ module _ (ms : List Machine) (slot : ℕ) (x : Figures) (q0 : Queues) (ranks0 : 
     sound1 : Sound (slot + 1) (fabric_of q1 ranks1)
     sound1 = arrived_sound ms slot cells came (fabric_of q0 ranks0) (fabric_of q1 ranks1) arrive keyed sound0 up.agrees.slack
 
-    module _ (room : (j : ℕ) → j < length ms → waiting_for j q0.inputs + arriving_for j cells ≤ get_or q0.to_outputs j 0 - length (list_of q0.buffers j)) where
+    -- a cell that waits at an input now waited there, or came
+    one_waits : (i j : ℕ) (c : Queued) → IsAmong c (list_of q1.inputs i) → c.cell.output ≡ j →
+        1 ≤ waiting_for j q0.inputs + count_for j cells
+    one_waits i j c h e =
+        ⊎_elim
+        (λ new. let one = arrives_one j cells i c.cell (arrival i c new) e in omega arith)
+        (λ was. let one = waits_one j q0.inputs i c was e in omega arith)
+        (came_or_was (fabric_of q0 []) (came_to came i) (list_of q0.inputs i) c (subst (IsAmong c) (lists1 i) h))
+
+    module _ (room : (j : ℕ) → j < length ms → waiting_for j q0.inputs + count_for j cells ≤ get_or q0.to_outputs j 0 - length (list_of q0.buffers j)) where
       room1 : (i j : ℕ) (c : Queued) → IsAmong c (list_of q1.inputs i) → c.cell.output ≡ j → length (list_of q1.buffers j) < get_or q1.to_outputs j 0
       room1 i j c h e =
           let out = sound1.fabric.outputs i c h in
@@ -241,15 +258,57 @@ module _ (ms : List Machine) (slot : ℕ) (x : Figures) (q0 : Queues) (ranks0 : 
           let fits = room j (omega arith) in
           let long = ap (λ bs. length (list_of bs j)) buffers1 in
           let many = ap (λ ns. get_or ns j 0) to1 in
-          let some : 1 ≤ waiting_for j q0.inputs + arriving_for j cells =
-          ⊎_elim
-          (λ new. let one = arrives_one j cells i c.cell (arrival i c new) e in omega arith)
-          (λ was. let one = waits_one j q0.inputs i c was e in omega arith)
-          (came_or_was (fabric_of q0 []) (came_to came i) (list_of q0.inputs i) c (subst (IsAmong c) (lists1 i) h)) in
+          let some = one_waits i j c h e in
           omega arith
 
       pub can_cross_first : CanCross q1
       can_cross_first = can_cross (slot + 1) q1 ranks1 sound1 room1
+
+      module _ (m1 : Partners) (best1 : IsInputBest (orders_of q1.inputs) m1) (q2 : Queues) (moves1 : Moves m1 q1.inputs q1.buffers q2.inputs q2.buffers) where
+        -- an output that sends a cell held one: it stood in its buffer, or crossed to it now
+        sent_was_held : (j : ℕ) → 1 ≤ length (list_of q2.buffers j) →
+            1 ≤ waiting_for j q0.inputs + count_for j cells + length (list_of q0.buffers j)
+        sent_was_held j some =
+            ⊎_elim
+            (λ r.
+            let have = has_cell q1.inputs q1.buffers q1.from_inputs q1.to_outputs (orders_of q1.inputs) m1 can_cross_first refl best1 in
+            let cell = have r.0 j r.1 in
+            let p = first_at (is_for j) (list_of q1.inputs r.0) cell.0 cell.1 in
+            let one = one_waits r.0 j cell.0 (among_at (list_of q1.inputs r.0) p.place cell.0 p.at) (eqb-true cell.0.cell.output j p.passes) in
+            omega arith)
+            (λ free.
+            let kept = ap length (moves1.kept j free) in
+            let same = ap (λ bs. length (list_of bs j)) buffers1 in
+            omega arith)
+            (partner_or_free m1 j)
+
+        module _ (first judged now : LimiterView) (holds : HoldsFabric (fabric_of q0 ranks0) first) (more : (j : ℕ) → j < length first.limits → get_or judged.held j 0 ≡ get_or first.held j 0 + count_for j cells) (same : now.held ≡ judged.held) where
+          held_one : (j : ℕ) → j < length q0.inputs → (cells : List Queued) → length (list_of q2.buffers j) ≡ length cells →
+              IfSome (slice_get cells 0) (λ _. 0 < get_or now.held j 0)
+          held_one j inside [] e = tt
+          held_one j inside (c ∷ cells) e =
+              let some = sent_was_held j (omega arith) in
+              let ports = holds.ports in
+              let judged_is = more j (omega arith) in
+              let was = ap (λ (l : List ℕ). get_or l j 0) holds.held ∙ held_at (fabric_of q0 ranks0) j inside in
+              let now_is = ap (λ (l : List ℕ). get_or l j 0) same in
+              omega arith
+
+          -- so the number that is kept of it is not 0
+          pub held_before : (j : ℕ) → IfSome (came_to (fronts q2.buffers) j) (λ _. 0 < get_or now.held j 0)
+          held_before j =
+              let nil : List Queued = [] in
+              let none : Option Queued = None in
+              let P : Option Queued → Type 0 = λ o. IfSome o (λ _. 0 < get_or now.held j 0) in
+              let mapped = length-map q2.buffers (λ (xs : List Queued). slice_get xs 0) in
+              ⊎_elim
+              (λ inside.
+              let square = up.agrees.fabric.square in
+              let moved = moves1.ports.1 in
+              let as_many = ap length buffers1 in
+              subst P (sym (get_or-map (λ (xs : List Queued). slice_get xs 0) q2.buffers j nil none inside)) (held_one j (omega arith) (list_of q2.buffers j) refl))
+              (λ beyond. subst P (sym (get_or_past (fronts q2.buffers) j none (omega arith))) tt)
+              (cases_lt j (length q2.buffers))
 
       module _ (m1 : Partners) (best1 : IsInputBest (orders_of q1.inputs) m1) (q2 : Queues) (moves1 : Moves m1 q1.inputs q1.buffers q2.inputs q2.buffers) (ranks2 : List (List ℕ)) (q3 : Queues) (inputs3 : q3.inputs ≡ q2.inputs) (buffers3 : q3.buffers ≡ rests q2.buffers) (told : ranks2 ≡ all_told ms (fronts q2.buffers) ranks1) (to3 : q3.to_outputs ≡ q1.to_outputs) where
         fill : Transfers m1 (fabric_of q1 ranks1) (fabric_of q2 ranks1)
@@ -337,9 +396,11 @@ module _ (ms : List Machine) (slot : ℕ) (x : Figures) (q0 : Queues) (ranks0 : 
           pub counted_outputs : map (λ at. output_counted slot (came_to (fronts q2.buffers) at.0) at.1) (enumerate_from 0 x.outputs) ≡ map (λ at. output_after recorded at.0 at.1) (enumerate_from 0 x.outputs)
           counted_outputs = by_place_same (λ k. output_counted slot (came_to (fronts q2.buffers) k)) (output_after recorded) 0 x.outputs (λ i y k e at. output_told k y)
 
+          alike : SendsAlike ms slot cells up.ideal (fronts q2.buffers) (fabric_of q4 ranks2)
+          alike = same_slot ms slot class_count cells (fabric_of q0 ranks0) (fabric_of q4 ranks2) up.ideal recorded up.agrees come stable
+
           pub in_step : IsInStep ms (slot + 1) (figures_after x recorded) (fabric_of q4 ranks2)
           in_step =
-              let alike = same_slot ms slot class_count cells (fabric_of q0 ranks0) (fabric_of q4 ranks2) up.ideal recorded up.agrees come stable in
               record {
                 machines = up.machines;
                 ports = moves2.ports.0 ∙ ap length inputs3 ∙ moves1.ports.0 ∙ ports1 ∙ up.ports;
@@ -364,4 +425,7 @@ module _ (ms : List Machine) (slot : ℕ) (x : Figures) (q0 : Queues) (ranks0 : 
                 crossed = refl;
                 figures = figures;
                 in_step = subst (λ z. IsInStep ms (slot + 1) z (fabric_of q4 ranks2)) (sym figures) in_step;
+                ideal = up.ideal;
+                agreed = up.agrees;
+                alike = alike;
               }

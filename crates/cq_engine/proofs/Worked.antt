@@ -1,5 +1,5 @@
 -- The slots of the tests: arrivals at four ports, and how many cells there are after so many slots.
-use Rattle.std.proofs.Common.{◌≡◌, ◌≢◌, ℕ, zero, suc, replicate, ◌+◌, ◌*◌, ◌<◌, ◌≤◌, eqb, Bool, true, false, cond, List, [], ◌∷◌, length, get_or, set, Option, Some, None, refl, sym, ap, ◌∙◌, inl, inr, ◌⊎◌, arith, get_or-set_same, get_or-set_other}
+use Rattle.std.proofs.Common.{◌≡◌, ◌≢◌, ℕ, ◌+◌, ◌*◌, ◌^◌, ◌<◌, ◌≤◌, eqb, Bool, true, false, cond, List, [], ◌∷◌, length, get_or, set, Option, Some, None, sym, ap, ◌∙◌, subst, inl, inr, ◌⊎◌, arith, get_or-set_same, get_or-set_other}
 use Rattle.std.specs.Prelude.{if◌then◌else◌, is_some}
 use Rattle.std.proofs.lemmas.Bool.{cases_Bool, cases_lt, eqb-true, eq-eqb}
 use Rattle.std.proofs.lemmas.List.{set_past, get_or-replicate, get_or_past, length-replicate}
@@ -7,13 +7,22 @@ use Rattle.std.proofs.lemmas.Option.{unwrap_or-slice_get, same_Some}
 use Rattle.cq_base.specs.declared.cell.Cell.{Cell}
 use Rattle.cq_base.specs.declared.cell.Departure.{Departure}
 use Rattle.cq_base.specs.declared.cell.Transfer.{Transfer}
-use Rattle.cq_base.specs.declared.cell.Queued.{Queued}
 use Rattle.cq_base.specs.Room.{RoomView}
 use Rattle.cq_base.specs.Arrivals.{arrival_at, no_arrivals, with_arrival}
 use Rattle.cq_rank.specs.Machine.{Machine}
+use Rattle.cq_ideal.specs.declared.refused.Refused.{Refused}
+use Rattle.cq_ideal.specs.Admission.{Admission, admission, marks_after, refused}
+use Rattle.cq_ideal.specs.Limiter.{CanCount}
 use Rattle.cq_ideal.specs.Ranking.{AreForPorts}
+use Rattle.cq_ideal.specs.Refused.{refused_counts}
+use Rattle.cq_ideal.proofs.Counting.{counts_fit, zero_fits}
+use Rattle.cq_ideal.proofs.Refusals.{each_once}
+use Rattle.cq_laws.specs.LimitedFabric.{LimitedRecord}
 use Rattle.cq_laws.specs.Fabric.{Fabric, input, empty_fabric}
-use Rattle.cq_engine.specs.Engine.{EngineView, SlotDone, arriving_for, waiting_for, held_for, HaveBufferRoom}
+use Rattle.cq_ideal.specs.Ideal.{count_for}
+use Rattle.cq_laws.specs.Holding.{fabric_held, held_for}
+use Rattle.cq_engine.specs.Engine.{EngineView, SlotDone, HaveBufferRoom}
+use Rattle.cq_engine.proofs.Begin.{nothing_for, nothing_in}
 use Rattle.cq_engine.proofs.Kept.{lists_kept, outputs_kept}
 
 -- nothing comes where nothing came
@@ -69,12 +78,12 @@ for_ports_with ports classes cells input cell for at_port for_port of_class =
     }
 
 -- no more cells come for an output than there are places
-arriving_most : (j : ℕ) (cells : List (Option Cell)) → arriving_for j cells ≤ length cells
+arriving_most : (j : ℕ) (cells : List (Option Cell)) → count_for j cells ≤ length cells
 arriving_most j [] = omega arith
 arriving_most j (None ∷ cells) = let rest = arriving_most j cells in omega arith
 arriving_most j (Some cell ∷ cells) = go (eqb cell.output j) (arriving_most j cells)
   where
-    go : (b : Bool) → arriving_for j cells ≤ length cells → cond b 1 0 + arriving_for j cells ≤ length (Some cell ∷ cells)
+    go : (b : Bool) → count_for j cells ≤ length cells → cond b 1 0 + count_for j cells ≤ length (Some cell ∷ cells)
     go true rest = omega arith
     go false rest = omega arith
 
@@ -88,12 +97,41 @@ buffer_room e cells n places ports room held early j inside =
     let most = arriving_most j cells in
     omega arith
 
+-- no more cells are admitted for an output, or refused, than come
+admitted_most : (limits : List (Option ℕ)) (held : List ℕ) (marks : List Bool) (cells : List (Option Cell)) (j : ℕ) (a : Admission) →
+    a ≡ admission limits held marks cells → count_for j a.cells ≤ length cells
+unfolding admission
+admitted_most limits held marks cells j a is =
+    let same = ap (λ (b : Admission). count_for j b.cells) is in
+    let split = each_once j (marks_after limits held marks cells) cells in
+    let most = arriving_most j cells in
+    omega arith
+
+refusals_most : (limits : List (Option ℕ)) (held : List ℕ) (marks : List Bool) (cells : List (Option Cell)) (a : Admission) →
+    a ≡ admission limits held marks cells → length a.refused ≤ length cells
+unfolding admission
+refusals_most limits held marks cells a is =
+    let same = ap (λ (b : Admission). length b.refused) is in
+    let few = refused_fewer (marks_after limits held marks cells) cells in
+    omega arith
+  where
+    refused_fewer : (marks : List Bool) (cells : List (Option Cell)) → length (refused marks cells) ≤ length cells
+    refused_fewer [] cells = omega arith
+    refused_fewer (mark ∷ marks) [] = omega arith
+    refused_fewer (true ∷ marks) (None ∷ cells) = let rest = refused_fewer marks cells in omega arith
+    refused_fewer (true ∷ marks) (Some cell ∷ cells) = let rest = refused_fewer marks cells in omega arith
+    refused_fewer (false ∷ marks) (cell ∷ cells) = let rest = refused_fewer marks cells in omega arith
+
 module _ (ms : List Machine) (slot : ℕ) (cells : List (Option Cell)) (old new : EngineView) (sent sent' : RoomView Departure) (note note' : RoomView Transfer) (slot_done : SlotDone ms slot cells old new sent sent' note note') where
+  record_is : LimitedRecord
+  record_is = slot_done.record_of
+
   pub lists_after : (n : ℕ) → ((i : ℕ) → length (input old.fabric i) ≤ n) → (i : ℕ) → length (input new.fabric i) ≤ n + 1
+  unfolding record_is
   lists_after n few i =
       let had = few i in
-      let kept = lists_kept ms slot cells old.fabric new.fabric slot_done.of_slot slot_done.is_slot i in
-      let one = bit_most (is_some (arrival_at cells i)) in
+      let kept = lists_kept ms slot record_is.admission.cells old.fabric new.fabric record_is.of_slot slot_done.is_slot.runs i in
+      let one = bit_most (is_some (arrival_at record_is.admission.cells i)) in
       omega arith
     where
       bit_most : (b : Bool) → (if b then 1 else 0) ≤ 1
@@ -101,24 +139,27 @@ module _ (ms : List Machine) (slot : ℕ) (cells : List (Option Cell)) (old new 
       bit_most false = omega arith
 
   pub held_after : (n : ℕ) → length cells ≡ 64 → ((j : ℕ) → held_for j old.fabric ≤ 64 * n) → (j : ℕ) → held_for j new.fabric ≤ 64 * (n + 1)
+  unfolding record_is
   held_after n places few j =
       let had = few j in
-      let kept = outputs_kept ms slot cells old.fabric new.fabric slot_done.of_slot slot_done.is_slot j in
-      let most = arriving_most j cells in
+      let kept = outputs_kept ms slot record_is.admission.cells old.fabric new.fabric record_is.of_slot slot_done.is_slot.runs j in
+      let most = admitted_most old.limits (fabric_held old.fabric) old.marks cells j record_is.admission slot_done.is_slot.admits in
       omega arith
 
+  pub counts_after : length cells ≡ 64 → (n : ℕ) → CanCount (n + 64) old.refused → CanCount n new.refused
+  unfolding record_is
+  counts_after places n can =
+      let few = refusals_most old.limits (fabric_held old.fabric) old.marks cells record_is.admission slot_done.is_slot.admits in
+      subst (CanCount n) (sym slot_done.refused)
+      (counts_fit record_is.admission.refused n 64 old.refused can (omega arith))
+
+pub counts_first : (counts : List Refused) (limits : List (Option ℕ)) → counts ≡ refused_counts limits [] → (n : ℕ) →
+    n < 2 ^ 64 → CanCount n counts
+counts_first counts limits is n few = subst (CanCount n) (sym is) (zero_fits n limits few)
+
 -- at first nothing waits
-nothing_in : (n i : ℕ) → length (get_or {A = List Queued} (replicate n []) i []) ≡ 0
-nothing_in zero i = refl
-nothing_in (suc n) zero = refl
-nothing_in (suc n) (suc i) = nothing_in n i
-
-nothing_for : (n j : ℕ) → waiting_for j (replicate n []) ≡ 0
-nothing_for zero j = refl
-nothing_for (suc n) j = let rest = nothing_for n j in omega arith
-
 pub lists_first : (f : Fabric) (n : ℕ) (ranks : List (List ℕ)) → f ≡ empty_fabric n ranks → (i : ℕ) → length (input f i) ≤ 0
-lists_first f n ranks is i = let e = ap (λ (g : Fabric). length (input g i)) is in let none = nothing_in n i in omega arith
+lists_first f n ranks is i = let e = ap (λ (g : Fabric). length (input g i)) is in let none = nothing_in i n in omega arith
 
 pub held_first : (f : Fabric) (n : ℕ) (ranks : List (List ℕ)) → f ≡ empty_fabric n ranks → (j : ℕ) → held_for j f ≤ 64 * 0
-held_first f n ranks is j = let e = ap (held_for j) is in let none = nothing_in n j in let nobody = nothing_for n j in omega arith
+held_first f n ranks is j = let e = ap (held_for j) is in let none = nothing_in j n in let nobody = nothing_for j n in omega arith

@@ -1,23 +1,27 @@
 -- What clauses see of an engine, what a slot asks of it, and what it does.
-use Rattle.std.specs.Prelude.{◌≡◌, ℕ, ◌+◌, ◌-◌, ◌<◌, ◌≤◌, ◌==◌, ◌++◌, Bool, if◌then◌else◌, List, [], ◌∷◌, length, filter, Option, Some, None, Result, Ok, Err, slice_get, slice_index}
+use Rattle.std.specs.Prelude.{◌≡◌, ℕ, ◌+◌, ◌-◌, ◌<◌, ◌≤◌, ◌++◌, Bool, List, length, Option, Some, Result, Ok, Err, slice_get, slice_index}
 use Rattle.cq_base.specs.declared.cell.Cell.{Cell}
 use Rattle.cq_base.specs.declared.cell.Departure.{Departure}
-use Rattle.cq_base.specs.declared.cell.Queued.{Queued}
 use Rattle.cq_base.specs.declared.cell.TagFault.{TagFault}
 use Rattle.cq_base.specs.declared.cell.Transfer.{Transfer}
 use Rattle.cq_base.specs.declared.figures.InputFigures.{InputFigures}
 use Rattle.cq_base.specs.declared.figures.OutputFigures.{OutputFigures}
 use Rattle.cq_base.specs.declared.figures.Figures.{Figures}
 use Rattle.cq_base.specs.Arrivals.{arrival_at}
-use Rattle.cq_base.specs.Cells.{is_for}
 use Rattle.cq_base.specs.Room.{RoomView}
 use Rattle.cq_rank.specs.Machine.{Machine}
 use Rattle.cq_rank.specs.Switch.{AreForOneSwitch}
+use Rattle.cq_ideal.specs.declared.refused.Refused.{Refused}
+use Rattle.cq_ideal.specs.Admission.{Admission, Marked, marked}
+use Rattle.cq_ideal.specs.Ideal.{count_for}
+use Rattle.cq_ideal.specs.Limiter.{LimiterView}
 use Rattle.cq_ideal.specs.Ranking.{Ranking}
+use Rattle.cq_ideal.specs.Refused.{with_refused}
 use Rattle.cq_ideal.specs.IdealSlot.{IdealState, departures_in}
 use Rattle.cq_prefs.specs.Pairing.{IsInputBest}
 use Rattle.cq_laws.specs.Fabric.{Fabric, input, buffer}
-use Rattle.cq_laws.specs.FabricSlot.{SlotRecord, FabricSlot}
+use Rattle.cq_laws.specs.Holding.{fabric_held, waiting_for}
+use Rattle.cq_laws.specs.LimitedFabric.{LimitedFabricSlot, LimitedRecord, fabric_admission}
 use Rattle.cq_laws.specs.Records.{transfers_in}
 use Rattle.cq_laws.specs.Agreement.{Agrees}
 use Rattle.cq_laws.specs.Measures.{HasMoreSlack, figures_after}
@@ -26,8 +30,14 @@ use Rattle.cq_laws.specs.Measures.{HasMoreSlack, figures_after}
 pub record EngineView : Type 0 where
   -- per output the numbers that give its rank machine
   pub fixed : List (List ℕ)
+  -- per output its limit, if it has one
+  pub limits : List (Option ℕ)
   -- the lists, the buffers, and the states of the rank machines
   pub fabric : Fabric
+  -- per input whether the packet whose cells arrive there is refused
+  pub marks : List Bool
+  -- how many packets and cells were refused, at each output that has a limit
+  pub refused : List Refused
   -- per input how many cells its list can hold
   pub from_inputs : List ℕ
   -- per output how many cells its buffer can hold
@@ -38,6 +48,14 @@ pub record EngineView : Type 0 where
   pub next : ℕ
   -- whether a slot had a tag fault
   pub stopped : Bool
+
+-- its fabric, with its marks
+abbrev pub marked_fabric : EngineView → Marked Fabric
+marked_fabric e = marked e.marks e.fabric
+
+-- what it admits of a slot's arrivals
+abbrev pub its_admission : List (Option Cell) → EngineView → Admission
+its_admission cells e = fabric_admission e.limits cells (marked_fabric e)
 
 -- how many inputs and outputs there are
 abbrev pub ports_of : EngineView → ℕ
@@ -51,44 +69,30 @@ list_spare e i = slice_index e.from_inputs i - length (input e.fabric i)
 abbrev pub buffer_spare : EngineView → ℕ → ℕ
 buffer_spare e j = slice_index e.to_outputs j - length (buffer e.fabric j)
 
--- how many of the cells that wait at the inputs are for output j
-abbrev pub waiting_for : ℕ → List (List Queued) → ℕ
-waiting_for j [] = 0
-waiting_for j (cells ∷ lists) = length (filter (is_for j) cells) + waiting_for j lists
-
--- how many of the arriving cells are for output j
-abbrev pub arriving_for : ℕ → List (Option Cell) → ℕ
-arriving_for j [] = 0
-arriving_for j (None ∷ cells) = arriving_for j cells
-arriving_for j (Some cell ∷ cells) = (if cell.output == j then 1 else 0) + arriving_for j cells
-
--- how many cells for output j the fabric holds, at the inputs and in its buffer
-abbrev pub held_for : ℕ → Fabric → ℕ
-held_for j f = waiting_for j f.inputs + length (buffer f j)
-
 -- the list of each input at which a cell arrives has room for it
 abbrev pub HaveListRoom : List (Option Cell) → EngineView → Type 0
 HaveListRoom cells e = (i : ℕ) (cell : Cell) → arrival_at cells i ≡ Some cell → 0 < list_spare e i
 
 -- each buffer has room for all cells for its output that wait at the inputs or arrive
 abbrev pub HaveBufferRoom : List (Option Cell) → EngineView → Type 0
-HaveBufferRoom cells e = (j : ℕ) → j < ports_of e → waiting_for j e.fabric.inputs + arriving_for j cells ≤ buffer_spare e j
+HaveBufferRoom cells e = (j : ℕ) → j < ports_of e → waiting_for j e.fabric.inputs + count_for j cells ≤ buffer_spare e j
 
--- the answer to what the arriving cells are ranked
+-- the answer to what the admitted cells are ranked
 abbrev pub answer_to : Result Ranking TagFault → Result (Unit {0}) TagFault
 answer_to (Ok r) = Ok tt
 answer_to (Err fault) = Err fault
 
--- what a slot did: it was one slot of the fabric, with the input-best matchings, and its departures, its transfers and its
--- record were added to what was there
+-- what a slot did: it was one slot of the fabric with limits, with the input-best matchings, and its departures, its transfers,
+-- its record and its refused cells were added to what was there
 pub record SlotDone (ms : List Machine) (slot : ℕ) (cells : List (Option Cell)) (old new : EngineView) (sent sent' : RoomView Departure) (note note' : RoomView Transfer) : Type 0 where
-  pub of_slot : SlotRecord
-  pub is_slot : FabricSlot IsInputBest ms slot cells old.fabric of_slot new.fabric
-  pub departed : sent'.items ≡ sent.items ++ departures_in slot of_slot.gone
-  pub departed_room : sent'.spare + length (departures_in slot of_slot.gone) ≡ sent.spare
-  pub crossed : note'.items ≡ note.items ++ transfers_in of_slot
-  pub crossed_room : note'.spare + length (transfers_in of_slot) ≡ note.spare
-  pub counted : new.figures ≡ figures_after old.figures of_slot
+  pub record_of : LimitedRecord
+  pub is_slot : LimitedFabricSlot IsInputBest old.limits ms slot cells (marked_fabric old) record_of (marked_fabric new)
+  pub departed : sent'.items ≡ sent.items ++ departures_in slot record_of.of_slot.gone
+  pub departed_room : sent'.spare + length (departures_in slot record_of.of_slot.gone) ≡ sent.spare
+  pub crossed : note'.items ≡ note.items ++ transfers_in record_of.of_slot
+  pub crossed_room : note'.spare + length (transfers_in record_of.of_slot) ≡ note.spare
+  pub counted : new.figures ≡ figures_after old.figures record_of.of_slot
+  pub refused : new.refused ≡ with_refused record_of.admission.refused old.refused
 
 -- before this slot no input and no output has counted more cells than there were slots
 pub record CountsFit (next : ℕ) (x : Figures) : Type 0 where
@@ -110,3 +114,14 @@ pub record IsInStep (ms : List Machine) (next : ℕ) (x : Figures) (f : Fabric) 
   pub slack : HasMoreSlack x f
   pub outputs : length x.outputs ≡ length ms
   pub counts : CountsFit next x
+
+-- the outputs hold the cells for them, at all inputs and in their buffers
+pub record HoldsFabric (f : Fabric) (limiter : LimiterView) : Type 0 where
+  pub ports : length limiter.limits ≡ length f.inputs
+  pub held : limiter.held ≡ fabric_held f
+
+-- what holds of an engine that is not stopped
+pub record IsRunning (ms : List Machine) (next : ℕ) (x : Figures) (f : Fabric) (limiter : LimiterView) : Type 0 where
+  pub in_step : IsInStep ms next x f
+  pub ranks : length f.ranks ≡ length ms
+  pub holds : HoldsFabric f limiter

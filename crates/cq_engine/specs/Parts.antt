@@ -1,34 +1,13 @@
--- What clauses see of the parts of an engine: its rank machines, and the lists and buffers in which cells wait.
-use Rattle.std.specs.Prelude.{◌≡◌, ◌≢◌, ℕ, ◌+◌, ◌-◌, ◌<◌, ◌≤◌, if◌then◌else◌, is_some, All, List, [], ◌∷◌, length, drop, slice_get, slice_index, slice_index_or, slice_set, Option, Some, None, Result}
+-- What clauses see of a part of an engine: the lists and buffers in which cells wait.
+use Rattle.std.specs.Prelude.{◌≡◌, ◌≢◌, ℕ, ◌+◌, ◌-◌, ◌<◌, ◌≤◌, ◌^◌, if◌then◌else◌, is_some, All, List, [], length, map, drop, slice_get, slice_index, slice_index_or, Option, Some, None}
 use Rattle.cq_base.specs.declared.cell.Queued.{Queued}
-use Rattle.cq_base.specs.declared.cell.TagFault.{TagFault}
 use Rattle.cq_base.specs.Cells.{HasOtherKey, MoreUrgentAhead, cushion, first_for, with_arrival}
-use Rattle.cq_rank.specs.Machine.{Machine, machine_at}
-use Rattle.cq_ideal.specs.Ranking.{Ranking, after_input}
 use Rattle.cq_list.specs.InputList.{Waiting, cells_of}
 use Rattle.cq_urgency.specs.OutputBuffer.{Buffered}
 use Rattle.cq_prefs.specs.FirstCells.{list_of, HasCellFor, orders_of}
 use Rattle.cq_prefs.specs.Orders.{Orders, ports}
 use Rattle.cq_laws.specs.Fabric.{Fabric, IsAmong}
 use Rattle.cq_laws.specs.Phases.{came_to}
-
--- the rank machines: the numbers that give them, and their states
-pub record Machines : Type 0 where
-  pub fixed : List (List ℕ)
-  pub states : List (List ℕ)
-
--- the rank that a cell of the class gets of output j
-abbrev pub rank_at : List Machine → List (List ℕ) → ℕ → ℕ → ℕ
-rank_at ms ranks j class = (machine_at ms j).ranked (slice_index_or ranks j []) class
-
--- the rank states after that
-abbrev pub given_at : List Machine → List (List ℕ) → ℕ → ℕ → List (List ℕ)
-given_at ms ranks j class = slice_set ranks j ((machine_at ms j).given (slice_index_or ranks j []) class)
-
--- a ranking, with what came to the inputs before it in front
-abbrev pub after_inputs : List (Option Queued) → Result Ranking TagFault → Result Ranking TagFault
-after_inputs [] x = x
-after_inputs (q ∷ came) x = after_input q (after_inputs came x)
 
 -- per input the cells of its list, per output those of its buffer, and how many cells each of them can hold
 pub record Queues : Type 0 where
@@ -122,10 +101,11 @@ pub record AreSquare (lists : List Waiting) (buffers : List Buffered) (offers : 
   pub offered : offers ≡ length lists
   pub outputs : All (λ list. list.outputs ≡ length lists) lists
 
--- and the offers are those of the lists
+-- and the offers are those of the lists; a number of 64 bits counts the cells that a buffer can hold
 pub record AreOffered (lists : List Waiting) (buffers : List Buffered) (offers : Orders) : Type 0 where
   pub square : AreSquare lists buffers (ports offers)
   pub offered : offers ≡ orders_of (cells_of lists)
+  pub rooms : All (λ room. room < 2 ^ 64) (map buffer_room buffers)
 
 -- one cell comes to the list of input i of lists that are offered: no waiting cell has its key
 pub record Comes (lists : List Waiting) (offers : Orders) (i : ℕ) (c : Queued) : Type 0 where

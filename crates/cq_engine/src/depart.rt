@@ -1,5 +1,5 @@
 //! How the outputs send.
-ghost use Rattle.std.specs.Prelude.{◌≡◌, ◌+◌, ◌-◌, ◌<◌, ◌≤◌, ◌^◌, ◌++◌, ℕ, Some, is_some, if◌then◌else◌, length, map, max, slice_get};
+ghost use Rattle.std.specs.Prelude.{◌≡◌, ◌+◌, ◌-◌, ◌<◌, ◌≤◌, ◌^◌, ◌++◌, ℕ, IfSome, Some, is_some, if◌then◌else◌, length, map, max, slice_get, slice_index_or};
 ghost use Rattle.std.specs.List.{enumerate_from, list_any};
 ghost use Rattle.cq_base.specs.declared.figures.OutputFigures.{OutputFigures};
 ghost use Rattle.cq_ideal.specs.IdealSlot.{all_told, departures_in, fronts, rests};
@@ -8,8 +8,8 @@ ghost use Rattle.cq_engine.specs.Measuring.{output_counted};
 
 use crate::measure::count_outputs;
 use crate::queues::Queues;
-use crate::ranks::Ranks;
 use cq_base::{Departure, Figures, Port, Queued, Room, Slot};
+use cq_ideal::{Limiter, Ranks};
 use cq_rank::Rank;
 
 // Whether any output sent a cell.
@@ -17,6 +17,36 @@ fn any_sent(gone: &[Option<Queued>]) -> bool
     ensures { result ≡ list_any is_some gone.now }
 {
     gone.iter().any(|queued| queued.is_some())
+}
+
+// Each machine is told what its output sent in the slot that ends.
+fn tell<R: Rank>(ranks: &mut Ranks<R>, gone: &[Option<Queued>])
+    requires few { length gone.now ≤ 64 }
+    requires outputs { length gone.now ≡ length ranks.old.fixed }
+    requires states { length ranks.old.states ≡ length ranks.old.fixed }
+    ensures fixed { ranks.new.fixed ≡ ranks.old.fixed }
+    ensures states { ranks.new.states ≡ all_told (map R.machine ranks.old.fixed) gone.now ranks.old.states }
+{
+    'outputs: for output in 0..gone.len() {
+        ranks.told(output as Port, gone[output]);
+    }
+}
+
+// Each output holds the cell that it sent no longer.
+fn release(limiter: &mut Limiter, gone: &[Option<Queued>])
+    requires few { length gone.now ≤ 64 }
+    requires outputs { length gone.now ≡ length limiter.old.held }
+    requires holds { (j : ℕ) → IfSome (came_to gone.now j) (λ _. 0 < slice_index_or limiter.old.held j 0) }
+    ensures held { (j : ℕ) → slice_index_or limiter.new.held j 0 + (if is_some (came_to gone.now j) then 1 else 0)
+        ≡ slice_index_or limiter.old.held j 0 }
+    ensures ports { length limiter.new.held ≡ length limiter.old.held }
+    ensures marks { limiter.new.marks ≡ limiter.old.marks }
+    ensures refused { limiter.new.refused ≡ limiter.old.refused }
+    ensures limits { limiter.new.limits ≡ limiter.old.limits }
+{
+    'outputs: for output in 0..gone.len() {
+        limiter.sent(output as Port, gone[output]);
+    }
 }
 
 // The cells that left are put at the end of what was sent.
@@ -54,16 +84,21 @@ fn count_departures(figures: &mut Figures, slot: Slot, gone: &[Option<Queued>])
     }
 }
 
-/// Each output sends the first cell of its buffer, or is idle. Its machine is told, and it is counted.
+/// Each output sends the first cell of its buffer, which it then holds no longer, or is idle. Its machine is told, and
+/// it is counted.
 pub fn depart<R: Rank>(
     ranks: &mut Ranks<R>,
     queues: &mut Queues,
+    limiter: &mut Limiter,
     figures: &mut Figures,
     slot: Slot,
     sent: &mut Room<Departure>,
 )
     requires early { slot < 2 ^ 64 - 1 }
     requires machines { length ranks.old.fixed ≡ length queues.old.inputs }
+    requires states { length ranks.old.states ≡ length ranks.old.fixed }
+    requires held { length limiter.old.held ≡ length queues.old.inputs }
+    requires holds { (j : ℕ) → IfSome (came_to (fronts queues.old.buffers) j) (λ _. 0 < slice_index_or limiter.old.held j 0) }
     requires sent { length queues.old.inputs ≤ sent.old.spare }
     requires outputs { length figures.old.outputs ≡ length queues.old.inputs }
     requires counts { (j : ℕ) (x : OutputFigures) → slice_get figures.old.outputs j ≡ Some x → x.cells < 2 ^ 64 - 1 }
@@ -73,6 +108,12 @@ pub fn depart<R: Rank>(
     ensures buffers { queues.new.buffers ≡ rests queues.old.buffers }
     ensures from_inputs { queues.new.from_inputs ≡ queues.old.from_inputs }
     ensures to_outputs { queues.new.to_outputs ≡ queues.old.to_outputs }
+    ensures held { (j : ℕ) → slice_index_or limiter.new.held j 0 + (if is_some (came_to (fronts queues.old.buffers) j) then 1 else 0)
+        ≡ slice_index_or limiter.old.held j 0 }
+    ensures ports { length limiter.new.held ≡ length limiter.old.held }
+    ensures marks { limiter.new.marks ≡ limiter.old.marks }
+    ensures refused { limiter.new.refused ≡ limiter.old.refused }
+    ensures limits { limiter.new.limits ≡ limiter.old.limits }
     ensures sent { sent.new.items ≡ sent.old.items ++ departures_in slot (fronts queues.old.buffers) }
     ensures sent_room { sent.new.spare + length (departures_in slot (fronts queues.old.buffers)) ≡ sent.old.spare }
     ensures slots { figures.new.slots ≡ (if list_any is_some (fronts queues.old.buffers) then max figures.old.slots (slot + 1) else figures.old.slots) }
@@ -84,7 +125,8 @@ pub fn depart<R: Rank>(
     let ports = queues.ports() as usize;
     let places = queues.depart();
     let gone = &places[..ports];
-    ranks.tell(gone);
+    tell(ranks, gone);
+    release(limiter, gone);
     send(slot, gone, sent);
     count_departures(figures, slot, gone);
 }

@@ -1,24 +1,27 @@
 //! The engine: a fabric, slot by slot.
-ghost use Rattle.std.specs.Prelude.{◌≡◌, ◌↔◌, ◌+◌, ◌-◌, ◌*◌, ◌^◌, ◌<◌, ◌≤◌, IsTrue, false, is_err, IfOk, OnOk, OnErr, length, map, max, replicate};
+ghost use Rattle.std.specs.Prelude.{◌≡◌, ◌↔◌, ◌+◌, ◌-◌, ◌*◌, ◌^◌, ◌<◌, ◌≤◌, IsTrue, [], false, is_err, IfOk, OnOk, OnErr, length, map, max, replicate};
 ghost use Rattle.cq_base.specs.Arrivals.{no_arrivals};
 ghost use Rattle.cq_rank.specs.Switch.{AreForOneSwitch, class_count};
+ghost use Rattle.cq_ideal.specs.Admission.{marks_down};
+ghost use Rattle.cq_ideal.specs.Limiter.{CanCount};
 ghost use Rattle.cq_ideal.specs.Ranking.{AreForPorts, ranking};
+ghost use Rattle.cq_ideal.specs.Refused.{refused_counts};
 ghost use Rattle.cq_laws.specs.Fabric.{empty_fabric, IsEmptyFabric};
-ghost use Rattle.cq_laws.specs.FabricRun.{FabricRun};
+ghost use Rattle.cq_laws.specs.LimitedFabric.{LimitedFabricRun};
+ghost use Rattle.cq_laws.specs.LimitedQuiet.{quiet_limited_slots};
 ghost use Rattle.cq_laws.specs.Measures.{no_figures};
-ghost use Rattle.cq_laws.specs.Quiet.{quiet_slots};
 ghost use Rattle.cq_prefs.specs.Pairing.{IsInputBest};
-ghost use Rattle.cq_engine.specs.Engine.{HaveBufferRoom, HaveListRoom, SlotDone, answer_to, ports_of};
+ghost use Rattle.cq_engine.specs.Engine.{HaveBufferRoom, HaveListRoom, SlotDone, answer_to, its_admission, marked_fabric, ports_of};
 
 use crate::depart::depart;
 use crate::measure::count_inputs;
-use crate::queues::Queues;
-use crate::ranks::Ranks;
+use crate::queues::{Queues, nobody};
 use cq_base::{
     Arrivals, Departure, Figures, InputFigures, NoMemory, OutputFigures, Room, Sequence, Slot,
     TagFault, Transfer,
 };
 use cq_crew::Gate;
+use cq_ideal::{Limiter, Ranks, Refused};
 use cq_rank::Rank;
 use std::alloc::Global;
 use std::marker::Model;
@@ -27,30 +30,46 @@ use std::thread::Threads;
 /// A fabric, which is in step with an ideal switch (Chuang, Goel, McKeown and Prabhakar 1999). In a slot the
 /// arriving cells are ranked and go into the lists of their inputs, a matching is transferred, each output
 /// sends the most urgent cell of its buffer, and a second matching is transferred. Both matchings are the
-/// ones that are best for the inputs, whichever worker proposes first.
+/// ones that are best for the inputs, whichever worker proposes first. Where an output has a limit, and as many cells
+/// or more are for it at the inputs and in its buffer as the first cell of a packet arrives, that packet is refused
+/// whole.
 ///
-/// Contracts see the numbers that give the rank machines, the fabric, how many cells each list and each
-/// buffer can hold, the figures, the next slot, and whether the engine is stopped.
+/// Contracts see the numbers that give the rank machines, the limits of the outputs, the fabric, the marks of the
+/// inputs, what was refused, how many cells each list and each buffer can hold, the figures, the next slot, and whether
+/// the engine is stopped.
 #[derive(Drop)]
 pub struct Engine<R: Rank> {
     ranks: Ranks<R>,
     queues: Queues,
+    limiter: Limiter,
     figures: Figures,
     workers: u16,
     next: Slot,
     stopped: bool,
 }
 
+/// What an engine saw of its slots.
+#[derive(Drop)]
+pub struct Seen {
+    /// Their figures.
+    pub figures: Figures,
+    /// How many packets and cells were refused, at each output that has a limit, in order of output.
+    pub refused: Vec<Refused>,
+}
+
 impl<R: Rank> Model for Engine<R> {
     ghost use Rattle.std.specs.Prelude.{◌≡◌, false, map};
-    ghost use Rattle.cq_engine.specs.Engine.{AreWorkers, EngineView, IsInStep};
+    ghost use Rattle.cq_engine.specs.Engine.{AreWorkers, EngineView, IsRunning};
     ghost use Rattle.cq_engine.specs.Parts.{fabric_of};
 
     ghost Value = { EngineView };
 
     ghost view = { λ a. record {
       fixed = a.ranks.fixed;
+      limits = a.limiter.limits;
       fabric = fabric_of a.queues a.ranks.states;
+      marks = a.limiter.marks;
+      refused = a.limiter.refused;
       from_inputs = a.queues.from_inputs;
       to_outputs = a.queues.to_outputs;
       figures = a.figures;
@@ -58,7 +77,7 @@ impl<R: Rank> Model for Engine<R> {
       stopped = a.stopped;
     } };
 
-    ghost invariant = { λ a. AreWorkers a.workers × (a.stopped ≡ false → IsInStep (map R.machine a.ranks.fixed) a.next a.figures (fabric_of a.queues a.ranks.states)) };
+    ghost invariant = { λ a. AreWorkers a.workers × (a.stopped ≡ false → IsRunning (map R.machine a.ranks.fixed) a.next a.figures (fabric_of a.queues a.ranks.states) a.limiter) };
 }
 
 // Nothing was seen yet of so many inputs and outputs.
@@ -106,23 +125,29 @@ fn count_proposals(figures: &mut Figures, first: u64, second: u64)
 
 impl<R: Rank> Engine<R> {
     /// An engine with an input and an output for each rank, which is not stopped. No cell waits, list i has
-    /// room for `from_inputs[i]` cells and buffer j for `to_outputs[j]`, nothing was counted, and the next
-    /// slot is 0. In a slot so many workers at most propose at once. All memory that a slot needs is taken here.
+    /// room for `from_inputs[i]` cells and buffer j for `to_outputs[j]`, output j has the limit `limits[j]`, or none,
+    /// no packet is refused, nothing was refused or counted, and the next slot is 0. In a slot so many workers at most propose at once. All memory that a slot needs is taken here.
     /// The error is want of memory.
     pub fn new(
         alloc: Global,
         ranks: Vec<R>,
         from_inputs: &[u64],
         to_outputs: &[u64],
+        limits: &[Option<u64>],
         workers: u16,
     ) -> Result<Engine<R>, NoMemory>
         requires machines { AreForOneSwitch (map R.machine (map R.fixed ranks.items)) }
         requires from_inputs { length from_inputs.now ≡ length ranks.items }
         requires to_outputs { length to_outputs.now ≡ length ranks.items }
+        requires limits { length limits.now ≡ length ranks.items }
         requires some { 1 ≤ workers }
         requires few { workers ≤ 64 }
         ensures fixed { IfOk result (λ engine. engine.fixed ≡ map R.fixed ranks.items) }
         ensures fabric { IfOk result (λ engine. engine.fabric ≡ empty_fabric (length ranks.items) (map R.state ranks.items)) }
+        ensures limits { IfOk result (λ engine. engine.limits ≡ limits.now) }
+        ensures marks { IfOk result (λ engine. engine.marks ≡ marks_down (length ranks.items)) }
+        // which is 0 at each output that has a limit
+        ensures refused { IfOk result (λ engine. engine.refused ≡ refused_counts limits.now []) }
         ensures from_inputs { IfOk result (λ engine. engine.from_inputs ≡ from_inputs.now) }
         ensures to_outputs { IfOk result (λ engine. engine.to_outputs ≡ to_outputs.now) }
         ensures figures { IfOk result (λ engine. engine.figures ≡ no_figures (length ranks.items)) }
@@ -131,6 +156,7 @@ impl<R: Rank> Engine<R> {
     {
         Ok(Engine {
             queues: Queues::new(alloc, from_inputs, to_outputs)?,
+            limiter: Limiter::new(alloc, limits)?,
             figures: no_figures(alloc, from_inputs.len())?,
             ranks: Ranks::of(ranks),
             workers,
@@ -139,15 +165,15 @@ impl<R: Rank> Engine<R> {
         })
     }
 
-    /// One slot: the cells arrive, the input-best matching is transferred, each output sends or is idle, and
+    /// One slot: the cells arrive and are admitted or refused, the input-best matching is transferred, each output sends or is idle, and
     /// the input-best matching is transferred again. The departures are put at the end of `sent`, in order
     /// of output, and the transfers at the end of `note`, phase by phase and in order of input. The slot is
-    /// added to the figures. `gate` is told of the steps of the workers, and changes nothing of what is found.
+    /// added to the figures, and the cells that are refused are counted. `gate` is told of the steps of the workers, and changes nothing of what is found.
     /// No memory is needed for a slot to succeed: a phase of two workers or more takes a ledger, and is settled
     /// by one thread where there is none.
     ///
-    /// The error is the first rank, in order of input, that does not fit 128 bits. Then `sent`, `note`, the
-    /// figures, the lists, the buffers and the next slot are as before, and the engine is stopped.
+    /// The error is the first rank, in order of input, that does not fit 128 bits. Then `sent`, `note`, the figures, the
+    /// counts of what was refused, the lists, the buffers and the next slot are as before, and the engine is stopped.
     pub fn slot<T: Threads + Sync, G: Gate>(
         &mut self,
         rt: &T,
@@ -164,31 +190,35 @@ impl<R: Rank> Engine<R> {
         requires arrivals { AreForPorts (ports_of self.old) (class_count (map R.machine self.old.fixed)) arrivals.now }
         requires list_room { HaveListRoom arrivals.now self.old }
         requires buffer_room { HaveBufferRoom arrivals.now self.old }
+        requires refused { CanCount (ports_of self.old) self.old.refused }
         requires sent { ports_of self.old ≤ sent.old.spare }
         requires note { 2 * ports_of self.old ≤ note.old.spare }
         requires proposals { self.old.figures.proposals + 2 * (ports_of self.old * ports_of self.old) < 2 ^ 64 }
-        ensures answer { result ≡ answer_to (ranking (map R.machine self.old.fixed) slot 0 arrivals.now self.old.fabric.ranks) }
+        ensures answer { result ≡ answer_to (ranking (map R.machine self.old.fixed) slot 0 (its_admission arrivals.now self.old).cells self.old.fabric.ranks) }
         ensures slot { OnOk result (SlotDone (map R.machine self.old.fixed) slot arrivals.now self.old self.new sent.old sent.new note.old note.new) }
         ensures few { OnOk result (self.new.figures.proposals ≤ self.old.figures.proposals + 2 * (ports_of self.old * ports_of self.old)) }
         ensures next { OnOk result (self.new.next ≡ slot + 1) }
         ensures fixed { self.new.fixed ≡ self.old.fixed }
+        ensures limits { self.new.limits ≡ self.old.limits }
         ensures from_inputs { self.new.from_inputs ≡ self.old.from_inputs }
         ensures to_outputs { self.new.to_outputs ≡ self.old.to_outputs }
         ensures stopped { self.new.stopped ≡ is_err result }
         ensures unsent { OnErr result (sent.new ≡ sent.old) }
         ensures unnoted { OnErr result (note.new ≡ note.old) }
         ensures uncounted { OnErr result (self.new.figures ≡ self.old.figures) }
+        ensures refusals_stay { OnErr result (self.new.refused ≡ self.old.refused) }
         ensures lists_stay { OnErr result (self.new.fabric.inputs ≡ self.old.fabric.inputs) }
         ensures buffers_stay { OnErr result (self.new.fabric.buffers ≡ self.old.fabric.buffers) }
         ensures next_stays { OnErr result (self.new.next ≡ self.old.next) }
     {
-        let came = match self.ranks.take(slot, arrivals) {
-            Ok(came) => came,
-            Err(fault) => {
-                self.stopped = true;
-                return Err(fault);
-            }
-        };
+        let mut came = nobody();
+        self.queues.ports();
+        self.limiter.judge(arrivals);
+        if let Err(fault) = self.ranks.take(slot, arrivals, &self.limiter, &mut came) {
+            self.stopped = true;
+            return Err(fault);
+        }
+        self.limiter.count(arrivals);
         self.queues.arrive(&came);
         count_inputs(&mut self.figures.inputs, &self.queues, &came);
         let workers = self.workers;
@@ -196,6 +226,7 @@ impl<R: Rank> Engine<R> {
         depart(
             &mut self.ranks,
             &mut self.queues,
+            &mut self.limiter,
             &mut self.figures,
             slot,
             sent,
@@ -208,12 +239,19 @@ impl<R: Rank> Engine<R> {
 
     /// All slots from the next one up to this one, in which no cell arrives. None waits either, so nothing crosses,
     /// no output sends and no figure changes, and they take no longer than one slot: each machine is told once that
-    /// its output was idle, since a second idle slot would change nothing.
+    /// its output was idle, since a second idle slot would change nothing. The marks stay as they are, and nothing is
+    /// refused.
     pub fn rest(&mut self, to: Slot)
         requires running { self.old.stopped ≡ false }
         requires empty { IsEmptyFabric self.old.fabric }
         requires later { self.old.next < to }
-        ensures slots { FabricRun IsInputBest (map R.machine self.old.fixed) self.old.next (replicate (to - self.old.next) no_arrivals) self.old.fabric (quiet_slots (map R.machine self.old.fixed) (to - self.old.next) self.old.next (ports_of self.old) self.old.fabric.ranks) self.new.fabric }
+        ensures slots { LimitedFabricRun IsInputBest self.old.limits (map R.machine self.old.fixed) self.old.next
+            (replicate (to - self.old.next) no_arrivals) (marked_fabric self.old) (quiet_limited_slots (map R.machine
+            self.old.fixed) (to - self.old.next) self.old.next (ports_of self.old) self.old.fabric.ranks
+            self.old.marks) (marked_fabric self.new) }
+        ensures limits { self.new.limits ≡ self.old.limits }
+        ensures marks { self.new.marks ≡ self.old.marks }
+        ensures refused { self.new.refused ≡ self.old.refused }
         ensures figures { self.new.figures ≡ self.old.figures }
         ensures next { self.new.next ≡ to }
         ensures inputs { self.new.fabric.inputs ≡ self.old.fabric.inputs }
@@ -255,18 +293,30 @@ impl<R: Rank> Engine<R> {
         &self.figures
     }
 
-    /// What was seen of the slots, without the engine.
-    pub fn into_figures(self) -> Figures
-        ensures { result ≡ self.figures }
+    /// How many packets and cells were refused so far, at each output that has a limit, in order of output.
+    pub fn refused(&self) -> &[Refused]
+        ensures { result.now ≡ self.now.refused }
+    {
+        self.limiter.refused()
+    }
+
+    /// What was seen of the slots, and what was refused, without the engine.
+    pub fn into_seen(self) -> Seen
+        ensures figures { result.figures ≡ self.figures }
+        ensures refused { result.refused.items ≡ self.refused }
     {
         let Engine {
             ranks: _,
             queues: _,
+            limiter,
             figures,
             workers: _,
             next: _,
             stopped: _,
         } = self;
-        figures
+        Seen {
+            figures,
+            refused: limiter.into_refused(),
+        }
     }
 }

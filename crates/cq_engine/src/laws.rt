@@ -2,11 +2,14 @@
 ghost use Rattle.std.specs.Prelude.{ℕ, ◌+◌, ◌≤◌, List, Option, is_some, if◌then◌else◌, length};
 ghost use Rattle.cq_base.specs.declared.cell.Cell.{Cell};
 ghost use Rattle.cq_base.specs.Arrivals.{arrival_at};
+ghost use Rattle.cq_ideal.specs.Admission.{Marked};
+ghost use Rattle.cq_ideal.specs.Ideal.{count_for};
 ghost use Rattle.cq_rank.specs.Machine.{Machine};
 ghost use Rattle.cq_prefs.specs.Pairing.{IsInputBest};
 ghost use Rattle.cq_laws.specs.Fabric.{Fabric, input};
 ghost use Rattle.cq_laws.specs.FabricSlot.{SlotRecord, FabricSlot};
-ghost use Rattle.cq_engine.specs.Engine.{arriving_for, held_for};
+ghost use Rattle.cq_laws.specs.Holding.{held_for};
+ghost use Rattle.cq_laws.specs.LimitedFabric.{LimitedFabricSlot, LimitedRecord};
 
 /// In a slot the list of an input grows by the cell that arrives there at most, and the cells that are held for
 /// an output grow by those that arrive for it at most. So rooms for all cells of a run are enough in each slot.
@@ -16,5 +19,12 @@ pub fn cells_are_kept()
         (i : ℕ) → length (input g i) ≤ length (input f i) + (if is_some (arrival_at cells i) then 1 else 0) }
     ensures outputs { (ms : List Machine) (slot : ℕ) (cells : List (Option Cell)) (f g : Fabric) (r : SlotRecord) →
         FabricSlot IsInputBest ms slot cells f r g →
-        (j : ℕ) → held_for j g ≤ held_for j f + arriving_for j cells }
+        (j : ℕ) → held_for j g ≤ held_for j f + count_for j cells }
+    // what is refused takes no room
+    ensures limited_lists { (limits : List (Option ℕ)) (ms : List Machine) (slot : ℕ) (cells : List (Option Cell))
+        (f g : Marked Fabric) (r : LimitedRecord) → LimitedFabricSlot IsInputBest limits ms slot cells f r g →
+        (i : ℕ) → length (input g.state i) ≤ length (input f.state i) + (if is_some (arrival_at cells i) then 1 else 0) }
+    ensures limited_outputs { (limits : List (Option ℕ)) (ms : List Machine) (slot : ℕ) (cells : List (Option Cell))
+        (f g : Marked Fabric) (r : LimitedRecord) → LimitedFabricSlot IsInputBest limits ms slot cells f r g →
+        (j : ℕ) → held_for j g.state ≤ held_for j f.state + count_for j cells }
 {}

@@ -11,11 +11,11 @@ mod engine;
 mod laws;
 mod measure;
 mod queues;
-mod ranks;
 #[cfg(test)]
 mod tests;
 
 pub use cq_base::{Figures, InputFigures, OutputFigures};
 pub use cq_crew::{Gate, OpenGate};
-pub use engine::Engine;
+pub use cq_ideal::Refused;
+pub use engine::{Engine, Seen};
 pub use laws::cells_are_kept;

@@ -1,5 +1,5 @@
 //! The lists of all inputs, and the buffers of all outputs.
-ghost use Rattle.std.specs.Prelude.{◌≡◌, ◌≢◌, ◌==◌, ◌+◌, ◌-◌, ◌*◌, ◌<◌, ◌≤◌, ◌++◌, ℕ, [], All, IfOk, IsTrue, None, Some, length, map, replicate, take};
+ghost use Rattle.std.specs.Prelude.{◌≡◌, ◌≢◌, ◌↔◌, ◌==◌, ◌+◌, ◌-◌, ◌*◌, ◌^◌, ◌<◌, ◌≤◌, ◌++◌, ℕ, [], All, IfOk, IsTrue, None, Some, length, map, replicate, slice_index, take};
 ghost use Rattle.std.specs.List.{list_all, position_or_len};
 ghost use Rattle.cq_base.specs.Cells.{cushion};
 ghost use Rattle.cq_ideal.specs.IdealSlot.{fronts, rests};
@@ -112,7 +112,7 @@ fn insert_each(
 
 // Whether no input offers anything.
 fn nothing_offered(offers: &Offers) -> bool
-    ensures { IsTrue result → (i : ℕ) → outputs_of offers.now i ≡ [] }
+    ensures { IsTrue result ↔ ((i : ℕ) → outputs_of offers.now i ≡ []) }
 {
     for input in 0..offers.ports() {
         if !offers.outputs_of(input).is_empty() {
@@ -211,6 +211,7 @@ fn new_lists(alloc: Global, rooms: &[u64]) -> Result<Vec<InputList>, NoMemory>
 fn new_buffers(alloc: Global, rooms: &[u64]) -> Result<Vec<OutputBuffer>, NoMemory>
     ensures cells { IfOk result (λ buffers. cells_in buffers.items ≡ replicate (length rooms.now) []) }
     ensures rooms { IfOk result (λ buffers. map buffer_room buffers.items ≡ rooms.now) }
+    ensures few { IfOk result (λ _. All (λ room. room < 2 ^ 64) rooms.now) }
 {
     let mut buffers = Vec::with_capacity(alloc, rooms.len())?;
     for room in rooms {
@@ -255,6 +256,8 @@ impl Queues {
         ensures value { result ≡ length self.now.inputs }
         ensures buffers { length self.now.buffers ≡ length self.now.inputs }
         ensures few { length self.now.inputs ≤ 64 }
+        ensures within { (j : ℕ) → length (list_of self.now.buffers j) ≤ slice_index self.now.to_outputs j }
+        ensures rooms { (j : ℕ) → slice_index self.now.to_outputs j < 2 ^ 64 }
     {
         self.lists.len() as u16
     }

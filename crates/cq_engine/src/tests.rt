@@ -1,13 +1,15 @@
 //! Worked slots, drawn slots against a plain slow fabric, and the call that wants memory, with ample memory.
-ghost use Rattle.std.specs.Prelude.{◌≡◌, ◌+◌, ◌*◌, ◌<◌, ◌≤◌, ℕ, [], ◌∷◌, All, IfOk, OnOk, false, is_err, length, map};
+ghost use Rattle.std.specs.Prelude.{◌≡◌, ◌+◌, ◌*◌, ◌^◌, ◌<◌, ◌≤◌, ℕ, [], ◌∷◌, All, IfOk, OnOk, false, is_err, length, map};
 ghost use Rattle.cq_rank.specs.Switch.{class_count};
+ghost use Rattle.cq_ideal.specs.Limiter.{CanCount};
 ghost use Rattle.cq_ideal.specs.Ranking.{AreForPorts};
 ghost use Rattle.cq_laws.specs.Fabric.{input};
-ghost use Rattle.cq_engine.specs.Engine.{held_for, ports_of};
+ghost use Rattle.cq_laws.specs.Holding.{held_for};
+ghost use Rattle.cq_engine.specs.Engine.{ports_of};
 
 mod slow;
 
-use crate::{Engine, Gate, OpenGate};
+use crate::{Engine, Gate, OpenGate, Refused};
 use cq_base::{
     Arrivals, Cell, CellId, ClassRow, Departure, InputFigures, NoMemory, OutputFigures, Port, Room,
     TagFault, Transfer,
@@ -18,9 +20,8 @@ use std::alloc::Global;
 use std::test::Fail;
 use std::thread::Threads;
 
-// The arrivals, and a cell that comes to the input.
-#[tactic(auto, using(crate::proofs::Worked::for_ports_with))]
-fn and(mut arrivals: Arrivals, packet: u32, input: Port, output: Port, class: u16) -> Arrivals
+// The arrivals, and a packet of one cell that comes to the input.
+fn and(arrivals: Arrivals, packet: u32, input: Port, output: Port, class: u16) -> Arrivals
     requires input { input < 4 }
     requires output { output < 4 }
     requires class { class < 2 }
@@ -32,6 +33,18 @@ fn and(mut arrivals: Arrivals, packet: u32, input: Port, output: Port, class: u1
         packet,
         index: 0,
     };
+    and_cell(arrivals, id, output, class)
+}
+
+// The arrivals, and the cell with this id.
+#[tactic(auto, using(crate::proofs::Worked::for_ports_with))]
+fn and_cell(mut arrivals: Arrivals, id: CellId, output: Port, class: u16) -> Arrivals
+    requires input { id.input < 4 }
+    requires output { output < 4 }
+    requires class { class < 2 }
+    requires arrivals { AreForPorts 4 2 arrivals }
+    ensures { AreForPorts 4 2 result }
+{
     let cell = Cell {
         id,
         output,
@@ -40,7 +53,7 @@ fn and(mut arrivals: Arrivals, packet: u32, input: Port, output: Port, class: u1
         at: 0,
         len: 60,
     };
-    arrivals.set(input, cell);
+    arrivals.set(id.input, cell);
     arrivals
 }
 
@@ -72,6 +85,7 @@ fn step<R: Rank, T: Threads + Sync, G: Gate>(
     requires held { (j : ℕ) → held_for j engine.old.fabric ≤ 64 * engine.old.next }
     requires proposals { engine.old.figures.proposals ≤ 32 * engine.old.next }
     requires arrivals { AreForPorts 4 2 arrivals.now }
+    requires counts { CanCount 4 engine.old.refused }
     requires sent { 4 ≤ sent.old.spare }
     requires note { 8 ≤ note.old.spare }
     ensures fixed { engine.new.fixed ≡ engine.old.fixed }
@@ -82,6 +96,7 @@ fn step<R: Rank, T: Threads + Sync, G: Gate>(
     ensures lists { OnOk result ((i : ℕ) → length (input engine.new.fabric i) ≤ engine.old.next + 1) }
     ensures held { OnOk result ((j : ℕ) → held_for j engine.new.fabric ≤ 64 * (engine.old.next + 1)) }
     ensures proposals { OnOk result (engine.new.figures.proposals ≤ 32 * (engine.old.next + 1)) }
+    ensures counts { OnOk result ((n : ℕ) → CanCount (n + 64) engine.old.refused → CanCount n engine.new.refused) }
 {
     // Its contract tells that there are 64 places.
     let _places = arrivals.at(0);
@@ -146,6 +161,7 @@ fn run<R: Rank, T: Threads + Sync>(
     requires lists { (i : ℕ) → length (input engine.old.fabric i) ≤ 0 }
     requires held { (j : ℕ) → held_for j engine.old.fabric ≤ 0 }
     requires proposals { engine.old.figures.proposals ≤ 0 }
+    requires counts { (n : ℕ) → n < 2 ^ 64 → CanCount n engine.old.refused }
     requires slots { All (AreForPorts 4 2) slots.now }
     requires few { length slots.now ≤ 40 }
 {
@@ -171,13 +187,18 @@ fn worked_slots() -> [Arrivals; 3]
     [all, later, nothing()]
 }
 
+const NO_LIMITS: [Option<u64>; 4] = [None, None, None, None];
+
 // An engine of four first-come outputs on these slots.
 #[tactic(auto, using(crate::proofs::Worked::lists_first, crate::proofs::Worked::held_first))]
 fn worked<T: Threads + Sync>(
     rt: &T,
     alloc: Global,
+    limits: [Option<u64>; 4],
+    slots: [Arrivals; 3],
     workers: u16,
 ) -> Result<(Engine<FirstCome>, Told), NoMemory>
+    requires slots { All (AreForPorts 4 2) slots }
     requires some { 1 ≤ workers }
     requires few { workers ≤ 64 }
 {
@@ -187,8 +208,8 @@ fn worked<T: Threads + Sync>(
         FirstCome::new(2),
         FirstCome::new(2),
     ]?;
-    let mut engine = Engine::new(alloc, ranks, &[40; 4], &[2560; 4], workers)?;
-    let told = run(rt, alloc, &mut engine, &worked_slots())?;
+    let mut engine = Engine::new(alloc, ranks, &[40; 4], &[2560; 4], &limits, workers)?;
+    let told = run(rt, alloc, &mut engine, &slots)?;
     Ok((engine, told))
 }
 
@@ -216,7 +237,7 @@ fn a_new_cell_goes_ahead_of_an_older_one_for_a_busy_output(rt: HostRuntime) -> R
         [1, 2, 2, 0, 0],
     ];
     for workers in 1..3 {
-        let (engine, told) = worked(&rt, rt.alloc(), workers)?;
+        let (engine, told) = worked(&rt, rt.alloc(), NO_LIMITS, worked_slots(), workers)?;
         assert_eq!(rt; told.sent.as_slice(), &sent[..]);
         assert_eq!(rt; told.crossed.as_slice(), &crossed[..]);
         assert!(rt; told.fault.is_none());
@@ -229,8 +250,8 @@ fn a_new_cell_goes_ahead_of_an_older_one_for_a_busy_output(rt: HostRuntime) -> R
 
 #[test]
 fn figures_count_cells_proposals_slack_and_waits(rt: HostRuntime) -> Result<(), Fail> {
-    let (engine, _) = worked(&rt, rt.alloc(), 2)?;
-    let figures = engine.into_figures();
+    let (engine, _) = worked(&rt, rt.alloc(), NO_LIMITS, worked_slots(), 2)?;
+    let figures = engine.into_seen().figures;
     let inputs = [
         of_input(1, 1, Some(0)),
         of_input(1, 1, Some(0)),
@@ -246,6 +267,38 @@ fn figures_count_cells_proposals_slack_and_waits(rt: HostRuntime) -> Result<(), 
     assert_eq!(rt; [figures.slots, figures.proposals, figures.most], [3, 7, 3]);
     assert_eq!(rt; figures.inputs.as_slice(), &inputs[..]);
     assert_eq!(rt; figures.outputs.as_slice(), &outputs[..]);
+    Ok(())
+}
+
+#[test]
+fn an_output_is_full_of_what_waits_for_it_at_inputs(rt: HostRuntime) -> Result<(), Fail> {
+    // Two cells fill output 0, one of which waits at input 1 for a slot. So the packet of input 2 that comes with
+    // them is refused, though nothing is in the buffer, and its second cell with it, though one cell has left.
+    let all = and(and(and(nothing(), 0, 0, 0, 0), 0, 1, 0, 0), 0, 2, 0, 0);
+    let second = CellId {
+        input: 2,
+        packet: 0,
+        index: 1,
+    };
+    let rest = and_cell(nothing(), second, 0, 0);
+    let slots = [all, rest, and(nothing(), 1, 2, 0, 0)];
+    let limits = [Some(2), None, Some(1), None];
+    let (engine, told) = worked(&rt, rt.alloc(), limits, slots, 2)?;
+    let sent = [[0, 0, 0, 0], [1, 0, 1, 0], [2, 0, 2, 1]];
+    assert_eq!(rt; told.sent.as_slice(), &sent[..]);
+    let at_zero = Refused {
+        output: 0,
+        limit: 2,
+        packets: 1,
+        cells: 2,
+    };
+    let at_two = Refused {
+        output: 2,
+        limit: 1,
+        packets: 0,
+        cells: 0,
+    };
+    assert_eq!(rt; engine.refused(), &[at_zero, at_two][..]);
     Ok(())
 }
 
@@ -267,7 +320,8 @@ impl Draws {
         ((self.state >> 33) % limit as u64) as u16
     }
 
-    // The arrivals of a slot at some of the first ports, for them. Their packets are numbered by the slot.
+    // The arrivals of a slot at some of the first ports, for them. Their packets are numbered by the slot, and a third
+    // of them come as if they were not the first cell of their packet.
     fn arrivals(&mut self, slot: u32, ports: u16) -> Arrivals
         requires some { 0 < ports }
         requires few { ports ≤ 4 }
@@ -276,8 +330,13 @@ impl Draws {
         let mut arrivals = nothing();
         'inputs: for input in 0..ports {
             if self.below(8) < 7 {
+                let id = CellId {
+                    input,
+                    packet: slot,
+                    index: u32::from(self.below(3) == 0),
+                };
                 let output = self.below(ports);
-                arrivals = and(arrivals, slot, input, output, self.below(2));
+                arrivals = and_cell(arrivals, id, output, self.below(2));
             }
         }
         arrivals
@@ -303,6 +362,19 @@ fn drawn_slots(alloc: Global, seed: u64) -> Result<Vec<Arrivals>, NoMemory>
     Ok(slots)
 }
 
+// Of each output the limit, from 1 to 6 cells, or none.
+fn drawn_limits(seed: u64) -> [Option<u64>; 4] {
+    let mut draws = Draws { state: seed };
+    let mut limits = NO_LIMITS;
+    for limit in &mut limits {
+        let drawn = draws.below(9);
+        if drawn > 2 {
+            *limit = Some(u64::from(drawn - 2));
+        }
+    }
+    limits
+}
+
 // A discipline of two classes with these priorities.
 fn by_priority(alloc: Global, priorities: [u128; 2]) -> Result<Priority, NoMemory>
     ensures { IfOk result (λ rank. length rank.fixed ≡ 2) }
@@ -325,6 +397,7 @@ fn by_priority(alloc: Global, priorities: [u128; 2]) -> Result<Priority, NoMemor
 fn prioritized<T: Threads + Sync>(
     rt: &T,
     alloc: Global,
+    limits: [Option<u64>; 4],
     slots: &[Arrivals],
     workers: u16,
 ) -> Result<(Engine<Priority>, Told), NoMemory>
@@ -339,18 +412,19 @@ fn prioritized<T: Threads + Sync>(
         by_priority(alloc, PRIORITIES[2])?,
         by_priority(alloc, PRIORITIES[3])?,
     ]?;
-    let mut engine = Engine::new(alloc, ranks, &[40; 4], &[2560; 4], workers)?;
+    let mut engine = Engine::new(alloc, ranks, &[40; 4], &[2560; 4], &limits, workers)?;
     let told = run(rt, alloc, &mut engine, slots)?;
     Ok((engine, told))
 }
 
 #[test]
 fn drawn_slots_are_as_in_the_plain_slow_fabric(rt: HostRuntime) -> Result<(), Fail> {
-    for seed in 1..9 {
+    for seed in 1..17 {
         let slots = drawn_slots(rt.alloc(), seed)?;
-        let plain = Slow::run(rt.alloc(), &slots)?;
+        let limits = drawn_limits(seed);
+        let plain = Slow::run(rt.alloc(), limits, &slots)?;
         for workers in 1..3 {
-            let (engine, told) = prioritized(&rt, rt.alloc(), &slots, workers)?;
+            let (engine, told) = prioritized(&rt, rt.alloc(), limits, &slots, workers)?;
             let figures = engine.figures();
             assert_eq!(rt;
                 told.sent.as_slice(),
@@ -373,6 +447,7 @@ fn drawn_slots_are_as_in_the_plain_slow_fabric(rt: HostRuntime) -> Result<(), Fa
                 [plain.slots, plain.proposals, plain.most],
                 "seed {seed}"
             );
+            assert_eq!(rt; engine.refused(), plain.refused.as_slice(), "seed {seed}");
         }
     }
     Ok(())

@@ -1,6 +1,6 @@
 -- The tables are in range, and no address stands twice, since the last bytes of two addresses differ.
-use Rattle.std.proofs.Common.{◌≡◌, ℕ, ◌<◌, ◌≤◌, List, get_or, ap, sym, ◌∙◌, arith}
-use Rattle.std.proofs.lemmas.List.{length-replicate}
+use Rattle.std.proofs.Common.{◌≡◌, ℕ, ◌<◌, ◌≤◌, List, Option, None, get_or, ap, sym, ◌∙◌, subst, arith}
+use Rattle.std.proofs.lemmas.List.{length-replicate, get_or-replicate}
 use Rattle.std.proofs.lemmas.List.FromFn.{length-map-range_with_len}
 use Rattle.std.specs.Int.{IsInRange}
 use Rattle.cq_base.specs.declared.setup.ClassRow.{ClassRow}
@@ -24,6 +24,8 @@ tables_in_range ports range =
     let count : ports_of (soak_setup ports) ≡ ports = soak_ports ports in
     let low : 1 ≤ ports = range.0 in
     let high : ports ≤ 64 = range.1 in
+    let no_limit : Option ℕ = None in
+    let limits = length-replicate ports no_limit in
     record {
       setup = record {
         classes = (omega arith, omega arith);
@@ -35,6 +37,12 @@ tables_in_range ports range =
       limit_bytes = (omega arith, omega arith);
       workers = (omega arith, omega arith);
       files = length-replicate ports soak_port ∙ sym count;
+      limits = record {
+        ports_are = limits ∙ sym count;
+        some = λ k d inside.
+            subst (λ (limit : Option ℕ). IfSome limit (λ n. 1 ≤ n))
+            (sym (get_or-replicate ports k no_limit d (omega arith))) tt;
+      };
       default_output = omega arith;
       default_class = omega arith;
       addresses_differ =

@@ -48,6 +48,7 @@ soak_tables ports = record {
   log = [];
   setup = soak_setup ports;
   ports = replicate ports soak_port;
+  limits = replicate ports None;
   addresses = map soak_address (range_with_len 0 ports);
   rules = map soak_rule (range_with_len 0 8);
 }

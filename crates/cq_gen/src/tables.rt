@@ -1,5 +1,5 @@
 // The tables of the switch.
-ghost use Rattle.std.specs.Prelude.{◌≡◌, ◌≤◌, map, replicate, IfOk};
+ghost use Rattle.std.specs.Prelude.{◌≡◌, ◌≤◌, None, map, replicate, IfOk};
 ghost use Rattle.std.specs.List.{range_with_len};
 ghost use Rattle.cq_gen.specs.Tables.{soak_address, soak_class, soak_kind, soak_port, soak_rule, soak_setup, soak_tables};
 
@@ -28,6 +28,7 @@ pub fn soak_tables(alloc: Global, ports: Port) -> Result<Tables, NoMemory>
         log: Name::of(alloc, "")?,
         setup: soak_setup(alloc, ports)?,
         ports: Sequence::of(port_rows(alloc, ports)?),
+        limits: Sequence::of(no_limits(alloc, ports)?),
         addresses: Sequence::of(addresses(alloc, ports)?),
         rules: Sequence::of(rules(alloc)?),
     })
@@ -86,6 +87,15 @@ fn port_rows(alloc: Global, ports: Port) -> Result<Vec<PortRow>, NoMemory>
         rows.push(row)?;
     }
     Ok(rows)
+}
+
+// No output has a limit.
+fn no_limits(alloc: Global, ports: Port) -> Result<Vec<Option<u64>>, NoMemory>
+    ensures { IfOk result (λ limits. limits.items ≡ replicate ports None) }
+{
+    let mut limits = Vec::new(alloc);
+    limits.resize(ports as usize, None)?;
+    Ok(limits)
 }
 
 // The address of each output.

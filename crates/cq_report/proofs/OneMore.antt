@@ -2,7 +2,7 @@
 -- text one line more stands behind the lines before it.
 use Rattle.std.proofs.Common.{◌≡◌, ℕ, ◌+◌, ◌<◌, List, [], ◌∷◌, ◌++◌, length, take, get_or, ap, sym, ◌∙◌, append_assoc, arith}
 use Rattle.std.specs.List.{flat_map}
-use Rattle.std.proofs.lemmas.List.{append-nil, take_more, length-take-le}
+use Rattle.std.proofs.lemmas.List.{append-nil, flat_map_more, take_more, length-take-le}
 use Rattle.cq_base.specs.Decimal.{decimal}
 use Rattle.cq_base.specs.Texts.{line_of}
 use Rattle.cq_report.specs.Report.{numbered_lines}
@@ -35,3 +35,13 @@ numbered_more line xs i d start old new h o n =
     let place : i ≡ 0 + length front = let l = length-take-le i xs (omega arith) in omega arith in
     n ∙ ap (λ ys. ys ++ line i x) o ∙ append_assoc start (numbered_lines line 0 front) (line i x)
     ∙ ap (λ ys. start ++ ys) (sym (ap (numbered_lines line 0) (take_more xs i d h) ∙ numbered_end line 0 front x i place))
+
+-- one line more, without a number
+pub one_line_more : {X : Type 0} (line : X → List ℕ) (xs : List X) (i : ℕ) (d : X) (start old new : List ℕ) →
+    i < length xs → old ≡ start ++ flat_map line (take i xs) → new ≡ old ++ line (get_or xs i d) →
+    new ≡ start ++ flat_map line (take (i + 1) xs)
+one_line_more line xs i d start old new h o n =
+    let x = get_or xs i d in
+    let front = take i xs in
+    n ∙ ap (λ ys. ys ++ line x) o ∙ flat_map_more line start front x
+    ∙ ap (λ ys. start ++ flat_map line ys) (sym (take_more xs i d h))

@@ -12,6 +12,11 @@ pub four_words : (t₀ t₁ t₂ t₃ t₄ a b c d : List ℕ) → t₁ ≡ t₀
 four_words t₀ t₁ t₂ t₃ t₄ a b c d e₁ e₂ e₃ e₄ =
     word_then t₀ t₁ t₄ a _ 32 e₁ (word_then t₁ t₂ t₄ b _ 32 e₂ (word_then t₂ t₃ t₄ c _ 32 e₃ e₄))
 
+-- a line of three words
+pub three_words : (t₀ t₁ t₂ t₃ a b c : List ℕ) → t₁ ≡ t₀ ++ (a ++ 32 ∷ []) → t₂ ≡ t₁ ++ (b ++ 32 ∷ []) →
+    t₃ ≡ t₂ ++ (c ++ 10 ∷ []) → t₃ ≡ t₀ ++ line_of_words (a ∷ b ∷ c ∷ [])
+three_words t₀ t₁ t₂ t₃ a b c e₁ e₂ e₃ = word_then t₀ t₁ t₃ a _ 32 e₁ (word_then t₁ t₂ t₃ b _ 32 e₂ e₃)
+
 -- three lines of one word
 pub three_lines : (t₀ t₁ t₂ t₃ a b c : List ℕ) → t₁ ≡ t₀ ++ a → t₂ ≡ t₁ ++ b → t₃ ≡ t₂ ++ c → t₃ ≡ t₀ ++ (a ++ b ++ c)
 three_lines t₀ t₁ t₂ t₃ a b c e₁ e₂ e₃ =

@@ -1,9 +1,11 @@
 -- The report of a run: its figures, each behind its name.
 use Rattle.std.specs.Prelude.{ℕ, ◌+◌, ◌-◌, List, [], ◌∷◌, ◌++◌, Option, None, Some, codes}
+use Rattle.std.specs.List.{flat_map}
 use Rattle.cq_base.specs.Decimal.{decimal}
 use Rattle.cq_base.specs.declared.figures.InputFigures.{InputFigures}
 use Rattle.cq_base.specs.declared.figures.OutputFigures.{OutputFigures}
 use Rattle.cq_base.specs.declared.figures.Figures.{Figures}
+use Rattle.cq_ideal.specs.declared.refused.Refused.{Refused}
 
 -- a figure: in decimal digits, or `-` where there is none
 abbrev pub figure : Option ℕ → List ℕ
@@ -42,6 +44,15 @@ run_lines f =
     ++ line_of_words (named (codes "proposals") (Some f.proposals) ∷ [])
     ++ line_of_words (named (codes "most") (Some f.most) ∷ [])
 
+-- an output that has a limit: how many packets were refused there, and how many cells they had
+unfoldable pub limit_line : Refused → List ℕ
+limit_line r =
+    line_of_words (named (codes "limit") (Some r.output) ∷ named (codes "refused") (Some r.packets) ∷ named (codes "cells") (Some r.cells) ∷ [])
+
 -- the run as a whole, then its inputs and its outputs, each numbered from 0
 unfoldable pub report_of : Figures → List ℕ
 report_of f = run_lines f ++ numbered_lines input_line 0 f.inputs ++ numbered_lines (output_line f.slots) 0 f.outputs
+
+-- behind that what was refused, where outputs have limits
+unfoldable pub report_with : Figures → List Refused → List ℕ
+report_with f refused = report_of f ++ flat_map limit_line refused

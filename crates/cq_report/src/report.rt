@@ -1,9 +1,11 @@
 //! The report of a run.
 ghost use Rattle.std.specs.Prelude.{◌≡◌, ◌≤◌, ◌++◌, All, IfOk, OnOk};
-ghost use Rattle.cq_report.specs.Report.{report_of, run_lines, numbered_lines, input_line, output_line};
+ghost use Rattle.std.specs.List.{flat_map};
+ghost use Rattle.cq_report.specs.Report.{report_with, run_lines, numbered_lines, input_line, output_line, limit_line};
 
 use crate::lines::put_named;
 use cq_base::{Figures, InputFigures, NoMemory, OutputFigures};
+use cq_ideal::Refused;
 use std::alloc::Global;
 
 // The most bytes of the three lines of the run as a whole, and of a line of an input or an output: a
@@ -14,21 +16,28 @@ const PORT_LINE: usize = 4 * 20 + 30;
 
 /// The report of the figures: the slots of the run, its proposals and the most proposals of one phase,
 /// each on a line; a line for each input with its number, its cells, the greatest length of its list
-/// and the least slack; and a line for each output with its number, its cells, the slots in which it
-/// was idle and the longest wait. Each figure stands behind its name, and `-` stands for one that there
+/// and the least slack; a line for each output with its number, its cells, the slots in which it
+/// was idle and the longest wait; and a line for each output that has a limit with its number, and the packets
+/// and the cells that were refused there. Each figure stands behind its name, and `-` stands for one that there
 /// is not. No output can have sent more cells than the run has slots. The error is want of memory.
-pub fn report_text(alloc: Global, figures: &Figures) -> Result<Vec<u8>, NoMemory>
+pub fn report_text(
+    alloc: Global,
+    figures: &Figures,
+    refused: &[Refused],
+) -> Result<Vec<u8>, NoMemory>
     requires { All (λ x. x.cells ≤ figures.now.slots) figures.now.outputs }
-    ensures { IfOk result (λ text. text.items ≡ report_of figures.now) }
+    ensures { IfOk result (λ text. text.items ≡ report_with figures.now refused.now) }
 {
     let inputs = figures.inputs.as_slice();
     let outputs = figures.outputs.as_slice();
-    let lines = inputs.len().saturating_add(outputs.len());
+    let ports = inputs.len().saturating_add(outputs.len());
+    let lines = ports.saturating_add(refused.len());
     let room = lines.saturating_mul(PORT_LINE).saturating_add(RUN_LINES);
     let mut text = Vec::with_capacity(alloc, room)?;
     put_run(&mut text, figures)?;
     put_inputs(&mut text, inputs)?;
     put_outputs(&mut text, figures.slots, outputs)?;
+    put_limits(&mut text, refused)?;
     Ok(text)
 }
 
@@ -81,4 +90,21 @@ fn put_output(
     put_named(text, b"cells", Some(output.cells), b' ')?;
     put_named(text, b"idle", Some(slots - output.cells), b' ')?;
     put_named(text, b"wait", output.wait, b'\n')
+}
+
+fn put_limits(text: &mut Vec<u8>, refused: &[Refused]) -> Result<(), NoMemory>
+    ensures { OnOk result (text.new.items ≡ text.old.items ++ flat_map limit_line refused.now) }
+{
+    'limits: for count in refused {
+        put_limit(text, *count)?;
+    }
+    Ok(())
+}
+
+fn put_limit(text: &mut Vec<u8>, count: Refused) -> Result<(), NoMemory>
+    ensures { OnOk result (text.new.items ≡ text.old.items ++ limit_line count) }
+{
+    put_named(text, b"limit", Some(count.output as u64), b' ')?;
+    put_named(text, b"refused", Some(count.packets), b' ')?;
+    put_named(text, b"cells", Some(count.cells), b'\n')
 }

@@ -3,6 +3,7 @@ use crate::{log_text, report_text, trace_text};
 use cq_base::{
     Cell, CellId, Departure, Figures, InputFigures, Key, OutputFigures, Queued, Sequence, Transfer,
 };
+use cq_ideal::Refused;
 use std::alloc::Global;
 use std::process::Abort;
 use std::test::Fail;
@@ -104,13 +105,14 @@ fn a_log_has_a_line_for_each_transfer(rt: HostRuntime) -> Result<(), Fail> {
 
 // The report of a run has these lines. Of the run are told its slots, its proposals and the most of one
 // phase; of each input its cells, the greatest length of its list and the least slack; of each output its
-// cells and the longest wait.
+// cells and the longest wait; and what was refused.
 fn has_lines(
     rt: &impl Abort,
     alloc: Global,
     run: (u64, u64, u64),
     inputs: &[(u64, u64, Option<u64>)],
     outputs: &[(u64, Option<u64>)],
+    refused: &[Refused],
     lines: &[&str],
 ) -> Result<(), Fail> {
     let (slots, proposals, most) = run;
@@ -137,7 +139,7 @@ fn has_lines(
             .iter()
             .all(|x| x.cells <= figures.slots)
     );
-    let text = report_text(alloc, &figures)?;
+    let text = report_text(alloc, &figures, refused)?;
     assert_eq!(rt; text.as_slice(), lines.concat(alloc)?.as_bytes());
     Ok(())
 }
@@ -196,6 +198,43 @@ const OFFICE: [&str; 11] = [
     "output 3 cells 0 idle 7 wait -\n",
 ];
 
+const BURST: [&str; 9] = [
+    "slots 3\n",
+    "proposals 3\n",
+    "most 1\n",
+    "input 0 cells 2 longest 1 slack 0\n",
+    "input 1 cells 1 longest 1 slack 0\n",
+    "output 0 cells 3 idle 0 wait 0\n",
+    "output 1 cells 0 idle 3 wait -\n",
+    "limit 0 refused 2 cells 3\n",
+    "limit 1 refused 0 cells 0\n",
+];
+
+#[test]
+fn a_report_tells_what_was_refused_at_outputs_with_limits(rt: HostRuntime) -> Result<(), Fail> {
+    let at_zero = Refused {
+        output: 0,
+        limit: 1,
+        packets: 2,
+        cells: 3,
+    };
+    let at_one = Refused {
+        output: 1,
+        limit: 100,
+        packets: 0,
+        cells: 0,
+    };
+    has_lines(
+        &rt,
+        rt.alloc(),
+        (3, 3, 1),
+        &[(2, 1, Some(0)), (1, 1, Some(0))],
+        &[(3, Some(0)), (0, None)],
+        &[at_zero, at_one],
+        &BURST,
+    )
+}
+
 #[test]
 fn a_report_has_the_figures_behind_their_names(rt: HostRuntime) -> Result<(), Fail> {
     has_lines(
@@ -204,6 +243,7 @@ fn a_report_has_the_figures_behind_their_names(rt: HostRuntime) -> Result<(), Fa
         (0, 0, 0),
         &[(0, 0, None)],
         &[(0, None)],
+        &[],
         &NOTHING_CAME,
     )?;
     has_lines(
@@ -212,6 +252,7 @@ fn a_report_has_the_figures_behind_their_names(rt: HostRuntime) -> Result<(), Fa
         (2, 3, 2),
         &[(1, 1, Some(0)), (1, 1, Some(0))],
         &[(2, Some(1)), (0, None)],
+        &[],
         &CONTENTION,
     )?;
     has_lines(
@@ -220,6 +261,7 @@ fn a_report_has_the_figures_behind_their_names(rt: HostRuntime) -> Result<(), Fa
         (3, 4, 2),
         &[(2, 1, Some(0)), (1, 1, Some(0))],
         &[(3, Some(1)), (0, None)],
+        &[],
         &FAIR,
     )?;
     has_lines(
@@ -228,6 +270,7 @@ fn a_report_has_the_figures_behind_their_names(rt: HostRuntime) -> Result<(), Fa
         (3, 7, 3),
         &[(1, 1, Some(0)), (1, 1, Some(0)), (2, 2, Some(0))],
         &[(3, Some(2)), (1, Some(0)), (0, None)],
+        &[],
         &GOES_AHEAD,
     )?;
     has_lines(
@@ -236,6 +279,7 @@ fn a_report_has_the_figures_behind_their_names(rt: HostRuntime) -> Result<(), Fa
         (7, 14, 2),
         &[(4, 1, Some(0)), (6, 1, Some(0)), (0, 0, None), (0, 0, None)],
         &[(1, Some(0)), (7, Some(3)), (2, Some(1)), (0, None)],
+        &[],
         &OFFICE,
     )?;
     Ok(())

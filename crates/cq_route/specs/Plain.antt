@@ -1,5 +1,5 @@
 -- The tables of a switch of one port with every default.
-use Rattle.std.specs.Prelude.{ℕ, List, [], ◌∷◌, Some}
+use Rattle.std.specs.Prelude.{ℕ, List, [], ◌∷◌, None, Some}
 use Rattle.cq_base.specs.declared.setup.Kind.TheVariants.{FirstCome}
 use Rattle.cq_base.specs.declared.setup.Setup.{Setup}
 use Rattle.cq_route.specs.declared.tables.PortRow.{PortRow}
@@ -26,6 +26,7 @@ plain_tables read write = record {
   log = [];
   setup = plain_setup;
   ports = plain_ports read write;
+  limits = None ∷ [];
   addresses = [];
   rules = [];
 }

@@ -1,5 +1,5 @@
 -- Tables that are in range.
-use Rattle.std.specs.Prelude.{ℕ, ◌≡◌, ◌≢◌, ◌<◌, ◌≤◌, length, All, IfSome}
+use Rattle.std.specs.Prelude.{ℕ, ◌≡◌, ◌≢◌, ◌<◌, ◌≤◌, List, Option, length, All, IfSome}
 use Rattle.std.specs.Int.{IsInRange}
 use Rattle.std.specs.List.{AllPairs}
 use Rattle.cq_base.specs.declared.setup.Setup.{Setup}
@@ -19,7 +19,12 @@ pub record IsSetup (setup : Setup) : Type 0 where
   pub ports : IsInRange 1 64 (ports_of setup)
   pub costs : All (λ row. 1 ≤ row.cost) setup.classes
 
--- each figure is in its range, each port has its row of files, no address stands twice, and each port and class that is named is one of the setup's
+-- one limit for each of so many ports, which is at least 1 where there is one
+pub record AreLimits (ports : ℕ) (limits : List (Option ℕ)) : Type 0 where
+  pub ports_are : length limits ≡ ports
+  pub some : All (λ limit. IfSome limit (λ n. 1 ≤ n)) limits
+
+-- each figure is in its range, each port has its row of files and its limit or none, no address stands twice, and each port and class that is named is one of the setup's
 pub record AreTables (t : Tables) : Type 0 where
   pub setup : IsSetup t.setup
   pub cell_bytes : IsInRange 1 65535 t.cell_bytes
@@ -27,6 +32,7 @@ pub record AreTables (t : Tables) : Type 0 where
   pub limit_bytes : IsInRange 24 268435456 t.limit_bytes
   pub workers : IsInRange 1 64 t.workers
   pub files : length t.ports ≡ ports_of t.setup
+  pub limits : AreLimits (ports_of t.setup) t.limits
   pub default_output : t.default_output < ports_of t.setup
   pub default_class : t.default_class < classes_of t.setup
   pub addresses_differ : AllPairs (λ a b. a.mac ≢ b.mac) t.addresses

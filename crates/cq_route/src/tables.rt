@@ -62,6 +62,9 @@ pub struct Tables {
     pub setup: Setup,
     /// The files of each port, in order.
     pub ports: Sequence<PortRow>,
+    /// How many cells fill the output of each port, in order: a packet whose first cell finds so many there or more is
+    /// refused whole. None where the output has no limit.
+    pub limits: Sequence<Option<u64>>,
     /// The addresses that are known, each at most once.
     pub addresses: Sequence<AddressRow>,
     /// The rules. The first one that a packet meets gives its class.
@@ -71,7 +74,7 @@ pub struct Tables {
 impl Tables {
     /// The tables of a switch of one port that reads one file and writes the other, with every default:
     /// cells of 64 bytes, slots of 512 nanoseconds, captures of at most 67,108,864 bytes, one worker, one
-    /// class, which is of priority 0 and costs 1, and an output that sends in the order of arrival. No
+    /// class, which is of priority 0 and costs 1, and an output without a limit that sends in the order of arrival. No
     /// address and no rule is known, and no trace and no log is named. The error is want of memory.
     #[tactic(auto, unfolding(crate::specs::Plain::plain_tables))]
     pub fn plain(alloc: Global, read: &str, write: &str) -> Result<Tables, NoMemory>
@@ -89,6 +92,7 @@ impl Tables {
             log: Name::of(alloc, "")?,
             setup: plain_setup(alloc)?,
             ports: Sequence::of(one_port(alloc, read, write)?),
+            limits: Sequence::of(Vec::from_array(alloc, [None])?),
             addresses: Sequence::of(Vec::new(alloc)),
             rules: Sequence::of(Vec::new(alloc)),
         })

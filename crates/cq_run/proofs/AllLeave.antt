@@ -1,8 +1,8 @@
--- Every packet leaves a switch of one port, once and in its place. Each cell leaves in the slot in which it comes (`OnePort`), so the
--- departures are the arrivals. Of a packet's cells the last one alone is marked as last, so a packet leaves with it, in its slot. And
--- the arrivals are those of one packet after another.
+-- Every packet leaves a switch of one port without a limit, once and in its place. Each cell leaves in the slot in which it comes
+-- (`OnePort`), so the departures are the arrivals. Of a packet's cells the last one alone is marked as last, so a packet leaves with
+-- it, in its slot. And the arrivals are those of one packet after another.
 use Rattle.std.proofs.Common.{◌≡◌, ℕ, zero, suc, ◌+◌, ◌-◌, ◌*◌, ◌<◌, ◌≤◌, Bool, true, false, cond, List, [], ◌∷◌, ◌++◌, length, map, flat_map, Result, Ok, Err, refl, sym, ap, ◌∙◌, subst, arith}
-use Rattle.std.specs.Prelude.{◌&&◌, ◌==◌}
+use Rattle.std.specs.Prelude.{◌&&◌, ◌==◌, None}
 use Rattle.std.specs.List.{AllByRecursion, AllPairs, filter, range_with_len}
 use Rattle.std.proofs.lemmas.Bool.{eq-eqb, ne_eqb, cond-true, cond-false}
 use Rattle.std.proofs.lemmas.List.{append-nil}
@@ -10,14 +10,17 @@ use Rattle.std.proofs.lemmas.List.Elements.{filter-append}
 use Rattle.cq_base.specs.Arriving.{Arrival, end_of, enough, traffic_of}
 use Rattle.cq_base.specs.declared.cell.Departure.{Departure}
 use Rattle.cq_base.specs.declared.cell.TagFault.{TagFault}
-use Rattle.cq_base.specs.declared.setup.Setup.{Setup}
 use Rattle.cq_cells.specs.Schedule.{arrivals, arrivals_at, arrivals_of, cell_of, cells, cells_of, first_stamp, packet_at, start}
 use Rattle.cq_cells.specs.Traffic.{IsInRange, IsLater, IsTraffic}
 use Rattle.cq_cells.proofs.Rising.{traffic_is}
+use Rattle.cq_ideal.specs.Admission.{NoLimits}
 use Rattle.cq_ideal.specs.IdealRun.{Ran, departures_of, departures_ran, empty_ideal, ideal_run}
+use Rattle.cq_ideal.specs.LimitedEnding.{departures_limited, whole_limited_run}
+use Rattle.cq_ideal.specs.LimitedIdeal.{LimitedRan, empty_limited, unlimited}
 use Rattle.cq_ideal.proofs.Ends.{all_slots, same_sent}
 use Rattle.cq_ideal.proofs.FlowCount.{before_end}
 use Rattle.cq_ideal.proofs.FlowPut.{all_from}
+use Rattle.cq_ideal.proofs.LimitedEnds.{run_as_before}
 use Rattle.cq_pcap.specs.Captured.{Captured}
 use Rattle.cq_pcap.specs.declared.write.OutPacket.{OutPacket}
 use Rattle.cq_route.specs.Tables.{AreTables, classes_of, ports_of}
@@ -54,21 +57,35 @@ ran_ok : (P : List Departure → Type 0) (x : Result Ran TagFault) (sent : List 
 ran_ok P (Ok ran) sent h f = let same : departures_of 0 ran.gone ≡ sent = cc h in subst P same (f ran refl)
 ran_ok P (Err fault) sent h f = absurd (let Q : ⊥ = cc h in Q)
 
+-- no output has a limit
+pub none_limited : NoLimits (None ∷ [])
+none_limited zero = refl
+none_limited (suc j) = refl
+
+same_departures : (x : Result LimitedRan TagFault) → departures_ran (unlimited x) ≡ departures_limited x
+same_departures (Ok ran) = refl
+same_departures (Err fault) = refl
+
 starts_alone : (ports : ℕ) (ranks : List (List ℕ)) → ports ≡ 1 → empty_ideal ports ranks ≡ alone ranks
 starts_alone ports ranks one = ap (λ (n : ℕ). empty_ideal n ranks) one
 
-pub sent_in_slot : (setup : Setup) (came : List Arrival) (sent : List Departure) → ports_of setup ≡ 1 → IsTraffic (ports_of setup) (classes_of setup) came → ideal_departures setup came ≡ Ok sent → AreInSlot came sent
+pub sent_in_slot : (t : Tables) (came : List Arrival) (sent : List Departure) → ports_of t.setup ≡ 1 →
+    NoLimits t.limits → IsTraffic (ports_of t.setup) (classes_of t.setup) came → ideal_departures t came ≡ Ok sent →
+    AreInSlot came sent
 unfolding ideal_departures ran_ideal enough
-sent_in_slot setup came sent one traffic h =
-    let ms = machines_of setup in
-    let ranks = openings_of setup in
-    let P : ℕ → Type 0 = λ n. AllByRecursion (IsInRange n (classes_of setup)) came in
-    let turn : InTurnFrom 0 came = in_turn (classes_of setup) 0 came (subst P one traffic.in_range) traffic.one_by_one (begins came) in
+sent_in_slot t came sent one none traffic h =
+    let ms = machines_of t.setup in
+    let ports = ports_of t.setup in
+    let ranks = openings_of t.setup in
+    let whole = whole_limited_run t.limits ms came (empty_limited ports ranks) in
+    let P : ℕ → Type 0 = λ n. AllByRecursion (IsInRange n (classes_of t.setup)) came in
+    let turn : InTurnFrom 0 came = in_turn (classes_of t.setup) 0 came (subst P one traffic.in_range) traffic.one_by_one (begins came) in
     let before = all_from (λ a. a.slot < end_of came) (λ a. a.slot < 0 + (end_of came + length came)) (λ a l. omega arith) came (before_end came) in
-    ran_ok (λ l. AreInSlot came l) (ideal_run ms 0 (traffic_of came) (empty_ideal (ports_of setup) ranks)) sent
-    (same_sent ms (ports_of setup) ranks came ∙ h)
+    ran_ok (λ l. AreInSlot came l) (ideal_run ms 0 (traffic_of came) (empty_ideal ports ranks)) sent
+    (same_sent ms ports ranks came ∙ sym (ap departures_ran (run_as_before t.limits ms ports ranks came none))
+    ∙ same_departures whole ∙ h)
     (λ ran is. each_in_its_slot ms 63 refl (enough came) 0 came ranks ran turn before
-    (ap (λ (l : List _). ideal_run ms 0 l (alone ranks)) (all_slots came) ∙ sym (ap (ideal_run ms 0 (traffic_of came)) (starts_alone (ports_of setup) ranks one)) ∙ is))
+    (ap (λ (l : List _). ideal_run ms 0 l (alone ranks)) (all_slots came) ∙ sym (ap (ideal_run ms 0 (traffic_of came)) (starts_alone ports ranks one)) ∙ is))
   where
     begins : (came : List Arrival) → BeginsFrom 0 came
     begins [] = tt
@@ -156,10 +173,11 @@ module _ (t : Tables) (packets : List Captured) where
   as_passed zero a = refl
   as_passed (suc n) a = ap (λ (l : List OutPacket). as_it_leaves t packets a ∷ l) (as_passed n (a + 1))
 
-  pub all_leave_is : (sent : List Departure) → AreTables t → ports_of t.setup ≡ 1 → ideal_departures t.setup (arrivals t one) ≡ Ok sent → packets_out t one sent 0 ≡ all_leave t packets
+  pub all_leave_is : (sent : List Departure) → AreTables t → ports_of t.setup ≡ 1 → NoLimits t.limits →
+      ideal_departures t (arrivals t one) ≡ Ok sent → packets_out t one sent 0 ≡ all_leave t packets
   unfolding packets_out
-  all_leave_is sent are single h =
-      let in_slot : AreInSlot (arrivals t one) sent = sent_in_slot t.setup (arrivals t one) sent single (traffic_is t one are (sym single)) h in
+  all_leave_is sent are single none h =
+      let in_slot : AreInSlot (arrivals t one) sent = sent_in_slot t (arrivals t one) sent single none (traffic_is t one are (sym single)) h in
       outs t one sent in_slot.output
       ∙ ap (λ (l : List Arrival). map (with_slot t one) (filter is_last l)) (in_slot.cells ∙ arrivals_are)
       ∙ ap (map (with_slot t one)) (lasts t one (length packets) 0)

@@ -80,14 +80,14 @@ never_switched r config m aim =
     let last : Tables → List (List Captured) → List Departure → Result Aim Refusal = λ tables captures sent. Ok (aim tables captures sent) in
     never_then (tables_in config m) (λ tables. captures_in r tables m >>= (λ captures. ideally_sent tables captures >>= (λ sent. last tables captures sent))) (never_tables config m)
     (λ tables. never_then (captures_in r tables m) (λ captures. ideally_sent tables captures >>= (λ sent. last tables captures sent)) (never_captures r tables.limit_bytes 0 tables.ports m)
-    (λ captures. never_then (ideally_sent tables captures) (λ sent. last tables captures sent) (never_tag (ideal_departures tables.setup (arrivals tables captures))) (λ sent e. cc)))
+    (λ captures. never_then (ideally_sent tables captures) (λ sent. last tables captures sent) (never_tag (ideal_departures tables (arrivals tables captures))) (λ sent e. cc)))
 
 pub never_words : (r : Reader) (command : Command) (m : Contents) → IsOfContents (judged r command m)
 never_words r (Pass from to) m =
     let tables = plain_tables from to in
     let aim : List Captured → List Departure → Result Aim Refusal = λ packets sent. Ok (Exactly (passed from to packets sent)) in
     never_then (capture_in r from 0 tables.limit_bytes m) (λ packets. ideally_sent tables (packets ∷ []) >>= (λ sent. aim packets sent)) (never_capture r from 0 tables.limit_bytes m)
-    (λ packets. never_then (ideally_sent tables (packets ∷ [])) (λ sent. aim packets sent) (never_tag (ideal_departures tables.setup (arrivals tables (packets ∷ [])))) (λ sent e. cc))
+    (λ packets. never_then (ideally_sent tables (packets ∷ [])) (λ sent. aim packets sent) (never_tag (ideal_departures tables (arrivals tables (packets ∷ [])))) (λ sent e. cc))
 never_words r (Check config) m =
     let aim : Tables → Result Aim Refusal = λ tables. Ok (Exactly (checked tables)) in
     never_then (tables_in config m) aim (never_tables config m) (λ tables e. cc)
@@ -97,4 +97,4 @@ never_words r (Soak seed ports slots) m =
     let tables = soak_tables ports in
     let captures = soak_captures seed ports slots in
     let aim : List Departure → Result Aim Refusal = λ sent. Ok (Reporting tables captures) in
-    never_then (ideally_sent tables captures) aim (never_tag (ideal_departures tables.setup (arrivals tables captures))) (λ sent e. cc)
+    never_then (ideally_sent tables captures) aim (never_tag (ideal_departures tables (arrivals tables captures))) (λ sent e. cc)

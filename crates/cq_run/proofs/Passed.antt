@@ -9,9 +9,9 @@ use Rattle.cq_pcap.specs.Written.{written}
 use Rattle.cq_route.specs.Plain.{plain_tables}
 use Rattle.cq_route.specs.Tables.{AreTables, ports_of}
 use Rattle.cq_route.specs.declared.tables.Tables.{Tables}
-use Rattle.cq_ideal.specs.IdealRun.{departures_of}
-use Rattle.cq_laws.specs.FabricSlot.{SlotRecord}
-use Rattle.cq_laws.specs.Records.{gone_in}
+use Rattle.cq_ideal.specs.Admission.{NoLimits}
+use Rattle.cq_laws.specs.LimitedFabric.{LimitedRecord}
+use Rattle.cq_simulate.specs.FabricRuns.{departures_in_run}
 use Rattle.cq_simulate.specs.IdealRuns.{ideal_departures}
 use Rattle.cq_space.specs.Space.{Contents, Space}
 use Rattle.cq_words.specs.declared.command.Command.TheVariants.{Pass}
@@ -27,7 +27,7 @@ use Rattle.cq_run.specs.Verdict.{◌>>=◌, capture_in, ideally_sent, judged, se
 use Rattle.cq_run.specs.declared.refusal.Refusal.{Refusal}
 use Rattle.cq_run.specs.declared.stop.Halt.{Halt}
 use Rattle.cq_run.specs.declared.stop.Halt.TheVariants.{Refused, Unread, NoMemory}
-use Rattle.cq_run.proofs.AllLeave.{all_leave_is}
+use Rattle.cq_run.proofs.AllLeave.{all_leave_is, none_limited}
 use Rattle.cq_run.proofs.Captures.{plan_is}
 use Rattle.cq_run.proofs.Chain.{judges_after, judges_computed_err, judges_then}
 use Rattle.cq_run.proofs.Planned.{plans_computed}
@@ -82,7 +82,7 @@ module _ (from to : List ℕ) (t : Tables) (packets : List Captured) (captures :
       (Exactly (passed from to packets sent)) plan (subst P plain g) (ap (λ (s : Result (List Departure) Refusal). s >>= aim_of packets) (sent_is h)) (plan_passed plan writes none)
 
   -- what keeps up with the captures of the plain switch keeps up with the one capture
-  keeps_up_plain : (rs : List SlotRecord) → KeepsUp t captures rs → KeepsUp (plain_tables from to) (packets ∷ []) rs
+  keeps_up_plain : (rs : List LimitedRecord) → KeepsUp t captures rs → KeepsUp (plain_tables from to) (packets ∷ []) rs
   keeps_up_plain rs h =
       let P : Tables → Type 0 = λ x. KeepsUp x (packets ∷ []) rs in
       let Q : List (List Captured) → Type 0 = λ cs. KeepsUp t cs rs in
@@ -97,12 +97,13 @@ module _ (from to : List ℕ) (t : Tables) (packets : List Captured) (captures :
   unfolding plain_tables
   leaves_all are h =
       let single : ports_of t.setup ≡ 1 = ap (λ (x : Tables). ports_of x.setup) plain in
-      let ideal = ap (λ (cs : List (List Captured)). ideal_departures t.setup (arrivals t cs)) (sym one) ∙ sent_ok (ideal_departures t.setup (arrivals t captures)) h in
+      let none : NoLimits t.limits = subst (λ (x : Tables). NoLimits x.limits) (sym plain) none_limited in
+      let ideal = ap (λ (cs : List (List Captured)). ideal_departures t (arrivals t cs)) (sym one) ∙ sent_ok (ideal_departures t (arrivals t captures)) h in
       ap (λ (cs : List (List Captured)). capture_out t cs sent 0) one
-      ∙ ap written (all_leave_is t packets sent are single ideal)
+      ∙ ap written (all_leave_is t packets sent are single none ideal)
       ∙ ap (λ (x : Tables). capture_of_all x packets) plain
 
-  passage_at : (r : Reader) (m : Contents) (rs : List SlotRecord) (plan : Plan) → KeepsUp t captures rs → sent ≡ departures_of 0 (gone_in rs)
+  passage_at : (r : Reader) (m : Contents) (rs : List LimitedRecord) (plan : Plan) → KeepsUp t captures rs → sent ≡ departures_in_run rs
       → plan ≡ passed from to packets sent → plan.writes ≡ (to, capture_of_all (plain_tables from to) packets) ∷ []
       → capture_in r from 0 t.limit_bytes m ≡ Ok packets → IsPassage r from to m plan
   passage_at r m rs plan up departed is all captured = record {
@@ -114,15 +115,15 @@ module _ (from to : List ℕ) (t : Tables) (packets : List Captured) (captures :
     whole = all;
   }
 
-  passage_told : (r : Reader) (told : Option Contents) (rs : List SlotRecord) (plan : Plan) → KeepsUp t captures rs → sent ≡ departures_of 0 (gone_in rs)
+  passage_told : (r : Reader) (told : Option Contents) (rs : List LimitedRecord) (plan : Plan) → KeepsUp t captures rs → sent ≡ departures_in_run rs
       → plan ≡ passed from to packets sent → plan.writes ≡ (to, capture_of_all (plain_tables from to) packets) ∷ []
       → IfSome told (λ m. capture_in r from 0 t.limit_bytes m ≡ Ok packets) → IfSome told (λ m. IsPassage r from to m plan)
   passage_told r None rs plan up departed is all captured = tt
   passage_told r (Some m) rs plan up departed is all captured = passage_at r m rs plan up departed is all captured
 
   -- what is written of a capture that was read
-  pub passage : (r : Reader) (R : List ℕ → Type 0) (old mid : Space) (rs : List SlotRecord) (plan : Plan) → AreTables t → Judges (capture_in r from 0 t.limit_bytes) R old mid (Ok packets)
-      → KeepsUp t captures rs → sent ≡ departures_of 0 (gone_in rs) → ideally_sent t captures ≡ Ok sent → plan.writes ≡ (to, capture_out t captures sent 0) ∷ [] → plan.text ≡ []
+  pub passage : (r : Reader) (R : List ℕ → Type 0) (old mid : Space) (rs : List LimitedRecord) (plan : Plan) → AreTables t → Judges (capture_in r from 0 t.limit_bytes) R old mid (Ok packets)
+      → KeepsUp t captures rs → sent ≡ departures_in_run rs → ideally_sent t captures ≡ Ok sent → plan.writes ≡ (to, capture_out t captures sent 0) ∷ [] → plan.text ≡ []
       → IfSome old.told (λ m. IsPassage r from to m plan)
   passage r R old mid rs plan are g up departed h writes none =
       passage_told r old.told rs plan up departed (plan_passed plan writes none) (writes ∙ ap (λ (bytes : List ℕ). (to, bytes) ∷ []) (leaves_all are h)) g.ok

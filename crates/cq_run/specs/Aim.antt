@@ -3,7 +3,7 @@
 use Rattle.std.specs.Prelude.{◌≡◌, List}
 use Rattle.cq_base.specs.declared.cell.Departure.{Departure}
 use Rattle.cq_cells.specs.Schedule.{arrivals}
-use Rattle.cq_laws.specs.FabricSlot.{SlotRecord}
+use Rattle.cq_laws.specs.LimitedFabric.{LimitedRecord}
 use Rattle.cq_pcap.specs.Captured.{Captured}
 use Rattle.cq_route.specs.declared.tables.Tables.{Tables}
 use Rattle.cq_simulate.specs.FabricRuns.{IsFabricRun}
@@ -22,5 +22,5 @@ pub data Aim : Type 0 where
 -- the plan meets the aim
 abbrev pub Meets : Aim → Plan → Type 0
 Meets (Exactly plan) p = p ≡ plan
-Meets (Crossing t captures sent) p = (rs : List SlotRecord) × IsFabricRun t.setup (arrivals t captures) rs × (p ≡ crossed t captures sent rs)
-Meets (Reporting t captures) p = (rs : List SlotRecord) × IsFabricRun t.setup (arrivals t captures) rs × (p ≡ reported t rs)
+Meets (Crossing t captures sent) p = (rs : List LimitedRecord) × IsFabricRun t (arrivals t captures) rs × (p ≡ crossed t captures sent rs)
+Meets (Reporting t captures) p = (rs : List LimitedRecord) × IsFabricRun t (arrivals t captures) rs × (p ≡ reported t rs)

@@ -1,14 +1,13 @@
 -- What the program claims of `run CONFIG` and of `pass IN OUT`, in one place.
 use Rattle.std.specs.Prelude.{◌≡◌, ℕ, List, [], ◌∷◌, Ok}
 use Rattle.cq_cells.specs.Schedule.{arrivals}
-use Rattle.cq_ideal.specs.IdealRun.{departures_of}
 use Rattle.cq_laws.specs.Fabric.{IsEmptyFabric}
-use Rattle.cq_laws.specs.FabricSlot.{SlotRecord}
-use Rattle.cq_laws.specs.Records.{gone_in}
+use Rattle.cq_laws.specs.LimitedFabric.{LimitedRecord}
 use Rattle.cq_pcap.specs.Captured.{Captured}
 use Rattle.cq_route.specs.Plain.{plain_tables}
 use Rattle.cq_route.specs.declared.tables.Tables.{Tables}
-use Rattle.cq_simulate.specs.FabricRuns.{AlwaysHasSlack, AreInputBest, IsFabricRun, SendsSlotBySlot}
+use Rattle.cq_simulate.specs.EachPacket.{EachPacketOnce}
+use Rattle.cq_simulate.specs.FabricRuns.{AlwaysHasSlack, AreInputBest, IsFabricRun, SendsSlotBySlot, departures_in_run, refused_in_run}
 use Rattle.cq_space.specs.Space.{Contents}
 use Rattle.cq_words.specs.declared.command.Command.{Command}
 use Rattle.cq_words.specs.declared.command.Command.TheVariants.{Pass, Check, Ideal, Run, Soak}
@@ -19,18 +18,21 @@ use Rattle.cq_run.specs.Reader.{Reader}
 use Rattle.cq_run.specs.Verdict.{tables_in, capture_in, captures_in}
 
 -- The records, slot by slot, of the crossbar switch with the traffic of these captures: it keeps up with the ideal switch
--- (Chuang, Goel, McKeown and Prabhakar 1999).
-pub record KeepsUp (t : Tables) (captures : List (List Captured)) (rs : List SlotRecord) : Type 0 where
+-- (Chuang, Goel, McKeown and Prabhakar 1999) of the same ranks and limits.
+pub record KeepsUp (t : Tables) (captures : List (List Captured)) (rs : List LimitedRecord) : Type 0 where
   -- they are the whole run of the definition, from the empty switch on up to the last slot in which a cell arrives, waits or leaves
-  pub runs : IsFabricRun t.setup (arrivals t captures) rs
+  pub runs : IsFabricRun t (arrivals t captures) rs
   -- at its end no cell waits, at an input or at an output
-  pub drained : IsEmptyFabric runs.end
+  pub drained : IsEmptyFabric runs.end.state
   -- both matchings of each slot, before and after the departures, are the input-best stable ones
   pub input_best : AreInputBest rs
-  -- in each slot each output sends the cell that it sends in the ideal switch, and none where it sends none there
-  pub same : SendsSlotBySlot t.setup (arrivals t captures) rs
+  -- in each slot the arrivals are admitted and refused as in the ideal switch, and each output sends the cell that it sends
+  -- there, and none where it sends none there
+  pub same : SendsSlotBySlot t (arrivals t captures) rs
   -- after the arrivals of each slot no cell's input thread exceeds its output cushion
   pub slack : AlwaysHasSlack rs
+  -- each packet leaves its output whole or is counted as refused there: one of both, once
+  pub once : EachPacketOnce t captures (departures_in_run rs) (refused_in_run rs)
 
 -- What is written for a configuration over these contents: the captures of what left each output, the trace, the log and the
 -- report of a switch that keeps up with the ideal one.
@@ -39,9 +41,9 @@ pub record IsEmulation (r : Reader) (config : List ℕ) (m : Contents) (plan : P
   pub configured : tables_in config m ≡ Ok tables
   pub captures : List (List Captured)
   pub captured : captures_in r tables m ≡ Ok captures
-  pub records : List SlotRecord
+  pub records : List LimitedRecord
   pub keeps_up : KeepsUp tables captures records
-  pub written : plan ≡ crossed tables captures (departures_of 0 (gone_in records)) records
+  pub written : plan ≡ crossed tables captures (departures_in_run records) records
 
 -- What is written of one capture over these contents: what left the one output of a switch of one port that keeps up with
 -- the ideal one, and nothing else. It is every packet of the capture, once and in its place, with the stamp of the slot in
@@ -49,9 +51,9 @@ pub record IsEmulation (r : Reader) (config : List ℕ) (m : Contents) (plan : P
 pub record IsPassage (r : Reader) (from to : List ℕ) (m : Contents) (plan : Plan) : Type 0 where
   pub packets : List Captured
   pub captured : capture_in r from 0 (plain_tables from to).limit_bytes m ≡ Ok packets
-  pub records : List SlotRecord
+  pub records : List LimitedRecord
   pub keeps_up : KeepsUp (plain_tables from to) (packets ∷ []) records
-  pub written : plan ≡ passed from to packets (departures_of 0 (gone_in records))
+  pub written : plan ≡ passed from to packets (departures_in_run records)
   pub whole : plan.writes ≡ (to, capture_of_all (plain_tables from to) packets) ∷ []
 
 -- the same of a command that crosses a switch and writes what left it; of the others nothing is said here

@@ -3,16 +3,18 @@ use Rattle.std.specs.Prelude.{ℕ, suc, List, [], ◌∷◌, ◌++◌, length, c
 use Rattle.cq_base.specs.Decimal.{decimal}
 use Rattle.cq_base.specs.Texts.{trace_of, log_of}
 use Rattle.cq_base.specs.declared.cell.Departure.{Departure}
-use Rattle.cq_laws.specs.FabricSlot.{SlotRecord}
+use Rattle.cq_ideal.specs.Refused.{refused_counts}
+use Rattle.cq_laws.specs.LimitedFabric.{LimitedRecord, slots_in}
 use Rattle.cq_laws.specs.Measures.{figures_of}
 use Rattle.cq_laws.specs.Records.{transfers_of_run}
 use Rattle.cq_pcap.specs.Captured.{Captured}
 use Rattle.cq_pcap.specs.Written.{written}
-use Rattle.cq_report.specs.Report.{report_of}
+use Rattle.cq_report.specs.Report.{report_with}
 use Rattle.cq_route.specs.declared.tables.PortRow.{PortRow}
 use Rattle.cq_route.specs.declared.tables.Tables.{Tables}
 use Rattle.cq_route.specs.Plain.{plain_tables}
 use Rattle.cq_route.specs.Tables.{classes_of, ports_of}
+use Rattle.cq_simulate.specs.FabricRuns.{refused_in_run}
 use Rattle.cq_simulate.specs.Packets.{packets_out}
 use Rattle.cq_run.specs.Plan.{Plan}
 
@@ -45,15 +47,16 @@ passed from to packets sent = record { writes = (to, capture_out (plain_tables f
 unfoldable pub switched : Tables → List (List Captured) → List Departure → Plan
 switched t captures sent = record { writes = captures_out t captures sent 0 t.ports ++ (t.trace, trace_of sent) ∷ []; text = [] }
 
--- what is seen of a run of the crossbar switch, as a text
-abbrev pub report_on : Tables → List SlotRecord → List ℕ
-report_on t rs = report_of (figures_of (ports_of t.setup) rs)
+-- what is seen of a run of the crossbar switch and what was refused, as a text
+abbrev pub report_on : Tables → List LimitedRecord → List ℕ
+report_on t rs =
+    report_with (figures_of (ports_of t.setup) (slots_in rs)) (refused_counts t.limits (refused_in_run rs))
 
 -- what leaves each output, the trace, and then the log of the crossbar switch; its report is the text
-unfoldable pub crossed : Tables → List (List Captured) → List Departure → List SlotRecord → Plan
+unfoldable pub crossed : Tables → List (List Captured) → List Departure → List LimitedRecord → Plan
 crossed t captures sent rs =
-    record { writes = captures_out t captures sent 0 t.ports ++ (t.trace, trace_of sent) ∷ (t.log, log_of (transfers_of_run rs)) ∷ []; text = report_on t rs }
+    record { writes = captures_out t captures sent 0 t.ports ++ (t.trace, trace_of sent) ∷ (t.log, log_of (transfers_of_run (slots_in rs))) ∷ []; text = report_on t rs }
 
 -- nothing is written of a run that is only reported
-unfoldable pub reported : Tables → List SlotRecord → Plan
+unfoldable pub reported : Tables → List LimitedRecord → Plan
 reported t rs = record { writes = []; text = report_on t rs }

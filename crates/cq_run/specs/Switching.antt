@@ -1,13 +1,14 @@
 -- What is kept of a run until its bytes are built.
 use Rattle.std.specs.Prelude.{◌≡◌, ℕ, List, Option, None, Some, Ok}
 use Rattle.cq_cells.specs.Schedule.{first_stamp}
-use Rattle.cq_ideal.specs.IdealRun.{departures_of}
-use Rattle.cq_laws.specs.FabricSlot.{SlotRecord}
+use Rattle.cq_ideal.specs.Refused.{refused_counts}
+use Rattle.cq_laws.specs.LimitedFabric.{LimitedRecord, slots_in}
 use Rattle.cq_laws.specs.Measures.{figures_of}
-use Rattle.cq_laws.specs.Records.{gone_in, transfers_of_run}
+use Rattle.cq_laws.specs.Records.{transfers_of_run}
 use Rattle.cq_pcap.specs.Captured.{Captured}
 use Rattle.cq_route.specs.declared.tables.Tables.{Tables}
 use Rattle.cq_route.specs.Tables.{ports_of}
+use Rattle.cq_simulate.specs.FabricRuns.{departures_in_run, refused_in_run}
 use Rattle.cq_simulate.specs.declared.refusal.RunRefusal.{RunRefusal}
 use Rattle.cq_simulate.specs.declared.refusal.RunRefusal.TheVariants as run
 use Rattle.cq_run.specs.declared.refusal.CaptureFault.{CaptureFault}
@@ -24,14 +25,15 @@ pub record IsSwitched (t : Tables) (captures : List (List Captured)) (s : Switch
   pub sent : ideally_sent t captures ≡ Ok s.sent.items
   pub first_stamp : s.first_stamp ≡ first_stamp captures
 
--- the same of the crossbar switch, which keeps up, with its transfers and its figures
+-- the same of the crossbar switch, which keeps up, with its transfers, its figures and what was refused
 pub record IsCrossed (t : Tables) (captures : List (List Captured)) (c : Crossed) : Type 0 where
   pub switched : IsSwitched t captures c.switched
-  pub records : List SlotRecord
+  pub records : List LimitedRecord
   pub keeps_up : KeepsUp t captures records
-  pub departed : c.switched.sent.items ≡ departures_of 0 (gone_in records)
-  pub note : c.note.items ≡ transfers_of_run records
-  pub figures : c.figures ≡ figures_of (ports_of t.setup) records
+  pub departed : c.switched.sent.items ≡ departures_in_run records
+  pub note : c.note.items ≡ transfers_of_run (slots_in records)
+  pub figures : c.figures ≡ figures_of (ports_of t.setup) (slots_in records)
+  pub refused : c.refused.items ≡ refused_counts t.limits (refused_in_run records)
 
 -- why the program stops where a capture cannot be read: it has this fault, or memory ran out
 abbrev pub halt_for : ℕ → Option CaptureFault → Halt

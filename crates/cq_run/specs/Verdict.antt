@@ -91,7 +91,7 @@ sent_or_tag (Err fault) = Err (Tag fault)
 
 -- what the ideal switch sends of these packets
 abbrev pub ideally_sent : Tables → List (List Captured) → Result (List Departure) Refusal
-ideally_sent tables captures = sent_or_tag (ideal_departures tables.setup (arrivals tables captures))
+ideally_sent tables captures = sent_or_tag (ideal_departures tables (arrivals tables captures))
 
 -- what a command comes to; a new command is one case here, in `MayRead` and in `MayWrite`, and in `known_to`, `IsWithinRange` and `Emulates`
 abbrev pub judged : Reader → Command → Contents → Result Aim Refusal

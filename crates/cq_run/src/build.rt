@@ -2,7 +2,7 @@
 ghost use Rattle.std.specs.Prelude.{◌≡◌, ◌∷◌, ◌++◌, ◌<◌, ◌≤◌, [], All, IfOk, OnOk, length};
 ghost use Rattle.cq_route.specs.Tables.{AreTables, ports_of};
 ghost use Rattle.cq_run.specs.Plans.{capture_out, captures_out, check_line, checked, counted, switched};
-ghost use Rattle.cq_report.specs.Report.{report_of};
+ghost use Rattle.cq_report.specs.Report.{report_with};
 ghost use Rattle.cq_base.specs.Texts.{log_of, trace_of};
 ghost use Rattle.cq_run.specs.Switching.{IsSwitched};
 
@@ -12,7 +12,7 @@ use cq_base::{Figures, MOST_DIGITS, Name, NoMemory, Port, digits};
 use cq_pcap::{Capture, capture_bytes};
 use cq_report::{log_text, report_text, trace_text};
 use cq_route::Tables;
-use cq_simulate::packets_of;
+use cq_simulate::{Refused, packets_of};
 use std::alloc::Global;
 
 /// The line that says what is in a configuration.
@@ -106,23 +106,23 @@ pub fn build_crossed(
     requires reportable { All (λ x. x.cells ≤ run.now.figures.slots) run.now.figures.outputs }
     ensures writes { IfOk result (λ plan. plan.writes ≡ captures_out tables.now captures.now run.now.switched.sent.items 0 tables.now.ports
         ++ (tables.now.trace, trace_of run.now.switched.sent.items) ∷ (tables.now.log, log_of run.now.note.items) ∷ []) }
-    ensures text { IfOk result (λ plan. plan.text ≡ report_of run.now.figures) }
+    ensures text { IfOk result (λ plan. plan.text ≡ report_with run.now.figures run.now.refused.items) }
 {
     let mut writes = build_captures(alloc, tables, captures, &run.switched)?;
     let trace = trace_text(alloc, run.switched.sent.items())?;
     put_write(alloc, &mut writes, &tables.trace, trace)?;
     let log = log_text(alloc, run.note.items())?;
     put_write(alloc, &mut writes, &tables.log, log)?;
-    Ok(Work::of(writes, report_text(alloc, &run.figures)?))
+    Ok(Work::of(writes, report_text(alloc, &run.figures, &run.refused)?))
 }
 
 /// The report of a run, where nothing else is written.
-pub fn build_report(alloc: Global, figures: &Figures) -> Result<Work, NoMemory>
+pub fn build_report(alloc: Global, figures: &Figures, refused: &[Refused]) -> Result<Work, NoMemory>
     requires { All (λ x. x.cells ≤ figures.now.slots) figures.now.outputs }
     ensures writes { IfOk result (λ plan. plan.writes ≡ []) }
-    ensures text { IfOk result (λ plan. plan.text ≡ report_of figures.now) }
+    ensures text { IfOk result (λ plan. plan.text ≡ report_with figures.now refused.now) }
 {
-    Ok(Work::of(Vec::new(alloc), report_text(alloc, figures)?))
+    Ok(Work::of(Vec::new(alloc), report_text(alloc, figures, refused)?))
 }
 
 // The captures of what leaves each output, each under its name, with places for the trace and the log.

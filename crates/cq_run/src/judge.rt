@@ -155,5 +155,5 @@ fn soak<R: Threads + Sync, G: Gate>(
 {
     let soak = make(alloc, seed, ports, slots)?;
     let crossed = switch_by_crossbar(rt, alloc, &soak.tables, &soak.captures, gate)?;
-    Ok(build_report(alloc, &crossed.figures)?)
+    Ok(build_report(alloc, &crossed.figures, &crossed.refused)?)
 }

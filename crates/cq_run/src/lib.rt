@@ -18,7 +18,9 @@ mod stop;
 mod switching;
 mod top;
 
-pub use cq_simulate::{FabricRun, IdealRun, RunRefusal, packets_of, run_fabric, run_ideal};
+pub use cq_simulate::{
+    FabricRun, IdealRun, Refused, RunRefusal, packets_of, run_fabric, run_ideal,
+};
 pub use cq_words::{Command, command_of};
 pub use laws::captures_are_read_in_one_way;
 pub use refusal::{CaptureFault, Refusal};

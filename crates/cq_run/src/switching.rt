@@ -11,7 +11,7 @@ use cq_cells::Schedule;
 use cq_crew::Gate;
 use cq_pcap::Capture;
 use cq_route::Tables;
-use cq_simulate::{RunRefusal, run_fabric, run_ideal};
+use cq_simulate::{Refused, RunRefusal, run_fabric, run_ideal};
 use std::alloc::Global;
 use std::thread::Threads;
 
@@ -22,12 +22,13 @@ pub struct Switched {
     pub first_stamp: u64,
 }
 
-/// What the crossbar switch sent and transferred, and what was seen of its run.
+/// What the crossbar switch sent and transferred, what was seen of its run, and what was refused.
 #[derive(Drop)]
 pub struct Crossed {
     pub switched: Switched,
     pub note: Room<Transfer>,
     pub figures: Figures,
+    pub refused: Vec<Refused>,
 }
 
 impl Crossed {
@@ -39,6 +40,7 @@ impl Crossed {
             switched,
             note: _,
             figures: _,
+            refused: _,
         } = self;
         switched
     }
@@ -89,6 +91,7 @@ pub fn switch_by_crossbar<R: Threads + Sync, G: Gate>(
         switched,
         note: run.note,
         figures: run.figures,
+        refused: run.refused,
     })
 }
 

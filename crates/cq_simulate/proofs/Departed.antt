@@ -1,120 +1,65 @@
--- Each cell that departs has arrived. At each output the cells of one input and class leave as they came, since the machine
--- of each discipline keeps the laws of machines and begins in a state of its size. So what holds of all cells that arrive
--- holds of each that departs: it is of a packet of its input's capture.
-use Rattle.std.proofs.Common.{◌≡◌, ℕ, zero, suc, ◌+◌, ◌<◌, ◌≤◌, Bool, true, false, cond, List, [], ◌∷◌, ◌++◌, length, map, flat_map, get_or, Some, Result, Ok, Err, refl, sym, ap, ◌∙◌, subst, ⊎_elim, arith}
-use Rattle.std.specs.Prelude.{◌&&◌, ◌==◌, slice_get, slice_index_or}
-use Rattle.std.specs.List.{AllByRecursion, AllPairs, filter, range_with_len}
+-- Each cell that departs has arrived. Of each input and class the cells of the packets that are taken in leave an
+-- output as they came. So what holds of all cells that arrive holds of each that departs: it is of a packet of its
+-- input's capture.
+use Rattle.std.proofs.Common.{◌≡◌, ℕ, zero, suc, ◌+◌, ◌<◌, ◌≤◌, Bool, true, false, cond, List, [], ◌∷◌, ◌++◌, length, map, flat_map, get_or, Result, Ok, Err, refl, sym, ap, ◌∙◌, subst, ⊎_elim, arith}
+use Rattle.std.specs.Prelude.{◌&&◌, ◌==◌, max}
+use Rattle.std.specs.List.{AllByRecursion, filter, range_with_len}
 use Rattle.std.proofs.lemmas.Bool.{cases_eq, cond_both, cond-true, eq-eqb, ne_eqb, and_from, and_left}
-use Rattle.std.proofs.lemmas.List.{get_or-map, length-map, length-replicate}
-use Rattle.std.proofs.lemmas.Option.{get_or_from_slice_get}
-use Rattle.cq_base.specs.Arriving.{Arrival, traffic_of}
+use Rattle.cq_base.specs.Arriving.{Arrival, end_of, traffic_of}
 use Rattle.cq_base.specs.declared.cell.Cell.{Cell}
 use Rattle.cq_base.specs.declared.cell.Departure.{Departure}
 use Rattle.cq_base.specs.declared.cell.TagFault.{TagFault}
-use Rattle.cq_base.specs.declared.setup.ClassRow.{ClassRow}
-use Rattle.cq_base.specs.declared.setup.Kind.{Kind}
-use Rattle.cq_base.specs.declared.setup.Kind.TheVariants.{FirstCome, Priority, Fair}
-use Rattle.cq_base.specs.declared.setup.Setup.{Setup}
 use Rattle.cq_cells.specs.Schedule.{packet_at, packets_of, cells, start, cell_of, arrivals_of, arrivals_at, arrivals}
-use Rattle.cq_cells.specs.Traffic.{IsInRange, IsLater, IsTraffic}
+use Rattle.cq_cells.specs.Traffic.{IsInRange, IsTraffic}
 use Rattle.cq_cells.proofs.Pieces.{piece_begins}
 use Rattle.cq_cells.proofs.Rising.{traffic_is}
-use Rattle.cq_ideal.specs.Flows.{IsForSwitch, IsRunnable, RiseByInput, comes_in_flow, leaves_in_flow, came_in_flow, left_in_flow}
-use Rattle.cq_ideal.specs.IdealRun.{Ran, departures_of, departures_ran, empty_ideal, ideal_run}
-use Rattle.cq_ideal.proofs.FlowLaw.{flows_leave}
+use Rattle.cq_ideal.specs.Admission.{NoLimits}
+use Rattle.cq_ideal.specs.Ending.{slots_of}
+use Rattle.cq_ideal.specs.Flows.{comes_in_flow, leaves_in_flow, came_in_flow, left_in_flow}
+use Rattle.cq_ideal.specs.IdealRun.{departures_of}
+use Rattle.cq_ideal.specs.LimitedEnding.{departures_limited}
+use Rattle.cq_ideal.specs.LimitedIdeal.{LimitedRan, empty_limited, limited_run, unlimited}
+use Rattle.cq_ideal.proofs.FlowLimits.{flows_leave_in_packets}
 use Rattle.cq_ideal.proofs.FlowPut.{all_from}
+use Rattle.cq_ideal.proofs.LastSlot.{last_departs}
+use Rattle.cq_ideal.proofs.LimitedEnds.{limited_same_sent, run_as_before, slots_as_before}
+use Rattle.cq_ideal.proofs.LimitedLast.{limited_slots}
 use Rattle.cq_pcap.specs.Captured.{Captured}
-use Rattle.cq_rank.specs.Machine.{Machine, KeepsLaws, machine_at, first_come}
-use Rattle.cq_rank.specs.MachineLaws.{first_come_laws, priority_laws}
-use Rattle.cq_rank.specs.Classes.{priorities_of}
 use Rattle.cq_route.specs.Tables.{AreTables, IsSetup, classes_of, ports_of}
 use Rattle.cq_route.specs.declared.tables.Tables.{Tables}
-use Rattle.cq_scfq.specs.Disciplines.{machine_of, opening_of, machines_of, openings_of}
-use Rattle.cq_scfq.specs.Fair.{costs_of}
-use Rattle.cq_scfq.specs.FairLaws.{fair_laws}
+use Rattle.cq_scfq.specs.Disciplines.{machines_of, openings_of}
 use Rattle.cq_simulate.specs.Pieces.{IsCaptured}
 use Rattle.cq_simulate.specs.IdealRuns.{ideal_departures, ran_ideal, slots_ran}
-use Rattle.cq_ideal.specs.Ending.{slots_of}
-use Rattle.cq_ideal.proofs.Ends.{same_sent}
-use Rattle.cq_ideal.proofs.LastSlot.{last_departs}
-
--- ## The machines of a setup
-
-machine_laws : (kind : Kind) (rows : List ClassRow) → KeepsLaws (machine_of kind rows)
-machine_laws FirstCome rows = first_come_laws (length rows)
-machine_laws Priority rows = priority_laws (priorities_of rows)
-machine_laws Fair rows = fair_laws (costs_of rows)
-
-opening_size : (kind : Kind) (rows : List ClassRow) → length (opening_of kind rows) ≡ (machine_of kind rows).size
-opening_size FirstCome rows = refl
-opening_size Priority rows = refl
-opening_size Fair rows = length-replicate (length (costs_of rows) + 1) 0
-
-machine_classes : (kind : Kind) (rows : List ClassRow) → (machine_of kind rows).classes ≡ length rows
-machine_classes FirstCome rows = refl
-machine_classes Priority rows = length-map rows (λ (row : ClassRow). row.priority)
-machine_classes Fair rows = length-map rows (λ (row : ClassRow). row.cost)
-
-module _ (setup : Setup) (j : ℕ) (inside : j < length setup.kinds) where
-  abbrev kind : Kind
-  kind = get_or setup.kinds j FirstCome
-
-  machine_is : machine_at (machines_of setup) j ≡ machine_of kind setup.classes
-  machine_is = get_or-map (λ (k : Kind). machine_of k setup.classes) setup.kinds j FirstCome (first_come 0) inside
-
-  opening_is : slice_index_or (openings_of setup) j [] ≡ opening_of kind setup.classes
-  opening_is = get_or-map (λ (k : Kind). opening_of k setup.classes) setup.kinds j FirstCome [] inside
-
-  keeps_laws : KeepsLaws (machine_at (machines_of setup) j)
-  keeps_laws = subst KeepsLaws (sym machine_is) (machine_laws kind setup.classes)
-
-  right_size : length (slice_index_or (openings_of setup) j []) ≡ (machine_at (machines_of setup) j).size
-  right_size = ap (λ (l : List ℕ). length l) opening_is ∙ opening_size kind setup.classes ∙ ap (λ (m : Machine). m.size) (sym machine_is)
-
-  right_classes : (machine_at (machines_of setup) j).classes ≡ length setup.classes
-  right_classes = ap (λ (m : Machine). m.classes) machine_is ∙ machine_classes kind setup.classes
-
-within : (came : List Arrival) (t : ℕ) (b : Arrival) → slice_get came t ≡ Some b → t < length came
-within [] t b at = absurd (let P : ⊥ = cc in P)
-within (a ∷ came) zero b at = omega arith
-within (a ∷ came) (suc t) b at = let rest = within came t b at in omega arith
-
-pub later_rise : (came : List Arrival) → AllPairs IsLater came → RiseByInput came
-later_rise came later s t a b at_s at_t less same =
-    let here : IsLater (get_or came s a) (get_or came t a) = later s t a less (within came t b at_t) in
-    subst (λ (x : Arrival). IsLater x b) (get_or_from_slice_get came s a a at_s) (subst (λ (y : Arrival). IsLater (get_or came s a) y) (get_or_from_slice_get came t b a at_t) here) same
-
-pub runnable : (setup : Setup) (came : List Arrival) → IsSetup setup → IsTraffic (ports_of setup) (classes_of setup) came → IsRunnable (machines_of setup) (ports_of setup) (openings_of setup) came
-runnable setup came is traffic =
-    let few = is.ports in
-    record {
-      machines = λ j inside. keeps_laws setup j inside;
-      ports_are = length-map setup.kinds (λ (k : Kind). opening_of k setup.classes);
-      sizes = λ j inside. right_size setup j inside;
-      for_switch = all_from (IsInRange (ports_of setup) (classes_of setup)) (IsForSwitch (machines_of setup) (ports_of setup))
-          (λ a r. record { input = let i = r.input in omega arith; output = r.output; class = let c = r.class in let e = right_classes setup a.cell.output r.output in omega arith }) came traffic.in_range;
-      rise = later_rise came traffic.one_by_one;
-    }
+use Rattle.cq_simulate.proofs.OfPackets.{packets_come}
+use Rattle.cq_simulate.proofs.Runnable.{runnable}
 
 -- ## What departs has come
 
-ran_ok : (P : List Departure → Type 0) (x : Result Ran TagFault) (sent : List Departure) → departures_ran x ≡ Ok sent → ((ran : Ran) → x ≡ Ok ran → P (departures_of 0 ran.gone)) → P sent
+ran_ok : (P : List Departure → Type 0) (x : Result LimitedRan TagFault) (sent : List Departure) →
+    departures_limited x ≡ Ok sent → ((ran : LimitedRan) → x ≡ Ok ran → P (departures_of 0 ran.gone)) → P sent
 ran_ok P (Ok ran) sent h f = let same : departures_of 0 ran.gone ≡ sent = cc in subst P same (f ran refl)
 ran_ok P (Err fault) sent h f = absurd (let P : ⊥ = cc in P)
 
-pub leave_as_they_came : (setup : Setup) (came : List Arrival) (sent : List Departure) → IsSetup setup → IsTraffic (ports_of setup) (classes_of setup) came → ideal_departures setup came ≡ Ok sent → (i c j : ℕ) → left_in_flow i c j sent ≡ came_in_flow i c j came
-unfolding ideal_departures ran_ideal
-leave_as_they_came setup came sent is traffic h i c j =
-    ran_ok (λ sent. left_in_flow i c j sent ≡ came_in_flow i c j came) (ideal_run (machines_of setup) 0 (traffic_of came) (empty_ideal (ports_of setup) (openings_of setup))) sent
-    (same_sent (machines_of setup) (ports_of setup) (openings_of setup) came ∙ h)
-    (λ ran is_ok. flows_leave (machines_of setup) (ports_of setup) (openings_of setup) came ran (runnable setup came is traffic) is_ok i c j)
+-- the cells of these packets of an input left, of each flow in the order in which they came
+pub record LeftInPackets (came : List Arrival) (i : ℕ) (sent : List Departure) : Type 0 where
+  pub is_taken : ℕ → Bool
+  pub left : (c j : ℕ) → left_in_flow i c j sent ≡ filter (λ cell. is_taken cell.id.packet) (came_in_flow i c j came)
 
--- in the last slot of the run a cell departs
-pub slots_are : (setup : Setup) (came : List Arrival) (sent : List Departure) → IsSetup setup → IsTraffic (ports_of setup) (classes_of setup) came → ideal_departures setup came ≡ Ok sent → slots_of sent ≡ slots_ran setup came
+pub left_in_packets : (t : Tables) (captures : List (List Captured)) (sent : List Departure) → AreTables t →
+    length captures ≡ ports_of t.setup → ideal_departures t (arrivals t captures) ≡ Ok sent → (i : ℕ) →
+    LeftInPackets (arrivals t captures) i sent
 unfolding ideal_departures ran_ideal
-slots_are setup came sent is traffic h =
-    ran_ok (λ sent. slots_of sent ≡ slots_ran setup came) (ran_ideal setup came) sent h
-    (λ ran is_ok. last_departs (machines_of setup) (ports_of setup) (openings_of setup) came (runnable setup came is traffic).for_switch ran is_ok)
+left_in_packets t captures sent are many h i =
+    let came = arrivals t captures in
+    let ms = machines_of t.setup in
+    let ports = ports_of t.setup in
+    let ranks = openings_of t.setup in
+    ran_ok (LeftInPackets came i) (limited_run t.limits ms 0 (traffic_of came) (empty_limited ports ranks)) sent
+    (limited_same_sent t.limits ms ports ranks came ∙ h)
+    (λ ran is.
+    let l = flows_leave_in_packets t.limits ms ports ranks came ran
+    (runnable t.setup came are.setup (traffic_is t captures are many)) is i (packets_come t captures i are many) in
+    record { is_taken = l.is_taken; left = l.left })
 
 all_came : (P : Cell → Type 0) (i c j : ℕ) (came : List Arrival) → AllByRecursion (λ a. P a.cell) came → AllByRecursion P (came_in_flow i c j came)
 all_came P i c j [] all = tt
@@ -141,14 +86,34 @@ own_flow d =
     and_from (d.output == d.output) (cell.id.input == cell.id.input && cell.class == cell.class) (eq-eqb d.output d.output refl)
     (and_from (cell.id.input == cell.id.input) (cell.class == cell.class) (eq-eqb cell.id.input cell.id.input refl) (eq-eqb cell.class cell.class refl))
 
--- what holds of each cell that comes holds of each that departs
-departed : (P : Cell → Type 0) (setup : Setup) (came : List Arrival) (sent : List Departure) → IsSetup setup → IsTraffic (ports_of setup) (classes_of setup) came → ideal_departures setup came ≡ Ok sent → AllByRecursion (λ a. P a.cell) came → (k : ℕ) (e : Departure) → k < length sent → P (get_or sent k e).queued.cell
-departed P setup came sent is traffic h all k e inside =
-    let d : Departure = get_or sent k e in
-    let i = d.queued.cell.id.input in
-    let c = d.queued.cell.class in
-    let same = leave_as_they_came setup came sent is traffic h i c d.output in
-    one_left P i c d.output sent k e (subst (AllByRecursion P) (sym same) (all_came P i c d.output came all)) inside (own_flow d)
+all_taken : (P : Cell → Type 0) (p : Cell → Bool) (cells : List Cell) → AllByRecursion P cells →
+    AllByRecursion P (filter p cells)
+all_taken P p [] all = tt
+all_taken P p (x ∷ cells) all =
+    cond_both (p x) (x ∷ filter p cells) (filter p cells) (AllByRecursion P)
+    (λ _. (all.0, all_taken P p cells all.1)) (λ _. all_taken P p cells all.1)
+
+-- what holds of all that came of its flow holds of a cell that departs
+module _ (t : Tables) (captures : List (List Captured)) (sent : List Departure) (are : AreTables t)
+    (many : length captures ≡ ports_of t.setup) (whole : ideal_departures t (arrivals t captures) ≡ Ok sent)
+    (k : ℕ) (e : Departure) (inside : k < length sent) where
+  flow_departed : (P : Cell → Type 0) →
+      AllByRecursion P (came_in_flow (get_or sent k e).queued.cell.id.input (get_or sent k e).queued.cell.class (get_or
+      sent k e).output (arrivals t captures)) → P (get_or sent k e).queued.cell
+  flow_departed P all =
+      let d : Departure = get_or sent k e in
+      let i = d.queued.cell.id.input in
+      let c = d.queued.cell.class in
+      let l = left_in_packets t captures sent are many whole i in
+      let came = came_in_flow i c d.output (arrivals t captures) in
+      let taken = all_taken P (λ cell. l.is_taken cell.id.packet) came all in
+      one_left P i c d.output sent k e (subst (AllByRecursion P) (sym (l.left c d.output)) taken) inside (own_flow d)
+
+  pub departed : (P : Cell → Type 0) → AllByRecursion (λ a. P a.cell) (arrivals t captures) →
+      P (get_or sent k e).queued.cell
+  departed P all =
+      let d : Departure = get_or sent k e in
+      flow_departed P (all_came P d.queued.cell.id.input d.queued.cell.class d.output (arrivals t captures) all)
 
 -- ## The cells of captures
 
@@ -173,16 +138,6 @@ all_captured t captures some =
     (λ k in_packets. all_made (λ a. IsCaptured captures a.cell) (λ (n : ℕ). record { slot = start t captures i k + n; cell = cell_of t captures i k n }) 0 (cells t captures i k)
     (λ n in_cells. let begins = piece_begins (length (packet_at captures i k).body) t.cell_bytes n some (omega arith) in record { input = omega arith; packet = omega arith; piece = omega arith })))
 
-pub departed_captured : (t : Tables) (captures : List (List Captured)) (sent : List Departure) → AreTables t → length captures ≡ ports_of t.setup → ideal_departures t.setup (arrivals t captures) ≡ Ok sent → (k : ℕ) (e : Departure) → k < length sent → IsCaptured captures (get_or sent k e).queued.cell
-departed_captured t captures sent are many h k e inside =
-    departed (IsCaptured captures) t.setup (arrivals t captures) sent are.setup (traffic_is t captures are many) h (all_captured t captures (let b = are.cell_bytes in omega arith)) k e inside
-
-pub departed_class : (t : Tables) (captures : List (List Captured)) (sent : List Departure) → AreTables t → length captures ≡ ports_of t.setup → ideal_departures t.setup (arrivals t captures) ≡ Ok sent → (k : ℕ) (e : Departure) → k < length sent → (get_or sent k e).queued.cell.class < length t.setup.classes
-departed_class t captures sent are many h k e inside =
-    let traffic = traffic_is t captures are many in
-    departed (λ cell. cell.class < length t.setup.classes) t.setup (arrivals t captures) sent are.setup traffic h
-    (all_from (IsInRange (ports_of t.setup) (classes_of t.setup)) (λ a. a.cell.class < length t.setup.classes) (λ a r. r.class) (arrivals t captures) traffic.in_range) k e inside
-
 -- a flow in which a cell came is one of a port
 module _ (ports i c j : ℕ) where
   for_port : (a : Arrival) → comes_in_flow i c j a ≡ true → a.cell.output < ports → j < ports
@@ -197,14 +152,52 @@ module _ (ports i c j : ℕ) where
       cond_both (comes_in_flow i c j a) (a ∷ filter (comes_in_flow i c j) came) (filter (comes_in_flow i c j) came) (λ l. AllByRecursion (λ (_ : Cell). j < ports) (map (λ (x : Arrival). x.cell) l))
       (λ of. (for_port a of all.0, came_for_port came all.1)) (λ _. came_for_port came all.1)
 
--- so each departure is at a port
-pub departed_output : (t : Tables) (captures : List (List Captured)) (sent : List Departure) → AreTables t → length captures ≡ ports_of t.setup → ideal_departures t.setup (arrivals t captures) ≡ Ok sent → (k : ℕ) (e : Departure) → k < length sent → (get_or sent k e).output < ports_of t.setup
-departed_output t captures sent are many h k e inside =
-    let d : Departure = get_or sent k e in
-    let i = d.queued.cell.id.input in
-    let c = d.queued.cell.class in
+module _ (t : Tables) (captures : List (List Captured)) (sent : List Departure) (are : AreTables t)
+    (many : length captures ≡ ports_of t.setup) (whole : ideal_departures t (arrivals t captures) ≡ Ok sent)
+    (k : ℕ) (e : Departure) (inside : k < length sent) where
+  pub departed_captured : IsCaptured captures (get_or sent k e).queued.cell
+  departed_captured =
+      departed t captures sent are many whole k e inside (IsCaptured captures)
+      (all_captured t captures (let b = are.cell_bytes in omega arith))
+
+  pub departed_class : (get_or sent k e).queued.cell.class < length t.setup.classes
+  departed_class =
+      departed t captures sent are many whole k e inside (λ cell. cell.class < length t.setup.classes)
+      (all_from (IsInRange (ports_of t.setup) (classes_of t.setup)) (λ a. a.cell.class < length t.setup.classes)
+      (λ a r. r.class) (arrivals t captures) (traffic_is t captures are many).in_range)
+
+  -- so each departure is at a port
+  pub departed_output : (get_or sent k e).output < ports_of t.setup
+  departed_output =
+      let d : Departure = get_or sent k e in
+      let ports = ports_of t.setup in
+      let came = all_from (IsInRange ports (classes_of t.setup)) (λ a. a.cell.output < ports) (λ a r. r.output)
+      (arrivals t captures) (traffic_is t captures are many).in_range in
+      flow_departed t captures sent are many whole k e inside (λ _. d.output < ports)
+      (came_for_port ports d.queued.cell.id.input d.queued.cell.class d.output (arrivals t captures) came)
+
+-- ## The last slot
+
+-- the run ends with the last arrival or the last departure
+pub slots_are : (t : Tables) (came : List Arrival) (sent : List Departure) → ideal_departures t came ≡ Ok sent →
+    slots_ran t came ≡ max (end_of came) (slots_of sent)
+unfolding ideal_departures ran_ideal
+slots_are t came sent h =
+    ran_ok (λ sent. slots_ran t came ≡ max (end_of came) (slots_of sent)) (ran_ideal t came) sent h
+    (λ ran is. limited_slots t.limits (machines_of t.setup) (ports_of t.setup) (openings_of t.setup) came ran is)
+
+-- and where no output has a limit a cell departs in its last slot
+pub last_departs_without_limits : (t : Tables) (came : List Arrival) (sent : List Departure) → NoLimits t.limits →
+    IsSetup t.setup → IsTraffic (ports_of t.setup) (classes_of t.setup) came → ideal_departures t came ≡ Ok sent →
+    slots_ran t came ≡ slots_of sent
+unfolding ideal_departures ran_ideal
+last_departs_without_limits t came sent none is traffic h =
+    let ms = machines_of t.setup in
     let ports = ports_of t.setup in
-    let traffic = traffic_is t captures are many in
-    let same = leave_as_they_came t.setup (arrivals t captures) sent are.setup traffic h i c d.output in
-    let came = all_from (IsInRange ports (classes_of t.setup)) (λ a. a.cell.output < ports) (λ a r. r.output) (arrivals t captures) traffic.in_range in
-    one_left (λ _. d.output < ports) i c d.output sent k e (subst (AllByRecursion (λ (_ : Cell). d.output < ports)) (sym same) (came_for_port ports i c d.output (arrivals t captures) came)) inside (own_flow d)
+    let ranks = openings_of t.setup in
+    ran_ok (λ sent. slots_ran t came ≡ slots_of sent) (ran_ideal t came) sent h
+    (λ ran is_ok.
+    slots_as_before t.limits ms ports ranks came none
+    ∙ sym (last_departs ms ports ranks came (runnable t.setup came is traffic).for_switch
+    (record { gone = ran.gone; after = ran.after.state })
+    (sym (run_as_before t.limits ms ports ranks came none) ∙ ap unlimited is_ok)))

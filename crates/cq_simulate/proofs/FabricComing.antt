@@ -1,6 +1,5 @@
 -- What is still to come at one input, and for one output. Each arrival adds one cell at most to what comes at its input.
 use Rattle.std.proofs.Common.{◌≡◌, ℕ, suc, ◌+◌, ◌≤◌, Bool, true, false, cond, List, [], ◌∷◌, ◌++◌, length, Option, Some, None, refl, sym, ap, ⊎_elim, arith}
-use Rattle.std.specs.Prelude.{◌==◌}
 use Rattle.std.specs.List.{filter}
 use Rattle.std.proofs.lemmas.Bool.{cases_eq, eq-eqb}
 use Rattle.std.proofs.lemmas.List.FromFn.{map-range_with_len_more}
@@ -8,9 +7,7 @@ use Rattle.cq_base.specs.Arrivals.{arrival_at}
 use Rattle.cq_base.specs.Arriving.{Arrival, arriving, arriving_at}
 use Rattle.cq_base.specs.declared.cell.Cell.{Cell}
 use Rattle.cq_cells.specs.Traffic.{number_of, is_from}
-use Rattle.cq_engine.specs.Engine.{arriving_for}
 use Rattle.cq_ideal.proofs.FlowFound.{cell_listed, found, found_here, found_none, other_slot, other_input}
-use Rattle.cq_ideal.specs.Ideal.{count_for}
 use Rattle.cq_simulate.proofs.FabricCounts.{one_if}
 use Rattle.cq_simulate.proofs.Steps.{place_of}
 use Rattle.cq_ideal.proofs.Waiting.{total, total_none, total_more}
@@ -60,12 +57,6 @@ arrives_found came t i = go (arrival_at (arriving came t) i) refl
     go : (o : Option Cell) → arrival_at (arriving came t) i ≡ o → one_if o ≤ length (cell_listed (arriving_at came t i))
     go None e = omega arith
     go (Some cell) e = let one : length (cell_listed (arriving_at came t i)) ≡ 1 = ap (λ (o : Option Cell). length (cell_listed o)) (place_of came t i 64 cell refl e) in omega arith
-
--- two ways to count what arrives for an output
-pub same_count : (j : ℕ) (cells : List (Option Cell)) → arriving_for j cells ≡ count_for j cells
-same_count j [] = refl
-same_count j (None ∷ cells) = same_count j cells
-same_count j (Some cell ∷ cells) = ap (λ (n : ℕ). bit (cell.output == j) + n) (same_count j cells)
 
 -- ## The slots so far
 

@@ -1,40 +1,53 @@
--- What the laws of the fabric say of the run of a setup's fabric: the cells that arrive are for its ports and classes in every
--- slot, and the run begins where nothing waits, where the fabric and the ideal switch agree.
-use Rattle.std.proofs.Common.{◌≡◌, ℕ, zero, suc, ◌+◌, ◌≤◌, List, [], ◌∷◌, Option, Ok, ap, ◌∙◌, refl, sym, subst}
-use Rattle.std.specs.Prelude.{All, IsOkAnd, Result, length}
+-- What the laws of the fabric say of the run of a fabric that is made for tables: the cells that arrive are for its ports and
+-- classes in every slot, and so are those that it admits; and the run begins where nothing waits and no mark is up, where the
+-- fabric and the ideal switch agree. By its own records it is a run without limits of what they admit, and so its matchings and
+-- its slack are what they are without limits.
+use Rattle.std.proofs.Common.{◌≡◌, ℕ, zero, suc, ◌+◌, ◌<◌, ◌≤◌, List, [], ◌∷◌, take, Option, Ok, ap, ◌∙◌, refl, sym, subst, ⊎_elim, arith}
+use Rattle.std.specs.Prelude.{All, IsOkAnd, Result, length, max}
 use Rattle.std.specs.List.{AllByRecursion}
-use Rattle.cq_base.specs.Arriving.{Arrival}
-use Rattle.cq_base.specs.declared.setup.Setup.{Setup}
+use Rattle.std.proofs.lemmas.Bool.{cases_lt}
+use Rattle.cq_base.specs.Arriving.{Arrival, end_of}
 use Rattle.cq_cells.specs.Traffic.{IsTraffic}
 use Rattle.cq_base.specs.declared.cell.Cell.{Cell}
 use Rattle.cq_base.specs.declared.cell.TagFault.{TagFault}
 use Rattle.cq_rank.specs.Machine.{Machine}
-use Rattle.cq_ideal.specs.IdealRun.{Ran, departures_of, empty_ideal, departures_ran}
+use Rattle.cq_ideal.proofs.LimitedEnds.{limited_found_end}
+use Rattle.cq_ideal.specs.Admission.{Admission, Marked, NoLimits, admitted_in}
+use Rattle.cq_ideal.specs.Ending.{arriving_from, first_slots, slots_of}
+use Rattle.cq_ideal.specs.IdealRun.{empty_ideal}
 use Rattle.cq_ideal.specs.IdealSlot.{IdealState}
+use Rattle.cq_ideal.specs.LimitedEnding.{departures_limited, whole_limited_run}
+use Rattle.cq_ideal.specs.LimitedIdeal.{LimitedRan, empty_limited, limited_run}
 use Rattle.cq_ideal.specs.Ranking.{AreForPorts}
-use Rattle.cq_laws.proofs.InputBest.{stable_run, stable_slot}
-use Rattle.cq_laws.proofs.OneRun.{one_run}
+use Rattle.cq_laws.proofs.EndsTogether.{slots_of_figures}
+use Rattle.cq_laws.proofs.InputBest.{stable_limited_run, stable_run, stable_slot}
+use Rattle.cq_laws.proofs.LimitedEnds.{limited_ends, one_limited_whole}
+use Rattle.cq_laws.proofs.LimitedSlots.{admission_for_ports}
 use Rattle.cq_laws.proofs.OneSlot.{after_sent, arrived, ports_kept, same_slot}
+use Rattle.cq_laws.proofs.Parted.{reach, run_of_whole}
+use Rattle.cq_laws.proofs.Recorded.{recorded}
 use Rattle.cq_laws.proofs.Sound.{orders_are}
 use Rattle.cq_laws.proofs.WholeRuns.{empty_agree, run_slack, traffic_for_empty}
-use Rattle.cq_laws.specs.Agreement.{Agrees, EndsAlike}
+use Rattle.cq_laws.specs.Agreement.{Agrees}
 use Rattle.cq_laws.specs.Fabric.{Fabric, IsEmptyFabric, empty_fabric}
 use Rattle.cq_laws.specs.FabricRun.{FabricRun}
-use Rattle.cq_prefs.specs.Pairing.{IsInputBest}
-use Rattle.cq_laws.specs.FabricSlot.{SlotRecord, FabricSlot}
+use Rattle.cq_laws.specs.FabricSlot.{SlotRecord}
+use Rattle.cq_laws.specs.Holding.{fabric_held}
+use Rattle.cq_laws.specs.LimitedAgreement.{LimitedEndsAlike}
+use Rattle.cq_laws.specs.LimitedFabric.{LimitedFabricRun, LimitedFabricSlot, LimitedRecord, LimitedWholeRun, admissions_in, empty_limited_fabric, slots_in}
+use Rattle.cq_laws.specs.Measures.{figures_of}
 use Rattle.cq_laws.specs.Records.{gone_in}
+use Rattle.cq_laws.specs.Slack.{HasSlack}
+use Rattle.cq_prefs.specs.Pairing.{IsInputBest, IsStable}
 use Rattle.cq_route.specs.Tables.{classes_of, ports_of, IsSetup}
+use Rattle.cq_route.specs.declared.tables.Tables.{Tables}
 use Rattle.cq_scfq.specs.Disciplines.{machines_of, openings_of}
+use Rattle.cq_simulate.proofs.Departed.{last_departs_without_limits, slots_are}
+use Rattle.cq_simulate.proofs.OnceASlot.{once_a_slot}
 use Rattle.cq_simulate.proofs.Steps.{arrivals_for}
-use Rattle.cq_simulate.specs.FabricRuns.{AlwaysHasSlack, AreInputBest, IsFabricRun, IsKeptOf, SendsSlotBySlot}
+use Rattle.cq_simulate.specs.FabricRuns.{AlwaysHasSlack, AreInputBest, IsBestFor, IsFabricRun, IsKeptOf, SendsSlotBySlot, departures_in_run}
 use Rattle.cq_simulate.specs.IdealRuns.{ideal_departures, ran_ideal, slots_ran}
 use Rattle.cq_simulate.specs.declared.fabric_run.FabricRun as kept
-use Rattle.cq_ideal.specs.Ending.{arriving_from, first_slots}
-use Rattle.cq_laws.proofs.Parted.{one_whole, run_of_whole}
-use Rattle.cq_laws.proofs.EndsTogether.{end_alike, slots_told, stable_whole}
-use Rattle.cq_laws.specs.Measures.{figures_of}
-use Rattle.cq_simulate.proofs.Departed.{runnable}
-use Rattle.cq_simulate.proofs.OnceASlot.{once_a_slot}
 
 slots_fit : (ports classes : ℕ) (came : List Arrival) (slot n : ℕ) → IsTraffic ports classes came →
     AllByRecursion (AreForPorts ports classes) (arriving_from came slot n)
@@ -43,11 +56,84 @@ slots_fit ports classes came slot zero traffic = tt
 slots_fit ports classes came slot (suc n) traffic =
     (arrivals_for ports classes came slot traffic, slots_fit ports classes came (slot + 1) n traffic)
 
+-- ## A whole run with input-best matchings is one with stable ones
+
+module _ (limits : List (Option ℕ)) (ms : List Machine) where
+  -- which matchings were chosen is told by the records
+  same_choices : (slot : ℕ) (traffic : List (List (Option Cell))) (f f' g g' : Marked Fabric)
+      (rs : List LimitedRecord) →
+      LimitedFabricRun IsInputBest limits ms slot traffic f rs g →
+      LimitedFabricRun IsStable limits ms slot traffic f' rs g' →
+      LimitedFabricRun IsInputBest limits ms slot traffic f' rs g'
+  same_choices slot [] f f' g g' [] x y = y
+  same_choices slot [] f f' g g' (r ∷ rs) x y = absurd x
+  same_choices slot (cells ∷ traffic) f f' g g' [] x y = absurd x
+  same_choices slot (cells ∷ traffic) f f' g g' (r ∷ rs) x y = (
+    y.0,
+    record {
+      admits = y.1.admits;
+      runs = record {
+        numbered = y.1.runs.numbered;
+        arrive = y.1.runs.arrive;
+        first_chosen = x.1.runs.first_chosen;
+        fill = y.1.runs.fill;
+        depart = y.1.runs.depart;
+        second_chosen = x.1.runs.second_chosen;
+        finish = y.1.runs.finish;
+      };
+      marks = y.1.marks;
+    },
+    same_choices (slot + 1) traffic x.0 y.0 g g' rs x.2 y.2,
+  )
+
+  stable_whole : (came : List Arrival) (start g : Marked Fabric) (rs : List LimitedRecord) →
+      LimitedWholeRun IsInputBest limits ms came start rs g → LimitedWholeRun IsStable limits ms came start rs g
+  stable_whole came start g rs w =
+      record {
+        after = stable_limited_run ms limits 0 (first_slots came (length rs)) start g (take (length rs) rs) w.after;
+        all_came = w.all_came;
+        empty = w.empty;
+        first = λ m s after late empty.
+            ⊎_elim
+            (λ (lt : m < length rs).
+            let r = reach (LimitedFabricSlot IsInputBest limits ms) came start rs m (length rs) g (omega arith)
+            (run_of_whole (LimitedFabricSlot IsInputBest limits ms) came start rs (λ f. IsEmptyFabric f.state) g w) in
+            w.first m s (same_choices 0 (first_slots came m) start start r.state s
+            (take m rs) r.after after) late empty)
+            (λ (ge : length rs ≤ m). ge)
+            (cases_lt m (length rs));
+      }
+
+  -- what is admitted is for the ports and of the classes, as what arrives is
+  admitted_fit : (ports classes slot : ℕ) (traffic : List (List (Option Cell))) (f g : Marked Fabric)
+      (rs : List LimitedRecord) → AllByRecursion (AreForPorts ports classes) traffic →
+      LimitedFabricRun IsInputBest limits ms slot traffic f rs g →
+      AllByRecursion (AreForPorts ports classes) (admitted_in (admissions_in rs))
+  admitted_fit ports classes slot [] f g [] come run = tt
+  admitted_fit ports classes slot [] f g (r ∷ rs) come run = absurd run
+  admitted_fit ports classes slot (cells ∷ traffic) f g [] come run = absurd run
+  admitted_fit ports classes slot (cells ∷ traffic) f g (r ∷ rs) come run = (
+    subst (λ (a : Admission). AreForPorts ports classes a.cells) (sym run.1.admits)
+        (admission_for_ports limits (fabric_held f.state) f.marks cells ports classes come.0),
+    admitted_fit ports classes (slot + 1) traffic run.0 g rs come.1 run.2,
+  )
+
+-- ## The slots of the records
+
+of_slots : (P : SlotRecord → Type 0) (rs : List LimitedRecord) → AllByRecursion P (slots_in rs) →
+    AllByRecursion (λ r. P r.of_slot) rs
+of_slots P [] all = tt
+of_slots P (r ∷ rs) all = (all.0, of_slots P rs all.1)
+
+-- both matchings of a slot are the input-best ones
+abbrev IsBestIn : SlotRecord → Type 0
+IsBestIn r = IsBestFor r.arrived r.first × IsBestFor r.sent r.second
+
 -- in a slot between states that agree both matchings are those of orders by first cells
 each_best : (ms : List Machine) (class_count slot : ℕ) (traffic : List (List (Option Cell))) (f g : Fabric)
     (ideal : IdealState) (rs : List SlotRecord) → Agrees slot f ideal →
     AllByRecursion (AreForPorts (length f.inputs) class_count) traffic →
-    FabricRun IsInputBest ms slot traffic f rs g → AreInputBest rs
+    FabricRun IsInputBest ms slot traffic f rs g → AllByRecursion IsBestIn rs
 each_best ms class_count slot [] f g ideal [] agrees come h = tt
 each_best ms class_count slot [] f g ideal (r ∷ rs) agrees come h = absurd h
 each_best ms class_count slot (cells ∷ traffic) f g ideal [] agrees come h = absurd h
@@ -65,79 +151,123 @@ each_best ms class_count slot (cells ∷ traffic) f g ideal (r ∷ rs) agrees co
           AllByRecursion (AreForPorts n class_count) traffic) (sym ports) come.1) rest,
     )
 
-module _ (setup : Setup) (came : List Arrival) where
-  traffic_fits : (n : ℕ) → IsTraffic (ports_of setup) (classes_of setup) came →
-      AllByRecursion (AreForPorts (ports_of setup) (classes_of setup)) (first_slots came n)
-  traffic_fits n traffic = slots_fit (ports_of setup) (classes_of setup) came 0 n traffic
+-- ## The run of tables
 
-  module _ (rs : List SlotRecord) (traffic : IsTraffic (ports_of setup) (classes_of setup) came)
-      (is : IsFabricRun setup came rs) where
-    runs : FabricRun IsInputBest (machines_of setup) 0 (first_slots came (length rs)) (empty_fabric (ports_of setup)
-        (openings_of setup)) rs is.end
-    runs = run_of_whole (FabricSlot IsInputBest (machines_of setup)) came (empty_fabric (ports_of setup)
-        (openings_of setup)) rs IsEmptyFabric is.end is.runs
+module _ (t : Tables) (came : List Arrival) where
+  abbrev ms : List Machine
+  ms = machines_of t.setup
 
-    fits : AllByRecursion (AreForPorts (length (empty_fabric (ports_of setup) (openings_of setup)).inputs)
-        (classes_of setup)) (first_slots came (length rs))
-    fits = traffic_for_empty (ports_of setup) (openings_of setup) (classes_of setup) (first_slots came (length rs))
-        (traffic_fits (length rs) traffic)
+  -- it begins with no cell, and where it is without limits
+  abbrev start : Marked Fabric
+  start = empty_limited_fabric (ports_of t.setup) (openings_of t.setup)
+
+  abbrev plain : Fabric
+  plain = empty_fabric (ports_of t.setup) (openings_of t.setup)
+
+  traffic_fits : (n : ℕ) → IsTraffic (ports_of t.setup) (classes_of t.setup) came →
+      AllByRecursion (AreForPorts (ports_of t.setup) (classes_of t.setup)) (first_slots came n)
+  traffic_fits n traffic = slots_fit (ports_of t.setup) (classes_of t.setup) came 0 n traffic
+
+  runs : (rs : List LimitedRecord) (is : IsFabricRun t came rs) →
+      LimitedFabricRun IsInputBest t.limits ms 0 (first_slots came (length rs)) start rs is.end
+  runs rs is =
+      run_of_whole (LimitedFabricSlot IsInputBest t.limits ms) came start rs (λ f. IsEmptyFabric f.state) is.end is.runs
+
+  -- without limits, of what it admits
+  plainly : (rs : List LimitedRecord) (is : IsFabricRun t came rs) →
+      FabricRun IsInputBest ms 0 (admitted_in (admissions_in rs)) plain (slots_in rs) is.end.state
+  plainly rs is =
+      recorded IsInputBest t.limits ms 0 (first_slots came (length rs)) start is.end rs (runs rs is)
+
+  pub slots_sent : (rs : List LimitedRecord) → IsFabricRun t came rs →
+      (figures_of (ports_of t.setup) (slots_in rs)).slots ≡ slots_of (departures_in_run rs)
+  slots_sent rs is =
+      slots_of_figures IsInputBest ms (ports_of t.setup) (admitted_in (admissions_in rs)) plain is.end.state
+      (slots_in rs) (plainly rs is)
+
+  module _ (rs : List LimitedRecord) (traffic : IsTraffic (ports_of t.setup) (classes_of t.setup) came)
+      (is : IsFabricRun t came rs) where
+    fits : AllByRecursion (AreForPorts (length plain.inputs) (classes_of t.setup)) (admitted_in (admissions_in rs))
+    fits =
+        traffic_for_empty (ports_of t.setup) (openings_of t.setup) (classes_of t.setup) (admitted_in (admissions_in rs))
+        (admitted_fit t.limits ms (ports_of t.setup) (classes_of t.setup) 0 (first_slots came (length rs)) start is.end
+        rs (traffic_fits (length rs) traffic) (runs rs is))
 
     -- the run of the ideal switch ends with that of the fabric
-    alike : EndsAlike (machines_of setup) came (empty_ideal (ports_of setup) (openings_of setup)) rs is.end
+    alike : LimitedEndsAlike t.limits ms came (empty_limited (ports_of t.setup) (openings_of t.setup)) rs is.end
     alike =
-        end_alike (machines_of setup) (ports_of setup) (classes_of setup) (openings_of setup) came rs is.end
-        (traffic_fits (length rs) traffic)
-        (stable_whole (machines_of setup) came (empty_fabric (ports_of setup) (openings_of setup)) is.end rs is.runs)
+        limited_ends t.limits ms (ports_of t.setup) (classes_of t.setup) (openings_of t.setup) came rs is.end
+        (traffic_fits (length rs) traffic) (stable_whole t.limits ms came start is.end rs is.runs)
+
+    pub as_many_slots : slots_ran t came ≡ length rs
+    as_many_slots =
+        limited_found_end t.limits ms (ports_of t.setup) (openings_of t.setup) came (length rs) alike.after alike.ends
+
+    -- what the ideal switch did
+    abbrev told : LimitedRan
+    told = record { admissions = admissions_in rs; gone = gone_in (slots_in rs); after = alike.after }
+
+    whole_ran : whole_limited_run t.limits ms came (empty_limited (ports_of t.setup) (openings_of t.setup)) ≡ Ok told
+    unfolding whole_limited_run
+    whole_ran =
+        ap (λ (n : ℕ). limited_run t.limits ms 0 (first_slots came n) (empty_limited (ports_of t.setup)
+        (openings_of t.setup))) as_many_slots
+        ∙ alike.ran
 
     pub best_in_each : AreInputBest rs
     best_in_each =
-        each_best (machines_of setup) (classes_of setup) 0 (first_slots came (length rs))
-        (empty_fabric (ports_of setup) (openings_of setup)) is.end (empty_ideal (ports_of setup)
-        (openings_of setup)) rs
-        (empty_agree (ports_of setup) (openings_of setup)) fits runs
+        of_slots IsBestIn rs
+        (each_best ms (classes_of t.setup) 0 (admitted_in (admissions_in rs)) plain is.end.state
+        (empty_ideal (ports_of t.setup) (openings_of t.setup)) (slots_in rs)
+        (empty_agree (ports_of t.setup) (openings_of t.setup)) fits (plainly rs is))
 
-    pub slot_by_slot : SendsSlotBySlot setup came rs
+    pub slot_by_slot : SendsSlotBySlot t came rs
     unfolding ran_ideal
     slot_by_slot =
-        let P : Result Ran TagFault → Type 0 = λ r. IsOkAnd r (λ ideal. gone_in rs ≡ ideal.gone) in
-        subst P (sym alike.ran) refl
+        let P : Result LimitedRan TagFault → Type 0 =
+        λ r. IsOkAnd r (λ ideal. (gone_in (slots_in rs) ≡ ideal.gone) × (admissions_in rs ≡ ideal.admissions)) in
+        subst P (sym whole_ran) (refl, refl)
 
-    pub sends_as_ideal : ideal_departures setup came ≡ Ok (departures_of 0 (gone_in rs))
+    pub sends_as_ideal : ideal_departures t came ≡ Ok (departures_in_run rs)
     unfolding ideal_departures ran_ideal
-    sends_as_ideal = ap departures_ran alike.ran
+    sends_as_ideal = ap departures_limited whole_ran
 
     pub always_slack : AlwaysHasSlack rs
     always_slack =
-        run_slack (machines_of setup) (classes_of setup) 0 (first_slots came (length rs))
-        (empty_fabric (ports_of setup) (openings_of setup)) is.end (empty_ideal (ports_of setup)
-        (openings_of setup)) rs
-        (empty_agree (ports_of setup) (openings_of setup)) fits
-        (stable_run (machines_of setup) 0 (first_slots came (length rs)) (empty_fabric (ports_of setup)
-        (openings_of setup)) is.end rs runs)
+        of_slots (λ r. HasSlack 0 r.arrived) rs
+        (run_slack ms (classes_of t.setup) 0 (admitted_in (admissions_in rs)) plain is.end.state
+        (empty_ideal (ports_of t.setup) (openings_of t.setup)) (slots_in rs)
+        (empty_agree (ports_of t.setup) (openings_of t.setup)) fits
+        (stable_run ms 0 (admitted_in (admissions_in rs)) plain is.end.state (slots_in rs) (plainly rs is)))
 
-    pub as_many_slots : slots_ran setup came ≡ length rs
-    as_many_slots = alike.slots
+    -- it ends with the last arrival, or with the last departure
+    pub end_of_run : length rs ≡ max (end_of came) (figures_of (ports_of t.setup) (slots_in rs)).slots
+    end_of_run =
+        let many = as_many_slots in
+        let last = slots_are t came (departures_in_run rs) sends_as_ideal in
+        let told = slots_sent rs is in
+        omega arith
 
-    pub slots_of_figures : IsSetup setup → (figures_of (ports_of setup) rs).slots ≡ length rs
-    slots_of_figures in_range =
-        slots_told (machines_of setup) (ports_of setup) (classes_of setup) (openings_of setup) came rs is.end
-        (traffic_fits (length rs) traffic)
-        (runnable setup came in_range traffic).for_switch
-        (stable_whole (machines_of setup) came (empty_fabric (ports_of setup) (openings_of setup)) is.end rs is.runs)
+    -- where no output has a limit a cell departs in the last slot
+    pub all_slots_send : NoLimits t.limits → IsSetup t.setup →
+        (figures_of (ports_of t.setup) (slots_in rs)).slots ≡ length rs
+    all_slots_send none in_range =
+        slots_sent rs is
+        ∙ sym (last_departs_without_limits t came (departures_in_run rs) none in_range traffic sends_as_ideal)
+        ∙ as_many_slots
 
-  pub kept_as_ideal : (run : kept.FabricRun) → IsTraffic (ports_of setup) (classes_of setup) came →
-      IsKeptOf setup came run → ideal_departures setup came ≡ Ok run.sent.items
+  pub kept_as_ideal : (run : kept.FabricRun) → IsTraffic (ports_of t.setup) (classes_of t.setup) came →
+      IsKeptOf t came run → ideal_departures t came ≡ Ok run.sent.items
   kept_as_ideal run traffic kept = sends_as_ideal kept.records traffic kept.is_run ∙ ap Ok (sym kept.sent)
 
-  pub only_one : (rs ss : List SlotRecord) → IsFabricRun setup came rs → IsFabricRun setup came ss → rs ≡ ss
+  pub only_one : (rs ss : List LimitedRecord) → IsFabricRun t came rs → IsFabricRun t came ss → rs ≡ ss
   only_one rs ss one other =
-      (one_whole (FabricSlot IsInputBest (machines_of setup)) (one_run (machines_of setup)) IsEmptyFabric came
-      (empty_fabric (ports_of setup) (openings_of setup)) rs ss one.end other.end one.runs other.runs).0
+      (one_limited_whole t.limits ms came start one.end other.end rs ss one.runs other.runs).0
 
   -- no output has sent more cells than the run has slots
-  pub once_each_slot : (rs : List SlotRecord) → IsFabricRun setup came rs →
-      All (λ x. x.cells ≤ (figures_of (ports_of setup) rs).slots) (figures_of (ports_of setup) rs).outputs
+  pub once_each_slot : (rs : List LimitedRecord) → IsFabricRun t came rs →
+      All (λ x. x.cells ≤ (figures_of (ports_of t.setup) (slots_in rs)).slots)
+      (figures_of (ports_of t.setup) (slots_in rs)).outputs
   once_each_slot rs is =
-      let start : Fabric = empty_fabric (ports_of setup) (openings_of setup) in
-      once_a_slot (machines_of setup) (first_slots came (length rs)) start is.end rs (ports_of setup)
-      (run_of_whole (FabricSlot IsInputBest (machines_of setup)) came start rs IsEmptyFabric is.end is.runs)
+      once_a_slot ms (admitted_in (admissions_in rs)) plain is.end.state (slots_in rs) (ports_of t.setup)
+      (plainly rs is)

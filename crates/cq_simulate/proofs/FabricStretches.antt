@@ -1,6 +1,6 @@
 -- Stretches of slots that the fabric skips. What is known before the first of them is known after each, as after any slot:
--- none sends a cell, moves one or changes a figure.
-use Rattle.std.proofs.Common.{◌≡◌, ℕ, zero, suc, ◌+◌, ◌<◌, ◌≤◌, false, List, [], ◌++◌, length, replicate, Option, refl, sym, ap, ◌∙◌, subst, arith}
+-- none sends a cell, moves or refuses one, or changes a figure.
+use Rattle.std.proofs.Common.{◌≡◌, ℕ, zero, suc, ◌+◌, ◌<◌, ◌≤◌, Bool, false, List, [], ◌++◌, length, replicate, Option, refl, sym, ap, ◌∙◌, subst, arith}
 use Rattle.std.proofs.lemmas.List.{append-nil}
 use Rattle.cq_base.specs.Arrivals.{no_arrivals}
 use Rattle.cq_base.specs.Arriving.{Arrival, arriving, end_of}
@@ -8,47 +8,67 @@ use Rattle.cq_base.specs.Room.{RoomView}
 use Rattle.cq_base.specs.declared.cell.Cell.{Cell}
 use Rattle.cq_base.specs.declared.cell.Departure.{Departure}
 use Rattle.cq_base.specs.declared.cell.Transfer.{Transfer}
-use Rattle.cq_engine.specs.Engine.{EngineView, SlotDone}
+use Rattle.cq_engine.specs.Engine.{EngineView, SlotDone, marked_fabric, ports_of}
+use Rattle.cq_ideal.proofs.Refusals.{counts_more}
+use Rattle.cq_ideal.specs.Admission.{Marked}
 use Rattle.cq_ideal.specs.IdealSlot.{departures_in}
 use Rattle.cq_ideal.specs.Ranking.{AreForPorts}
+use Rattle.cq_ideal.specs.Refused.{refused_counts, refused_in, with_refused}
+use Rattle.cq_ideal.specs.declared.refused.Refused.{Refused}
 use Rattle.cq_laws.proofs.QuietSlots.{quiet_figures, quiet_transfers}
 use Rattle.cq_laws.specs.Fabric.{Fabric}
-use Rattle.cq_laws.specs.FabricRun.{FabricRun}
-use Rattle.cq_laws.specs.Quiet.{idled, quiet_slot, quiet_slots}
+use Rattle.cq_laws.specs.LimitedFabric.{LimitedFabricRun, LimitedRecord, admissions_in}
+use Rattle.cq_laws.specs.LimitedQuiet.{quiet_limited_slot, quiet_limited_slots}
+use Rattle.cq_laws.specs.Quiet.{idled, quiet_slot}
 use Rattle.cq_laws.specs.Records.{transfers_in}
 use Rattle.cq_prefs.specs.Pairing.{IsInputBest}
 use Rattle.cq_rank.specs.Machine.{Machine}
 use Rattle.cq_simulate.proofs.FabricRunning.{Crossing, crossing_next}
 use Rattle.cq_simulate.proofs.Stretches.{nobody_departs}
 
-pub same_fabric : (ms : List Machine) (k slot ports : ℕ) (ranks : List (List ℕ)) (f g : Fabric) → k ≡ 0 →
-    FabricRun IsInputBest ms slot (replicate k no_arrivals) f (quiet_slots ms k slot ports ranks) g → g ≡ f
-same_fabric ms zero slot ports ranks f g none ran = ran
-same_fabric ms (suc k) slot ports ranks f g none ran = absurd (omega arith)
+pub same_fabric : (limits : List (Option ℕ)) (ms : List Machine) (k slot ports : ℕ) (ranks : List (List ℕ))
+    (marks : List Bool) (f g : Marked Fabric) → k ≡ 0 →
+    LimitedFabricRun IsInputBest limits ms slot (replicate k no_arrivals) f
+    (quiet_limited_slots ms k slot ports ranks marks) g → g ≡ f
+same_fabric limits ms zero slot ports ranks marks f g none ran = ran
+same_fabric limits ms (suc k) slot ports ranks marks f g none ran = absurd (omega arith)
 
 quiet_gone : (ms : List Machine) (slot ports : ℕ) (ranks : List (List ℕ)) →
     departures_in slot (quiet_slot ms slot ports ranks).gone ≡ []
 unfolding quiet_slot
 quiet_gone ms slot ports ranks = nobody_departs ports slot
 
-pub crossing_rest : (ms : List Machine) (came : List Arrival) (first : EngineView) (first_sent sent : RoomView Departure)
-    (note : RoomView Transfer) (ports classes : ℕ) → length first.fixed ≤ 64 →
-    ((t : ℕ) → AreForPorts (length first.fixed) classes (arriving came t)) →
-    (k slot n m : ℕ) (ranks : List (List ℕ)) (now after : EngineView) → m ≡ k + n →
+-- where none is refused the counts stay
+nothing_counted : (limits : List (Option ℕ)) (lost : List Cell) (counts : List Refused) →
+    counts ≡ refused_counts limits lost → counts ≡ with_refused [] counts
+nothing_counted limits lost counts is =
+    is ∙ ap (refused_counts limits) (sym (append-nil lost)) ∙ counts_more limits lost []
+    ∙ ap (with_refused []) (sym is)
+
+pub crossing_rest : (ms : List Machine) (came : List Arrival) (first : EngineView)
+    (first_sent sent : RoomView Departure)
+    (note : RoomView Transfer) (ports classes : ℕ) → ports_of first ≤ 64 →
+    ((t : ℕ) → AreForPorts (ports_of first) classes (arriving came t)) →
+    (k slot n m : ℕ) (ranks : List (List ℕ)) (marks : List Bool) (now after : EngineView) → m ≡ k + n →
     Crossing ms came first first_sent slot m now sent note →
     ((t : ℕ) → slot ≤ t → t < slot + k → arriving came t ≡ no_arrivals) → (0 < k → slot + k < end_of came) →
-    FabricRun IsInputBest ms slot (replicate k no_arrivals) now.fabric (quiet_slots ms k slot ports ranks) after.fabric →
+    LimitedFabricRun IsInputBest now.limits ms slot (replicate k no_arrivals) (marked_fabric now)
+    (quiet_limited_slots ms k slot ports ranks marks) (marked_fabric after) →
     after.figures ≡ now.figures → after.next ≡ slot + k → after.stopped ≡ false → after.fixed ≡ now.fixed →
-    after.from_inputs ≡ now.from_inputs → after.to_outputs ≡ now.to_outputs →
-    Crossing ms came first first_sent (slot + k) n after sent note
-crossing_rest ms came first first_sent sent note ports classes few for_ports zero slot n m ranks now after left c quiet more ran
-    figures next running fixed from_inputs to_outputs =
+    after.limits ≡ now.limits → after.refused ≡ now.refused → after.from_inputs ≡ now.from_inputs →
+    after.to_outputs ≡ now.to_outputs → Crossing ms came first first_sent (slot + k) n after sent note
+crossing_rest ms came first first_sent sent note ports classes few for_ports zero slot n m ranks marks now after left
+    c quiet
+    more ran figures next running fixed limits refused from_inputs to_outputs =
     let at : slot ≡ slot + 0 = omega arith in
     let is_next : now.next ≡ after.next = c.next ∙ at ∙ sym next in
-    let fabric : now.fabric ≡ after.fabric = sym ran in
+    let fabric : marked_fabric now ≡ marked_fabric after = sym ran in
     let same : now ≡ after = λ e. record {
       fixed = sym fixed e;
-      fabric = fabric e;
+      limits = sym limits e;
+      fabric = (fabric e).state;
+      marks = (fabric e).marks;
+      refused = sym refused e;
       from_inputs = sym from_inputs e;
       to_outputs = sym to_outputs e;
       figures = sym figures e;
@@ -59,20 +79,25 @@ crossing_rest ms came first first_sent sent note ports classes few for_ports zer
     subst (λ (s : ℕ). Crossing ms came first first_sent s n after sent note) at
     (subst (λ (l : ℕ). Crossing ms came first first_sent slot l after sent note) count
     (subst (λ (v : EngineView). Crossing ms came first first_sent slot m v sent note) same c))
-crossing_rest ms came first first_sent sent note ports classes few for_ports (suc k) slot n zero ranks now after left c quiet more ran
-    figures next running fixed from_inputs to_outputs = absurd (omega arith)
-crossing_rest ms came first first_sent sent note ports classes few for_ports (suc k) slot n (suc m) ranks now after left c quiet more ran
-    figures next running fixed from_inputs to_outputs =
-    let r = quiet_slot ms slot ports ranks in
-    let leave : departures_in slot r.gone ≡ [] = quiet_gone ms slot ports ranks in
-    let cross : transfers_in r ≡ [] = quiet_transfers ms slot ports ranks in
+crossing_rest ms came first first_sent sent note ports classes few for_ports
+    (suc k) slot n zero ranks marks now after left c
+    quiet more ran figures next running fixed limits refused from_inputs to_outputs = absurd (omega arith)
+crossing_rest ms came first first_sent sent note ports classes few for_ports (suc k) slot n
+    (suc m) ranks marks now after left
+    c quiet more ran figures next running fixed limits refused from_inputs to_outputs =
+    let r : LimitedRecord = quiet_limited_slot ms slot ports ranks marks in
+    let leave : departures_in slot r.of_slot.gone ≡ [] = quiet_gone ms slot ports ranks in
+    let cross : transfers_in r.of_slot ≡ [] = quiet_transfers ms slot ports ranks in
     let none_leave = ap (λ (l : List Departure). length l) leave in
     let none_cross = ap (λ (l : List Transfer). length l) cross in
     let some = more (omega arith) in
     let quiet_here : arriving came slot ≡ no_arrivals = quiet slot (omega arith) (omega arith) in
     let middle : EngineView = record {
       fixed = now.fixed;
-      fabric = ran.0;
+      limits = now.limits;
+      fabric = ran.0.state;
+      marks = ran.0.marks;
+      refused = now.refused;
       from_inputs = now.from_inputs;
       to_outputs = now.to_outputs;
       figures = now.figures;
@@ -80,21 +105,25 @@ crossing_rest ms came first first_sent sent note ports classes few for_ports (su
       stopped = false;
     } in
     let done : SlotDone ms slot no_arrivals now middle sent sent note note = record {
-      of_slot = r;
+      record_of = r;
       is_slot = ran.1;
       departed = sym (append-nil sent.items) ∙ ap (λ (l : List Departure). sent.items ++ l) (sym leave);
       departed_room = omega arith;
       crossed = sym (append-nil note.items) ∙ ap (λ (l : List Transfer). note.items ++ l) (sym cross);
       crossed_room = omega arith;
       counted = sym (quiet_figures ms slot ports ranks now.figures);
+      refused = nothing_counted first.limits (refused_in (admissions_in c.records)) now.refused c.refused;
     } in
     let after_one : Crossing ms came first first_sent (slot + 1) m middle sent note =
     crossing_next ms came first first_sent slot m now sent note middle sent note classes c (λ le empty. omega arith) few
     (for_ports slot)
-    (subst (λ (cells : List (Option Cell)). SlotDone ms slot cells now middle sent sent note note) (sym quiet_here) done)
-    refl refl refl refl refl in
+    (subst (λ (cells : List (Option Cell)). SlotDone ms slot cells now middle sent sent note note)
+    (sym quiet_here) done)
+    refl refl refl refl refl refl in
     let at : slot + 1 + k ≡ slot + suc k = omega arith in
     subst (λ (s : ℕ). Crossing ms came first first_sent s n after sent note) at
-    (crossing_rest ms came first first_sent sent note ports classes few for_ports k (slot + 1) n m (idled ms ports ranks) middle after
-    (omega arith) after_one (λ t from to. quiet t (omega arith) (omega arith)) (λ pos. omega arith) ran.2 figures (next ∙ sym at) running
-    fixed from_inputs to_outputs)
+    (crossing_rest ms came first first_sent sent note ports classes few for_ports k (slot + 1) n m
+    (idled ms ports ranks)
+    marks middle after (omega arith) after_one (λ t from to. quiet t (omega arith) (omega arith))
+    (λ pos. omega arith) ran.2
+    figures (next ∙ sym at) running fixed limits refused from_inputs to_outputs)

@@ -1,6 +1,7 @@
--- The pieces of an output's cells, joined packet by packet. Of each input and class the cells for an output are those of
--- one packet after another, each whole and in order. So each cell is the next of the packet that is open, or the first of
--- one where none is; and at the last cell of a packet all its pieces are together, which are its frame.
+-- The pieces of an output's cells, joined packet by packet. Of each input and class the cells for an output are
+-- those of one packet after another, each whole and in order; those that leave are all cells of some of these
+-- packets. So each cell is the next of the packet that is open, or the first of one where none is; and at the last
+-- cell of a packet all its pieces are together, which are its frame.
 use Rattle.std.proofs.Common.{◌≡◌, ℕ, zero, suc, ◌+◌, ◌-◌, ◌*◌, ◌/◌, ◌<◌, ◌≤◌, Bool, true, false, cond, List, [], ◌∷◌, ◌++◌, length, map, flat_map, take, drop, min, Option, Some, None, refl, sym, ap, ◌∙◌, subst, ⊎_elim, arith}
 use Rattle.std.specs.Prelude.{◌&&◌, ◌==◌, max}
 use Rattle.std.specs.Int.{div_ceil}
@@ -188,6 +189,46 @@ module _ (t : Tables) (captures : List (List Captured)) (input : ℕ) (some : 0 
       subst (λ (o : Option Open). Fits captures (opened captures o p) cell) (closed_at_first k (cells t captures input k))
       (walk k (flat_map packet_cells ks) cell rest (λ q same. each_fits ks q cell rest same) (cells t captures input k) 0 (omega arith) p is)
 
+  -- ## The packets that are taken in
+
+  module _ (is_taken : ℕ → Bool) where
+    cell_taken : Cell → Bool
+    cell_taken cell = is_taken cell.id.packet
+
+    one_taken : (k m n : ℕ) → filter cell_taken (map (cell_of t captures input k) (range_with_len m n))
+        ≡ cond (is_taken k) (map (cell_of t captures input k) (range_with_len m n)) []
+    unfolding cell_taken cell_of
+    one_taken k m zero = sym (cond_same (is_taken k))
+      where
+        cond_same : (b : Bool) → ◌≡◌ {A = List Cell} (cond b [] []) []
+        cond_same true = refl
+        cond_same false = refl
+    one_taken k m (suc n) =
+        let later = map (cell_of t captures input k) (range_with_len (m + 1) n) in
+        ap (λ (l : List Cell). cond (is_taken k) (cell_of t captures input k m ∷ l) l) (one_taken k (m + 1) n)
+        ∙ both (is_taken k) (cell_of t captures input k m) later
+      where
+        both : (b : Bool) (x : Cell) (l : List Cell) →
+            cond b (x ∷ cond b l []) (cond b l []) ≡ cond b (x ∷ l) []
+        both true x l = refl
+        both false x l = refl
+
+    pub taken_packets : (ks : List ℕ) →
+        filter (λ cell. is_taken cell.id.packet) (flat_map packet_cells ks) ≡ flat_map packet_cells (filter is_taken ks)
+    unfolding cell_taken packet_cells
+    taken_packets [] = refl
+    taken_packets (k ∷ ks) =
+        filter-append (λ (cell : Cell). is_taken cell.id.packet) (packet_cells k) (flat_map packet_cells ks)
+        ∙ ap (λ (l : List Cell). l ++ filter (λ (cell : Cell). is_taken cell.id.packet) (flat_map packet_cells ks))
+        (one_taken k 0 (cells t captures input k))
+        ∙ ap (λ (l : List Cell). cond (is_taken k) (packet_cells k) [] ++ l) (taken_packets ks)
+        ∙ one (is_taken k)
+      where
+        one : (b : Bool) → cond b (packet_cells k) [] ++ flat_map packet_cells (filter is_taken ks)
+            ≡ flat_map packet_cells (cond b (k ∷ filter is_taken ks) (filter is_taken ks))
+        one true = refl
+        one false = refl
+
   -- ## The cells of a flow
 
   -- these are all cells of some packets, one after another
@@ -257,7 +298,13 @@ module _ (t : Tables) (captures : List (List Captured)) (input : ℕ) (some : 0 
     unfolding arrivals arrivals_at
     flow_whole = flow_over (arrivals_at t captures) 0 (length captures) (λ i. flow_over (arrivals_of t captures i) 0 (length (packets_of captures i)) (λ k. packet_whole i k))
 
-    -- each cell of the flow is the next when those before it were taken
-    pub flow_fits : (p : List Cell) (cell : Cell) (rest : List Cell) → came_in_flow input c j (arrivals t captures) ≡ p ++ cell ∷ rest → Fits captures (opened captures None p) cell
+    -- each cell of the packets that are taken in is the next when those before it were taken
+    pub flow_fits : (is_taken : ℕ → Bool) (p : List Cell) (cell : Cell) (rest : List Cell) →
+        filter (λ cell. is_taken cell.id.packet) (came_in_flow input c j (arrivals t captures)) ≡ p ++ cell ∷ rest →
+        Fits captures (opened captures None p) cell
     unfolding AreWhole
-    flow_fits p cell rest is = let w = flow_whole in each_fits w.0 p cell rest (sym w.1 ∙ is)
+    flow_fits is_taken p cell rest is =
+        let w = flow_whole in
+        each_fits (filter is_taken w.0) p cell rest
+        (sym (taken_packets is_taken w.0)
+        ∙ ap (filter (λ (cell : Cell). is_taken cell.id.packet)) (sym w.1) ∙ is)

@@ -15,5 +15,10 @@ pub mod Steps
 pub mod Taking
 pub mod Stretches
 pub mod FabricStretches
-pub mod NoLimits
 pub mod OfPackets
+pub mod Runnable
+pub mod Tallies
+pub mod OnePacket
+pub mod RefusedCame
+pub mod LeftOrRefused
+pub mod EachPacket

@@ -1,21 +1,24 @@
 -- What arrives at an input are its packets, one after another, each from its first cell to its last. Cell 0 of a
--- packet is its first cell and no other is, and the next packet has the next number.
-use Rattle.std.proofs.Common.{◌≡◌, ℕ, zero, suc, ◌+◌, ◌<◌, ◌≤◌, List, [], ◌∷◌, ◌++◌, length, map, filter, refl, sym, ap, ◌∙◌, inl, inr, subst, arith}
+-- packet is its first cell and no other is, and the next packet has the next number. At what is no input nothing
+-- arrives.
+use Rattle.std.proofs.Common.{◌≡◌, ℕ, zero, suc, ◌+◌, ◌<◌, ◌≤◌, List, [], ◌∷◌, ◌++◌, length, map, refl, sym, ap, ◌∙◌, inl, inr, subst, ⊎_elim, arith, Option, Some, None}
 use Rattle.std.specs.List.{flat_map, range_with_len}
-use Rattle.std.proofs.lemmas.Bool.{ne_eqb}
+use Rattle.std.proofs.lemmas.Bool.{cases_lt, ne_eqb}
 use Rattle.std.proofs.lemmas.List.{map-append}
-use Rattle.cq_base.specs.Arriving.{Arrival, traffic_of}
+use Rattle.cq_base.specs.Arrivals.{arrival_at}
+use Rattle.cq_base.specs.Arriving.{Arrival, arriving, enough, traffic_of}
 use Rattle.cq_base.specs.declared.cell.Cell.{Cell}
 use Rattle.cq_cells.proofs.Pieces.{cells_above}
 use Rattle.cq_cells.proofs.Rising.{at_input, traffic_is}
 use Rattle.cq_cells.specs.Schedule.{arrivals, arrivals_at, arrivals_of, cell_of, cells, packet_at, packets_of, start}
-use Rattle.cq_cells.specs.Traffic.{is_from}
+use Rattle.cq_cells.specs.Traffic.{IsTraffic}
 use Rattle.cq_ideal.proofs.AtInput.{come_in_order}
 use Rattle.cq_ideal.specs.WholePackets.{AreOfPackets, cells_at}
 use Rattle.cq_pcap.specs.Captured.{Captured}
-use Rattle.cq_route.specs.Tables.{AreTables, ports_of}
+use Rattle.cq_route.specs.Tables.{AreTables, classes_of, ports_of}
 use Rattle.cq_route.specs.declared.tables.Tables.{Tables}
-use Rattle.cq_simulate.proofs.Departed.{later_rise}
+use Rattle.cq_simulate.proofs.Runnable.{later_rise}
+use Rattle.cq_simulate.proofs.Steps.{arrivals_for}
 
 -- the cells of arrivals in consecutive slots
 cells_in : (s : ℕ) (f : ℕ → Cell) (a n : ℕ) →
@@ -74,3 +77,36 @@ of_packets t captures input tables as_many inside =
     (sym (come_in_order input few (arrivals t captures) rise
     ∙ ap (map (λ (x : Arrival). x.cell)) (at_input t captures input inside)))
     (at_line t captures input)
+
+-- ## What is no input
+
+one_none : (i : ℕ) (cells : List (Option Cell)) (traffic : List (List (Option Cell))) →
+    ((cell : Cell) → arrival_at cells i ≡ Some cell → ⊥) → cells_at i traffic ≡ [] → cells_at i (cells ∷ traffic) ≡ []
+one_none i cells traffic none rest = go (arrival_at cells i) refl
+  where
+    go : (o : Option Cell) → arrival_at cells i ≡ o → cells_at i (cells ∷ traffic) ≡ []
+    go None is = rw is rest
+    go (Some cell) is = absurd (none cell is)
+
+module _ (ports classes : ℕ) (came : List Arrival) (traffic : IsTraffic ports classes came) (i : ℕ)
+    (le : ports ≤ i) where
+  none_from : (a n : ℕ) → cells_at i (map (arriving came) (range_with_len a n)) ≡ []
+  none_from a zero = refl
+  none_from a (suc n) =
+      one_none i (arriving came a) (map (arriving came) (range_with_len (a + 1) n))
+      (λ cell at. let in_range = (arrivals_for ports classes came a traffic).inputs i cell at in omega arith)
+      (none_from (a + 1) n)
+
+  none_come : cells_at i (traffic_of came) ≡ []
+  unfolding traffic_of
+  none_come = none_from 0 (enough came)
+
+pub packets_come : (t : Tables) (captures : List (List Captured)) (input : ℕ) → AreTables t →
+    length captures ≡ ports_of t.setup → AreOfPackets 0 (cells_at input (traffic_of (arrivals t captures)))
+packets_come t captures input tables as_many =
+    ⊎_elim (λ inside. of_packets t captures input tables as_many inside)
+    (λ past.
+    let none = none_come (ports_of t.setup) (classes_of t.setup) (arrivals t captures)
+    (traffic_is t captures tables as_many) input (omega arith) in
+    subst (AreOfPackets 0) (sym none) tt)
+    (cases_lt input (length captures))

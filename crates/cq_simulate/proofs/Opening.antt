@@ -1,6 +1,6 @@
--- How a run of a setup begins: the machines are those of the setup's disciplines, each in its opening state, and there is
--- room for all cells that arrive.
-use Rattle.std.proofs.Common.{◌≡◌, ℕ, ◌+◌, ◌≤◌, false, List, [], length, map, sym, ap, ◌∙◌, subst, arith}
+-- How a run of tables begins: the machines are those of the setup's disciplines, each in its opening state, all
+-- marks are down, and there is room for all cells that arrive.
+use Rattle.std.proofs.Common.{◌≡◌, ℕ, ◌+◌, ◌≤◌, Bool, false, List, [], length, map, Option, sym, ap, ◌∙◌, subst, arith}
 use Rattle.std.specs.Prelude.{slice_index}
 use Rattle.std.specs.List.{range_with_len}
 use Rattle.std.proofs.lemmas.List.{length-map}
@@ -10,16 +10,21 @@ use Rattle.cq_base.specs.declared.setup.Setup.{Setup}
 use Rattle.cq_base.specs.Arriving.{Arrival, enough, traffic_of}
 use Rattle.cq_base.specs.Room.{RoomView}
 use Rattle.cq_cells.specs.Traffic.{IsShort, IsTraffic, is_to, number_of}
-use Rattle.cq_ideal.specs.Ideal.{IdealSwitch}
+use Rattle.cq_ideal.specs.Admission.{marked, marks_down}
+use Rattle.cq_ideal.specs.Ideal.{IdealSwitch, marked_state}
 use Rattle.cq_ideal.specs.IdealSlot.{IdealState}
-use Rattle.cq_ideal.specs.IdealRun.{ideal_run, empty_ideal, departures_ran}
+use Rattle.cq_ideal.specs.IdealRun.{empty_ideal}
+use Rattle.cq_ideal.specs.LimitedEnding.{departures_limited}
+use Rattle.cq_ideal.specs.LimitedIdeal.{limited_run}
+use Rattle.cq_ideal.specs.Refused.{refused_counts}
 use Rattle.cq_rank.specs.Machine.{Machine}
 use Rattle.cq_rank.specs.Switch.{class_count}
 use Rattle.cq_route.specs.Tables.{IsSetup, classes_of, ports_of}
+use Rattle.cq_route.specs.declared.tables.Tables.{Tables}
 use Rattle.cq_scfq.specs.Disciplines.{machine_of, machines_of, openings_of}
 use Rattle.cq_simulate.specs.IdealRuns.{ideal_departures, ran_ideal}
 use Rattle.cq_simulate.specs.Ready.{IsReady}
-use Rattle.cq_ideal.proofs.Ends.{same_sent}
+use Rattle.cq_ideal.proofs.LimitedEnds.{limited_same_sent}
 
 -- as many machines as kinds
 pub machine_count : (M : List ℕ → Machine) (fixed : List (List ℕ)) (setup : Setup) → map M fixed ≡ machines_of setup → length fixed ≡ length setup.kinds
@@ -29,30 +34,65 @@ pub few_cells : (came : List Arrival) → length came ≤ enough came
 unfolding enough
 few_cells came = omega arith
 
--- the run of a switch that is made for the setup is the setup's run
-pub run_of_setup : (M : List ℕ → Machine) (setup : Setup) (came : List Arrival) (first : IdealSwitch) (ports : ℕ) (states : List (List ℕ)) → map M first.fixed ≡ machines_of setup → first.state ≡ empty_ideal ports states → ports ≡ length setup.kinds → states ≡ openings_of setup → departures_ran (ideal_run (map M first.fixed) 0 (traffic_of came) first.state) ≡ ideal_departures setup came
-unfolding ideal_departures ran_ideal
-run_of_setup M setup came first ports states machines state many openings =
-    ap (λ (ms : List Machine). departures_ran (ideal_run ms 0 (traffic_of came) first.state)) machines
-    ∙ ap (λ (s : IdealState). departures_ran (ideal_run (machines_of setup) 0 (traffic_of came) s)) (state ∙ ap (λ (n : ℕ). empty_ideal n states) many ∙ ap (λ (s : List (List ℕ)). empty_ideal (length setup.kinds) s) openings)
-    ∙ same_sent (machines_of setup) (length setup.kinds) (openings_of setup) came
+-- A switch that is made for the tables: the machines of their setup, their limits, empty lists, and marks down.
+pub record IsMadeFor (M : List ℕ → Machine) (t : Tables) (ports : ℕ) (states : List (List ℕ))
+    (first : IdealSwitch) : Type 0 where
+  pub machines : map M first.fixed ≡ machines_of t.setup
+  pub limits : first.limits ≡ t.limits
+  pub state : first.state ≡ empty_ideal ports states
+  pub marks : first.marks ≡ marks_down ports
+  pub many : ports ≡ length t.setup.kinds
 
-pub ready : (M : List ℕ → Machine) (setup : Setup) (came : List Arrival) (first : IdealSwitch) (sent : RoomView Departure) (ports : ℕ) (states : List (List ℕ)) → IsSetup setup → map M first.fixed ≡ machines_of setup → class_count (machines_of setup) ≡ length setup.classes → first.stopped ≡ false → first.next ≡ 0 → first.state ≡ empty_ideal ports states → ports ≡ length setup.kinds → first.rooms ≡ map (λ j. number_of (is_to j) came) (range_with_len 0 ports) → IsTraffic (ports_of setup) (classes_of setup) came → IsShort came → sent.items ≡ [] → sent.spare ≡ length came + ports → IsReady (map M first.fixed) came first sent
-ready M setup came first sent ports states is machines classes running next state many rooms traffic short nothing spare =
-    let count : length first.fixed ≡ length setup.kinds = machine_count M first.fixed setup machines in
+-- its run is the tables' run
+pub run_of_tables : (M : List ℕ → Machine) (t : Tables) (came : List Arrival) (ports : ℕ) (states : List (List ℕ))
+    (first : IdealSwitch) → IsMadeFor M t ports states first → states ≡ openings_of t.setup →
+    departures_limited (limited_run first.limits (map M first.fixed) 0 (traffic_of came) (marked_state first))
+    ≡ ideal_departures t came
+unfolding ideal_departures ran_ideal
+run_of_tables M t came ports states first made openings =
+    let n = length t.setup.kinds in
+    let ms = machines_of t.setup in
+    let run : List (Option ℕ) → List Machine → List Bool → IdealState → _ =
+    λ (l : List (Option ℕ)) (ms : List Machine) (m : List Bool) (s : IdealState).
+    departures_limited (limited_run l ms 0 (traffic_of came) (marked m s)) in
+    ap (λ (l : List (Option ℕ)). run l (map M first.fixed) first.marks first.state) made.limits
+    ∙ ap (λ (ms : List Machine). run t.limits ms first.marks first.state) made.machines
+    ∙ ap (λ (m : List Bool). run t.limits ms m first.state) made.marks
+    ∙ ap (run t.limits ms (marks_down ports)) made.state
+    ∙ ap (λ (k : ℕ). run t.limits ms (marks_down k) (empty_ideal k states)) made.many
+    ∙ ap (λ (s : List (List ℕ)). run t.limits ms (marks_down n) (empty_ideal n s)) openings
+    ∙ limited_same_sent t.limits ms n (openings_of t.setup) came
+
+pub ready : (M : List ℕ → Machine) (t : Tables) (came : List Arrival) (ports : ℕ) (states : List (List ℕ))
+    (first : IdealSwitch) (sent : RoomView Departure) → IsMadeFor M t ports states first → IsSetup t.setup →
+    class_count (machines_of t.setup) ≡ length t.setup.classes → first.stopped ≡ false → first.next ≡ 0 →
+    first.refused ≡ refused_counts t.limits [] →
+    first.rooms ≡ map (λ j. number_of (is_to j) came) (range_with_len 0 ports) →
+    IsTraffic (ports_of t.setup) (classes_of t.setup) came → IsShort came → sent.items ≡ [] →
+    sent.spare ≡ length came + ports → IsReady (map M first.fixed) came first sent
+ready M t came ports states first sent made is classes running next refused rooms traffic short nothing spare =
+    let count : length first.fixed ≡ length t.setup.kinds = machine_count M first.fixed t.setup made.machines in
     let few = is.ports in
-    let long : length first.rooms ≡ ports = ap (λ (l : List ℕ). length l) rooms ∙ length-map-range_with_len (λ (j : ℕ). number_of (is_to j) came) 0 ports in
+    let many : ports ≡ length t.setup.kinds = made.many in
+    let f : ℕ → ℕ = λ j. number_of (is_to j) came in
+    let long : length first.rooms ≡ ports =
+    ap (λ (l : List ℕ). length l) rooms ∙ length-map-range_with_len f 0 ports in
     let same : ports ≡ length first.fixed = omega arith in
-    let known : class_count (map M first.fixed) ≡ length setup.classes = ap class_count machines ∙ classes in
+    let known : class_count (map M first.fixed) ≡ length t.setup.classes = ap class_count made.machines ∙ classes in
     record {
       running = running;
       next = next;
       ports = omega arith;
-      traffic = subst (λ (n : ℕ). IsTraffic n (class_count (map M first.fixed)) came) (sym count) (subst (λ (n : ℕ). IsTraffic (length setup.kinds) n came) (sym known) traffic);
+      traffic = subst (λ (n : ℕ). IsTraffic n (class_count (map M first.fixed)) came) (sym count)
+          (subst (λ (n : ℕ). IsTraffic (length t.setup.kinds) n came) (sym known) traffic);
       short = short;
-      state = state ∙ ap (λ (s : IdealState). empty_ideal ports s.ranks) (sym state) ∙ ap (λ (n : ℕ). empty_ideal n first.state.ranks) same;
+      state = made.state ∙ ap (λ (s : IdealState). empty_ideal ports s.ranks) (sym made.state)
+          ∙ ap (λ (n : ℕ). empty_ideal n first.state.ranks) same;
       lists = omega arith;
-      rooms = λ j inside. ap (λ (l : List ℕ). slice_index l j) rooms ∙ get_or-map-range_with_len (λ (j : ℕ). number_of (is_to j) came) 0 ports j j 0 (omega arith) (omega arith);
+      rooms = λ j inside. ap (λ (l : List ℕ). slice_index l j) rooms
+          ∙ get_or-map-range_with_len f 0 ports j j 0 (omega arith) (omega arith);
+      marks = made.marks ∙ ap marks_down same;
+      refused = refused ∙ ap (λ (l : List (Option ℕ)). refused_counts l []) (sym made.limits);
       nothing = nothing;
       spare = omega arith;
     }

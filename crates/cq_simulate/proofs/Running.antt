@@ -1,23 +1,30 @@
--- The run of the ideal switch, slot by slot. What was sent so far, and then what is sent in the slots that are left, is what
--- the whole run sends. The cells that wait and those that are still to come are no more than there is room for, in each
--- list and in all. And they are no more than the slots that are left after the last arrival: in each of these a cell leaves,
--- while one waits. So the slots do not end before the cells. Once no cell is to come and none waits, the slots that are
--- left send nothing and meet no fault.
-use Rattle.std.proofs.Common.{◌≡◌, ℕ, zero, suc, ◌+◌, ◌-◌, ◌<◌, ◌≤◌, false, List, [], ◌++◌, length, replicate, Option, Result, Ok, Err, refl, sym, ap, ◌∙◌, subst, ⊎_elim, arith, append_assoc}
+-- The run of the ideal switch, slot by slot. What was sent so far, and then what is sent in the slots that are left,
+-- is what the whole run sends. Of the cells that come in a slot each is admitted or refused. So the cells that wait
+-- and those that are still to come are no more than there is room for, in each list and in all, and those that were
+-- refused and those that are still to come are no more than all that come. And those that wait or come are no more
+-- than the slots that are left after the last arrival: in each of these a cell leaves, while one waits. So the slots
+-- do not end before the cells. Once no cell is to come and none waits, the slots that are left send nothing and meet
+-- no fault.
+use Rattle.std.proofs.Common.{◌≡◌, ℕ, zero, suc, ◌+◌, ◌-◌, ◌<◌, ◌≤◌, ◌^◌, Bool, true, false, List, [], ◌∷◌, ◌++◌, length, replicate, Option, Some, None, Result, Ok, Err, refl, sym, ap, ◌∙◌, subst, ⊎_elim, arith, append_assoc}
 use Rattle.std.specs.Prelude.{slice_index_or}
 use Rattle.std.proofs.lemmas.Bool.{cases_lt}
-use Rattle.std.proofs.lemmas.List.{append-nil, length-replicate, get_or-replicate}
+use Rattle.std.proofs.lemmas.List.{append-nil, length-append, length-replicate, get_or-replicate}
 use Rattle.cq_base.specs.declared.cell.Cell.{Cell}
 use Rattle.cq_base.specs.declared.cell.Departure.{Departure}
 use Rattle.cq_base.specs.declared.cell.Queued.{Queued}
 use Rattle.cq_base.specs.declared.cell.TagFault.{TagFault}
 use Rattle.cq_base.specs.Arriving.{Arrival, arriving, end_of, enough}
 use Rattle.cq_base.specs.Room.{RoomView}
-use Rattle.cq_cells.specs.Traffic.{number_of, is_to}
+use Rattle.cq_cells.specs.Traffic.{IsShort, number_of, is_to}
 use Rattle.cq_rank.specs.Machine.{Machine}
-use Rattle.cq_ideal.specs.Ideal.{IdealSwitch, HaveLeft, count_for}
+use Rattle.cq_ideal.specs.Admission.{Admission, Marked, admission, admitted, marked, marks_after, refused}
+use Rattle.cq_ideal.specs.Ideal.{IdealSwitch, HaveLeft, count_for, marked_state}
 use Rattle.cq_ideal.specs.IdealSlot.{IdealState, Sent, ideal_slot, departures_in}
-use Rattle.cq_ideal.specs.IdealRun.{Ran, then_ran, ideal_run, departures_of}
+use Rattle.cq_ideal.specs.IdealRun.{departures_of}
+use Rattle.cq_ideal.specs.LimitedIdeal.{LimitedRan, LimitedSent, ideal_admission, ideal_held, limited_run, limited_slot, then_limited, with_admission}
+use Rattle.cq_ideal.specs.Limiter.{CanCount}
+use Rattle.cq_ideal.specs.Refused.{refused_counts, with_refused}
+use Rattle.cq_ideal.proofs.Counting.{counts_fit, zero_fits}
 use Rattle.cq_ideal.proofs.FlowRank.{present}
 use Rattle.cq_ideal.proofs.FlowRun.{come_count}
 use Rattle.cq_ideal.proofs.FlowCount.{come_count-traffic_of, none_after}
@@ -27,12 +34,15 @@ use Rattle.cq_ideal.proofs.Waiting.{waiting, counted}
 use Rattle.cq_simulate.proofs.Coming.{come_for, come_for-traffic_of}
 use Rattle.cq_ideal.proofs.Ends.{all_slots}
 use Rattle.cq_ideal.proofs.LastSlot.{slots_of-append, slots_of-departures}
-use Rattle.cq_ideal.proofs.Parted.{stays_empty}
+use Rattle.cq_ideal.proofs.LimitedParts.{limited_stays_empty}
+use Rattle.cq_ideal.proofs.LimitedRuns.{run_fault, run_step}
+use Rattle.cq_ideal.proofs.Parted.{arriving_here}
+use Rattle.cq_ideal.proofs.Refusals.{counts_more, each_once}
 
 -- ## What a run sends
 
 -- the departures of a run from this slot on, or its fault
-abbrev pub sent_from : ℕ → Result Ran TagFault → Result (List Departure) TagFault
+abbrev pub sent_from : ℕ → Result LimitedRan TagFault → Result (List Departure) TagFault
 sent_from slot (Ok ran) = Ok (departures_of slot ran.gone)
 sent_from slot (Err fault) = Err fault
 
@@ -42,74 +52,125 @@ sent_after sent (Ok rest) = Ok (sent ++ rest)
 sent_after sent (Err fault) = Err fault
 
 -- what the slots from this one on send
-unfoldable pub run_from : List Machine → List Arrival → ℕ → ℕ → IdealState → Result (List Departure) TagFault
-run_from ms came slot n state = sent_from slot (ideal_run ms slot (arriving_from came slot n) state)
+unfoldable pub run_from : List (Option ℕ) → List Machine → List Arrival → ℕ → ℕ → Marked IdealState →
+    Result (List Departure) TagFault
+run_from limits ms came slot n state = sent_from slot (limited_run limits ms slot (arriving_from came slot n) state)
 
-then_sent : (slot : ℕ) (gone : List (Option Queued)) (x : Result Ran TagFault) →
-    sent_from slot (then_ran gone x) ≡ sent_after (departures_in slot gone) (sent_from (slot + 1) x)
+then_sent : (slot : ℕ) (sent : LimitedSent) (x : Result LimitedRan TagFault) →
+    sent_from slot (then_limited sent x) ≡ sent_after (departures_in slot sent.gone) (sent_from (slot + 1) x)
 unfolding departures_of
-then_sent slot gone (Ok ran) = refl
-then_sent slot gone (Err fault) = refl
+then_sent slot sent (Ok ran) = refl
+then_sent slot sent (Err fault) = refl
 
-goes_on : List Machine → List Arrival → ℕ → ℕ → Result Sent TagFault → Result Ran TagFault
-goes_on ms came slot n x =
-    elim x [
-      | Ok sent ↦ then_ran sent.gone
-          (ideal_run ms (slot + 1) (arriving_from came (slot + 1) n) sent.after)
-      | Err fault ↦ Err fault
-    ]
+module _ (limits : List (Option ℕ)) (ms : List Machine) (came : List Arrival) where
+  next_sent : (slot n : ℕ) (state : Marked IdealState) (sent : LimitedSent) →
+      limited_slot limits ms slot (arriving came slot) state ≡ Ok sent →
+      run_from limits ms came slot (suc n) state ≡ sent_after (departures_in slot sent.gone)
+      (run_from limits ms came (slot + 1) n sent.after)
+  unfolding run_from
+  next_sent slot n state sent is =
+      let later = arriving_from came (slot + 1) n in
+      ap (λ (l : List (List (Option Cell))). sent_from slot (limited_run limits ms slot l state))
+      (arriving_here came slot n)
+      ∙ ap (sent_from slot) (run_step limits ms slot (arriving came slot) later state sent is)
+      ∙ then_sent slot sent (limited_run limits ms (slot + 1) later sent.after)
 
-first_of_run : (ms : List Machine) (came : List Arrival) (slot n : ℕ) (state : IdealState) →
-    run_from ms came slot (suc n) state ≡ sent_from slot
-    (goes_on ms came slot n (ideal_slot ms slot (arriving came slot) state))
-unfolding run_from ideal_run goes_on arriving_from
-first_of_run ms came slot n state = refl
+  next_fault : (slot n : ℕ) (state : Marked IdealState) (fault : TagFault) →
+      limited_slot limits ms slot (arriving came slot) state ≡ Err fault →
+      run_from limits ms came slot (suc n) state ≡ Err fault
+  unfolding run_from
+  next_fault slot n state fault is =
+      ap (λ (l : List (List (Option Cell))). sent_from slot (limited_run limits ms slot l state))
+      (arriving_here came slot n)
+      ∙ ap (sent_from slot) (run_fault limits ms slot (arriving came slot) (arriving_from came (slot + 1) n) state
+      fault is)
 
-next_sent : (ms : List Machine) (came : List Arrival) (slot n : ℕ) (state : IdealState) (sent : Sent) →
-    ideal_slot ms slot (arriving came slot) state ≡ Ok sent →
-    run_from ms came slot (suc n) state ≡ sent_after (departures_in slot sent.gone)
-    (run_from ms came (slot + 1) n sent.after)
-unfolding run_from goes_on
-next_sent ms came slot n state sent is =
-    first_of_run ms came slot n state
-    ∙ ap (λ x. sent_from slot (goes_on ms came slot n x)) is
-    ∙ then_sent slot sent.gone (ideal_run ms (slot + 1) (arriving_from came (slot + 1) n) sent.after)
-
-next_fault : (ms : List Machine) (came : List Arrival) (slot n : ℕ) (state : IdealState) (fault : TagFault) →
-    ideal_slot ms slot (arriving came slot) state ≡ Err fault → run_from ms came slot (suc n) state ≡ Err fault
-unfolding run_from goes_on
-next_fault ms came slot n state fault is =
-    first_of_run ms came slot n state ∙ ap (λ x. sent_from slot (goes_on ms came slot n x)) is
-
--- once no cell is to come and none waits, nothing is sent and no fault is met
-over : (ms : List Machine) (came : List Arrival) (n slot : ℕ) (state : IdealState) → end_of came ≤ slot →
-    waiting state.lists ≡ 0 → run_from ms came slot n state ≡ Ok []
-unfolding run_from
-over ms came n slot state le none =
-    let quiet = stays_empty ms came n slot state le none in
-    ap (sent_from slot) quiet.is ∙ ap (λ (l : List Departure). Ok l) quiet.none
+  -- once no cell is to come and none waits, nothing is sent and no fault is met
+  over : (n slot : ℕ) (state : Marked IdealState) → end_of came ≤ slot → waiting state.state.lists ≡ 0 →
+      run_from limits ms came slot n state ≡ Ok []
+  unfolding run_from
+  over n slot state le none =
+      let quiet = limited_stays_empty limits ms came n slot state le none in
+      ap (sent_from slot) quiet.is ∙ ap (λ (l : List Departure). Ok l) quiet.none
 
 sent_after-twice : (a b : List Departure) (x : Result (List Departure) TagFault) →
     sent_after a (sent_after b x) ≡ sent_after (a ++ b) x
 sent_after-twice a b (Ok rest) = ap (λ (l : List Departure). Ok l) (sym (append_assoc a b rest))
 sent_after-twice a b (Err fault) = refl
 
+-- ## What a slot admits
+
+all_once : (marks : List Bool) (cells : List (Option Cell)) →
+    length (present (admitted marks cells)) + length (refused marks cells) ≡ length (present cells)
+all_once [] cells = omega arith
+all_once (mark ∷ marks) [] = refl
+all_once (true ∷ marks) (None ∷ cells) = all_once marks cells
+all_once (false ∷ marks) (None ∷ cells) = all_once marks cells
+all_once (true ∷ marks) (Some cell ∷ cells) = let rest = all_once marks cells in omega arith
+all_once (false ∷ marks) (Some cell ∷ cells) = let rest = all_once marks cells in omega arith
+
+-- each cell is admitted or refused
+pub record Once (cells : List (Option Cell)) (a : Admission) : Type 0 where
+  pub all : length (present a.cells) + length a.refused ≡ length (present cells)
+  pub each : (j : ℕ) → count_for j a.cells ≤ count_for j cells
+
+once : (limits : List (Option ℕ)) (held : List ℕ) (marks : List Bool) (cells : List (Option Cell)) →
+    Once cells (admission limits held marks cells)
+unfolding admission
+once limits held marks cells =
+    let after = marks_after limits held marks cells in
+    record {
+      all = all_once after cells;
+      each = λ j. let one = each_once j after cells in omega arith;
+    }
+
+-- a slot is one without limits of what is admitted
+pub record OfAdmitted (ms : List Machine) (slot : ℕ) (cells : List (Option Cell)) (old : Marked IdealState)
+    (of_slot : LimitedSent) : Type 0 where
+  pub sent : Sent
+  pub ran : ideal_slot ms slot of_slot.admission.cells old.state ≡ Ok sent
+  pub gone : of_slot.gone ≡ sent.gone
+  pub after : of_slot.after.state ≡ sent.after
+  pub once_each : Once cells of_slot.admission
+
+pub of_admitted : (limits : List (Option ℕ)) (ms : List Machine) (slot : ℕ) (cells : List (Option Cell))
+    (old : Marked IdealState) (of_slot : LimitedSent) → limited_slot limits ms slot cells old ≡ Ok of_slot →
+    OfAdmitted ms slot cells old of_slot
+unfolding limited_slot
+of_admitted limits ms slot cells old of_slot is =
+    let a = ideal_admission limits cells old in
+    by a (once limits (ideal_held old.state) old.marks cells) (ideal_slot ms slot a.cells old.state) refl is
+  where
+    by : (a : Admission) → Once cells a → (x : Result Sent TagFault) → ideal_slot ms slot a.cells old.state ≡ x →
+        with_admission a x ≡ Ok of_slot → OfAdmitted ms slot cells old of_slot
+    by a one (Ok sent) ran e =
+        let made : LimitedSent = record { admission = a; gone = sent.gone; after = marked a.marks sent.after } in
+        let same : made ≡ of_slot = cc in
+        subst (OfAdmitted ms slot cells old) same
+        (record { sent = sent; ran = ran; gone = refl; after = refl; once_each = one })
+    by a one (Err fault) ran e = absurd (let P : ⊥ = cc in P)
+
 -- ## The loop
 
--- what is known before a slot, where so many slots are left
+-- what is known before a slot, where so many slots are left and these cells were refused
 pub record Running (ms : List Machine) (came : List Arrival) (first : IdealSwitch) (first_sent : RoomView Departure)
     (slot n : ℕ) (now : IdealSwitch) (sent : RoomView Departure) : Type 0 where
   pub left : slot + n ≡ enough came
   pub running : now.stopped ≡ false
   pub next : now.next ≡ slot
   pub fixed : now.fixed ≡ first.fixed
+  pub limits : now.limits ≡ first.limits
   pub rooms : now.rooms ≡ first.rooms
-  pub whole : run_from ms came 0 (enough came) first.state ≡ sent_after sent.items (run_from ms came slot n now.state)
+  pub whole : run_from first.limits ms came 0 (enough came) (marked_state first)
+      ≡ sent_after sent.items (run_from first.limits ms came slot n (marked_state now))
+  pub lost : List Cell
+  pub refused : now.refused ≡ refused_counts first.limits lost
   pub ports : length now.state.lists ≡ length first.fixed
   pub each : (j : ℕ) → j < length first.fixed →
       length (slice_index_or now.state.lists j []) + come_for j (arriving_from came slot n) ≤ number_of (is_to j) came
   pub spare : waiting now.state.lists + come_count (arriving_from came slot n) + length first.fixed ≤ sent.spare
   pub few : waiting now.state.lists + come_count (arriving_from came slot n) + (end_of came - slot) ≤ n
+  pub many : length lost + come_count (arriving_from came slot n) ≤ length came
   pub early : slots_of sent.items ≤ slot
 
 waiting-none : (n : ℕ) → waiting (replicate n []) ≡ 0
@@ -138,15 +199,17 @@ running_first ms came first first_sent ready =
     come_count l ≤ length came) (sym (all_slots came)) (come_count-traffic_of came) in
     let are = enough_are came in
     let room : first_sent.spare ≡ length came + length first.fixed = ready.spare in
+    let start = run_from first.limits ms came 0 (enough came) (marked_state first) in
     record {
       left = omega arith;
       running = ready.running;
       next = ready.next;
       fixed = refl;
+      limits = refl;
       rooms = refl;
-      whole = sym (sent_after-none (run_from ms came 0 (enough came) first.state))
-          ∙ ap (λ (l : List Departure).
-          sent_after l (run_from ms came 0 (enough came) first.state)) (sym ready.nothing);
+      whole = sym (sent_after-none start) ∙ ap (λ (l : List Departure). sent_after l start) (sym ready.nothing);
+      lost = [];
+      refused = ready.refused;
       ports = ap length lists ∙ length-replicate (length first.fixed) nil;
       each = λ j inside.
           let empty : length (slice_index_or first.state.lists j nil) ≡ 0 =
@@ -158,6 +221,7 @@ running_first ms came first first_sent ready =
           omega arith;
       spare = omega arith;
       few = omega arith;
+      many = omega arith;
       early = let e : slots_of first_sent.items ≡ 0 = ap slots_of ready.nothing in omega arith;
     }
 
@@ -190,57 +254,90 @@ slot_left ms came first first_sent slot zero now sent r more =
     absurd (more (omega arith) (omega arith))
 slot_left ms came first first_sent slot (suc n) now sent r more = omega arith
 
+-- no count of refused cells and packets is near its type's end
+pub can_count : (ms : List Machine) (came : List Arrival) (first : IdealSwitch) (first_sent : RoomView Departure)
+    (slot n : ℕ) (now : IdealSwitch) (sent : RoomView Departure) → Running ms came first first_sent slot n now sent →
+    length first.fixed ≤ 64 → IsShort came → CanCount (length first.fixed) now.refused
+can_count ms came first first_sent slot n now sent r ports short =
+    let few : enough came ≤ 2 ^ 63 + 2 ^ 35 = short in
+    let are = enough_are came in
+    let p = length first.fixed in
+    let lost = r.lost in
+    let many : length lost + come_count (arriving_from came slot n) ≤ length came = r.many in
+    subst (CanCount p) (sym (r.refused ∙ counts_more first.limits [] lost))
+    (counts_fit lost p (length lost) (refused_counts first.limits [])
+    (zero_fits (p + length lost) first.limits (omega arith)) (omega arith))
+
 pub running_next : (ms : List Machine) (came : List Arrival) (first : IdealSwitch) (first_sent : RoomView Departure)
     (slot n : ℕ) (now : IdealSwitch) (sent : RoomView Departure) (after : IdealSwitch) (sent_new : RoomView Departure)
-    (of_slot : Sent) → Running ms came first first_sent slot (suc n) now sent →
-    ideal_slot ms slot (arriving came slot) now.state ≡ Ok of_slot → after.state ≡ of_slot.after →
+    (of_slot : LimitedSent) → Running ms came first first_sent slot (suc n) now sent →
+    limited_slot first.limits ms slot (arriving came slot) (marked_state now) ≡ Ok of_slot →
+    marked_state after ≡ of_slot.after → after.refused ≡ with_refused of_slot.admission.refused now.refused →
     HaveLeft slot of_slot.gone sent sent_new → after.stopped ≡ false → after.next ≡ slot + 1 →
-    after.fixed ≡ now.fixed → after.rooms ≡ now.rooms → Running ms came first first_sent (slot + 1) n after sent_new
-running_next ms came first first_sent slot n now sent after sent_new of_slot r is state left running next fixed rooms
-    =
-    let c = counted ms slot (arriving came slot) now.state of_slot is in
-    let many : length of_slot.after.lists ≡ length now.state.lists = c.ports in
-    let all : length (departures_in slot of_slot.gone) + waiting of_slot.after.lists ≤ waiting now.state.lists +
-    length (present (arriving came slot)) = c.all in
-    let fewer : waiting of_slot.after.lists ≤ waiting now.state.lists + length (present (arriving came slot)) - 1 =
+    after.fixed ≡ now.fixed → after.limits ≡ now.limits → after.rooms ≡ now.rooms →
+    Running ms came first first_sent (slot + 1) n after sent_new
+running_next ms came first first_sent slot n now sent after sent_new of_slot r is state refused left running next fixed
+    limits rooms =
+    let o = of_admitted first.limits ms slot (arriving came slot) (marked_state now) of_slot is in
+    let c = counted ms slot of_slot.admission.cells now.state o.sent o.ran in
+    let becomes : after.state ≡ o.sent.after = ap (λ (m : Marked IdealState). m.state) state ∙ o.after in
+    let many : length o.sent.after.lists ≡ length now.state.lists = c.ports in
+    let gone : length (departures_in slot of_slot.gone) ≡ length (departures_in slot o.sent.gone) =
+    ap (λ (l : List (Option Queued)). length (departures_in slot l)) o.gone in
+    let all : length (departures_in slot o.sent.gone) + waiting o.sent.after.lists ≤ waiting now.state.lists +
+    length (present of_slot.admission.cells) = c.all in
+    let fewer : waiting o.sent.after.lists ≤ waiting now.state.lists + length (present of_slot.admission.cells) - 1 =
     c.fewer in
-    let waits : waiting after.state.lists ≡ waiting of_slot.after.lists =
-    ap (λ (s : IdealState). waiting s.lists) state in
+    let waits : waiting after.state.lists ≡ waiting o.sent.after.lists =
+    ap (λ (s : IdealState). waiting s.lists) becomes in
     let come = come_here came slot n in
+    let one : length (present of_slot.admission.cells) + length of_slot.admission.refused ≡ length
+    (present (arriving came slot)) = o.once_each.all in
     let had : slot + suc n ≡ enough came = r.left in
     let spare : waiting now.state.lists + come_count
     (arriving_from came slot (suc n)) + length first.fixed ≤ sent.spare = r.spare in
     let few : waiting now.state.lists + come_count (arriving_from came slot (suc n)) + (end_of came - slot) ≤ suc n =
     r.few in
     let room : sent_new.spare + length (departures_in slot of_slot.gone) ≡ sent.spare = left.spare in
+    let later = run_from first.limits ms came (slot + 1) n of_slot.after in
     record {
       left = omega arith;
       running = running;
       next = next;
       fixed = fixed ∙ r.fixed;
+      limits = limits ∙ r.limits;
       rooms = rooms ∙ r.rooms;
       whole =
           r.whole
-          ∙ ap (sent_after sent.items) (next_sent ms came slot n now.state of_slot is)
-          ∙ sent_after-twice sent.items (departures_in slot of_slot.gone)
-          (run_from ms came (slot + 1) n of_slot.after)
-          ∙ ap (λ (l : List Departure). sent_after l (run_from ms came (slot + 1) n of_slot.after)) (sym left.items)
-          ∙ ap (λ (s : IdealState). sent_after sent_new.items (run_from ms came (slot + 1) n s)) (sym state);
-      ports = ap (λ (s : IdealState). length s.lists) state ∙ many ∙ r.ports;
+          ∙ ap (sent_after sent.items) (next_sent first.limits ms came slot n (marked_state now) of_slot is)
+          ∙ sent_after-twice sent.items (departures_in slot of_slot.gone) later
+          ∙ ap (λ (l : List Departure). sent_after l later) (sym left.items)
+          ∙ ap (λ (s : Marked IdealState). sent_after sent_new.items (run_from first.limits ms came (slot + 1) n s))
+          (sym state);
+      lost = r.lost ++ of_slot.admission.refused;
+      refused =
+          refused ∙ ap (with_refused of_slot.admission.refused) r.refused
+          ∙ sym (counts_more first.limits r.lost of_slot.admission.refused);
+      ports = ap (λ (s : IdealState). length s.lists) becomes ∙ many ∙ r.ports;
       each = λ j inside.
           let here = r.each j inside in
           let count = for_here j came slot n in
           let ports : length now.state.lists ≡ length first.fixed = r.ports in
-          let more : length (slice_index_or of_slot.after.lists j []) ≤ length
-          (slice_index_or now.state.lists j []) + count_for j (arriving came slot) = c.each j (omega arith) in
+          let less = o.once_each.each j in
+          let more : length (slice_index_or o.sent.after.lists j []) ≤ length
+          (slice_index_or now.state.lists j []) + count_for j of_slot.admission.cells = c.each j (omega arith) in
           let same : length (slice_index_or after.state.lists j []) ≡ length
-          (slice_index_or of_slot.after.lists j []) =
-          ap (λ (s : IdealState). length (slice_index_or s.lists j [])) state in
+          (slice_index_or o.sent.after.lists j []) =
+          ap (λ (s : IdealState). length (slice_index_or s.lists j [])) becomes in
           omega arith;
       spare = omega arith;
       few = fewer_left (waiting now.state.lists) (waiting after.state.lists) (length (present (arriving came slot)))
           (come_count (arriving_from came (slot + 1) n)) (end_of came) slot n (omega arith) (omega arith) (λ le.
           none_after came slot le) (λ le. none_come came n (slot + 1) le);
+      many =
+          let both = length-append r.lost of_slot.admission.refused in
+          let before : length r.lost + come_count (arriving_from came slot (suc n)) ≤ length came = r.many in
+          omega arith;
       early =
           let e : slots_of sent_new.items ≡ slots_of (sent.items ++ departures_in slot of_slot.gone) =
           ap slots_of left.items in
@@ -261,15 +358,16 @@ running_next ms came first first_sent slot n now sent after sent_new of_slot r i
 
 pub running_over : (ms : List Machine) (came : List Arrival) (first : IdealSwitch) (first_sent : RoomView Departure)
     (slot n : ℕ) (now : IdealSwitch) (sent : RoomView Departure) → Running ms came first first_sent slot n now sent →
-    end_of came ≤ slot → waiting now.state.lists ≡ 0 → run_from ms came 0 (enough came) first.state ≡ Ok sent.items
+    end_of came ≤ slot → waiting now.state.lists ≡ 0 →
+    run_from first.limits ms came 0 (enough came) (marked_state first) ≡ Ok sent.items
 running_over ms came first first_sent slot n now sent r le none =
-    r.whole ∙ ap (sent_after sent.items) (over ms came n slot now.state le none)
+    r.whole ∙ ap (sent_after sent.items) (over first.limits ms came n slot (marked_state now) le none)
     ∙ ap (λ (l : List Departure). Ok l) (append-nil sent.items)
 
 pub running_fault : (ms : List Machine) (came : List Arrival) (first : IdealSwitch) (first_sent : RoomView Departure)
     (slot n : ℕ) (now : IdealSwitch) (sent : RoomView Departure) (fault : TagFault) →
     Running ms came first first_sent slot (suc n) now sent →
-    ideal_slot ms slot (arriving came slot) now.state ≡ Err fault →
-    run_from ms came 0 (enough came) first.state ≡ Err fault
+    limited_slot first.limits ms slot (arriving came slot) (marked_state now) ≡ Err fault →
+    run_from first.limits ms came 0 (enough came) (marked_state first) ≡ Err fault
 running_fault ms came first first_sent slot n now sent fault r is =
-    r.whole ∙ ap (sent_after sent.items) (next_fault ms came slot n now.state fault is)
+    r.whole ∙ ap (sent_after sent.items) (next_fault first.limits ms came slot n (marked_state now) fault is)

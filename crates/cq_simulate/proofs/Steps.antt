@@ -16,18 +16,22 @@ use Rattle.cq_base.specs.Room.{RoomView}
 use Rattle.cq_cells.specs.Traffic.{IsInRange, IsTraffic, number_of, is_to}
 use Rattle.cq_rank.specs.Machine.{Machine}
 use Rattle.cq_rank.specs.Switch.{class_count}
-use Rattle.cq_ideal.specs.Ideal.{IdealSwitch, HasRoomFor, HaveLeft, answer_to, count_for}
-use Rattle.cq_ideal.specs.IdealSlot.{IdealState, Sent, ideal_slot}
-use Rattle.cq_ideal.specs.IdealRun.{Ran, ideal_run, departures_ran, nothing_sent}
+use Rattle.cq_ideal.specs.Admission.{Marked}
+use Rattle.cq_ideal.specs.Ideal.{IdealSwitch, HasRoomFor, HaveLeft, answer_to, count_for, its_slot, marked_state}
+use Rattle.cq_ideal.specs.IdealSlot.{IdealState}
+use Rattle.cq_ideal.specs.LimitedEnding.{departures_limited}
+use Rattle.cq_ideal.specs.LimitedIdeal.{LimitedRan, LimitedSent, limited_run, limited_slot, nothing_came}
+use Rattle.cq_ideal.specs.Limiter.{CanCount}
+use Rattle.cq_ideal.specs.Refused.{with_refused}
 use Rattle.cq_ideal.specs.Ranking.{AreForPorts}
 use Rattle.cq_ideal.proofs.FlowPut.{all_from}
 use Rattle.cq_ideal.proofs.FlowFound.{cell_listed, found, all_found, arriving_is}
 use Rattle.cq_simulate.specs.Ready.{IsReady}
 use Rattle.cq_simulate.specs.Stretch.{HasRested, IsQuiet}
 use Rattle.cq_ideal.proofs.Waiting.{waiting}
-use Rattle.cq_simulate.proofs.Stretches.{running_rest, same_state}
-use Rattle.cq_simulate.proofs.Running.{Running, running_first, running_next, running_over, running_fault, slot_left, for_here, run_from, sent_from}
-use Rattle.cq_ideal.specs.Ending.{arriving_from}
+use Rattle.cq_simulate.proofs.Stretches.{running_rest}
+use Rattle.cq_simulate.proofs.Running.{Running, can_count, running_first, running_next, running_over, running_fault, slot_left, for_here, run_from, sent_from}
+use Rattle.cq_ideal.specs.Ending.{arriving_from, slots_of}
 use Rattle.cq_ideal.proofs.Ends.{none_waits, nothing_left}
 
 -- ## The cells of a slot
@@ -76,26 +80,42 @@ not_over b end slot lists going iff le none = let over : b ≡ true = iff.1 (le,
 
 -- ## The steps
 
-departures_are : (x : Result Ran TagFault) → departures_ran x ≡ sent_from 0 x
+departures_are : (x : Result LimitedRan TagFault) → departures_limited x ≡ sent_from 0 x
 departures_are (Ok ran) = refl
 departures_are (Err fault) = refl
 
-pub whole_run : (ms : List Machine) (came : List Arrival) (state : IdealState) → departures_ran (ideal_run ms 0 (traffic_of came) state) ≡ run_from ms came 0 (enough came) state
+pub whole_run : (limits : List (Option ℕ)) (ms : List Machine) (came : List Arrival) (state : Marked IdealState) →
+    departures_limited (limited_run limits ms 0 (traffic_of came) state)
+    ≡ run_from limits ms came 0 (enough came) state
 unfolding run_from arriving_from traffic_of
-whole_run ms came state = departures_are (ideal_run ms 0 (traffic_of came) state)
+whole_run limits ms came state = departures_are (limited_run limits ms 0 (traffic_of came) state)
 
 -- the slots do not end before the arrivals
 pub ends_early : (came : List Arrival) → end_of came ≤ enough came
 unfolding enough
 ends_early came = omega arith
 
-slot_ok : (x : Result Sent TagFault) → Ok tt ≡ answer_to x → (sent : Sent) × (x ≡ Ok sent)
+slot_ok : (x : Result LimitedSent TagFault) → Ok tt ≡ answer_to x → (sent : LimitedSent) × (x ≡ Ok sent)
 slot_ok (Ok sent) e = (sent, refl)
 slot_ok (Err fault) e = absurd (let P : ⊥ = cc in P)
 
-slot_err : (x : Result Sent TagFault) (fault : TagFault) → Err fault ≡ answer_to x → x ≡ Err fault
+slot_err : (x : Result LimitedSent TagFault) (fault : TagFault) → Err fault ≡ answer_to x → x ≡ Err fault
 slot_err (Ok sent) fault e = absurd (let P : ⊥ = cc in P)
 slot_err (Err other) fault e = let same : other ≡ fault = cc in ap (λ (f : TagFault). Err f) same
+
+-- what the switch says of a slot that it has had
+pub record HasHad (ms : List Machine) (slot : ℕ) (cells : List (Option Cell)) (old new : IdealSwitch)
+    (sent sent_new : RoomView Departure) : Type 0 where
+  pub answer : Ok tt ≡ answer_to (its_slot ms slot cells old)
+  pub state : IfOk (its_slot ms slot cells old) (λ of_slot. marked_state new ≡ of_slot.after)
+  pub left : IfOk (its_slot ms slot cells old) (λ of_slot. HaveLeft slot of_slot.gone sent sent_new)
+  pub refused : IfOk (its_slot ms slot cells old) (λ of_slot.
+      new.refused ≡ with_refused of_slot.admission.refused old.refused)
+  pub running : new.stopped ≡ false
+  pub next : new.next ≡ slot + 1
+  pub fixed : new.fixed ≡ old.fixed
+  pub limits : new.limits ≡ old.limits
+  pub rooms : new.rooms ≡ old.rooms
 
 module _ (M : List ℕ → Machine) (came : List Arrival) (first : IdealSwitch) (first_sent : RoomView Departure) (ready : IsReady (map M first.fixed) came first first_sent) where
   abbrev pub Before : ℕ → IdealSwitch → RoomView Departure → Type 0
@@ -134,31 +154,57 @@ module _ (M : List ℕ → Machine) (came : List Arrival) (first : IdealSwitch) 
         let count : count_for j cells ≡ count_for j (arriving came slot) = ap (count_for j) are in
         omega arith
 
+    pub room_to_count : CanCount (length now.fixed) now.refused
+    room_to_count =
+        subst (λ (fixed : List (List ℕ)). CanCount (length fixed) now.refused) (sym r.fixed)
+        (can_count (map M first.fixed) came first first_sent slot (enough came - slot) now sent r ready.ports
+        ready.short)
+
     pub room_sent : length now.fixed ≤ sent.spare
     room_sent = let spare = r.spare in let same : length now.fixed ≡ length first.fixed = ap (λ (l : List (List ℕ)). length l) r.fixed in omega arith
 
-    as_now : (cells : List (Option Cell)) → cells ≡ arriving came slot → ideal_slot (map M now.fixed) slot cells now.state ≡ ideal_slot (map M first.fixed) slot (arriving came slot) now.state
-    as_now cells are = ap (λ (fixed : List (List ℕ)). ideal_slot (map M fixed) slot cells now.state) r.fixed ∙ ap (λ (l : List (Option Cell)). ideal_slot (map M first.fixed) slot l now.state) are
+    as_now : (cells : List (Option Cell)) → cells ≡ arriving came slot →
+        its_slot (map M now.fixed) slot cells now
+        ≡ limited_slot first.limits (map M first.fixed) slot (arriving came slot) (marked_state now)
+    as_now cells are =
+        ap (λ (l : List (Option ℕ)). limited_slot l (map M now.fixed) slot cells (marked_state now)) r.limits
+        ∙ ap (λ (fixed : List (List ℕ)). limited_slot first.limits (map M fixed) slot cells (marked_state now)) r.fixed
+        ∙ ap (λ (l : List (Option Cell)). limited_slot first.limits (map M first.fixed) slot l (marked_state now)) are
 
-    pub at_next : (cells : List (Option Cell)) (after : IdealSwitch) (sent_new : RoomView Departure) → cells ≡ arriving came slot → Ok tt ≡ answer_to (ideal_slot (map M now.fixed) slot cells now.state) → IfOk (ideal_slot (map M now.fixed) slot cells now.state) (λ of_slot. after.state ≡ of_slot.after) → IfOk (ideal_slot (map M now.fixed) slot cells now.state) (λ of_slot. HaveLeft slot of_slot.gone sent sent_new) → after.stopped ≡ false → after.next ≡ slot + 1 → after.fixed ≡ now.fixed → after.rooms ≡ now.rooms → Before (slot + 1) after sent_new
-    at_next cells after sent_new are answer state left running next fixed rooms =
-        let ok = slot_ok (ideal_slot (map M now.fixed) slot cells now.state) answer in
-        running_next (map M first.fixed) came first first_sent slot (enough came - (slot + 1)) now sent after sent_new ok.0 r_next
-        (sym (as_now cells are) ∙ ok.1)
-        (subst (λ (x : Result Sent TagFault). IfOk x (λ of_slot. after.state ≡ of_slot.after)) ok.1 state)
-        (subst (λ (x : Result Sent TagFault). IfOk x (λ of_slot. HaveLeft slot of_slot.gone sent sent_new)) ok.1 left)
-        running next fixed rooms
+    pub at_next : (cells : List (Option Cell)) (after : IdealSwitch) (sent_new : RoomView Departure) →
+        cells ≡ arriving came slot → HasHad (map M now.fixed) slot cells now after sent sent_new →
+        Before (slot + 1) after sent_new
+    at_next cells after sent_new are had =
+        let ok = slot_ok (its_slot (map M now.fixed) slot cells now) had.answer in
+        running_next (map M first.fixed) came first first_sent slot (enough came - (slot + 1)) now sent after sent_new
+        ok.0 r_next (sym (as_now cells are) ∙ ok.1)
+        (subst (λ (x : Result LimitedSent TagFault). IfOk x (λ of_slot. marked_state after ≡ of_slot.after)) ok.1
+        had.state)
+        (subst (λ (x : Result LimitedSent TagFault). IfOk x (λ of_slot.
+        after.refused ≡ with_refused of_slot.admission.refused now.refused)) ok.1 had.refused)
+        (subst (λ (x : Result LimitedSent TagFault). IfOk x (λ of_slot. HaveLeft slot of_slot.gone sent sent_new)) ok.1
+        had.left)
+        had.running had.next had.fixed had.limits had.rooms
 
-    pub at_fault : (cells : List (Option Cell)) (fault : TagFault) → cells ≡ arriving came slot → Err fault ≡ answer_to (ideal_slot (map M now.fixed) slot cells now.state) → departures_ran (ideal_run (map M first.fixed) 0 (traffic_of came) first.state) ≡ Err fault
+    pub at_fault : (cells : List (Option Cell)) (fault : TagFault) → cells ≡ arriving came slot →
+        Err fault ≡ answer_to (its_slot (map M now.fixed) slot cells now) →
+        departures_limited (limited_run first.limits (map M first.fixed) 0 (traffic_of came) (marked_state first))
+        ≡ Err fault
     at_fault cells fault are answer =
-        whole_run (map M first.fixed) came first.state
+        whole_run first.limits (map M first.fixed) came (marked_state first)
         ∙ running_fault (map M first.fixed) came first first_sent slot (enough came - (slot + 1)) now sent fault r_next
-        (sym (as_now cells are) ∙ slot_err (ideal_slot (map M now.fixed) slot cells now.state) fault answer)
+        (sym (as_now cells are) ∙ slot_err (its_slot (map M now.fixed) slot cells now) fault answer)
 
   -- a stretch is skipped
   module _ (slot next : ℕ) (now new : IdealSwitch) (sent : RoomView Departure) (r : Before slot now sent) (quiet : IsQuiet came slot next) (rested : HasRested (map M now.fixed) slot next now new) where
-    ran : ideal_run (map M first.fixed) slot (replicate (next - slot) no_arrivals) now.state ≡ Ok (nothing_sent (next - slot) (length now.fixed) new.state)
-    ran = subst (λ (fixed : List (List ℕ)). ideal_run (map M fixed) slot (replicate (next - slot) no_arrivals) now.state ≡ Ok (nothing_sent (next - slot) (length now.fixed) new.state)) r.fixed rested.ran
+    ran : limited_run first.limits (map M first.fixed) slot (replicate (next - slot) no_arrivals) (marked_state now)
+        ≡ Ok (nothing_came (next - slot) (length now.fixed) (marked_state new))
+    ran =
+        ap (λ (fixed : List (List ℕ)). limited_run first.limits (map M fixed) slot (replicate (next - slot)
+        no_arrivals) (marked_state now)) (sym r.fixed)
+        ∙ ap (λ (l : List (Option ℕ)). limited_run l (map M now.fixed) slot (replicate (next - slot) no_arrivals)
+        (marked_state now)) (sym r.limits)
+        ∙ rested.ran
 
     pub at_rest : Before next new sent
     at_rest =
@@ -169,7 +215,8 @@ module _ (M : List ℕ → Machine) (came : List Arrival) (first : IdealSwitch) 
         let there : slot + (next - slot) ≡ next = omega arith in
         subst (λ (t : ℕ). Running (map M first.fixed) came first first_sent t (enough came - next) new sent) there
         (running_rest (map M first.fixed) came first first_sent sent (length now.fixed) (next - slot) slot (enough came - next) (enough came - slot) now new left r
-        (λ t from to. quiet.none t from (omega arith)) ran (rested.reached ∙ sym there) rested.running rested.fixed rested.rooms)
+        (λ t from to. quiet.none t from (omega arith)) (λ some. let before = more (omega arith) in omega arith) ran
+        (rested.reached ∙ sym there) rested.running rested.lists rested.fixed rested.limits rested.refused rested.rooms)
 
     pub more_at_rest : (end_of came ≤ slot → waiting now.state.lists ≡ 0 → ⊥) → end_of came ≤ next → waiting new.state.lists ≡ 0 → ⊥
     more_at_rest more le none =
@@ -177,11 +224,22 @@ module _ (M : List ℕ → Machine) (came : List Arrival) (first : IdealSwitch) 
         (λ lt. let before = quiet.more lt in omega arith)
         (λ ge.
         let late : slot ≤ next = quiet.late in
-        let same : now.state ≡ new.state = same_state (map M first.fixed) (next - slot) slot (length now.fixed) now.state new.state (omega arith) ran in
-        more (omega arith) (ap (λ (s : IdealState). waiting s.lists) same ∙ none))
+        more (omega arith) (ap waiting (sym rested.lists) ∙ none))
         (cases_lt slot next)
 
-  pub at_end : (slot : ℕ) (now : IdealSwitch) (sent : RoomView Departure) → Before slot now sent → end_of came ≤ slot → All (λ cells. cells ≡ []) now.state.lists → departures_ran (ideal_run (map M first.fixed) 0 (traffic_of came) first.state) ≡ Ok sent.items
+  pub at_end : (slot : ℕ) (now : IdealSwitch) (sent : RoomView Departure) → Before slot now sent → end_of came ≤ slot →
+      All (λ cells. cells ≡ []) now.state.lists →
+      departures_limited (limited_run first.limits (map M first.fixed) 0 (traffic_of came) (marked_state first))
+      ≡ Ok sent.items
   at_end slot now sent r le none =
-      whole_run (map M first.fixed) came first.state
+      whole_run first.limits (map M first.fixed) came (marked_state first)
       ∙ running_over (map M first.fixed) came first first_sent slot (enough came - slot) now sent r le (none_waits now.state.lists none)
+
+  -- so no departure is of a late slot
+  pub early_at_end : (slot : ℕ) (now : IdealSwitch) (sent : RoomView Departure) → Before slot now sent →
+      slots_of sent.items ≤ 2 ^ 63 + 2 ^ 35
+  early_at_end slot now sent r =
+      let short : enough came ≤ 2 ^ 63 + 2 ^ 35 = ready.short in
+      let left : slot + (enough came - slot) ≡ enough came = r.left in
+      let last : slots_of sent.items ≤ slot = r.early in
+      omega arith

@@ -1,13 +1,13 @@
--- Stretches of slots that are skipped. No cell comes before the next arrival, so the slots up to it are those that a switch
--- rests for where none waits. What is known of the ideal switch before the first of them is known after each, as after any slot:
--- none sends a cell.
-use Rattle.std.proofs.Common.{◌≡◌, ℕ, zero, suc, ◌+◌, ◌-◌, ◌<◌, ◌≤◌, ◌&&◌, eqb, Bool, false, List, [], ◌∷◌, ◌++◌, length, replicate, Option, Some, None, Result, Ok, refl, sym, ap, ◌∙◌, inl, inr, subst, arith}
+-- Stretches of slots that are skipped. No cell comes before the next arrival, so the slots up to it are those that a
+-- switch rests for where none waits. What is known of the ideal switch before the first of them is known after the
+-- last: none sends a cell, nothing is refused, and the lists stay as they are.
+use Rattle.std.proofs.Common.{◌≡◌, ℕ, zero, suc, ◌+◌, ◌-◌, ◌<◌, ◌≤◌, ◌&&◌, eqb, Bool, false, List, [], ◌∷◌, ◌++◌, length, replicate, Option, Some, None, Result, Ok, Err, refl, sym, ap, ◌∙◌, ⊎_elim, inl, inr, subst, arith}
 use Rattle.std.specs.Prelude.{slice_index_or, unwrap_or}
 use Rattle.std.specs.List.{AllByRecursion}
-use Rattle.std.proofs.lemmas.Bool.{ne_eqb}
-use Rattle.std.proofs.lemmas.List.{append-nil}
+use Rattle.std.proofs.lemmas.Bool.{cases_lt, ne_eqb}
+use Rattle.std.proofs.lemmas.List.{length-replicate}
 use Rattle.cq_base.specs.Arrivals.{no_arrivals}
-use Rattle.cq_base.specs.Arriving.{Arrival, arriving, arriving_at, end_of}
+use Rattle.cq_base.specs.Arriving.{Arrival, arriving, arriving_at, end_of, enough}
 use Rattle.cq_base.specs.Room.{RoomView}
 use Rattle.cq_base.specs.declared.cell.Cell.{Cell}
 use Rattle.cq_base.specs.declared.cell.Departure.{Departure}
@@ -16,15 +16,21 @@ use Rattle.cq_base.specs.declared.cell.TagFault.{TagFault}
 use Rattle.cq_cells.proofs.Rising.{all_each}
 use Rattle.cq_cells.specs.NextArrival.{ArrivesIn, IsNextArrival}
 use Rattle.cq_ideal.proofs.FlowFound.{arriving_is}
-use Rattle.cq_ideal.proofs.Parted.{first_slot}
-use Rattle.cq_ideal.specs.Ideal.{IdealSwitch}
-use Rattle.cq_ideal.specs.IdealRun.{Ran, ideal_run, nothing_sent}
-use Rattle.cq_ideal.specs.IdealSlot.{IdealState, departures_in, ideal_slot}
+use Rattle.cq_ideal.proofs.FlowRun.{come_count}
+use Rattle.cq_ideal.proofs.LimitedParts.{behind, limited_going_on, limited_parts}
+use Rattle.cq_ideal.proofs.Parted.{arriving_parts}
+use Rattle.cq_ideal.specs.Admission.{Admission, Marked, nothing_refused}
+use Rattle.cq_ideal.specs.Ending.{arriving_from, slots_of}
+use Rattle.cq_ideal.specs.Ideal.{IdealSwitch, marked_state}
+use Rattle.cq_ideal.specs.IdealRun.{departures_of}
+use Rattle.cq_ideal.specs.IdealSlot.{IdealState, departures_in}
+use Rattle.cq_ideal.specs.LimitedIdeal.{LimitedRan, limited_run, nothing_came}
 use Rattle.cq_laws.proofs.AddingUp.{map-constant}
 use Rattle.cq_laws.proofs.QuietSlots.{no_departures}
 use Rattle.cq_rank.specs.Machine.{Machine}
 use Rattle.cq_ideal.proofs.Waiting.{waiting}
-use Rattle.cq_simulate.proofs.Running.{Running, run_from, running_next, sent_after}
+use Rattle.cq_simulate.proofs.Coming.{come_for}
+use Rattle.cq_simulate.proofs.Running.{Running, come_here, for_here, run_from, sent_after, sent_from}
 use Rattle.cq_simulate.specs.Stretch.{HasRested, IsQuiet}
 
 -- ## Up to the next arrival
@@ -72,99 +78,134 @@ pub nobody_departs : (n slot : ℕ) → departures_in slot (replicate n None) �
 unfolding departures_in
 nobody_departs n slot = no_departures n slot 0
 
-pub same_state : (ms : List Machine) (k slot ports : ℕ) (s t : IdealState) → k ≡ 0 →
-    ideal_run ms slot (replicate k no_arrivals) s ≡ Ok (nothing_sent k ports t) → s ≡ t
-unfolding ideal_run
-same_state ms zero slot ports s t none ran =
-    let start : Ran = record { gone = []; after = s } in
-    let end : Ran = record { gone = []; after = t } in
-    let is : ◌≡◌ {A = Result Ran TagFault} (Ok start) (Ok end) = ran in
-    let same : start ≡ end = cc in
-    ap (λ (ran : Ran). ran.after) same
-same_state ms (suc k) slot ports s t none ran = absurd (omega arith)
-
-no_slots : (ms : List Machine) (k slot ports : ℕ) (s : IdealState) → k ≡ 0 →
-    ideal_run ms slot (replicate k no_arrivals) s ≡ Ok (nothing_sent k ports s)
-unfolding ideal_run
-no_slots ms zero slot ports s none = refl
-no_slots ms (suc k) slot ports s none = absurd (omega arith)
-
 -- no slot is skipped
+no_slots : (limits : List (Option ℕ)) (ms : List Machine) (k slot ports : ℕ) (s : Marked IdealState) → k ≡ 0 →
+    limited_run limits ms slot (replicate k no_arrivals) s ≡ Ok (nothing_came k ports s)
+unfolding limited_run
+no_slots limits ms zero slot ports s none = refl
+no_slots limits ms (suc k) slot ports s none = absurd (omega arith)
+
 pub no_rest : (ms : List Machine) (slot : ℕ) (now : IdealSwitch) → now.next ≡ slot → now.stopped ≡ false →
     HasRested ms slot slot now now
 no_rest ms slot now next running = record {
-  ran = no_slots ms (slot - slot) slot (length now.fixed) now.state (omega arith);
+  ran = no_slots now.limits ms (slot - slot) slot (length now.fixed) (marked_state now) (omega arith);
   reached = next;
   running = running;
+  lists = refl;
   fixed = refl;
+  limits = refl;
+  refused = refl;
   rooms = refl;
 }
 
+-- what comes in a stretch, and behind it
+quiet_slots : (came : List Arrival) (slot k : ℕ) →
+    ((t : ℕ) → slot ≤ t → t < slot + k → arriving came t ≡ no_arrivals) →
+    arriving_from came slot k ≡ replicate k no_arrivals
+unfolding arriving_from
+quiet_slots came slot zero quiet = refl
+quiet_slots came slot (suc k) quiet =
+    ap (λ (cells : List (Option Cell)). cells ∷ arriving_from came (slot + 1) k)
+    (quiet slot (omega arith) (omega arith))
+    ∙ ap (λ (l : List (List (Option Cell))). no_arrivals ∷ l)
+    (quiet_slots came (slot + 1) k (λ t from to. quiet t (omega arith) (omega arith)))
+
+-- fewer come in some slots than in those with the stretch before them
+fewer_come : (count : List (List (Option Cell)) → ℕ) (came : List Arrival) →
+    ((slot n : ℕ) → count (arriving_from came (slot + 1) n) ≤ count (arriving_from came slot (suc n))) →
+    (slot k n : ℕ) → count (arriving_from came (slot + k) n) ≤ count (arriving_from came slot (k + n))
+fewer_come count came less slot zero n =
+    let at : slot + 0 ≡ slot = omega arith in
+    let none : 0 + n ≡ n = omega arith in
+    let same = ap (λ (t : ℕ). count (arriving_from came t n)) at in
+    let long = ap (λ (l : ℕ). count (arriving_from came slot l)) none in
+    omega arith
+fewer_come count came less slot (suc k) n =
+    let at : slot + 1 + k ≡ slot + suc k = omega arith in
+    let more : suc k + n ≡ suc (k + n) = omega arith in
+    let same = ap (λ (t : ℕ). count (arriving_from came t n)) at in
+    let long = ap (λ (l : ℕ). count (arriving_from came slot l)) more in
+    let here = less slot (k + n) in
+    let rest = fewer_come count came less (slot + 1) k n in
+    omega arith
+
+-- the slots of the stretch send nothing
+nothing_departs : (k slot ports : ℕ) (gone : List (List (Option Queued))) →
+    departures_of slot (replicate k (replicate ports None) ++ gone) ≡ departures_of (slot + k) gone
+unfolding departures_of
+nothing_departs zero slot ports gone =
+    let at : slot ≡ slot + 0 = omega arith in ap (λ (t : ℕ). departures_of t gone) at
+nothing_departs (suc k) slot ports gone =
+    let at : slot + 1 + k ≡ slot + suc k = omega arith in
+    ap (λ (l : List Departure). l ++ departures_of (slot + 1) (replicate k (replicate ports None) ++ gone))
+    (nobody_departs ports slot)
+    ∙ nothing_departs k (slot + 1) ports gone
+    ∙ ap (λ (t : ℕ). departures_of t gone) at
+
+sent_behind : (k slot ports : ℕ) (admissions : List Admission) (x : Result LimitedRan TagFault) →
+    sent_from slot (behind admissions (replicate k (replicate ports None)) x) ≡ sent_from (slot + k) x
+sent_behind k slot ports admissions (Ok ran) = ap (λ (l : List Departure). Ok l) (nothing_departs k slot ports ran.gone)
+sent_behind k slot ports admissions (Err fault) = refl
+
+same_run : (limits : List (Option ℕ)) (ms : List Machine) (came : List Arrival) (ports k slot n m : ℕ)
+    (s t : Marked IdealState) → m ≡ k + n → ((t : ℕ) → slot ≤ t → t < slot + k → arriving came t ≡ no_arrivals) →
+    limited_run limits ms slot (replicate k no_arrivals) s ≡ Ok (nothing_came k ports t) →
+    run_from limits ms came slot m s ≡ run_from limits ms came (slot + k) n t
+unfolding run_from
+same_run limits ms came ports k slot n m s t left quiet ran =
+    let rest = arriving_from came (slot + k) n in
+    let long = length-replicate k no_arrivals in
+    let parts : arriving_from came slot m ≡ replicate k no_arrivals ++ rest =
+    sym (arriving_parts came slot (slot + k) k n m refl left)
+    ∙ ap (λ (l : List (List (Option Cell))). l ++ rest) (quiet_slots came slot k quiet) in
+    ap (λ (l : List (List (Option Cell))). sent_from slot (limited_run limits ms slot l s)) parts
+    ∙ ap (sent_from slot) (limited_parts limits ms slot (slot + k) (replicate k no_arrivals) rest s (omega arith))
+    ∙ ap (λ (x : Result LimitedRan TagFault). sent_from slot (limited_going_on limits ms (slot + k) rest x)) ran
+    ∙ sent_behind k slot ports (replicate k (nothing_refused t.marks no_arrivals))
+    (limited_run limits ms (slot + k) rest t)
+
 pub running_rest : (ms : List Machine) (came : List Arrival) (first : IdealSwitch) (first_sent sent : RoomView Departure)
     (ports k slot n m : ℕ) (now after : IdealSwitch) → m ≡ k + n → Running ms came first first_sent slot m now sent →
-    ((t : ℕ) → slot ≤ t → t < slot + k → arriving came t ≡ no_arrivals) →
-    ideal_run ms slot (replicate k no_arrivals) now.state ≡ Ok (nothing_sent k ports after.state) →
-    after.next ≡ slot + k → after.stopped ≡ false → after.fixed ≡ now.fixed → after.rooms ≡ now.rooms →
+    ((t : ℕ) → slot ≤ t → t < slot + k → arriving came t ≡ no_arrivals) → (0 < k → slot + k ≤ end_of came) →
+    limited_run first.limits ms slot (replicate k no_arrivals) (marked_state now)
+    ≡ Ok (nothing_came k ports (marked_state after)) →
+    after.next ≡ slot + k → after.stopped ≡ false → after.state.lists ≡ now.state.lists → after.fixed ≡ now.fixed →
+    after.limits ≡ now.limits → after.refused ≡ now.refused → after.rooms ≡ now.rooms →
     Running ms came first first_sent (slot + k) n after sent
-running_rest ms came first first_sent sent ports zero slot n m now after left r quiet ran next running fixed rooms =
-    let state : now.state ≡ after.state = same_state ms zero slot ports now.state after.state refl ran in
-    let at : slot ≡ slot + 0 = omega arith in
-    let waits = ap (λ (s : IdealState). waiting s.lists) state in
-    let spare = r.spare in
-    let few = r.few in
-    let same : Running ms came first first_sent slot m after sent = record {
-      left = r.left;
+running_rest ms came first first_sent sent ports k slot n m now after left r quiet late ran next running lists fixed
+    limits refused rooms =
+    let had : slot + m ≡ enough came = r.left in
+    let waits : waiting after.state.lists ≡ waiting now.state.lists = ap waiting lists in
+    let fewer : come_count (arriving_from came (slot + k) n) ≤ come_count (arriving_from came slot m) =
+    subst (λ (l : ℕ). come_count (arriving_from came (slot + k) n) ≤ come_count (arriving_from came slot l)) (sym left)
+    (fewer_come come_count came (λ t l. let here = come_here came t l in omega arith) slot k n) in
+    let spare : waiting now.state.lists + come_count (arriving_from came slot m) + length first.fixed ≤ sent.spare =
+    r.spare in
+    let few : waiting now.state.lists + come_count (arriving_from came slot m) + (end_of came - slot) ≤ m = r.few in
+    let many : length r.lost + come_count (arriving_from came slot m) ≤ length came = r.many in
+    let last : slots_of sent.items ≤ slot = r.early in
+    record {
+      left = omega arith;
       running = running;
-      next = next ∙ sym at;
+      next = next;
       fixed = fixed ∙ r.fixed;
+      limits = limits ∙ r.limits;
       rooms = rooms ∙ r.rooms;
-      whole = r.whole ∙ ap (λ (s : IdealState). sent_after sent.items (run_from ms came slot m s)) state;
-      ports = sym (ap (λ (s : IdealState). length s.lists) state) ∙ r.ports;
+      whole = r.whole ∙ ap (sent_after sent.items) (same_run first.limits ms came ports k slot n m (marked_state now)
+          (marked_state after) left quiet ran);
+      lost = r.lost;
+      refused = refused ∙ r.refused;
+      ports = ap (λ (l : List (List Queued)). length l) lists ∙ r.ports;
       each = λ j inside.
           let was = r.each j inside in
-          let list = ap (λ (s : IdealState). length (slice_index_or s.lists j [])) state in
+          let list = ap (λ (l : List (List Queued)). length (slice_index_or l j [])) lists in
+          let less : come_for j (arriving_from came (slot + k) n) ≤ come_for j (arriving_from came slot m) =
+          subst (λ (l : ℕ). come_for j (arriving_from came (slot + k) n) ≤ come_for j (arriving_from came slot l))
+          (sym left)
+          (fewer_come (come_for j) came (λ t l. let here = for_here j came t l in omega arith) slot k n) in
           omega arith;
       spare = omega arith;
-      few = omega arith;
-      early = r.early;
-    } in
-    let count : m ≡ n = omega arith in
-    subst (λ (s : ℕ). Running ms came first first_sent s n after sent) at
-    (subst (λ (l : ℕ). Running ms came first first_sent slot l after sent) count same)
-running_rest ms came first first_sent sent ports (suc k) slot n zero now after left r quiet ran next running fixed rooms =
-    absurd (omega arith)
-running_rest ms came first first_sent sent ports (suc k) slot n (suc m) now after left r quiet ran next running fixed rooms =
-    let none : Option Queued = None in
-    let nobody : List (Option Queued) = replicate ports none in
-    let p = first_slot ms slot no_arrivals (replicate k no_arrivals) now.state (nothing_sent (suc k) ports after.state) ran in
-    let gone : nobody ∷ replicate k nobody ≡ p.sent.gone ∷ p.second.gone = ap (λ (x : Ran). x.gone) p.both in
-    let here : nobody ≡ p.sent.gone = cc in
-    let others : replicate k nobody ≡ p.second.gone = cc in
-    let end : after.state ≡ p.second.after = ap (λ (x : Ran). x.after) p.both in
-    let rest : p.second ≡ nothing_sent k ports after.state = λ e. record { gone = sym others e; after = sym end e } in
-    let leave : departures_in slot p.sent.gone ≡ [] = ap (departures_in slot) (sym here) ∙ nobody_departs ports slot in
-    let few = ap (λ (l : List Departure). length l) leave in
-    let quiet_here : arriving came slot ≡ no_arrivals = quiet slot (omega arith) (omega arith) in
-    let middle : IdealSwitch = record {
-      fixed = now.fixed;
-      limits = now.limits;
-      state = p.sent.after;
-      marks =
-          now.marks;
-      refused = now.refused;
-      rooms = now.rooms;
-      next = slot + 1;
-      stopped = false;
-    } in
-    let after_one : Running ms came first first_sent (slot + 1) m middle sent =
-    running_next ms came first first_sent slot m now sent middle sent p.sent r
-    (ap (λ (cells : List (Option Cell)). ideal_slot ms slot cells now.state) quiet_here ∙ p.ran_slot) refl
-    (record {
-      items = sym (append-nil sent.items) ∙ ap (λ (l : List Departure). sent.items ++ l) (sym leave);
-      spare = omega arith;
-    }) refl refl refl refl in
-    let at : slot + 1 + k ≡ slot + suc k = omega arith in
-    subst (λ (s : ℕ). Running ms came first first_sent s n after sent) at
-    (running_rest ms came first first_sent sent ports k (slot + 1) n m middle after (omega arith) after_one
-    (λ t from to. quiet t (omega arith) (omega arith))
-    (p.ran_second ∙ ap (λ (x : Ran). let y : Result Ran TagFault = Ok x in y) rest) (next ∙ sym at) running fixed rooms)
+      few = ⊎_elim (λ some. let before = late some in omega arith) (λ none. omega arith) (cases_lt 0 k);
+      many = omega arith;
+      early = omega arith;
+    }

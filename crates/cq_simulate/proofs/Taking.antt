@@ -9,7 +9,6 @@ use Rattle.std.proofs.lemmas.List.Elements.{filter-append}
 use Rattle.cq_base.specs.declared.cell.Cell.{Cell}
 use Rattle.cq_base.specs.declared.cell.Departure.{Departure}
 use Rattle.cq_cells.specs.Schedule.{arrivals}
-use Rattle.cq_cells.proofs.Rising.{traffic_is}
 use Rattle.cq_ideal.specs.Flows.{leaves_in_flow, left_in_flow}
 use Rattle.cq_pcap.specs.Captured.{Captured}
 use Rattle.cq_pcap.specs.declared.write.OutPacket.{OutPacket}
@@ -20,7 +19,7 @@ use Rattle.cq_route.specs.declared.tables.Tables.{Tables}
 use Rattle.cq_simulate.specs.IdealRuns.{ideal_departures}
 use Rattle.cq_simulate.specs.Packets.{ends_packet_at, leaving, packets_out}
 use Rattle.cq_simulate.specs.Pieces.{Fits, left_with, opened, piece_at}
-use Rattle.cq_simulate.proofs.Departed.{departed_output, leave_as_they_came}
+use Rattle.cq_simulate.proofs.Departed.{departed_output, left_in_packets}
 use Rattle.cq_simulate.proofs.Joining.{flow_fits, opened-append}
 use Rattle.cq_simulate.proofs.Packed.{none_packed, one_packed}
 
@@ -75,15 +74,21 @@ module _ (t : Tables) (captures : List (List Captured)) (sent : List Departure) 
         and_from (d.output == output) (c.id.input == c.id.input && c.class == c.class) (eq-eqb d.output output here)
         (and_from (c.id.input == c.id.input) (c.class == c.class) (eq-eqb c.id.input c.id.input refl) (eq-eqb c.class c.class refl))
 
-    pub cell_fits : (joiner : JoinerView) (packets : List OutPacket) → SoFar t captures sent output k joiner packets → AreTables t → length captures ≡ ports_of t.setup → ideal_departures t.setup (arrivals t captures) ≡ Ok sent → (get_or sent k e).queued.cell.class < length t.setup.classes → Fits captures (open_at joiner (get_or sent k e).queued.cell.id.input (get_or sent k e).queued.cell.class) (get_or sent k e).queued.cell
+    pub cell_fits : (joiner : JoinerView) (packets : List OutPacket) → SoFar t captures sent output k joiner packets →
+        AreTables t → length captures ≡ ports_of t.setup → ideal_departures t (arrivals t captures) ≡ Ok sent →
+        (get_or sent k e).queued.cell.class < length t.setup.classes →
+        Fits captures (open_at joiner (get_or sent k e).queued.cell.id.input (get_or sent k e).queued.cell.class)
+        (get_or sent k e).queued.cell
     cell_fits joiner packets so_far are many whole few =
         let d : Departure = get_or sent k e in
         let i = d.queued.cell.id.input in
         let c = d.queued.cell.class in
         let parts : take k sent ++ (d ∷ drop (k + 1) sent) ≡ sent = ap (λ (l : List Departure). take k sent ++ l) (sym (drop_more sent k e inside)) ∙ take-append-drop k sent in
+        let l = left_in_packets t captures sent are many whole i in
         subst (λ (o : Option Open). Fits captures o d.queued.cell) (sym (so_far.open_packets i c few))
-        (flow_fits t captures i (let b = are.cell_bytes in omega arith) c output (left_in_flow i c output (take k sent)) d.queued.cell (left_in_flow i c output (drop (k + 1) sent))
-        (sym (leave_as_they_came t.setup (arrivals t captures) sent are.setup (traffic_is t captures are many) whole i c output)
+        (flow_fits t captures i (let b = are.cell_bytes in omega arith) c output l.is_taken
+        (left_in_flow i c output (take k sent)) d.queued.cell (left_in_flow i c output (drop (k + 1) sent))
+        (sym (l.left c output)
         ∙ ap (left_in_flow i c output) (sym parts)
         ∙ flow-append i c output (take k sent) (d ∷ drop (k + 1) sent)
         ∙ ap (λ (l : List Cell). left_in_flow i c output (take k sent) ++ l) (of_flow i c output d (drop (k + 1) sent) own)))
@@ -171,7 +176,9 @@ none_of p [] h = refl
 none_of p (x ∷ xs) h = cond-false (p x) (x ∷ filter p xs) (filter p xs) (h 0 x (omega arith)) ∙ none_of p xs (λ k e l. h (suc k) e (omega arith))
 
 -- at what is no port nothing departs
-pub nowhere : (t : Tables) (captures : List (List Captured)) (sent : List Departure) (output : ℕ) → AreTables t → length captures ≡ ports_of t.setup → ideal_departures t.setup (arrivals t captures) ≡ Ok sent → ports_of t.setup ≤ output → packets_out t captures sent output ≡ []
+pub nowhere : (t : Tables) (captures : List (List Captured)) (sent : List Departure) (output : ℕ) → AreTables t →
+    length captures ≡ ports_of t.setup → ideal_departures t (arrivals t captures) ≡ Ok sent →
+    ports_of t.setup ≤ output → packets_out t captures sent output ≡ []
 unfolding packets_out
 nowhere t captures sent output are many whole none =
     ap (map (leaving t captures))

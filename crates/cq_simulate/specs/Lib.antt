@@ -1,3 +1,4 @@
+pub mod EachPacket
 pub mod FabricReady
 pub mod FabricRuns
 pub mod IdealRuns

@@ -5,14 +5,15 @@ use Rattle.cq_base.specs.Arriving.{Arrival}
 use Rattle.cq_base.specs.Room.{RoomView}
 use Rattle.cq_base.specs.declared.cell.Departure.{Departure}
 use Rattle.cq_cells.specs.Traffic.{IsShort, IsTraffic, is_to, number_of}
-use Rattle.cq_ideal.specs.Admission.{NoLimits, marks_down}
+use Rattle.cq_ideal.specs.Admission.{marks_down}
 use Rattle.cq_ideal.specs.Ideal.{IdealSwitch}
 use Rattle.cq_ideal.specs.IdealRun.{empty_ideal}
+use Rattle.cq_ideal.specs.Refused.{refused_counts}
 use Rattle.cq_rank.specs.Machine.{Machine}
 use Rattle.cq_rank.specs.Switch.{class_count}
 
--- The switch has had no slot and holds no cell, and there is room for all cells that arrive: in each list for those to its
--- output, and in the list of departures for all of them, with a place for each port to spare.
+-- The switch has had no slot, holds no cell and has refused none, and there is room for all cells that arrive: in each
+-- list for those to its output, and in the list of departures for all of them, with a place for each port to spare.
 pub record IsReady (ms : List Machine) (came : List Arrival) (ideal : IdealSwitch) (sent : RoomView Departure) : Type 0 where
   pub running : ideal.stopped ≡ false
   pub next : ideal.next ≡ 0
@@ -22,11 +23,7 @@ pub record IsReady (ms : List Machine) (came : List Arrival) (ideal : IdealSwitc
   pub state : ideal.state ≡ empty_ideal (length ideal.fixed) ideal.state.ranks
   pub lists : length ideal.rooms ≡ length ideal.fixed
   pub rooms : (j : ℕ) → j < length ideal.rooms → slice_index ideal.rooms j ≡ number_of (is_to j) came
+  pub marks : ideal.marks ≡ marks_down (length ideal.fixed)
+  pub refused : ideal.refused ≡ refused_counts ideal.limits []
   pub nothing : sent.items ≡ []
   pub spare : sent.spare ≡ length came + length ideal.fixed
-
--- no output of the switch has a limit, no packet is refused, and so nothing was
-pub record HasNoLimits (ideal : IdealSwitch) : Type 0 where
-  pub limits : NoLimits ideal.limits
-  pub marks : ideal.marks ≡ marks_down (length ideal.fixed)
-  pub refused : ideal.refused ≡ []

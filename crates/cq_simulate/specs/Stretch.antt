@@ -3,11 +3,11 @@
 use Rattle.std.specs.Prelude.{◌≡◌, ℕ, ◌-◌, ◌<◌, ◌≤◌, List, length, false, Ok, replicate}
 use Rattle.cq_base.specs.Arrivals.{no_arrivals}
 use Rattle.cq_base.specs.Arriving.{Arrival, arriving, end_of}
-use Rattle.cq_engine.specs.Engine.{EngineView, ports_of}
-use Rattle.cq_ideal.specs.Ideal.{IdealSwitch}
-use Rattle.cq_ideal.specs.IdealRun.{ideal_run, nothing_sent}
-use Rattle.cq_laws.specs.FabricRun.{FabricRun}
-use Rattle.cq_laws.specs.Quiet.{quiet_slots}
+use Rattle.cq_engine.specs.Engine.{EngineView, marked_fabric, ports_of}
+use Rattle.cq_ideal.specs.Ideal.{IdealSwitch, marked_state}
+use Rattle.cq_ideal.specs.LimitedIdeal.{limited_run, nothing_came}
+use Rattle.cq_laws.specs.LimitedFabric.{LimitedFabricRun}
+use Rattle.cq_laws.specs.LimitedQuiet.{quiet_limited_slots}
 use Rattle.cq_prefs.specs.Pairing.{IsInputBest}
 use Rattle.cq_rank.specs.Machine.{Machine}
 
@@ -17,17 +17,24 @@ pub record IsQuiet (came : List Arrival) (slot next : ℕ) : Type 0 where
   pub none : (t : ℕ) → slot ≤ t → t < next → arriving came t ≡ no_arrivals
   pub more : slot < next → next < end_of came
 
--- the slots from this one on up to the other, without arrivals, are behind the ideal switch: in none did an output send
+-- the slots from this one on up to the other, without arrivals, are behind the ideal switch: in none did an output send,
+-- nothing was refused, and the lists stayed as they were
 pub record HasRested (ms : List Machine) (slot next : ℕ) (old new : IdealSwitch) : Type 0 where
-  pub ran : ideal_run ms slot (replicate (next - slot) no_arrivals) old.state ≡ Ok (nothing_sent (next - slot) (length old.fixed) new.state)
+  pub ran : limited_run old.limits ms slot (replicate (next - slot) no_arrivals) (marked_state old) ≡ Ok (nothing_came (next - slot) (length old.fixed) (marked_state new))
   pub reached : new.next ≡ next
   pub running : new.stopped ≡ false
+  pub lists : new.state.lists ≡ old.state.lists
   pub fixed : new.fixed ≡ old.fixed
+  pub limits : new.limits ≡ old.limits
+  pub refused : new.refused ≡ old.refused
   pub rooms : new.rooms ≡ old.rooms
 
--- they are behind the fabric: none of them sent or moved a cell, or changed a figure
+-- they are behind the fabric: none of them sent, moved or refused a cell, or changed a figure
 pub record FabricHasRested (ms : List Machine) (slot next : ℕ) (old new : EngineView) : Type 0 where
-  pub ran : FabricRun IsInputBest ms slot (replicate (next - slot) no_arrivals) old.fabric (quiet_slots ms (next - slot) slot (ports_of old) old.fabric.ranks) new.fabric
+  pub ran : LimitedFabricRun IsInputBest old.limits ms slot (replicate (next - slot) no_arrivals) (marked_fabric old)
+      (quiet_limited_slots ms (next - slot) slot (ports_of old) old.fabric.ranks old.marks) (marked_fabric new)
+  pub limits : new.limits ≡ old.limits
+  pub refused : new.refused ≡ old.refused
   pub figures : new.figures ≡ old.figures
   pub reached : new.next ≡ next
   pub running : new.stopped ≡ false

@@ -3,7 +3,8 @@ ghost use Rattle.std.specs.Prelude.{◌≡◌, ◌↔◌, ◌≤◌, IsTrue, fal
 ghost use Rattle.std.specs.List.{range_with_len};
 ghost use Rattle.cq_base.specs.Arriving.{end_of, traffic_of};
 ghost use Rattle.cq_cells.specs.Traffic.{IsTraffic, IsShort, is_from, number_of};
-ghost use Rattle.cq_ideal.specs.IdealRun.{empty_ideal, ideal_run, departures_ran};
+ghost use Rattle.cq_ideal.specs.LimitedEnding.{departures_limited};
+ghost use Rattle.cq_ideal.specs.LimitedIdeal.{empty_limited, limited_run};
 ghost use Rattle.cq_laws.specs.Fabric.{IsEmptyFabric};
 ghost use Rattle.cq_route.specs.Tables.{AreTables, classes_of, ports_of};
 ghost use Rattle.cq_simulate.specs.FabricReady.{HasRun, IsReadyFabric};
@@ -17,7 +18,7 @@ use crate::stretch::quiet_until;
 use cq_base::{Departure, Figures, NoMemory, Room, Slot, TagFault, Transfer};
 use cq_cells::Schedule;
 use cq_crew::Gate;
-use cq_engine::Engine;
+use cq_engine::{Engine, Refused};
 use cq_rank::Rank;
 use cq_route::Tables;
 use cq_scfq::Discipline;
@@ -33,10 +34,12 @@ pub struct FabricRun {
     pub note: Room<Transfer>,
     /// What was seen of the run.
     pub figures: Figures,
+    /// How many packets and cells were refused, at each output that has a limit, in order of output.
+    pub refused: Vec<Refused>,
 }
 
-/// Runs the fabric over a schedule of the same ports and classes, from slot 0 until no cell arrives any
-/// more and none waits. As many workers as the tables say propose at once, and `gate` is told of their steps.
+/// Runs the fabric of the tables' ranks and limits over a schedule of the same ports and classes, from slot 0 until no
+/// cell arrives any more and none waits. As many workers as the tables say propose at once, and `gate` is told of their steps.
 /// Neither changes anything of what is done. It takes time for the slots in which a cell waits or comes, and
 /// none for those between them.
 ///
@@ -53,9 +56,9 @@ pub fn run_fabric<R: Threads + Sync, G: Gate>(
     requires ports { schedule.now.ports ≡ ports_of tables.now.setup }
     requires traffic { IsTraffic (ports_of tables.now.setup) (classes_of tables.now.setup) schedule.now.came }
     requires short { IsShort schedule.now.came }
-    ensures run { IfOk result (IsKeptOf tables.now.setup schedule.now.came) }
-    ensures as_ideal { IfOk result (λ run. ideal_departures tables.now.setup schedule.now.came ≡ Ok run.sent.items) }
-    ensures refused { IfErr result (IsRefusalOf (ideal_departures tables.now.setup schedule.now.came)) }
+    ensures run { IfOk result (IsKeptOf tables.now schedule.now.came) }
+    ensures as_ideal { IfOk result (λ run. ideal_departures tables.now schedule.now.came ≡ Ok run.sent.items) }
+    ensures refused { IfErr result (IsRefusalOf (ideal_departures tables.now schedule.now.came)) }
 {
     let ranks = Discipline::all(alloc, &tables.setup)?;
     let ports = ranks.len() as u16;
@@ -69,14 +72,16 @@ pub fn run_fabric<R: Threads + Sync, G: Gate>(
         ranks,
         from_inputs.as_slice(),
         to_outputs.as_slice(),
+        tables.limits.as_slice(),
         tables.workers,
     )?;
     run_slots(rt, alloc, &mut engine, schedule, gate, &mut sent, &mut note)?;
-    let figures = engine.into_figures();
+    let seen = engine.into_seen();
     Ok(FabricRun {
         sent,
         note,
-        figures,
+        figures: seen.figures,
+        refused: seen.refused,
     })
 }
 
@@ -130,7 +135,9 @@ fn run_slots<T: Threads + Sync, R: Rank, G: Gate>(
 ) -> Result<(), TagFault>
     requires ready { IsReadyFabric (map R.machine engine.old.fixed) schedule.now.came engine.old sent.old note.old }
     ensures run { OnOk result (HasRun (map R.machine engine.old.fixed) schedule.now.came engine.old engine.new sent.new note.new) }
-    ensures fault { IfErr result (λ fault. departures_ran (ideal_run (map R.machine engine.old.fixed) 0 (traffic_of schedule.now.came) (empty_ideal (length engine.old.fixed) engine.old.fabric.ranks)) ≡ Err fault) }
+    ensures fault { IfErr result (λ fault. departures_limited (limited_run engine.old.limits (map R.machine
+        engine.old.fixed) 0 (traffic_of schedule.now.came) (empty_limited (length engine.old.fixed)
+        engine.old.fabric.ranks)) ≡ Err fault) }
 {
     let mut slot = 0;
     'slots: while !is_over(engine, schedule, slot) {

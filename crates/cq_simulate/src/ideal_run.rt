@@ -1,22 +1,21 @@
 //! The run of the ideal switch.
-ghost use Rattle.std.specs.Prelude.{◌≡◌, ◌↔◌, ◌+◌, ◌-◌, ◌<◌, ◌≤◌, ◌^◌, IsTrue, false, is_err, All, None, Ok, Err, IfOk, IfErr, OnOk, [], length, map, replicate};
+ghost use Rattle.std.specs.Prelude.{◌≡◌, ◌↔◌, ◌+◌, ◌<◌, ◌≤◌, ◌^◌, IsTrue, false, All, Ok, Err, IfOk, IfErr, OnOk, [], map, max};
 ghost use Rattle.std.specs.List.{range_with_len};
 ghost use Rattle.cq_base.specs.Arriving.{end_of, traffic_of};
 ghost use Rattle.cq_cells.specs.Traffic.{IsTraffic, IsShort, is_to, number_of};
-ghost use Rattle.cq_ideal.specs.Ideal.{HasRoomFor, HaveLeft, answer_to};
-ghost use Rattle.cq_ideal.specs.IdealRun.{ideal_run, departures_ran};
-ghost use Rattle.cq_ideal.specs.IdealSlot.{ideal_slot};
-ghost use Rattle.cq_ideal.specs.Ranking.{AreForPorts};
-ghost use Rattle.cq_rank.specs.Switch.{class_count};
+ghost use Rattle.cq_ideal.specs.Admission.{NoLimits};
+ghost use Rattle.cq_ideal.specs.Ideal.{marked_state};
+ghost use Rattle.cq_ideal.specs.LimitedEnding.{departures_limited};
+ghost use Rattle.cq_ideal.specs.LimitedIdeal.{limited_run};
 ghost use Rattle.cq_route.specs.Tables.{AreTables, classes_of, ports_of};
 ghost use Rattle.cq_ideal.specs.Ending.{slots_of};
 ghost use Rattle.cq_simulate.specs.IdealRuns.{ideal_departures, slots_ran, IsRefusalOf};
-ghost use Rattle.cq_simulate.specs.Ready.{HasNoLimits, IsReady};
+ghost use Rattle.cq_simulate.specs.Ready.{IsReady};
 ghost use Rattle.cq_simulate.specs.Stretch.{HasRested, IsQuiet};
 
 use crate::RunRefusal;
 use crate::stretch::quiet_until;
-use cq_base::{Arrivals, Departure, NoMemory, Room, Slot, TagFault};
+use cq_base::{Departure, NoMemory, Room, Slot, TagFault};
 use cq_cells::Schedule;
 use cq_ideal::Ideal;
 use cq_rank::Rank;
@@ -33,8 +32,8 @@ pub struct IdealRun {
     pub slots: u64,
 }
 
-/// Runs the ideal switch over a schedule of the same ports and classes, from slot 0 until no cell
-/// arrives any more and none waits. It takes time for the slots in which a cell waits or comes, and none for those
+/// Runs the ideal switch of the tables' ranks and limits over a schedule of the same ports and classes, from slot 0
+/// until no cell arrives any more and none waits. It takes time for the slots in which a cell waits or comes, and none for those
 /// between them.
 ///
 /// - `Tag`: a rank does not fit 128 bits; the first such fault of the ideal switch.
@@ -48,18 +47,18 @@ pub fn run_ideal(
     requires ports { schedule.now.ports ≡ ports_of tables.now.setup }
     requires traffic { IsTraffic (ports_of tables.now.setup) (classes_of tables.now.setup) schedule.now.came }
     requires short { IsShort schedule.now.came }
-    ensures sent { IfOk result (λ run. ideal_departures tables.now.setup schedule.now.came ≡ Ok run.sent.items) }
+    ensures sent { IfOk result (λ run. ideal_departures tables.now schedule.now.came ≡ Ok run.sent.items) }
     ensures slots { IfOk result (λ run. run.slots ≡ slots_of run.sent.items) }
-    // which is after how many slots the run ends
-    ensures ends { IfOk result (λ run. run.slots ≡ slots_ran tables.now.setup schedule.now.came) }
-    ensures refused { IfErr result (IsRefusalOf (ideal_departures tables.now.setup schedule.now.came)) }
+    // after so many slots the run ends, or with the last arrival, where that is later: what arrives last may be refused
+    ensures ends { IfOk result (λ run. slots_ran tables.now schedule.now.came ≡ max (end_of schedule.now.came) run.slots) }
+    ensures ends_with_a_departure { NoLimits tables.now.limits → IfOk result (λ run. slots_ran tables.now schedule.now.came ≡ run.slots) }
+    ensures refused { IfErr result (IsRefusalOf (ideal_departures tables.now schedule.now.came)) }
 {
     let ranks = Discipline::all(alloc, &tables.setup)?;
     let ports = ranks.len() as u16;
     let rooms = rooms_of(alloc, schedule, ports)?;
     let mut sent = Room::new(alloc, schedule.total() + ports as u64)?;
-    let limits = no_limits(alloc, ports)?;
-    let mut ideal = Ideal::new(alloc, ranks, rooms.as_slice(), limits.as_slice())?;
+    let mut ideal = Ideal::new(alloc, ranks, rooms.as_slice(), tables.limits.as_slice())?;
     run_slots(&mut ideal, schedule, &mut sent)?;
     let slots = slots_of(sent.items());
     Ok(IdealRun { sent, slots })
@@ -77,15 +76,6 @@ pub fn rooms_of(alloc: Global, schedule: &Schedule, ports: u16) -> Result<Vec<u6
     Ok(rooms)
 }
 
-// No output has a limit.
-fn no_limits(alloc: Global, ports: u16) -> Result<Vec<Option<u64>>, NoMemory>
-    ensures { IfOk result (λ limits. limits.items ≡ replicate ports None) }
-{
-    let mut limits = Vec::new(alloc);
-    limits.resize(ports as usize, None)?;
-    Ok(limits)
-}
-
 // Whether no cell arrives any more and none waits.
 fn is_over<R: Rank>(ideal: &Ideal<R>, schedule: &Schedule, slot: Slot) -> bool
     ensures { IsTrue result ↔ ((end_of schedule.now.came ≤ slot) × All (λ cells. cells ≡ []) ideal.now.state.lists) }
@@ -98,10 +88,8 @@ fn is_over<R: Rank>(ideal: &Ideal<R>, schedule: &Schedule, slot: Slot) -> bool
 fn skip<R: Rank>(ideal: &mut Ideal<R>, schedule: &Schedule, slot: Slot) -> Slot
     requires running { ideal.old.stopped ≡ false }
     requires next { ideal.old.next ≡ slot }
-    requires limits { HasNoLimits ideal.old }
     ensures quiet { IsQuiet schedule.now.came slot result }
     ensures rested { HasRested (map R.machine ideal.old.fixed) slot result ideal.old ideal.new }
-    ensures limits { HasNoLimits ideal.new }
 {
     if !ideal.empty() {
         return slot;
@@ -114,35 +102,6 @@ fn skip<R: Rank>(ideal: &mut Ideal<R>, schedule: &Schedule, slot: Slot) -> Slot
     next
 }
 
-// One slot of a switch whose outputs have no limits.
-fn step<R: Rank>(
-    ideal: &mut Ideal<R>,
-    slot: Slot,
-    arrivals: &Arrivals,
-    sent: &mut Room<Departure>,
-) -> Result<(), TagFault>
-    requires running { ideal.old.stopped ≡ false }
-    requires next { slot ≡ ideal.old.next }
-    requires early { slot < 2 ^ 64 - 1 }
-    requires arrivals { AreForPorts (length ideal.old.fixed) (class_count (map R.machine ideal.old.fixed))
-        arrivals.now }
-    requires spare { HasRoomFor arrivals.now ideal.old }
-    requires sent { length ideal.old.fixed ≤ sent.old.spare }
-    requires limits { HasNoLimits ideal.old }
-    ensures answer { result ≡ answer_to (ideal_slot (map R.machine ideal.old.fixed) slot arrivals.now ideal.old.state) }
-    ensures state { IfOk (ideal_slot (map R.machine ideal.old.fixed) slot arrivals.now ideal.old.state) (λ of_slot.
-        ideal.new.state ≡ of_slot.after) }
-    ensures sent { IfOk (ideal_slot (map R.machine ideal.old.fixed) slot arrivals.now ideal.old.state) (λ of_slot.
-        HaveLeft slot of_slot.gone sent.old sent.new) }
-    ensures limits { OnOk result (HasNoLimits ideal.new) }
-    ensures next { OnOk result (ideal.new.next ≡ slot + 1) }
-    ensures fixed { ideal.new.fixed ≡ ideal.old.fixed }
-    ensures rooms { ideal.new.rooms ≡ ideal.old.rooms }
-    ensures stopped { ideal.new.stopped ≡ is_err result }
-{
-    ideal.slot(slot, arrivals, sent)
-}
-
 // Runs a switch over all cells that arrive. The error is its first tag fault.
 fn run_slots<R: Rank>(
     ideal: &mut Ideal<R>,
@@ -150,16 +109,17 @@ fn run_slots<R: Rank>(
     sent: &mut Room<Departure>,
 ) -> Result<(), TagFault>
     requires ready { IsReady (map R.machine ideal.old.fixed) schedule.now.came ideal.old sent.old }
-    requires limits { HasNoLimits ideal.old }
-    ensures sent { OnOk result (departures_ran (ideal_run (map R.machine ideal.old.fixed) 0 (traffic_of schedule.now.came) ideal.old.state) ≡ Ok sent.new.items) }
-    ensures fault { IfErr result (λ fault. departures_ran (ideal_run (map R.machine ideal.old.fixed) 0 (traffic_of schedule.now.came) ideal.old.state) ≡ Err fault) }
+    ensures sent { OnOk result (departures_limited (limited_run ideal.old.limits (map R.machine ideal.old.fixed) 0
+        (traffic_of schedule.now.came) (marked_state ideal.old)) ≡ Ok sent.new.items) }
+    ensures fault { IfErr result (λ fault. departures_limited (limited_run ideal.old.limits (map R.machine
+        ideal.old.fixed) 0 (traffic_of schedule.now.came) (marked_state ideal.old)) ≡ Err fault) }
     ensures early { OnOk result (slots_of sent.new.items ≤ 2 ^ 63 + 2 ^ 35) }
 {
     let mut slot = 0;
     'slots: while !is_over(ideal, schedule, slot) {
         slot = skip(ideal, schedule, slot);
         let arrivals = schedule.arrivals_at(slot);
-        step(ideal, slot, &arrivals, sent)?;
+        ideal.slot(slot, &arrivals, sent)?;
         slot += 1;
     }
     Ok(())

@@ -1,48 +1,60 @@
 //! What holds of what arrives, and of the run of a fabric, whatever it is made of. Each law is the contract of a function
 //! that does nothing.
-ghost use Rattle.std.specs.Prelude.{◌≡◌, ◌<◌, ℕ, List, Ok, length};
-ghost use Rattle.cq_base.specs.Arriving.{Arrival, traffic_of};
-ghost use Rattle.cq_base.specs.declared.setup.Setup.{Setup};
+ghost use Rattle.std.specs.Prelude.{◌≡◌, ◌<◌, ℕ, List, Ok, length, max};
+ghost use Rattle.cq_base.specs.Arriving.{Arrival, end_of, traffic_of};
 ghost use Rattle.cq_cells.specs.Schedule.{arrivals};
 ghost use Rattle.cq_cells.specs.Traffic.{IsTraffic};
-ghost use Rattle.cq_ideal.specs.IdealRun.{departures_of};
+ghost use Rattle.cq_ideal.specs.Admission.{NoLimits};
 ghost use Rattle.cq_ideal.specs.WholePackets.{AreOfPackets, cells_at};
 ghost use Rattle.cq_laws.specs.Fabric.{IsEmptyFabric};
-ghost use Rattle.cq_laws.specs.FabricSlot.{SlotRecord};
+ghost use Rattle.cq_laws.specs.LimitedFabric.{LimitedRecord, slots_in};
 ghost use Rattle.cq_laws.specs.Measures.{figures_of};
-ghost use Rattle.cq_laws.specs.Records.{gone_in};
 ghost use Rattle.cq_pcap.specs.Captured.{Captured};
 ghost use Rattle.cq_route.specs.Tables.{AreTables, IsSetup, classes_of, ports_of};
 ghost use Rattle.cq_route.specs.declared.tables.Tables.{Tables};
-ghost use Rattle.cq_simulate.specs.FabricRuns.{AlwaysHasSlack, AreInputBest, IsFabricRun, SendsSlotBySlot};
+ghost use Rattle.cq_simulate.specs.EachPacket.{EachPacketOnce};
+ghost use Rattle.cq_simulate.specs.FabricRuns.{AlwaysHasSlack, AreInputBest, IsFabricRun, SendsSlotBySlot, departures_in_run, refused_in_run};
 ghost use Rattle.cq_simulate.specs.IdealRuns.{ideal_departures, slots_ran};
 
-/// The fabric of a setup sends what the ideal switch of that setup sends, each cell in the same slot at the same
-/// output. Its matchings are the input-best ones of what the lists offer, and after the arrivals of each slot no
-/// cell's input thread exceeds its output cushion. At its end no cell waits, and it ends after as many slots as the
-/// ideal switch, in the last of which a cell departs. And the records of its slots are the only ones.
+/// The fabric of the tables' ranks and limits admits, refuses and sends what the ideal switch of the same ranks and
+/// limits does, each cell in the same slot at the same output. Its matchings are the input-best ones of what the lists
+/// offer, and after the arrivals of each slot no cell's input thread exceeds its output cushion. At its end no cell
+/// waits, and it ends after as many slots as the ideal switch: with the last arrival, or with the last departure where
+/// that is later. And the records of its slots are the only ones.
 pub fn fabric_sends_as_the_ideal_switch()
-    ensures slot_by_slot { (setup : Setup) (came : List Arrival) (rs : List SlotRecord) →
-        IsTraffic (ports_of setup) (classes_of setup) came → IsFabricRun setup came rs → SendsSlotBySlot setup came rs }
-    ensures input_best { (setup : Setup) (came : List Arrival) (rs : List SlotRecord) →
-        IsTraffic (ports_of setup) (classes_of setup) came → IsFabricRun setup came rs → AreInputBest rs }
-    ensures drained { (setup : Setup) (came : List Arrival) (rs : List SlotRecord) →
-        IsTraffic (ports_of setup) (classes_of setup) came → (is : IsFabricRun setup came rs) → IsEmptyFabric is.end }
-    ensures ends { (setup : Setup) (came : List Arrival) (rs : List SlotRecord) →
-        IsTraffic (ports_of setup) (classes_of setup) came → IsFabricRun setup came rs → slots_ran setup came ≡ length rs }
-    ensures slots { (setup : Setup) (came : List Arrival) (rs : List SlotRecord) →
-        IsSetup setup → IsTraffic (ports_of setup) (classes_of setup) came → IsFabricRun setup came rs → (figures_of (ports_of setup) rs).slots ≡ length rs }
-    ensures departures { (setup : Setup) (came : List Arrival) (rs : List SlotRecord) →
-        IsTraffic (ports_of setup) (classes_of setup) came → IsFabricRun setup came rs →
-        ideal_departures setup came ≡ Ok (departures_of 0 (gone_in rs)) }
-    ensures slack { (setup : Setup) (came : List Arrival) (rs : List SlotRecord) →
-        IsTraffic (ports_of setup) (classes_of setup) came → IsFabricRun setup came rs → AlwaysHasSlack rs }
-    ensures one { (setup : Setup) (came : List Arrival) (rs ss : List SlotRecord) →
-        IsFabricRun setup came rs → IsFabricRun setup came ss → rs ≡ ss }
+    ensures slot_by_slot { (t : Tables) (came : List Arrival) (rs : List LimitedRecord) →
+        IsTraffic (ports_of t.setup) (classes_of t.setup) came → IsFabricRun t came rs → SendsSlotBySlot t came rs }
+    ensures input_best { (t : Tables) (came : List Arrival) (rs : List LimitedRecord) →
+        IsTraffic (ports_of t.setup) (classes_of t.setup) came → IsFabricRun t came rs → AreInputBest rs }
+    ensures drained { (t : Tables) (came : List Arrival) (rs : List LimitedRecord) →
+        IsTraffic (ports_of t.setup) (classes_of t.setup) came → (is : IsFabricRun t came rs) → IsEmptyFabric is.end.state }
+    ensures ends { (t : Tables) (came : List Arrival) (rs : List LimitedRecord) →
+        IsTraffic (ports_of t.setup) (classes_of t.setup) came → IsFabricRun t came rs → slots_ran t came ≡ length rs }
+    ensures slots { (t : Tables) (came : List Arrival) (rs : List LimitedRecord) →
+        IsTraffic (ports_of t.setup) (classes_of t.setup) came → IsFabricRun t came rs →
+        length rs ≡ max (end_of came) (figures_of (ports_of t.setup) (slots_in rs)).slots }
+    ensures slots_without_limits { (t : Tables) (came : List Arrival) (rs : List LimitedRecord) →
+        NoLimits t.limits → IsSetup t.setup → IsTraffic (ports_of t.setup) (classes_of t.setup) came →
+        IsFabricRun t came rs → (figures_of (ports_of t.setup) (slots_in rs)).slots ≡ length rs }
+    ensures departures { (t : Tables) (came : List Arrival) (rs : List LimitedRecord) →
+        IsTraffic (ports_of t.setup) (classes_of t.setup) came → IsFabricRun t came rs →
+        ideal_departures t came ≡ Ok (departures_in_run rs) }
+    ensures slack { (t : Tables) (came : List Arrival) (rs : List LimitedRecord) →
+        IsTraffic (ports_of t.setup) (classes_of t.setup) came → IsFabricRun t came rs → AlwaysHasSlack rs }
+    ensures one { (t : Tables) (came : List Arrival) (rs ss : List LimitedRecord) →
+        IsFabricRun t came rs → IsFabricRun t came ss → rs ≡ ss }
 {}
 
-/// What arrives at an input are whole packets: the packets of its capture one after another, each from its first
-/// cell to its last. So where outputs have limits each of them is admitted or refused whole.
+/// Every packet leaves its output whole, or is counted as refused there: one of both, once. So who misses a packet in
+/// what was written of an output can trust that it is in the count.
+pub fn each_packet_is_written_or_counted()
+    ensures { (t : Tables) (captures : List (List Captured)) (rs : List LimitedRecord) →
+        AreTables t → length captures ≡ ports_of t.setup → IsFabricRun t (arrivals t captures) rs →
+        EachPacketOnce t captures (departures_in_run rs) (refused_in_run rs) }
+{}
+
+/// The cells that arrive at an input come packet after packet: the numbers of the packets rise, and of each packet the
+/// first cell comes first. So where outputs have limits each packet is admitted or refused whole.
 pub fn whole_packets_arrive()
     ensures { (t : Tables) (captures : List (List Captured)) (input : ℕ) →
         AreTables t → length captures ≡ ports_of t.setup → input < length captures →

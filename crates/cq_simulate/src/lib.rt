@@ -11,9 +11,12 @@ mod stretch;
 #[cfg(test)]
 mod tests;
 
+pub use cq_engine::Refused;
 pub use fabric_run::{FabricRun, run_fabric};
 pub use ideal_run::{IdealRun, run_ideal};
 pub use idle::outputs_send_once_a_slot;
-pub use laws::{fabric_sends_as_the_ideal_switch, whole_packets_arrive};
+pub use laws::{
+    each_packet_is_written_or_counted, fabric_sends_as_the_ideal_switch, whole_packets_arrive,
+};
 pub use packets::packets_of;
 pub use refusal::RunRefusal;

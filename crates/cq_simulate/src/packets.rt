@@ -16,7 +16,8 @@ use std::alloc::Global;
 /// The packets that leave an output, in the order in which their last cells depart: each with the stamp
 /// of that slot, its original length, and its captured bytes. `sent` is a whole run over the schedule of
 /// these captures, and `t0` the stamp from which its slots are counted, in nanoseconds. From an output that
-/// is no port nothing departs, so no packet leaves it. The error is want of memory.
+/// is no port nothing departs, so no packet leaves it; and a packet that is refused does not leave. The error is
+/// want of memory.
 pub fn packets_of(
     alloc: Global,
     output: Port,
@@ -27,7 +28,7 @@ pub fn packets_of(
 ) -> Result<Vec<OutPacket>, NoMemory>
     requires tables { AreTables tables.now }
     requires captures { length captures.now ≡ ports_of tables.now.setup }
-    requires sent { ideal_departures tables.now.setup (arrivals tables.now captures.now) ≡ Ok sent.now }
+    requires sent { ideal_departures tables.now (arrivals tables.now captures.now) ≡ Ok sent.now }
     requires t0 { t0 ≡ first_stamp captures.now }
     ensures packets { IfOk result (λ packets. packets.items ≡ packets_out tables.now captures.now sent.now output) }
     ensures nowhere { ports_of tables.now.setup ≤ output → IfOk result (λ packets. packets.items ≡ []) }

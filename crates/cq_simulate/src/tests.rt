@@ -2,7 +2,7 @@
 ghost use Rattle.std.specs.Prelude.{◌≡◌, ◌<◌, IfOk, length};
 ghost use Rattle.cq_route.specs.Tables.{AreTables, ports_of};
 
-use crate::{FabricRun, RunRefusal, packets_of, run_fabric, run_ideal};
+use crate::{FabricRun, Refused, RunRefusal, packets_of, run_fabric, run_ideal};
 use cq_base::{ClassRow, Departure, Kind, Name, NoMemory, Port, Sequence, TagFault};
 use cq_cells::Schedule;
 use cq_crew::OpenGate;
@@ -80,8 +80,20 @@ fn three_ports(alloc: Global) -> Result<Tables, NoMemory>
     let mut tables = Tables::plain(alloc, "in", "out")?;
     tables.setup.kinds = Sequence::of(Vec::from_array(alloc, [Kind::FirstCome; 3])?);
     tables.ports = Sequence::of(three_files(alloc)?);
+    tables.limits = Sequence::of(Vec::from_array(alloc, [None; 3])?);
     tables.addresses = Sequence::of(Vec::from_array(alloc, [one])?);
     tables.workers = 2;
+    Ok(tables)
+}
+
+// The same, and one cell fills output zero.
+#[tactic(auto, unfolding(cq_route::specs::Plain::plain_tables))]
+fn three_limited_ports(alloc: Global) -> Result<Tables, NoMemory>
+    ensures in_range { IfOk result (λ tables. AreTables tables) }
+    ensures ports { IfOk result (λ tables. ports_of tables.setup ≡ 3) }
+{
+    let mut tables = three_ports(alloc)?;
+    tables.limits = Sequence::of(Vec::from_array(alloc, [Some(1), None, None])?);
     Ok(tables)
 }
 
@@ -150,6 +162,20 @@ fn crossed<R: Threads + Sync>(
 {
     let schedule = Schedule::of(rt, alloc, captures, tables)?;
     run_fabric(rt, alloc, tables, &schedule, &OpenGate)
+}
+
+// What the fabric refuses.
+fn refused_of<R: Threads + Sync>(
+    rt: &R,
+    alloc: Global,
+    tables: &Tables,
+    captures: &[Capture],
+) -> Result<Vec<Refused>, RunRefusal>
+    requires tables { AreTables tables.now }
+    requires captures { length captures.now ≡ ports_of tables.now.setup }
+{
+    let run = crossed(rt, alloc, tables, captures)?;
+    Ok(run.refused)
 }
 
 // What the fabric sends: its slots, and its departures.
@@ -309,5 +335,52 @@ fn a_rank_that_does_not_fit_stops_the_run(rt: HostRuntime) -> Result<(), Fail> {
     let apart = [capture_of(alloc, &[(0, 60, 0), (1024, 60, 0)])?];
     let seen = trace_of(&rt, alloc, &tables, &apart);
     assert_eq!(rt; seen.map(|(slots, _)| slots), Ok(3));
+    Ok(())
+}
+
+#[test]
+fn a_packet_that_finds_its_output_full_is_refused_whole(rt: HostRuntime) -> Result<(), Fail> {
+    let alloc = rt.alloc();
+    let tables = three_limited_ports(alloc)?;
+    // The two cells of input 1 come in slots 0 and 1, and output 0 is empty in slot 1. The run goes on to slot 5, in
+    // which the next packet finds room.
+    let captures = [
+        capture_of(alloc, &[(0, 60, 0)])?,
+        capture_of(alloc, &[(0, 128, 0), (2560, 60, 0)])?,
+        capture_of(alloc, &[])?,
+    ];
+    let trace = [(0, 0, 0, 0, 0), (5, 0, 1, 1, 0)];
+    let seen = trace_of(&rt, alloc, &tables, &captures);
+    assert_eq!(rt; seen.map(|(_, lines)| lines).as_deref(), Ok(&trace[..]));
+    let seen = fabric_trace_of(&rt, alloc, &tables, &captures);
+    assert_eq!(rt; seen.map(|(_, lines)| lines).as_deref(), Ok(&trace[..]));
+    let seen = packets_at(&rt, alloc, &tables, &captures, 0);
+    assert_eq!(rt; seen.as_deref(), Ok(&[(0, 64, 60), (2560, 64, 60)][..]));
+    let refused = Refused {
+        output: 0,
+        limit: 1,
+        packets: 1,
+        cells: 2,
+    };
+    let seen = refused_of(&rt, alloc, &tables, &captures);
+    assert_eq!(rt; seen.as_deref(), Ok(&[refused][..]));
+    Ok(())
+}
+
+#[test]
+fn the_slots_end_with_the_last_departure_where_the_rest_is_refused(
+    rt: HostRuntime,
+) -> Result<(), Fail> {
+    let alloc = rt.alloc();
+    let tables = three_limited_ports(alloc)?;
+    let captures = [
+        capture_of(alloc, &[(0, 60, 0)])?,
+        capture_of(alloc, &[(0, 200, 0)])?,
+        capture_of(alloc, &[])?,
+    ];
+    let seen = trace_of(&rt, alloc, &tables, &captures);
+    assert_eq!(rt; seen.map(|(slots, _)| slots), Ok(1));
+    let seen = fabric_trace_of(&rt, alloc, &tables, &captures);
+    assert_eq!(rt; seen.map(|(slots, _)| slots), Ok(1));
     Ok(())
 }

@@ -1,5 +1,5 @@
 -- What values are seen as.
-use Rattle.std.proofs.Common.{◌≡◌, ◌↔◌, ℕ, suc, ◌<◌, ◌^◌, Bool, true, false, ◌&&◌, IsTrue, EachIndex, slice_index, if◌then◌else◌, nat_lt, nat_le, List, [], ◌∷◌, length, get_or, map, Some, None, Result, Ok, Err, refl, ap, sym, inl, inr}
+use Rattle.std.proofs.Common.{◌≡◌, ◌↔◌, ℕ, suc, ◌<◌, ◌^◌, Bool, true, false, ◌&&◌, IsTrue, EachIndex, slice_index, if◌then◌else◌, nat_lt, nat_le, ◌≤◌, IfSome, Option, List, [], ◌∷◌, length, get_or, map, Some, None, Result, Ok, Err, refl, ap, sym, inl, inr}
 use Rattle.std.specs.Result.{result_ok}
 use Rattle.std.proofs.lemmas.Bool.{and_parts, cases_Bool, lt-ltb, leb-true, ltb-true}
 use Rattle.std.specs.Int.{IsInRange}
@@ -64,3 +64,8 @@ parsed_is_written {E} text r test parsed =
           | inl small ↦ absurd (h (some, ltb-true (digits_value 10 text) (2 ^ 128) small))
           | inr large ↦ rw large
         ]
+
+-- a number in a range is at least its least, where there is one
+pub least_of : (least most : ℕ) (n : Option ℕ) → IfSome n (IsInRange least most) → IfSome n (λ n. least ≤ n)
+least_of least most None t = tt
+least_of least most (Some n) range = range.0

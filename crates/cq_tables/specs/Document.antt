@@ -74,6 +74,10 @@ port_row table = record {
 abbrev pub port_kind : Members → Kind
 port_kind table = found_or FirstCome kind_value (codes "discipline") table
 
+-- how many cells fill the output that the table of a port is of, where it states a limit
+abbrev pub port_limit : Members → Option ℕ
+port_limit table = found integer_value (codes "limit") table
+
 -- the address that a table states
 abbrev pub mac_in : Members → List ℕ
 mac_in table = found_or [] address_value (codes "mac") table
@@ -110,6 +114,7 @@ port_keys place =
     key place (codes "read") (optional file_name)
     ∷ key place (codes "write") (required file_name)
     ∷ key place (codes "discipline") (optional discipline)
+    ∷ key place (codes "limit") (optional (integer_in 1 1000000000))
     ∷ []
 
 -- the address is none of these
@@ -225,6 +230,7 @@ tables_of top = record {
   log = found_or [] text_value (codes "log") top;
   setup = record { classes = class_rows top; kinds = map port_kind (rows_in Ports top) };
   ports = map port_row (rows_in Ports top);
+  limits = map port_limit (rows_in Ports top);
   addresses = map address_row (rows_in Addresses top);
   rules = map rule_row (rows_in Rules top);
 }

@@ -2,7 +2,7 @@
 ghost use Rattle.std.specs.Prelude.{◌≡◌, ◌≤◌, ◌<◌, None, IfOk, IfErr, IfSome, All, map};
 ghost use Rattle.toml.specs.View.{view};
 ghost use Rattle.cq_tables.specs.Check.{Refuses, each, first};
-ghost use Rattle.cq_tables.specs.Document.{class_keys, class_row, element_check, port_keys, port_kind, port_row, rule_keys, rule_row};
+ghost use Rattle.cq_tables.specs.Document.{class_keys, class_row, element_check, port_keys, port_kind, port_limit, port_row, rule_keys, rule_row};
 ghost use Rattle.cq_tables.specs.Value.{members};
 
 use crate::place::Array;
@@ -83,6 +83,8 @@ fn port_in(alloc: Global, index: usize, value: &Value) -> Result<PortEntry, Tabl
     ensures held { IfOk result (λ _. element_check Array.Ports (λ _. port_keys) index (view value.now) ≡ None) }
     ensures files { IfOk result (λ port. port.files ≡ port_row (members (view value.now))) }
     ensures kind { IfOk result (λ port. port.kind ≡ port_kind (members (view value.now))) }
+    ensures limit { IfOk result (λ port. port.limit ≡ port_limit (members (view value.now))) }
+    ensures range { IfOk result (λ port. IfSome port.limit (λ n. 1 ≤ n)) }
     ensures refused { IfErr result (Refuses (element_check Array.Ports (λ _. port_keys) index (view value.now))) }
 {
     let entries = element(alloc, Array::Ports, index, value)?;
@@ -94,6 +96,7 @@ fn port_in(alloc: Global, index: usize, value: &Value) -> Result<PortEntry, Tabl
 pub struct PortEntries {
     pub files: Vec<PortRow>,
     pub kinds: Vec<Kind>,
+    pub limits: Vec<Option<u64>>,
 }
 
 /// The ports that the elements tell.
@@ -101,14 +104,22 @@ pub fn port_rows(alloc: Global, values: &[Value]) -> Result<PortEntries, TableRe
     ensures held { IfOk result (λ _. first (each (element_check Array.Ports (λ _. port_keys)) 0 (map view values.now)) ≡ None) }
     ensures files { IfOk result (λ ports. ports.files.items ≡ map port_row (map members (map view values.now))) }
     ensures kinds { IfOk result (λ ports. ports.kinds.items ≡ map port_kind (map members (map view values.now))) }
+    ensures limits { IfOk result (λ ports. ports.limits.items ≡ map port_limit (map members (map view values.now))) }
+    ensures range { IfOk result (λ ports. All (λ limit. IfSome limit (λ n. 1 ≤ n)) ports.limits.items) }
     ensures refused { IfErr result (Refuses (first (each (element_check Array.Ports (λ _. port_keys)) 0 (map view values.now)))) }
 {
     let mut files = Vec::new(alloc);
     let mut kinds = Vec::new(alloc);
+    let mut limits = Vec::new(alloc);
     'ports: for (index, value) in values.iter().enumerate() {
         let port = port_in(alloc, index, value)?;
+        limits.push(port.limit).map_err(NoMemory::from)?;
         kinds.push(port.kind).map_err(NoMemory::from)?;
         files.push(port.files).map_err(NoMemory::from)?;
     }
-    Ok(PortEntries { files, kinds })
+    Ok(PortEntries {
+        files,
+        kinds,
+        limits,
+    })
 }

@@ -42,6 +42,9 @@ pub const MOST_PORTS: usize = 64;
 /// The greatest number of a port, since they count from 0.
 pub const GREATEST_PORT: u16 = 63;
 
+/// The greatest limit of an output, in cells.
+pub const GREATEST_LIMIT: u64 = 1_000_000_000;
+
 /// The most addresses.
 pub const MOST_ADDRESSES: usize = 4096;
 

@@ -90,6 +90,7 @@ fn tables_in(alloc: Global, top: &Table) -> Result<Tables, TableRefusal>
             kinds: Sequence::of(port_rows.kinds),
         },
         ports: Sequence::of(port_rows.files),
+        limits: Sequence::of(port_rows.limits),
         addresses: Sequence::of(address_rows),
         rules: Sequence::of(rule_rows),
     })

@@ -2,7 +2,7 @@
 ghost use Rattle.std.specs.Prelude.{◌≡◌, ◌≤◌, ◌<◌, None, IfOk, IfErr, IfSome};
 ghost use Rattle.toml.specs.View.{view, table_view};
 ghost use Rattle.cq_tables.specs.Check.{Refuses, at, first};
-ghost use Rattle.cq_tables.specs.Document.{class_keys, class_row, port_keys, port_kind, port_row, rule_keys, rule_row};
+ghost use Rattle.cq_tables.specs.Document.{class_keys, class_row, port_keys, port_kind, port_limit, port_row, rule_keys, rule_row};
 ghost use Rattle.cq_tables.specs.Key.{table_checks};
 ghost use Rattle.cq_tables.specs.Place.{element_path};
 ghost use Rattle.cq_tables.specs.Value.{members, table_type};
@@ -10,7 +10,7 @@ ghost use Rattle.cq_tables.specs.Value.{members, table_type};
 use crate::entries::Entries;
 use crate::limits::{
     DEFAULT_COST, DEFAULT_PRIORITY, GREATEST_CLASS, GREATEST_DSCP, GREATEST_ETHER_TYPE,
-    GREATEST_PCP, GREATEST_PORT, LEAST_COST,
+    GREATEST_LIMIT, GREATEST_PCP, GREATEST_PORT, LEAST_COST,
 };
 use crate::place::{Array, Place};
 use crate::refusal::{TableRefusal, Wrong, element_refusal};
@@ -56,29 +56,34 @@ pub fn class_row(entries: Entries) -> Result<ClassRow, TableRefusal>
     Ok(ClassRow { priority, cost })
 }
 
-const PORT_KEYS: [&str; 3] = ["read", "write", "discipline"];
+const PORT_KEYS: [&str; 4] = ["read", "write", "discipline", "limit"];
 
 /// A port, as its table tells it.
 #[derive(Drop)]
 pub struct PortEntry {
     pub files: PortRow,
     pub kind: Kind,
+    pub limit: Option<u64>,
 }
 
-/// The files and the discipline of a port.
+/// The files, the discipline and the limit of a port.
 pub fn port_entry(entries: Entries) -> Result<PortEntry, TableRefusal>
     ensures held { IfOk result (λ _. first (table_checks entries.entry.place (port_keys entries.entry.place) (table_view entries.entry.table.now)) ≡ None) }
     ensures files { IfOk result (λ port. port.files ≡ port_row (table_view entries.entry.table.now)) }
     ensures kind { IfOk result (λ port. port.kind ≡ port_kind (table_view entries.entry.table.now)) }
+    ensures limit { IfOk result (λ port. port.limit ≡ port_limit (table_view entries.entry.table.now)) }
+    ensures range { IfOk result (λ port. IfSome port.limit (λ n. 1 ≤ n)) }
     ensures refused { IfErr result (Refuses (first (table_checks entries.entry.place (port_keys entries.entry.place) (table_view entries.entry.table.now)))) }
 {
     entries.only(&PORT_KEYS)?;
     let read = entries.file("read")?;
     let write = entries.required_file("write")?;
     let kind = entries.discipline("discipline")?;
+    let limit = entries.integer("limit", 1, GREATEST_LIMIT)?;
     Ok(PortEntry {
         files: PortRow { read, write },
         kind,
+        limit,
     })
 }
 

@@ -1,234 +1,264 @@
 //! Configurations from outside, each with the tables or the refusal that it gives.
 use crate::{TableRefusal, Tables, read_tables};
-use cq_base::Kind;
+use cq_base::{Kind, NoMemory};
 use std::alloc::Global;
 use std::test::Fail;
 
 const TWO_PORTS: &str =
     "version = 1\ntrace = \"trace.txt\"\nlog = \"log.txt\"\n[[port]]\nread = \"in0.pcap\"\nwrite = \"out0.pcap\"\n[[port]]\nread = \"in1.pcap\"\nwrite = \"out1.pcap\"\n[[address]]\nmac = \"02:00:00:00:00:00\"\noutput = 0\n[[address]]\nmac = \"02:00:00:00:00:01\"\noutput = 1\n";
 
-/// What a text is refused for, or `ok` where it gives tables.
-fn said_of(alloc: Global, bytes: &[u8]) -> Result<String, Fail> {
+/// Whether a text is refused for this check, by its number, at this key; or gives tables where none is named.
+fn is_told(alloc: Global, bytes: &[u8], told: Option<(u8, &str)>) -> bool {
     match read_tables(alloc, bytes) {
-        Ok(_tables) => Ok(String::from_str(alloc, "ok")?),
-        Err(TableRefusal::At { code, path }) => {
-            let key = path.text();
-            Ok(format!(in alloc; "C{code} at {key}")?)
-        }
-        Err(TableRefusal::NoMemory) => Ok(String::from_str(alloc, "no memory")?),
+        Ok(_tables) => told.is_none(),
+        Err(TableRefusal::At { code, path }) => match told {
+            Some((check, key)) => code == check && path.text() == key,
+            None => false,
+        },
+        Err(TableRefusal::NoMemory) => false,
     }
 }
 
 #[test]
 fn the_first_check_that_fails_is_told(rt: HostRuntime) -> Result<(), Fail> {
-    let cases: [(&str, &str); 11] = [
-        ("version =", "C1 at -"),
-        ("version = 1", "C2 at trace"),
-        ("version = \"1\"", "C3 at version"),
-        ("version = 2", "C4 at version"),
-        ("versoin = 1", "C5 at versoin"),
-        ("zz = 1\nversion = 2\naa = 1", "C5 at aa"),
-        ("version = 1\nworkers = 0", "C4 at workers"),
-        ("version = 1\nworkers = 65", "C4 at workers"),
-        ("version = 1\ncell_bytes = 0", "C4 at cell_bytes"),
-        ("version = 1\nlimit_bytes = 23", "C4 at limit_bytes"),
-        ("version = 1\ntrace = \"\"", "C4 at trace"),
+    let cases: [(&str, Option<(u8, &str)>); 11] = [
+        ("version =", Some((1, "-"))),
+        ("version = 1", Some((2, "trace"))),
+        ("version = \"1\"", Some((3, "version"))),
+        ("version = 2", Some((4, "version"))),
+        ("versoin = 1", Some((5, "versoin"))),
+        ("zz = 1\nversion = 2\naa = 1", Some((5, "aa"))),
+        ("version = 1\nworkers = 0", Some((4, "workers"))),
+        ("version = 1\nworkers = 65", Some((4, "workers"))),
+        ("version = 1\ncell_bytes = 0", Some((4, "cell_bytes"))),
+        ("version = 1\nlimit_bytes = 23", Some((4, "limit_bytes"))),
+        ("version = 1\ntrace = \"\"", Some((4, "trace"))),
     ];
-    for (text, said) in cases {
-        let answer = said_of(rt.alloc(), text.as_bytes())?;
-        assert_eq!(rt; answer.as_str(), said, "{text}");
+    for (text, told) in cases {
+        assert!(rt; is_told(rt.alloc(), text.as_bytes(), told), "{text}");
     }
     Ok(())
 }
 
-/// Changes of the configuration of two ports: what is replaced, by what, and what it is refused for.
-const CHANGES: [(&str, &str, &str); 18] = [
-    ("00:01\"", "00:00\"", "C6 at address[1].mac"),
-    ("\"log.txt\"", "\"trace.txt\"", "C7 at log"),
+/// Changes of the configuration of two ports: what is replaced, by what, and what it is refused for, if it is.
+const CHANGES: [(&str, &str, Option<(u8, &str)>); 23] = [
+    (
+        "write = \"out1.pcap\"\n",
+        "write = \"out1.pcap\"\nlimit = 1\n",
+        None,
+    ),
+    (
+        "write = \"out1.pcap\"\n",
+        "write = \"out1.pcap\"\nlimit = 0\n",
+        Some((4, "port[1].limit")),
+    ),
+    (
+        "write = \"out0.pcap\"\n",
+        "write = \"out0.pcap\"\nlimit = 1000000001\n",
+        Some((4, "port[0].limit")),
+    ),
+    (
+        "write = \"out0.pcap\"\n",
+        "write = \"out0.pcap\"\nlimit = \"1\"\n",
+        Some((3, "port[0].limit")),
+    ),
+    ("00:01\"", "00:00\"", Some((6, "address[1].mac"))),
+    ("\"log.txt\"", "\"trace.txt\"", Some((7, "log"))),
     (
         "\"02:00:00:00:00:00\"",
         "\"03:00:00:00:00:00\"",
-        "C8 at address[0].mac",
+        Some((8, "address[0].mac")),
     ),
     (
         "version = 1\n",
         "version = 1\ndefault_output = 2\n",
-        "C9 at default_output",
+        Some((9, "default_output")),
     ),
     (
         "version = 1\n",
         "version = 1\ndefault_class = 1\n",
-        "C9 at default_class",
+        Some((9, "default_class")),
     ),
-    ("trace = \"trace.txt\"\n", "zzz = 1\n", "C5 at zzz"),
-    ("version = 1\n", "version = 1\nclass = []\n", "C4 at class"),
-    ("00:01\"", "00:1\"", "C8 at address[1].mac"),
-    ("\"out1.pcap\"", "\"in0.pcap\"", "C7 at port[1].write"),
-    ("\"in1.pcap\"", "\"out0.pcap\"", "C7 at port[1].read"),
-    ("output = 1", "output = 2", "C9 at address[1].output"),
+    ("trace = \"trace.txt\"\n", "zzz = 1\n", Some((5, "zzz"))),
+    (
+        "version = 1\n",
+        "version = 1\nclass = []\n",
+        Some((4, "class")),
+    ),
+    ("00:01\"", "00:1\"", Some((8, "address[1].mac"))),
+    ("\"out1.pcap\"", "\"in0.pcap\"", Some((7, "port[1].write"))),
+    // two ports may read one file
+    ("in1.pcap", "in0.pcap", None),
+    ("\"in1.pcap\"", "\"out0.pcap\"", Some((7, "port[1].read"))),
+    ("output = 1", "output = 2", Some((9, "address[1].output"))),
     (
         "output = 1\n",
         "output = 1\n[[rule]]\nclass = 1\n",
-        "C9 at rule[0].class",
+        Some((9, "rule[0].class")),
     ),
     (
         "output = 1\n",
         "output = 1\n[[rule]]\npcp = 8\n",
-        "C4 at rule[0].pcp",
+        Some((4, "rule[0].pcp")),
     ),
     (
         "output = 1\n",
         "output = 1\n[[class]]\ncost = \"0\"\n",
-        "C4 at class[0].cost",
+        Some((4, "class[0].cost")),
     ),
     (
         "output = 1\n",
         "output = 1\n[[class]]\ncost = -1\n",
-        "C4 at class[0].cost",
+        Some((4, "class[0].cost")),
     ),
     (
         "output = 1\n",
         "output = 1\n[[class]]\ncost = \"340282366920938463463374607431768211456\"\n",
-        "C4 at class[0].cost",
+        Some((4, "class[0].cost")),
     ),
     (
         "output = 1\n",
         "output = 1\n[[class]]\npriority = 1.5\n",
-        "C3 at class[0].priority",
+        Some((3, "class[0].priority")),
     ),
     (
         "\"out1.pcap\"\n",
         "\"out1.pcap\"\ndiscipline = \"fifo\"\n",
-        "C4 at port[1].discipline",
+        Some((4, "port[1].discipline")),
     ),
 ];
 
+/// Whether the configuration of two ports, changed so, is told this.
+fn change_is_told(
+    alloc: Global,
+    old: &str,
+    new: &str,
+    told: Option<(u8, &str)>,
+) -> Result<bool, NoMemory> {
+    let text = TWO_PORTS.replacen(alloc, old, new, 1)?;
+    Ok(is_told(alloc, text.as_bytes(), told))
+}
+
 #[test]
 fn a_change_of_a_good_configuration_is_told_at_its_key(rt: HostRuntime) -> Result<(), Fail> {
-    for (old, new, said) in CHANGES {
-        let text = TWO_PORTS.replacen(rt.alloc(), old, new, 1)?;
-        let answer = said_of(rt.alloc(), text.as_bytes())?;
-        assert_eq!(rt; answer.as_str(), said, "{new}");
+    for (old, new, told) in CHANGES {
+        assert!(rt; change_is_told(rt.alloc(), old, new, told)?, "{new}");
     }
     Ok(())
+}
+
+/// Whether a text that is longer than a configuration may be is told so, and the same but for its first byte is read.
+fn length_is_told(alloc: Global) -> Result<bool, NoMemory> {
+    let blanks = vec![in alloc; b' '; 1_048_577]?;
+    Ok(
+        is_told(alloc, blanks.as_slice(), Some((10, "-")))
+            && is_told(alloc, &blanks[1..], Some((2, "version"))),
+    )
 }
 
 #[test]
 fn a_text_without_ports_and_one_that_is_too_long_are_told(rt: HostRuntime) -> Result<(), Fail> {
-    let blanks = vec![in rt.alloc(); b' '; 1_048_577]?;
-    let head = "version = 1\ntrace = \"t\"\nlog = \"l\"\n";
-    let number = format!(in rt.alloc(); "{head}port = 3")?;
-    let numbers = format!(in rt.alloc(); "{head}port = [1]")?;
-    let cases: [(&[u8], &str); 5] = [
-        (blanks.as_slice(), "C10 at -"),
-        (&blanks[1..], "C2 at version"),
-        (b"\xff".as_slice(), "C1 at -"),
-        (number.as_bytes(), "C3 at port"),
-        (numbers.as_bytes(), "C3 at port[0]"),
+    assert!(rt; length_is_told(rt.alloc())?);
+    let cases: [(&[u8], Option<(u8, &str)>); 3] = [
+        (b"\xff".as_slice(), Some((1, "-"))),
+        (
+            b"version = 1\ntrace = \"t\"\nlog = \"l\"\nport = 3".as_slice(),
+            Some((3, "port")),
+        ),
+        (
+            b"version = 1\ntrace = \"t\"\nlog = \"l\"\nport = [1]".as_slice(),
+            Some((3, "port[0]")),
+        ),
     ];
-    for (bytes, said) in cases {
-        let answer = said_of(rt.alloc(), bytes)?;
-        assert_eq!(rt; answer.as_str(), said);
+    for (bytes, told) in cases {
+        assert!(rt; is_told(rt.alloc(), bytes, told));
     }
     Ok(())
 }
 
-/// The tables of a good configuration of two ports, two classes, two addresses and a rule.
-fn good_tables(alloc: Global) -> Result<Option<Tables>, Fail> {
-    let more =
-        "[[class]]\npriority = \"007\"\n[[class]]\ncost = \"340282366920938463463374607431768211455\"\n[[rule]]\ninput = 1\npcp = 7\nether_type = 65535\ndscp = 63\nclass = 1\n";
-    let text = format!(in alloc; "slot_ns = 3\n{TWO_PORTS}{more}")?;
-    let text = text.replacen(alloc, "00:00:00:01", "aA:Bb:00:01", 1)?;
-    match read_tables(alloc, text.as_bytes()) {
-        Ok(tables) => Ok(Some(tables)),
-        Err(_) => Ok(None),
-    }
+/// A good configuration of four ports, one that names no discipline and one of each, with two classes, two addresses and a rule.
+const GOOD: &str =
+    "version = 1\nslot_ns = 3\nworkers = 64\ntrace = \"trace.txt\"\nlog = \"log.txt\"\n[[port]]\nread = \"in0.pcap\"\nwrite = \"out0.pcap\"\n[[port]]\nread = \"in1.pcap\"\nwrite = \"out1.pcap\"\ndiscipline = \"priority\"\nlimit = 7\n[[port]]\nwrite = \"out2.pcap\"\ndiscipline = \"fair\"\n[[port]]\nwrite = \"out3.pcap\"\ndiscipline = \"first-come\"\n[[address]]\nmac = \"02:00:00:00:00:00\"\noutput = 0\n[[address]]\nmac = \"02:00:aA:Bb:00:01\"\noutput = 1\n[[class]]\npriority = \"007\"\n[[class]]\ncost = \"340282366920938463463374607431768211455\"\n[[rule]]\ninput = 1\npcp = 7\nether_type = 65535\ndscp = 63\nclass = 1\n";
+
+/// The figures that stand at its head, and those that it leaves to be.
+fn has_figures(tables: &Tables) -> bool {
+    tables.cell_bytes == 64
+        && tables.slot_ns == 3
+        && tables.limit_bytes == 67_108_864
+        && tables.workers == 64
+        && tables.default_output == 0
+        && tables.default_class == 0
+        && tables.trace.text() == "trace.txt"
+        && tables.log.text() == "log.txt"
 }
 
-#[test]
-fn a_good_configuration_gives_its_figures_and_classes(rt: HostRuntime) -> Result<(), Fail> {
-    let Some(tables) = good_tables(rt.alloc())? else {
-        assert!(rt; false, "the configuration is read");
-        return Ok(());
-    };
-    assert_eq!(rt; tables.cell_bytes, 64);
-    assert_eq!(rt; tables.slot_ns, 3);
-    assert_eq!(rt; tables.limit_bytes, 67_108_864);
-    assert_eq!(rt; tables.workers, 1);
-    assert_eq!(rt; tables.default_output, 0);
-    assert_eq!(rt; tables.default_class, 0);
-    assert_eq!(rt; tables.trace.text(), "trace.txt");
-    assert_eq!(rt; tables.log.text(), "log.txt");
+/// Its classes.
+fn has_classes(tables: &Tables) -> bool {
     let classes = tables.setup.classes.as_slice();
-    assert_eq!(rt; classes.len(), 2);
-    assert_eq!(rt; (classes[0].priority, classes[0].cost), (7, 1));
-    assert_eq!(rt; (classes[1].priority, classes[1].cost), (0, u128::MAX));
-    assert_eq!(rt;
-        tables.setup.kinds.as_slice(),
-        [Kind::FirstCome, Kind::FirstCome].as_slice()
-    );
-    Ok(())
+    classes.len() == 2
+        && classes[0].priority == 7
+        && classes[0].cost == 1
+        && classes[1].priority == 0
+        && classes[1].cost == u128::MAX
 }
 
-#[test]
-fn a_good_configuration_gives_its_ports_addresses_and_rules(rt: HostRuntime) -> Result<(), Fail> {
-    let Some(tables) = good_tables(rt.alloc())? else {
-        assert!(rt; false, "the configuration is read");
-        return Ok(());
-    };
+/// Its ports, with their files, disciplines and limits.
+fn has_ports(tables: &Tables) -> bool {
     let ports = tables.ports.as_slice();
-    assert_eq!(rt; ports.len(), 2);
-    assert_eq!(rt; ports[1].write.text(), "out1.pcap");
-    assert!(rt;
-        ports[1]
-            .read
-            .as_ref()
-            .is_some_and(|read| read.text() == "in1.pcap")
-    );
+    let kinds = [Kind::FirstCome, Kind::Priority, Kind::Fair, Kind::FirstCome];
+    ports.len() == 4
+        && ports[1].write.text() == "out1.pcap"
+        && match &ports[1].read {
+            Some(read) => read.text() == "in1.pcap",
+            None => false,
+        }
+        && ports[2].read.is_none()
+        && tables.setup.kinds.as_slice() == kinds.as_slice()
+        && tables.limits.as_slice() == [None, Some(7), None, None].as_slice()
+}
+
+/// Its addresses.
+fn has_addresses(tables: &Tables) -> bool {
     let addresses = tables.addresses.as_slice();
-    assert_eq!(rt; addresses.len(), 2);
-    assert_eq!(rt; addresses[1].mac, [2, 0, 0xaa, 0xbb, 0, 1]);
-    assert_eq!(rt; addresses[1].output, 1);
+    addresses.len() == 2 && addresses[1].mac == [2, 0, 0xaa, 0xbb, 0, 1] && addresses[1].output == 1
+}
+
+/// Its rule.
+fn has_rule(tables: &Tables) -> bool {
     let rules = tables.rules.as_slice();
-    assert_eq!(rt; rules.len(), 1);
-    let rule = rules[0];
-    assert_eq!(rt;
-        (rule.input, rule.pcp, rule.ether_type),
-        (Some(1), Some(7), Some(65_535))
-    );
-    assert_eq!(rt; (rule.dscp, rule.class), (Some(63), 1));
-    Ok(())
+    rules.len() == 1
+        && rules[0].input == Some(1)
+        && rules[0].pcp == Some(7)
+        && rules[0].ether_type == Some(65_535)
+        && rules[0].dscp == Some(63)
+        && rules[0].class == 1
 }
 
-#[test]
-fn a_port_has_the_discipline_of_its_name(rt: HostRuntime) -> Result<(), Fail> {
-    let cases: [(&str, Kind); 3] = [
-        ("first-come", Kind::FirstCome),
-        ("priority", Kind::Priority),
-        ("fair", Kind::Fair),
-    ];
-    for (name, kind) in cases {
-        let text = format!(in rt.alloc();
-            "workers = 64\n{TWO_PORTS}[[port]]\nwrite = \"out2.pcap\"\ndiscipline = \"{name}\"\n"
-        )?;
-        let Ok(tables) = read_tables(rt.alloc(), text.as_bytes()) else {
-            assert!(rt; false, "{name} is read");
-            return Ok(());
-        };
-        assert_eq!(rt; tables.workers, 64);
-        assert_eq!(rt;
-            tables.setup.kinds.as_slice(),
-            [Kind::FirstCome, Kind::FirstCome, kind].as_slice(),
-            "{name}"
-        );
+/// Whether that configuration gives all this.
+fn is_good(alloc: Global) -> bool {
+    match read_tables(alloc, GOOD.as_bytes()) {
+        Ok(tables) => {
+            has_figures(&tables)
+                && has_classes(&tables)
+                && has_ports(&tables)
+                && has_addresses(&tables)
+                && has_rule(&tables)
+        }
+        Err(_) => false,
     }
-    Ok(())
+}
+
+/// Whether the configuration of two ports has one worker.
+fn has_one_worker(alloc: Global) -> bool {
+    match read_tables(alloc, TWO_PORTS.as_bytes()) {
+        Ok(tables) => tables.workers == 1,
+        Err(_) => false,
+    }
 }
 
 #[test]
-fn two_ports_may_read_one_file(rt: HostRuntime) -> Result<(), Fail> {
-    let text = TWO_PORTS.replacen(rt.alloc(), "in1.pcap", "in0.pcap", 1)?;
-    let answer = said_of(rt.alloc(), text.as_bytes())?;
-    assert_eq!(rt; answer.as_str(), "ok");
+fn a_good_configuration_gives_its_tables(rt: HostRuntime) -> Result<(), Fail> {
+    assert!(rt; is_good(rt.alloc()));
+    assert!(rt; has_one_worker(rt.alloc()));
     Ok(())
 }

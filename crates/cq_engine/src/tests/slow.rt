@@ -4,7 +4,8 @@
 //! sends, and finds a matching in rounds, in which all inputs ask at once.
 
 use super::Told;
-use cq_base::{Arrivals, InputFigures, OutputFigures};
+use crate::Refused;
+use cq_base::{Arrivals, Cell, InputFigures, OutputFigures};
 use std::alloc::Global;
 use std::test::Fail;
 
@@ -19,6 +20,9 @@ type Waiting = (u128, u64, u16, u16);
 pub(super) struct Slow {
     lists: Vec<Vec<Waiting>>,
     buffers: Vec<Vec<Waiting>>,
+    limits: [Option<u64>; 4],
+    marks: [bool; 4],
+    pub(super) refused: Vec<Refused>,
     pub(super) told: Told,
     pub(super) slots: u64,
     pub(super) proposals: u64,
@@ -34,6 +38,22 @@ fn empty(alloc: Global) -> Result<Vec<Vec<Waiting>>, Fail> {
         queues.push(Vec::new(alloc))?;
     }
     Ok(queues)
+}
+
+/// Nothing was refused yet at the outputs with limits.
+fn none_refused(alloc: Global, limits: &[Option<u64>; 4]) -> Result<Vec<Refused>, Fail> {
+    let mut refused = Vec::new(alloc);
+    for (output, limit) in limits.iter().enumerate() {
+        if let Some(limit) = limit {
+            refused.push(Refused {
+                output: output as u16,
+                limit: *limit,
+                packets: 0,
+                cells: 0,
+            })?;
+        }
+    }
+    Ok(refused)
 }
 
 /// How many cells of the output's buffer are more urgent.
@@ -100,10 +120,17 @@ fn lesser(so_far: Option<u64>, cushion: usize, place: usize) -> Option<u64> {
 
 impl Slow {
     /// A run of these slots. The packet of each cell has the number of the slot of its arrival.
-    pub(super) fn run(alloc: Global, slots: &[Arrivals]) -> Result<Slow, Fail> {
+    pub(super) fn run(
+        alloc: Global,
+        limits: [Option<u64>; 4],
+        slots: &[Arrivals],
+    ) -> Result<Slow, Fail> {
         let mut slow = Slow {
             lists: empty(alloc)?,
             buffers: empty(alloc)?,
+            limits,
+            marks: [false; 4],
+            refused: none_refused(alloc, &limits)?,
             told: Told::nothing(alloc),
             slots: 0,
             proposals: 0,
@@ -121,18 +148,63 @@ impl Slow {
         Ok(slow)
     }
 
+    /// How many cells for the output wait at any input or in its buffer.
+    fn held(&self, output: u16) -> u64 {
+        let waiting = |queue: &Vec<Waiting>| queue.iter().filter(|cell| cell.3 == output).count();
+        let mut held = 0usize;
+        for queue in self.lists.iter() {
+            held = held.wrapping_add(waiting(queue));
+        }
+        for queue in self.buffers.iter() {
+            held = held.wrapping_add(waiting(queue));
+        }
+        held as u64
+    }
+
+    /// Whether the cell is of a packet that is refused: its first cell finds that its output holds as many cells as the
+    /// limit says, or more.
+    fn refuses(&mut self, input: u16, cell: Cell) -> bool {
+        if cell.id.index == 0 {
+            let held = self.held(cell.output);
+            let limit = self.limits.get(cell.output as usize).copied().flatten();
+            if let Some(mark) = self.marks.get_mut(input as usize) {
+                *mark = limit.is_some_and(|limit| held >= limit);
+            }
+        }
+        self.marks.get(input as usize).copied().unwrap_or(false)
+    }
+
+    fn count_refused(&mut self, cell: Cell) {
+        for count in self.refused.iter_mut() {
+            if count.output == cell.output {
+                count.cells = count.cells.wrapping_add(1);
+                count.packets = count.packets.wrapping_add(u64::from(cell.id.index == 0));
+            }
+        }
+    }
+
     fn arrive(&mut self, slot: u64, arrivals: &Arrivals) -> Result<(), Fail> {
         for input in 0..4u16 {
-            if let Some(cell) = arrivals.at(input)
-                && let Some(ranks) = PRIORITIES.get(cell.output as usize)
-                && let Some(rank) = ranks.get(cell.class as usize)
-                && let Some(list) = self.lists.get_mut(input as usize)
-                && let Some(figures) = self.inputs.get_mut(input as usize)
-            {
-                let waiting = (*rank, slot, input, cell.output);
-                insert(list, waiting, cushion(&self.buffers, waiting))?;
-                figures.cells = figures.cells.wrapping_add(1);
+            if let Some(cell) = arrivals.at(input) {
+                if self.refuses(input, cell) {
+                    self.count_refused(cell);
+                } else {
+                    self.admit(slot, input, cell)?;
+                }
             }
+        }
+        Ok(())
+    }
+
+    fn admit(&mut self, slot: u64, input: u16, cell: Cell) -> Result<(), Fail> {
+        if let Some(ranks) = PRIORITIES.get(cell.output as usize)
+            && let Some(rank) = ranks.get(cell.class as usize)
+            && let Some(list) = self.lists.get_mut(input as usize)
+            && let Some(figures) = self.inputs.get_mut(input as usize)
+        {
+            let waiting = (*rank, slot, input, cell.output);
+            insert(list, waiting, cushion(&self.buffers, waiting))?;
+            figures.cells = figures.cells.wrapping_add(1);
         }
         Ok(())
     }

@@ -47,6 +47,62 @@ pub(super) const RUNS: &[Run] = &[
     },
 ];
 
+/// One cell fills output 0.
+const FULL_WITH_ONE: Keys = Keys {
+    first: "",
+    port: "limit = 1\n",
+    last: "",
+};
+
+/// Runs in which output 0 refuses packets.
+const RUNS_WITH_A_LIMIT: &[Run] = &[
+    Run {
+        shows: "the lesser input fills the output, and the packet of the other one is refused",
+        keys: FULL_WITH_ONE,
+        inputs: &[&[(0, 0, 0, 60)], &[(0, 0, 0, 60)]],
+        outputs: &[&[(0, 0, 0, 60)], &[]],
+        trace: "0 0 0 0 0\n",
+        log: "0 1 0 0 0 0\n",
+        report: "slots 1\nproposals 1\nmost 1\n\
+            input 0 cells 1 longest 1 slack 0\n\
+            input 1 cells 0 longest 0 slack -\n\
+            output 0 cells 1 idle 0 wait 0\n\
+            output 1 cells 0 idle 1 wait -\n\
+            limit 0 refused 1 cells 1\n",
+    },
+    Run {
+        shows: "the second cell of a refused packet is refused too, though the output is empty by then",
+        keys: FULL_WITH_ONE,
+        inputs: &[&[(0, 0, 0, 60)], &[(0, 0, 0, 128)]],
+        outputs: &[&[(0, 0, 0, 60)], &[]],
+        trace: "0 0 0 0 0\n",
+        log: "0 1 0 0 0 0\n",
+        report: "slots 1\nproposals 1\nmost 1\n\
+            input 0 cells 1 longest 1 slack 0\n\
+            input 1 cells 0 longest 0 slack -\n\
+            output 0 cells 1 idle 0 wait 0\n\
+            output 1 cells 0 idle 1 wait -\n\
+            limit 0 refused 1 cells 2\n",
+    },
+    Run {
+        shows: "the second cell of an admitted packet fills the output too, and a third packet finds room",
+        keys: FULL_WITH_ONE,
+        inputs: &[
+            &[(0, 0, 0, 128)],
+            &[(0, 0, 0, 60), (0, 512, 0, 60), (0, 1024, 0, 60)],
+        ],
+        outputs: &[&[(0, 512, 0, 128), (0, 1024, 0, 60)], &[]],
+        trace: "0 0 0 0 0\n1 0 0 0 1\n2 0 1 2 0\n",
+        log: "0 1 0 0 0 0\n1 1 0 0 0 1\n2 1 1 0 2 0\n",
+        report: "slots 3\nproposals 3\nmost 1\n\
+            input 0 cells 2 longest 1 slack 0\n\
+            input 1 cells 1 longest 1 slack 0\n\
+            output 0 cells 3 idle 0 wait 0\n\
+            output 1 cells 0 idle 3 wait -\n\
+            limit 0 refused 2 cells 2\n",
+    },
+];
+
 /// Runs by keys of their own.
 const RUNS_BY_KEYS: &[Run] = &[
     Run {
@@ -137,7 +193,7 @@ fn is_crossed<R: Threads + Sync>(
 
 #[test]
 fn both_switches_write_worked_runs_whatever_the_workers(rt: HostRuntime) -> Result<(), Fail> {
-    for run in RUNS.iter().chain(RUNS_BY_KEYS) {
+    for run in RUNS.iter().chain(RUNS_WITH_A_LIMIT).chain(RUNS_BY_KEYS) {
         assert!(rt; run.is_ideal(&rt, rt.alloc())?, "{}", run.shows);
         for workers in [1, 2, 64] {
             assert!(rt; is_crossed(&rt, rt.alloc(), run, workers)?, "{}", run.shows);

@@ -9,10 +9,12 @@ nil_if [] h = refl
 nil_if (x ∷ xs) h = absurd (let e : length (x ∷ xs) ≡ 0 = eqb-true (length (x ∷ xs)) 0 h in omega arith)
 
 pub returns : goal.returns
-returns c _ i =
-    none_at_all c.args.offers.now c.loop-input.input
-    (let many = c.ports-input-end.ensures.value in let end = c.loop-input-test.false in omega arith)
-    c.loop-input.invariant i
+returns c = (
+  λ _. none_at_all c.args.offers.now c.loop-input.input
+      (let many = c.ports-input-end.ensures.value in let end = c.loop-input-test.false in omega arith)
+      c.loop-input.invariant,
+  λ _. refl,
+)
 
 pub loop-input-preserved : goal.loop-input-preserved
 loop-input-preserved c i l =

@@ -9,7 +9,7 @@ pub returns-then-nothing_offered : goal.returns-then-nothing_offered
 returns-then-nothing_offered g c =
     let free : Option ℕ = None in
     let o = c.args.offers.now in
-    let empty = c.nothing_offered.ensures c.if-nothing_offered.true in
+    let empty = c.nothing_offered.ensures.0 c.if-nothing_offered.true in
     let is : c.none.result ≡ replicate (ports o) free =
     c.none.ensures ∙ ap (λ n. replicate n free) c.ports.ensures.value in
     record {

@@ -1,7 +1,8 @@
-use Rattle.std.proofs.Common.{◌≡◌, ℕ, ◌*◌, ◌≤◌, [], ◌∷◌, false, length, map}
+use Rattle.std.proofs.Common.{◌≡◌, ℕ, ◌+◌, ◌*◌, ◌^◌, ◌<◌, ◌≤◌, [], ◌∷◌, false, length, map}
 use Rattle.cq_rank.specs.Switch.{class_count}
+use Rattle.cq_ideal.specs.Limiter.{CanCount}
 use Rattle.cq_laws.specs.Fabric.{input}
-use Rattle.cq_engine.specs.Engine.{held_for}
+use Rattle.cq_laws.specs.Holding.{held_for}
 use Rattle.cq_engine.proofs.tests.run.Given as goal
 
 abbrev pub invariant-slots : goal.invariant-slots
@@ -15,4 +16,5 @@ invariant-slots g l = record {
   lists : (i : ℕ) → length (input l.engine.fabric i) ≤ l.arrivals-index;
   held : (j : ℕ) → held_for j l.engine.fabric ≤ 64 * l.arrivals-index;
   proposals : l.engine.figures.proposals ≤ 32 * l.arrivals-index;
+  counts : (n : ℕ) → n + 64 * l.arrivals-index < 2 ^ 64 → CanCount n l.engine.refused;
 }

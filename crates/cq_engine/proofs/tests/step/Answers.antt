@@ -1,6 +1,7 @@
-use Rattle.std.proofs.Common.{map}
+use Rattle.std.proofs.Common.{ℕ, map, subst, sym}
 use Rattle.std.proofs.lemmas.Result.{on_ok_weaker}
-use Rattle.cq_engine.proofs.Worked.{buffer_room, lists_after, held_after}
+use Rattle.cq_ideal.specs.Limiter.{CanCount}
+use Rattle.cq_engine.proofs.Worked.{buffer_room, counts_after, lists_after, held_after}
 use Rattle.cq_engine.proofs.tests.step.Goals as goal
 
 pub slot-requires-clause-buffer_room : goal.slot-requires-clause-buffer_room
@@ -17,4 +18,13 @@ pub returns-clause-held : goal.returns-clause-held
 returns-clause-held g c =
     on_ok_weaker c.slot.result
     (λ slot_done. held_after (map g.R.Rank.machine c.args.engine.now.fixed) c.next.result c.args.arrivals.now c.args.engine.now c.slot.new.self c.args.sent.now c.slot.new.sent c.args.note.now c.slot.new.note slot_done c.args.engine.now.next c.at-places.ensures.arrivals.places c.requires.held)
+    c.slot.ensures.slot
+
+pub slot-requires-clause-refused : goal.slot-requires-clause-refused
+slot-requires-clause-refused g c = λ _ _. subst (λ (n : ℕ). CanCount n c.args.engine.now.refused) (sym c.requires.ports) c.requires.counts
+
+pub returns-clause-counts : goal.returns-clause-counts
+returns-clause-counts g c =
+    on_ok_weaker c.slot.result
+    (λ slot_done. counts_after (map g.R.Rank.machine c.args.engine.now.fixed) c.next.result c.args.arrivals.now c.args.engine.now c.slot.new.self c.args.sent.now c.slot.new.sent c.args.note.now c.slot.new.note slot_done c.at-places.ensures.arrivals.places)
     c.slot.ensures.slot

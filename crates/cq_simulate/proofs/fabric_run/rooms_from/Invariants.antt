@@ -4,4 +4,5 @@ use Rattle.cq_cells.specs.Traffic.{is_from, number_of}
 use Rattle.cq_simulate.proofs.fabric_run.rooms_from.Given as goal
 
 abbrev pub invariant-inputs : goal.invariant-inputs
-invariant-inputs l = (l.rooms.items ≡ map (λ i. number_of (is_from i) l.schedule.came) (range_with_len 0 l.input)) × ((vec_len l.rooms ≡ l.input) × (vec_capacity l.rooms ≡ l.ports))
+invariant-inputs l = (l.rooms.items ≡ map (λ i. number_of (is_from i) l.schedule.came) (range_with_len 0 l.input)) ×
+    ((vec_len l.rooms ≡ l.input) × (vec_capacity l.rooms ≡ l.ports))

@@ -1,7 +1,7 @@
 use Rattle.std.proofs.Common.{◌≡◌, ℕ, ◌-◌, Ok, length, map, replicate, subst}
 use Rattle.cq_base.specs.Arrivals.{no_arrivals}
-use Rattle.cq_ideal.specs.IdealRun.{ideal_run, nothing_sent}
-use Rattle.cq_simulate.proofs.NoLimits.{plain_rest, rested_without}
+use Rattle.cq_ideal.specs.Ideal.{marked_state}
+use Rattle.cq_ideal.specs.LimitedIdeal.{limited_run, nothing_came}
 use Rattle.cq_simulate.proofs.Stretches.{no_rest}
 use Rattle.cq_simulate.proofs.ideal_run.skip.Goals as goal
 
@@ -13,20 +13,18 @@ returns-then-next-slot-clause-rested g c = no_rest (map g.R.Rank.machine c.args.
 
 pub returns-clause-rested : goal.returns-clause-rested
 returns-clause-rested g c =
-    let next = c.args.ideal.now.next in
-    let slots = c.rest.ensures.slots in
+    let old = c.args.ideal.now in
+    let new = c.rest.new.self in
+    let next = c.quiet_until-next.result in
     record {
-      ran = subst (λ (s : ℕ). ideal_run (map g.R.Rank.machine c.args.ideal.now.fixed) s (replicate
-          (c.quiet_until-next.result - s) no_arrivals) c.args.ideal.now.state ≡ Ok (nothing_sent
-          (c.quiet_until-next.result - s) (length c.args.ideal.now.fixed) c.rest.new.self.state)) c.requires.next
-          (plain_rest (map g.R.Rank.machine c.args.ideal.now.fixed) (c.quiet_until-next.result - next) next (length
-          c.args.ideal.now.fixed) c.args.ideal.now c.rest.new.self c.requires.limits slots);
+      ran = subst (λ (s : ℕ). limited_run old.limits (map g.R.Rank.machine old.fixed) s (replicate (next - s)
+          no_arrivals) (marked_state old) ≡ Ok (nothing_came (next - s) (length old.fixed) (marked_state new)))
+          c.requires.next c.rest.ensures.slots;
       reached = c.rest.ensures.next;
       running = c.rest.ensures.running;
+      lists = c.rest.ensures.lists;
       fixed = c.rest.ensures.fixed;
+      limits = c.rest.ensures.limits;
+      refused = c.rest.ensures.refused;
       rooms = c.rest.ensures.rooms;
     }
-
-pub returns-clause-limits : goal.returns-clause-limits
-returns-clause-limits g c = rested_without c.args.ideal.now c.rest.new.self c.requires.limits c.rest.ensures.limits
-    c.rest.ensures.marks c.rest.ensures.refused c.rest.ensures.fixed

@@ -16,12 +16,16 @@ returns-in_err-port-clause-refused c =
 pub ports-preserved : goal.ports-preserved
 ports-preserved c =
     let small : c.ports.index < length c.args.values.now = omega arith in
-    let kinds : c.push.new.self.items ≡ c.ports.kinds.items ++ c.in_ok-port.port.kind ∷ [] = search rules in
-    let files : c.push-in-ports.new.self.items ≡ c.ports.files.items ++ c.in_ok-port.port.files ∷ [] = search rules in
+    let kinds : c.push-in-ports.new.self.items ≡ c.ports.kinds.items ++ c.in_ok-port.port.kind ∷ [] = search rules in
+    let files : c.push-in-ports-2.new.self.items ≡ c.ports.files.items ++ c.in_ok-port.port.files ∷ [] = search rules in
+    let limits : c.push.new.self.items ≡ c.ports.limits.items ++ c.in_ok-port.port.limit ∷ [] = search rules in
     let told = c.in_ok-port.ensures in
     let v = c.index-values-index.result in (
       rw files (walked_more _ _ _ _ _ _ v c.in_ok-port.port.files small c.index-values-index.is told.held told.files tt c.ports.invariant.0),
-      rw kinds (walked_more _ _ _ _ _ _ v c.in_ok-port.port.kind small c.index-values-index.is told.held told.kind tt c.ports.invariant.1),
+      (
+        rw kinds (walked_more _ _ _ _ _ _ v c.in_ok-port.port.kind small c.index-values-index.is told.held told.kind tt c.ports.invariant.1.0),
+        rw limits (walked_more _ _ _ _ _ _ v c.in_ok-port.port.limit small c.index-values-index.is told.held told.limit told.range c.ports.invariant.1.1),
+      ),
     )
 
 pub returns-clause-held : goal.returns-clause-held

@@ -3,7 +3,7 @@ use Rattle.std.proofs.lemmas.List.{length-map}
 use Rattle.cq_base.specs.declared.cell.Queued.{Queued}
 use Rattle.cq_rank.specs.Switch.{AreForOneSwitch}
 use Rattle.cq_laws.specs.Measures.{no_figures}
-use Rattle.cq_engine.proofs.Begin.{in_step_first}
+use Rattle.cq_engine.proofs.Begin.{running_first}
 use Rattle.cq_engine.proofs.engine.Engine.new.Goals as goal
 
 pub invariant_of-result : goal.invariant_of-result
@@ -14,8 +14,11 @@ invariant_of-result g c =
     let n : length c.args.from_inputs.now ≡ length c.args.ranks.items = c.requires.from_inputs in
     let none : List Queued = [] in (
       record { some = c.requires.some; few = c.requires.few },
-      λ _. in_step_first ms (length c.args.ranks.items) c.of.result.states c.in_ok-new.field-0 c.in_ok-no_figures.field-0 one ports
+      λ _. running_first ms (length c.args.ranks.items) c.of.result.states c.in_ok-new.field-0 c.in_ok-no_figures.field-0 c.in_ok-new-2.field-0 one ports
+          (ap length c.of.ensures.states ∙ length-map c.args.ranks.items g.R.Rank.state)
           (c.in_ok-new.ensures.inputs ∙ ap (λ k. replicate k none) n)
           (c.in_ok-new.ensures.buffers ∙ ap (λ k. replicate k none) n)
-          (c.in_ok-no_figures.ensures ∙ ap no_figures n),
+          (c.in_ok-no_figures.ensures ∙ ap no_figures n)
+          (ap length c.in_ok-new-2.ensures.limits ∙ c.requires.limits)
+          (c.in_ok-new-2.ensures.held ∙ ap (λ k. replicate k 0) c.requires.limits),
     )

@@ -39,7 +39,7 @@ invariant_of-self c =
     let square = arrived_square lists c.self.inside.buffers.items c.args.came.now (ports c.self.inside.offers) c.self.invariant.square fits new (long ∙ value)
     (seen lists c.deref_mut.result.now new c.self.inside.buffers.items c.deref.result.now c.args.came.now c.deref_mut.ensures.value c.deref.ensures.value c.insert_each.ensures.lists) in
     subst (λ (ls : List Waiting). AreOffered ls c.self.inside.buffers.items c.insert_each.new.offers) (sym is)
-    (record { square = subst (AreSquare new c.self.inside.buffers.items) offered square; offered = follows })
+    (record { square = subst (AreSquare new c.self.inside.buffers.items) offered square; offered = follows; rooms = c.self.invariant.rooms })
 
 pub insert_each-requires-clause-come : goal.insert_each-requires-clause-come
 insert_each-requires-clause-come c =

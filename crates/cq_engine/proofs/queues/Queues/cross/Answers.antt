@@ -1,4 +1,5 @@
-use Rattle.std.proofs.Common.{◌≡◌, ◌≤◌, ◌*◌, ℕ, List, length, map, take, drop, ◌++◌, sym, ap, ◌∙◌, subst, arith}
+use Rattle.std.proofs.Common.{◌≡◌, ◌≤◌, ◌*◌, ℕ, List, length, map, take, drop, ◌++◌, sym, ap, ◌∙◌, subst, arith, ◌^◌, ◌<◌}
+use Rattle.std.specs.Prelude.{All}
 use Rattle.std.proofs.lemmas.List.{length-map}
 use Rattle.cq_list.specs.InputList.{Waiting, cells_of}
 use Rattle.cq_urgency.specs.OutputBuffer.{Buffered, cells_in}
@@ -77,7 +78,11 @@ invariant_of-self g c =
     as_offered lists c.self.inside.offers c.self.invariant.offered ∙ sym long ∙ sym (as_offered new c.cross_matched.new.offers follows) in
     subst (λ (ls : List Waiting). AreOffered ls (take c.self.inside.buffers.len (filled ++ drop (length filled) buffers)) c.cross_matched.new.offers) (sym is)
     (subst (λ (bs : List Buffered). AreOffered new bs c.cross_matched.new.offers) (sym are)
-    (record { square = subst (AreSquare new filled) offered square; offered = follows }))
+    (record {
+      square = subst (AreSquare new filled) offered square;
+      offered = follows;
+      rooms = subst (λ (rooms : List ℕ). All (λ room. room < 2 ^ 64) rooms) (sym (crossed_buffer_rooms m lists buffers new filled x.have x.moves x.rooms)) c.self.invariant.rooms;
+    }))
 
 pub returns-clause-best : goal.returns-clause-best
 returns-clause-best g c =

@@ -1,4 +1,5 @@
-use Rattle.std.proofs.Common.{◌≡◌, ℕ, List, length, map, take, drop, ◌++◌, sym, ap, ◌∙◌, subst, arith}
+use Rattle.std.proofs.Common.{◌≡◌, ℕ, List, length, map, take, drop, ◌++◌, sym, ap, ◌∙◌, subst, arith, ◌^◌, ◌<◌}
+use Rattle.std.specs.Prelude.{All}
 use Rattle.std.proofs.lemmas.List.{length-map}
 use Rattle.cq_ideal.specs.IdealSlot.{fronts, rests}
 use Rattle.cq_list.specs.InputList.{Waiting}
@@ -22,6 +23,7 @@ invariant_of-self c =
     (record {
       square = popped_square c.self.inside.lists.items buffers (ports c.self.inside.offers) c.self.invariant.square;
       offered = c.self.invariant.offered;
+      rooms = subst (λ (rooms : List ℕ). All (λ room. room < 2 ^ 64) rooms) (sym (rooms_shown buffers)) c.self.invariant.rooms;
     })
 
 pub returns-clause-gone : goal.returns-clause-gone

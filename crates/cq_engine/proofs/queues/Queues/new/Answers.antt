@@ -1,4 +1,5 @@
-use Rattle.std.proofs.Common.{List, [], length, sym, ap, ◌∙◌}
+use Rattle.std.proofs.Common.{ℕ, ◌^◌, ◌<◌, List, [], length, sym, ap, ◌∙◌, subst}
+use Rattle.std.specs.Prelude.{All}
 use Rattle.std.proofs.lemmas.List.{length-map, length-replicate}
 use Rattle.cq_list.specs.InputList.{Waiting}
 use Rattle.cq_base.specs.declared.cell.Queued.{Queued}
@@ -21,4 +22,5 @@ invariant_of-result c =
     record {
       square = new_square lists buffers (ports c.in_ok-new.field-0) k c.requires.few offered c.in_ok-new_lists.ensures.outputs long as_many;
       offered = c.in_ok-new.ensures ∙ none_offered lists k c.in_ok-new_lists.ensures.cells;
+      rooms = subst (λ (rooms : List ℕ). All (λ room. room < 2 ^ 64) rooms) (sym c.in_ok-new_buffers.ensures.rooms) c.in_ok-new_buffers.ensures.few;
     }

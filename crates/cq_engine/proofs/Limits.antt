@@ -1,0 +1,137 @@
+-- What the outputs of an engine hold. Between two slots these are as many cells as the lists of an ideal switch have with which
+-- the fabric agrees. So the numbers that a limiter keeps are followed through a slot by the lists of that switch: it takes in
+-- the same cells and sends the same, and agrees again.
+use Rattle.std.proofs.Common.{◌≡◌, ◌≢◌, ℕ, ◌+◌, ◌-◌, ◌<◌, Bool, List, [], ◌∷◌, length, map, get_or, drop, Option, Some, None, Ok, refl, sym, ap, ◌∙◌, subst, arith, get_or-set_same, get_or-set_other, length-set}
+use Rattle.std.specs.Prelude.{IfSome, if◌then◌else◌, is_some, slice_get}
+use Rattle.std.proofs.lemmas.List.{ext_get_or, get_or-map, length-map}
+use Rattle.cq_base.specs.declared.cell.Cell.{Cell}
+use Rattle.cq_base.specs.declared.cell.Queued.{Queued}
+use Rattle.cq_rank.specs.Machine.{Machine}
+use Rattle.cq_ideal.specs.Admission.{admission, marked, marks_after}
+use Rattle.cq_ideal.specs.Ideal.{count_for}
+use Rattle.cq_ideal.specs.IdealSlot.{IdealState, Sent, filled, fronts, ideal_sends, ideal_slot, rests}
+use Rattle.cq_ideal.specs.Limiter.{HoldsLists, LimiterView, held_without}
+use Rattle.cq_ideal.specs.Ranking.{Ranking, ranking}
+use Rattle.cq_ideal.proofs.Holding.{holds_filled}
+use Rattle.cq_ideal.proofs.Slot.{by_marks, sent_from}
+use Rattle.cq_ideal.proofs.Spare.{came_for}
+use Rattle.cq_laws.specs.Agreement.{Agrees, SendsAlike}
+use Rattle.cq_laws.specs.Fabric.{Fabric}
+use Rattle.cq_laws.specs.LimitedFabric.{fabric_admission}
+use Rattle.cq_laws.specs.Phases.{came_to}
+use Rattle.cq_laws.proofs.Held.{hold_as_many}
+use Rattle.cq_engine.specs.Engine.{HoldsFabric}
+
+-- what is admitted by these marks is what the fabric admits
+pub admits_are : (l : LimiterView) (f : Fabric) (cells : List (Option Cell)) (marks : List Bool) → HoldsFabric f l →
+    marks ≡ marks_after l.limits l.held l.marks cells →
+    by_marks marks cells ≡ fabric_admission l.limits cells (marked l.marks f)
+unfolding admission
+admits_are l f cells marks holds is =
+    ap (λ (m : List Bool). by_marks m cells)
+    (is ∙ ap (λ (h : List ℕ). marks_after l.limits h l.marks cells) holds.held)
+
+-- ## The lists of an ideal switch that agrees
+
+holds_ideal : (slot : ℕ) (f : Fabric) (ideal : IdealState) (l : LimiterView) → Agrees slot f ideal → HoldsFabric f l →
+    HoldsLists ideal.lists l
+holds_ideal slot f ideal l agrees holds =
+    record { ports = holds.ports ∙ sym agrees.ports; held = holds.held ∙ hold_as_many slot f ideal agrees }
+
+holds_fabric : (slot : ℕ) (f : Fabric) (ideal : IdealState) (l : LimiterView) → Agrees slot f ideal →
+    HoldsLists ideal.lists l → HoldsFabric f l
+holds_fabric slot f ideal l agrees holds =
+    record { ports = holds.ports ∙ agrees.ports; held = holds.held ∙ sym (hold_as_many slot f ideal agrees) }
+
+abbrev pub bit : Option Queued → ℕ
+bit gone = if is_some gone then 1 else 0
+
+one_less : (xs : List Queued) (n : ℕ) → n + bit (slice_get xs 0) ≡ length xs → n ≡ length (drop 1 xs)
+one_less [] n e = omega arith
+one_less (x ∷ xs) n e = omega arith
+
+-- the number of an output that sent a cell, or none, and the numbers of the others
+pub released : (o : Option Queued) (output : ℕ) (held held' : List ℕ) → output < length held →
+    held' ≡ held_without o output held → IfSome o (λ _. 0 < get_or held output 0) →
+    (get_or held' output 0 + bit o ≡ get_or held output 0)
+    × ((j : ℕ) → j ≢ output → get_or held' j 0 ≡ get_or held j 0) × (length held' ≡ length held)
+released None output held held' inside is some =
+    let here = ap (λ (l : List ℕ). get_or l output 0) is in (
+      omega arith,
+      λ j other. ap (λ (l : List ℕ). get_or l j 0) is,
+      ap length is,
+    )
+released (Some q) output held held' inside is some =
+    let less = get_or held output 0 - 1 in
+    let here = ap (λ (l : List ℕ). get_or l output 0) is ∙ get_or-set_same held output less 0 inside in (
+      omega arith,
+      λ j other. ap (λ (l : List ℕ). get_or l j 0) is ∙ get_or-set_other held output j less 0 other,
+      ap length is ∙ length-set held output less,
+    )
+
+-- each output that sent a cell holds one less
+holds_rests : (lists : List (List Queued)) (judged after : LimiterView) → HoldsLists lists judged →
+    after.limits ≡ judged.limits → length after.held ≡ length judged.held →
+    ((j : ℕ) → get_or after.held j 0 + bit (came_to (fronts lists) j) ≡ get_or judged.held j 0) →
+    HoldsLists (rests lists) after
+holds_rests lists judged after holds limits long less =
+    let nil : List Queued = [] in
+    let none : Option Queued = None in
+    let mapped = length-map lists length in
+    let shorter = length-map lists (λ (xs : List Queued). drop 1 xs) in
+    let again = length-map (rests lists) length in
+    let held = ap length holds.held in
+    record {
+      ports = ap length limits ∙ holds.ports ∙ sym shorter;
+      held = ext_get_or 0 after.held (map length (rests lists)) (omega arith)
+          (λ j inside.
+          let within : j < length lists = omega arith in
+          let was : get_or judged.held j 0 ≡ length (get_or lists j nil) =
+          ap (λ (l : List ℕ). get_or l j 0) holds.held ∙ get_or-map length lists j nil 0 within in
+          let front = ap bit (get_or-map (λ (xs : List Queued). slice_get xs 0) lists j nil none within) in
+          let n = less j in
+          one_less (get_or lists j nil) (get_or after.held j 0) (omega arith)
+          ∙ sym (get_or-map length (rests lists) j nil 0 (omega arith)
+          ∙ ap length (get_or-map (λ (xs : List Queued). drop 1 xs) lists j nil nil within)));
+    }
+
+-- what the ideal switch sends and keeps, once its arrivals are ranked
+sends_are : (ms : List Machine) (slot : ℕ) (cells : List (Option Cell)) (ideal : IdealState) (r : Ranking)
+    (gone : List (Option Queued)) (next : IdealState) → ranking ms slot 0 cells ideal.ranks ≡ Ok r →
+    ideal_slot ms slot cells ideal ≡ Ok (record { gone = gone; after = next }) →
+    (fronts (filled r.came ideal.lists) ≡ gone) × (rests (filled r.came ideal.lists) ≡ next.lists)
+unfolding ideal_slot
+sends_are ms slot cells ideal r gone next ranked sent =
+    let had : Sent = sent_from ms (record { lists = filled r.came ideal.lists; ranks = r.ranks }) in
+    let want : Sent = record { gone = gone; after = next } in
+    let both : Ok had ≡ Ok want = sym (ap (ideal_sends ms ideal) ranked) ∙ sent in
+    let same : had ≡ want = cc both in
+    (ap (λ (s : Sent). s.gone) same, ap (λ (s : Sent). s.after.lists) same)
+
+-- ## A slot
+
+module _ (ms : List Machine) (slot : ℕ) (cells : List (Option Cell)) (f g : Fabric) (ideal : IdealState)
+    (came gone : List (Option Queued)) (ranks : List (List ℕ)) (agrees : Agrees slot f ideal)
+    (ranked : ranking ms slot 0 cells f.ranks ≡ Ok (record { came = came; ranks = ranks }))
+    (alike : SendsAlike ms slot cells ideal gone g) (first judged after : LimiterView) (holds : HoldsFabric f first) where
+  full : List (List Queued)
+  full = filled came ideal.lists
+
+  ideally : ranking ms slot 0 cells ideal.ranks ≡ Ok (record { came = came; ranks = ranks })
+  ideally = ap (λ (r : List (List ℕ)). ranking ms slot 0 cells r) (sym agrees.ranks) ∙ ranked
+
+  -- the outputs hold what the fabric has at the end of the slot
+  pub still_holds : judged.limits ≡ first.limits → length judged.held ≡ length first.limits →
+      ((j : ℕ) → j < length first.limits → get_or judged.held j 0 ≡ get_or first.held j 0 + count_for j cells) →
+      after.limits ≡ judged.limits → length after.held ≡ length judged.held →
+      ((j : ℕ) → get_or after.held j 0 + bit (came_to gone j) ≡ get_or judged.held j 0) → HoldsFabric g after
+  unfolding full
+  still_holds limits long more kept as_long less =
+      let sends = sends_are ms slot cells ideal (record { came = came; ranks = ranks }) gone alike.next ideally alike.sent in
+      let now : HoldsLists full judged =
+      holds_filled came cells ideal.lists full first judged (holds_ideal slot f ideal first agrees holds) refl limits long
+      more (came_for ms slot cells f.ranks (record { came = came; ranks = ranks }) ranked) in
+      let left : HoldsLists (rests full) after =
+      holds_rests full judged after now kept as_long
+      (λ j. let e = ap (λ (l : List (Option Queued)). bit (came_to l j)) sends.0 in let n = less j in omega arith) in
+      holds_fabric (slot + 1) g alike.next after alike.agrees (subst (λ (l : List (List Queued)). HoldsLists l after) sends.1 left)

@@ -1,0 +1,15 @@
+use Rattle.std.proofs.Common.{◌≡◌, ℕ, ◌+◌, ◌<◌, ◌≤◌, get_or, length}
+use Rattle.cq_laws.specs.Phases.{came_to}
+use Rattle.cq_engine.proofs.Limits.{bit}
+use Rattle.cq_engine.proofs.depart.release.Given as goal
+
+-- the outputs before this one hold what they sent no longer, and the others are as before
+abbrev pub invariant-outputs : goal.invariant-outputs
+invariant-outputs l = record {
+  done : (j : ℕ) → j < l.output → get_or l.limiter.held j 0 + bit (came_to l.gone j) ≡ get_or l.fn.limiter.held j 0;
+  left : (j : ℕ) → l.output ≤ j → get_or l.limiter.held j 0 ≡ get_or l.fn.limiter.held j 0;
+  ports : length l.limiter.held ≡ length l.fn.limiter.held;
+  marks : l.limiter.marks ≡ l.fn.limiter.marks;
+  refused : l.limiter.refused ≡ l.fn.limiter.refused;
+  limits : l.limiter.limits ≡ l.fn.limiter.limits;
+}

@@ -1,0 +1,11 @@
+use Rattle.std.proofs.Common.{◌≡◌, map}
+use Rattle.cq_ideal.specs.IdealSlot.{all_told}
+use Rattle.cq_engine.proofs.Changed.{changed_to}
+use Rattle.cq_engine.proofs.depart.tell.Given as goal
+
+-- the machines of the outputs before this one have been told
+abbrev pub invariant-outputs : goal.invariant-outputs
+invariant-outputs g l = record {
+  fixed : l.ranks.fixed ≡ l.fn.ranks.fixed;
+  states : l.ranks.states ≡ changed_to (all_told (map g.R.Rank.machine l.fn.ranks.fixed) l.gone l.fn.ranks.states) l.fn.ranks.states l.output;
+}

@@ -1,0 +1,90 @@
+-- A setup's switch can run over what arrives: the machine of each discipline keeps the laws of machines and begins
+-- in a state of its size, and the arrivals rise by input.
+use Rattle.std.proofs.Common.{◌≡◌, ℕ, zero, suc, ◌+◌, ◌<◌, List, [], ◌∷◌, length, get_or, Some, sym, ap, ◌∙◌, subst, arith, refl}
+use Rattle.std.specs.Prelude.{slice_get, slice_index_or}
+use Rattle.std.specs.List.{AllPairs}
+use Rattle.std.proofs.lemmas.List.{get_or-map, length-map, length-replicate}
+use Rattle.std.proofs.lemmas.Option.{get_or_from_slice_get}
+use Rattle.cq_base.specs.Arriving.{Arrival}
+use Rattle.cq_base.specs.declared.setup.ClassRow.{ClassRow}
+use Rattle.cq_base.specs.declared.setup.Kind.{Kind}
+use Rattle.cq_base.specs.declared.setup.Kind.TheVariants.{FirstCome, Priority, Fair}
+use Rattle.cq_base.specs.declared.setup.Setup.{Setup}
+use Rattle.cq_cells.specs.Traffic.{IsInRange, IsLater, IsTraffic}
+use Rattle.cq_ideal.specs.Flows.{IsForSwitch, IsRunnable, RiseByInput}
+use Rattle.cq_ideal.proofs.FlowPut.{all_from}
+use Rattle.cq_rank.specs.Machine.{Machine, KeepsLaws, machine_at, first_come}
+use Rattle.cq_rank.specs.MachineLaws.{first_come_laws, priority_laws}
+use Rattle.cq_rank.specs.Classes.{priorities_of}
+use Rattle.cq_route.specs.Tables.{IsSetup, classes_of, ports_of}
+use Rattle.cq_scfq.specs.Disciplines.{machine_of, opening_of, machines_of, openings_of}
+use Rattle.cq_scfq.specs.Fair.{costs_of}
+use Rattle.cq_scfq.specs.FairLaws.{fair_laws}
+
+-- ## The machines of a setup
+
+machine_laws : (kind : Kind) (rows : List ClassRow) → KeepsLaws (machine_of kind rows)
+machine_laws FirstCome rows = first_come_laws (length rows)
+machine_laws Priority rows = priority_laws (priorities_of rows)
+machine_laws Fair rows = fair_laws (costs_of rows)
+
+opening_size : (kind : Kind) (rows : List ClassRow) → length (opening_of kind rows) ≡ (machine_of kind rows).size
+opening_size FirstCome rows = refl
+opening_size Priority rows = refl
+opening_size Fair rows = length-replicate (length (costs_of rows) + 1) 0
+
+machine_classes : (kind : Kind) (rows : List ClassRow) → (machine_of kind rows).classes ≡ length rows
+machine_classes FirstCome rows = refl
+machine_classes Priority rows = length-map rows (λ (row : ClassRow). row.priority)
+machine_classes Fair rows = length-map rows (λ (row : ClassRow). row.cost)
+
+module _ (setup : Setup) (j : ℕ) (inside : j < length setup.kinds) where
+  abbrev kind : Kind
+  kind = get_or setup.kinds j FirstCome
+
+  machine_is : machine_at (machines_of setup) j ≡ machine_of kind setup.classes
+  machine_is = get_or-map (λ (k : Kind). machine_of k setup.classes) setup.kinds j FirstCome (first_come 0) inside
+
+  opening_is : slice_index_or (openings_of setup) j [] ≡ opening_of kind setup.classes
+  opening_is = get_or-map (λ (k : Kind). opening_of k setup.classes) setup.kinds j FirstCome [] inside
+
+  keeps_laws : KeepsLaws (machine_at (machines_of setup) j)
+  keeps_laws = subst KeepsLaws (sym machine_is) (machine_laws kind setup.classes)
+
+  right_size : length (slice_index_or (openings_of setup) j []) ≡ (machine_at (machines_of setup) j).size
+  right_size =
+      ap (λ (l : List ℕ). length l) opening_is ∙ opening_size kind setup.classes
+      ∙ ap (λ (m : Machine). m.size) (sym machine_is)
+
+  right_classes : (machine_at (machines_of setup) j).classes ≡ length setup.classes
+  right_classes = ap (λ (m : Machine). m.classes) machine_is ∙ machine_classes kind setup.classes
+
+within : (came : List Arrival) (t : ℕ) (b : Arrival) → slice_get came t ≡ Some b → t < length came
+within [] t b at = absurd (let P : ⊥ = cc in P)
+within (a ∷ came) zero b at = omega arith
+within (a ∷ came) (suc t) b at = let rest = within came t b at in omega arith
+
+pub later_rise : (came : List Arrival) → AllPairs IsLater came → RiseByInput came
+later_rise came later s t a b at_s at_t less same =
+    let here : IsLater (get_or came s a) (get_or came t a) = later s t a less (within came t b at_t) in
+    subst (λ (x : Arrival). IsLater x b) (get_or_from_slice_get came s a a at_s)
+    (subst (λ (y : Arrival). IsLater (get_or came s a) y) (get_or_from_slice_get came t b a at_t) here) same
+
+pub runnable : (setup : Setup) (came : List Arrival) → IsSetup setup →
+    IsTraffic (ports_of setup) (classes_of setup) came →
+    IsRunnable (machines_of setup) (ports_of setup) (openings_of setup) came
+runnable setup came is traffic =
+    let few = is.ports in
+    record {
+      machines = λ j inside. keeps_laws setup j inside;
+      ports_are = length-map setup.kinds (λ (k : Kind). opening_of k setup.classes);
+      sizes = λ j inside. right_size setup j inside;
+      for_switch = all_from (IsInRange (ports_of setup) (classes_of setup))
+          (IsForSwitch (machines_of setup) (ports_of setup))
+          (λ a r. record {
+            input = let i = r.input in omega arith;
+            output = r.output;
+            class = let c = r.class in let e = right_classes setup a.cell.output r.output in omega arith;
+          }) came traffic.in_range;
+      rise = later_rise came traffic.one_by_one;
+    }
