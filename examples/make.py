@@ -25,6 +25,13 @@ THREE_PORTS = (
     ((0, 128, 1), (2, 60, 1)),
 )
 
+# For each capture of the burst, all to one output: microseconds, and bytes captured.
+BURST = {
+    "office.pcap": ((0, 60), (2, 60)),
+    "backup.pcap": ((0, 192), (1, 192), (3, 128)),
+    "phone.pcap": ((0, 60), (1, 60), (2, 60), (4, 60)),
+}
+
 # For each capture of the office: microseconds, bytes captured, the destination, and what stands behind the addresses.
 TELEPHONES, SERVERS, EVERYBODY = "020000000001", "020000000002", "ffffffffffff"
 OFFICE = {
@@ -77,6 +84,14 @@ def office():
     write_crossed("office.toml")
 
 
+def burst():
+    os.chdir(os.path.join(HERE, "burst"))
+    for name, packets in BURST.items():
+        with open(name, "wb") as file:
+            file.write(captured(Packet(BEGIN + micros * 1000, length, addressed(0, length)) for micros, length in packets))
+    write_crossed("burst.toml")
+
+
 def one_port():
     packets = [Packet(BEGIN + micros * 1000, original, frame(number, length))
                for number, (micros, length, original) in enumerate(ONE_PORT)]
@@ -93,4 +108,5 @@ if __name__ == "__main__":
     one_port()
     three_ports()
     office()
+    burst()
     lab()

@@ -1,5 +1,5 @@
 #!/usr/bin/env bash
-# Runs every tool over every example, and compares what they print with what is stored in expected/. It says what is missing
+# Runs every tool over some examples, and compares what they print with what is stored in expected/. It says what is missing
 # where matplotlib or GNU parallel is, and ends with status 1 where something differs. It is no part of the gate.
 #
 #   check.sh             compare
