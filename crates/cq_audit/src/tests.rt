@@ -100,6 +100,7 @@ fn one_waits(alloc: Global, input: Port) -> Result<InputList, Fail>
                 len: 64,
             },
             key: Key {
+                level: 0,
                 rank: 0,
                 slot: 0,
                 input,

@@ -25,14 +25,17 @@ decimal_more n h =
     let b : 0 < n / 10 = omega arith in
     decimal_above n a ∙ ap (map (λ d. 48 + d)) (digits_of_step 10 n (lit≤ tt) a) ∙ map-append _ _ _ ∙ ap (λ ys. ys ++ (48 + n % 10) ∷ []) (sym (decimal_above (n / 10) b))
 
-pub length-decimal : (n : ℕ) → n < 2 ^ 128 → length (decimal n) ≤ 39
+-- a number below a power of ten has no more digits than the power says
+pub length-decimal-le : (most n : ℕ) → 1 ≤ most → n < 10 ^ most → length (decimal n) ≤ most
 unfolding decimal
-length-decimal zero h = lit≤ tt
-length-decimal (suc k) h =
+length-decimal-le most zero some below = some
+length-decimal-le most (suc k) some below =
     let a : 0 < suc k = omega arith in
-    let b : suc k < 10 ^ 39 = omega arith in
     let e = ap length (decimal_above (suc k) a) in
-    omega (arith, e, length-map (digits_of 10 (suc k)) (λ d. 48 + d), length-digits_of-le 10 39 (suc k) (lit≤ tt) b)
+    omega (arith, e, length-map (digits_of 10 (suc k)) (λ d. 48 + d), length-digits_of-le 10 most (suc k) (lit≤ tt) below)
+
+pub length-decimal : (n : ℕ) → n < 2 ^ 128 → length (decimal n) ≤ 39
+length-decimal n h = let below : n < 10 ^ 39 = omega arith in length-decimal-le 39 n (lit≤ tt) below
 
 pub length-decimal_more : (n : ℕ) → 10 ≤ n → length (decimal n) ≡ length (decimal (n / 10)) + 1
 length-decimal_more n h = let e = ap length (decimal_more n h) in omega (arith, e, length-append (decimal (n / 10)) ((48 + n % 10) ∷ []))

@@ -1,5 +1,5 @@
 -- The order of keys is a strict total order. Numbers are totally ordered, a comparison by one part and then by another
--- is total where both are, and so the comparison of three parts is. Where it says equal, all three parts are equal, so
+-- is total where both are, and so the comparison of four parts is. Where it says equal, all four parts are equal, so
 -- the keys are the same. The laws then read this comparison through "is less", by its three cases.
 use Rattle.std.proofs.Common.{◌≡◌, ℕ, true, false, refl, ap}
 use Rattle.std.specs.declared.cmp.Ordering.{Ordering}
@@ -12,13 +12,18 @@ use Rattle.cq_base.specs.declared.key.Key.{Key}
 use Rattle.cq_base.specs.Key.{key_cmp, is_before, KeyLaws}
 
 keys_total : IsTotalOrder key_cmp
-keys_total = then_total (on_total (λ k. k.rank) nat_cmp_total) (then_total (on_total (λ k. k.slot) nat_cmp_total) (on_total (λ k. k.input) nat_cmp_total))
+keys_total =
+    then_total (on_total (λ k. k.level) nat_cmp_total)
+    (then_total (on_total (λ k. k.rank) nat_cmp_total)
+    (then_total (on_total (λ k. k.slot) nat_cmp_total) (on_total (λ k. k.input) nat_cmp_total)))
 
 -- keys that compare alike are one
 exact_keys : (a b : Key) → key_cmp a b ≡ Equal → a ≡ b
 exact_keys a b h =
-    ap (λ (p : ℕ × (ℕ × ℕ)). record { rank = p.0; slot = p.1.0; input = p.1.1 })
-    (exact_pairs nat_cmp _ exact_unsigned (exact_pairs nat_cmp nat_cmp exact_unsigned exact_unsigned) (a.rank, (a.slot, a.input)) (b.rank, (b.slot, b.input)) h)
+    ap (λ (p : ℕ × (ℕ × (ℕ × ℕ))). record { level = p.0; rank = p.1.0; slot = p.1.1.0; input = p.1.1.1 })
+    (exact_pairs nat_cmp _ exact_unsigned
+    (exact_pairs nat_cmp _ exact_unsigned (exact_pairs nat_cmp nat_cmp exact_unsigned exact_unsigned))
+    (a.level, (a.rank, (a.slot, a.input))) (b.level, (b.rank, (b.slot, b.input))) h)
 
 -- what is less compares as less
 less_from : (o : Ordering) → is_lt o ≡ true → o ≡ Less

@@ -2,3 +2,4 @@ pub mod Decimals
 pub mod Keys
 pub mod Lists
 pub mod Places
+pub mod Supplies

@@ -1,12 +1,16 @@
--- The order of keys: by rank, then by the slot of arrival, then by input. The lesser key is the more urgent.
+-- The order of keys: by level, then by rank, then by the slot of arrival, then by input. The lesser key is the more
+-- urgent.
 use Rattle.std.specs.Prelude.{◌≡◌, Bool, true, false}
 use Rattle.std.specs.declared.cmp.Ordering.{Ordering}
 use Rattle.std.specs.Ordering.{nat_cmp, ordering_then, is_lt}
 use Rattle.cq_base.specs.declared.key.Key.{Key}
 
--- how the keys compare: where their ranks are the same by their slots, and where these are the same by their inputs
+-- how the keys compare: where their levels are the same by their ranks, where these are the same by their slots, and where
+-- these are the same by their inputs
 abbrev pub key_cmp : Key → Key → Ordering
-key_cmp a b = ordering_then (nat_cmp a.rank b.rank) (ordering_then (nat_cmp a.slot b.slot) (nat_cmp a.input b.input))
+key_cmp a b =
+    ordering_then (nat_cmp a.level b.level)
+    (ordering_then (nat_cmp a.rank b.rank) (ordering_then (nat_cmp a.slot b.slot) (nat_cmp a.input b.input)))
 
 -- the first key is the more urgent
 unfoldable pub is_before : Key → Key → Bool

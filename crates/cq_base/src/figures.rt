@@ -4,7 +4,7 @@ use crate::Sequence;
 /// What was seen of an input.
 #[derive(Clone, Copy, Debug, PartialEq, Eq)]
 pub struct InputFigures {
-    /// How many cells arrived at it.
+    /// How many cells arrived at it and were admitted. A cell that its output refuses is not counted.
     pub cells: u64,
     /// The greatest length of its list after the arrivals of a slot, in cells.
     pub longest: u64,

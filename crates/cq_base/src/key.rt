@@ -7,12 +7,14 @@ ghost use Rattle.cq_base.specs.Key.{KeyLaws, key_cmp};
 
 use crate::{Port, Slot};
 
-/// How urgent a cell is: by its rank, then by the slot of its arrival, then by its input. The lesser
-/// key is the more urgent.
+/// How urgent a cell is: by its level, then by its rank, then by the slot of its arrival, then by its
+/// input. The lesser key is the more urgent.
 ///
 /// One cell at most arrives at an input in a slot, so the keys of different cells differ.
 #[derive(Clone, Copy, Debug, PartialEq, Eq, PartialOrd, Ord)]
 pub struct Key {
+    /// The level of its class.
+    pub level: u8,
     /// The rank that the cell's output gave it.
     pub rank: u128,
     /// The slot in which it arrived.
@@ -21,8 +23,8 @@ pub struct Key {
     pub input: Port,
 }
 
-/// Keys are compared by rank, then slot, then input, and this is a strict total order. It does
-/// nothing: its contract is the claim.
+/// Keys are compared by level, then rank, then slot, then input, and this is a strict total order. It
+/// does nothing: its contract is the claim.
 pub fn keys_are_ordered()
     ensures compared { (a b : Key) → ⟦<Key as Ord>⟧.cmp a b ≡ key_cmp a b }
     ensures laws { KeyLaws }

@@ -1,8 +1,8 @@
 //! The plain types of the switch, on which every other crate stands.
 //!
 //! Ports, slots, cells and keys are plain data. The other types own memory or hide how they are kept,
-//! and contracts see what they mean: `Name` is its bytes, `Sequence` its items, `Room` its items and
-//! the room that is left, and `Arrivals` a map from inputs to cells.
+//! and contracts see what they mean: `Name` is its bytes, `Sequence` its items, `Supply` those that are left,
+//! `Room` its items and the room that is left, and `Arrivals` a map from inputs to cells.
 #![tactic(auto)]
 
 mod arrivals;
@@ -15,6 +15,7 @@ mod room;
 mod sequence;
 mod setup;
 mod status;
+mod supply;
 #[cfg(test)]
 mod tests;
 
@@ -28,3 +29,4 @@ pub use room::Room;
 pub use sequence::Sequence;
 pub use setup::{ClassRow, Kind, Setup};
 pub use status::{NoMemory, Status};
+pub use supply::Supply;

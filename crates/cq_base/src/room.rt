@@ -61,4 +61,12 @@ impl<T: Copy> Room<T> {
     {
         self.list.as_slice()
     }
+
+    /// A vector of the items, in the order in which they were put. It takes no memory.
+    pub fn into_vec(self) -> Vec<T>
+        ensures { result.items ≡ self.items }
+    {
+        let Room { list, spare: _ } = self;
+        list
+    }
 }

@@ -15,6 +15,9 @@ pub enum Kind {
 /// What the disciplines know of a class.
 #[derive(Clone, Copy, Debug, PartialEq, Eq)]
 pub struct ClassRow {
+    /// Its level, 0 to 15. At every output, whatever the discipline, a cell of a lesser level is the more
+    /// urgent.
+    pub level: u8,
     /// The rank of its cells at an output by priority.
     pub priority: u128,
     /// How much later a fair output ranks each further cell of it.

@@ -1,5 +1,5 @@
 //! Values from outside, and the calls that want memory, with ample memory.
-use crate::{Key, MOST_DIGITS, Name, Room, Sequence, Status, digits};
+use crate::{Key, MOST_DIGITS, Name, Room, Sequence, Status, Supply, digits};
 use std::test::Fail;
 
 #[test]
@@ -18,9 +18,20 @@ fn numbers_are_written_in_decimal_digits(rt: HostRuntime) {
 }
 
 #[test]
-fn keys_rise_by_rank_then_slot_then_input(rt: HostRuntime) {
-    let rising = [(0, 9, 9), (1, 0, 9), (1, 1, 0), (1, 1, 1)];
-    let keys = rising.map(|(rank, slot, input)| Key { rank, slot, input });
+fn keys_rise_by_level_then_rank_then_slot_then_input(rt: HostRuntime) {
+    let rising = [
+        (0, 9, 9, 9),
+        (1, 0, 9, 9),
+        (1, 1, 0, 9),
+        (1, 1, 1, 0),
+        (1, 1, 1, 1),
+    ];
+    let keys = rising.map(|(level, rank, slot, input)| Key {
+        level,
+        rank,
+        slot,
+        input,
+    });
     for (urgent, later) in keys.iter().zip(&keys[1..]) {
         assert!(rt; urgent < later, "{urgent:?} comes before {later:?}");
     }
@@ -58,5 +69,20 @@ fn names_and_rooms_are_granted_with_ample_memory(rt: HostRuntime) -> Result<(), 
     let sequence = Sequence::of([8, 5].to_vec(rt.alloc())?);
     assert_eq!(rt; sequence.as_slice(), room.items());
     assert_eq!(rt; sequence.into_vec().as_slice(), [8, 5].as_slice());
+    assert_eq!(rt; room.into_vec().as_slice(), [8, 5].as_slice());
+    Ok(())
+}
+
+#[test]
+fn a_supply_is_used_up_from_its_front(rt: HostRuntime) -> Result<(), Fail> {
+    let mut items = Vec::new(rt.alloc());
+    for item in 0..10_000u64 {
+        items.push(item)?;
+    }
+    let mut supply = Supply::of(items);
+    for item in 0..10_000 {
+        assert_eq!(rt; supply.pop_first(), Some(item));
+    }
+    assert_eq!(rt; supply.pop_first(), None);
     Ok(())
 }

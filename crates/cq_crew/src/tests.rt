@@ -31,6 +31,7 @@ fn waiting(input: Port, output: Port, rank: u16, slot: u16) -> Queued
             len: 64,
         },
         key: Key {
+            level: 0,
             rank: rank as u128,
             slot: slot as u64,
             input,

@@ -31,6 +31,7 @@ fn waiting(input: Port, output: Port, rank: u128, slot: u32) -> Queued
             len: 64,
         },
         key: Key {
+            level: 0,
             rank,
             slot: slot as u64,
             input,

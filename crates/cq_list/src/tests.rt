@@ -27,6 +27,7 @@ fn waiting(output: u16, rank: u128, slot: u32) -> Queued
             len: 64,
         },
         key: Key {
+            level: 0,
             rank,
             slot: slot as u64,
             input: 0,

@@ -25,6 +25,7 @@ fn waiting(rank: u128, slot: u64) -> Queued
             len: 64,
         },
         key: Key {
+            level: 0,
             rank,
             slot,
             input: 0,

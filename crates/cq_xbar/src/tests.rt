@@ -33,6 +33,7 @@ fn waiting(input: Port, output: Port, slot: u32) -> Queued
             len: 64,
         },
         key: Key {
+            level: 0,
             rank: 0,
             slot: slot as u64,
             input,

@@ -1,0 +1,6 @@
+use Rattle.std.proofs.Common.{reverse, ap, ◌∙◌}
+use Rattle.std.proofs.lemmas.List.{reverse-reverse}
+use Rattle.cq_base.proofs.supply.Supply.of.Goals as goal
+
+pub returns : goal.returns
+returns g c = ap reverse c.reverse.ensures.items ∙ reverse-reverse c.args.items.items
