@@ -1,5 +1,6 @@
 //! Worked slots, drawn slots against a plain slow fabric, and the call that wants memory, with ample memory.
 ghost use Rattle.std.specs.Prelude.{◌≡◌, ◌+◌, ◌*◌, ◌^◌, ◌<◌, ◌≤◌, ℕ, [], ◌∷◌, All, IfOk, OnOk, false, is_err, length, map};
+ghost use Rattle.cq_rank.specs.Classes.{rows_of};
 ghost use Rattle.cq_rank.specs.Switch.{class_count};
 ghost use Rattle.cq_ideal.specs.Limiter.{CanCount};
 ghost use Rattle.cq_ideal.specs.Ranking.{AreForPorts};
@@ -15,7 +16,7 @@ use cq_base::{
     TagFault, Transfer,
 };
 use cq_rank::{FirstCome, Priority, Rank};
-use slow::{PRIORITIES, Slow};
+use slow::{LEVELS, PRIORITIES, Slow};
 use std::alloc::Global;
 use std::test::Fail;
 use std::thread::Threads;
@@ -189,6 +190,18 @@ fn worked_slots() -> [Arrivals; 3]
 
 const NO_LIMITS: [Option<u64>; 4] = [None, None, None, None];
 
+// First come, first served, of two classes.
+fn first_come(alloc: Global) -> Result<FirstCome, NoMemory>
+    ensures { IfOk result (λ rank. length (rows_of rank.fixed) ≡ 2) }
+{
+    let class = ClassRow {
+        level: 0,
+        priority: 0,
+        cost: 1,
+    };
+    FirstCome::new(alloc, &[class, class])
+}
+
 // An engine of four first-come outputs on these slots.
 #[tactic(auto, using(crate::proofs::Worked::lists_first, crate::proofs::Worked::held_first))]
 fn worked<T: Threads + Sync>(
@@ -203,10 +216,10 @@ fn worked<T: Threads + Sync>(
     requires few { workers ≤ 64 }
 {
     let ranks = vec![in alloc;
-        FirstCome::new(2),
-        FirstCome::new(2),
-        FirstCome::new(2),
-        FirstCome::new(2),
+        first_come(alloc)?,
+        first_come(alloc)?,
+        first_come(alloc)?,
+        first_come(alloc)?,
     ]?;
     let mut engine = Engine::new(alloc, ranks, &[40; 4], &[2560; 4], &limits, workers)?;
     let told = run(rt, alloc, &mut engine, &slots)?;
@@ -375,16 +388,18 @@ fn drawn_limits(seed: u64) -> [Option<u64>; 4] {
     limits
 }
 
-// A discipline of two classes with these priorities.
-fn by_priority(alloc: Global, priorities: [u128; 2]) -> Result<Priority, NoMemory>
-    ensures { IfOk result (λ rank. length rank.fixed ≡ 2) }
+// A discipline of two classes with these levels, each below 16, and these priorities.
+fn by_priority(alloc: Global, levels: [u8; 2], priorities: [u128; 2]) -> Result<Priority, NoMemory>
+    ensures { IfOk result (λ rank. length (rows_of rank.fixed) ≡ 2) }
 {
     let classes = [
         ClassRow {
+            level: levels[0] % 16,
             priority: priorities[0],
             cost: 1,
         },
         ClassRow {
+            level: levels[1] % 16,
             priority: priorities[1],
             cost: 1,
         },
@@ -407,10 +422,10 @@ fn prioritized<T: Threads + Sync>(
     requires few { workers ≤ 64 }
 {
     let ranks = vec![in alloc;
-        by_priority(alloc, PRIORITIES[0])?,
-        by_priority(alloc, PRIORITIES[1])?,
-        by_priority(alloc, PRIORITIES[2])?,
-        by_priority(alloc, PRIORITIES[3])?,
+        by_priority(alloc, LEVELS[0], PRIORITIES[0])?,
+        by_priority(alloc, LEVELS[1], PRIORITIES[1])?,
+        by_priority(alloc, LEVELS[2], PRIORITIES[2])?,
+        by_priority(alloc, LEVELS[3], PRIORITIES[3])?,
     ]?;
     let mut engine = Engine::new(alloc, ranks, &[40; 4], &[2560; 4], &limits, workers)?;
     let told = run(rt, alloc, &mut engine, slots)?;

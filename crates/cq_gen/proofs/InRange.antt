@@ -30,6 +30,7 @@ tables_in_range ports range =
       setup = record {
         classes = (omega arith, omega arith);
         ports = (omega arith, omega arith);
+        levels = all_counted (λ (row : ClassRow). row.level < 16) soak_class 8 (λ k l. omega arith);
         costs = all_counted (λ (row : ClassRow). 1 ≤ row.cost) soak_class 8 (λ k l. omega arith);
       };
       cell_bytes = (omega arith, omega arith);

@@ -17,7 +17,7 @@ soak_kind output = if output % 3 == 0 then FirstCome else if output % 3 == 1 the
 
 -- the greater a class, the more urgent, and the more it costs
 abbrev pub soak_class : ℕ → ClassRow
-soak_class class = record { priority = 7 - class; cost = 1 + class }
+soak_class class = record { level = 0; priority = 7 - class; cost = 1 + class }
 
 -- eight classes, and a discipline for each port
 abbrev pub soak_setup : ℕ → Setup

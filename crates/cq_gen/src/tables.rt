@@ -50,6 +50,7 @@ fn classes(alloc: Global) -> Result<Vec<ClassRow>, NoMemory>
     let mut rows = Vec::with_capacity(alloc, CLASSES as usize)?;
     'classes: for class in 0..CLASSES {
         rows.push(ClassRow {
+            level: 0,
             priority: u128::from(CLASSES - 1 - class),
             cost: u128::from(1 + class),
         })?;

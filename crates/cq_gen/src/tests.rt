@@ -91,6 +91,7 @@ fn the_switch_has_every_discipline_and_eight_classes(rt: HostRuntime) -> Result<
     assert_eq!(rt;
         classes[0],
         ClassRow {
+            level: 0,
             priority: 7,
             cost: 1
         }
@@ -98,6 +99,7 @@ fn the_switch_has_every_discipline_and_eight_classes(rt: HostRuntime) -> Result<
     assert_eq!(rt;
         classes[7],
         ClassRow {
+            level: 0,
             priority: 0,
             cost: 8
         }

@@ -24,12 +24,12 @@ pub record Came (slot i : ℕ) (cells : List (Option Cell)) (k : ℕ) (q : Queue
   pub input_is : q.key.input ≡ i + k
   pub cell_is : arrival_at cells k ≡ Some q.cell
 
-came_here : (slot i : ℕ) (cell : Cell) (rank : ℕ) (rest : Result Ranking TagFault) (cells : List (Option Cell))
-    (r : Ranking) (q : Queued) → after_input (Some (keyed cell rank slot i)) rest ≡ Ok r →
+came_here : (slot i : ℕ) (cell : Cell) (level rank : ℕ) (rest : Result Ranking TagFault) (cells : List (Option Cell))
+    (r : Ranking) (q : Queued) → after_input (Some (keyed cell level rank slot i)) rest ≡ Ok r →
     get_or r.came 0 None ≡ Some q → Came slot i (Some cell ∷ cells) 0 q
-came_here slot i cell rank rest cells r q h e =
-    let w = after_input_ok (Some (keyed cell rank slot i)) rest r h in
-    let is : keyed cell rank slot i ≡ q = same_Some (keyed cell rank slot i) q
+came_here slot i cell level rank rest cells r q h e =
+    let w = after_input_ok (Some (keyed cell level rank slot i)) rest r h in
+    let is : keyed cell level rank slot i ≡ q = same_Some (keyed cell level rank slot i) q
     (ap (λ (x : Ranking). get_or x.came 0 None) w.2 ∙ e) in
     let input : q.key.input ≡ i = ap (λ (x : Queued). x.key.input) (sym is) in
     record {
@@ -62,7 +62,7 @@ came_from ms slot i (None ∷ cells) ranks r h zero q e =
 came_from ms slot i (None ∷ cells) ranks r h (suc k) q e =
     came_later slot i None None _ cells r k q h e (λ s ok at. came_from ms slot (i + 1) cells ranks s ok k q at)
 came_from ms slot i (Some cell ∷ cells) ranks r h zero q e =
-    came_here slot i cell _ _ cells r q (guarded_ok _ _ _ r h) e
+    came_here slot i cell _ _ _ cells r q (guarded_ok _ _ _ r h) e
 came_from ms slot i (Some cell ∷ cells) ranks r h (suc k) q e =
     came_later slot i _ (Some cell) _ cells r k q (guarded_ok _ _ _ r h) e
     (λ s ok at. came_from ms slot (i + 1) cells _ s ok k q at)

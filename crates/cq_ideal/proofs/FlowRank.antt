@@ -43,7 +43,10 @@ module _ (ms : List Machine) (j slot : ℕ) (laws : KeepsLaws (machine_at ms j))
     pub ports : length new ≡ length old
     pub shows : shown i c ys ≡ shown i c xs ++ of_flow i c j come
 
-  -- the rank that the cell gets, its machine's state after that, and the rank states with this one
+  -- the level of the cell, the rank that it gets, its machine's state after that, and the rank states with this one
+  abbrev level_in : Cell → ℕ
+  level_in cell = (machine_at ms cell.output).level cell.class
+
   abbrev ranked_in : List (List ℕ) → Cell → ℕ
   ranked_in ranks cell = (machine_at ms cell.output).ranked (slice_index_or ranks cell.output []) cell.class
 
@@ -55,7 +58,7 @@ module _ (ms : List Machine) (j slot : ℕ) (laws : KeepsLaws (machine_at ms j))
 
   module _ (cell : Cell) (come : List Cell) (input : ℕ) (ranks : List (List ℕ)) (xs : List Queued) (rest : Ranking) (inside : j < length ranks) (stands : Stands (machine_at ms j) (slice_index_or ranks j []) slot input xs) (go : (xs' : List Queued) → Stands (machine_at ms j) (slice_index_or (given_in ranks cell) j []) slot (input + 1) xs' → Filled come xs' (put_all j rest.came xs') (given_in ranks cell) rest.ranks) where
     new_cell : Queued
-    new_cell = keyed cell (ranked_in ranks cell) slot input
+    new_cell = keyed cell (level_in cell) (ranked_in ranks cell) slot input
 
     FilledByOne : Type 0
     FilledByOne = Filled (cell ∷ come) xs (put_all j (Some new_cell ∷ rest.came) xs) ranks rest.ranks
@@ -81,10 +84,11 @@ module _ (ms : List Machine) (j slot : ℕ) (laws : KeepsLaws (machine_at ms j))
     here e known =
         let state : List ℕ = slice_index_or ranks j [] in
         let ours : is_for j new_cell ≡ true = eq-eqb cell.output j e in
+        let level_is : new_cell.key.level ≡ (machine_at ms j).level cell.class = ap (λ (o : ℕ). (machine_at ms o).level cell.class) e in
         let rank_is : new_cell.key.rank ≡ (machine_at ms j).ranked state cell.class = ap (λ (o : ℕ). (machine_at ms o).ranked (slice_index_or ranks o []) cell.class) e in
         let given : slice_index_or (given_in ranks cell) j [] ≡ (machine_at ms j).given state cell.class =
         ap (λ (o : ℕ). slice_index_or (slice_set ranks o ((machine_at ms o).given (slice_index_or ranks o []) cell.class)) j []) e ∙ get_or-set_same ranks j ((machine_at ms j).given state cell.class) [] inside in
-        let put_in = stands_put (machine_at ms j) laws state slot input xs stands new_cell known rank_is refl refl in
+        let put_in = stands_put (machine_at ms j) laws state slot input xs stands new_cell known level_is rank_is refl refl in
         let f = go (put new_cell xs) (subst (λ (s : List ℕ). Stands (machine_at ms j) s slot (input + 1) (put new_cell xs)) (sym given) put_in) in
         subst (λ (l : List Queued). Filled (cell ∷ come) xs (put_all j rest.came l) ranks rest.ranks) (sym (cond-true (is_for j new_cell) (put new_cell xs) xs ours))
         (record {
@@ -92,7 +96,7 @@ module _ (ms : List Machine) (j slot : ℕ) (laws : KeepsLaws (machine_at ms j))
           ports = f.ports ∙ length-set ranks cell.output (state_given ranks cell);
           shows =
               f.shows
-              ∙ ap (λ l. l ++ of_flow i c j come) (shown-put (machine_at ms j) laws state slot input xs stands new_cell known rank_is refl refl i c j e)
+              ∙ ap (λ l. l ++ of_flow i c j come) (shown-put (machine_at ms j) laws state slot input xs stands new_cell known level_is rank_is refl refl i c j e)
               ∙ append_assoc (shown i c xs) (of_flow i c j (cell ∷ [])) (of_flow i c j come)
               ∙ ap (λ l. shown i c xs ++ l) (of_flow-cons i c j cell come);
         })
@@ -101,10 +105,10 @@ module _ (ms : List Machine) (j slot : ℕ) (laws : KeepsLaws (machine_at ms j))
     of_either are = ⊎_elim (λ e. here e (are e)) (λ ne. elsewhere ne) (cases_eq cell.output j)
 
   -- an input with a cell, and then the inputs after it
-  filled_one : (cell : Cell) (come : List Cell) (input : ℕ) (ranks : List (List ℕ)) (xs : List Queued) (r : Ranking) (fits : Bool) (fault : TagFault) (x : Result Ranking TagFault) → cond fits (after_input (Some (keyed cell (ranked_in ranks cell) slot input)) x) (Err fault) ≡ Ok r → j < length ranks → Stands (machine_at ms j) (slice_index_or ranks j []) slot input xs → (cell.output ≡ j → cell.class < (machine_at ms j).classes) → ((xs' : List Queued) (rest : Ranking) → x ≡ Ok rest → Stands (machine_at ms j) (slice_index_or (given_in ranks cell) j []) slot (input + 1) xs' → Filled come xs' (put_all j rest.came xs') (given_in ranks cell) rest.ranks) → Filled (cell ∷ come) xs (put_all j r.came xs) ranks r.ranks
+  filled_one : (cell : Cell) (come : List Cell) (input : ℕ) (ranks : List (List ℕ)) (xs : List Queued) (r : Ranking) (fits : Bool) (fault : TagFault) (x : Result Ranking TagFault) → cond fits (after_input (Some (keyed cell (level_in cell) (ranked_in ranks cell) slot input)) x) (Err fault) ≡ Ok r → j < length ranks → Stands (machine_at ms j) (slice_index_or ranks j []) slot input xs → (cell.output ≡ j → cell.class < (machine_at ms j).classes) → ((xs' : List Queued) (rest : Ranking) → x ≡ Ok rest → Stands (machine_at ms j) (slice_index_or (given_in ranks cell) j []) slot (input + 1) xs' → Filled come xs' (put_all j rest.came xs') (given_in ranks cell) rest.ranks) → Filled (cell ∷ come) xs (put_all j r.came xs) ranks r.ranks
   unfolding FilledByOne new_cell
   filled_one cell come input ranks xs r fits fault x h inside stands are go =
-      let some : Option Queued = Some (keyed cell (ranked_in ranks cell) slot input) in
+      let some : Option Queued = Some (keyed cell (level_in cell) (ranked_in ranks cell) slot input) in
       after_ok (λ q. Filled (cell ∷ come) xs (put_all j q.came xs) ranks q.ranks) some x r (fits_ok fits (after_input some x) fault r h)
       (λ rest is. of_either cell come input ranks xs rest inside stands (λ xs' s. go xs' rest is s) are)
 

@@ -26,10 +26,10 @@ listed (Some q) = q ∷ []
 stands_sent : (m : Machine) (laws : KeepsLaws m) (state : List ℕ) (slot : ℕ) (ys : List Queued) → Stands m state slot 0 ys → Stands m (told m state (slice_get ys 0)) slot 0 (drop 1 ys)
 stands_sent m laws state slot [] stands = record { size = laws.idle_length state stands.size; order = tt; waited = tt }
 stands_sent m laws state slot (y ∷ ys) stands = record {
-  size = laws.sent_length state y.key.rank stands.size;
+  size = laws.sent_length state y.key.level y.key.rank stands.size;
   order = stands.order.1;
-  waited = all_from (HasWaited m state slot 0) (HasWaited m (m.sent state y.key.rank) slot 0)
-      (λ x w. record { rank = let l = laws.sent_floor state y.key.rank x.cell.class stands.size w.class in let r = w.rank in omega arith; class = w.class; came = w.came; before = w.before })
+  waited = all_from (HasWaited m state slot 0) (HasWaited m (m.sent state y.key.level y.key.rank) slot 0)
+      (λ x w. record { level = w.level; rank = let l = laws.sent_floor state y.key.level y.key.rank x.cell.class stands.size w.class in let r = w.rank in omega arith; class = w.class; came = w.came; before = w.before })
       ys stands.waited.1;
 }
 

@@ -1,8 +1,8 @@
--- What stands in the list of an output while arrivals are put into it. Of each cell that waits its rank is no greater than
--- its class's floor, and it came in an earlier slot, or in this one at an earlier input. A new cell of a class gets a rank
--- no less than the floor, which becomes the floor, and no other class's floor falls. So the new cell is not more urgent
--- than any waiting cell of its class, and it is put behind all of them: of each flow the list shows what it showed before,
--- and then the new cell, if it is of the flow.
+-- What stands in the list of an output while arrivals are put into it. Each cell that waits has its class's level and a rank
+-- no greater than its class's floor, and it came in an earlier slot, or in this one at an earlier input. A new cell of a class
+-- gets a rank no less than the floor, which becomes the floor, and no other class's floor falls. So the new cell is not more
+-- urgent than any waiting cell of its class, and it is put behind all of them: of each flow the list shows what it showed
+-- before, and then the new cell, if it is of the flow.
 use Rattle.std.proofs.Common.{◌≡◌, ℕ, ◌+◌, ◌<◌, ◌≤◌, eqb, ltb, Bool, true, false, cond, List, [], ◌∷◌, ◌++◌, length, map, refl, sym, ap, ◌∙◌, subst, ⊎_elim, arith}
 use Rattle.std.specs.Prelude.{◌&&◌, ◌==◌}
 use Rattle.std.specs.List.{AllByRecursion, filter}
@@ -32,17 +32,25 @@ no_less x y le =
     (λ lt. absurd (let l = ltb-true x y lt in omega arith))
     (λ _. cond_both (eqb x y) Equal Greater (λ o. is_lt o ≡ false) (λ _. refl) (λ _. refl))
 
--- a cell of no greater rank that came no later, and in the same slot at no later input
-no_later_from : (a b : Queued) → a.key.rank ≤ b.key.rank → a.key.slot ≤ b.key.slot → (b.key.slot ≡ a.key.slot → a.key.input ≤ b.key.input) → NoLater a b
+-- a cell of the same level and no greater rank that came no later, and in the same slot at no later input
+no_later_from : (a b : Queued) → a.key.level ≡ b.key.level → a.key.rank ≤ b.key.rank → a.key.slot ≤ b.key.slot →
+    (b.key.slot ≡ a.key.slot → a.key.input ≤ b.key.input) → NoLater a b
 unfolding is_before
-no_later_from a b r s i =
-    no_less_then b.key.rank a.key.rank (ordering_then (nat_cmp b.key.slot a.key.slot) (nat_cmp b.key.input a.key.input)) r
-    (λ _. no_less_then b.key.slot a.key.slot (nat_cmp b.key.input a.key.input) s (λ e. no_less b.key.input a.key.input (i e)))
+no_later_from a b l r s i =
+    no_less_then b.key.level a.key.level
+    (ordering_then (nat_cmp b.key.rank a.key.rank)
+    (ordering_then (nat_cmp b.key.slot a.key.slot) (nat_cmp b.key.input a.key.input)))
+    (omega arith)
+    (λ _. no_less_then b.key.rank a.key.rank
+    (ordering_then (nat_cmp b.key.slot a.key.slot) (nat_cmp b.key.input a.key.input)) r
+    (λ _. no_less_then b.key.slot a.key.slot (nat_cmp b.key.input a.key.input) s
+    (λ e. no_less b.key.input a.key.input (i e))))
 
 -- ## What stands in a list
 
 -- what is known of a waiting cell, in this slot before this input's arrival, where the machine is in this state
 pub record HasWaited (m : Machine) (state : List ℕ) (slot input : ℕ) (x : Queued) : Type 0 where
+  pub level : x.key.level ≡ m.level x.cell.class
   pub rank : x.key.rank ≤ m.floor state x.cell.class
   pub class : x.cell.class < m.classes
   pub came : x.key.slot ≤ slot
@@ -86,7 +94,7 @@ module _ (m : Machine) (laws : KeepsLaws m) (state : List ℕ) (slot input : ℕ
   stands_on = record {
     size = stands.size;
     order = stands.order;
-    waited = all_from (HasWaited m state slot input) (HasWaited m state slot (input + 1)) (λ x w. record { rank = w.rank; class = w.class; came = w.came; before = λ e. let b = w.before e in omega arith }) xs stands.waited;
+    waited = all_from (HasWaited m state slot input) (HasWaited m state slot (input + 1)) (λ x w. record { level = w.level; rank = w.rank; class = w.class; came = w.came; before = λ e. let b = w.before e in omega arith }) xs stands.waited;
   }
 
   -- at the next slot
@@ -94,10 +102,10 @@ module _ (m : Machine) (laws : KeepsLaws m) (state : List ℕ) (slot input : ℕ
   stands_next = record {
     size = stands.size;
     order = stands.order;
-    waited = all_from (HasWaited m state slot input) (HasWaited m state (slot + 1) 0) (λ x w. record { rank = w.rank; class = w.class; came = let s = w.came in omega arith; before = λ e. let s = w.came in absurd (omega arith) }) xs stands.waited;
+    waited = all_from (HasWaited m state slot input) (HasWaited m state (slot + 1) 0) (λ x w. record { level = w.level; rank = w.rank; class = w.class; came = let s = w.came in omega arith; before = λ e. let s = w.came in absurd (omega arith) }) xs stands.waited;
   }
 
-  module _ (n : Queued) (known : n.cell.class < m.classes) (rank_is : n.key.rank ≡ m.ranked state n.cell.class) (slot_is : n.key.slot ≡ slot) (input_is : n.key.input ≡ input) where
+  module _ (n : Queued) (known : n.cell.class < m.classes) (level_is : n.key.level ≡ m.level n.cell.class) (rank_is : n.key.rank ≡ m.ranked state n.cell.class) (slot_is : n.key.slot ≡ slot) (input_is : n.key.input ≡ input) where
     -- no floor falls
     no_lower : (d : ℕ) → d < m.classes → m.floor state d ≤ m.floor (m.given state n.cell.class) d
     no_lower d l =
@@ -115,9 +123,9 @@ module _ (m : Machine) (laws : KeepsLaws m) (state : List ℕ) (slot input : ℕ
       order = in_order_put n xs stands.order;
       waited =
           all_put (HasWaited m (m.given state n.cell.class) slot (input + 1)) n xs
-          (record { rank = let is = laws.given_floor state n.cell.class stands.size known in omega arith; class = known; came = omega arith; before = λ _. omega arith })
+          (record { level = level_is; rank = let is = laws.given_floor state n.cell.class stands.size known in omega arith; class = known; came = omega arith; before = λ _. omega arith })
           (all_from (HasWaited m state slot input) (HasWaited m (m.given state n.cell.class) slot (input + 1))
-          (λ x w. record { rank = let l = no_lower x.cell.class w.class in let r = w.rank in omega arith; class = w.class; came = w.came; before = λ e. let b = w.before e in omega arith })
+          (λ x w. record { level = w.level; rank = let l = no_lower x.cell.class w.class in let r = w.rank in omega arith; class = w.class; came = w.came; before = λ e. let b = w.before e in omega arith })
           xs stands.waited);
     }
 
@@ -127,7 +135,7 @@ module _ (m : Machine) (laws : KeepsLaws m) (state : List ℕ) (slot input : ℕ
         let above : m.floor state n.cell.class ≤ m.ranked state n.cell.class = laws.above state n.cell.class stands.size known in
         let rank : x.key.rank ≤ m.floor state n.cell.class = subst (λ (d : ℕ). x.key.rank ≤ m.floor state d) same w.rank in
         let came : x.key.slot ≤ slot = w.came in
-        no_later_from x n (omega arith) (omega arith) (λ e. let b : x.key.input < input = w.before (sym e ∙ slot_is) in omega arith)
+        no_later_from x n (w.level ∙ ap m.level same ∙ sym level_is) (omega arith) (omega arith) (λ e. let b : x.key.input < input = w.before (sym e ∙ slot_is) in omega arith)
 
     -- each flow's cells are those from before, and then the new one if it is of the flow
     pub shown-put : (i c j : ℕ) → n.cell.output ≡ j → shown i c (put n xs) ≡ shown i c xs ++ of_flow i c j (n.cell ∷ [])

@@ -18,7 +18,7 @@ module _ {R : Type 0} (F S : R → List ℕ) (M : List ℕ → Machine) (items :
 
   machine_seen : machine_at (map M v.fixed) o ≡ M (F r)
   machine_seen =
-      get_or-map M v.fixed o (F r) (first_come 0) inside
+      get_or-map M v.fixed o (F r) (first_come []) inside
       ∙ ap M (ap (λ l. get_or l o (F r)) (sym fixed_is) ∙ get_or-map F items o r (F r) here ∙ ap F (sym is))
 
   state_seen : get_or v.states o [] ≡ S r

@@ -168,7 +168,7 @@ module _ (M : List ℕ → Machine) (first_fixed first_states : List (List ℕ))
       let once : j < length idle = omega arith in
       let inside : j < length first_states = omega arith in
       let machine : machine_at ms j ≡ M (get_or first_fixed j []) =
-      get_or-map M first_fixed j [] (first_come 0) (omega arith) in
+      get_or-map M first_fixed j [] (first_come []) (omega arith) in
       let keeps : KeepsLaws (machine_at ms j) = subst KeepsLaws (sym machine) (laws (get_or first_fixed j [])) in
       idle_at ms ports idle j once
       ∙ ap (machine_at ms j).idle (idle_at ms ports first_states j inside)

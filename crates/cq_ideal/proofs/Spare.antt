@@ -25,12 +25,12 @@ ranked_for ms slot input (Some cell ∷ cells) ranks j =
     let m = machine_at ms cell.output in
     let state = get_or ranks cell.output [] in
     let after : List (List ℕ) = slice_set ranks cell.output (m.given state cell.class) in
-    go (nat_lt (m.ranked state cell.class) (2 ^ 128)) (m.ranked state cell.class) (record { slot = slot; input = input; output = cell.output }) (ranking ms slot (input + 1) cells after) (ranked_for ms slot (input + 1) cells after j)
+    go (nat_lt (m.ranked state cell.class) (2 ^ 128)) (m.level cell.class) (m.ranked state cell.class) (record { slot = slot; input = input; output = cell.output }) (ranking ms slot (input + 1) cells after) (ranked_for ms slot (input + 1) cells after j)
   where
-    go : (b : Bool) (rank : ℕ) (fault : TagFault) (r : Result Ranking TagFault) → IfOk r (λ r. count_to j r.came ≡ count_for j cells) → IfOk (cond b (after_input (Some (keyed cell rank slot input)) r) (Err fault)) (λ r. count_to j r.came ≡ count_for j (Some cell ∷ cells))
-    go true rank fault (Ok r) e = omega arith
-    go true rank fault (Err other) e = tt
-    go false rank fault r e = tt
+    go : (b : Bool) (level rank : ℕ) (fault : TagFault) (r : Result Ranking TagFault) → IfOk r (λ r. count_to j r.came ≡ count_for j cells) → IfOk (cond b (after_input (Some (keyed cell level rank slot input)) r) (Err fault)) (λ r. count_to j r.came ≡ count_for j (Some cell ∷ cells))
+    go true level rank fault (Ok r) e = omega arith
+    go true level rank fault (Err other) e = tt
+    go false level rank fault r e = tt
 
 -- so each output gets as many as came for it
 pub came_for : (ms : List Machine) (slot : ℕ) (cells : List (Option Cell)) (ranks : List (List ℕ)) (r : Ranking) →

@@ -170,7 +170,7 @@ ranked_cells ms slot input (None ∷ cells) ranks r h =
 ranked_cells ms slot input (Some cell ∷ cells) ranks r h =
     let rank = (machine_at ms cell.output).ranked (slice_index_or ranks cell.output []) cell.class in
     let given = slice_set ranks cell.output ((machine_at ms cell.output).given (slice_index_or ranks cell.output []) cell.class) in
-    let q = keyed cell rank slot input in
+    let q = keyed cell ((machine_at ms cell.output).level cell.class) rank slot input in
     let rest = ranking ms slot (input + 1) cells given in
     after_ok (λ r. map cell_here r.came ≡ Some cell ∷ cells) (Some q) rest r
     (fits_ok (nat_lt rank (2 ^ 128)) (after_input (Some q) rest) (record { slot = slot; input = input; output = cell.output }) r h)

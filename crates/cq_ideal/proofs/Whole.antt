@@ -213,7 +213,7 @@ ranked_all ms slot input (Some cell ∷ cells) ranks =
     let m = machine_at ms cell.output in
     let state = get_or ranks cell.output [] in
     let after : List (List ℕ) = slice_set ranks cell.output (m.given state cell.class) in
-    go (nat_lt (m.ranked state cell.class) (2 ^ 128)) (keyed cell (m.ranked state cell.class) slot input) (record { slot = slot; input = input; output = cell.output }) (ranking ms slot (input + 1) cells after) (ranked_all ms slot (input + 1) cells after)
+    go (nat_lt (m.ranked state cell.class) (2 ^ 128)) (keyed cell (m.level cell.class) (m.ranked state cell.class) slot input) (record { slot = slot; input = input; output = cell.output }) (ranking ms slot (input + 1) cells after) (ranked_all ms slot (input + 1) cells after)
   where
     go : (b : Bool) (q : Queued) (fault : TagFault) (r : Result Ranking TagFault) → IfOk r (λ r. cells_in r.came ≡ cells_in cells) → IfOk (cond b (after_input (Some q) r) (Err fault)) (λ r. cells_in r.came ≡ 1 + cells_in cells)
     go true q fault (Ok r) e = omega arith

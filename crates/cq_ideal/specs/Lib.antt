@@ -13,4 +13,5 @@ pub mod Limiter
 pub mod Parts
 pub mod Ranking
 pub mod Refused
+pub mod Refusing
 pub mod WholePackets

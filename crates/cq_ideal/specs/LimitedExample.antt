@@ -2,6 +2,7 @@
 -- are for output 0.
 use Rattle.std.specs.Prelude.{ℕ, Bool, true, false, List, [], ◌∷◌, Option, Some, None}
 use Rattle.cq_base.specs.declared.cell.Cell.{Cell}
+use Rattle.cq_base.specs.declared.setup.ClassRow.{ClassRow}
 use Rattle.cq_rank.specs.Machine.{Machine, first_come}
 use Rattle.cq_ideal.specs.declared.refused.Refused.{Refused}
 use Rattle.cq_ideal.specs.Admission.{Admission}
@@ -47,8 +48,13 @@ admitted_second = cell_of 2 0 1 true
 abbrev pub limit_one : List (Option ℕ)
 limit_one = Some 1 ∷ None ∷ None ∷ []
 
+-- one class, of level 0
+abbrev pub one_class : List ClassRow
+one_class = record { level = 0; priority = 0; cost = 1 } ∷ []
+
+-- the machines of three outputs, each first come, first served
 abbrev pub first_come_all : List Machine
-first_come_all = first_come 1 ∷ first_come 1 ∷ first_come 1 ∷ []
+first_come_all = first_come one_class ∷ first_come one_class ∷ first_come one_class ∷ []
 
 -- what arrives in the four slots
 abbrev pub discard_slots : List (List (Option Cell))
@@ -86,10 +92,10 @@ discard_ran =
     record {
       admissions = discard_admissions;
       gone =
-          (Some (keyed early_packet 0 0 0) ∷ None ∷ None ∷ [])
-          ∷ (Some (keyed admitted_first 0 1 2) ∷ None ∷ None ∷ [])
-          ∷ (Some (keyed next_packet 0 2 1) ∷ None ∷ None ∷ [])
-          ∷ (Some (keyed admitted_second 0 2 2) ∷ None ∷ None ∷ []) ∷ [];
+          (Some (keyed early_packet 0 0 0 0) ∷ None ∷ None ∷ [])
+          ∷ (Some (keyed admitted_first 0 0 1 2) ∷ None ∷ None ∷ [])
+          ∷ (Some (keyed next_packet 0 0 2 1) ∷ None ∷ None ∷ [])
+          ∷ (Some (keyed admitted_second 0 0 2 2) ∷ None ∷ None ∷ []) ∷ [];
       after =
           record {
             state = record { lists = [] ∷ [] ∷ [] ∷ []; ranks = [] ∷ [] ∷ [] ∷ [] };

@@ -41,6 +41,10 @@ list_at lists j = slice_index_or lists j []
 abbrev pub with_cell : Queued → List (List Queued) → List (List Queued)
 with_cell q lists = slice_set lists q.cell.output (put q (list_at lists q.cell.output))
 
+-- the level of the class, as output j's machine knows it
+abbrev pub level_at : List Machine → ℕ → ℕ → ℕ
+level_at ms j class = (machine_at ms j).level class
+
 -- the rank that a cell of the class gets of output j
 abbrev pub rank_at : List Machine → List (List ℕ) → ℕ → ℕ → ℕ
 rank_at ms ranks j class = (machine_at ms j).ranked (slice_index_or ranks j []) class

@@ -17,11 +17,12 @@ after_input came (Ok r) = Ok (record { came = came ∷ r.came; ranks = r.ranks }
 after_input came (Err fault) = Err fault
 
 -- a cell that arrives, with its key
-abbrev pub keyed : Cell → ℕ → ℕ → ℕ → Queued
-keyed cell rank slot input = record { cell = cell; key = record { rank = rank; slot = slot; input = input } }
+abbrev pub keyed : Cell → ℕ → ℕ → ℕ → ℕ → Queued
+keyed cell level rank slot input =
+    record { cell = cell; key = record { level = level; rank = rank; slot = slot; input = input } }
 
--- The cells of a slot are ranked in order of input, here from this input on, each by its output's machine. The first rank
--- that does not fit 128 bits is the tag fault of the slot.
+-- The cells of a slot are ranked in order of input, here from this input on, each by its output's machine, and each has the
+-- level of its class. The first rank that does not fit 128 bits is the tag fault of the slot.
 abbrev pub ranking : List Machine → ℕ → ℕ → List (Option Cell) → List (List ℕ) → Result Ranking TagFault
 ranking ms slot input [] ranks = Ok (record { came = []; ranks = ranks })
 ranking ms slot input (None ∷ cells) ranks = after_input None (ranking ms slot (input + 1) cells ranks)
@@ -30,7 +31,7 @@ ranking ms slot input (Some cell ∷ cells) ranks =
     let state = slice_index_or ranks cell.output [] in
     let rank = m.ranked state cell.class in
     let rest = ranking ms slot (input + 1) cells (slice_set ranks cell.output (m.given state cell.class)) in
-    if nat_lt rank (2 ^ 128) then after_input (Some (keyed cell rank slot input)) rest
+    if nat_lt rank (2 ^ 128) then after_input (Some (keyed cell (m.level cell.class) rank slot input)) rest
     else Err (record { slot = slot; input = input; output = cell.output })
 
 -- each cell that arrives comes to one of the ports, for one of them, and is of one of the classes

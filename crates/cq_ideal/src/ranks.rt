@@ -4,7 +4,7 @@ ghost use Rattle.cq_base.specs.declared.cell.Cell.{Cell};
 ghost use Rattle.cq_rank.specs.Machine.{machine_at, told};
 ghost use Rattle.cq_rank.specs.Switch.{AreForOneSwitch, class_count};
 ghost use Rattle.cq_ideal.specs.Admission.{admitted};
-ghost use Rattle.cq_ideal.specs.Parts.{all_idle, rank_at, given_at};
+ghost use Rattle.cq_ideal.specs.Parts.{all_idle, given_at, level_at, rank_at};
 ghost use Rattle.cq_ideal.specs.Ranking.{AreForPorts, after_input, keyed, ranking};
 
 use crate::limiter::Limiter;
@@ -33,7 +33,7 @@ fn tell<R: Rank>(rank: &mut R, gone: Option<Queued>)
     ensures state { R.state rank.new ≡ told (R.machine (R.fixed rank.old)) (R.state rank.old) gone }
 {
     match gone {
-        Some(queued) => rank.sent(queued.key.rank),
+        Some(queued) => rank.sent(queued.key.level, queued.key.rank),
         None => rank.idle(),
     }
 }
@@ -65,6 +65,15 @@ impl<R: Rank> Ranks<R> {
         self.ranks.len() as Port
     }
 
+    // The level of a cell of the class that arrives for an output.
+    fn level(&self, output: Port, class: Class) -> u8
+        requires output { output < length self.now.fixed }
+        requires class { class < (machine_at (map R.machine self.now.fixed) output).classes }
+        ensures { result ≡ level_at (map R.machine self.now.fixed) output class }
+    {
+        self.ranks[output as usize].level(class)
+    }
+
     // The rank of a cell of the class that arrives for an output, whose machine then knows of it.
     fn rank(&mut self, output: Port, class: Class) -> Result<u128, TagOverflow>
         requires output { output < length self.old.fixed }
@@ -79,17 +88,19 @@ impl<R: Rank> Ranks<R> {
         self.ranks[output as usize].rank(class)
     }
 
-    // A cell arrives for an output. It gets its key by the rank that the output's machine gives it.
+    // A cell arrives for an output. It gets its key by its level and the rank that the output's machine gives it.
     fn keyed(&mut self, slot: Slot, input: Port, cell: Cell) -> Result<Queued, TagFault>
         requires output { cell.output < length self.old.fixed }
         requires class { cell.class < (machine_at (map R.machine self.old.fixed) cell.output).classes }
         ensures fixed { self.new.fixed ≡ self.old.fixed }
-        ensures keyed { IfOk result (λ q. q ≡ keyed cell (rank_at (map R.machine self.old.fixed) self.old.states cell.output cell.class) slot input) }
+        ensures keyed { IfOk result (λ q. q ≡ keyed cell (level_at (map R.machine self.old.fixed) cell.output cell.class)
+            (rank_at (map R.machine self.old.fixed) self.old.states cell.output cell.class) slot input) }
         ensures given { OnOk result (self.new.states ≡ given_at (map R.machine self.old.fixed) self.old.states cell.output cell.class) }
         ensures many { length self.new.states ≡ length self.old.states }
         ensures fault { IfErr result (λ fault. fault ≡ record { slot = slot; input = input; output = cell.output }) }
         ensures overflow { IsErr result ↔ (2 ^ 128 ≤ rank_at (map R.machine self.old.fixed) self.old.states cell.output cell.class) }
     {
+        let level = self.level(cell.output, cell.class);
         match self.rank(cell.output, cell.class) {
             Err(_) => Err(TagFault {
                 slot,
@@ -98,7 +109,12 @@ impl<R: Rank> Ranks<R> {
             }),
             Ok(rank) => Ok(Queued {
                 cell,
-                key: Key { rank, slot, input },
+                key: Key {
+                    level,
+                    rank,
+                    slot,
+                    input,
+                },
             }),
         }
     }

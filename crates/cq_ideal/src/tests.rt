@@ -1,12 +1,13 @@
 //! Worked slots, the tag fault, and the call that wants memory, with ample memory.
-ghost use Rattle.std.specs.Prelude.{◌≡◌, ◌+◌, ◌<◌, ◌≤◌, ℕ, All, OnOk, false, is_err, length, map};
+ghost use Rattle.std.specs.Prelude.{◌≡◌, ◌+◌, ◌<◌, ◌≤◌, ℕ, All, IfOk, OnOk, false, is_err, length, map};
+ghost use Rattle.cq_rank.specs.Classes.{rows_of};
 ghost use Rattle.cq_rank.specs.Switch.{AreForOneSwitch, class_count};
 ghost use Rattle.cq_ideal.specs.Ideal.{spare_at};
 ghost use Rattle.cq_ideal.specs.Limiter.{CanCount};
 ghost use Rattle.cq_ideal.specs.Ranking.{AreForPorts};
 
 use crate::{Ideal, Refused};
-use cq_base::{Arrivals, Cell, CellId, Class, Departure, NoMemory, Port, Room, TagFault};
+use cq_base::{Arrivals, Cell, CellId, Class, ClassRow, Departure, NoMemory, Port, Room, TagFault};
 use cq_rank::{FirstCome, Rank, TagOverflow};
 use std::alloc::Global;
 use std::test::Fail;
@@ -18,27 +19,30 @@ const NO_LIMITS: [Option<u64>; 3] = [None, None, None];
 struct RefusesClassOne;
 
 impl Rank for RefusesClassOne {
-    ghost use Rattle.std.specs.Prelude.{◌^◌, ◌∷◌, []};
-    ghost use Rattle.cq_rank.specs.Machine.{priority};
-    ghost use Rattle.cq_rank.specs.MachineLaws.{priority_laws};
+    ghost use Rattle.std.specs.Prelude.{[]};
+    ghost use Rattle.cq_ideal.specs.Refusing.{refuses_class_one, refuses_class_one_laws};
 
-    ghost fixed = { λ _. 0 ∷ 2 ^ 128 ∷ [] };
+    ghost fixed = { λ _. [] };
 
     ghost state = { λ _. [] };
 
-    ghost machine = { priority };
+    ghost machine = { λ _. refuses_class_one };
 
-    ghost laws = { priority_laws };
+    ghost laws = { λ _. refuses_class_one_laws };
 
     fn classes(&self) -> u16 {
         2
+    }
+
+    fn level(&self, _class: Class) -> u8 {
+        0
     }
 
     fn rank(&mut self, class: Class) -> Result<u128, TagOverflow> {
         if class == 0 { Ok(0) } else { Err(TagOverflow) }
     }
 
-    fn sent(&mut self, _rank: u128) {}
+    fn sent(&mut self, _level: u8, _rank: u128) {}
 
     fn idle(&mut self) {}
 }
@@ -176,9 +180,22 @@ fn departures<R: Rank>(
     what_came(alloc, &ideal, left, None)
 }
 
+// First come, first served, of two classes.
+fn first_come(alloc: Global) -> Result<FirstCome, NoMemory>
+    ensures { IfOk result (λ rank. length (rows_of rank.fixed) ≡ 2) }
+{
+    let class = ClassRow {
+        level: 0,
+        priority: 0,
+        cost: 1,
+    };
+    FirstCome::new(alloc, &[class, class])
+}
+
 #[test]
 fn cells_for_one_output_leave_in_the_order_of_their_inputs(rt: HostRuntime) -> Result<(), Fail> {
-    let ranks = vec![in rt.alloc(); FirstCome::new(2), FirstCome::new(2), FirstCome::new(2)]?;
+    let alloc = rt.alloc();
+    let ranks = vec![in alloc; first_come(alloc)?, first_come(alloc)?, first_come(alloc)?]?;
     let both = and(and(nothing(), 1, 0, 0, 0), 0, 0, 0, 0);
     let ran = departures(rt.alloc(), ranks, NO_LIMITS, [both, nothing(), nothing()])?;
     assert_eq!(rt; ran.left.as_slice(), &[[0, 0, 0, 0], [1, 0, 1, 0]][..]);
@@ -188,7 +205,8 @@ fn cells_for_one_output_leave_in_the_order_of_their_inputs(rt: HostRuntime) -> R
 
 #[test]
 fn a_cell_does_not_wait_for_another_output(rt: HostRuntime) -> Result<(), Fail> {
-    let ranks = vec![in rt.alloc(); FirstCome::new(2), FirstCome::new(2), FirstCome::new(2)]?;
+    let alloc = rt.alloc();
+    let ranks = vec![in alloc; first_come(alloc)?, first_come(alloc)?, first_come(alloc)?]?;
     let all = and(and(and(nothing(), 0, 0, 0, 0), 1, 0, 0, 0), 2, 0, 0, 0);
     let later = and(nothing(), 2, 1, 1, 0);
     let ran = departures(rt.alloc(), ranks, NO_LIMITS, [all, later, nothing()])?;
@@ -215,7 +233,8 @@ fn the_first_input_whose_rank_does_not_fit_stops_the_switch(rt: HostRuntime) -> 
 
 #[test]
 fn a_packet_that_finds_its_output_full_is_refused_whole(rt: HostRuntime) -> Result<(), Fail> {
-    let ranks = vec![in rt.alloc(); FirstCome::new(2), FirstCome::new(2), FirstCome::new(2)]?;
+    let alloc = rt.alloc();
+    let ranks = vec![in alloc; first_come(alloc)?, first_come(alloc)?, first_come(alloc)?]?;
     let first = and(and(nothing(), 0, 0, 0, 0), 1, 0, 0, 0);
     let second = CellId {
         input: 1,
@@ -245,7 +264,7 @@ fn a_packet_that_finds_its_output_full_is_refused_whole(rt: HostRuntime) -> Resu
 
 #[test]
 fn a_new_switch_is_empty_and_runs(rt: HostRuntime) -> Result<(), Fail> {
-    let ranks = vec![in rt.alloc(); FirstCome::new(1)]?;
+    let ranks = vec![in rt.alloc(); first_come(rt.alloc())?]?;
     let ideal = Ideal::new(rt.alloc(), ranks, &[1], &[None])?;
     assert!(rt; ideal.empty());
     assert!(rt; !ideal.stopped());

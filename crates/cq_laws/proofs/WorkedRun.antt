@@ -1,10 +1,10 @@
 -- That the worked records are the run with input-best matchings: in each phase in which a cell crosses, its input and its output
 -- are each other's first, and all other inputs have cells for that output only.
-use Rattle.std.proofs.Common.{◌≡◌, ◌≢◌, ℕ, zero, suc, List, [], ◌∷◌, Some, None, refl, sym, ⊎_elim, arith}
+use Rattle.std.proofs.Common.{◌≡◌, ◌≢◌, ℕ, zero, suc, [], ◌∷◌, Some, None, refl, sym, ⊎_elim, arith}
 use Rattle.std.specs.Prelude.{slice_index_or}
 use Rattle.cq_base.specs.Key.{is_before}
-use Rattle.cq_rank.specs.Machine.{Machine, first_come}
 use Rattle.cq_ideal.specs.IdealSlot.{all_told}
+use Rattle.cq_ideal.specs.LimitedExample.{first_come_all}
 use Rattle.cq_prefs.specs.Orders.{Orders, place_in, inputs_of, IsListed, IsOffered}
 use Rattle.cq_prefs.specs.Pairing.{IsInputBest}
 use Rattle.cq_prefs.specs.FirstCells.{orders_of}
@@ -163,9 +163,6 @@ best3 = pair_best slot1.second 2 0 only3 offers3 first3 refl
 
 -- ## The slots
 
-abbrev worked_machines : List Machine
-worked_machines = first_come 1 ∷ first_come 1 ∷ first_come 1 ∷ []
-
 abbrev after0 : Fabric
 after0 = three [] [] (from_input2 ∷ []) (from_input1 ∷ []) [] []
 
@@ -195,7 +192,7 @@ arrived2 (suc zero) = refl
 arrived2 (suc (suc zero)) = refl
 arrived2 (suc (suc (suc i))) = refl
 
-worked0 : FabricSlot IsInputBest worked_machines 0 (Some (lone_cell 0 0 0) ∷ Some (lone_cell 1 0 0) ∷ Some (lone_cell 2 0 0) ∷ []) none_left slot0 after0
+worked0 : FabricSlot IsInputBest first_come_all 0 (Some (lone_cell 0 0 0) ∷ Some (lone_cell 1 0 0) ∷ Some (lone_cell 2 0 0) ∷ []) none_left slot0 after0
 unfolding all_told
 worked0 =
     record {
@@ -208,7 +205,7 @@ worked0 =
       finish = record { moves = pair_moves slot0.second 1 0 only1 from_input1 slot0.sent.inputs slot0.sent.buffers refl (omega arith) (omega arith); ranks = refl };
     }
 
-worked1 : FabricSlot IsInputBest worked_machines 1 (None ∷ None ∷ Some (lone_cell 2 1 1) ∷ []) after0 slot1 after1
+worked1 : FabricSlot IsInputBest first_come_all 1 (None ∷ None ∷ Some (lone_cell 2 1 1) ∷ []) after0 slot1 after1
 unfolding all_told
 worked1 =
     record {
@@ -221,7 +218,7 @@ worked1 =
       finish = record { moves = pair_moves slot1.second 2 0 only3 from_input2 slot1.sent.inputs slot1.sent.buffers refl (omega arith) (omega arith); ranks = refl };
     }
 
-worked2 : FabricSlot IsInputBest worked_machines 2 (None ∷ None ∷ None ∷ []) after1 slot2 none_left
+worked2 : FabricSlot IsInputBest first_come_all 2 (None ∷ None ∷ None ∷ []) after1 slot2 none_left
 unfolding all_told
 worked2 =
     record {
@@ -234,5 +231,5 @@ worked2 =
       finish = nothing_moves 3 none_left;
     }
 
-pub runs : FabricRun IsInputBest (first_come 1 ∷ first_come 1 ∷ first_come 1 ∷ []) 0 three_slots (empty_fabric 3 three_empty) worked_records (empty_fabric 3 three_empty)
+pub runs : FabricRun IsInputBest first_come_all 0 three_slots (empty_fabric 3 three_empty) worked_records (empty_fabric 3 three_empty)
 runs = (after0, worked0, (after1, worked1, (none_left, worked2, refl)))

@@ -16,19 +16,19 @@ lone_cell input packet output =
 
 -- the cell of input 0, for output 0
 abbrev pub from_input0 : Queued
-from_input0 = keyed (lone_cell 0 0 0) 0 0 0
+from_input0 = keyed (lone_cell 0 0 0) 0 0 0 0
 
 -- the cell of input 1, for output 0
 abbrev pub from_input1 : Queued
-from_input1 = keyed (lone_cell 1 0 0) 0 0 1
+from_input1 = keyed (lone_cell 1 0 0) 0 0 0 1
 
 -- the older cell of input 2, for output 0
 abbrev pub from_input2 : Queued
-from_input2 = keyed (lone_cell 2 0 0) 0 0 2
+from_input2 = keyed (lone_cell 2 0 0) 0 0 0 2
 
 -- the later cell of input 2, for output 1
 abbrev pub for_output1 : Queued
-for_output1 = keyed (lone_cell 2 1 1) 0 1 2
+for_output1 = keyed (lone_cell 2 1 1) 0 0 1 2
 
 -- what arrives in the three slots
 abbrev pub three_slots : List (List (Option Cell))

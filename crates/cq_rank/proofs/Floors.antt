@@ -9,7 +9,7 @@ module _ (m : Machine) (laws : KeepsLaws m) where
   after_length : (steps : List Step) (state : List ℕ) → length state ≡ m.size → AreOfClasses m.classes steps → length (after m steps state) ≡ m.size
   after_length [] state long inside = long
   after_length (Given c ∷ steps) state long inside = after_length steps (m.given state c) (laws.given_length state c long inside.0) inside.1
-  after_length (Sent r ∷ steps) state long inside = after_length steps (m.sent state r) (laws.sent_length state r long) inside
+  after_length (Sent l r ∷ steps) state long inside = after_length steps (m.sent state l r) (laws.sent_length state l r long) inside
 
   -- a rank of any class lowers no floor
   given_floor : (state : List ℕ) (c d : ℕ) → length state ≡ m.size → c < m.classes → d < m.classes → m.floor state d ≤ m.floor (m.given state c) d
@@ -25,9 +25,9 @@ module _ (m : Machine) (laws : KeepsLaws m) where
       let step = given_floor state d c long inside.0 in_c in
       let rest = after_floor steps (m.given state d) c (laws.given_length state d long inside.0) in_c inside.1 in
       omega arith
-  after_floor (Sent r ∷ steps) state c long in_c inside =
-      let step = laws.sent_floor state r c long in_c in
-      let rest = after_floor steps (m.sent state r) c (laws.sent_length state r long) in_c inside in
+  after_floor (Sent l r ∷ steps) state c long in_c inside =
+      let step = laws.sent_floor state l r c long in_c in
+      let rest = after_floor steps (m.sent state l r) c (laws.sent_length state l r long) in_c inside in
       omega arith
 
   pub never_fall : (c : ℕ) (steps : List Step) (state : List ℕ) → length state ≡ m.size → c < m.classes → AreOfClasses m.classes steps → m.ranked state c ≤ m.ranked (after m steps (m.given state c)) c

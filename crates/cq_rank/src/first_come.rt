@@ -1,38 +1,48 @@
 //! First come, first served.
-ghost use Rattle.std.specs.Prelude.{◌≡◌, [], ◌∷◌, IfOk, IsOk, OnOk};
+ghost use Rattle.std.specs.Prelude.{◌≡◌, ◌<◌, ◌≤◌, [], IfOk, IsOk, OnOk, length};
+ghost use Rattle.std.specs.List.{AllByRecursion};
+ghost use Rattle.cq_rank.specs.Classes.{rows_of};
 
-use crate::{Rank, TagOverflow};
-use cq_base::Class;
+use crate::{Classes, Rank, TagOverflow};
+use cq_base::{Class, ClassRow, NoMemory};
+use std::alloc::Global;
 use std::marker::Model;
 
-/// Ranks every cell 0, so that cells leave in the order of arrival, and those of one slot in the order
-/// of their inputs.
+/// Ranks every cell 0, so that the cells of one level leave in the order of arrival, and those of one slot in the
+/// order of their inputs.
 #[derive(Drop)]
 pub struct FirstCome {
-    classes: u16,
+    classes: Classes,
 }
 
 impl Model for FirstCome {
-    ghost use Rattle.std.specs.Prelude.{[], ◌∷◌};
+    ghost use Rattle.std.specs.Prelude.{[]};
+    ghost use Rattle.cq_rank.specs.Classes.{numbers_of};
     ghost use Rattle.cq_rank.specs.Machine.{Ranker};
 
     ghost Value = { Ranker };
 
-    ghost view = { λ r. record { fixed = r.classes ∷ []; state = [] } };
+    ghost view = { λ r. record { fixed = numbers_of r.classes; state = [] } };
 }
 
 impl FirstCome {
-    /// It knows so many classes.
-    pub fn new(classes: u16) -> FirstCome
-        ensures fixed { result.fixed ≡ classes ∷ [] }
-        ensures state { result.state ≡ [] }
+    /// It knows these classes. The error is want of memory.
+    #[tactic(auto, using(crate::specs::Classes::rows_again))]
+    pub fn new(alloc: Global, classes: &[ClassRow]) -> Result<FirstCome, NoMemory>
+        requires some { 0 < length classes.now }
+        requires few { length classes.now ≤ 16 }
+        requires levels { AllByRecursion (λ row. row.level < 16) classes.now }
+        ensures classes { IfOk result (λ r. rows_of r.fixed ≡ classes.now) }
+        ensures state { IfOk result (λ r. r.state ≡ []) }
     {
-        FirstCome { classes }
+        Ok(FirstCome {
+            classes: Classes::of(alloc, classes)?,
+        })
     }
 }
 
+#[tactic(auto, using(crate::specs::Classes::rows_again))]
 impl Rank for FirstCome {
-    ghost use Rattle.std.specs.Prelude.{slice_index};
     ghost use Rattle.cq_rank.specs.Machine.{first_come};
     ghost use Rattle.cq_rank.specs.MachineLaws.{first_come_laws};
 
@@ -40,12 +50,16 @@ impl Rank for FirstCome {
 
     ghost state = { λ r. r.state };
 
-    ghost machine = { λ numbers. first_come (slice_index numbers 0) };
+    ghost machine = { λ numbers. first_come (rows_of numbers) };
 
-    ghost laws = { λ numbers. first_come_laws (slice_index numbers 0) };
+    ghost laws = { λ numbers. first_come_laws (rows_of numbers) };
 
     fn classes(&self) -> u16 {
-        self.classes
+        self.classes.len()
+    }
+
+    fn level(&self, class: Class) -> u8 {
+        self.classes.level(class)
     }
 
     /// It is 0, and never an error.
@@ -58,7 +72,7 @@ impl Rank for FirstCome {
         Ok(0)
     }
 
-    fn sent(&mut self, _rank: u128) {}
+    fn sent(&mut self, _level: u8, _rank: u128) {}
 
     fn idle(&mut self) {}
 }

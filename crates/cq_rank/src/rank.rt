@@ -25,6 +25,13 @@ pub trait Rank: Drop {
         ensures classes { result ≡ (machine (fixed self.now)).classes }
         ensures sized { length (state self.now) ≡ (machine (fixed self.now)).size };
 
+    /// The level of a cell of the class, which is below 16. It comes before the rank: at every output a cell of a lesser
+    /// level is the more urgent.
+    fn level(&self, class: Class) -> u8
+        requires { class < (machine (fixed self.now)).classes }
+        ensures level { result ≡ (machine (fixed self.now)).level class }
+        ensures few { result < 16 };
+
     /// The rank of a cell of the class that arrives, which the state then knows of. The error, which
     /// leaves the state as before, is a rank of 2^128 or more.
     fn rank(&mut self, class: Class) -> Result<u128, TagOverflow>
@@ -35,10 +42,10 @@ pub trait Rank: Drop {
         ensures overflow { IsErr result ↔ (2 ^ 128 ≤ (machine (fixed self.old)).ranked (state self.old) class) }
         ensures refused { OnErr result (state self.new ≡ state self.old) };
 
-    /// The output sent a cell of this rank in the slot that ends.
-    fn sent(&mut self, rank: u128)
+    /// The output sent a cell of this level and this rank in the slot that ends.
+    fn sent(&mut self, level: u8, rank: u128)
         ensures fixed { fixed self.new ≡ fixed self.old }
-        ensures state { state self.new ≡ (machine (fixed self.old)).sent (state self.old) rank };
+        ensures state { state self.new ≡ (machine (fixed self.old)).sent (state self.old) level rank };
 
     /// The output sent nothing in the slot that ends.
     fn idle(&mut self)

@@ -7,7 +7,7 @@ use Rattle.cq_route.specs.declared.tables.Tables.{Tables}
 
 -- one class, and an output that sends in the order of arrival
 abbrev pub plain_setup : Setup
-plain_setup = record { classes = (record { priority = 0; cost = 1 }) ∷ []; kinds = FirstCome ∷ [] }
+plain_setup = record { classes = (record { level = 0; priority = 0; cost = 1 }) ∷ []; kinds = FirstCome ∷ [] }
 
 -- the port reads one file and writes the other
 abbrev pub plain_ports : List ℕ → List ℕ → List PortRow

@@ -13,10 +13,11 @@ classes_of setup = length setup.classes
 abbrev pub ports_of : Setup → ℕ
 ports_of setup = length setup.kinds
 
--- 1 to 16 classes and 1 to 64 ports, and the cells of each class cost something
+-- 1 to 16 classes and 1 to 64 ports, each class has a level below 16, and its cells cost something
 pub record IsSetup (setup : Setup) : Type 0 where
   pub classes : IsInRange 1 16 (classes_of setup)
   pub ports : IsInRange 1 64 (ports_of setup)
+  pub levels : All (λ row. row.level < 16) setup.classes
   pub costs : All (λ row. 1 ≤ row.cost) setup.classes
 
 -- one limit for each of so many ports, which is at least 1 where there is one

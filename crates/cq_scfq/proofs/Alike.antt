@@ -12,8 +12,8 @@ use Rattle.cq_scfq.specs.Disciplines.{machine_of, machines_of}
 
 classes_of : (kind : Kind) (rows : List ClassRow) → (machine_of kind rows).classes ≡ length rows
 classes_of FirstCome rows = refl
-classes_of Priority rows = length-map rows (λ (row : ClassRow). row.priority)
-classes_of Fair rows = length-map rows (λ (row : ClassRow). row.cost)
+classes_of Priority rows = refl
+classes_of Fair rows = refl
 
 all_of : (rows : List ClassRow) (n : ℕ) (kinds : List Kind) → n ≡ length rows → AllByRecursion (λ (m : Machine). m.classes ≡ n) (map (λ kind. machine_of kind rows) kinds)
 all_of rows n [] e = tt

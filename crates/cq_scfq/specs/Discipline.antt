@@ -1,7 +1,8 @@
 -- What clauses see of a discipline: its fixed numbers, with its kind in front, and the state of its machine.
-use Rattle.std.specs.Prelude.{ℕ, zero, suc, List, [], ◌∷◌, slice_index}
+use Rattle.std.specs.Prelude.{ℕ, zero, suc, List, [], ◌∷◌}
 use Rattle.cq_scfq.specs.declared.discipline.Discipline.{Discipline}
 use Rattle.cq_scfq.specs.declared.discipline.Discipline.TheVariants.{FirstCome, Priority, Fair}
+use Rattle.cq_rank.specs.Classes.{rows_of}
 use Rattle.cq_rank.specs.Machine.{Machine, KeepsLaws, first_come, priority}
 use Rattle.cq_rank.specs.MachineLaws.{first_come_laws, priority_laws}
 use Rattle.cq_scfq.specs.Fair.{fair}
@@ -21,14 +22,14 @@ state_of (Fair r) = r.state
 
 -- the machine that its fixed numbers give
 abbrev pub machine_from : List ℕ → Machine
-machine_from [] = first_come 0
-machine_from (zero ∷ numbers) = first_come (slice_index numbers 0)
-machine_from (suc zero ∷ numbers) = priority numbers
-machine_from (suc (suc kind) ∷ numbers) = fair numbers
+machine_from [] = first_come []
+machine_from (zero ∷ numbers) = first_come (rows_of numbers)
+machine_from (suc zero ∷ numbers) = priority (rows_of numbers)
+machine_from (suc (suc kind) ∷ numbers) = fair (rows_of numbers)
 
 -- the machine that the numbers give keeps the laws, whichever numbers they are
 pub machine_laws : (numbers : List ℕ) → KeepsLaws (machine_from numbers)
-machine_laws [] = first_come_laws 0
-machine_laws (zero ∷ numbers) = first_come_laws (slice_index numbers 0)
-machine_laws (suc zero ∷ numbers) = priority_laws numbers
-machine_laws (suc (suc kind) ∷ numbers) = fair_laws numbers
+machine_laws [] = first_come_laws []
+machine_laws (zero ∷ numbers) = first_come_laws (rows_of numbers)
+machine_laws (suc zero ∷ numbers) = priority_laws (rows_of numbers)
+machine_laws (suc (suc kind) ∷ numbers) = fair_laws (rows_of numbers)

@@ -45,7 +45,7 @@ impl Discipline {
         ensures state { IfOk result (λ one. state_of one ≡ opening_of kind classes.now) }
     {
         match kind {
-            Kind::FirstCome => Ok(Discipline::FirstCome(FirstCome::new(classes.len() as u16))),
+            Kind::FirstCome => Ok(Discipline::FirstCome(FirstCome::new(alloc, classes)?)),
             Kind::Priority => Ok(Discipline::Priority(Priority::new(alloc, classes)?)),
             Kind::Fair => Ok(Discipline::Fair(Fair::new(alloc, classes)?)),
         }
@@ -71,6 +71,14 @@ impl Rank for Discipline {
         }
     }
 
+    fn level(&self, class: Class) -> u8 {
+        match self {
+            Discipline::FirstCome(rank) => rank.level(class),
+            Discipline::Priority(rank) => rank.level(class),
+            Discipline::Fair(rank) => rank.level(class),
+        }
+    }
+
     fn rank(&mut self, class: Class) -> Result<u128, TagOverflow> {
         match self {
             Discipline::FirstCome(rank) => rank.rank(class),
@@ -79,11 +87,11 @@ impl Rank for Discipline {
         }
     }
 
-    fn sent(&mut self, rank: u128) {
+    fn sent(&mut self, level: u8, rank: u128) {
         match self {
-            Discipline::FirstCome(machine) => machine.sent(rank),
-            Discipline::Priority(machine) => machine.sent(rank),
-            Discipline::Fair(machine) => machine.sent(rank),
+            Discipline::FirstCome(machine) => machine.sent(level, rank),
+            Discipline::Priority(machine) => machine.sent(level, rank),
+            Discipline::Fair(machine) => machine.sent(level, rank),
         }
     }
 

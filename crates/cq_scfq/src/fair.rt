@@ -1,56 +1,62 @@
 //! Self-clocked fair queueing.
-ghost use Rattle.std.specs.Prelude.{◌≡◌, IfOk};
-ghost use Rattle.cq_rank.specs.Classes.{AreClasses};
-ghost use Rattle.cq_scfq.specs.Fair.{costs_of, all_zero};
+ghost use Rattle.std.specs.Prelude.{◌≡◌, ◌+◌, IfOk, length};
+ghost use Rattle.cq_rank.specs.Classes.{AreClasses, rows_of};
+ghost use Rattle.cq_scfq.specs.Fair.{all_zero};
 
 use cq_base::{Class, ClassRow, NoMemory};
-use cq_rank::{Rank, TagOverflow};
+use cq_rank::{Classes, LEVELS, Rank, TagOverflow};
 use std::alloc::Global;
 use std::marker::Model;
 
 /// Ranks cells by self-clocked fair queueing (Golestani 1994). Each class has a tag, the rank that its
-/// last cell got, and the output has a virtual time, the rank of the cell that it sent last. A cell gets the
-/// greater of its class's tag and the virtual time, and the cost of its class on top. So a class of twice
-/// the cost gets half as many cells through, where both always have cells waiting.
+/// last cell got, and each level has a virtual time, the rank of the cell of this level that the output sent last. A
+/// cell gets the greater of its class's tag and its level's virtual time, and the cost of its class on top. So of two
+/// classes of one level, the one of twice the cost gets half as many cells through, where both always have cells
+/// waiting.
 ///
-/// An idle slot sets the tags and the virtual time to 0.
+/// An idle slot sets the tags and the virtual times to 0.
 #[derive(Drop)]
 pub struct Fair {
-    costs: Vec<u128>,
-    tags: Vec<u128>,
-    time: u128,
+    classes: Classes,
+    // the tags of the classes in order, and behind them the virtual times of the levels
+    numbers: Vec<u128>,
 }
 
 impl Model for Fair {
-    ghost use Rattle.std.specs.Prelude.{◌≡◌, ◌≤◌, ◌∷◌, ◌++◌, [], vec_len};
+    ghost use Rattle.std.specs.Prelude.{◌≡◌, ◌+◌, length, vec_len};
+    ghost use Rattle.cq_rank.specs.Classes.{numbers_of};
     ghost use Rattle.cq_rank.specs.Machine.{Ranker};
 
     ghost Value = { Ranker };
 
-    ghost view = { λ r. record { fixed = r.costs.items; state = r.tags.items ++ r.time ∷ [] } };
+    ghost view = { λ r. record { fixed = numbers_of r.classes; state = r.numbers.items } };
 
-    ghost invariant = { λ r. (vec_len r.costs ≤ 16) × (vec_len r.tags ≡ vec_len r.costs) };
+    ghost invariant = { λ r. vec_len r.numbers ≡ length r.classes + 16 };
 }
 
 impl Fair {
-    /// It knows these classes, and keeps their costs. All tags and the virtual time are 0. The error is want
-    /// of memory.
+    /// It knows these classes. All tags and virtual times are 0. The error is want of memory.
+    #[tactic(auto, using(cq_rank::specs::Classes::rows_again))]
     pub fn new(alloc: Global, classes: &[ClassRow]) -> Result<Fair, NoMemory>
         requires { AreClasses classes.now }
-        ensures fixed { IfOk result (λ r. r.fixed ≡ costs_of classes.now) }
-        ensures state { IfOk result (λ r. r.state ≡ all_zero (costs_of classes.now)) }
+        ensures classes { IfOk result (λ r. rows_of r.fixed ≡ classes.now) }
+        ensures state { IfOk result (λ r. r.state ≡ all_zero classes.now) }
     {
-        let costs: Vec<u128> = classes.iter().map(|class| class.cost).collect(alloc)?;
-        let mut tags = Vec::new(alloc);
-        tags.resize(costs.len(), 0)?;
-        Ok(Fair {
-            costs,
-            tags,
-            time: 0,
-        })
+        let classes = Classes::of(alloc, classes)?;
+        let mut numbers = Vec::new(alloc);
+        numbers.resize(classes.len() as usize + LEVELS, 0)?;
+        Ok(Fair { classes, numbers })
     }
 }
 
+// The place of a level's virtual time, behind the tags of these classes.
+fn time_place(classes: &Classes, level: u8) -> usize
+    ensures { result ≡ length classes.now + level }
+{
+    classes.len() as usize + level as usize
+}
+
+#[tactic(auto, using(cq_rank::specs::Classes::rows_again))]
 impl Rank for Fair {
     ghost use Rattle.cq_scfq.specs.Fair.{fair};
     ghost use Rattle.cq_scfq.specs.FairLaws.{fair_laws};
@@ -59,31 +65,39 @@ impl Rank for Fair {
 
     ghost state = { λ r. r.state };
 
-    ghost machine = { λ numbers. fair numbers };
+    ghost machine = { λ numbers. fair (rows_of numbers) };
 
-    ghost laws = { λ numbers. fair_laws numbers };
+    ghost laws = { λ numbers. fair_laws (rows_of numbers) };
 
     fn classes(&self) -> u16 {
-        self.costs.len() as u16
+        self.classes.len()
+    }
+
+    fn level(&self, class: Class) -> u8 {
+        self.classes.level(class)
     }
 
     fn rank(&mut self, class: Class) -> Result<u128, TagOverflow> {
-        let from = self.tags[class as usize].max(self.time);
-        match from.checked_add(self.costs[class as usize]) {
+        let place = time_place(&self.classes, self.classes.level(class));
+        let from = self.numbers[class as usize].max(self.numbers[place]);
+        match from.checked_add(self.classes.cost(class)) {
             None => Err(TagOverflow),
             Some(rank) => {
-                self.tags[class as usize] = rank;
+                self.numbers[class as usize] = rank;
                 Ok(rank)
             }
         }
     }
 
-    fn sent(&mut self, rank: u128) {
-        self.time = rank;
+    // No number stands at the place of what is no level, and then none changes.
+    fn sent(&mut self, level: u8, rank: u128) {
+        let place = time_place(&self.classes, level);
+        if place < self.numbers.len() {
+            self.numbers[place] = rank;
+        }
     }
 
     fn idle(&mut self) {
-        self.tags.fill(0);
-        self.time = 0;
+        self.numbers.fill(0);
     }
 }

@@ -17,10 +17,12 @@ fn rank_of<R: Rank>(machine: &mut R, class: u16) -> Option<u128> {
 fn a_cell_is_ranked_behind_its_class_and_the_virtual_time(rt: HostRuntime) -> Result<(), Fail> {
     let classes = [
         ClassRow {
+            level: 0,
             priority: 0,
             cost: 1,
         },
         ClassRow {
+            level: 0,
             priority: 0,
             cost: 2,
         },
@@ -28,10 +30,10 @@ fn a_cell_is_ranked_behind_its_class_and_the_virtual_time(rt: HostRuntime) -> Re
     let mut fair = Fair::new(rt.alloc(), &classes)?;
     assert_eq!(rt; rank_of(&mut fair, 0), Some(1));
     assert_eq!(rt; rank_of(&mut fair, 1), Some(2));
-    fair.sent(1);
+    fair.sent(0, 1);
     assert_eq!(rt; rank_of(&mut fair, 0), Some(2));
-    fair.sent(2);
-    fair.sent(2);
+    fair.sent(0, 2);
+    fair.sent(0, 2);
     assert_eq!(rt; rank_of(&mut fair, 1), Some(4));
     fair.idle();
     assert_eq!(rt; rank_of(&mut fair, 0), Some(1));
@@ -39,14 +41,38 @@ fn a_cell_is_ranked_behind_its_class_and_the_virtual_time(rt: HostRuntime) -> Re
 }
 
 #[test]
+fn each_level_has_its_own_virtual_time(rt: HostRuntime) -> Result<(), Fail> {
+    let classes = [
+        ClassRow {
+            level: 1,
+            priority: 0,
+            cost: 5,
+        },
+        ClassRow {
+            level: 0,
+            priority: 0,
+            cost: 100,
+        },
+    ];
+    let mut fair = Fair::new(rt.alloc(), &classes)?;
+    assert_eq!(rt; rank_of(&mut fair, 1), Some(100));
+    fair.sent(0, 100);
+    assert_eq!(rt; rank_of(&mut fair, 0), Some(5));
+    fair.sent(1, 5);
+    assert_eq!(rt; rank_of(&mut fair, 1), Some(200));
+    Ok(())
+}
+
+#[test]
 fn a_rank_does_not_fit_until_the_output_was_idle(rt: HostRuntime) -> Result<(), Fail> {
     let classes = [ClassRow {
+        level: 0,
         priority: 0,
         cost: u128::MAX,
     }];
     let mut fair = Fair::new(rt.alloc(), &classes)?;
     assert_eq!(rt; rank_of(&mut fair, 0), Some(u128::MAX));
-    fair.sent(u128::MAX);
+    fair.sent(0, u128::MAX);
     assert_eq!(rt; rank_of(&mut fair, 0), None);
     assert_eq!(rt; rank_of(&mut fair, 0), None);
     fair.idle();
@@ -58,6 +84,7 @@ fn a_rank_does_not_fit_until_the_output_was_idle(rt: HostRuntime) -> Result<(), 
 fn each_port_ranks_by_its_own_discipline(rt: HostRuntime) -> Result<(), Fail> {
     let classes = vec![in rt.alloc();
         ClassRow {
+            level: 0,
             priority: 9,
             cost: 5
         },
@@ -72,7 +99,7 @@ fn each_port_ranks_by_its_own_discipline(rt: HostRuntime) -> Result<(), Fail> {
     let mut after_idle = Vec::new(rt.alloc());
     for machine in all.iter_mut() {
         first.push(rank_of(machine, 0))?;
-        machine.sent(5);
+        machine.sent(0, 5);
         first.push(rank_of(machine, 0))?;
         machine.idle();
         after_idle.push(rank_of(machine, 0))?;

@@ -9,11 +9,14 @@ use cq_base::{Arrivals, Cell, InputFigures, OutputFigures};
 use std::alloc::Global;
 use std::test::Fail;
 
-/// Per output the ranks of the two classes: outputs 0 and 2 send in the order of arrival.
+/// Per output the ranks of the two classes: outputs 0 and 2 send those of one level in the order of arrival.
 pub(super) const PRIORITIES: [[u128; 2]; 4] = [[0, 0], [3, 1], [7, 7], [0, 9]];
 
-/// Its rank, the slot of its arrival, its input, and its output. So cells compare as their keys do.
-type Waiting = (u128, u64, u16, u16);
+/// Per output the levels of the two classes.
+pub(super) const LEVELS: [[u8; 2]; 4] = [[0, 0], [0, 0], [1, 0], [1, 0]];
+
+/// Its level, its rank, the slot of its arrival, its input, and its output. So cells compare as their keys do.
+type Waiting = (u8, u128, u64, u16, u16);
 
 /// The lists, the buffers, and what is told and seen of a run.
 #[derive(Drop)]
@@ -58,7 +61,7 @@ fn none_refused(alloc: Global, limits: &[Option<u64>; 4]) -> Result<Vec<Refused>
 
 /// How many cells of the output's buffer are more urgent.
 fn cushion(buffers: &[Vec<Waiting>], cell: Waiting) -> usize {
-    match buffers.get(cell.3 as usize) {
+    match buffers.get(cell.4 as usize) {
         None => 0,
         Some(buffer) => buffer.iter().filter(|other| **other < cell).count(),
     }
@@ -69,7 +72,7 @@ fn cushion(buffers: &[Vec<Waiting>], cell: Waiting) -> usize {
 fn insert(list: &mut Vec<Waiting>, cell: Waiting, cushion: usize) -> Result<(), Fail> {
     let later = list
         .iter()
-        .position(|other| other.3 == cell.3 && cell < *other);
+        .position(|other| other.4 == cell.4 && cell < *other);
     let place = cushion.min(later.unwrap_or(cushion)).min(list.len());
     list.insert(place, cell)?;
     Ok(())
@@ -82,7 +85,7 @@ fn asks(lists: &[Vec<Waiting>], refused: &[(usize, u16)]) -> [Option<Waiting>; 4
         if let Some(list) = lists.get(input) {
             asks[input] = list
                 .iter()
-                .find(|cell| !refused.contains(&(input, cell.3)))
+                .find(|cell| !refused.contains(&(input, cell.4)))
                 .copied();
         }
     }
@@ -93,10 +96,10 @@ fn asks(lists: &[Vec<Waiting>], refused: &[(usize, u16)]) -> [Option<Waiting>; 4
 fn refuse(asks: &[Option<Waiting>; 4], refused: &mut Vec<(usize, u16)>) -> Result<(), Fail> {
     for (input, ask) in asks.iter().enumerate() {
         if let Some(cell) = ask
-            && asks.iter().any(|other| other.is_some_and(|other| other.3 == cell.3
+            && asks.iter().any(|other| other.is_some_and(|other| other.4 == cell.4
                 && other < *cell))
         {
-            refused.push((input, cell.3))?;
+            refused.push((input, cell.4))?;
         }
     }
     Ok(())
@@ -150,7 +153,7 @@ impl Slow {
 
     /// How many cells for the output wait at any input or in its buffer.
     fn held(&self, output: u16) -> u64 {
-        let waiting = |queue: &Vec<Waiting>| queue.iter().filter(|cell| cell.3 == output).count();
+        let waiting = |queue: &Vec<Waiting>| queue.iter().filter(|cell| cell.4 == output).count();
         let mut held = 0usize;
         for queue in self.lists.iter() {
             held = held.wrapping_add(waiting(queue));
@@ -199,10 +202,12 @@ impl Slow {
     fn admit(&mut self, slot: u64, input: u16, cell: Cell) -> Result<(), Fail> {
         if let Some(ranks) = PRIORITIES.get(cell.output as usize)
             && let Some(rank) = ranks.get(cell.class as usize)
+            && let Some(levels) = LEVELS.get(cell.output as usize)
+            && let Some(level) = levels.get(cell.class as usize)
             && let Some(list) = self.lists.get_mut(input as usize)
             && let Some(figures) = self.inputs.get_mut(input as usize)
         {
-            let waiting = (*rank, slot, input, cell.output);
+            let waiting = (*level, *rank, slot, input, cell.output);
             insert(list, waiting, cushion(&self.buffers, waiting))?;
             figures.cells = figures.cells.wrapping_add(1);
         }
@@ -225,11 +230,11 @@ impl Slow {
         for (input, ask) in asks.iter().enumerate() {
             if let Some(cell) = ask
                 && let Some(list) = self.lists.get_mut(input)
-                && let Some(buffer) = self.buffers.get_mut(cell.3 as usize)
+                && let Some(buffer) = self.buffers.get_mut(cell.4 as usize)
             {
                 list.retain(|other| *other != *cell);
                 buffer.push(*cell)?;
-                let line = [slot, phase, input as u64, cell.3 as u64, cell.1];
+                let line = [slot, phase, input as u64, cell.4 as u64, cell.2];
                 self.told.crossed.push(line)?;
                 proposals = proposals.wrapping_add(1);
             }
@@ -245,7 +250,7 @@ impl Slow {
             if !buffer.is_empty()
                 && let Some(figures) = self.outputs.get_mut(output)
             {
-                let (_, came, input, _) = buffer.remove(0);
+                let (_, _, came, input, _) = buffer.remove(0);
                 self.told
                     .sent
                     .push([slot, output as u64, input as u64, came])?;
