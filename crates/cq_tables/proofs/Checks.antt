@@ -51,6 +51,11 @@ otherwise_here (Err e) c d h = refuses_first c d e h
 pub otherwise_later : {A : Type 0} (r : Result A TableRefusal) (c d : Check) → c ≡ None → IfErr r (Refuses d) → IfErr r (Refuses (otherwise c d))
 otherwise_later r c d e h = rw e h
 
+-- where the first holds, both hold if the second does
+pub otherwise_holds : {A : Type 0} (r : Result A TableRefusal) (c d : Check) → c ≡ None → IfOk r (λ _. d ≡ None) → IfOk r (λ _. otherwise c d ≡ None)
+otherwise_holds (Ok x) c d e h = rw e h
+otherwise_holds (Err f) c d e h = tt
+
 pub here : {A : Type 0} (r : Result A TableRefusal) (c : Check) (cs : List Check) → IfErr r (Refuses c) → IfErr r (Refuses (first (c ∷ cs)))
 here (Ok x) c cs h = tt
 here (Err e) c cs h = first_here c cs e h

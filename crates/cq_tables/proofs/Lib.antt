@@ -5,3 +5,4 @@ pub mod Walk
 pub mod Macs
 pub mod Text
 pub mod Apart
+pub mod Versions

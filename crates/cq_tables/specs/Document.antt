@@ -1,5 +1,5 @@
 -- A configuration: its checks, in order, and the tables that it gives where they all hold.
-use Rattle.std.specs.Prelude.{◌≡◌, ℕ, suc, Bool, true, false, not, ◌&&◌, if◌then◌else◌, nat_le, nat_lt, List, [], ◌∷◌, ◌++◌, codes, length, take, map, is_some, Option, None, Some, option_map, unwrap_or, Result, Ok, Err}
+use Rattle.std.specs.Prelude.{◌≡◌, ℕ, suc, Bool, true, false, not, ◌&&◌, ◌==◌, if◌then◌else◌, nat_le, nat_lt, List, [], ◌∷◌, ◌++◌, codes, length, take, map, is_some, Option, None, Some, option_map, unwrap_or, Result, Ok, Err}
 use Rattle.std.specs.List.{list_any}
 use Rattle.std.specs.Str.{bytes_eq, is_utf8}
 use Rattle.toml.specs.Data.{Data, Members, no_members, get_member}
@@ -11,6 +11,8 @@ use Rattle.cq_route.specs.declared.tables.PortRow.{PortRow}
 use Rattle.cq_route.specs.declared.tables.AddressRow.{AddressRow}
 use Rattle.cq_route.specs.declared.tables.RuleRow.{RuleRow}
 use Rattle.cq_route.specs.declared.tables.Tables.{Tables}
+use Rattle.cq_tables.specs.declared.version.Version.{Version}
+use Rattle.cq_tables.specs.declared.version.Version.TheVariants.{One, Two}
 use Rattle.cq_tables.specs.declared.refusal.Wrong.{Wrong}
 use Rattle.cq_tables.specs.declared.refusal.Wrong.TheVariants.{NotToml, DuplicateAddress, DuplicateFile, NoSuchPortOrClass, TooLong}
 use Rattle.cq_tables.specs.declared.figures.Figures.{Figures}
@@ -50,15 +52,31 @@ array name rule keys = record {
   check = λ d. otherwise (at (array_key name) (rule d)) (first (each (element_check name keys) 0 (elements_at d)));
 }
 
+-- ## The version
+
+-- the version of a number that is 1 or 2
+abbrev pub version_of : ℕ → Version
+version_of n = if n == 2 then Two else One
+
+-- the version that the top table states
+abbrev pub version_in : Members → Version
+version_in top = version_of (found_or 1 integer_value (codes "version") top)
+
 -- ## What the rows of the arrays say
 
 -- the class that there is where none is stated
 abbrev pub default_class_row : ClassRow
-default_class_row = record { priority = 0; cost = 1 }
+default_class_row = record { level = 0; priority = 0; cost = 1 }
+
+-- the level that the table of a class states: 0 where it is left out, and in version 1
+abbrev pub level_in : Version → Members → ℕ
+level_in One table = 0
+level_in Two table = found_or 0 integer_value (codes "level") table
 
 -- the class that a table states: priority 0 and cost 1 where they are left out
-abbrev pub class_row : Members → ClassRow
-class_row table = record {
+abbrev pub class_row : Version → Members → ClassRow
+class_row version table = record {
+  level = level_in version table;
   priority = found_or 0 wide_value (codes "priority") table;
   cost = found_or 1 wide_value (codes "cost") table;
 }
@@ -101,12 +119,17 @@ rule_row table = record {
 
 -- ## The keys of the arrays' elements
 
--- the keys of a class: both may be left out, and the cost is at least 1
-abbrev pub class_keys : Place → List Key
-class_keys place =
+-- the keys of a class that version 2 has beside those of version 1
+abbrev pub level_keys : Version → Place → List Key
+level_keys One place = []
+level_keys Two place = key place (codes "level") (optional (integer_in 0 15)) ∷ []
+
+-- the keys of a class: all may be left out, and the cost is at least 1
+abbrev pub class_keys : Version → Place → List Key
+class_keys version place =
     key place (codes "priority") (optional (wide_from 0))
     ∷ key place (codes "cost") (optional (wide_from 1))
-    ∷ []
+    ∷ level_keys version place
 
 -- the keys of a port: only the file that it writes has to be there
 abbrev pub port_keys : Place → List Key
@@ -150,12 +173,12 @@ or_one [] = default_class_row ∷ []
 or_one (row ∷ rows) = row ∷ rows
 
 -- the classes: one with the defaults where none is stated
-abbrev pub class_rows : Members → List ClassRow
-class_rows top = or_one (map class_row (rows_in Classes top))
+abbrev pub class_rows : Version → Members → List ClassRow
+class_rows version top = or_one (map (class_row version) (rows_in Classes top))
 
 -- how many classes there are
 abbrev pub classes_in : Members → ℕ
-classes_in top = length (class_rows top)
+classes_in top = length (class_rows (version_in top) top)
 
 -- how many ports there are
 abbrev pub ports_in : Members → ℕ
@@ -164,7 +187,7 @@ ports_in top = length (rows_in Ports top)
 -- the figures: one integer each
 abbrev pub figure_keys : Place → List Key
 figure_keys place =
-    key place (codes "version") (required (integer_in 1 1))
+    key place (codes "version") (required (integer_in 1 2))
     ∷ key place (codes "cell_bytes") (optional (integer_in 1 65535))
     ∷ key place (codes "slot_ns") (optional (integer_in 1 1000000000))
     ∷ key place (codes "limit_bytes") (optional (integer_in 24 268435456))
@@ -181,8 +204,8 @@ file_keys place =
     ∷ []
 
 -- the array of classes: 1 to 16, where it is not left out
-abbrev pub class_array : Key
-class_array = array Classes (optional (array_of 1 16)) (λ i. class_keys)
+abbrev pub class_array : Version → Key
+class_array version = array Classes (optional (array_of 1 16)) (λ i. class_keys version)
 
 -- the array of ports, which has to be there: 1 to 64
 abbrev pub port_array : Key
@@ -198,7 +221,7 @@ rule_array top = array Rules (optional (array_of 0 256)) (λ i. rule_keys (ports
 
 -- the arrays, in the order of their checks
 abbrev pub array_keys : Members → List Key
-array_keys top = class_array ∷ port_array ∷ address_array top ∷ rule_array top ∷ []
+array_keys top = class_array (version_in top) ∷ port_array ∷ address_array top ∷ rule_array top ∷ []
 
 -- all keys of the top table, in the order of their checks
 abbrev pub top_keys : Members → List Key
@@ -209,6 +232,7 @@ top_keys top = figure_keys Top ++ (file_keys Top ++ array_keys top)
 -- the figures that the top table states, and the defaults of those that are left out
 abbrev pub figures_of : Members → Figures
 figures_of top = record {
+  version = version_in top;
   cell_bytes = found_or 64 integer_value (codes "cell_bytes") top;
   slot_ns = found_or 512 integer_value (codes "slot_ns") top;
   limit_bytes = found_or 67108864 integer_value (codes "limit_bytes") top;
@@ -228,7 +252,7 @@ tables_of top = record {
   default_class = (figures_of top).default_class;
   trace = found_or [] text_value (codes "trace") top;
   log = found_or [] text_value (codes "log") top;
-  setup = record { classes = class_rows top; kinds = map port_kind (rows_in Ports top) };
+  setup = record { classes = class_rows (version_in top) top; kinds = map port_kind (rows_in Ports top) };
   ports = map port_row (rows_in Ports top);
   limits = map port_limit (rows_in Ports top);
   addresses = map address_row (rows_in Addresses top);

@@ -8,32 +8,44 @@ ghost use Rattle.cq_tables.specs.Value.{members};
 use crate::place::Array;
 use crate::refusal::TableRefusal;
 use crate::rows::{PortEntry, class_row, element, port_entry, rule_row};
+use crate::version::Version;
 use cq_base::{ClassRow, Kind, NoMemory};
 use cq_route::{PortRow, RuleRow};
 use std::alloc::Global;
 use toml::Value;
 
-// The class that an element tells.
-fn class_in(alloc: Global, index: usize, value: &Value) -> Result<ClassRow, TableRefusal>
-    ensures held { IfOk result (λ _. element_check Array.Classes (λ _. class_keys) index (view value.now) ≡ None) }
-    ensures value { IfOk result (λ row. row ≡ class_row (members (view value.now))) }
+// The class that an element tells, in this version.
+fn class_in(
+    alloc: Global,
+    index: usize,
+    value: &Value,
+    version: Version,
+) -> Result<ClassRow, TableRefusal>
+    ensures held { IfOk result (λ _. element_check Array.Classes (λ _. class_keys version) index (view value.now) ≡ None) }
+    ensures value { IfOk result (λ row. row ≡ class_row version (members (view value.now))) }
+    ensures level { IfOk result (λ row. row.level < 16) }
     ensures cost { IfOk result (λ row. 1 ≤ row.cost) }
-    ensures refused { IfErr result (Refuses (element_check Array.Classes (λ _. class_keys) index (view value.now))) }
+    ensures refused { IfErr result (Refuses (element_check Array.Classes (λ _. class_keys version) index (view value.now))) }
 {
     let entries = element(alloc, Array::Classes, index, value)?;
-    class_row(entries)
+    class_row(entries, version)
 }
 
-/// The classes that the elements tell.
-pub fn class_rows(alloc: Global, values: &[Value]) -> Result<Vec<ClassRow>, TableRefusal>
-    ensures held { IfOk result (λ _. first (each (element_check Array.Classes (λ _. class_keys)) 0 (map view values.now)) ≡ None) }
-    ensures value { IfOk result (λ rows. rows.items ≡ map class_row (map members (map view values.now))) }
+/// The classes that the elements tell, in this version.
+pub fn class_rows(
+    alloc: Global,
+    values: &[Value],
+    version: Version,
+) -> Result<Vec<ClassRow>, TableRefusal>
+    ensures held { IfOk result (λ _. first (each (element_check Array.Classes (λ _. class_keys version)) 0 (map view values.now)) ≡ None) }
+    ensures value { IfOk result (λ rows. rows.items ≡ map (class_row version) (map members (map view values.now))) }
+    ensures levels { IfOk result (λ rows. All (λ row. row.level < 16) rows.items) }
     ensures costs { IfOk result (λ rows. All (λ row. 1 ≤ row.cost) rows.items) }
-    ensures refused { IfErr result (Refuses (first (each (element_check Array.Classes (λ _. class_keys)) 0 (map view values.now)))) }
+    ensures refused { IfErr result (Refuses (first (each (element_check Array.Classes (λ _. class_keys version)) 0 (map view values.now)))) }
 {
     let mut rows = Vec::new(alloc);
     'classes: for (index, value) in values.iter().enumerate() {
-        let row = class_in(alloc, index, value)?;
+        let row = class_in(alloc, index, value, version)?;
         rows.push(row).map_err(NoMemory::from)?;
     }
     Ok(rows)

@@ -8,16 +8,18 @@ ghost use Rattle.cq_tables.specs.Key.{checks_of};
 
 use crate::entries::Entries;
 use crate::limits::{
-    DEFAULT_CELL_BYTES, DEFAULT_LIMIT_BYTES, DEFAULT_SLOT_NS, DEFAULT_WORKERS, GREATEST_CLASS,
-    GREATEST_PORT, LEAST_LIMIT_BYTES, MOST_CELL_BYTES, MOST_LIMIT_BYTES, MOST_SLOT_NS,
-    MOST_WORKERS, VERSION,
+    DEFAULT_CELL_BYTES, DEFAULT_LIMIT_BYTES, DEFAULT_SLOT_NS, DEFAULT_WORKERS, FIRST_VERSION,
+    GREATEST_CLASS, GREATEST_PORT, LAST_VERSION, LEAST_LIMIT_BYTES, MOST_CELL_BYTES,
+    MOST_LIMIT_BYTES, MOST_SLOT_NS, MOST_WORKERS,
 };
 use crate::refusal::TableRefusal;
+use crate::version::Version;
 use cq_base::{Class, Port};
 
-/// The figures, as the fields of these names in the tables.
+/// The version, and the figures as the fields of these names in the tables.
 #[derive(Clone, Copy, Debug, PartialEq, Eq)]
 pub struct Figures {
+    pub version: Version,
     pub cell_bytes: u32,
     pub slot_ns: u64,
     pub limit_bytes: u64,
@@ -36,7 +38,7 @@ pub fn figures_in(entries: Entries) -> Result<Figures, TableRefusal>
     ensures workers { IfOk result (λ figures. IsInRange 1 64 figures.workers) }
     ensures refused { IfErr result (Refuses (first (checks_of (table_view entries.entry.table.now) (figure_keys entries.entry.place)))) }
 {
-    let _version = entries.required_integer("version", VERSION, VERSION)?;
+    let version = entries.required_integer("version", FIRST_VERSION, LAST_VERSION)?;
     let cell_bytes = entries.integer_or("cell_bytes", 1, MOST_CELL_BYTES, DEFAULT_CELL_BYTES)?;
     let slot_ns = entries.integer_or("slot_ns", 1, MOST_SLOT_NS, DEFAULT_SLOT_NS)?;
     let limit_bytes = entries.integer_or(
@@ -49,6 +51,7 @@ pub fn figures_in(entries: Entries) -> Result<Figures, TableRefusal>
     let default_output = entries.integer_or("default_output", 0, GREATEST_PORT as u64, 0)?;
     let default_class = entries.integer_or("default_class", 0, GREATEST_CLASS as u64, 0)?;
     Ok(Figures {
+        version: Version::of(version),
         cell_bytes: cell_bytes as u32,
         slot_ns,
         limit_bytes,

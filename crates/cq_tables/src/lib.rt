@@ -11,6 +11,7 @@ mod entries;
 mod figures;
 mod files;
 mod known;
+mod laws;
 mod limits;
 mod place;
 mod read;
@@ -20,7 +21,9 @@ mod rows;
 mod tests;
 mod top;
 mod value;
+mod version;
 
 pub use cq_route::{AddressRow, PortRow, RuleRow, Tables};
+pub use laws::version_two_keeps_classes;
 pub use read::read_tables;
 pub use refusal::TableRefusal;

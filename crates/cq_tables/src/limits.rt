@@ -1,7 +1,10 @@
 // The limits of what a configuration says, and what stands where it says nothing.
 
-/// The version that a configuration states.
-pub const VERSION: u64 = 1;
+/// The first version of a configuration.
+pub const FIRST_VERSION: u64 = 1;
+
+/// The last version of a configuration.
+pub const LAST_VERSION: u64 = 2;
 
 /// The most bytes of a packet that one cell carries.
 pub const MOST_CELL_BYTES: u64 = 65_535;
@@ -50,6 +53,12 @@ pub const MOST_ADDRESSES: usize = 4096;
 
 /// The most rules.
 pub const MOST_RULES: usize = 256;
+
+/// The greatest level of a class, since they count from 0.
+pub const GREATEST_LEVEL: u64 = 15;
+
+/// The level of a class where none is stated.
+pub const DEFAULT_LEVEL: u64 = 0;
 
 /// The priority of a class where none is stated.
 pub const DEFAULT_PRIORITY: u128 = 0;

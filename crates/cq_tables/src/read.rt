@@ -64,7 +64,7 @@ fn tables_in(alloc: Global, top: &Table) -> Result<Tables, TableRefusal>
     let figures = figures_in(entries)?;
     let trace = entries.required_file("trace")?;
     let log = entries.required_file("log")?;
-    let class_rows = classes(alloc, top)?;
+    let class_rows = classes(alloc, top, figures.version)?;
     let port_rows = ports(alloc, top)?;
     let port_count = port_rows.files.len();
     let address_rows = addresses(alloc, top, port_count)?;

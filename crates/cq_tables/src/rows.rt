@@ -1,19 +1,20 @@
 // The rows of the arrays, each read from one element.
-ghost use Rattle.std.specs.Prelude.{◌≡◌, ◌≤◌, ◌<◌, None, IfOk, IfErr, IfSome};
+ghost use Rattle.std.specs.Prelude.{◌≡◌, ◌≤◌, ◌<◌, None, IfOk, IfErr, IfSome, map};
 ghost use Rattle.toml.specs.View.{view, table_view};
 ghost use Rattle.cq_tables.specs.Check.{Refuses, at, first};
-ghost use Rattle.cq_tables.specs.Document.{class_keys, class_row, port_keys, port_kind, port_limit, port_row, rule_keys, rule_row};
-ghost use Rattle.cq_tables.specs.Key.{table_checks};
+ghost use Rattle.cq_tables.specs.Document.{class_keys, class_row, level_in, level_keys, port_keys, port_kind, port_limit, port_row, rule_keys, rule_row};
+ghost use Rattle.cq_tables.specs.Key.{checks_of, no_other, table_checks};
 ghost use Rattle.cq_tables.specs.Place.{element_path};
 ghost use Rattle.cq_tables.specs.Value.{members, table_type};
 
 use crate::entries::Entries;
 use crate::limits::{
-    DEFAULT_COST, DEFAULT_PRIORITY, GREATEST_CLASS, GREATEST_DSCP, GREATEST_ETHER_TYPE,
-    GREATEST_LIMIT, GREATEST_PCP, GREATEST_PORT, LEAST_COST,
+    DEFAULT_COST, DEFAULT_LEVEL, DEFAULT_PRIORITY, GREATEST_CLASS, GREATEST_DSCP,
+    GREATEST_ETHER_TYPE, GREATEST_LEVEL, GREATEST_LIMIT, GREATEST_PCP, GREATEST_PORT, LEAST_COST,
 };
 use crate::place::{Array, Place};
 use crate::refusal::{TableRefusal, Wrong, element_refusal};
+use crate::version::Version;
 use cq_base::{ClassRow, Kind};
 use cq_route::{PortRow, RuleRow};
 use std::alloc::Global;
@@ -43,17 +44,61 @@ pub fn element<'a>(
 
 const CLASS_KEYS: [&str; 2] = ["priority", "cost"];
 
-/// The row of a class.
-pub fn class_row(entries: Entries) -> Result<ClassRow, TableRefusal>
-    ensures held { IfOk result (λ _. first (table_checks entries.entry.place (class_keys entries.entry.place) (table_view entries.entry.table.now)) ≡ None) }
-    ensures value { IfOk result (λ row. row ≡ class_row (table_view entries.entry.table.now)) }
-    ensures cost { IfOk result (λ row. 1 ≤ row.cost) }
-    ensures refused { IfErr result (Refuses (first (table_checks entries.entry.place (class_keys entries.entry.place) (table_view entries.entry.table.now)))) }
+const LEVELLED_CLASS_KEYS: [&str; 3] = ["priority", "cost", "level"];
+
+// Refuses a key that no class has in this version.
+fn only_class_keys(entries: Entries, version: Version) -> Result<(), TableRefusal>
+    ensures held { IfOk result (λ _. no_other entries.entry.place (map (λ k. k.name) (class_keys version entries.entry.place)) (table_view entries.entry.table.now) ≡ None) }
+    ensures refused { IfErr result (Refuses (no_other entries.entry.place (map (λ k. k.name) (class_keys version entries.entry.place)) (table_view entries.entry.table.now))) }
 {
-    entries.only(&CLASS_KEYS)?;
+    match version {
+        Version::One => entries.only(&CLASS_KEYS),
+        Version::Two => entries.only(&LEVELLED_CLASS_KEYS),
+    }
+}
+
+// The level that a class states.
+fn stated_level(entries: Entries) -> Result<u8, TableRefusal>
+    ensures held { IfOk result (λ _. first (checks_of (table_view entries.entry.table.now) (level_keys Version.Two entries.entry.place)) ≡ None) }
+    ensures value { IfOk result (λ level. level ≡ level_in Version.Two (table_view entries.entry.table.now)) }
+    ensures few { IfOk result (λ level. level < 16) }
+    ensures refused { IfErr result (Refuses (first (checks_of (table_view entries.entry.table.now) (level_keys Version.Two entries.entry.place)))) }
+{
+    let level = entries.integer_or("level", 0, GREATEST_LEVEL, DEFAULT_LEVEL)?;
+    Ok(level as u8)
+}
+
+// The level of a class, which is stated in version 2 alone.
+#[tactic(auto, unfolding(crate::specs::Check::first))]
+fn level_in(entries: Entries, version: Version) -> Result<u8, TableRefusal>
+    ensures held { IfOk result (λ _. first (checks_of (table_view entries.entry.table.now) (level_keys version entries.entry.place)) ≡ None) }
+    ensures value { IfOk result (λ level. level ≡ level_in version (table_view entries.entry.table.now)) }
+    ensures few { IfOk result (λ level. level < 16) }
+    ensures refused { IfErr result (Refuses (first (checks_of (table_view entries.entry.table.now) (level_keys version entries.entry.place)))) }
+{
+    match version {
+        Version::One => Ok(0),
+        Version::Two => stated_level(entries),
+    }
+}
+
+/// The row of a class.
+pub fn class_row(entries: Entries, version: Version) -> Result<ClassRow, TableRefusal>
+    ensures held { IfOk result (λ _. first (table_checks entries.entry.place (class_keys version entries.entry.place) (table_view entries.entry.table.now)) ≡ None) }
+    ensures value { IfOk result (λ row. row ≡ class_row version (table_view entries.entry.table.now)) }
+    ensures level { IfOk result (λ row. row.level < 16) }
+    ensures cost { IfOk result (λ row. 1 ≤ row.cost) }
+    ensures refused { IfErr result (Refuses (first (table_checks entries.entry.place (class_keys version entries.entry.place) (table_view entries.entry.table.now)))) }
+{
+    only_class_keys(entries, version)?;
     let priority = entries.wide_or("priority", 0, DEFAULT_PRIORITY)?;
     let cost = entries.wide_or("cost", LEAST_COST, DEFAULT_COST)?;
-    Ok(ClassRow { priority, cost })
+    let level = level_in(entries, version)?;
+    Ok(ClassRow {
+        level,
+        priority,
+        cost,
+    })
 }
 
 const PORT_KEYS: [&str; 4] = ["read", "write", "discipline", "limit"];

@@ -21,11 +21,13 @@ fn is_told(alloc: Global, bytes: &[u8], told: Option<(u8, &str)>) -> bool {
 
 #[test]
 fn the_first_check_that_fails_is_told(rt: HostRuntime) -> Result<(), Fail> {
-    let cases: [(&str, Option<(u8, &str)>); 11] = [
+    let cases: [(&str, Option<(u8, &str)>); 13] = [
         ("version =", Some((1, "-"))),
         ("version = 1", Some((2, "trace"))),
         ("version = \"1\"", Some((3, "version"))),
-        ("version = 2", Some((4, "version"))),
+        ("version = 2", Some((2, "trace"))),
+        ("version = 0", Some((4, "version"))),
+        ("version = 3", Some((4, "version"))),
         ("versoin = 1", Some((5, "versoin"))),
         ("zz = 1\nversion = 2\naa = 1", Some((5, "aa"))),
         ("version = 1\nworkers = 0", Some((4, "workers"))),
@@ -41,7 +43,12 @@ fn the_first_check_that_fails_is_told(rt: HostRuntime) -> Result<(), Fail> {
 }
 
 /// Changes of the configuration of two ports: what is replaced, by what, and what it is refused for, if it is.
-const CHANGES: [(&str, &str, Option<(u8, &str)>); 23] = [
+const CHANGES: [(&str, &str, Option<(u8, &str)>); 24] = [
+    (
+        "output = 1\n",
+        "output = 1\n[[class]]\nlevel = 0\n",
+        Some((5, "class[0].level")),
+    ),
     (
         "write = \"out1.pcap\"\n",
         "write = \"out1.pcap\"\nlimit = 1\n",
@@ -139,6 +146,43 @@ fn change_is_told(
     Ok(is_told(alloc, text.as_bytes(), told))
 }
 
+/// Classes of the configuration of two ports in version 2, behind its last line, and what it is refused for, if it is.
+const LEVELS: [(&str, Option<(u8, &str)>); 5] = [
+    ("output = 1\n[[class]]\nlevel = 0\n", None),
+    ("output = 1\n[[class]]\n[[class]]\nlevel = 15\n", None),
+    (
+        "output = 1\n[[class]]\nlevel = 16\n",
+        Some((4, "class[0].level")),
+    ),
+    (
+        "output = 1\n[[class]]\nlevel = \"1\"\n",
+        Some((3, "class[0].level")),
+    ),
+    (
+        "output = 1\n[[class]]\nlevel = 16\npriority = -1\n",
+        Some((4, "class[0].priority")),
+    ),
+];
+
+/// Whether the configuration of two ports in version 2, with these classes, is told this.
+fn levels_are_told(
+    alloc: Global,
+    classes: &str,
+    told: Option<(u8, &str)>,
+) -> Result<bool, NoMemory> {
+    let newer = TWO_PORTS.replacen(alloc, "version = 1", "version = 2", 1)?;
+    let text = newer.replacen(alloc, "output = 1\n", classes, 1)?;
+    Ok(is_told(alloc, text.as_bytes(), told))
+}
+
+#[test]
+fn a_class_has_a_level_in_version_two(rt: HostRuntime) -> Result<(), Fail> {
+    for (classes, told) in LEVELS {
+        assert!(rt; levels_are_told(rt.alloc(), classes, told)?, "{classes}");
+    }
+    Ok(())
+}
+
 #[test]
 fn a_change_of_a_good_configuration_is_told_at_its_key(rt: HostRuntime) -> Result<(), Fail> {
     for (old, new, told) in CHANGES {
@@ -196,8 +240,10 @@ fn has_figures(tables: &Tables) -> bool {
 fn has_classes(tables: &Tables) -> bool {
     let classes = tables.setup.classes.as_slice();
     classes.len() == 2
+        && classes[0].level == 0
         && classes[0].priority == 7
         && classes[0].cost == 1
+        && classes[1].level == 0
         && classes[1].priority == 0
         && classes[1].cost == u128::MAX
 }

@@ -4,29 +4,33 @@ ghost use Rattle.std.specs.Int.{IsInRange};
 ghost use Rattle.std.specs.List.{AllPairs};
 ghost use Rattle.toml.specs.View.{table_view};
 ghost use Rattle.cq_tables.specs.Check.{Refuses};
-ghost use Rattle.cq_tables.specs.Document.{address_array, address_row, class_array, class_rows, classes_in, port_array, port_kind, port_limit, port_row, ports_in, rows_in, rule_array, rule_row};
+ghost use Rattle.cq_tables.specs.Document.{address_array, address_row, class_array, class_rows, classes_in, port_array, port_kind, port_limit, port_row, ports_in, rows_in, rule_array, rule_row, version_in};
 ghost use Rattle.cq_tables.specs.Key.{check_of};
 
 use crate::addresses::address_rows;
 use crate::arrays::{PortEntries, class_rows, port_rows, rule_rows};
 use crate::entries::Entries;
 use crate::limits::{
-    DEFAULT_COST, DEFAULT_PRIORITY, MOST_ADDRESSES, MOST_CLASSES, MOST_PORTS, MOST_RULES,
+    DEFAULT_COST, DEFAULT_LEVEL, DEFAULT_PRIORITY, MOST_ADDRESSES, MOST_CLASSES, MOST_PORTS,
+    MOST_RULES,
 };
 use crate::place::{Array, Place};
 use crate::refusal::TableRefusal;
+use crate::version::Version;
 use cq_base::{ClassRow, NoMemory};
 use cq_route::{AddressRow, RuleRow};
 use std::alloc::Global;
 use toml::Table;
 
-/// The classes: one with the defaults where none is stated.
-pub fn classes(alloc: Global, top: &Table) -> Result<Vec<ClassRow>, TableRefusal>
-    ensures held { IfOk result (λ _. check_of (table_view top.now) class_array ≡ None) }
-    ensures value { IfOk result (λ rows. rows.items ≡ class_rows (table_view top.now)) }
+/// The classes, in the version of the table: one with the defaults where none is stated.
+pub fn classes(alloc: Global, top: &Table, version: Version) -> Result<Vec<ClassRow>, TableRefusal>
+    requires { version ≡ version_in (table_view top.now) }
+    ensures held { IfOk result (λ _. check_of (table_view top.now) (class_array (version_in (table_view top.now))) ≡ None) }
+    ensures value { IfOk result (λ rows. rows.items ≡ class_rows (version_in (table_view top.now)) (table_view top.now)) }
+    ensures levels { IfOk result (λ rows. All (λ row. row.level < 16) rows.items) }
     ensures costs { IfOk result (λ rows. All (λ row. 1 ≤ row.cost) rows.items) }
     ensures range { IfOk result (λ rows. IsInRange 1 16 (length rows.items)) }
-    ensures refused { IfErr result (Refuses (check_of (table_view top.now) class_array)) }
+    ensures refused { IfErr result (Refuses (check_of (table_view top.now) (class_array (version_in (table_view top.now))))) }
 {
     let place = Place::Top;
     let entries = Entries {
@@ -35,9 +39,10 @@ pub fn classes(alloc: Global, top: &Table) -> Result<Vec<ClassRow>, TableRefusal
         table: top,
     };
     let values = entries.elements("class", 1, MOST_CLASSES)?;
-    let mut rows = class_rows(alloc, values)?;
+    let mut rows = class_rows(alloc, values, version)?;
     if rows.is_empty() {
         let default = ClassRow {
+            level: DEFAULT_LEVEL as u8,
             priority: DEFAULT_PRIORITY,
             cost: DEFAULT_COST,
         };

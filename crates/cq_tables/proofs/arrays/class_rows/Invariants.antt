@@ -1,8 +1,10 @@
-use Rattle.std.proofs.Common.{◌≤◌}
+use Rattle.std.proofs.Common.{◌<◌, ◌≤◌}
 use Rattle.cq_tables.specs.declared.place.Array.TheVariants.{Classes}
 use Rattle.cq_tables.specs.Document.{class_keys, class_row, element_check}
 use Rattle.cq_tables.proofs.Walk.{Walked}
 use Rattle.cq_tables.proofs.arrays.class_rows.Given as goal
 
 abbrev pub invariant-classes : goal.invariant-classes
-invariant-classes l = Walked (element_check Classes (λ _. class_keys)) class_row (λ row. 1 ≤ row.cost) l.values l.index l.rows.items
+invariant-classes l =
+    Walked (element_check Classes (λ _. class_keys l.version)) (class_row l.version)
+    (λ row. (row.level < 16) × (1 ≤ row.cost)) l.values l.index l.rows.items

@@ -1,0 +1,13 @@
+//! What the versions of a configuration have in common.
+ghost use Rattle.std.specs.Prelude.{◌≡◌, None};
+ghost use Rattle.toml.specs.Data.{Members};
+ghost use Rattle.cq_tables.specs.declared.version.Version.TheVariants.{One, Two};
+ghost use Rattle.cq_tables.specs.Document.{class_array, class_rows};
+ghost use Rattle.cq_tables.specs.Key.{check_of};
+
+/// What version 1 accepts as classes version 2 accepts too, as the same classes. The definition of a configuration
+/// differs between the versions in nothing else. This function does nothing: its contract is the claim.
+pub fn version_two_keeps_classes()
+    ensures accepted { (top : Members) → check_of top (class_array One) ≡ None → check_of top (class_array Two) ≡ None }
+    ensures classes { (top : Members) → check_of top (class_array One) ≡ None → class_rows Two top ≡ class_rows One top }
+{}
