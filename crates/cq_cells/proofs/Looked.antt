@@ -1,5 +1,5 @@
 -- A slot is looked up in a line. The packets of a line arrive one after another, so of all packets only the last that has begun can have a cell in the slot, and that is the cell as many places on as slots have gone by since.
-use Rattle.std.proofs.Common.{◌≡◌, ◌≢◌, ℕ, zero, suc, ◌+◌, ◌<◌, ◌≤◌, eqb, leb, Bool, true, false, List, length, map, slice_index_or, None, Some, refl, ap, ◌∙◌, inl, inr, subst, arith, tests}
+use Rattle.std.proofs.Common.{◌≡◌, ◌≢◌, ℕ, zero, suc, ◌+◌, ◌-◌, ◌<◌, ◌≤◌, eqb, leb, Bool, true, false, List, length, map, slice_index_or, None, Some, refl, ap, ◌∙◌, inl, inr, subst, arith, tests}
 use Rattle.std.specs.List.{range_with_len, find}
 use Rattle.std.specs.List.Sorted.{IsPartitionPoint, IsNonDecreasingBy}
 use Rattle.std.proofs.lemmas.Bool.{cases_eq, cases_order, ne_eqb}
@@ -55,6 +55,22 @@ begun_from_partition rows slot n few p = record {
 -- a row of nothing
 abbrev pub no_row : Row
 no_row = record { start = 0; cells = 0; output = 0; class = 0; len = 0 }
+
+-- the last of so many has begun, and the one after it has not
+pub begun_beside : (rows : List Row) (slot n : ℕ) → IsNonDecreasingBy (λ row. row.start) rows → n ≤ length rows →
+    (0 < n → (row_at rows (n - 1)).start ≤ slot) → (n < length rows → slot < (row_at rows n).start) → IsBegun rows slot n
+begun_beside rows slot n rise few last next = record {
+  before = λ k h.
+      let some : 0 < n = omega arith in
+      let up : (row_at rows k).start ≤ (row_at rows (n - 1)).start = rise k (n - 1) no_row (omega arith) (omega arith) in
+      let begun : (row_at rows (n - 1)).start ≤ slot = last some in
+      omega arith;
+  after = λ k b h.
+      let there : n < length rows = omega arith in
+      let up : (row_at rows n).start ≤ (row_at rows k).start = rise n k no_row b h in
+      let later : slot < (row_at rows n).start = next there in
+      omega arith;
+}
 
 -- the starts rise
 pub starts_rise : (cell_bytes : ℕ) (rows : List Row) → AreRows cell_bytes rows → IsNonDecreasingBy (λ row. row.start) rows

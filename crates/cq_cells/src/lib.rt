@@ -7,6 +7,7 @@
 mod first_stamp;
 mod laws;
 mod line;
+mod nearby;
 mod routes;
 mod schedule;
 mod segments;
@@ -14,5 +15,6 @@ mod segments;
 mod tests;
 
 pub use laws::{arrivals_end_early, one_cell_arrives_a_slot, packets_arrive_in_order};
+pub use nearby::Nearby;
 pub use schedule::Schedule;
 pub use segments::cells_of;

@@ -1,9 +1,9 @@
-// The cells that arrive at one input. Each packet has a row, and a slot is looked up among the rows by
-// halving: the work grows with the logarithm of the number of packets.
-ghost use Rattle.std.specs.Prelude.{◌≡◌, ℕ, ◌+◌, ◌-◌, ◌/◌, ◌==◌, ◌^◌, ◌<◌, ◌≤◌, find, length, map, max, option_map, slice_index_or, IfOk};
+// The cells that arrive at one input. Each packet has a row, and a slot is looked up among the rows near where the one
+// before was, or by halving: the work grows with the logarithm of the number of packets at most.
+ghost use Rattle.std.specs.Prelude.{◌≡◌, ℕ, ◌+◌, ◌-◌, ◌/◌, ◌==◌, ◌^◌, ◌<◌, ◌≤◌, find, length, map, max, option_map, slice_index_or, IfOk, IsTrue};
 ghost use Rattle.std.specs.List.Sorted.{IsNonDecreasingBy};
 ghost use Rattle.cq_base.specs.Arriving.{end_of};
-ghost use Rattle.cq_cells.specs.Lines.{AreAdded, AreRows, IsBegun, IsEnded, row_cell};
+ghost use Rattle.cq_cells.specs.Lines.{AreAdded, AreRows, IsBegun, IsEnded, row_at, row_cell};
 ghost use Rattle.cq_cells.specs.NextArrival.{IsNextArrival};
 ghost use Rattle.cq_cells.specs.Schedule.{arrivals_at, cells_of, first_stamp as first_stamp_of, packets_of};
 ghost use Rattle.cq_cells.specs.Traffic.{IsRecorded};
@@ -73,7 +73,14 @@ impl Line {
     pub fn cell_at(&self, slot: Slot) -> Option<Cell>
         ensures { result ≡ option_map (λ a. a.cell) (find (λ a. a.slot == slot) self.now) }
     {
-        let packet = begun(&self.rows, slot).checked_sub(1)?;
+        self.cell_near(slot, 0)
+    }
+
+    // The same. Where so many packets have begun, or one more, it is found at once.
+    pub fn cell_near(&self, slot: Slot, near: usize) -> Option<Cell>
+        ensures { result ≡ option_map (λ a. a.cell) (find (λ a. a.slot == slot) self.now) }
+    {
+        let packet = begun_near(&self.rows, slot, near).checked_sub(1)?;
         let row = self.rows[packet];
         let index = slot - row.start;
         if index >= u64::from(row.cells) {
@@ -150,6 +157,59 @@ fn begun(rows: &[Row], slot: Slot) -> usize
     ensures begun { IsBegun rows.now slot result }
 {
     rows.partition_point(|row| row.start <= slot)
+}
+
+// The same. It is tried first whether they are so many, or one more.
+fn begun_near(rows: &[Row], slot: Slot, near: usize) -> usize
+    requires { IsNonDecreasingBy (λ row. row.start) rows.now }
+    ensures few { result ≤ length rows.now }
+    ensures begun { IsBegun rows.now slot result }
+{
+    if is_begun(rows, slot, near) {
+        return near;
+    }
+    let more = near.saturating_add(1);
+    if is_begun(rows, slot, more) {
+        return more;
+    }
+    begun(rows, slot)
+}
+
+// Whether so many packets have begun in the slot: there are so many, the last of them has, and the one after it has not.
+fn is_begun(rows: &[Row], slot: Slot, number: usize) -> bool
+    requires { IsNonDecreasingBy (λ row. row.start) rows.now }
+    ensures { IsTrue result → (number ≤ length rows.now) × IsBegun rows.now slot number }
+{
+    let packets = rows.len();
+    if packets < number {
+        return false;
+    }
+    let next = start_after(rows, number);
+    if next <= slot {
+        return false;
+    }
+    let last = start_before(rows, number);
+    last <= slot
+}
+
+// When the packet after so many begins, or the last slot where there is none.
+fn start_after(rows: &[Row], number: usize) -> Slot
+    ensures { number < length rows.now → result ≡ (row_at rows.now number).start }
+{
+    match rows.get(number) {
+        Some(row) => row.start,
+        None => u64::MAX,
+    }
+}
+
+// When the last of so many packets begins, or the first slot where there is none.
+fn start_before(rows: &[Row], number: usize) -> Slot
+    ensures { 0 < number → number ≤ length rows.now → result ≡ (row_at rows.now (number - 1)).start }
+{
+    match number.checked_sub(1) {
+        Some(last) => start_after(rows, last),
+        None => 0,
+    }
 }
 
 // How many packets have arrived whole before the slot.

@@ -1,4 +1,4 @@
-// Where the packets of a capture go. Each is routed on its own, so threads share them.
+// Where the packets of a capture go. Each is routed on its own, so threads share those of a long capture.
 ghost use Rattle.std.specs.Prelude.{◌≡◌, ◌<◌, length, map, IfOk};
 ghost use Rattle.cq_cells.specs.Schedule.{packet_in};
 ghost use Rattle.cq_route.specs.Route.{route};
@@ -9,6 +9,9 @@ use cq_route::Tables;
 use rayon::prelude::*;
 use std::alloc::Global;
 use std::thread::Threads;
+
+// So many packets are worth a thread of their own: to start and to join one costs as much as to route thousands.
+const WORTH_A_THREAD: usize = 8192;
 
 // The output and the class of each packet of a capture at the input, in order. The error is want of memory.
 pub fn routes_of<R: Threads + Sync>(
@@ -23,6 +26,7 @@ pub fn routes_of<R: Threads + Sync>(
     let packets = capture.rows().len();
     let routes = (0..packets)
         .into_par_iter()
+        .with_min_len(WORTH_A_THREAD)
         .map(
             |k: usize| -> (Port, Class)
                 requires { k < length capture.now }

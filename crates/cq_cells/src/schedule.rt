@@ -11,6 +11,7 @@ ghost use Rattle.cq_route.specs.Tables.{AreTables, classes_of, ports_of};
 
 use crate::first_stamp::{earlier, first_stamp};
 use crate::line::Line;
+use crate::nearby::Nearby;
 use crate::routes::routes_of;
 use cq_base::{Arrivals, Cell, NoMemory, Port, Slot};
 use cq_pcap::Capture;
@@ -86,7 +87,15 @@ impl Schedule {
     pub fn arrivals_at(&self, slot: Slot) -> Arrivals
         ensures { result ≡ arriving self.now.came slot }
     {
-        arrivals_of(&self.lines, slot)
+        let mut near = Nearby::nowhere();
+        self.arrivals_near(slot, &mut near)
+    }
+
+    /// The same. They are looked for near those that were found last, so that slots one after another cost no search.
+    pub fn arrivals_near(&self, slot: Slot, near: &mut Nearby) -> Arrivals
+        ensures { result ≡ arriving self.now.came slot }
+    {
+        arrivals_of(&self.lines, slot, near)
     }
 
     /// The least slot from this one on in which a cell arrives, or None where none arrives any more. It is looked
@@ -200,14 +209,15 @@ fn end_of(lines: &[Line]) -> Slot
 }
 
 // What arrives in the slot at the inputs of these lines.
-fn arrivals_of(lines: &[Line], slot: Slot) -> Arrivals
+fn arrivals_of(lines: &[Line], slot: Slot, near: &mut Nearby) -> Arrivals
     requires few { length lines.now ≤ 64 }
     requires own { AreOwn 0 lines.now }
     ensures { result ≡ arriving (all_of lines.now) slot }
 {
     let mut arrivals = Arrivals::none();
     'lines: for (input, line) in lines.iter().enumerate() {
-        if let Some(cell) = line.cell_at(slot) {
+        if let Some(cell) = line.cell_near(slot, near.of_input(input)) {
+            near.found(cell.id);
             arrivals.set(input as Port, cell);
         }
     }

@@ -1,8 +1,8 @@
-// Small captures, and the slots in which their cells arrive.
+// Captures, and the slots in which their cells arrive.
 ghost use Rattle.std.specs.Prelude.{◌≡◌, IfOk, length};
 ghost use Rattle.cq_route.specs.Tables.{AreTables};
 
-use crate::{Schedule, cells_of};
+use crate::{Nearby, Schedule, cells_of};
 use cq_base::{Kind, Name, NoMemory, Sequence};
 use cq_pcap::{Capture, PcapRefusal, read_capture};
 use cq_route::{AddressRow, PortRow, Tables};
@@ -15,8 +15,8 @@ const HEADER: [u8; 24] = [
     0x4d, 0x3c, 0xb2, 0xa1, 2, 0, 4, 0, 0, 0, 0, 0, 0, 0, 0, 0, 0, 0, 4, 0, 1, 0, 0, 0,
 ];
 
-// More than a small capture has.
-const MANY: usize = 65536;
+// More than a capture here has.
+const MANY: usize = 1_048_576;
 
 // A capture of packets, each with its stamp in nanoseconds, its length, and the last byte of the address to which
 // it goes.
@@ -163,16 +163,23 @@ fn each_input_has_its_own_packets(rt: HostRuntime) -> Result<(), Fail> {
         (0, [Some((0, 0)), Some((0, 0)), Some((0, 0))]),
         (1, [None, None, Some((1, 1))]),
         (2, [None, None, None]),
+        (0, [Some((0, 0)), Some((0, 0)), Some((0, 0))]),
     ];
+    let mut near = Nearby::nowhere();
     for (slot, seen) in cases {
-        let arrivals = schedule.arrivals_at(slot);
-        for input in 0..3 {
-            let cell = arrivals.at(input);
-            assert_eq!(rt;
-                cell.map(|c| (c.id.packet, c.output)),
-                seen[input as usize],
-                "{slot} {input}"
-            );
+        let looked_up = [
+            schedule.arrivals_at(slot),
+            schedule.arrivals_near(slot, &mut near),
+        ];
+        for arrivals in looked_up {
+            for input in 0..3 {
+                let cell = arrivals.at(input);
+                assert_eq!(rt;
+                    cell.map(|c| (c.id.packet, c.output)),
+                    seen[input as usize],
+                    "{slot} {input}"
+                );
+            }
         }
     }
     assert_eq!(rt;
@@ -197,7 +204,7 @@ fn each_of_many_packets_has_its_own_route(rt: HostRuntime) -> Result<(), Fail> {
     let alloc = rt.alloc();
     let tables = three_ports(alloc)?;
     let mut packets = Vec::new(alloc);
-    for k in 0..2048_u32 {
+    for k in 0..16_384_u32 {
         packets.push((0, 6, (k % 3) as u8))?;
     }
     let captures = [
@@ -206,9 +213,12 @@ fn each_of_many_packets_has_its_own_route(rt: HostRuntime) -> Result<(), Fail> {
         capture_of(alloc, &[])?,
     ];
     let schedule = Schedule::of(&rt, alloc, &captures, &tables)?;
-    assert_eq!(rt; (schedule.total(), schedule.end()), (2048, 2048));
-    assert_eq!(rt; (schedule.to_output(0), schedule.to_output(1)), (1365, 683));
-    let slots = [(0, 0), (1, 1), (1023, 0), (1024, 1), (2046, 0), (2047, 1)];
+    assert_eq!(rt; (schedule.total(), schedule.end()), (16384, 16384));
+    assert_eq!(rt;
+        (schedule.to_output(0), schedule.to_output(1)),
+        (10923, 5461)
+    );
+    let slots = [(0, 0), (1, 1), (8191, 1), (8192, 0), (16382, 0), (16383, 0)];
     for (slot, output) in slots {
         let cell = schedule.cell_at(slot, 0);
         assert_eq!(rt; cell.map(|c| c.output), Some(output), "{slot}");

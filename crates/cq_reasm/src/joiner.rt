@@ -75,9 +75,30 @@ impl Joiner {
         ensures others { (input class : ℕ) → class < self.old.classes → IsOtherPair input class cell.now → open_at self.new input class ≡ open_at self.old input class }
         ensures as_before { OnErr result (self.new ≡ self.old) }
     {
+        self.take_reserving(cell, piece, piece.len())
+    }
+
+    /// Does what [`take`](Joiner::take) does. A packet that is opened gets memory for so many bytes at once: where that is
+    /// its length it never moves while it grows, and has no more than it fills.
+    pub fn take_reserving(
+        &mut self,
+        cell: &Cell,
+        piece: &[u8],
+        room: usize,
+    ) -> Result<Option<Joined>, NoMemory>
+        requires input { cell.now.id.input < self.old.inputs }
+        requires class { cell.now.class < self.old.classes }
+        requires piece { length piece.now ≡ cell.now.len }
+        requires next { IsNext (open_at self.old cell.now.id.input cell.now.class) cell.now }
+        ensures joined { IfOk result (λ joined. joined ≡ joined_at (open_at self.old cell.now.id.input cell.now.class) cell.now piece.now) }
+        ensures left { OnOk result (self.new ≡ with_open self.old cell.now.id.input cell.now.class (open_after (open_at self.old cell.now.id.input cell.now.class) cell.now piece.now)) }
+        ensures pair { OnOk result (open_at self.new cell.now.id.input cell.now.class ≡ open_after (open_at self.old cell.now.id.input cell.now.class) cell.now piece.now) }
+        ensures others { (input class : ℕ) → class < self.old.classes → IsOtherPair input class cell.now → open_at self.new input class ≡ open_at self.old input class }
+        ensures as_before { OnErr result (self.new ≡ self.old) }
+    {
         let id = cell.id;
         let place = usize::from(id.input) * usize::from(self.classes) + usize::from(cell.class);
-        self.packets.add(place, id.packet, id.index, piece)?;
+        self.packets.add(place, id.packet, id.index, piece, room)?;
         if !cell.last {
             return Ok(None);
         }

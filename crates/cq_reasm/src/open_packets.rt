@@ -56,13 +56,14 @@ impl OpenPackets {
     }
 
     // Puts the piece of the cell with this number behind those of the packet that is open at the place, or
-    // opens the packet with it.
+    // opens the packet with it, with memory for so many bytes.
     pub fn add(
         &mut self,
         place: usize,
         number: u32,
         index: u32,
         piece: &[u8],
+        room: usize,
     ) -> Result<(), NoMemory>
         requires place { place < length self.old }
         requires next { cells_taken (slice_index_or self.old place None) ≡ index }
@@ -72,7 +73,7 @@ impl OpenPackets {
         match self.keys[place] {
             Some(key) => grow(&mut self.packets, key, index, piece),
             None => {
-                let key = start(self.alloc, &mut self.packets, number, piece)?;
+                let key = start(self.alloc, &mut self.packets, number, piece, room)?;
                 self.keys[place] = Some(key);
                 Ok(())
             }
@@ -111,19 +112,21 @@ fn grow(
     Ok(())
 }
 
-// A packet with its first piece, and its key.
+// A packet with its first piece, and its key. It has memory for so many bytes, or for the piece where that is longer.
 fn start(
     alloc: Global,
     packets: &mut Slab<OpenPacket>,
     number: u32,
     piece: &[u8],
+    room: usize,
 ) -> Result<usize, NoMemory>
     ensures vacant { IfOk result (λ key. get packets.old key ≡ None) }
     ensures others { IfOk result (λ key. (other : ℕ) → other ≢ key → get packets.new other ≡ get packets.old other) }
     ensures started { IfOk result (λ key. packet_under packets.new (Some key) ≡ Some (with_piece None number piece.now)) }
     ensures as_before { OnErr result ((key : ℕ) → get packets.new key ≡ get packets.old key) }
 {
-    let body = piece.to_vec(alloc)?;
+    let mut body = Vec::with_capacity(alloc, room.max(piece.len()))?;
+    body.extend_from_slice(piece)?;
     packets.reserve(1)?;
     Ok(packets.insert_reserved(OpenPacket {
         number,

@@ -63,6 +63,21 @@ fn packets_of_one_and_two_cells_are_whole_at_their_last(rt: HostRuntime) -> Resu
 }
 
 #[test]
+fn a_packet_is_whole_whatever_memory_it_was_opened_with(rt: HostRuntime) -> Result<(), Fail> {
+    let mut joiner = Joiner::new(rt.alloc(), 1, 1)?;
+    let part = joiner.take_reserving(&cell(id(0, 0, 0), 0, false, b"abcd"), b"abcd", 0)?;
+    assert!(rt; part.is_none());
+    let whole = joiner.take_reserving(&cell(id(0, 0, 1), 0, true, b"e"), b"e", 0)?;
+    assert_whole(&rt, whole, 0, 0, b"abcde");
+
+    let part = joiner.take_reserving(&cell(id(0, 1, 0), 0, false, b"fghi"), b"fghi", 9)?;
+    assert!(rt; part.is_none());
+    let whole = joiner.take_reserving(&cell(id(0, 1, 1), 0, true, b"j"), b"j", 9)?;
+    assert_whole(&rt, whole, 0, 1, b"fghij");
+    Ok(())
+}
+
+#[test]
 fn two_inputs_are_kept_apart(rt: HostRuntime) -> Result<(), Fail> {
     let mut joiner = Joiner::new(rt.alloc(), 2, 1)?;
     let part = joiner.take(&cell(id(0, 3, 0), 0, false, b"ab"), b"ab")?;

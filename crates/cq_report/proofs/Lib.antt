@@ -1,2 +1,3 @@
+pub mod Ahead
 pub mod OneMore
 pub mod Words

@@ -18,10 +18,6 @@ pub line_is_parted : (n : ℕ) (ns : List ℕ) → parted n ns ++ 10 ∷ [] ≡ 
 line_is_parted n [] = ap (λ ds. ds ++ 10 ∷ []) (append-nil (decimal n))
 line_is_parted n (m ∷ ns) = append_assoc (decimal n) (32 ∷ parted m ns) (10 ∷ []) ∙ ap (λ rest. decimal n ++ 32 ∷ rest) (line_is_parted m ns)
 
--- the whole line behind a text
-pub line_ended : (n : ℕ) (ns start text : List ℕ) → text ≡ start ++ parted n ns → text ++ 10 ∷ [] ≡ start ++ line_of (n ∷ ns)
-line_ended n ns start text e = ap (λ ys. ys ++ 10 ∷ []) e ∙ append_assoc start (parted n ns) (10 ∷ []) ∙ ap (λ ys. start ++ ys) (line_is_parted n ns)
-
 numbered_end : {X : Type 0} (line : ℕ → X → List ℕ) (n : ℕ) (xs : List X) (x : X) (m : ℕ) → m ≡ n + length xs → numbered_lines line n (xs ++ x ∷ []) ≡ numbered_lines line n xs ++ line m x
 numbered_end line n [] x m e = append-nil (line n x) ∙ ap (λ (k : ℕ). line k x) (let same : n ≡ m = omega arith in same)
 numbered_end line n (y ∷ xs) x m e =
@@ -45,3 +41,16 @@ one_line_more line xs i d start old new h o n =
     let front = take i xs in
     n ∙ ap (λ ys. ys ++ line x) o ∙ flat_map_more line start front x
     ∙ ap (λ ys. start ++ flat_map line ys) (sym (take_more xs i d h))
+
+-- one line more of the items that are left
+pub first_line : {X : Type 0} (line : X → List ℕ) (x : X) (left rest : List X) (old new all : List ℕ) →
+    left ≡ x ∷ rest → new ≡ old ++ line x → old ++ flat_map line left ≡ all → new ++ flat_map line rest ≡ all
+first_line line x left rest old new all first more so_far =
+    ap (λ ys. ys ++ flat_map line rest) more ∙ append_assoc old (line x) (flat_map line rest)
+    ∙ ap (λ xs. old ++ flat_map line xs) (sym first) ∙ so_far
+
+-- where none is left all lines are there
+pub no_line_left : {X : Type 0} (line : X → List ℕ) (left : List X) (text all : List ℕ) → left ≡ [] →
+    text ++ flat_map line left ≡ all → text ≡ all
+no_line_left line left text all none so_far =
+    sym (append-nil text) ∙ ap (λ xs. text ++ flat_map line xs) (sym none) ∙ so_far

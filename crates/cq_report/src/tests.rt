@@ -1,7 +1,8 @@
 //! Texts of runs that were worked by hand.
-use crate::{log_text, report_text, trace_text};
+use crate::{log_text, log_text_of_room, report_text, trace_text};
 use cq_base::{
-    Cell, CellId, Departure, Figures, InputFigures, Key, OutputFigures, Queued, Sequence, Transfer,
+    Cell, CellId, Departure, Figures, InputFigures, Key, OutputFigures, Queued, Room, Sequence,
+    Transfer,
 };
 use cq_ideal::Refused;
 use std::alloc::Global;
@@ -25,6 +26,7 @@ fn departure(row: (u64, u16, u16, u32, u32)) -> Departure {
         len: 60,
     };
     let key = Key {
+        level: 0,
         rank: 7,
         slot: 0,
         input,
@@ -70,12 +72,14 @@ fn a_trace_has_a_line_for_each_departure(rt: HostRuntime) -> Result<(), Fail> {
         b"0 0 0 0 0\n1 0 1 0 0\n1 1 2 1 0\n2 0 2 0 0\n".as_slice()
     );
 
-    let long = [(3600000000000, 63, 62, 4294967295, 4095)];
+    let long = [
+        (3600000000000, 63, 62, 4294967295, 4095),
+        (u64::MAX, u16::MAX, u16::MAX, u32::MAX, u32::MAX),
+    ];
     let text = trace_text(rt.alloc(), &long.map(departure))?;
-    assert_eq!(rt;
-        text.as_slice(),
-        b"3600000000000 63 62 4294967295 4095\n".as_slice()
-    );
+    let lines =
+        b"3600000000000 63 62 4294967295 4095\n18446744073709551615 65535 65535 4294967295 4294967295\n";
+    assert_eq!(rt; text.as_slice(), lines.as_slice());
     Ok(())
 }
 
@@ -100,6 +104,20 @@ fn a_log_has_a_line_for_each_transfer(rt: HostRuntime) -> Result<(), Fail> {
         text.as_slice(),
         b"0 1 0 0 0 0\n0 2 1 0 0 0\n1 1 0 0 1 0\n".as_slice()
     );
+    Ok(())
+}
+
+#[test]
+fn transfers_that_are_used_up_leave_the_same_log(rt: HostRuntime) -> Result<(), Fail> {
+    let none = log_text_of_room(rt.alloc(), Room::new(rt.alloc(), 0)?)?;
+    assert_eq!(rt; none.as_slice(), b"".as_slice());
+
+    let mut note = Room::new(rt.alloc(), 2)?;
+    note.push(transfer((0, 1, 0, 0, 0, 0)));
+    note.push(transfer((3600000000000, 2, 62, 63, 4294967295, 4095)));
+    let text = log_text_of_room(rt.alloc(), note)?;
+    let lines = b"0 1 0 0 0 0\n3600000000000 2 62 63 4294967295 4095\n";
+    assert_eq!(rt; text.as_slice(), lines.as_slice());
     Ok(())
 }
 

@@ -2,8 +2,8 @@
 ghost use Rattle.std.specs.Prelude.{◌≡◌, ◌++◌, IfOk, OnOk};
 ghost use Rattle.cq_base.specs.Texts.{trace_of, log_of, trace_line, log_line};
 
-use crate::lines::put_line;
-use cq_base::{Departure, NoMemory, Transfer};
+use crate::lines::{LINE, put_line};
+use cq_base::{Departure, NoMemory, Room, Supply, Transfer};
 use std::alloc::Global;
 
 // The most bytes of a line of the trace: those of its five numbers, and what stands behind each.
@@ -20,13 +20,18 @@ pub fn trace_text(alloc: Global, sent: &[Departure]) -> Result<Vec<u8>, NoMemory
     ensures { IfOk result (λ text. text.items ≡ trace_of sent.now) }
 {
     let mut text = Vec::with_capacity(alloc, sent.len().saturating_mul(TRACE_LINE))?;
+    let mut line = [0; LINE];
     'departures: for departure in sent {
-        put_departure(&mut text, departure)?;
+        put_departure(&mut text, &mut line, departure)?;
     }
     Ok(text)
 }
 
-fn put_departure(text: &mut Vec<u8>, departure: &Departure) -> Result<(), NoMemory>
+fn put_departure(
+    text: &mut Vec<u8>,
+    line: &mut [u8; LINE],
+    departure: &Departure,
+) -> Result<(), NoMemory>
     ensures { OnOk result (text.new.items ≡ text.old.items ++ trace_line departure.now) }
 {
     let id = departure.queued.cell.id;
@@ -36,7 +41,7 @@ fn put_departure(text: &mut Vec<u8>, departure: &Departure) -> Result<(), NoMemo
         u64::from(id.packet),
         u64::from(id.index),
     ];
-    put_line(text, departure.slot, &others)
+    put_line(text, line, departure.slot, &others)
 }
 
 /// The log of the transfers, in the order in which they stand: one line each, with its slot, its phase,
@@ -48,13 +53,33 @@ pub fn log_text(alloc: Global, note: &[Transfer]) -> Result<Vec<u8>, NoMemory>
     ensures { IfOk result (λ text. text.items ≡ log_of note.now) }
 {
     let mut text = Vec::with_capacity(alloc, note.len().saturating_mul(LOG_LINE))?;
+    let mut line = [0; LINE];
     'transfers: for transfer in note {
-        put_transfer(&mut text, transfer)?;
+        put_transfer(&mut text, &mut line, transfer)?;
     }
     Ok(text)
 }
 
-fn put_transfer(text: &mut Vec<u8>, transfer: &Transfer) -> Result<(), NoMemory>
+/// The text of [`log_text`]. The transfers are used up while it grows, so that their memory serves for it. The error
+/// is want of memory.
+#[tactic(auto, unfolding(cq_base::specs::Texts::log_of))]
+pub fn log_text_of_room(alloc: Global, note: Room<Transfer>) -> Result<Vec<u8>, NoMemory>
+    ensures { IfOk result (λ text. text.items ≡ log_of note.items) }
+{
+    let mut text = Vec::with_capacity(alloc, note.items().len().saturating_mul(LOG_LINE))?;
+    let mut left = Supply::of(note.into_vec());
+    let mut line = [0; LINE];
+    'transfers: while let Some(transfer) = left.pop_first() {
+        put_transfer(&mut text, &mut line, &transfer)?;
+    }
+    Ok(text)
+}
+
+fn put_transfer(
+    text: &mut Vec<u8>,
+    line: &mut [u8; LINE],
+    transfer: &Transfer,
+) -> Result<(), NoMemory>
     ensures { OnOk result (text.new.items ≡ text.old.items ++ log_line transfer.now) }
 {
     let others = [
@@ -64,5 +89,5 @@ fn put_transfer(text: &mut Vec<u8>, transfer: &Transfer) -> Result<(), NoMemory>
         u64::from(transfer.id.packet),
         u64::from(transfer.id.index),
     ];
-    put_line(text, transfer.slot, &others)
+    put_line(text, line, transfer.slot, &others)
 }

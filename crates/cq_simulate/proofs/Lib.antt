@@ -22,3 +22,4 @@ pub mod OnePacket
 pub mod RefusedCame
 pub mod LeftOrRefused
 pub mod EachPacket
+pub mod AllPacked

@@ -15,35 +15,34 @@ use Rattle.cq_ideal.specs.Flows.{IsForSwitch, IsRunnable, RiseByInput}
 use Rattle.cq_ideal.proofs.FlowPut.{all_from}
 use Rattle.cq_rank.specs.Machine.{Machine, KeepsLaws, machine_at, first_come}
 use Rattle.cq_rank.specs.MachineLaws.{first_come_laws, priority_laws}
-use Rattle.cq_rank.specs.Classes.{priorities_of}
+use Rattle.cq_rank.specs.Classes.{level_count}
 use Rattle.cq_route.specs.Tables.{IsSetup, classes_of, ports_of}
 use Rattle.cq_scfq.specs.Disciplines.{machine_of, opening_of, machines_of, openings_of}
-use Rattle.cq_scfq.specs.Fair.{costs_of}
 use Rattle.cq_scfq.specs.FairLaws.{fair_laws}
 
 -- ## The machines of a setup
 
 machine_laws : (kind : Kind) (rows : List ClassRow) → KeepsLaws (machine_of kind rows)
-machine_laws FirstCome rows = first_come_laws (length rows)
-machine_laws Priority rows = priority_laws (priorities_of rows)
-machine_laws Fair rows = fair_laws (costs_of rows)
+machine_laws FirstCome rows = first_come_laws rows
+machine_laws Priority rows = priority_laws rows
+machine_laws Fair rows = fair_laws rows
 
 opening_size : (kind : Kind) (rows : List ClassRow) → length (opening_of kind rows) ≡ (machine_of kind rows).size
 opening_size FirstCome rows = refl
 opening_size Priority rows = refl
-opening_size Fair rows = length-replicate (length (costs_of rows) + 1) 0
+opening_size Fair rows = length-replicate (length rows + level_count) 0
 
 machine_classes : (kind : Kind) (rows : List ClassRow) → (machine_of kind rows).classes ≡ length rows
 machine_classes FirstCome rows = refl
-machine_classes Priority rows = length-map rows (λ (row : ClassRow). row.priority)
-machine_classes Fair rows = length-map rows (λ (row : ClassRow). row.cost)
+machine_classes Priority rows = refl
+machine_classes Fair rows = refl
 
 module _ (setup : Setup) (j : ℕ) (inside : j < length setup.kinds) where
   abbrev kind : Kind
   kind = get_or setup.kinds j FirstCome
 
   machine_is : machine_at (machines_of setup) j ≡ machine_of kind setup.classes
-  machine_is = get_or-map (λ (k : Kind). machine_of k setup.classes) setup.kinds j FirstCome (first_come 0) inside
+  machine_is = get_or-map (λ (k : Kind). machine_of k setup.classes) setup.kinds j FirstCome (first_come []) inside
 
   opening_is : slice_index_or (openings_of setup) j [] ≡ opening_of kind setup.classes
   opening_is = get_or-map (λ (k : Kind). opening_of k setup.classes) setup.kinds j FirstCome [] inside

@@ -1,15 +1,16 @@
 -- Only proofs use this.
 -- The pieces of the cells of captured packets, and what is open of a packet after some of its cells were taken.
-use Rattle.std.specs.Prelude.{ℕ, ◌≡◌, ◌+◌, ◌<◌, ◌≤◌, true, if◌then◌else◌, List, [], ◌∷◌, ◌++◌, length, take, drop, Option, None, Some}
+use Rattle.std.specs.Prelude.{ℕ, ◌≡◌, ◌+◌, ◌<◌, ◌≤◌, true, if◌then◌else◌, All, List, [], ◌∷◌, ◌++◌, length, take, drop, Option, None, Some, option_to_list}
 use Rattle.cq_base.specs.declared.cell.Cell.{Cell}
 use Rattle.cq_cells.specs.Schedule.{packet_at, packets_of}
 use Rattle.cq_pcap.specs.Captured.{Captured}
-use Rattle.cq_reasm.specs.Joining.{IsNext, open_after}
+use Rattle.cq_reasm.specs.Joining.{IsNext, IsOtherPair, JoinerView, open_after, open_at}
 use Rattle.cq_reasm.specs.Open.{Open, bytes_taken}
 use Rattle.cq_base.specs.declared.cell.Departure.{Departure}
 use Rattle.cq_pcap.specs.declared.write.OutPacket.{OutPacket}
 use Rattle.cq_route.specs.declared.tables.Tables.{Tables}
 use Rattle.cq_simulate.specs.Packets.{leaving}
+use Rattle.cq_simulate.specs.declared.packing.Packing.{Packing}
 
 -- the bytes of a cell's piece
 abbrev pub piece_at : List (List Captured) → Cell → List ℕ
@@ -34,3 +35,26 @@ pub record Fits (captures : List (List Captured)) (was : Option Open) (cell : Ce
 -- what leaves with the cell that departs: its packet, if it is the last
 abbrev pub left_with : Tables → List (List Captured) → Departure → Option OutPacket
 left_with t captures d = if d.queued.cell.last then Some (leaving t captures d) else None
+
+-- no packet is open, and none has left
+pub record IsEmptied (inputs classes : ℕ) (p : Packing) : Type 0 where
+  pub lines : p.joiner.inputs ≡ inputs
+  pub kinds : p.joiner.classes ≡ classes
+  pub nothing : (i c : ℕ) → open_at p.joiner i c ≡ None
+  pub packets : p.packets.items ≡ []
+
+-- the cell that departs is the next of its input and class
+pub record CanTake (captures : List (List Captured)) (joiner : JoinerView) (d : Departure) : Type 0 where
+  pub input : d.queued.cell.id.input < joiner.inputs
+  pub class : d.queued.cell.class < joiner.classes
+  pub captured : IsCaptured captures d.queued.cell
+  pub fits : Fits captures (open_at joiner d.queued.cell.id.input d.queued.cell.class) d.queued.cell
+
+-- it was taken: its packet has left, if it was the last, and what is open of other inputs and classes is as before
+pub record Took (t : Tables) (captures : List (List Captured)) (d : Departure) (old new : Packing) : Type 0 where
+  pub inputs : new.joiner.inputs ≡ old.joiner.inputs
+  pub classes : new.joiner.classes ≡ old.joiner.classes
+  pub pair : open_at new.joiner d.queued.cell.id.input d.queued.cell.class ≡ open_after (open_at old.joiner d.queued.cell.id.input d.queued.cell.class) d.queued.cell (piece_at captures d.queued.cell)
+  pub others : (i c : ℕ) → c < old.joiner.classes → IsOtherPair i c d.queued.cell → open_at new.joiner i c ≡ open_at old.joiner i c
+  pub packets : new.packets.items ≡ old.packets.items ++ option_to_list (left_with t captures d)
+  pub small : All (λ p. length p.body ≤ 262144) old.packets.items → All (λ p. length p.body ≤ 262144) new.packets.items

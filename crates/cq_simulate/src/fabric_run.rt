@@ -16,7 +16,7 @@ use crate::RunRefusal;
 use crate::ideal_run::rooms_of;
 use crate::stretch::quiet_until;
 use cq_base::{Departure, Figures, NoMemory, Room, Slot, TagFault, Transfer};
-use cq_cells::Schedule;
+use cq_cells::{Nearby, Schedule};
 use cq_crew::Gate;
 use cq_engine::{Engine, Refused};
 use cq_rank::Rank;
@@ -139,10 +139,11 @@ fn run_slots<T: Threads + Sync, R: Rank, G: Gate>(
         engine.old.fixed) 0 (traffic_of schedule.now.came) (empty_limited (length engine.old.fixed)
         engine.old.fabric.ranks)) ≡ Err fault) }
 {
+    let mut near = Nearby::nowhere();
     let mut slot = 0;
     'slots: while !is_over(engine, schedule, slot) {
         slot = skip(engine, schedule, slot);
-        let arrivals = schedule.arrivals_at(slot);
+        let arrivals = schedule.arrivals_near(slot, &mut near);
         engine.slot(rt, alloc, slot, &arrivals, gate, sent, note)?;
         slot += 1;
     }

@@ -16,7 +16,7 @@ ghost use Rattle.cq_simulate.specs.Stretch.{HasRested, IsQuiet};
 use crate::RunRefusal;
 use crate::stretch::quiet_until;
 use cq_base::{Departure, NoMemory, Room, Slot, TagFault};
-use cq_cells::Schedule;
+use cq_cells::{Nearby, Schedule};
 use cq_ideal::Ideal;
 use cq_rank::Rank;
 use cq_route::Tables;
@@ -115,10 +115,11 @@ fn run_slots<R: Rank>(
         ideal.old.fixed) 0 (traffic_of schedule.now.came) (marked_state ideal.old)) ≡ Err fault) }
     ensures early { OnOk result (slots_of sent.new.items ≤ 2 ^ 63 + 2 ^ 35) }
 {
+    let mut near = Nearby::nowhere();
     let mut slot = 0;
     'slots: while !is_over(ideal, schedule, slot) {
         slot = skip(ideal, schedule, slot);
-        let arrivals = schedule.arrivals_at(slot);
+        let arrivals = schedule.arrivals_near(slot, &mut near);
         ideal.slot(slot, &arrivals, sent)?;
         slot += 1;
     }

@@ -6,6 +6,7 @@ mod ideal_run;
 mod idle;
 mod laws;
 mod packets;
+mod packing;
 mod refusal;
 mod stretch;
 #[cfg(test)]
@@ -19,4 +20,5 @@ pub use laws::{
     each_packet_is_written_or_counted, fabric_sends_as_the_ideal_switch, whole_packets_arrive,
 };
 pub use packets::packets_of;
+pub use packing::{Packing, packets_of_all};
 pub use refusal::RunRefusal;

@@ -51,7 +51,7 @@ pub fn packets_of(
 }
 
 // Takes the cell that departs. If it is the last of its packet, that packet leaves.
-fn take(
+pub(crate) fn take(
     joiner: &mut Joiner,
     departure: &Departure,
     captures: &[Capture],
@@ -72,11 +72,21 @@ fn take(
     ensures others { (input class : ℕ) → class < joiner.old.classes → IsOtherPair input class departure.now.queued.cell → open_at joiner.new input class ≡ open_at joiner.old input class }
 {
     let cell = &departure.queued.cell;
-    let joined = joiner.take(cell, piece_of(captures, cell))?;
+    let whole = frame_of(captures, cell).len();
+    let joined = joiner.take_reserving(cell, piece_of(captures, cell), whole)?;
     match joined {
         None => Ok(None),
         Some(joined) => Ok(Some(leaving(departure.slot, joined, captures, tables, t0))),
     }
+}
+
+// The captured bytes of a cell's packet.
+fn frame_of<'a>(captures: &'a [Capture], cell: &Cell) -> &'a [u8]
+    requires { IsCaptured captures.now cell.now }
+    ensures { result.now ≡ (packet_at captures.now cell.now.id.input cell.now.id.packet).body }
+{
+    let capture = &captures[cell.id.input as usize];
+    capture.body(cell.id.packet as usize)
 }
 
 // The bytes of a cell's piece.
@@ -85,10 +95,9 @@ fn piece_of<'a>(captures: &'a [Capture], cell: &Cell) -> &'a [u8]
     ensures piece { result.now ≡ piece_at captures.now cell.now }
     ensures len { length result.now ≡ cell.now.len }
 {
-    let capture = &captures[cell.id.input as usize];
-    let body = capture.body(cell.id.packet as usize);
+    let frame = frame_of(captures, cell);
     let at = cell.at as usize;
-    &body[at..at + cell.len as usize]
+    &frame[at..at + cell.len as usize]
 }
 
 // A packet that is whole, with the stamp of the slot.

@@ -2,11 +2,11 @@
 ghost use Rattle.std.specs.Prelude.{◌≡◌, ◌<◌, IfOk, length};
 ghost use Rattle.cq_route.specs.Tables.{AreTables, ports_of};
 
-use crate::{FabricRun, Refused, RunRefusal, packets_of, run_fabric, run_ideal};
+use crate::{FabricRun, Refused, RunRefusal, packets_of, packets_of_all, run_fabric, run_ideal};
 use cq_base::{ClassRow, Departure, Kind, Name, NoMemory, Port, Sequence, TagFault};
 use cq_cells::Schedule;
 use cq_crew::OpenGate;
-use cq_pcap::{Capture, PcapRefusal, read_capture};
+use cq_pcap::{Capture, OutPacket, PcapRefusal, read_capture};
 use cq_route::{AddressRow, PortRow, Tables};
 use std::alloc::Global;
 use std::test::Fail;
@@ -113,6 +113,7 @@ fn dear_port(alloc: Global) -> Result<Tables, NoMemory>
     ensures ports { IfOk result (λ tables. ports_of tables.setup ≡ 1) }
 {
     let class = ClassRow {
+        level: 0,
         priority: 0,
         cost: u128::MAX,
     };
@@ -235,10 +236,35 @@ fn packets_at<R: Threads + Sync>(
         tables,
         schedule.t0(),
     )?;
+    Ok(seen_of(alloc, &packets)?)
+}
+
+// The same, where the packets of all outputs are put together in one pass.
+fn packets_in_one_pass<R: Threads + Sync>(
+    rt: &R,
+    alloc: Global,
+    tables: &Tables,
+    captures: &[Capture],
+    output: Port,
+) -> Result<Vec<(u128, u32, usize)>, RunRefusal>
+    requires tables { AreTables tables.now }
+    requires captures { length captures.now ≡ ports_of tables.now.setup }
+    requires output { output < ports_of tables.now.setup }
+{
+    let schedule = Schedule::of(rt, alloc, captures, tables)?;
+    let run = run_ideal(alloc, tables, &schedule)?;
+    let places = packets_of_all(alloc, run.sent, captures, tables, schedule.t0())?;
+    match places.get(output as usize) {
+        Some(place) => Ok(seen_of(alloc, &place.packets)?),
+        None => Ok(Vec::new(alloc)),
+    }
+}
+
+// The stamp of each packet, its original length, and how many bytes of it were captured.
+fn seen_of(alloc: Global, packets: &[OutPacket]) -> Result<Vec<(u128, u32, usize)>, NoMemory> {
     let mut seen = Vec::new(alloc);
-    for p in &packets {
-        seen.push((p.stamp, p.original, p.body.as_slice().len()))
-            .map_err(NoMemory::from)?;
+    for p in packets {
+        seen.push((p.stamp, p.original, p.body.as_slice().len()))?;
     }
     Ok(seen)
 }
@@ -250,6 +276,8 @@ fn one_line_passes_as_it_came(rt: HostRuntime) -> Result<(), Fail> {
     let captures = [capture_of(alloc, &[(0, 64, 0), (0, 65, 0), (0, 128, 0)])?];
     let seen = packets_at(&rt, alloc, &tables, &captures, 0);
     let left = [(0, 68, 64), (1024, 69, 65), (2048, 132, 128)];
+    assert_eq!(rt; seen.as_deref(), Ok(&left[..]));
+    let seen = packets_in_one_pass(&rt, alloc, &tables, &captures, 0);
     assert_eq!(rt; seen.as_deref(), Ok(&left[..]));
 
     let none = [capture_of(alloc, &[])?];
@@ -299,6 +327,13 @@ fn cells_wait_for_their_output_after_the_last_has_arrived(rt: HostRuntime) -> Re
     let seen = packets_at(&rt, alloc, &tables, &captures, 1);
     assert_eq!(rt; seen.as_deref(), Ok(&[(512, 64, 60)][..]));
     let seen = packets_at(&rt, alloc, &tables, &captures, 2);
+    assert_eq!(rt; seen.as_deref(), Ok(&[][..]));
+
+    let seen = packets_in_one_pass(&rt, alloc, &tables, &captures, 0);
+    assert_eq!(rt; seen.as_deref(), Ok(&first[..]));
+    let seen = packets_in_one_pass(&rt, alloc, &tables, &captures, 1);
+    assert_eq!(rt; seen.as_deref(), Ok(&[(512, 64, 60)][..]));
+    let seen = packets_in_one_pass(&rt, alloc, &tables, &captures, 2);
     assert_eq!(rt; seen.as_deref(), Ok(&[][..]));
     Ok(())
 }

@@ -21,18 +21,18 @@ set-requires-clause-own c =
     let lines = c.args.lines.now in
     let i = c.lines.input in
     let line : c.index-lines-input.result ≡ slice_index_or lines i [] = get_or_read lines i _ c.lines-test.true c.index-lines-input.is [] in
-    comes_to_own c.args.slot i lines c.in-Some.cell c.requires.own c.lines-test.true (sym (ap (shown c.args.slot) line) ∙ sym c.cell_at.ensures ∙ c.in-Some.is)
+    comes_to_own c.args.slot i lines c.in-Some.cell c.requires.own c.lines-test.true (sym (ap (shown c.args.slot) line) ∙ sym c.cell_near.ensures ∙ c.in-Some.is)
 
 pub lines-preserved : goal.lines-preserved
 lines-preserved c =
     let lines = c.args.lines.now in
     let i = c.lines.input in
     let line : c.index-lines-input.result ≡ slice_index_or lines i [] = get_or_read lines i _ c.lines-test.true c.index-lines-input.is [] in
-    elim c.match-cell_at.branch [
+    elim c.match-cell_near.branch [
       | in-Some w ↦
           w.arrivals-is ∙ w.set.ensures ∙ ap (λ (came : List (Option Cell)). set came i (Some w.in-Some.cell)) c.lines.invariant
-          ∙ arriving_some c.args.slot i lines w.in-Some.cell c.requires.own c.lines-test.true (omega (arith, c.requires.few, c.lines-test.true)) (sym (ap (shown c.args.slot) line) ∙ sym c.cell_at.ensures ∙ w.in-Some.is)
+          ∙ arriving_some c.args.slot i lines w.in-Some.cell c.requires.own c.lines-test.true (omega (arith, c.requires.few, c.lines-test.true)) (sym (ap (shown c.args.slot) line) ∙ sym c.cell_near.ensures ∙ w.in-Some.is)
       | in_default w ↦
           w.arrivals-is ∙ c.lines.invariant
-          ∙ sym (arriving_none c.args.slot i lines c.requires.own c.lines-test.true (sym (ap (shown c.args.slot) line) ∙ sym c.cell_at.ensures ∙ w.in_default.is))
+          ∙ sym (arriving_none c.args.slot i lines c.requires.own c.lines-test.true (sym (ap (shown c.args.slot) line) ∙ sym c.cell_near.ensures ∙ w.in_default.is))
     ]

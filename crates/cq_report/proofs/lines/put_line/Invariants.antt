@@ -1,6 +1,9 @@
-use Rattle.std.proofs.Common.{◌≡◌, ◌++◌, take}
-use Rattle.cq_report.proofs.OneMore.{parted}
+use Rattle.cq_report.proofs.Ahead.{NumbersAhead}
 use Rattle.cq_report.proofs.lines.put_line.Given as goal
 
+-- the numbers from this one on were put ahead of the line feed, each behind its blank
 abbrev pub invariant-numbers : goal.invariant-numbers
-invariant-numbers l = l.text.items ≡ l.fn.text.items ++ parted l.first (take l.number-index l.others)
+invariant-numbers l = NumbersAhead l.others l.left l.at l.line
+
+abbrev pub decreases-numbers : goal.decreases-numbers
+decreases-numbers l = l.left

@@ -35,7 +35,7 @@ slot-requires-clause-arrivals g c =
     c.slots.sent c.slots.note c.slots.invariant c.skip-slot.ensures.quiet c.skip-slot.ensures.rested more in
     λ _ _. arrivals_fit g.R.Rank.machine c.args.schedule.now.came c.args.engine.now c.args.sent.now c.args.note.now
     c.requires.ready c.skip-slot.result c.skip-slot.new.engine c.slots.sent c.slots.note now going
-    c.arrivals_at-arrivals.result c.arrivals_at-arrivals.ensures
+    c.arrivals_near-arrivals.result c.arrivals_near-arrivals.ensures
 
 pub slot-requires-clause-list_room : goal.slot-requires-clause-list_room
 slot-requires-clause-list_room g c =
@@ -49,7 +49,7 @@ slot-requires-clause-list_room g c =
     c.slots.sent c.slots.note c.slots.invariant c.skip-slot.ensures.quiet c.skip-slot.ensures.rested more in
     λ _ _. list_room g.R.Rank.machine c.args.schedule.now.came c.args.engine.now c.args.sent.now c.args.note.now
     c.requires.ready c.skip-slot.result c.skip-slot.new.engine c.slots.sent c.slots.note now going
-    c.arrivals_at-arrivals.result c.arrivals_at-arrivals.ensures
+    c.arrivals_near-arrivals.result c.arrivals_near-arrivals.ensures
 
 pub slot-requires-clause-buffer_room : goal.slot-requires-clause-buffer_room
 slot-requires-clause-buffer_room g c =
@@ -63,7 +63,7 @@ slot-requires-clause-buffer_room g c =
     c.slots.sent c.slots.note c.slots.invariant c.skip-slot.ensures.quiet c.skip-slot.ensures.rested more in
     λ _ _. buffer_room g.R.Rank.machine c.args.schedule.now.came c.args.engine.now c.args.sent.now c.args.note.now
     c.requires.ready c.skip-slot.result c.skip-slot.new.engine c.slots.sent c.slots.note now going
-    c.arrivals_at-arrivals.result c.arrivals_at-arrivals.ensures
+    c.arrivals_near-arrivals.result c.arrivals_near-arrivals.ensures
 
 pub slot-requires-clause-refused : goal.slot-requires-clause-refused
 slot-requires-clause-refused g c =
@@ -131,7 +131,7 @@ returns-in_err-slot-clause-fault g c =
     rw (p.1, p.2)
     (at_fault g.R.Rank.machine c.args.schedule.now.came c.args.engine.now c.args.sent.now c.args.note.now
     c.requires.ready c.skip-slot.result c.skip-slot.new.engine c.slots.sent c.slots.note now going
-    c.arrivals_at-arrivals.result c.in_err-slot.field-0.0 c.arrivals_at-arrivals.ensures
+    c.arrivals_near-arrivals.result c.in_err-slot.field-0.0 c.arrivals_near-arrivals.ensures
     (sym c.in_err-slot.was ∙ c.slot.ensures.answer))
 
 pub slots-smaller : goal.slots-smaller
@@ -161,7 +161,7 @@ slots-preserved g c =
     c.slots.sent c.slots.note c.slots.invariant c.skip-slot.ensures.quiet c.skip-slot.ensures.rested more in
     at_next g.R.Rank.machine c.args.schedule.now.came c.args.engine.now c.args.sent.now c.args.note.now
     c.requires.ready c.skip-slot.result c.skip-slot.new.engine c.slots.sent c.slots.note now going
-    c.arrivals_at-arrivals.result c.slot.new.self c.slot.new.sent c.slot.new.note c.arrivals_at-arrivals.ensures
+    c.arrivals_near-arrivals.result c.slot.new.self c.slot.new.sent c.slot.new.note c.arrivals_near-arrivals.ensures
     (record {
       done = c.in_ok-slot.ensures.slot;
       running = c.slot.ensures.stopped ∙ ap is_err c.in_ok-slot.was;

@@ -32,8 +32,8 @@ slot-requires-clause-arrivals g c =
     c.slots.slot c.skip-slot.result c.slots.ideal c.skip-slot.new.ideal c.slots.sent c.slots.invariant
     c.skip-slot.ensures.quiet c.skip-slot.ensures.rested more in
     arrivals_fit g.R.Rank.machine c.args.schedule.now.came c.args.ideal.now c.args.sent.now c.requires.ready
-    c.skip-slot.result c.skip-slot.new.ideal c.slots.sent now going c.arrivals_at-arrivals.result
-    c.arrivals_at-arrivals.ensures
+    c.skip-slot.result c.skip-slot.new.ideal c.slots.sent now going c.arrivals_near-arrivals.result
+    c.arrivals_near-arrivals.ensures
 
 pub slot-requires-clause-spare : goal.slot-requires-clause-spare
 slot-requires-clause-spare g c =
@@ -46,8 +46,8 @@ slot-requires-clause-spare g c =
     c.slots.slot c.skip-slot.result c.slots.ideal c.skip-slot.new.ideal c.slots.sent c.slots.invariant
     c.skip-slot.ensures.quiet c.skip-slot.ensures.rested more in
     room_left g.R.Rank.machine c.args.schedule.now.came c.args.ideal.now c.args.sent.now c.requires.ready
-    c.skip-slot.result c.skip-slot.new.ideal c.slots.sent now going c.arrivals_at-arrivals.result
-    c.arrivals_at-arrivals.ensures
+    c.skip-slot.result c.skip-slot.new.ideal c.slots.sent now going c.arrivals_near-arrivals.result
+    c.arrivals_near-arrivals.ensures
 
 pub slot-requires-clause-refused : goal.slot-requires-clause-refused
 slot-requires-clause-refused g c =
@@ -89,7 +89,7 @@ returns-in_err-slot-clause-fault g c =
     rw (p.1, p.2)
     (at_fault g.R.Rank.machine c.args.schedule.now.came c.args.ideal.now c.args.sent.now c.requires.ready
     c.skip-slot.result c.skip-slot.new.ideal c.slots.sent now going
-    c.arrivals_at-arrivals.result c.in_err-slot.field-0.0 c.arrivals_at-arrivals.ensures
+    c.arrivals_near-arrivals.result c.in_err-slot.field-0.0 c.arrivals_near-arrivals.ensures
     (sym c.in_err-slot.was ∙ c.slot.ensures.answer))
 
 pub slots-smaller : goal.slots-smaller
@@ -119,7 +119,7 @@ slots-preserved g c =
     c.skip-slot.ensures.quiet c.skip-slot.ensures.rested more in
     at_next g.R.Rank.machine c.args.schedule.now.came c.args.ideal.now c.args.sent.now c.requires.ready
     c.skip-slot.result c.skip-slot.new.ideal c.slots.sent now going
-    c.arrivals_at-arrivals.result c.slot.new.self c.slot.new.sent c.arrivals_at-arrivals.ensures
+    c.arrivals_near-arrivals.result c.slot.new.self c.slot.new.sent c.arrivals_near-arrivals.ensures
     (record {
       answer = sym c.in_ok-slot.was ∙ c.slot.ensures.answer;
       state = c.slot.ensures.state;

@@ -6,22 +6,22 @@ use Rattle.cq_base.specs.declared.cell.Cell.{Cell}
 use Rattle.cq_cells.specs.declared.line.Row.{Row}
 use Rattle.cq_cells.specs.Lines.{IsBegun, row_at, row_cell}
 use Rattle.cq_cells.proofs.Looked.{is_in, no_row, starts_rise, line_none, line_over, line_found}
-use Rattle.cq_cells.proofs.line.Line.cell_at.Goals as goal
+use Rattle.cq_cells.proofs.line.Line.cell_near.Goals as goal
 
 -- the cell that is looked for
 abbrev shown : ℕ → List Arrival → Option Cell
 shown slot came = option_map (λ a. a.cell) (find (is_in slot) came)
 
-pub begun-requires : goal.begun-requires
-begun-requires c = rw c.deref.ensures.value (starts_rise c.self.inside.cell_bytes c.self.inside.rows.items c.self.invariant.0)
+pub begun_near-requires : goal.begun_near-requires
+begun_near-requires c = rw c.deref.ensures.value (starts_rise c.self.inside.cell_bytes c.self.inside.rows.items c.self.invariant.0)
 
 pub returns-in_err-packet : goal.returns-in_err-packet
 returns-in_err-packet c =
     let l = c.self.inside in
     let some = c.in_err-packet.ensures in
-    let none : c.begun.result ≡ 0 = omega arith in
+    let none : c.begun_near.result ≡ 0 = omega arith in
     let P : List Row → ℕ → Type 0 = λ rows n. IsBegun rows c.args.slot n in
-    let begun : IsBegun l.rows.items c.args.slot 0 = subst (P l.rows.items) none (subst (λ rows. P rows c.begun.result) c.deref.ensures.value c.begun.ensures.begun) in
+    let begun : IsBegun l.rows.items c.args.slot 0 = subst (P l.rows.items) none (subst (λ rows. P rows c.begun_near.result) c.deref.ensures.value c.begun_near.ensures.begun) in
     c.from_residual.ensures ∙ ap (λ (o : Option Arrival). option_map (λ a. a.cell) o) (sym (line_none l.input l.cell_bytes l.rows.items c.args.slot begun)) ∙ ap (shown c.args.slot) c.self.view_is
 
 pub overflow_sub-index : goal.overflow_sub-index
@@ -29,9 +29,9 @@ overflow_sub-index c =
     let rows = c.self.inside.rows.items in
     let k = c.in_ok-packet.packet in
     let last = c.in_ok-packet.ensures in
-    let inside : k < length rows = omega (arith, c.begun.ensures.few, ap (λ (rs : List Row). length rs) c.deref.ensures.value) in
+    let inside : k < length rows = omega (arith, c.begun_near.ensures.few, ap (λ (rs : List Row). length rs) c.deref.ensures.value) in
     let row : c.index.result.now ≡ row_at rows k = get_or_read rows k _ inside c.index.ensures no_row in
-    let begun : IsBegun rows c.args.slot c.begun.result = subst (λ (rs : List Row). IsBegun rs c.args.slot c.begun.result) c.deref.ensures.value c.begun.ensures.begun in
+    let begun : IsBegun rows c.args.slot c.begun_near.result = subst (λ (rs : List Row). IsBegun rs c.args.slot c.begun_near.result) c.deref.ensures.value c.begun_near.ensures.begun in
     let before : (row_at rows k).start ≤ c.args.slot = begun.before k (omega arith) in
     omega (arith, ap (λ (r : Row). r.start) row)
 
@@ -41,10 +41,10 @@ returns-then-index-from c =
     let rows = l.rows.items in
     let k = c.in_ok-packet.packet in
     let last = c.in_ok-packet.ensures in
-    let inside : k < length rows = omega (arith, c.begun.ensures.few, ap (λ (rs : List Row). length rs) c.deref.ensures.value) in
+    let inside : k < length rows = omega (arith, c.begun_near.ensures.few, ap (λ (rs : List Row). length rs) c.deref.ensures.value) in
     let row : c.index.result.now ≡ row_at rows k = get_or_read rows k _ inside c.index.ensures no_row in
-    let next : c.begun.result ≡ k + 1 = omega arith in
-    let begun : IsBegun rows c.args.slot c.begun.result = subst (λ (rs : List Row). IsBegun rs c.args.slot c.begun.result) c.deref.ensures.value c.begun.ensures.begun in
+    let next : c.begun_near.result ≡ k + 1 = omega arith in
+    let begun : IsBegun rows c.args.slot c.begun_near.result = subst (λ (rs : List Row). IsBegun rs c.args.slot c.begun_near.result) c.deref.ensures.value c.begun_near.ensures.begun in
     let before : (row_at rows k).start ≤ c.args.slot = begun.before k (omega arith) in
     let over : (row_at rows k).start + (row_at rows k).cells ≤ c.args.slot = omega (arith, c.from.ensures, c.if-index-from.true, ap (λ (r : Row). r.start) row, ap (λ (r : Row). r.cells) row) in
     ap (λ (o : Option Arrival). option_map (λ a. a.cell) o) (sym (line_over l.input l.cell_bytes rows c.args.slot k c.self.invariant.0 inside (subst (λ (n : ℕ). IsBegun rows c.args.slot n) next begun) over)) ∙ ap (shown c.args.slot) c.self.view_is
@@ -54,7 +54,7 @@ overflow_cast-id-2 c =
     let rows = c.self.inside.rows.items in
     let k = c.in_ok-packet.packet in
     let last = c.in_ok-packet.ensures in
-    let inside : k < length rows = omega (arith, c.begun.ensures.few, ap (λ (rs : List Row). length rs) c.deref.ensures.value) in
+    let inside : k < length rows = omega (arith, c.begun_near.ensures.few, ap (λ (rs : List Row). length rs) c.deref.ensures.value) in
     let row : c.index.result.now ≡ row_at rows k = get_or_read rows k _ inside c.index.ensures no_row in
     let small = c.self.invariant.0.small k inside in
     omega (arith, c.from.ensures, c.if-index-from.false, ap (λ (r : Row). r.cells) row)
@@ -65,10 +65,10 @@ returns c =
     let rows = l.rows.items in
     let k = c.in_ok-packet.packet in
     let last = c.in_ok-packet.ensures in
-    let inside : k < length rows = omega (arith, c.begun.ensures.few, ap (λ (rs : List Row). length rs) c.deref.ensures.value) in
+    let inside : k < length rows = omega (arith, c.begun_near.ensures.few, ap (λ (rs : List Row). length rs) c.deref.ensures.value) in
     let row : c.index.result.now ≡ row_at rows k = get_or_read rows k _ inside c.index.ensures no_row in
-    let next : c.begun.result ≡ k + 1 = omega arith in
-    let begun : IsBegun rows c.args.slot c.begun.result = subst (λ (rs : List Row). IsBegun rs c.args.slot c.begun.result) c.deref.ensures.value c.begun.ensures.begun in
+    let next : c.begun_near.result ≡ k + 1 = omega arith in
+    let begun : IsBegun rows c.args.slot c.begun_near.result = subst (λ (rs : List Row). IsBegun rs c.args.slot c.begun_near.result) c.deref.ensures.value c.begun_near.ensures.begun in
     let before : (row_at rows k).start ≤ c.args.slot = begun.before k (omega arith) in
     let i : ℕ = c.args.slot - (row_at rows k).start in
     let few : i < (row_at rows k).cells = omega (arith, c.from.ensures, c.if-index-from.false, ap (λ (r : Row). r.start) row, ap (λ (r : Row). r.cells) row) in

@@ -2,7 +2,7 @@ use Rattle.std.proofs.Common.{◌≡◌, ◌+◌, ◌*◌, set, get_or, None, So
 use Rattle.cq_reasm.specs.Open.{cells_taken, with_piece}
 use Rattle.cq_reasm.specs.Joining.{open_at, with_open}
 use Rattle.cq_reasm.proofs.Joins.{taken_before, open_is, left_is, closed_again, closed_by_last, others_kept}
-use Rattle.cq_reasm.proofs.joiner.Joiner.take.Goals as goal
+use Rattle.cq_reasm.proofs.joiner.Joiner.take_reserving.Goals as goal
 
 pub add-requires-clause-next : goal.add-requires-clause-next
 add-requires-clause-next c =

@@ -1,0 +1,31 @@
+// Where the cells of a slot are looked for first.
+use cq_base::CellId;
+
+/// How many packets of each input had begun when a cell of it was found last. It says where to look first and nothing of
+/// what is found there, so any value will do.
+#[derive(Clone, Copy)]
+pub struct Nearby {
+    packets: [u32; 64],
+}
+
+impl Nearby {
+    /// No cell was found yet.
+    pub fn nowhere() -> Nearby {
+        Nearby { packets: [0; 64] }
+    }
+
+    // How many packets of the input had begun.
+    pub(crate) fn of_input(&self, input: usize) -> usize {
+        match self.packets.get(input) {
+            Some(packets) => *packets as usize,
+            None => 0,
+        }
+    }
+
+    // A cell was found.
+    pub(crate) fn found(&mut self, id: CellId) {
+        if let Some(packets) = self.packets.get_mut(id.input as usize) {
+            *packets = id.packet.saturating_add(1);
+        }
+    }
+}

@@ -1,0 +1,175 @@
+-- Packets that are put together at all outputs in one pass. When so many departures were used up, those that are left
+-- are the others, and each output stands where a walk over its own departures would stand (`SoFar`). One departure more
+-- goes on with the walk at its output, and passes by those at all others.
+use Rattle.std.proofs.Common.{◌≡◌, ◌≢◌, ℕ, ◌+◌, ◌<◌, ◌≤◌, All, List, [], ◌∷◌, ◌++◌, length, drop, get_or, set, Option, Some, None, Ok, option_to_list, refl, sym, ap, ◌∙◌, subst, ⊎_elim, arith}
+use Rattle.std.proofs.lemmas.Bool.{cases_eq}
+use Rattle.std.proofs.lemmas.List.{append-nil, drop_more, get_or-set_other, get_or-set_same, length-drop, length-set, take_all}
+use Rattle.cq_base.specs.declared.cell.Departure.{Departure}
+use Rattle.cq_cells.specs.Schedule.{arrivals}
+use Rattle.cq_pcap.specs.Captured.{Captured}
+use Rattle.cq_pcap.specs.declared.write.OutPacket.{OutPacket}
+use Rattle.cq_route.specs.Tables.{AreTables, ports_of}
+use Rattle.cq_route.specs.declared.tables.Tables.{Tables}
+use Rattle.cq_simulate.specs.IdealRuns.{ideal_departures}
+use Rattle.cq_simulate.specs.Packets.{ArePacked, packets_out}
+use Rattle.cq_simulate.specs.Pieces.{CanTake, IsEmptied, Took, left_with}
+use Rattle.cq_simulate.specs.declared.packing.Packing.{Packing}
+use Rattle.cq_simulate.proofs.Departed.{departed_captured, departed_class, departed_output}
+use Rattle.cq_simulate.proofs.Packed.{none_large}
+use Rattle.cq_simulate.proofs.Taking.{SoFar, at_first, at_other, cell_fits, kept, packed}
+
+-- ## What leaves with one cell
+
+pub none_left : (packets : List OutPacket) (left is : Option OutPacket) → left ≡ is → left ≡ None →
+    packets ≡ packets ++ option_to_list is
+none_left packets left is same none =
+    sym (append-nil packets) ∙ ap (λ (o : Option OutPacket). packets ++ option_to_list o) (sym none ∙ same)
+
+pub one_left : (packets more : List OutPacket) (left is : Option OutPacket) (p : OutPacket) → left ≡ is →
+    left ≡ Some p → more ≡ packets ++ p ∷ [] → more ≡ packets ++ option_to_list is
+one_left packets more left is p same one pushed =
+    pushed ∙ ap (λ (o : Option OutPacket). packets ++ option_to_list o) (sym one ∙ same)
+
+-- ## All outputs
+
+-- the walk at an output, after so many departures
+abbrev walked : Tables → List (List Captured) → List Departure → ℕ → ℕ → Packing → Type 0
+walked t captures sent j done p = SoFar t captures sent j done p.joiner p.packets.items
+
+-- what is known when some departures were used up
+pub record AllSoFar (t : Tables) (captures : List (List Captured)) (sent left : List Departure)
+    (places : List Packing) : Type 0 where
+  pub done : ℕ
+  pub others : left ≡ drop done sent
+  pub outputs : length places ≡ ports_of t.setup
+  pub each : (j : ℕ) (p : Packing) → j < length places → walked t captures sent j done (get_or places j p)
+
+pub none_yet : (t : Tables) (captures : List (List Captured)) (sent left : List Departure) (places : List Packing) →
+    left ≡ sent → length places ≡ ports_of t.setup → All (IsEmptied (length captures) (length t.setup.classes)) places →
+    AllSoFar t captures sent left places
+none_yet t captures sent left places all outputs emptied = record {
+  done = 0;
+  others = all;
+  outputs = outputs;
+  each = λ j p inside.
+      let here : Packing = get_or places j p in
+      let e : IsEmptied (length captures) (length t.setup.classes) here = emptied j p inside in
+      at_first t captures sent j here.joiner here.packets.items e.lines e.kinds e.nothing e.packets
+      (none_large here.packets.items e.packets);
+}
+
+module _ (t : Tables) (captures : List (List Captured)) (sent left rest : List Departure) (places : List Packing)
+    (d : Departure) (so_far : AllSoFar t captures sent left places) (first : left ≡ d ∷ rest) where
+  is_first : drop so_far.done sent ≡ d ∷ rest
+  is_first = sym so_far.others ∙ first
+
+  inside : so_far.done < length sent
+  inside =
+      let l : length (drop so_far.done sent) ≡ length (d ∷ rest) = ap (λ (ds : List Departure). length ds) is_first in
+      omega (arith, l, length-drop so_far.done sent)
+
+  parts : get_or sent so_far.done d ∷ drop (so_far.done + 1) sent ≡ d ∷ rest
+  parts = sym (drop_more sent so_far.done d inside) ∙ is_first
+
+  here : get_or sent so_far.done d ≡ d
+  here = ap (λ (ds : List Departure). get_or ds 0 d) parts
+
+  its_output : (get_or sent so_far.done d).output ≡ d.output
+  its_output = ap (λ (x : Departure). x.output) here
+
+  others_left : rest ≡ drop (so_far.done + 1) sent
+  others_left = sym (ap (λ (ds : List Departure). drop 1 ds) parts)
+
+  module _ (are : AreTables t) (many : length captures ≡ ports_of t.setup)
+      (whole : ideal_departures t (arrivals t captures) ≡ Ok sent) where
+    pub at_port : d.output < length places
+    at_port =
+        let of_port : (get_or sent so_far.done d).output < ports_of t.setup =
+        departed_output t captures sent are many whole so_far.done d inside in
+        let same : (get_or sent so_far.done d).output ≡ d.output = its_output in
+        let as_many : length places ≡ ports_of t.setup = so_far.outputs in
+        omega arith
+
+    module _ (place : Packing) (is : place ≡ get_or places d.output place) where
+      own : walked t captures sent d.output so_far.done place
+      own =
+          subst (λ (p : Packing). walked t captures sent d.output so_far.done p) (sym is)
+          (so_far.each d.output place at_port)
+
+      -- its cell is the next
+      pub can_take : CanTake captures place.joiner d
+      can_take =
+          let x : Departure = get_or sent so_far.done d in
+          let came = departed_captured t captures sent are many whole so_far.done d inside in
+          let class = departed_class t captures sent are many whole so_far.done d inside in
+          let below : ℕ → Type 0 = λ n. x.queued.cell.id.input < n in
+          let below_classes : ℕ → Type 0 = λ n. x.queued.cell.class < n in
+          subst (λ (y : Departure). CanTake captures place.joiner y) here (record {
+            input = subst below (sym own.inputs) came.input;
+            class = subst below_classes (sym own.classes) class;
+            captured = came;
+            fits = cell_fits t captures sent d.output so_far.done d inside its_output place.joiner place.packets.items
+                own are many whole class;
+          })
+
+      module _ (new : Packing) (took : Took t captures d place new) where
+        took_here : Took t captures (get_or sent so_far.done d) place new
+        took_here = subst (λ (y : Departure). Took t captures y place new) (sym here) took
+
+        gone_on_with : (o : Option OutPacket) → o ≡ left_with t captures (get_or sent so_far.done d) →
+            new.packets.items ≡ place.packets.items ++ option_to_list o →
+            walked t captures sent d.output (so_far.done + 1) new
+        gone_on_with None is_none pushed =
+            subst (λ (ps : List OutPacket). SoFar t captures sent d.output (so_far.done + 1) new.joiner ps)
+            (sym (pushed ∙ append-nil place.packets.items))
+            (kept t captures sent d.output so_far.done d inside its_output place.joiner new.joiner place.packets.items
+            own took_here.inputs took_here.classes took_here.pair took_here.others (sym is_none))
+        gone_on_with (Some p) is_one pushed =
+            packed t captures sent d.output so_far.done d inside its_output place.joiner new.joiner place.packets.items
+            own took_here.inputs took_here.classes took_here.pair took_here.others p new.packets.items is_one pushed
+            (took_here.small own.small)
+
+        gone_on : walked t captures sent d.output (so_far.done + 1) new
+        gone_on = gone_on_with (left_with t captures (get_or sent so_far.done d)) refl took_here.packets
+
+        at_its_output : (j : ℕ) (p : Packing) → j ≡ d.output →
+            walked t captures sent j (so_far.done + 1) (get_or (set places d.output new) j p)
+        at_its_output j p same =
+            subst (λ (n : ℕ). walked t captures sent n (so_far.done + 1) (get_or (set places d.output new) n p))
+            (sym same)
+            (subst (λ (q : Packing). walked t captures sent d.output (so_far.done + 1) q)
+            (sym (get_or-set_same places d.output new p at_port)) gone_on)
+
+        at_another : (j : ℕ) (p : Packing) → j < length places → j ≢ d.output →
+            walked t captures sent j (so_far.done + 1) (get_or (set places d.output new) j p)
+        at_another j p in_places ne =
+            let q : Packing = get_or places j p in
+            subst (λ (r : Packing). walked t captures sent j (so_far.done + 1) r)
+            (sym (get_or-set_other places d.output j new p ne))
+            (at_other t captures sent j so_far.done d inside q.joiner q.packets.items (so_far.each j p in_places)
+            (λ (e : (get_or sent so_far.done d).output ≡ j). ne (sym e ∙ its_output)))
+
+        pub one_more : AllSoFar t captures sent rest (set places d.output new)
+        one_more = record {
+          done = so_far.done + 1;
+          others = others_left;
+          outputs = length-set places d.output new ∙ so_far.outputs;
+          each = λ j p in_set.
+              let same_length : length (set places d.output new) ≡ length places = length-set places d.output new in
+              let in_places : j < length places = omega arith in
+              ⊎_elim (at_its_output j p) (at_another j p in_places) (cases_eq j d.output);
+        }
+
+-- where no departure is left all packets are put together
+pub all_packed : (t : Tables) (captures : List (List Captured)) (sent left : List Departure) (places : List Packing) →
+    AllSoFar t captures sent left places → left ≡ [] → ArePacked t captures sent places
+all_packed t captures sent left places so_far none =
+    let l : length (drop so_far.done sent) ≡ 0 = ap (λ (ds : List Departure). length ds) (sym so_far.others ∙ none) in
+    let end : length sent ≤ so_far.done = omega (arith, l, length-drop so_far.done sent) in
+    record {
+      outputs = so_far.outputs;
+      packets = λ j p inside.
+          (so_far.each j p inside).made
+          ∙ ap (λ (ds : List Departure). packets_out t captures ds j) (take_all so_far.done sent end);
+      bodies = λ j p inside. (so_far.each j p inside).small;
+    }

@@ -1,0 +1,17 @@
+use Rattle.std.proofs.Common.{All, sym, subst, arith}
+use Rattle.std.proofs.lemmas.List.Elements.{All-push}
+use Rattle.cq_simulate.specs.Pieces.{IsEmptied}
+use Rattle.cq_simulate.proofs.packing.emptied.Goals as goal
+
+pub places-preserved : goal.places-preserved
+places-preserved c =
+    let is = IsEmptied c.args.ports c.args.classes in
+    record {
+      most = omega (arith, c.len.ensures, c.places-test.true, c.in_ok-push.ensures.len);
+      each = subst (All is) (sym c.in_ok-push.ensures.items)
+          (All-push is c.places.places.items c.in_ok-new.field-0 c.places.invariant.each c.in_ok-new.ensures);
+    }
+
+pub returns-clause-outputs : goal.returns-clause-outputs
+returns-clause-outputs c =
+    omega (arith, c.places.invariant.most, c.len.ensures, c.places-test.false, c.places.places.ok)

@@ -1,0 +1,9 @@
+use Rattle.std.proofs.Common.{length}
+use Rattle.cq_simulate.proofs.AllPacked.{AllSoFar}
+use Rattle.cq_simulate.proofs.packing.packets_of_all.Given as goal
+
+abbrev pub invariant-departures : goal.invariant-departures
+invariant-departures l = AllSoFar l.tables l.captures l.fn.sent.items l.left l.places.items
+
+abbrev pub decreases-departures : goal.decreases-departures
+decreases-departures l = length l.left
