@@ -1,14 +1,24 @@
--- The captures of the outputs, one after another: those that were made and those that are still to be made are all.
-use Rattle.std.proofs.Common.{◌≡◌, ◌<◌, ◌≤◌, ◌∙◌, ℕ, ◌+◌, List, [], ◌∷◌, ◌++◌, length, drop, get_or, refl, ap, sym, add-one, append_assoc}
+-- The captures of the outputs, one after another: those that were made and those that are still to be made are all. Each is
+-- that of the packets which were put together at its output.
+use Rattle.std.proofs.Common.{◌≡◌, ◌<◌, ◌≤◌, ◌∙◌, ℕ, ◌+◌, All, List, [], ◌∷◌, ◌++◌, length, drop, get_or, refl, ap, sym, subst, add-one, append_assoc, arith}
+use Rattle.std.specs.Prelude.{Result, Ok, Err}
 use Rattle.std.proofs.lemmas.List.{append-nil, drop_all, drop_more}
 use Rattle.cq_base.specs.Texts.{trace_of, log_of}
 use Rattle.cq_base.specs.declared.cell.Departure.{Departure}
+use Rattle.cq_base.specs.declared.cell.TagFault.{TagFault}
 use Rattle.cq_base.specs.declared.cell.Transfer.{Transfer}
+use Rattle.cq_cells.specs.Schedule.{arrivals}
 use Rattle.cq_pcap.specs.Captured.{Captured}
+use Rattle.cq_pcap.specs.Written.{written}
+use Rattle.cq_route.specs.Tables.{ports_of}
 use Rattle.cq_route.specs.declared.tables.PortRow.{PortRow}
 use Rattle.cq_route.specs.declared.tables.Tables.{Tables}
 use Rattle.cq_run.specs.Plan.{Plan}
 use Rattle.cq_run.specs.Plans.{capture_out, captures_out, switched}
+use Rattle.cq_run.specs.Verdict.{ideally_sent, sent_or_tag}
+use Rattle.cq_simulate.specs.IdealRuns.{ideal_departures}
+use Rattle.cq_simulate.specs.Packets.{ArePacked}
+use Rattle.cq_simulate.specs.declared.packing.Packing.{Packing}
 
 -- a plan of these names and this text
 pub plan_is : (plan : Plan) (writes : List (List ℕ × List ℕ)) (text : List ℕ) → plan.writes ≡ writes → plan.text ≡ text → plan ≡ record { writes = writes; text = text }
@@ -16,7 +26,45 @@ plan_is plan writes text e f =
     ap (λ (ws : List (List ℕ × List ℕ)). let p : Plan = record { writes = ws; text = plan.text } in p) e
     ∙ ap (λ (tx : List ℕ). let p : Plan = record { writes = writes; text = tx } in p) f
 
+-- a run that has no tag fault
+pub sent_ok : (sent : List Departure) (x : Result (List Departure) TagFault) → sent_or_tag x ≡ Ok sent → x ≡ Ok sent
+sent_ok sent (Ok ds) h = let same : ds ≡ sent = cc h in ap Ok same
+sent_ok sent (Err fault) h = absurd (let P : ⊥ = cc h in P)
+
 module _ (t : Tables) (captures : List (List Captured)) (sent : List Departure) where
+  -- what the ideal switch sends of captures that were lent
+  pub sent_of_lent : (lent : List (List Captured)) → lent ≡ captures → ideally_sent t captures ≡ Ok sent →
+      ideal_departures t (arrivals t lent) ≡ Ok sent
+  sent_of_lent lent same h =
+      ap (λ (cs : List (List Captured)). ideal_departures t (arrivals t cs)) same
+      ∙ sent_ok sent (ideal_departures t (arrivals t captures)) h
+
+  -- what was put together at an output
+  module _ (lent : List (List Captured)) (left places : List Packing) (same_captures : lent ≡ captures) (same : places ≡ left)
+      (packed : ArePacked t lent sent left) (output : ℕ) (there : output < ports_of t.setup) where
+    pub in_places : output < length places
+    in_places =
+        let as_many : length places ≡ length left = ap (λ (l : List Packing). length l) same in
+        let outputs : length left ≡ ports_of t.setup = packed.outputs in
+        omega arith
+
+    module _ (place : Packing) (is : place ≡ get_or places output place) where
+      is_left : place ≡ get_or left output place
+      is_left = is ∙ ap (λ (l : List Packing). get_or l output place) same
+
+      in_left : output < length left
+      in_left = let outputs : length left ≡ ports_of t.setup = packed.outputs in omega arith
+
+      pub can_be_written : All (λ p. length p.body ≤ 262144) place.packets.items
+      can_be_written =
+          subst (λ (q : Packing). All (λ p. length p.body ≤ 262144) q.packets.items) (sym is_left)
+          (packed.bodies output place in_left)
+
+      pub file_is : (bytes : List ℕ) → bytes ≡ written place.packets.items → bytes ≡ capture_out t captures sent output
+      file_is bytes built =
+          built ∙ ap (λ (q : Packing). written q.packets.items) is_left ∙ ap written (packed.packets output place in_left)
+          ∙ ap (λ (cs : List (List Captured)). capture_out t cs sent output) same_captures
+
   -- the first output, and those after it
   captures_of_more : (k : ℕ) (row : PortRow) (rows : List PortRow) → captures_out t captures sent k (row ∷ rows) ≡ (row.write, capture_out t captures sent k) ∷ captures_out t captures sent (k + 1) rows
   unfolding captures_out

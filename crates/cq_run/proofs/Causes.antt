@@ -1,5 +1,5 @@
 -- From how a run ends to what its status says. Each end has one status, and what the end says of the verdict is what the status says of it. The table of refusals is used for three facts alone: no refusal has a status of an end that is none, one with the status of read faults comes only where contents are told, and words are refused only where they are no command.
-use Rattle.std.proofs.Common.{◌≡◌, ◌≢◌, ◌⊎◌, ℕ, IsTrue, List, [], ◌∷◌, refl, ap, sym, subst, ◌∙◌, inl, inr, arith}
+use Rattle.std.proofs.Common.{◌≡◌, ◌≢◌, ◌⊎◌, ℕ, IsTrue, List, [], ◌∷◌, refl, ap, sym, subst, ◌∙◌, inl, inr}
 use Rattle.std.specs.Prelude.{Option, None, Some, IfSome, MatchOption, Result, Ok, Err, IsOk, IsOkAnd}
 use Rattle.cq_space.specs.Causes.{Rose}
 use Rattle.cq_space.specs.Space.{Contents, Space}
@@ -15,17 +15,19 @@ use Rattle.cq_run.specs.declared.stop.Stop.TheVariants.{Halted, Cut}
 use Rattle.cq_run.specs.Headline.{Emulates}
 use Rattle.cq_run.specs.Plan.{Plan}
 use Rattle.cq_run.specs.Aim.{Aim, Meets}
+use Rattle.cq_run.specs.Pace.{Pace, Uncounted, AnyName}
 use Rattle.cq_run.specs.Planning.{known_to, known_by}
 use Rattle.cq_run.specs.Reader.{Reader}
 use Rattle.cq_run.specs.Refusals.{meaning_of}
 use Rattle.cq_run.specs.Judging.{IsRefused}
-use Rattle.cq_run.specs.Verdict.{judged, judged_or_words}
+use Rattle.cq_run.specs.Verdict.{judged, judged_or_words, MayRead}
 use Rattle.cq_run.specs.World.{World, IsUntouched}
 use Rattle.cq_run.specs.Writing.{IsDone, IsCutAtFile}
 use Rattle.cq_run.specs.Ending.{WordsEnd, CommandEnds, status_of, status_by}
 use Rattle.cq_run.specs.StatusCauses.{StatusCauses}
 use Rattle.cq_run.proofs.Never.{never_words}
-use Rattle.cq_run.proofs.Planned.{same_faults, rose_known}
+use Rattle.cq_run.proofs.Counted.{counts_same, rose_from}
+use Rattle.cq_run.proofs.Planned.{counts_known, rose_known}
 use Rattle.cq_run.proofs.Told.{told_map, told_any, told_of_match, told_is_some, some_map}
 
 -- the table of refusals
@@ -51,14 +53,23 @@ missed_is_told (Configuration code path) e u = cc
 missed_is_told (Capture input fault) e u = cc
 missed_is_told (Tag fault) e u = cc
 
--- a cut at a file was counted since the start
-rose_after : (old mid new : ℕ) → mid ≡ old → Rose mid new → Rose old new
-rose_after old mid new l r = omega arith
+-- only the refusal of an input's capture is told before a fault of a name that is read behind it
+outruns_is : (r : Refusal) → IsTrue (meaning_of r).outruns → (meaning_of r).status ≡ status.Capture
+outruns_is Words h = absurd (let no : ⊥ = cc h in no)
+outruns_is (Missing name) h = absurd (let no : ⊥ = cc h in no)
+outruns_is (Configuration code path) h = absurd (let no : ⊥ = cc h in no)
+outruns_is (Capture input fault) h = refl
+outruns_is (Tag fault) h = absurd (let no : ⊥ = cc h in no)
 
+-- the statuses of answers that may come before such a fault
+abbrev Outruns : Status → Type 0
+Outruns answer = (answer ≡ status.Capture) ⊎ (answer ≡ status.NoMemory)
+
+-- a cut at a file was counted since the start
 cut_rose : (ws : List (List ℕ × List ℕ)) (name : List ℕ) (old new : Space) → IsCutAtFile ws name old new → Rose old.faults new.faults
 cut_rose [] name old new h = absurd h
 cut_rose (w ∷ ws) name old new (inl h) = h.1.cause
-cut_rose (w ∷ ws) name old new (inr h) = rose_after old.faults h.0.faults new.faults h.1.uncounted (cut_rose ws name h.0 new h.2)
+cut_rose (w ∷ ws) name old new (inr h) = rose_from old.faults h.0.faults new.faults h.1.uncounted (cut_rose ws name h.0 new h.2)
 
 -- a fact of what is aimed at where one plan meets it
 aimed : (v : Result Aim Refusal) (P Q : Aim → Type 0) → ((aim : Aim) → P aim → Q aim) → IsOkAnd v P → IsOkAnd v Q
@@ -74,8 +85,8 @@ aimed_ok (Ok aim) P h = refl
 aimed_ok (Err e) P h = absurd h
 
 -- want of memory says nothing of the verdict
-memory_causes : (v : Contents → Result Aim Refusal) (known : Option Contents) (old new : World) → new.files.faults ≡ old.files.faults → IsUntouched old new → StatusCauses v known old new status.NoMemory
-memory_causes v known old new c h = record {
+memory_causes : (p : Pace) (v : Contents → Result Aim Refusal) (known : Option Contents) (old new : World) → Uncounted p (Outruns status.NoMemory) old.files.faults new.files.faults → IsUntouched old new → StatusCauses p v known old new status.NoMemory
+memory_causes p v known old new c h = record {
   by_verdict = λ r w m. absurd (m refl);
   done = λ e. cc;
   read = λ e. cc;
@@ -87,8 +98,9 @@ memory_causes v known old new c h = record {
 }
 
 -- a refusal is the verdict where contents are known
-refusal_causes : (v : Contents → Result Aim Refusal) (known : Option Contents) (r : Refusal) (old new : World) → MatchOption known (IsTrue (meaning_of r).untold) (λ m. v m ≡ Err r) → new.files.faults ≡ old.files.faults → IsUntouched old new → StatusCauses v known old new (meaning_of r).status
-refusal_causes v known r old new h c u =
+refusal_causes : (p : Pace) (v : Contents → Result Aim Refusal) (known : Option Contents) (r : Refusal) (old new : World) → MatchOption known (IsTrue (meaning_of r).untold) (λ m. v m ≡ Err r)
+    → Uncounted p (Outruns (meaning_of r).status) old.files.faults new.files.faults → IsUntouched old new → StatusCauses p v known old new (meaning_of r).status
+refusal_causes p v known r old new h c u =
     let by : IfSome known (λ m. v m ≡ Err r) = told_of_match known _ _ h in
     record {
       by_verdict = λ _ _ _. told_map known _ _ (λ m e. ap status_by e) by;
@@ -102,8 +114,8 @@ refusal_causes v known r old new h c u =
     }
 
 -- a plan that was cut short is aimed at, and the cut was counted
-cut_causes : (v : Contents → Result Aim Refusal) (known : Option Contents) (plan : Plan) (old new : World) → IfSome known (λ m. IsOkAnd (v m) (λ aim. Meets aim plan)) → Rose old.files.faults new.files.faults ⊎ Rose old.out.faults new.out.faults → StatusCauses v known old new status.WriteFault
-cut_causes v known plan old new by rose = record {
+cut_causes : (p : Pace) (v : Contents → Result Aim Refusal) (known : Option Contents) (plan : Plan) (old new : World) → IfSome known (λ m. IsOkAnd (v m) (λ aim. Meets aim plan)) → Rose old.files.faults new.files.faults ⊎ Rose old.out.faults new.out.faults → StatusCauses p v known old new status.WriteFault
+cut_causes p v known plan old new by rose = record {
   by_verdict = λ _ w _. absurd (w refl);
   done = λ e. cc;
   read = λ e. cc;
@@ -114,19 +126,22 @@ cut_causes v known plan old new by rose = record {
   complete = λ f o. absurd (elim rose as (λ _. ⊥) [ inl r ↦ f r | inr r ↦ o r ]);
 }
 
-command_causes : (a : Reader) (R W : List ℕ → Type 0) (T : Type 0) (command : Command) (old new : World) (end : Result (Unit {0}) Stop) → CommandEnds a R W T command old new end → StatusCauses (judged a command) (known_to command old.files).told old new (status_of end)
-command_causes a R W T command old new (Ok x) h = record {
+command_causes : (p : Pace) (a : Reader) (R W : List ℕ → Type 0) (T : Type 0) (command : Command) (old new : World) (end : Result (Unit {0}) Stop) → CommandEnds p a R W T command old new end → StatusCauses p (judged a command) (known_to command old.files).told old new (status_of end)
+command_causes p a R W T command old new (Ok x) h = record {
   by_verdict = λ _ _ _. told_map (known_to command old.files).told _ _ (λ m e. aimed_status (judged a command m) (λ aim. Meets aim h.0) e) h.1.verdict;
   done = λ _. told_map (known_to command old.files).told _ _ (λ m e. aimed (judged a command m) (λ aim. Meets aim h.0) (λ aim. (plan : Plan) × Meets aim plan × IsDone plan old new) (λ aim meets. (h.0, meets, h.2)) e) h.1.verdict;
   read = λ e. cc;
   write = λ e. cc;
   write_planned = λ e. cc;
   untouched = λ d _. absurd (d refl);
-  uncounted = λ _ _. (h.2.files_uncounted, h.2.out_uncounted);
+  uncounted = λ _ _. (counts_same p (Outruns status.Done) old.files.faults new.files.faults h.2.files_uncounted, h.2.out_uncounted);
   complete = λ _ _. told_map (known_to command old.files).told _ _ (λ m e. inl (aimed_status (judged a command m) (λ aim. Meets aim h.0) e)) h.1.verdict;
 }
-command_causes a R W T command old new (Err (Halted (Refused r))) h = refusal_causes (judged a command) (known_to command old.files).told r old new h.0.0 (same_faults command old.files new.files h.0.1) h.1
-command_causes a R W T command old new (Err (Halted (Unread name))) h = record {
+command_causes p a R W T command old new (Err (Halted (Refused r))) h =
+    let U : Type 0 = IsTrue (meaning_of r).outruns × AnyName (λ name. MayRead command name × R name) in
+    refusal_causes p (judged a command) (known_to command old.files).told r old new h.0.0
+    (counts_known p U (Outruns (meaning_of r).status) command old.files new.files (λ u. inl (outruns_is r u.0)) h.0.1) h.1
+command_causes p a R W T command old new (Err (Halted (Unread name))) h = record {
   by_verdict = λ r _ _. absurd (r refl);
   done = λ e. cc;
   read = λ _. inr (rose_known command old.files new.files h.0.0);
@@ -136,16 +151,18 @@ command_causes a R W T command old new (Err (Halted (Unread name))) h = record {
   uncounted = λ r _. absurd (r refl);
   complete = λ f _. absurd (f (rose_known command old.files new.files h.0.0));
 }
-command_causes a R W T command old new (Err (Halted NoMemory)) h = memory_causes (judged a command) (known_to command old.files).told old new (same_faults command old.files new.files h.0) h.1
-command_causes a R W T command old new (Err (Cut (File name))) h = cut_causes (judged a command) (known_to command old.files).told h.0 old new h.1.verdict (inl (cut_rose h.0.writes name old.files new.files h.2.0))
-command_causes a R W T command old new (Err (Cut Output)) h = cut_causes (judged a command) (known_to command old.files).told h.0 old new h.1.verdict (inr h.2.0.cause)
+command_causes p a R W T command old new (Err (Halted NoMemory)) h =
+    memory_causes p (judged a command) (known_to command old.files).told old new
+    (counts_known p (AnyName (λ name. MayRead command name × R name)) (Outruns status.NoMemory) command old.files new.files (λ u. inr refl) h.0) h.1
+command_causes p a R W T command old new (Err (Cut (File name))) h = cut_causes p (judged a command) (known_to command old.files).told h.0 old new h.1.verdict (inl (cut_rose h.0.writes name old.files new.files h.2.0))
+command_causes p a R W T command old new (Err (Cut Output)) h = cut_causes p (judged a command) (known_to command old.files).told h.0 old new h.1.verdict (inr h.2.0.cause)
 
 untouched : (old new : World) → new ≡ old → IsUntouched old new
 untouched old new e = record { told = ap (λ w. w.files.told) e; out = ap (λ w. w.out) e }
 
-words_causes : (a : Reader) (old new : World) (end : Result (Unit {0}) Stop) → WordsEnd old new end → StatusCauses (judged_or_words a None) old.files.told old new (status_of end)
-words_causes a old new end (e, h) =
-    let P : Result (Unit {0}) Stop → Type 0 = λ r. StatusCauses (judged_or_words a None) old.files.told old new (status_of r) in
+words_causes : (p : Pace) (a : Reader) (old new : World) (end : Result (Unit {0}) Stop) → WordsEnd old new end → StatusCauses p (judged_or_words a None) old.files.told old new (status_of end)
+words_causes p a old new end (e, h) =
+    let P : Result (Unit {0}) Stop → Type 0 = λ r. StatusCauses p (judged_or_words a None) old.files.told old new (status_of r) in
     subst P (sym e) record {
       by_verdict = λ _ _ _. told_any old.files.told _ (λ m. refl);
       done = λ d. cc;
@@ -153,17 +170,17 @@ words_causes a old new end (e, h) =
       write = λ w. cc;
       write_planned = λ w. cc;
       untouched = λ _ _. untouched old new h;
-      uncounted = λ _ _. (ap (λ w. w.files.faults) h, ap (λ w. w.out.faults) h);
+      uncounted = λ _ _. (counts_same p (Outruns status.Words) old.files.faults new.files.faults (ap (λ w. w.files.faults) h), ap (λ w. w.out.faults) h);
       complete = λ _ _. told_any old.files.told _ (λ m. inl refl);
     }
 
-causes : (a : Reader) (R W : List ℕ → Type 0) (T : Type 0) (command : Option Command) (old new : World) (end : Result (Unit {0}) Stop) → MatchOption command (WordsEnd old new end) (λ c. CommandEnds a R W T c old new end) → StatusCauses (judged_or_words a command) (known_by command old.files) old new (status_of end)
-causes a R W T None old new end h = words_causes a old new end h
-causes a R W T (Some c) old new end h = command_causes a R W T c old new end h
+causes : (p : Pace) (a : Reader) (R W : List ℕ → Type 0) (T : Type 0) (command : Option Command) (old new : World) (end : Result (Unit {0}) Stop) → MatchOption command (WordsEnd old new end) (λ c. CommandEnds p a R W T c old new end) → StatusCauses p (judged_or_words a command) (known_by command old.files) old new (status_of end)
+causes p a R W T None old new end h = words_causes p a old new end h
+causes p a R W T (Some c) old new end h = command_causes p a R W T c old new end h
 
 -- the top call's status is that of its end
-pub causes_at : (a : Reader) (R W : List ℕ → Type 0) (T : Type 0) (command : Option Command) (old new : World) (end : Result (Unit {0}) Stop) (answer : Status) → answer ≡ status_of end → MatchOption command (WordsEnd old new end) (λ c. CommandEnds a R W T c old new end) → StatusCauses (judged_or_words a command) (known_by command old.files) old new answer
-causes_at a R W T command old new end answer e h = let P : Status → Type 0 = λ s. StatusCauses (judged_or_words a command) (known_by command old.files) old new s in subst P (sym e) (causes a R W T command old new end h)
+pub causes_at : (p : Pace) (a : Reader) (R W : List ℕ → Type 0) (T : Type 0) (command : Option Command) (old new : World) (end : Result (Unit {0}) Stop) (answer : Status) → answer ≡ status_of end → MatchOption command (WordsEnd old new end) (λ c. CommandEnds p a R W T c old new end) → StatusCauses p (judged_or_words a command) (known_by command old.files) old new answer
+causes_at p a R W T command old new end answer e h = let P : Status → Type 0 = λ s. StatusCauses p (judged_or_words a command) (known_by command old.files) old new s in subst P (sym e) (causes p a R W T command old new end h)
 
 -- only words that are no command are refused as such
 
@@ -178,34 +195,44 @@ not_refused : (a : Reader) (command : Command) (told : Option Contents) → IsRe
 not_refused a command None h = cc
 not_refused a command (Some m) h = never_words a command m h
 
-not_words : (a : Reader) (R W : List ℕ → Type 0) (T : Type 0) (command : Command) (old new : World) (end : Result (Unit {0}) Stop) → CommandEnds a R W T command old new end → status_of end ≡ status.Words → ⊥
-not_words a R W T command old new (Ok x) h e = cc
-not_words a R W T command old new (Err (Halted (Refused r))) h e =
+not_words : (p : Pace) (a : Reader) (R W : List ℕ → Type 0) (T : Type 0) (command : Command) (old new : World) (end : Result (Unit {0}) Stop) → CommandEnds p a R W T command old new end → status_of end ≡ status.Words → ⊥
+not_words p a R W T command old new (Ok x) h e = cc
+not_words p a R W T command old new (Err (Halted (Refused r))) h e =
     let P : Refusal → Type 0 = λ s. IsRefused (judged a command) (known_to command old.files).told s in
     not_refused a command (known_to command old.files).told (subst P (words_is r e) h.0.0)
-not_words a R W T command old new (Err (Halted (Unread name))) h e = cc
-not_words a R W T command old new (Err (Halted NoMemory)) h e = cc
-not_words a R W T command old new (Err (Cut at)) h e = cc
+not_words p a R W T command old new (Err (Halted (Unread name))) h e = cc
+not_words p a R W T command old new (Err (Halted NoMemory)) h e = cc
+not_words p a R W T command old new (Err (Cut at)) h e = cc
 
 -- words that are no command end with the status of such words
-pub words_end : (a : Reader) (R W : List ℕ → Type 0) (T : Type 0) (command : Option Command) (old new : World) (end : Result (Unit {0}) Stop) (answer : Status) → answer ≡ status_of end
-    → MatchOption command (WordsEnd old new end) (λ c. CommandEnds a R W T c old new end) → command ≡ None → answer ≡ status.Words
-words_end a R W T None old new end answer e h none = e ∙ ap status_of h.0
-words_end a R W T (Some c) old new end answer e h none = absurd (let P : ⊥ = cc none in P)
+pub words_end : (p : Pace) (a : Reader) (R W : List ℕ → Type 0) (T : Type 0) (command : Option Command) (old new : World) (end : Result (Unit {0}) Stop) (answer : Status) → answer ≡ status_of end
+    → MatchOption command (WordsEnd old new end) (λ c. CommandEnds p a R W T c old new end) → command ≡ None → answer ≡ status.Words
+words_end p a R W T None old new end answer e h none = e ∙ ap status_of h.0
+words_end p a R W T (Some c) old new end answer e h none = absurd (let P : ⊥ = cc none in P)
 
-pub only_words : (a : Reader) (R W : List ℕ → Type 0) (T : Type 0) (command : Option Command) (old new : World) (end : Result (Unit {0}) Stop) (answer : Status) → answer ≡ status_of end → MatchOption command (WordsEnd old new end) (λ c. CommandEnds a R W T c old new end) → answer ≡ status.Words → command ≡ None
-only_words a R W T None old new end answer e h w = refl
-only_words a R W T (Some c) old new end answer e h w = absurd (not_words a R W T c old new end h (sym e ∙ w))
+pub only_words : (p : Pace) (a : Reader) (R W : List ℕ → Type 0) (T : Type 0) (command : Option Command) (old new : World) (end : Result (Unit {0}) Stop) (answer : Status) → answer ≡ status_of end → MatchOption command (WordsEnd old new end) (λ c. CommandEnds p a R W T c old new end) → answer ≡ status.Words → command ≡ None
+only_words p a R W T None old new end answer e h w = refl
+only_words p a R W T (Some c) old new end answer e h w = absurd (not_words p a R W T c old new end h (sym e ∙ w))
 
 -- ## The headline
 
 -- a command that is done emulates
-pub emulated : (a : Reader) (R W : List ℕ → Type 0) (T : Type 0) (command : Option Command) (old new : World)
-    → MatchOption command (WordsEnd old new (Ok tt)) (λ c. CommandEnds a R W T c old new (Ok tt)) → (c : Command) → command ≡ Some c
+emulated : (p : Pace) (a : Reader) (R W : List ℕ → Type 0) (T : Type 0) (command : Option Command) (old new : World) (x : Unit {0})
+    → MatchOption command (WordsEnd old new (Ok x)) (λ c. CommandEnds p a R W T c old new (Ok x)) → (c : Command) → command ≡ Some c
     → IfSome old.files.told (λ m. (plan : Plan) × Emulates a c m plan × IsDone plan old new)
-emulated a R W T None old new h c e = absurd (let P : ⊥ = cc e in P)
-emulated a R W T (Some d) old new h c e =
+emulated p a R W T None old new x h c e = absurd (let P : ⊥ = cc e in P)
+emulated p a R W T (Some d) old new x h c e =
     let same : d ≡ c = cc e in
-    let P : Command → Type 0 = λ x. CommandEnds a R W T x old new (Ok tt) in
-    let ends : CommandEnds a R W T c old new (Ok tt) = subst P same h in
+    let P : Command → Type 0 = λ y. CommandEnds p a R W T y old new (Ok x) in
+    let ends : CommandEnds p a R W T c old new (Ok x) = subst P same h in
     told_map old.files.told _ _ (λ m does. (ends.0, does, ends.2)) ends.1.emulates
+
+-- the same of an end that is known by its status
+pub emulated_at : (p : Pace) (a : Reader) (R W : List ℕ → Type 0) (T : Type 0) (command : Option Command) (old new : World) (end : Result (Unit {0}) Stop)
+    → status_of end ≡ status.Done → MatchOption command (WordsEnd old new end) (λ c. CommandEnds p a R W T c old new end) → (c : Command) → command ≡ Some c
+    → IfSome old.files.told (λ m. (plan : Plan) × Emulates a c m plan × IsDone plan old new)
+emulated_at p a R W T command old new (Ok x) done h c e = emulated p a R W T command old new x h c e
+emulated_at p a R W T command old new (Err (Halted (Refused r))) done h c e = absurd (not_done r done)
+emulated_at p a R W T command old new (Err (Halted (Unread name))) done h c e = absurd (let P : ⊥ = cc done in P)
+emulated_at p a R W T command old new (Err (Halted NoMemory)) done h c e = absurd (let P : ⊥ = cc done in P)
+emulated_at p a R W T command old new (Err (Cut at)) done h c e = absurd (let P : ⊥ = cc done in P)

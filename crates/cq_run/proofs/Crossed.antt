@@ -22,10 +22,11 @@ use Rattle.cq_simulate.specs.declared.fabric_run.FabricRun.{FabricRun}
 use Rattle.cq_space.specs.Space.{Contents, Space}
 use Rattle.cq_run.specs.Headline.{IsEmulation, KeepsUp}
 use Rattle.cq_run.specs.Judging.{Judges}
+use Rattle.cq_run.specs.Pace.{Pace}
 use Rattle.cq_run.specs.Plan.{Plan}
 use Rattle.cq_run.specs.Plans.{captures_out, crossed, report_on, reported}
 use Rattle.cq_run.specs.Reader.{Reader}
-use Rattle.cq_run.specs.Switching.{IsCrossed}
+use Rattle.cq_run.specs.Switching.{IsCrossed, IsCrossing}
 use Rattle.cq_run.specs.Verdict.{sent_or_tag, tables_in, captures_in}
 use Rattle.cq_run.specs.declared.switching.Crossed.{Crossed}
 use Rattle.cq_run.proofs.Captures.{plan_is}
@@ -88,23 +89,37 @@ module _ (t : Tables) (captures : List (List Captured)) (c : Crossed) (is : IsCr
   unfolding reported
   plan_reported writes text = plan_is plan _ _ writes (text ∙ report_is)
 
-  emulates_at : (r : Reader) (config : List ℕ) (m : Contents) → plan ≡ crossed t captures c.switched.sent.items is.records → tables_in config m ≡ Ok t → captures_in r t m ≡ Ok captures → IsEmulation r config m plan
-  emulates_at r config m e configured captured = record {
+-- a plan of such a run is one of what the crossbar switch does
+pub crossing : (t : Tables) (captures : List (List Captured)) (c : Crossed) (is : IsCrossed t captures c) (plan : Plan) →
+    plan.writes ≡ captures_out t captures c.switched.sent.items 0 t.ports ++ (t.trace, trace_of c.switched.sent.items) ∷ (t.log, log_of c.note.items) ∷ [] →
+    plan.text ≡ report_with c.figures c.refused.items → IsCrossing t captures plan
+crossing t captures c is plan writes text = record {
+  sent = c.switched.sent.items;
+  is_sent = is.switched.sent;
+  records = is.records;
+  keeps_up = is.keeps_up;
+  departed = is.departed;
+  written = plan_crossed t captures c is plan writes text;
+}
+
+module _ (t : Tables) (captures : List (List Captured)) (plan : Plan) (is : IsCrossing t captures plan) where
+  emulates_at : (r : Reader) (config : List ℕ) (m : Contents) → tables_in config m ≡ Ok t → captures_in r t m ≡ Ok captures → IsEmulation r config m plan
+  emulates_at r config m configured captured = record {
     tables = t;
     configured = configured;
     captures = captures;
     captured = captured;
     records = is.records;
     keeps_up = is.keeps_up;
-    written = e ∙ ap (λ (sent : List Departure). crossed t captures sent is.records) is.departed;
+    written = is.written ∙ ap (λ (sent : List Departure). crossed t captures sent is.records) is.departed;
   }
 
-  emulates_told : (r : Reader) (config : List ℕ) (told : Option Contents) → plan ≡ crossed t captures c.switched.sent.items is.records → IfSome told (λ m. tables_in config m ≡ Ok t) → IfSome told (λ m. captures_in r t m ≡ Ok captures) → IfSome told (λ m. IsEmulation r config m plan)
-  emulates_told r config None e g h = tt
-  emulates_told r config (Some m) e g h = emulates_at r config m e g h
+  emulates_told : (r : Reader) (config : List ℕ) (told : Option Contents) → IfSome told (λ m. tables_in config m ≡ Ok t) → IfSome told (λ m. captures_in r t m ≡ Ok captures) → IfSome told (λ m. IsEmulation r config m plan)
+  emulates_told r config None g h = tt
+  emulates_told r config (Some m) g h = emulates_at r config m g h
 
-  -- what is written of a configuration and captures that were read
-  pub emulates : (r : Reader) (config : List ℕ) (Q R : List ℕ → Type 0) (old mid new : Space) → plan ≡ crossed t captures c.switched.sent.items is.records → Judges (tables_in config) Q old mid (Ok t) → Judges (captures_in r t) R mid new (Ok captures) → IfSome old.told (λ m. IsEmulation r config m plan)
-  emulates r config Q R old mid new e g h =
+  -- what is written of a configuration and captures that were read, at either pace
+  pub emulates : {p q : Pace} (r : Reader) (config : List ℕ) (Q R : List ℕ → Type 0) (old mid new : Space) → Judges p (tables_in config) Q old mid (Ok t) → Judges q (captures_in r t) R mid new (Ok captures) → IfSome old.told (λ m. IsEmulation r config m plan)
+  emulates r config Q R old mid new g h =
       let P : Option Contents → Type 0 = λ o. IfSome o (λ m. captures_in r t m ≡ Ok captures) in
-      emulates_told r config old.told e g.ok (subst P g.told h.ok)
+      emulates_told r config old.told g.ok (subst P g.told h.ok)

@@ -1,5 +1,5 @@
 -- A cut that is told from after judging is told from before it: judging that comes to a plan leaves contents and the count of faults as they are.
-use Rattle.std.proofs.Common.{◌≡◌, ℕ, ◌∙◌, List, [], ◌∷◌, take, ap, sym, subst, inl, inr, arith}
+use Rattle.std.proofs.Common.{◌≡◌, ℕ, ◌∙◌, List, [], ◌∷◌, take, ap, sym, subst, inl, inr}
 use Rattle.std.specs.Prelude.{Option, Result, Ok, Err, IsErrAnd}
 use Rattle.std.specs.Io.KnownBytes.{append_known}
 use Rattle.cq_space.specs.Causes.{Rose}
@@ -9,14 +9,13 @@ use Rattle.cq_run.specs.declared.stop.Unwritten.TheVariants.{File, Output}
 use Rattle.cq_words.specs.declared.command.Command.{Command}
 use Rattle.cq_run.specs.declared.stop.Stop.{Stop}
 use Rattle.cq_run.specs.declared.stop.Stop.TheVariants.{Cut}
+use Rattle.cq_run.specs.Pace.{Pace}
 use Rattle.cq_run.specs.Plan.{Plan}
 use Rattle.cq_run.specs.Reader.{Reader}
 use Rattle.cq_run.specs.Ending.{CommandEnds, IsPlanned}
 use Rattle.cq_run.specs.World.{World, Taken}
 use Rattle.cq_run.specs.Writing.{IsDone, IsCut, IsCutAtFile, IsCutShort, all_replaced}
-
-rose_from : (old mid new : ℕ) → mid ≡ old → Rose mid new → Rose old new
-rose_from old mid new l r = omega arith
+use Rattle.cq_run.proofs.Counted.{rose_from}
 
 short_from : (w : List ℕ × List ℕ) (old mid new : Space) → mid.told ≡ old.told → mid.faults ≡ old.faults → IsCutShort w mid new → IsCutShort w old new
 short_from w old mid new t l h = record {
@@ -43,17 +42,17 @@ cut_from U V T plan old mid new Output i t l o h = (
 )
 
 -- a command whose plan was cut short ends so
-pub cut_ends : (r : Reader) (R U V : List ℕ → Type 0) (T : Type 0) (command : Command) (plan : Plan) (old mid new : World) (at : Unwritten) (end : Result (Unit {0}) Stop) → IsErrAnd end (λ stop. stop ≡ Cut at) → IsPlanned r command old.files plan
-    → ((name : List ℕ) → U name → V name) → mid.files.told ≡ old.files.told → mid.files.faults ≡ old.files.faults → mid.out ≡ old.out → IsCut U T plan mid new at → CommandEnds r R V T command old new end
-cut_ends r R U V T command plan old mid new at (Ok x) e j i t l o h = absurd e
-cut_ends r R U V T command plan old mid new at (Err stop) e j i t l o h =
-    let P : Stop → Type 0 = λ s. CommandEnds r R V T command old new (Err s) in
+pub cut_ends : (p : Pace) (r : Reader) (R U V : List ℕ → Type 0) (T : Type 0) (command : Command) (plan : Plan) (old mid new : World) (at : Unwritten) (end : Result (Unit {0}) Stop) → IsErrAnd end (λ stop. stop ≡ Cut at) → IsPlanned r command old.files plan
+    → ((name : List ℕ) → U name → V name) → mid.files.told ≡ old.files.told → mid.files.faults ≡ old.files.faults → mid.out ≡ old.out → IsCut U T plan mid new at → CommandEnds p r R V T command old new end
+cut_ends p r R U V T command plan old mid new at (Ok x) e j i t l o h = absurd e
+cut_ends p r R U V T command plan old mid new at (Err stop) e j i t l o h =
+    let P : Stop → Type 0 = λ s. CommandEnds p r R V T command old new (Err s) in
     subst P (sym e) (plan, j, cut_from U V T plan old mid new at i t l o h)
 
 -- a command whose plan is done ends so
-pub done_ends : (r : Reader) (R W : List ℕ → Type 0) (T : Type 0) (command : Command) (plan : Plan) (old mid new : World) (x : Unit {0}) → IsPlanned r command old.files plan → mid.files.told ≡ old.files.told → mid.files.faults ≡ old.files.faults → mid.out ≡ old.out → IsDone plan mid new
-    → CommandEnds r R W T command old new (Ok x)
-done_ends r R W T command plan old mid new x j t l o h = (
+pub done_ends : (p : Pace) (r : Reader) (R W : List ℕ → Type 0) (T : Type 0) (command : Command) (plan : Plan) (old mid new : World) (x : Unit {0}) → IsPlanned r command old.files plan → mid.files.told ≡ old.files.told → mid.files.faults ≡ old.files.faults → mid.out ≡ old.out → IsDone plan mid new
+    → CommandEnds p r R W T command old new (Ok x)
+done_ends p r R W T command plan old mid new x j t l o h = (
   plan,
   j,
   record {

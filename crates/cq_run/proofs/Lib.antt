@@ -5,6 +5,7 @@ pub mod Captures
 pub mod TooLong
 pub mod Configured
 pub mod Failed
+pub mod Counted
 pub mod Chain
 pub mod Never
 pub mod Ports
@@ -18,3 +19,5 @@ pub mod Within
 pub mod OneReading
 pub mod OnePort
 pub mod AllLeave
+pub mod Behind
+pub mod Streaming

@@ -146,7 +146,7 @@ module _ (ms : List Machine) (slot : ℕ) (ranks : List (List ℕ)) where
       given = slice_set ranks cell.output (m.given state cell.class)
 
       q : Queued
-      q = keyed cell rank slot 0
+      q = keyed cell (m.level cell.class) rank slot 0
 
       fault : TagFault
       fault = record { slot = slot; input = 0; output = cell.output }

@@ -8,6 +8,7 @@ use Rattle.cq_route.specs.declared.tables.PortRow.{PortRow}
 use Rattle.cq_run.specs.declared.refusal.Refusal.{Refusal}
 use Rattle.cq_run.specs.declared.stop.Halt.{Halt}
 use Rattle.cq_run.specs.Judging.{Judges}
+use Rattle.cq_run.specs.Pace.{InTurn}
 use Rattle.cq_run.specs.Reader.{Reader}
 use Rattle.cq_run.specs.Verdict.{◌>>=◌, packets_at, captures_from}
 use Rattle.cq_run.proofs.Stays.{captures_from_stay}
@@ -50,7 +51,7 @@ module _ (r : Reader) (limit : ℕ) (rows : List PortRow) (k : ℕ) (row : PortR
       sym (ap (λ (rs : List PortRow). captures_from r limit 0 rs m) around ∙ split_at r limit 0 k (take k rows) row (drop (k + 1) rows) m (omega (arith, length_before)))
 
   -- what ends reading at this port ends reading them all
-  pub ends_all : (Q R S : List ℕ → Type 0) (old mid new : Space) (made : List Packets) (halt : Halt) → ((name : List ℕ) → R name → S name) → Judges (captures_from r limit 0 (take k rows)) Q old mid (Ok made) → Judges (packets_at r k limit row.read) R mid new (Err halt) → Judges (captures_from r limit 0 rows) S old new (Err halt)
+  pub ends_all : (Q R S : List ℕ → Type 0) (old mid new : Space) (made : List Packets) (halt : Halt) → ((name : List ℕ) → R name → S name) → Judges InTurn (captures_from r limit 0 (take k rows)) Q old mid (Ok made) → Judges InTurn (packets_at r k limit row.read) R mid new (Err halt) → Judges InTurn (captures_from r limit 0 rows) S old new (Err halt)
   ends_all Q R S old mid new made halt i g h =
       judges_as_err (λ (m : Contents). captures_from r limit 0 (take k rows) m >>= (λ made. then_rest made m)) (captures_from r limit 0 rows) all_is S old new halt
       (judges_after (captures_from r limit 0 (take k rows)) then_rest Q R S old mid new made halt (captures_from_stay r limit 0 (take k rows)) i g
@@ -67,9 +68,9 @@ module _ (r : Reader) (limit : ℕ) (rows : List PortRow) (k : ℕ) (row : PortR
   more_is m = sym (ap (λ (rs : List PortRow). captures_from r limit 0 rs m) take_more_is ∙ split_at r limit 0 k (take k rows) row [] m (omega (arith, length_before)))
 
   -- one port more
-  pub reads_more : (Q R : List ℕ → Type 0) (old mid new : Space) (made : List Packets) (q : Packets) (more : List Packets) → more ≡ made ++ q ∷ [] → Judges (captures_from r limit 0 (take k rows)) R old mid (Ok made) → Judges (packets_at r k limit row.read) Q mid new (Ok q) → Judges (captures_from r limit 0 (take (k + 1) rows)) R old new (Ok more)
+  pub reads_more : (Q R : List ℕ → Type 0) (old mid new : Space) (made : List Packets) (q : Packets) (more : List Packets) → more ≡ made ++ q ∷ [] → Judges InTurn (captures_from r limit 0 (take k rows)) R old mid (Ok made) → Judges InTurn (packets_at r k limit row.read) Q mid new (Ok q) → Judges InTurn (captures_from r limit 0 (take (k + 1) rows)) R old new (Ok more)
   reads_more Q R old mid new made q more e g h =
-      let P : List Packets → Type 0 = λ x. Judges (captures_from r limit 0 (take (k + 1) rows)) R old new (Ok x) in
+      let P : List Packets → Type 0 = λ x. Judges InTurn (captures_from r limit 0 (take (k + 1) rows)) R old new (Ok x) in
       subst P (sym e)
       (judges_as_ok (λ (m : Contents). captures_from r limit 0 (take k rows) m >>= (λ made. then_this made m)) (captures_from r limit 0 (take (k + 1) rows)) more_is R old new (made ++ q ∷ [])
       (judges_both (captures_from r limit 0 (take k rows)) then_this R R R old mid new made (made ++ q ∷ []) g
@@ -77,12 +78,12 @@ module _ (r : Reader) (limit : ℕ) (rows : List PortRow) (k : ℕ) (row : PortR
       (judges_computed (Ok (made ++ q ∷ [])) R new (made ++ q ∷ []) h.closed refl))))
 
 -- all ports were read
-pub reads_all : (r : Reader) (limit : ℕ) (rows : List PortRow) (k : ℕ) (Q R : List ℕ → Type 0) (old new : Space) (made : List Packets) → length rows ≤ k → Judges (captures_from r limit 0 (take k rows)) Q old new (Ok made) → Judges (captures_from r limit 0 rows) R old new (Ok made)
-reads_all r limit rows k Q R old new made over h = judges_any (captures_from r limit 0 rows) Q R old new made (let P : List PortRow → Type 0 = λ rs. Judges (captures_from r limit 0 rs) Q old new (Ok made) in subst P (take_all k rows over) h)
+pub reads_all : (r : Reader) (limit : ℕ) (rows : List PortRow) (k : ℕ) (Q R : List ℕ → Type 0) (old new : Space) (made : List Packets) → length rows ≤ k → Judges InTurn (captures_from r limit 0 (take k rows)) Q old new (Ok made) → Judges InTurn (captures_from r limit 0 rows) R old new (Ok made)
+reads_all r limit rows k Q R old new made over h = judges_any (captures_from r limit 0 rows) Q R old new made (let P : List PortRow → Type 0 = λ rs. Judges InTurn (captures_from r limit 0 rs) Q old new (Ok made) in subst P (take_all k rows over) h)
 
 -- no port was read yet
-pub reads_none : (r : Reader) (limit : ℕ) (rows : List PortRow) (R : List ℕ → Type 0) (at : Space) (made : List Packets) → at.mode ≡ Closed → made ≡ [] → Judges (captures_from r limit 0 (take 0 rows)) R at at (Ok made)
+pub reads_none : (r : Reader) (limit : ℕ) (rows : List PortRow) (R : List ℕ → Type 0) (at : Space) (made : List Packets) → at.mode ≡ Closed → made ≡ [] → Judges InTurn (captures_from r limit 0 (take 0 rows)) R at at (Ok made)
 unfolding captures_from
 reads_none r limit rows R at made c e =
-    let P : List Packets → Type 0 = λ x. Judges (captures_from r limit 0 []) R at at (Ok x) in
+    let P : List Packets → Type 0 = λ x. Judges InTurn (captures_from r limit 0 []) R at at (Ok x) in
     subst P (sym e) (judges_computed (Ok []) R at [] c refl)

@@ -9,6 +9,7 @@ use Rattle.std.proofs.Math.Seq.{take-append-add}
 use Rattle.cq_space.specs.Causes.{Rose}
 use Rattle.cq_run.specs.World.{Taken}
 use Rattle.cq_run.specs.Line.{Puts, line}
+use Rattle.cq_run.proofs.Counted.{rose_from}
 
 -- the digits that were written at the front
 pub front_is : (text old new : List ℕ) (count : ℕ) → count ≡ length text → new ≡ text ++ drop count old → take count new ≡ text
@@ -57,9 +58,6 @@ pub puts_cut : {E : Type 0} (a b : List ℕ) (old new : Taken) (r : Result (Unit
 puts_cut a b old new r err front later rose =
     puts_front (a ++ b) old new r err (length (take front.0 a), front.1 ∙ ap (append_known old.bytes) (front_of_longer a b front.0)) later rose
 
-rose_after : (old mid new : ℕ) → mid ≡ old → Rose mid new → Rose old new
-rose_after old mid new l r = omega arith
-
 -- the first of two texts was put whole, and then the second was put
 pub puts_then : {E : Type 0} (a b : List ℕ) (old mid new : Taken) (r : Result (Unit {0}) E) → mid.bytes ≡ append_known old.bytes a → mid.faults ≡ old.faults → Puts b mid new r → Puts (a ++ b) old new r
 puts_then a b old mid new (Ok x) e l h = record {
@@ -74,7 +72,7 @@ puts_then a b old mid new (Err f) e l h = record {
         ∙ append_known-append_known old.bytes a (take h.bytes.0 b)
         ∙ ap (append_known old.bytes) (sym (take-append-add a b h.bytes.0)),
   );
-  cause = record { later = let later = h.cause.later in omega arith; uncounted = tt; failed = rose_after old.faults mid.faults new.faults l h.cause.failed };
+  cause = record { later = let later = h.cause.later in omega arith; uncounted = tt; failed = rose_from old.faults mid.faults new.faults l h.cause.failed };
 }
 
 -- all pieces, by those before the one at a place

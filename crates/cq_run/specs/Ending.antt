@@ -15,6 +15,7 @@ use Rattle.cq_words.specs.Words.{command_for}
 use Rattle.cq_run.specs.Plan.{Plan}
 use Rattle.cq_run.specs.Aim.{Aim, Meets}
 use Rattle.cq_run.specs.Headline.{Emulates}
+use Rattle.cq_run.specs.Pace.{Pace}
 use Rattle.cq_run.specs.Planning.{known_to}
 use Rattle.cq_run.specs.Reader.{Reader}
 use Rattle.cq_run.specs.Refusals.{meaning_of}
@@ -31,20 +32,27 @@ pub record IsPlanned (r : Reader) (command : Command) (old : Space) (plan : Plan
 
 -- how a command may end: its plan is done, nothing was written, or its plan was cut short. What is known of the call that failed are
 -- the parameters: that it reads the name, that it writes the name, or that it is one on standard output
-abbrev pub CommandEnds : Reader → (unread unwritten : List ℕ → Type 0) → Type 0 → Command → World → World → Result (Unit {0}) Stop → Type 0
-CommandEnds r unread unwritten untaken command old new (Ok x) = (plan : Plan) × IsPlanned r command old.files plan × IsDone plan old new
-CommandEnds r unread unwritten untaken command old new (Err (Halted halt)) =
-    Halts (judged r command) (λ name. MayRead command name × unread name) (known_to command old.files) (known_to command new.files) halt × IsUntouched old new
-CommandEnds r unread unwritten untaken command old new (Err (Cut at)) = (plan : Plan) × IsPlanned r command old.files plan × IsCut unwritten untaken plan old new at
+abbrev pub CommandEnds : Pace → Reader → (unread unwritten : List ℕ → Type 0) → Type 0 → Command → World → World
+    → Result (Unit {0}) Stop → Type 0
+CommandEnds pace r unread unwritten untaken command old new (Ok x) =
+    (plan : Plan) × IsPlanned r command old.files plan × IsDone plan old new
+CommandEnds pace r unread unwritten untaken command old new (Err (Halted halt)) =
+    Halts pace (judged r command) (λ name. MayRead command name × unread name) (known_to command old.files)
+    (known_to command new.files) halt
+    × IsUntouched old new
+CommandEnds pace r unread unwritten untaken command old new (Err (Cut at)) =
+    (plan : Plan) × IsPlanned r command old.files plan × IsCut unwritten untaken plan old new at
 
 -- words that are no command are refused; files and standard output are as before, with their counts of faults
 abbrev pub WordsEnd : World → World → Result (Unit {0}) Stop → Type 0
 WordsEnd old new end = (end ≡ Err (Halted (Refused refusal.Words))) × (new ≡ old)
 
 -- how a run may end: by whether its words are a command
-abbrev pub Ends : Reader → (unread unwritten : List ℕ → Type 0) → Type 0 → List (List ℕ) → World → World → Result (Unit {0}) Stop → Type 0
-Ends r unread unwritten untaken words old new end =
-    MatchOption (command_for words) (WordsEnd old new end) (λ command. CommandEnds r unread unwritten untaken command old new end)
+abbrev pub Ends : Pace → Reader → (unread unwritten : List ℕ → Type 0) → Type 0 → List (List ℕ) → World → World
+    → Result (Unit {0}) Stop → Type 0
+Ends pace r unread unwritten untaken words old new end =
+    MatchOption (command_for words) (WordsEnd old new end)
+    (λ command. CommandEnds pace r unread unwritten untaken command old new end)
 
 -- the status of a run that halts so
 abbrev pub halt_status : Halt → Status

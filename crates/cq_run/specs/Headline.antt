@@ -18,7 +18,7 @@ use Rattle.cq_run.specs.Reader.{Reader}
 use Rattle.cq_run.specs.Verdict.{tables_in, capture_in, captures_in}
 
 -- The records, slot by slot, of the crossbar switch with the traffic of these captures: it keeps up with the ideal switch
--- (Chuang, Goel, McKeown and Prabhakar 1999) of the same ranks and limits.
+-- (Chuang, Goel, McKeown and Prabhakar 1999) of the same levels, ranks and limits.
 pub record KeepsUp (t : Tables) (captures : List (List Captured)) (rs : List LimitedRecord) : Type 0 where
   -- they are the whole run of the definition, from the empty switch on up to the last slot in which a cell arrives, waits or leaves
   pub runs : IsFabricRun t (arrivals t captures) rs

@@ -4,9 +4,12 @@ pub mod Passing
 pub mod Aim
 pub mod Refusals
 pub mod Reader
+pub mod Pace
 pub mod Verdict
 pub mod Judging
 pub mod Switching
+pub mod Input
+pub mod Decoding
 pub mod World
 pub mod Writing
 pub mod Planning

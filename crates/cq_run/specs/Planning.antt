@@ -9,12 +9,14 @@ use Rattle.cq_run.specs.declared.refusal.Refusal.{Refusal}
 use Rattle.cq_run.specs.declared.stop.Halt.{Halt}
 use Rattle.cq_run.specs.Aim.{Aim, Meets}
 use Rattle.cq_run.specs.Judging.{Judges}
+use Rattle.cq_run.specs.Pace.{Pace}
 use Rattle.cq_run.specs.Plan.{Plan}
 
 -- what a call that judges a command answers and leaves
-abbrev pub Plans : (Contents → Result Aim Refusal) → (List ℕ → Type 0) → Space → Space → Result Plan Halt → Type 0
-Plans judge unread old new (Ok plan) = (aim : Aim) × Meets aim plan × Judges judge unread old new (Ok aim)
-Plans judge unread old new (Err halt) = Judges judge unread old new (Err halt)
+abbrev pub Plans : Pace → (Contents → Result Aim Refusal) → (List ℕ → Type 0) → Space → Space → Result Plan Halt
+    → Type 0
+Plans pace judge unread old new (Ok plan) = (aim : Aim) × Meets aim plan × Judges pace judge unread old new (Ok aim)
+Plans pace judge unread old new (Err halt) = Judges pace judge unread old new (Err halt)
 
 -- the file space as a command knows it. One that reads nothing comes to the same whatever the contents, told or not
 abbrev pub known_to : Command → Space → Space

@@ -17,6 +17,9 @@ pub record Meaning : Type 0 where
   pub text : List ℕ
   -- whether it can come where the file space does not tell its contents
   pub untold : Bool
+  -- whether files may have been read behind it, where they are read ahead: a capture is told before those of later
+  -- inputs
+  pub outruns : Bool
 
 -- a fault of the bytes of a capture is told as it is
 abbrev pub capture_fault : pcap.Fault → CaptureFault
@@ -41,12 +44,33 @@ fault_text (Long limit) = codes "8, limit " ++ decimal limit
 
 -- the forms of the commands
 abbrev pub usage : List ℕ
-usage = codes "usage: cq_switch pass IN OUT | check CONFIG | ideal CONFIG | run CONFIG | soak SEED PORTS SLOTS"
+usage = codes "usage: cq_switch pass IN OUT | check CONFIG | ideal CONFIG | run CONFIG | soak SEED PORTS SLOTS | stream CONFIG"
 
 -- words are judged before any file is asked for, and a name is missed only where contents are told
 abbrev pub meaning_of : Refusal → Meaning
-meaning_of Words = record { status = status.Words; text = usage; untold = false }
-meaning_of (Missing name) = record { status = status.ReadFault; text = codes "read fault: " ++ name; untold = false }
-meaning_of (Configuration code path) = record { status = status.Configuration; text = codes "configuration: C" ++ decimal code ++ codes " at " ++ path; untold = true }
-meaning_of (Capture input fault) = record { status = status.Capture; text = codes "capture of input " ++ decimal input ++ codes ": " ++ fault_text fault; untold = true }
-meaning_of (Tag fault) = record { status = status.Tag; text = codes "tag: slot " ++ decimal fault.slot ++ codes ", input " ++ decimal fault.input ++ codes ", output " ++ decimal fault.output; untold = true }
+meaning_of Words = record { status = status.Words; text = usage; untold = false; outruns = false }
+meaning_of (Missing name) = record {
+  status = status.ReadFault;
+  text = codes "read fault: " ++ name;
+  untold = false;
+  outruns = false;
+}
+meaning_of (Configuration code path) = record {
+  status = status.Configuration;
+  text = codes "configuration: C" ++ decimal code ++ codes " at " ++ path;
+  untold = true;
+  outruns = false;
+}
+meaning_of (Capture input fault) = record {
+  status = status.Capture;
+  text = codes "capture of input " ++ decimal input ++ codes ": " ++ fault_text fault;
+  untold = true;
+  outruns = true;
+}
+meaning_of (Tag fault) = record {
+  status = status.Tag;
+  text = codes "tag: slot " ++ decimal fault.slot ++ codes ", input " ++ decimal fault.input
+      ++ codes ", output " ++ decimal fault.output;
+  untold = true;
+  outruns = false;
+}

@@ -1,5 +1,6 @@
 -- What is kept of a run until its bytes are built.
 use Rattle.std.specs.Prelude.{◌≡◌, ℕ, List, Option, None, Some, Ok}
+use Rattle.cq_base.specs.declared.cell.Departure.{Departure}
 use Rattle.cq_cells.specs.Schedule.{first_stamp}
 use Rattle.cq_ideal.specs.Refused.{refused_counts}
 use Rattle.cq_laws.specs.LimitedFabric.{LimitedRecord, slots_in}
@@ -18,6 +19,8 @@ use Rattle.cq_run.specs.declared.stop.Halt.TheVariants.{Refused, NoMemory}
 use Rattle.cq_run.specs.declared.switching.Crossed.{Crossed}
 use Rattle.cq_run.specs.declared.switching.Switched.{Switched}
 use Rattle.cq_run.specs.Headline.{KeepsUp}
+use Rattle.cq_run.specs.Plan.{Plan}
+use Rattle.cq_run.specs.Plans.{crossed}
 use Rattle.cq_run.specs.Verdict.{ideally_sent}
 
 -- these are the departures of the ideal switch, and the stamp from which their slots are counted
@@ -34,6 +37,15 @@ pub record IsCrossed (t : Tables) (captures : List (List Captured)) (c : Crossed
   pub note : c.note.items ≡ transfers_of_run (slots_in records)
   pub figures : c.figures ≡ figures_of (ports_of t.setup) (slots_in records)
   pub refused : c.refused.items ≡ refused_counts t.limits (refused_in_run records)
+
+-- the plan is what the crossbar switch does with these captures: it keeps up, and sends what the ideal switch sends
+pub record IsCrossing (t : Tables) (captures : List (List Captured)) (plan : Plan) : Type 0 where
+  pub sent : List Departure
+  pub is_sent : ideally_sent t captures ≡ Ok sent
+  pub records : List LimitedRecord
+  pub keeps_up : KeepsUp t captures records
+  pub departed : sent ≡ departures_in_run records
+  pub written : plan ≡ crossed t captures sent records
 
 -- why the program stops where a capture cannot be read: it has this fault, or memory ran out
 abbrev pub halt_for : ℕ → Option CaptureFault → Halt

@@ -1,5 +1,6 @@
 //! Building the bytes that a command comes to. Here nothing is read and nothing is written.
-ghost use Rattle.std.specs.Prelude.{◌≡◌, ◌∷◌, ◌++◌, ◌<◌, ◌≤◌, [], All, IfOk, OnOk, length};
+ghost use Rattle.std.specs.Prelude.{◌≡◌, ◌∷◌, ◌++◌, ◌≤◌, [], All, IfOk, OnOk, length};
+ghost use Rattle.cq_pcap.specs.Written.{written};
 ghost use Rattle.cq_route.specs.Tables.{AreTables, ports_of};
 ghost use Rattle.cq_run.specs.Plans.{capture_out, captures_out, check_line, checked, counted, switched};
 ghost use Rattle.cq_report.specs.Report.{report_with};
@@ -8,11 +9,11 @@ ghost use Rattle.cq_run.specs.Switching.{IsSwitched};
 
 use crate::plan::{Work, Write};
 use crate::switching::{Crossed, Switched};
-use cq_base::{Figures, MOST_DIGITS, Name, NoMemory, Port, digits};
+use cq_base::{Figures, MOST_DIGITS, Name, NoMemory, Sequence, digits};
 use cq_pcap::{Capture, capture_bytes};
-use cq_report::{log_text, report_text, trace_text};
+use cq_report::{log_text_of_room, report_text, trace_text};
 use cq_route::Tables;
-use cq_simulate::{Refused, packets_of};
+use cq_simulate::{Packing, Refused, packets_of_all};
 use std::alloc::Global;
 
 /// The line that says what is in a configuration.
@@ -51,8 +52,8 @@ fn put_counted(text: &mut Vec<u8>, name: &[u8], count: usize) -> Result<(), NoMe
     Ok(())
 }
 
-/// What leaves the one output of a switch of one port, under this name. The captures and the departures
-/// are dropped before the file is built, so that what the packets carry is held twice at most.
+/// What leaves the one output of a switch of one port, under this name. The departures are used up, and the captures given
+/// up, before the file is built.
 pub fn build_passed(
     alloc: Global,
     tables: &Tables,
@@ -66,54 +67,76 @@ pub fn build_passed(
     ensures writes { IfOk result (λ plan. plan.writes ≡ (to, capture_out tables.now captures.items run.sent.items 0) ∷ []) }
     ensures text { IfOk result (λ plan. plan.text ≡ []) }
 {
-    let sent = run.sent.items();
-    let packets = packets_of(alloc, 0, sent, &captures, tables, run.first_stamp)?;
-    drop(run);
-    drop(captures);
-    let bytes = capture_bytes(alloc, &packets)?;
+    let bytes = build_first(alloc, tables, captures, run)?;
     let writes = Vec::from_array(alloc, [Write::of(to, bytes)])?;
     Ok(Work::of(writes, Vec::new(alloc)))
+}
+
+// The capture of what leaves the first output.
+fn build_first(
+    alloc: Global,
+    tables: &Tables,
+    captures: Vec<Capture>,
+    run: Switched,
+) -> Result<Vec<u8>, NoMemory>
+    requires tables { AreTables tables.now }
+    requires captures { length captures.items ≡ ports_of tables.now.setup }
+    requires run { IsSwitched tables.now captures.items run }
+    ensures { IfOk result (λ bytes. bytes.items ≡ capture_out tables.now captures.items run.sent.items 0) }
+{
+    let Switched { sent, first_stamp } = run;
+    let left = packets_of_all(alloc, sent, &captures, tables, first_stamp)?;
+    drop(captures);
+    let places = left.as_slice();
+    build_capture(alloc, &places[0])
 }
 
 /// What leaves each output of a switch, and the trace of its run.
 pub fn build_switched(
     alloc: Global,
     tables: &Tables,
-    captures: &[Capture],
-    run: &Switched,
+    captures: Sequence<Capture>,
+    run: Switched,
 ) -> Result<Work, NoMemory>
     requires tables { AreTables tables.now }
-    requires captures { length captures.now ≡ ports_of tables.now.setup }
-    requires run { IsSwitched tables.now captures.now run.now }
-    ensures { IfOk result (λ plan. plan ≡ switched tables.now captures.now run.now.sent.items) }
+    requires captures { length captures ≡ ports_of tables.now.setup }
+    requires run { IsSwitched tables.now captures run }
+    ensures { IfOk result (λ plan. plan ≡ switched tables.now captures run.sent.items) }
 {
-    let mut writes = build_captures(alloc, tables, captures, run)?;
     let trace = trace_text(alloc, run.sent.items())?;
+    let mut writes = build_captures(alloc, tables, captures, run)?;
     put_write(alloc, &mut writes, &tables.trace, trace)?;
     Ok(Work::of(writes, Vec::new(alloc)))
 }
 
-/// What leaves each output of the crossbar switch, the trace and the log of its run, and its report.
+/// What leaves each output of the crossbar switch, the trace and the log of its run, and its report. The log comes first,
+/// since it uses up the transfers.
 pub fn build_crossed(
     alloc: Global,
     tables: &Tables,
-    captures: &[Capture],
-    run: &Crossed,
+    captures: Sequence<Capture>,
+    run: Crossed,
 ) -> Result<Work, NoMemory>
     requires tables { AreTables tables.now }
-    requires captures { length captures.now ≡ ports_of tables.now.setup }
-    requires run { IsSwitched tables.now captures.now run.now.switched }
-    requires reportable { All (λ x. x.cells ≤ run.now.figures.slots) run.now.figures.outputs }
-    ensures writes { IfOk result (λ plan. plan.writes ≡ captures_out tables.now captures.now run.now.switched.sent.items 0 tables.now.ports
-        ++ (tables.now.trace, trace_of run.now.switched.sent.items) ∷ (tables.now.log, log_of run.now.note.items) ∷ []) }
-    ensures text { IfOk result (λ plan. plan.text ≡ report_with run.now.figures run.now.refused.items) }
+    requires captures { length captures ≡ ports_of tables.now.setup }
+    requires run { IsSwitched tables.now captures run.switched }
+    requires reportable { All (λ x. x.cells ≤ run.figures.slots) run.figures.outputs }
+    ensures writes { IfOk result (λ plan. plan.writes ≡ captures_out tables.now captures run.switched.sent.items 0 tables.now.ports
+        ++ (tables.now.trace, trace_of run.switched.sent.items) ∷ (tables.now.log, log_of run.note.items) ∷ []) }
+    ensures text { IfOk result (λ plan. plan.text ≡ report_with run.figures run.refused.items) }
 {
-    let mut writes = build_captures(alloc, tables, captures, &run.switched)?;
-    let trace = trace_text(alloc, run.switched.sent.items())?;
+    let Crossed {
+        switched,
+        note,
+        figures,
+        refused,
+    } = run;
+    let log = log_text_of_room(alloc, note)?;
+    let trace = trace_text(alloc, switched.sent.items())?;
+    let mut writes = build_captures(alloc, tables, captures, switched)?;
     put_write(alloc, &mut writes, &tables.trace, trace)?;
-    let log = log_text(alloc, run.note.items())?;
     put_write(alloc, &mut writes, &tables.log, log)?;
-    Ok(Work::of(writes, report_text(alloc, &run.figures, &run.refused)?))
+    Ok(Work::of(writes, report_text(alloc, &figures, &refused)?))
 }
 
 /// The report of a run, where nothing else is written.
@@ -125,22 +148,27 @@ pub fn build_report(alloc: Global, figures: &Figures, refused: &[Refused]) -> Re
     Ok(Work::of(Vec::new(alloc), report_text(alloc, figures, refused)?))
 }
 
-// The captures of what leaves each output, each under its name, with places for the trace and the log.
+// The captures of what leaves each output, each under its name, with places for the trace and the log. The captures that
+// were read are given up before the first of them is built.
 fn build_captures(
     alloc: Global,
     tables: &Tables,
-    captures: &[Capture],
-    run: &Switched,
+    captures: Sequence<Capture>,
+    run: Switched,
 ) -> Result<Vec<Write>, NoMemory>
     requires tables { AreTables tables.now }
-    requires captures { length captures.now ≡ ports_of tables.now.setup }
-    requires run { IsSwitched tables.now captures.now run.now }
-    ensures { IfOk result (λ writes. writes.items ≡ captures_out tables.now captures.now run.now.sent.items 0 tables.now.ports) }
+    requires captures { length captures ≡ ports_of tables.now.setup }
+    requires run { IsSwitched tables.now captures run }
+    ensures { IfOk result (λ writes. writes.items ≡ captures_out tables.now captures run.sent.items 0 tables.now.ports) }
 {
+    let Switched { sent, first_stamp } = run;
+    let left = packets_of_all(alloc, sent, captures.as_slice(), tables, first_stamp)?;
+    drop(captures);
+    let places = left.as_slice();
     let rows = tables.ports.as_slice();
     let mut writes = Vec::with_capacity(alloc, rows.len() + 2)?;
     'ports: for (output, row) in rows.iter().enumerate() {
-        let bytes = build_capture(alloc, tables, captures, run, output as Port)?;
+        let bytes = build_capture(alloc, &places[output])?;
         put_write(alloc, &mut writes, &row.write, bytes)?;
     }
     Ok(writes)
@@ -159,21 +187,10 @@ fn put_write(
     Ok(())
 }
 
-// The capture of what leaves an output.
-fn build_capture(
-    alloc: Global,
-    tables: &Tables,
-    captures: &[Capture],
-    run: &Switched,
-    output: Port,
-) -> Result<Vec<u8>, NoMemory>
-    requires tables { AreTables tables.now }
-    requires captures { length captures.now ≡ ports_of tables.now.setup }
-    requires run { IsSwitched tables.now captures.now run.now }
-    requires output { output < ports_of tables.now.setup }
-    ensures { IfOk result (λ bytes. bytes.items ≡ capture_out tables.now captures.now run.now.sent.items output) }
+// The capture of the packets that have left an output.
+fn build_capture(alloc: Global, place: &Packing) -> Result<Vec<u8>, NoMemory>
+    requires { All (λ p. length p.body ≤ 262144) place.now.packets.items }
+    ensures { IfOk result (λ bytes. bytes.items ≡ written place.now.packets.items) }
 {
-    let sent = run.sent.items();
-    let packets = packets_of(alloc, output, sent, captures, tables, run.first_stamp)?;
-    capture_bytes(alloc, &packets)
+    capture_bytes(alloc, &place.packets)
 }

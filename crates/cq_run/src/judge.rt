@@ -1,29 +1,36 @@
 //! Judging what the words name. Nothing is written here.
-ghost use Rattle.std.specs.Prelude.{◌≡◌, [], IfErr, IfOk, IfSome, IsOk};
+ghost use Rattle.std.specs.Prelude.{◌≡◌, [], IfErr, IfOk, IfSome, IsOk, length};
 ghost use Rattle.std.specs.Int.{IsInRange};
 ghost use Rattle.std.specs.List.{AllByRecursion};
 ghost use Rattle.cq_space.specs.Failing.{Fails, Reads};
 ghost use Rattle.cq_space.specs.Space.{Closed};
+ghost use Rattle.cq_route.specs.Tables.{AreTables, ports_of};
 ghost use Rattle.cq_gen.specs.Packets.{soak_captures};
 ghost use Rattle.cq_gen.specs.Tables.{soak_tables};
 ghost use Rattle.cq_run.specs.Aim.{Meets, Reporting};
 ghost use Rattle.cq_run.specs.Judging.{IsHaltOf};
 ghost use Rattle.cq_run.specs.Headline.{Emulates, IsEmulation, IsPassage};
+ghost use Rattle.cq_run.specs.Pace.{Ahead, InTurn};
 ghost use Rattle.cq_run.specs.Planning.{Plans, known_to, IsWithinRange};
 ghost use Rattle.cq_run.specs.Reader.{Reader};
+ghost use Rattle.cq_run.specs.Switching.{IsCrossing};
 ghost use Rattle.cq_run.specs.Verdict.{ideally_sent, judged, MayRead, MayWrite};
 
+use crate::ahead::stream_inputs;
 use crate::build::{build_check, build_crossed, build_passed, build_report, build_switched};
 use crate::plan::Work;
 use crate::reading::{put_capture, read_configuration, read_input, read_inputs};
 use crate::switching::{switch_by_crossbar, switch_ideally};
 use crate::{Command, Halt};
-use cq_base::Name;
+use cq_base::{Name, Sequence};
 use cq_crew::Gate;
 use cq_gen::make;
+use cq_pcap::Capture;
 use cq_route::Tables;
 use cq_space::Files;
+use cq_stream::Watch;
 use std::alloc::Global;
+use std::sync::Wait;
 use std::thread::Threads;
 
 /// What a command comes to: the work to be done, with all its bytes, or the first refusal. It reads
@@ -38,7 +45,7 @@ pub fn judge<R: Threads + Sync, F: Files, G: Gate>(
 ) -> Result<Work, Halt>
     requires closed { (F.space files.old).mode ≡ Closed }
     requires range { IsWithinRange command }
-    ensures judges { (r : Reader) → Plans (judged r command)
+    ensures judges { (r : Reader) → Plans InTurn (judged r command)
         (λ name. MayRead command name × Fails F.space F.may_fail F.keeps (Reads name) files.old files.new)
         (known_to command (F.space files.old)) (known_to command (F.space files.new)) result }
     ensures kept { F.keeps files.old files.new }
@@ -67,7 +74,8 @@ fn pass<R: Threads + Sync, F: Files, G: Gate>(
 ) -> Result<Work, Halt>
     requires { (F.space files.old).mode ≡ Closed }
     ensures judges { let command = Command.Pass from to in
-        (r : Reader) → Plans (judged r command) (λ name. MayRead command name × Fails F.space F.may_fail F.keeps (Reads name) files.old files.new)
+        (r : Reader) → Plans InTurn (judged r command)
+        (λ name. MayRead command name × Fails F.space F.may_fail F.keeps (Reads name) files.old files.new)
         (F.space files.old) (F.space files.new) result }
     ensures kept { F.keeps files.old files.new }
     ensures names { let command = Command.Pass from to in
@@ -86,7 +94,8 @@ fn pass<R: Threads + Sync, F: Files, G: Gate>(
 fn check<F: Files>(alloc: Global, files: &mut F, config: Name) -> Result<Work, Halt>
     requires { (F.space files.old).mode ≡ Closed }
     ensures judges { let command = Command.Check config in
-        (r : Reader) → Plans (judged r command) (λ name. MayRead command name × Fails F.space F.may_fail F.keeps (Reads name) files.old files.new)
+        (r : Reader) → Plans InTurn (judged r command)
+        (λ name. MayRead command name × Fails F.space F.may_fail F.keeps (Reads name) files.old files.new)
         (F.space files.old) (F.space files.new) result }
     ensures kept { F.keeps files.old files.new }
     ensures names { let command = Command.Check config in
@@ -104,7 +113,8 @@ fn ideal<R: Threads + Sync, F: Files>(
 ) -> Result<Work, Halt>
     requires { (F.space files.old).mode ≡ Closed }
     ensures judges { let command = Command.Ideal config in
-        (r : Reader) → Plans (judged r command) (λ name. MayRead command name × Fails F.space F.may_fail F.keeps (Reads name) files.old files.new)
+        (r : Reader) → Plans InTurn (judged r command)
+        (λ name. MayRead command name × Fails F.space F.may_fail F.keeps (Reads name) files.old files.new)
         (F.space files.old) (F.space files.new) result }
     ensures kept { F.keeps files.old files.new }
     ensures names { let command = Command.Ideal config in
@@ -113,7 +123,7 @@ fn ideal<R: Threads + Sync, F: Files>(
     let tables = read_configuration(alloc, files, config)?;
     let captures = read_inputs(alloc, files, &tables)?;
     let switched = switch_ideally(rt, alloc, &tables, captures.as_slice())?;
-    Ok(build_switched(alloc, &tables, captures.as_slice(), &switched)?)
+    Ok(build_switched(alloc, &tables, captures, switched)?)
 }
 
 fn run<R: Threads + Sync, F: Files, G: Gate>(
@@ -125,17 +135,66 @@ fn run<R: Threads + Sync, F: Files, G: Gate>(
 ) -> Result<Work, Halt>
     requires { (F.space files.old).mode ≡ Closed }
     ensures judges { let command = Command.Run config in
-        (r : Reader) → Plans (judged r command) (λ name. MayRead command name × Fails F.space F.may_fail F.keeps (Reads name) files.old files.new)
+        (r : Reader) → Plans InTurn (judged r command)
+        (λ name. MayRead command name × Fails F.space F.may_fail F.keeps (Reads name) files.old files.new)
         (F.space files.old) (F.space files.new) result }
     ensures kept { F.keeps files.old files.new }
     ensures names { let command = Command.Run config in
         IfOk result (λ plan. AllByRecursion (λ write. MayWrite command write.0) plan.writes) }
-    ensures emulates { (r : Reader) → IfOk result (λ plan. IfSome (F.space files.old).told (λ m. IsEmulation r config m plan)) }
+    ensures emulates { (r : Reader) → IfOk result (λ plan. IfSome (F.space files.old).told
+        (λ m. IsEmulation r config m plan)) }
 {
     let tables = read_configuration(alloc, files, config)?;
     let captures = read_inputs(alloc, files, &tables)?;
-    let crossed = switch_by_crossbar(rt, alloc, &tables, captures.as_slice(), gate)?;
-    Ok(build_crossed(alloc, &tables, captures.as_slice(), &crossed)?)
+    Ok(cross(rt, alloc, &tables, captures, gate)?)
+}
+
+/// What `run` comes to for a configuration, where captures are decoded by readers ahead of judging. The watch is told
+/// of each that begins, and changes no answer.
+pub fn run_ahead<R, F: Files, G: Gate, W: Watch + 'static>(
+    rt: R,
+    alloc: Global,
+    files: &mut F,
+    config: Name,
+    gate: &G,
+    watch: &W,
+) -> Result<Work, Halt>
+where
+    R: Threads + Wait + Sync + Copy + Send + 'static,
+    requires closed { (F.space files.old).mode ≡ Closed }
+    ensures judges { let command = Command.Run config in
+        (r : Reader) → Plans Ahead (judged r command)
+        (λ name. MayRead command name × Fails F.space F.may_fail F.keeps (Reads name) files.old files.new)
+        (F.space files.old) (F.space files.new) result }
+    ensures kept { F.keeps files.old files.new }
+    ensures names { let command = Command.Run config in
+        IfOk result (λ plan. AllByRecursion (λ write. MayWrite command write.0) plan.writes) }
+    ensures emulates { (r : Reader) → IfOk result (λ plan. IfSome (F.space files.old).told
+        (λ m. IsEmulation r config m plan)) }
+    ensures closed { (F.space files.new).mode ≡ Closed }
+    ensures told { (F.space files.new).told ≡ (F.space files.old).told }
+{
+    let tables = read_configuration(alloc, files, config)?;
+    let captures = stream_inputs(rt, alloc, files, &tables, watch)?;
+    Ok(cross(&rt, alloc, &tables, captures, gate)?)
+}
+
+// What the crossbar switch makes of these captures, one for each port, with all its bytes. The captures are given up on the
+// way.
+fn cross<R: Threads + Sync, G: Gate>(
+    rt: &R,
+    alloc: Global,
+    tables: &Tables,
+    captures: Sequence<Capture>,
+    gate: &G,
+) -> Result<Work, Halt>
+    requires tables { AreTables tables.now }
+    requires captures { length captures ≡ ports_of tables.now.setup }
+    ensures crossing { IfOk result (IsCrossing tables.now captures) }
+    ensures refused { IfErr result (IsHaltOf (ideally_sent tables.now captures)) }
+{
+    let crossed = switch_by_crossbar(rt, alloc, tables, captures.as_slice(), gate)?;
+    Ok(build_crossed(alloc, tables, captures, crossed)?)
 }
 
 fn soak<R: Threads + Sync, G: Gate>(

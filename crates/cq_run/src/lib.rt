@@ -2,11 +2,14 @@
 //!
 //! A run has two halves. First the words and what they name are judged, and nothing is written: they
 //! come to a plan, or to the first refusal. Then the plan is performed. `specs/Verdict.antt` says what
-//! is judged, and `specs/Refusals.antt` what each refusal comes to; the contract of `switch_top` says
-//! what every answer of the program means. Captures are read by the grammar of their format: `specs/Reader.antt`.
+//! is judged, and `specs/Refusals.antt` what each refusal comes to; the contracts of `switch_top`, and of
+//! `stream_top` around it, say what every answer of the program means. Captures are read by the grammar of
+//! their format: `specs/Reader.antt`.
 #![tactic(auto)]
 
+mod ahead;
 mod build;
+mod decoding;
 mod judge;
 mod laws;
 mod perform;
@@ -15,6 +18,7 @@ mod reading;
 mod refusal;
 mod say;
 mod stop;
+mod stream;
 mod switching;
 mod top;
 
@@ -25,4 +29,5 @@ pub use cq_words::{Command, command_of};
 pub use laws::captures_are_read_in_one_way;
 pub use refusal::{CaptureFault, Refusal};
 pub use stop::{Halt, Stop, Unwritten};
+pub use stream::stream_top;
 pub use top::switch_top;

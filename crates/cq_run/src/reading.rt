@@ -1,11 +1,13 @@
 //! Reading what a command names. Nothing is written here.
-ghost use Rattle.std.specs.Prelude.{◌≡◌, ◌≤◌, ◌^◌, ◌∷◌, ◌++◌, [], IfOk, OnOk, length};
+ghost use Rattle.std.specs.Prelude.{◌≡◌, ◌≤◌, ◌^◌, ◌∷◌, ◌++◌, [], IfErr, IfOk, OnOk, length};
 ghost use Rattle.cq_route.specs.Tables.{AreTables, ports_of};
 ghost use Rattle.cq_space.specs.Failing.{Fails, Reads};
 ghost use Rattle.std.specs.Option.{option_map};
 ghost use Rattle.cq_pcap.specs.Faults.{fault_of};
 ghost use Rattle.cq_space.specs.Space.{Closed};
-ghost use Rattle.cq_run.specs.Judging.{Judges};
+ghost use Rattle.cq_run.specs.Input.{IsFileOf};
+ghost use Rattle.cq_run.specs.Judging.{Halts, Judges};
+ghost use Rattle.cq_run.specs.Pace.{InTurn};
 ghost use Rattle.cq_run.specs.Reader.{Reader};
 ghost use Rattle.cq_run.specs.Refusals.{capture_fault};
 ghost use Rattle.cq_run.specs.Switching.{halt_for};
@@ -32,7 +34,8 @@ pub fn read_configuration<F: Files>(
     name: Name,
 ) -> Result<Tables, Halt>
     requires { (F.space files.old).mode ≡ Closed }
-    ensures judges { Judges (tables_in name) (λ asked. (asked ≡ name) × Fails F.space F.may_fail F.keeps (Reads asked) files.old files.new)
+    ensures judges { Judges InTurn (tables_in name)
+        (λ asked. (asked ≡ name) × Fails F.space F.may_fail F.keeps (Reads asked) files.old files.new)
         (F.space files.old) (F.space files.new) result }
     ensures kept { F.keeps files.old files.new }
     ensures in_range { IfOk result (λ tables. AreTables tables) }
@@ -59,27 +62,28 @@ pub fn read_configuration<F: Files>(
     }
 }
 
-/// The capture of an input, from the file of this name, if that has at most `limit` bytes: what any reader that goes
-/// by the grammar makes of it.
-pub fn read_input<F: Files>(
+/// The bytes of an input's capture, from the file of this name, if that has at most `limit` of them. They are not
+/// looked at.
+pub fn read_file<F: Files>(
     alloc: Global,
     files: &mut F,
     name: Name,
     input: u16,
     limit: u64,
-) -> Result<Capture, Halt>
+) -> Result<Vec<u8>, Halt>
     requires closed { (F.space files.old).mode ≡ Closed }
     requires limit { limit ≤ 2 ^ 28 }
-    ensures judges { (r : Reader) → Judges (capture_in r name input limit)
+    ensures file { IfOk result (λ bytes. IsFileOf name limit (F.space files.old).told bytes.items) }
+    ensures halts { IfErr result (λ halt. (r : Reader) → Halts InTurn (capture_in r name input limit)
         (λ asked. (asked ≡ name) × Fails F.space F.may_fail F.keeps (Reads asked) files.old files.new)
-        (F.space files.old) (F.space files.new) result }
+        (F.space files.old) (F.space files.new) halt) }
+    ensures uncounted { OnOk result ((F.space files.new).faults ≡ (F.space files.old).faults) }
+    ensures told { (F.space files.new).told ≡ (F.space files.old).told }
+    ensures closed { (F.space files.new).mode ≡ Closed }
     ensures kept { F.keeps files.old files.new }
 {
     match read_whole(alloc, files, name.text(), limit) {
-        Ok(bytes) => match read_capture(alloc, bytes) {
-            Ok(capture) => Ok(capture),
-            Err(refusal) => Err(unreadable(input, refusal)),
-        },
+        Ok(bytes) => Ok(bytes),
         Err(ReadRefusal::Missing) => Err(Halt::Refused {
             refusal: Refusal::Missing { name },
         }),
@@ -94,8 +98,31 @@ pub fn read_input<F: Files>(
     }
 }
 
-// Why the capture of an input cannot be read.
-fn unreadable(input: u16, refusal: PcapRefusal) -> Halt
+/// The capture of an input, from the file of this name, if that has at most `limit` bytes: what any reader that goes
+/// by the grammar makes of it.
+pub fn read_input<F: Files>(
+    alloc: Global,
+    files: &mut F,
+    name: Name,
+    input: u16,
+    limit: u64,
+) -> Result<Capture, Halt>
+    requires closed { (F.space files.old).mode ≡ Closed }
+    requires limit { limit ≤ 2 ^ 28 }
+    ensures judges { (r : Reader) → Judges InTurn (capture_in r name input limit)
+        (λ asked. (asked ≡ name) × Fails F.space F.may_fail F.keeps (Reads asked) files.old files.new)
+        (F.space files.old) (F.space files.new) result }
+    ensures kept { F.keeps files.old files.new }
+{
+    let bytes = read_file(alloc, files, name, input, limit)?;
+    match read_capture(alloc, bytes) {
+        Ok(capture) => Ok(capture),
+        Err(refusal) => Err(unreadable(input, refusal)),
+    }
+}
+
+/// Why the capture of an input cannot be read.
+pub fn unreadable(input: u16, refusal: PcapRefusal) -> Halt
     ensures { result ≡ halt_for input (option_map capture_fault (fault_of refusal)) }
 {
     match CaptureFault::of(refusal) {
@@ -116,7 +143,7 @@ fn read_port<F: Files>(
 ) -> Result<Capture, Halt>
     requires closed { (F.space files.old).mode ≡ Closed }
     requires limit { limit ≤ 2 ^ 28 }
-    ensures judges { (r : Reader) → Judges (packets_at r input limit row.now.read)
+    ensures judges { (r : Reader) → Judges InTurn (packets_at r input limit row.now.read)
         (λ asked. Fails F.space F.may_fail F.keeps (Reads asked) files.old files.new)
         (F.space files.old) (F.space files.new) result }
     ensures kept { F.keeps files.old files.new }
@@ -138,7 +165,7 @@ pub fn read_inputs<F: Files>(
 ) -> Result<Sequence<Capture>, Halt>
     requires closed { (F.space files.old).mode ≡ Closed }
     requires tables { AreTables tables.now }
-    ensures judges { (r : Reader) → Judges (captures_in r tables.now)
+    ensures judges { (r : Reader) → Judges InTurn (captures_in r tables.now)
         (λ asked. Fails F.space F.may_fail F.keeps (Reads asked) files.old files.new)
         (F.space files.old) (F.space files.new) result }
     ensures kept { F.keeps files.old files.new }

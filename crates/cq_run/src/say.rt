@@ -10,8 +10,8 @@ use crate::{CaptureFault, Halt, Refusal, Stop, Unwritten};
 use cq_base::{MOST_DIGITS, Name, TagFault, digits};
 use cq_space::{Sink, WriteFault, put_all};
 
-const USAGE: &[u8; 95] =
-    b"usage: cq_switch pass IN OUT | check CONFIG | ideal CONFIG | run CONFIG | soak SEED PORTS SLOTS";
+const USAGE: &[u8; 111] =
+    b"usage: cq_switch pass IN OUT | check CONFIG | ideal CONFIG | run CONFIG | soak SEED PORTS SLOTS | stream CONFIG";
 
 const READ_FAULT: &[u8; 12] = b"read fault: ";
 

@@ -4,13 +4,15 @@ ghost use Rattle.cq_space.specs.Failing.{Fails, FailsTaking, Reads, Writes};
 ghost use Rattle.cq_space.specs.Space.{Closed};
 ghost use Rattle.cq_words.specs.Words.{command_for};
 ghost use Rattle.cq_run.specs.Headline.{Emulates};
+ghost use Rattle.cq_run.specs.Pace.{InTurn};
 ghost use Rattle.cq_run.specs.Plan.{Plan};
 ghost use Rattle.cq_run.specs.Planning.{IsWithinRange, known_by};
 ghost use Rattle.cq_run.specs.Reader.{Reader};
 ghost use Rattle.cq_run.specs.Verdict.{verdict};
 ghost use Rattle.cq_run.specs.Writing.{IsDone};
 ghost use Rattle.cq_run.specs.World.{world, taken_by};
-ghost use Rattle.cq_run.specs.Ending.{Ends, CommandEnds};
+ghost use Rattle.cq_run.specs.Ending.{Ends, CommandEnds, status_of};
+ghost use Rattle.cq_run.specs.Line.{Tells};
 ghost use Rattle.cq_run.specs.Answers.{Answers};
 ghost use Rattle.cq_run.specs.StatusCauses.{StatusCauses};
 
@@ -55,13 +57,14 @@ pub fn switch_top<R: Threads + Sync, F: Files, O: Sink, E: Sink, G: Gate>(
     gate: &G,
 ) -> Status
     requires { (F.space files.old).mode ≡ Closed }
-    ensures answer { (r : Reader) → Answers r (λ name. Fails F.space F.may_fail F.keeps (Reads name) files.old files.new)
+    ensures answer { (r : Reader) → Answers InTurn r
+        (λ name. Fails F.space F.may_fail F.keeps (Reads name) files.old files.new)
         (λ name. Fails F.space F.may_fail F.keeps (Writes name) files.old files.new)
         (FailsTaking O.taken O.faults O.may_fail O.keeps out.old out.new) (map string_bytes words.now)
         (world F.space O.taken O.faults files.old out.old)
         (world F.space O.taken O.faults files.new out.new)
         (taken_by E.taken E.faults err.old) (taken_by E.taken E.faults err.new) result }
-    ensures causes { (r : Reader) → StatusCauses (verdict r (map string_bytes words.now))
+    ensures causes { (r : Reader) → StatusCauses InTurn (verdict r (map string_bytes words.now))
         (known_by (command_for (map string_bytes words.now)) (F.space files.old))
         (world F.space O.taken O.faults files.old out.old)
         (world F.space O.taken O.faults files.new out.new) result }
@@ -76,7 +79,16 @@ pub fn switch_top<R: Threads + Sync, F: Files, O: Sink, E: Sink, G: Gate>(
     ensures words_only { result ≡ Status.Words → command_for (map string_bytes words.now) ≡ None }
     ensures closed { (F.space files.new).mode ≡ Closed }
 {
-    match run(rt, alloc, words, files, out, gate) {
+    let end = run(rt, alloc, words, files, out, gate);
+    answer(err, end)
+}
+
+/// The status of an end, of which the error sink is told. A sink that fails changes no status.
+pub fn answer<E: Sink>(err: &mut E, end: Result<(), Stop>) -> Status
+    ensures status { result ≡ status_of end }
+    ensures tells { Tells end (taken_by E.taken E.faults err.old) (taken_by E.taken E.faults err.new) }
+{
+    match end {
         Ok(()) => Status::Done,
         Err(stop) => {
             let _ = say(err, &stop);
@@ -94,7 +106,8 @@ fn run<R: Threads + Sync, F: Files, O: Sink, G: Gate>(
     gate: &G,
 ) -> Result<(), Stop>
     requires { (F.space files.old).mode ≡ Closed }
-    ensures ends { (r : Reader) → Ends r (λ name. Fails F.space F.may_fail F.keeps (Reads name) files.old files.new)
+    ensures ends { (r : Reader) → Ends InTurn r
+        (λ name. Fails F.space F.may_fail F.keeps (Reads name) files.old files.new)
         (λ name. Fails F.space F.may_fail F.keeps (Writes name) files.old files.new)
         (FailsTaking O.taken O.faults O.may_fail O.keeps out.old out.new) (map string_bytes words.now)
         (world F.space O.taken O.faults files.old out.old)
@@ -119,7 +132,8 @@ fn obey<R: Threads + Sync, F: Files, O: Sink, G: Gate>(
 ) -> Result<(), Stop>
     requires closed { (F.space files.old).mode ≡ Closed }
     requires range { IsWithinRange command }
-    ensures ends { (r : Reader) → CommandEnds r (λ name. Fails F.space F.may_fail F.keeps (Reads name) files.old files.new)
+    ensures ends { (r : Reader) → CommandEnds InTurn r
+        (λ name. Fails F.space F.may_fail F.keeps (Reads name) files.old files.new)
         (λ name. Fails F.space F.may_fail F.keeps (Writes name) files.old files.new)
         (FailsTaking O.taken O.faults O.may_fail O.keeps out.old out.new) command
         (world F.space O.taken O.faults files.old out.old)

@@ -9,8 +9,9 @@
 mod tests;
 
 use cq_crew::OpenGate;
-use cq_run::switch_top;
+use cq_run::stream_top;
 use cq_space::{HostFiles, HostSink};
+use cq_stream::OpenWatch;
 use std::process::ExitCode;
 use std::{env, io};
 
@@ -34,14 +35,15 @@ fn main(rt: HostRuntime) -> ExitCode {
     let mut files = HostFiles::new(rt.alloc(), &rt);
     let mut out = HostSink::new(rt.stdout());
     let mut err = HostSink::new(rt.stderr());
-    let status = switch_top(
-        &rt,
+    let status = stream_top(
+        rt,
         rt.alloc(),
         &words,
         &mut files,
         &mut out,
         &mut err,
         &OpenGate,
+        &OpenWatch,
     );
     ExitCode::from(status.code())
 }

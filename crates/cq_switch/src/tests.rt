@@ -3,6 +3,7 @@ mod crossed;
 mod meeting;
 mod office;
 mod plain;
+mod readers;
 mod soak;
 
 use cq_base::NoMemory;

@@ -2,10 +2,12 @@
 use cq_base::NoMemory;
 use std::alloc::Global;
 
-/// Keys of a configuration beside its files and its addresses: among the first keys, at port 0, and at
-/// the end.
+/// The version of a configuration, and its keys beside its files and its addresses: among the first keys, at port 0,
+/// and at the end.
 #[derive(Clone, Copy)]
 pub struct Keys {
+    /// The version.
+    pub version: u8,
     /// Among the first keys.
     pub first: &'static str,
     /// At port 0.
@@ -14,8 +16,9 @@ pub struct Keys {
     pub last: &'static str,
 }
 
-/// No keys: everything has its default.
+/// Version 1 and no keys: everything has its default.
 pub const DEFAULTS: Keys = Keys {
+    version: 1,
     first: "",
     port: "",
     last: "",
@@ -23,6 +26,7 @@ pub const DEFAULTS: Keys = Keys {
 
 /// A fair output, where a cell costs 2^128 - 1.
 pub const DEAREST: Keys = Keys {
+    version: 1,
     first: "",
     port: "discipline = \"fair\"\n",
     last: "[[class]]\ncost = \"340282366920938463463374607431768211455\"\n",
@@ -37,8 +41,8 @@ pub fn configuration(
     keys: Keys,
 ) -> Result<String, NoMemory> {
     let mut text = format!(in alloc;
-        "version = 1\ntrace = \"trace.txt\"\nlog = \"log.txt\"\nworkers = {workers}\n{}",
-        keys.first
+        "version = {}\ntrace = \"trace.txt\"\nlog = \"log.txt\"\nworkers = {workers}\n{}",
+        keys.version, keys.first
     )?;
     for i in 0..ports {
         let own = if i == 0 { keys.port } else { "" };

@@ -21,5 +21,5 @@ pub use capture::{
 };
 pub use disk::Disk;
 pub use keys::{DEAREST, DEFAULTS, Keys, configuration};
-pub use trial::{Ended, answer, refuses, watched, words_of};
+pub use trial::{Ended, answer, refuses, streamed, watched, words_of};
 pub use worked::{Run, TWO_FOR_ONE};

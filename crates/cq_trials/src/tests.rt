@@ -3,5 +3,6 @@ mod configured;
 mod damaged;
 mod failing;
 mod faults;
+mod read_ahead;
 mod refused;
 mod words;

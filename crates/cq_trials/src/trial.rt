@@ -3,9 +3,11 @@
 use crate::Disk;
 use cq_base::NoMemory;
 use cq_crew::{Gate, OpenGate};
-use cq_run::switch_top;
+use cq_run::{stream_top, switch_top};
 use cq_space::MemSink;
+use cq_stream::Watch;
 use std::alloc::Global;
+use std::sync::Wait;
 use std::thread::Threads;
 
 /// What a call comes to: the code of its status, and what the two streams took.
@@ -87,8 +89,39 @@ pub fn answer<R: Threads + Sync>(
     watched(rt, alloc, words, disk, (u64::MAX, u64::MAX), &OpenGate)
 }
 
+/// The answer of the call that may read ahead, where the watch is told of its readers.
+pub fn streamed<R, W: Watch + 'static>(
+    rt: R,
+    alloc: Global,
+    words: &[&str],
+    disk: &mut Disk,
+    watch: &W,
+) -> Result<Ended, NoMemory>
+where
+    R: Threads + Wait + Sync + Copy + Send + 'static,
+{
+    let words = words_of(alloc, words)?;
+    let mut out = MemSink::new(alloc);
+    let mut err = MemSink::new(alloc);
+    let status = stream_top(
+        rt,
+        alloc,
+        &words,
+        &mut disk.files,
+        &mut out,
+        &mut err,
+        &OpenGate,
+        watch,
+    );
+    Ok(Ended {
+        code: status.code(),
+        out,
+        err,
+    })
+}
+
 /// The names that a command of a trial may write.
-const WRITTEN: &[&str] = &["b", "out0.pcap", "out1.pcap", "trace.txt", "log.txt"];
+pub(crate) const WRITTEN: &[&str] = &["b", "out0.pcap", "out1.pcap", "trace.txt", "log.txt"];
 
 /// Whether the words over the given files end with the code and the line, and touch nothing: `out` took
 /// nothing, each given file is as it was, and none that could be written is there.

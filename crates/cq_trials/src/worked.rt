@@ -1,7 +1,9 @@
 //! Worked runs: what a switch is told, and all that it writes.
-use crate::{DEFAULTS, Disk, Ended, Frame, Keys, answer, capture_of};
+use crate::{DEFAULTS, Disk, Ended, Frame, Keys, answer, capture_of, streamed};
 use cq_base::NoMemory;
+use cq_stream::Watch;
 use std::alloc::Global;
+use std::sync::Wait;
 use std::thread::Threads;
 
 /// A run: what it shows, its configuration, the frames of each input and of each output, and the texts.
@@ -71,6 +73,21 @@ impl Run {
     ) -> Result<bool, NoMemory> {
         let ended = answer(rt, alloc, &["run", "c.toml"], disk)?;
         self.is_crossed(alloc, &ended, disk)
+    }
+
+    /// Whether the call that reads ahead does all of the run too, where the watch is told of its readers.
+    pub fn streams<R, W: Watch + 'static>(
+        &self,
+        rt: R,
+        alloc: Global,
+        watch: &W,
+    ) -> Result<bool, NoMemory>
+    where
+        R: Threads + Wait + Sync + Copy + Send + 'static,
+    {
+        let mut disk = self.disk(alloc, 1)?;
+        let ended = streamed(rt, alloc, &["stream", "c.toml"], &mut disk, watch)?;
+        self.is_crossed(alloc, &ended, &disk)
     }
 
     /// Whether the ideal switch sends what the run sends, and touches no log.

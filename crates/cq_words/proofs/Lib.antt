@@ -3,3 +3,4 @@ pub mod Forms
 pub mod Plain
 pub mod Splitting
 pub mod Bare
+pub mod Streaming

@@ -41,7 +41,7 @@ fn is_soak_form(word: &str, seed: &str, ports: &str, slots: &str) -> bool
 }
 
 // The word may stand for a value.
-fn is_value(word: &str) -> bool
+pub fn is_value(word: &str) -> bool
     ensures { result ≡ value_test word.now }
 {
     match word.as_bytes() {

@@ -1,5 +1,6 @@
 //! Words, each with the command that they are.
-use crate::{Command, command_of};
+use crate::{Command, command_of, streamed};
+use cq_base::NoMemory;
 use std::alloc::Global;
 use std::test::Fail;
 
@@ -120,5 +121,37 @@ fn an_empty_word_is_no_value(rt: HostRuntime) -> Result<(), Fail> {
     ];
     let command = command_of(alloc, words.as_slice())?;
     assert!(rt; command.is_none());
+    Ok(())
+}
+
+/// Words, parted by blanks, with their configuration to stream, or `-` where they have none.
+const STREAMED: [(&str, &str); 9] = [
+    ("stream c.toml", "c.toml"),
+    ("stream stream", "stream"),
+    ("stream", "-"),
+    ("stream a b", "-"),
+    ("stream -a", "-"),
+    ("streams a", "-"),
+    ("run c.toml", "-"),
+    ("c.toml stream", "-"),
+    ("", "-"),
+];
+
+/// Whether words have this configuration to stream. Those that have one are no command.
+fn have_to_stream(alloc: Global, line: &str, config: &str) -> Result<bool, NoMemory> {
+    let mut words: Vec<String> = Vec::new(alloc);
+    for word in line.split_ascii_whitespace() {
+        words.push(String::from_str(alloc, word)?)?;
+    }
+    let command = command_of(alloc, words.as_slice())?;
+    let found = streamed(words.as_slice()).unwrap_or("-");
+    Ok(found == config && (config == "-" || command.is_none()))
+}
+
+#[test]
+fn stream_has_one_configuration(rt: HostRuntime) -> Result<(), Fail> {
+    for (line, config) in STREAMED {
+        assert!(rt; have_to_stream(rt.alloc(), line, config)?, "{line}");
+    }
     Ok(())
 }

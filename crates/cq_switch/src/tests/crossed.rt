@@ -49,13 +49,14 @@ pub(super) const RUNS: &[Run] = &[
 
 /// One cell fills output 0.
 const FULL_WITH_ONE: Keys = Keys {
+    version: 1,
     first: "",
     port: "limit = 1\n",
     last: "",
 };
 
 /// Runs in which output 0 refuses packets.
-const RUNS_WITH_A_LIMIT: &[Run] = &[
+pub(super) const RUNS_WITH_A_LIMIT: &[Run] = &[
     Run {
         shows: "the lesser input fills the output, and the packet of the other one is refused",
         keys: FULL_WITH_ONE,
@@ -104,10 +105,11 @@ const RUNS_WITH_A_LIMIT: &[Run] = &[
 ];
 
 /// Runs by keys of their own.
-const RUNS_BY_KEYS: &[Run] = &[
+pub(super) const RUNS_BY_KEYS: &[Run] = &[
     Run {
         shows: "ranks are equal, and the cell of the later input goes first, since it came a slot earlier",
         keys: Keys {
+            version: 1,
             first: "",
             port: "discipline = \"fair\"\n",
             last: "[[class]]\n[[class]]\ncost = 2\n[[rule]]\ninput = 1\nclass = 1\n",
@@ -121,6 +123,35 @@ const RUNS_BY_KEYS: &[Run] = &[
             input 1 cells 1 longest 1 slack 0\n\
             output 0 cells 3 idle 0 wait 1\n\
             output 1 cells 0 idle 3 wait -\n",
+    },
+    Run {
+        shows: "all cells of the lesser level go first at a fair output",
+        keys: Keys {
+            version: 2,
+            first: "",
+            port: "discipline = \"fair\"\n",
+            last: "[[class]]\nlevel = 1\n[[class]]\nlevel = 0\n[[rule]]\ninput = 1\nclass = 1\n",
+        },
+        inputs: &[
+            &[(0, 0, 0, 60), (0, 512, 0, 60)],
+            &[(0, 0, 0, 60), (0, 512, 0, 60)],
+        ],
+        outputs: &[
+            &[
+                (0, 0, 0, 60),
+                (0, 512, 0, 60),
+                (0, 1024, 0, 60),
+                (0, 1536, 0, 60),
+            ],
+            &[],
+        ],
+        trace: "0 0 1 0 0\n1 0 1 1 0\n2 0 0 0 0\n3 0 0 1 0\n",
+        log: "0 1 1 0 0 0\n0 2 0 0 0 0\n1 1 1 0 1 0\n1 2 0 0 1 0\n",
+        report: "slots 4\nproposals 6\nmost 2\n\
+            input 0 cells 2 longest 1 slack 0\n\
+            input 1 cells 2 longest 1 slack 0\n\
+            output 0 cells 4 idle 0 wait 2\n\
+            output 1 cells 0 idle 4 wait -\n",
     },
     Run {
         shows: "an idle slot begins the ranks of a fair output anew",
@@ -137,6 +168,7 @@ const RUNS_BY_KEYS: &[Run] = &[
         shows: "an hour of slots of a nanosecond, in which nothing comes and nothing waits, and which begin a fair \
             output's ranks anew",
         keys: Keys {
+            version: 1,
             first: "slot_ns = 1\n",
             port: "discipline = \"fair\"\n",
             last: "[[class]]\ncost = \"340282366920938463463374607431768211455\"\n",
@@ -152,6 +184,7 @@ const RUNS_BY_KEYS: &[Run] = &[
     Run {
         shows: "seconds are written modulo 2^32",
         keys: Keys {
+            version: 1,
             first: "slot_ns = 1000000000\n",
             port: "",
             last: "",
@@ -167,6 +200,7 @@ const RUNS_BY_KEYS: &[Run] = &[
     Run {
         shows: "a capture as long as the limit",
         keys: Keys {
+            version: 1,
             first: "limit_bytes = 24\n",
             port: "",
             last: "",
@@ -198,6 +232,31 @@ fn both_switches_write_worked_runs_whatever_the_workers(rt: HostRuntime) -> Resu
         for workers in [1, 2, 64] {
             assert!(rt; is_crossed(&rt, rt.alloc(), run, workers)?, "{}", run.shows);
         }
+    }
+    Ok(())
+}
+
+/// Whether the same run is made of the configuration with another number for its version.
+fn is_crossed_in_version_two<R: Threads + Sync>(
+    rt: &R,
+    alloc: Global,
+    run: &Run,
+) -> Result<bool, NoMemory> {
+    let keys = Keys {
+        version: 2,
+        ..run.keys
+    };
+    is_crossed(rt, alloc, &Run { keys, ..*run }, 1)
+}
+
+#[test]
+fn version_two_without_levels_is_version_one(rt: HostRuntime) -> Result<(), Fail> {
+    for run in RUNS.iter().chain(RUNS_WITH_A_LIMIT).chain(RUNS_BY_KEYS) {
+        assert!(rt;
+            is_crossed_in_version_two(&rt, rt.alloc(), run)?,
+            "{}",
+            run.shows
+        );
     }
     Ok(())
 }

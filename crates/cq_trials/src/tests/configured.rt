@@ -31,6 +31,7 @@ fn is_checked<R: Threads + Sync>(
 }
 
 const TWO_CLASSES: Keys = Keys {
+    version: 1,
     first: "",
     port: "",
     last: "[[class]]\n[[class]]\ncost = 2\n",
@@ -192,6 +193,7 @@ fn the_lowest_input_at_fault_is_told(rt: HostRuntime) -> Result<(), Fail> {
 
 /// As many bytes as a header has.
 const SMALL: Keys = Keys {
+    version: 1,
     first: "limit_bytes = 24\n",
     port: "",
     last: "",

@@ -54,6 +54,19 @@ const FAULTS: &[Fault] = &[
         "C3 at class[0].priority",
     ),
     (
+        [TOP, PORTS, ADDRESSES, "[[class]]\nlevel = 0\n"],
+        "C5 at class[0].level",
+    ),
+    (
+        [
+            "version = 2\ntrace = \"trace.txt\"\nlog = \"log.txt\"\n",
+            PORTS,
+            ADDRESSES,
+            "[[class]]\nlevel = 16\n",
+        ],
+        "C4 at class[0].level",
+    ),
+    (
         [TOP, PORTS, ADDRESSES, "[[rule]]\nclass = 1\n"],
         "C9 at rule[0].class",
     ),

@@ -29,7 +29,7 @@ returns-clause-judges g c = λ r.
     let same : c.as_slice.result.now ≡ c.in_ok-captures.captures = c.as_slice.ensures in
     captures_plan r aim_of c.args.config (g.F.Files.space c.args.files.now) (g.F.Files.space c.read_configuration.new.files) (g.F.Files.space c.read_inputs.new.files) _ _ _ c.in_ok-tables.tables c.in_ok-captures.captures sent c.in_ok-build_switched.field-0
     c.in_ok-tables.ensures.judges (c.in_ok-captures.ensures.judges r) (ap (ideally_sent c.in_ok-tables.tables) (sym same) ∙ c.in_ok-switched.ensures.switched.sent)
-    (c.in_ok-build_switched.ensures ∙ ap (λ (cs : List (List Captured)). switched c.in_ok-tables.tables cs sent) c.as_slice-2.ensures)
+    c.in_ok-build_switched.ensures
 
 pub returns-clause-names : goal.returns-clause-names
 returns-clause-names g c = all_any c.in_ok-build_switched.field-0.writes

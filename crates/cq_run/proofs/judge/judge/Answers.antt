@@ -3,6 +3,7 @@ use Rattle.cq_gen.specs.Packets.{soak_captures}
 use Rattle.cq_gen.specs.Tables.{soak_tables}
 use Rattle.cq_space.specs.Failing.{Fails, Reads}
 use Rattle.cq_words.specs.declared.command.Command.TheVariants.{Pass, Check, Ideal, Run, Soak}
+use Rattle.cq_run.specs.Pace.{InTurn}
 use Rattle.cq_run.specs.Planning.{known_to}
 use Rattle.cq_run.specs.Verdict.{judged, MayRead}
 use Rattle.cq_run.proofs.OneReading.{from_front}
@@ -46,46 +47,46 @@ pub returns-in-Pass-clause-closed : goal.returns-in-Pass-clause-closed
 returns-in-Pass-clause-closed g c =
     let command = Pass c.in-Pass.from c.in-Pass.to in
     let R : List ℕ → Type 0 = λ name. MayRead command name × Fails g.F.Files.space g.F.Files.may_fail g.F.Files.keeps (Reads name) c.args.files.now c.pass.new.files in
-    plans_closed (judged from_front command) R (g.F.Files.space c.args.files.now) (g.F.Files.space c.pass.new.files) c.pass.result (c.pass.ensures.judges from_front)
+    plans_closed InTurn (judged from_front command) R (g.F.Files.space c.args.files.now) (g.F.Files.space c.pass.new.files) c.pass.result (c.pass.ensures.judges from_front)
 
 pub returns-in-Pass-clause-told : goal.returns-in-Pass-clause-told
 returns-in-Pass-clause-told g c =
     let command = Pass c.in-Pass.from c.in-Pass.to in
     let R : List ℕ → Type 0 = λ name. MayRead command name × Fails g.F.Files.space g.F.Files.may_fail g.F.Files.keeps (Reads name) c.args.files.now c.pass.new.files in
-    plans_told (judged from_front command) R (g.F.Files.space c.args.files.now) (g.F.Files.space c.pass.new.files) c.pass.result (c.pass.ensures.judges from_front)
+    plans_told InTurn (judged from_front command) R (g.F.Files.space c.args.files.now) (g.F.Files.space c.pass.new.files) c.pass.result (c.pass.ensures.judges from_front)
 
 pub returns-in-Check-clause-closed : goal.returns-in-Check-clause-closed
 returns-in-Check-clause-closed g c =
     let command = Check c.in-Check.config in
     let R : List ℕ → Type 0 = λ name. MayRead command name × Fails g.F.Files.space g.F.Files.may_fail g.F.Files.keeps (Reads name) c.args.files.now c.check.new.files in
-    plans_closed (judged from_front command) R (g.F.Files.space c.args.files.now) (g.F.Files.space c.check.new.files) c.check.result (c.check.ensures.judges from_front)
+    plans_closed InTurn (judged from_front command) R (g.F.Files.space c.args.files.now) (g.F.Files.space c.check.new.files) c.check.result (c.check.ensures.judges from_front)
 
 pub returns-in-Check-clause-told : goal.returns-in-Check-clause-told
 returns-in-Check-clause-told g c =
     let command = Check c.in-Check.config in
     let R : List ℕ → Type 0 = λ name. MayRead command name × Fails g.F.Files.space g.F.Files.may_fail g.F.Files.keeps (Reads name) c.args.files.now c.check.new.files in
-    plans_told (judged from_front command) R (g.F.Files.space c.args.files.now) (g.F.Files.space c.check.new.files) c.check.result (c.check.ensures.judges from_front)
+    plans_told InTurn (judged from_front command) R (g.F.Files.space c.args.files.now) (g.F.Files.space c.check.new.files) c.check.result (c.check.ensures.judges from_front)
 
 pub returns-in-Ideal-clause-closed : goal.returns-in-Ideal-clause-closed
 returns-in-Ideal-clause-closed g c =
     let command = Ideal c.in-Ideal.config in
     let R : List ℕ → Type 0 = λ name. MayRead command name × Fails g.F.Files.space g.F.Files.may_fail g.F.Files.keeps (Reads name) c.args.files.now c.ideal.new.files in
-    plans_closed (judged from_front command) R (g.F.Files.space c.args.files.now) (g.F.Files.space c.ideal.new.files) c.ideal.result (c.ideal.ensures.judges from_front)
+    plans_closed InTurn (judged from_front command) R (g.F.Files.space c.args.files.now) (g.F.Files.space c.ideal.new.files) c.ideal.result (c.ideal.ensures.judges from_front)
 
 pub returns-in-Ideal-clause-told : goal.returns-in-Ideal-clause-told
 returns-in-Ideal-clause-told g c =
     let command = Ideal c.in-Ideal.config in
     let R : List ℕ → Type 0 = λ name. MayRead command name × Fails g.F.Files.space g.F.Files.may_fail g.F.Files.keeps (Reads name) c.args.files.now c.ideal.new.files in
-    plans_told (judged from_front command) R (g.F.Files.space c.args.files.now) (g.F.Files.space c.ideal.new.files) c.ideal.result (c.ideal.ensures.judges from_front)
+    plans_told InTurn (judged from_front command) R (g.F.Files.space c.args.files.now) (g.F.Files.space c.ideal.new.files) c.ideal.result (c.ideal.ensures.judges from_front)
 
 pub returns-in-Run-clause-closed : goal.returns-in-Run-clause-closed
 returns-in-Run-clause-closed g c =
     let command = Run c.in-Run.config in
     let R : List ℕ → Type 0 = λ name. MayRead command name × Fails g.F.Files.space g.F.Files.may_fail g.F.Files.keeps (Reads name) c.args.files.now c.run.new.files in
-    plans_closed (judged from_front command) R (g.F.Files.space c.args.files.now) (g.F.Files.space c.run.new.files) c.run.result (c.run.ensures.judges from_front)
+    plans_closed InTurn (judged from_front command) R (g.F.Files.space c.args.files.now) (g.F.Files.space c.run.new.files) c.run.result (c.run.ensures.judges from_front)
 
 pub returns-in-Run-clause-told : goal.returns-in-Run-clause-told
 returns-in-Run-clause-told g c =
     let command = Run c.in-Run.config in
     let R : List ℕ → Type 0 = λ name. MayRead command name × Fails g.F.Files.space g.F.Files.may_fail g.F.Files.keeps (Reads name) c.args.files.now c.run.new.files in
-    plans_told (judged from_front command) R (g.F.Files.space c.args.files.now) (g.F.Files.space c.run.new.files) c.run.result (c.run.ensures.judges from_front)
+    plans_told InTurn (judged from_front command) R (g.F.Files.space c.args.files.now) (g.F.Files.space c.run.new.files) c.run.result (c.run.ensures.judges from_front)

@@ -1,16 +1,12 @@
-use Rattle.std.proofs.Common.{◌∙◌, ◌++◌, ◌∷◌, [], List, ap, subst}
+use Rattle.std.proofs.Common.{List}
 use Rattle.std.proofs.lemmas.Result.{err_from_is_err_and}
-use Rattle.cq_base.specs.Texts.{trace_of, log_of}
 use Rattle.cq_base.specs.declared.cell.Departure.{Departure}
 use Rattle.cq_pcap.specs.Captured.{Captured}
 use Rattle.cq_route.specs.declared.tables.Tables.{Tables}
 use Rattle.cq_space.specs.Failing.{Reads}
 use Rattle.cq_run.specs.Aim.{Aim, Crossing}
-use Rattle.cq_run.specs.Judging.{IsHaltOf}
-use Rattle.cq_run.specs.Plans.{captures_out}
-use Rattle.cq_run.specs.Switching.{IsCrossed}
-use Rattle.cq_run.proofs.Crossed.{emulates, plan_crossed}
-use Rattle.cq_run.specs.Verdict.{ideally_sent}
+use Rattle.cq_run.specs.Switching.{IsCrossing}
+use Rattle.cq_run.proofs.Crossed.{emulates}
 use Rattle.cq_run.proofs.Failed.{fails_after}
 use Rattle.cq_run.proofs.Planned.{all_any, captures_halt, captures_plan, run_halts}
 use Rattle.cq_run.proofs.judge.run.Goals as goal
@@ -30,47 +26,26 @@ pub returns-clause-judges : goal.returns-clause-judges
 returns-clause-judges g c = λ r.
     let t = c.in_ok-tables.tables in
     let captures = c.in_ok-captures.captures in
-    let x = c.in_ok-crossed.crossed in
-    let P : List (List Captured) → Type 0 = λ cs. IsCrossed t cs x in
-    let is : IsCrossed t captures x = subst P c.as_slice.ensures c.in_ok-crossed.ensures.crossed in
-    let writes = c.in_ok-build_crossed.ensures.writes ∙ ap (λ (cs : List (List Captured)). captures_out t cs x.switched.sent.items 0 t.ports ++ (t.trace, trace_of x.switched.sent.items) ∷ (t.log, log_of x.note.items) ∷ []) c.as_slice-2.ensures in
-    captures_plan r aim_of c.args.config (g.F.Files.space c.args.files.now) (g.F.Files.space c.read_configuration.new.files) (g.F.Files.space c.read_inputs.new.files) _ _ _ t captures x.switched.sent.items c.in_ok-build_crossed.field-0
-    c.in_ok-tables.ensures.judges (c.in_ok-captures.ensures.judges r) is.switched.sent
-    (is.records, is.keeps_up.runs, plan_crossed t captures x is c.in_ok-build_crossed.field-0 writes c.in_ok-build_crossed.ensures.text)
+    let is : IsCrossing t captures c.in_ok-cross.field-0 = c.in_ok-cross.ensures.crossing in
+    captures_plan r aim_of c.args.config (g.F.Files.space c.args.files.now) (g.F.Files.space c.read_configuration.new.files) (g.F.Files.space c.read_inputs.new.files) _ _ _ t captures is.sent c.in_ok-cross.field-0
+    c.in_ok-tables.ensures.judges (c.in_ok-captures.ensures.judges r) is.is_sent (is.records, is.keeps_up.runs, is.written)
 
 pub returns-clause-names : goal.returns-clause-names
-returns-clause-names g c = all_any c.in_ok-build_crossed.field-0.writes
+returns-clause-names g c = all_any c.in_ok-cross.field-0.writes
 
 pub returns-clause-emulates : goal.returns-clause-emulates
 returns-clause-emulates g c = λ r.
     let t = c.in_ok-tables.tables in
     let captures = c.in_ok-captures.captures in
-    let x = c.in_ok-crossed.crossed in
-    let P : List (List Captured) → Type 0 = λ cs. IsCrossed t cs x in
-    let is : IsCrossed t captures x = subst P c.as_slice.ensures c.in_ok-crossed.ensures.crossed in
-    let writes = c.in_ok-build_crossed.ensures.writes ∙ ap (λ (cs : List (List Captured)). captures_out t cs x.switched.sent.items 0 t.ports ++ (t.trace, trace_of x.switched.sent.items) ∷ (t.log, log_of x.note.items) ∷ []) c.as_slice-2.ensures in
-    emulates t captures x is c.in_ok-build_crossed.field-0 r c.args.config _ _ (g.F.Files.space c.args.files.now) (g.F.Files.space c.read_configuration.new.files) (g.F.Files.space c.read_inputs.new.files)
-    (plan_crossed t captures x is c.in_ok-build_crossed.field-0 writes c.in_ok-build_crossed.ensures.text) c.in_ok-tables.ensures.judges (c.in_ok-captures.ensures.judges r)
+    emulates t captures c.in_ok-cross.field-0 c.in_ok-cross.ensures.crossing r c.args.config _ _ (g.F.Files.space c.args.files.now) (g.F.Files.space c.read_configuration.new.files) (g.F.Files.space c.read_inputs.new.files)
+    c.in_ok-tables.ensures.judges (c.in_ok-captures.ensures.judges r)
 
 pub returns-clause-kept : goal.returns-clause-kept
 returns-clause-kept g c = g.met.F.Files.lasts.both _ _ _ c.read_configuration.ensures.kept c.read_inputs.ensures.kept
 
-pub returns-in_err-crossed-clause-judges : goal.returns-in_err-crossed-clause-judges
-returns-in_err-crossed-clause-judges g c = λ r.
-    let p = err_from_is_err_and c.from_residual-in_err-crossed.result c.from_residual-in_err-crossed.ensures.1 in
-    let P : List (List Captured) → Type 0 = λ cs. IsHaltOf (ideally_sent c.in_ok-tables.tables cs) c.in_err-crossed.field-0.0 in
+pub returns-in_err-cross-clause-judges : goal.returns-in_err-cross-clause-judges
+returns-in_err-cross-clause-judges g c = λ r.
+    let p = err_from_is_err_and c.from_residual-in_err-cross.result c.from_residual-in_err-cross.ensures.1 in
     rw (p.1, p.2)
-    (run_halts r aim_of c.args.config (g.F.Files.space c.args.files.now) (g.F.Files.space c.read_configuration.new.files) (g.F.Files.space c.read_inputs.new.files) _ _ _ c.in_ok-tables.tables c.in_ok-captures.captures c.in_err-crossed.field-0.0
-    c.in_ok-tables.ensures.judges (c.in_ok-captures.ensures.judges r) (subst P c.as_slice.ensures c.in_err-crossed.ensures.refused))
-
-pub returns-in_err-build_crossed-clause-judges : goal.returns-in_err-build_crossed-clause-judges
-returns-in_err-build_crossed-clause-judges g c = λ r.
-    let p = err_from_is_err_and c.from_residual-in_err-build_crossed.result c.from_residual-in_err-build_crossed.ensures.1 in
-    rw (p.1, p.2)
-    record {
-      ok = tt;
-      halt = (c.in_ok-captures.ensures.judges r).uncounted ∙ c.in_ok-tables.ensures.judges.uncounted;
-      closed = (c.in_ok-captures.ensures.judges r).closed;
-      told = (c.in_ok-captures.ensures.judges r).told ∙ c.in_ok-tables.ensures.judges.told;
-      uncounted = tt;
-    }
+    (run_halts r aim_of c.args.config (g.F.Files.space c.args.files.now) (g.F.Files.space c.read_configuration.new.files) (g.F.Files.space c.read_inputs.new.files) _ _ _ c.in_ok-tables.tables c.in_ok-captures.captures c.in_err-cross.field-0.0
+    c.in_ok-tables.ensures.judges (c.in_ok-captures.ensures.judges r) c.in_err-cross.ensures.refused)

@@ -1,0 +1,166 @@
+-- Reading ahead. The first input's file was read before those of the later ones, and its capture is looked at only when
+-- these have been read. Reading leaves contents as they are, so the first capture is judged as if nothing had come
+-- between. Where it ends the whole, the later inputs say nothing but what the count of faults may show.
+use Rattle.std.proofs.Common.{◌≡◌, ◌∙◌, ◌≤◌, ℕ, ◌+◌, ◌^◌, List, [], ◌∷◌, ap, arith, inl, length, refl, subst, sym}
+use Rattle.std.specs.Prelude.{Option, None, Some, IfSome, MatchOption, Result, Ok, Err}
+use Rattle.cq_pcap.specs.Captured.{Captured}
+use Rattle.cq_pcap.specs.Record.{Spells}
+use Rattle.cq_route.specs.declared.tables.PortRow.{PortRow}
+use Rattle.cq_space.specs.Space.{Contents, Space, Closed}
+use Rattle.cq_run.specs.declared.decoding.Decoding.{Decoding}
+use Rattle.cq_run.specs.declared.refusal.Refusal.{Refusal}
+use Rattle.cq_run.specs.declared.stop.Halt.{Halt}
+use Rattle.cq_run.specs.declared.stop.Halt.TheVariants.{NoMemory}
+use Rattle.cq_run.specs.Decoding.{IsBegun, IsBegunFor, source}
+use Rattle.cq_run.specs.Input.{IsHaltFor}
+use Rattle.cq_run.specs.Judging.{Halts, Judges}
+use Rattle.cq_run.specs.Pace.{Ahead, AnyName, InTurn, Uncounted}
+use Rattle.cq_run.specs.Reader.{Reader}
+use Rattle.cq_run.specs.Verdict.{◌>>=◌, capture_in, captures_from, packets_at}
+use Rattle.cq_run.proofs.Chain.{judges_after, judges_as_err, judges_as_ok, judges_both, judges_computed, judges_then}
+use Rattle.cq_run.proofs.Counted.{counts_of, halts_ahead, name_after}
+use Rattle.cq_run.proofs.OneReading.{capture_halts, capture_is}
+use Rattle.cq_run.proofs.Stays.{packets_stay}
+use Rattle.cq_run.proofs.Told.{told_any}
+
+-- ## What was begun for an input, and has ended
+
+module _ (r : Reader) (input limit : ℕ) where
+  -- its packets are what arrives there
+  arrived : (told : Option Contents) (packets : List Captured) (read : Option (List ℕ)) (begun : Option Decoding)
+      → IsBegunFor read limit told begun → MatchOption begun (packets ≡ []) (λ d. Spells (source d) packets)
+      → IfSome told (λ m. packets_at r input limit read m ≡ Ok packets)
+  arrived told packets None None b h =
+      told_any told _ (λ m. ap (λ (ps : List Captured). let x : Result (List Captured) Refusal = Ok ps in x) (sym h))
+  arrived told packets None (Some d) b h = absurd b
+  arrived told packets (Some name) None b h = absurd b
+  arrived told packets (Some name) (Some d) b h =
+      capture_is r name input limit (source d) b.1.short told packets b.1.whole h
+
+  -- what is wrong with its bytes ends judging
+  halted : (R : List ℕ → Type 0) (old new : Space) (halt : Halt) (read : Option (List ℕ)) (begun : Option Decoding)
+      → IsBegunFor read limit old.told begun → MatchOption begun ⊥ (λ d. IsHaltFor input (source d) halt)
+      → Uncounted Ahead (AnyName R) old.faults new.faults → Halts Ahead (packets_at r input limit read) R old new halt
+  halted R old new halt None None b h k = absurd h
+  halted R old new halt None (Some d) b h k = absurd b
+  halted R old new halt (Some name) None b h k = absurd b
+  halted R old new halt (Some name) (Some d) b h k =
+      let P : Halt → Type 0 = λ x. Halts Ahead (capture_in r name input limit) R old new x in
+      subst P (sym h.told)
+      (capture_halts r name input limit (source d) b.1.short Ahead R old new h.found b.1.whole h.faulty k)
+
+-- it can be finished
+pub begun_is : (read : Option (List ℕ)) (limit : ℕ) (told : Option Contents) (begun : Option Decoding)
+    → IsBegunFor read limit told begun → IfSome begun IsBegun
+begun_is None limit told None b = tt
+begun_is None limit told (Some d) b = absurd b
+begun_is (Some name) limit told None b = absurd b
+begun_is (Some name) limit told (Some d) b = b.0
+
+pub begun_small : (read : Option (List ℕ)) (limit : ℕ) (told : Option Contents) (begun : Option Decoding)
+    → limit ≤ 2 ^ 28 → IsBegunFor read limit told begun → IfSome begun (λ d. length (source d) ≤ 2 ^ 28)
+begun_small None limit told None small b = tt
+begun_small None limit told (Some d) small b = absurd b
+begun_small (Some name) limit told None small b = absurd b
+begun_small (Some name) limit told (Some d) small b = let s : length (source d) ≤ limit = b.1.short in omega arith
+
+-- ## The first input, and those after it
+
+module _ (r : Reader) (limit input : ℕ) (row : PortRow) (rows : List PortRow) (Q R : List ℕ → Type 0)
+    (more : (name : List ℕ) → Q name → R name) (old mid new : Space) where
+  abbrev then_later : List Captured → Contents → Result (List (List Captured)) Refusal
+  then_later packets m = captures_from r limit (input + 1) rows m >>= (λ others. Ok (packets ∷ others))
+
+  abbrev first_then : Contents → Result (List (List Captured)) Refusal
+  first_then m = packets_at r input limit row.read m >>= (λ packets. then_later packets m)
+
+  first_is : (m : Contents) → first_then m ≡ captures_from r limit input (row ∷ rows) m
+  unfolding captures_from
+  first_is m = refl
+
+  -- the first file could not be read, and no later one was
+  pub file_ends : (halt : Halt) → Halts InTurn (packets_at r input limit row.read) R old mid halt → mid.mode ≡ Closed
+      → mid.told ≡ old.told → Judges Ahead (captures_from r limit input (row ∷ rows)) R old mid (Err halt)
+  file_ends halt h c t =
+      judges_as_err first_then (captures_from r limit input (row ∷ rows)) first_is R old mid halt
+      (judges_then (packets_at r input limit row.read) then_later R R old mid halt (λ name u. u)
+      record {
+        ok = tt;
+        halt = halts_ahead (packets_at r input limit row.read) R old mid halt h;
+        closed = c;
+        told = t;
+        uncounted = tt;
+      })
+
+  module _ (begun : Option Decoding) (b : IsBegunFor row.read limit old.told begun) (t : mid.told ≡ old.told)
+      (l : mid.faults ≡ old.faults) where
+    -- the first capture ends it, whatever the later ones came to
+    pub capture_ends : (halt : Halt) (later : Result (List (List Captured)) Halt)
+        → MatchOption begun ⊥ (λ d. IsHaltFor input (source d) halt)
+        → Judges Ahead (captures_from r limit (input + 1) rows) Q mid new later
+        → Judges Ahead (captures_from r limit input (row ∷ rows)) R old new (Err halt)
+    capture_ends halt later h g =
+        let counts : Uncounted Ahead (AnyName Q) mid.faults new.faults =
+        counts_of (captures_from r limit (input + 1) rows) Q mid new later g in
+        judges_as_err first_then (captures_from r limit input (row ∷ rows)) first_is R old new halt
+        (judges_then (packets_at r input limit row.read) then_later R R old new halt (λ name u. u)
+        record {
+          ok = tt;
+          halt = halted r input limit R old new halt row.read begun b h
+              (name_after Ahead Q R old.faults mid.faults new.faults more l counts);
+          closed = g.closed;
+          told = g.told ∙ t;
+          uncounted = tt;
+        })
+
+    module _ (packets : List Captured) (c : mid.mode ≡ Closed)
+        (h : MatchOption begun (packets ≡ []) (λ d. Spells (source d) packets)) where
+      judged_first : Judges Ahead (packets_at r input limit row.read) R old mid (Ok packets)
+      judged_first = record {
+        ok = arrived r input limit old.told packets row.read begun b h;
+        halt = tt;
+        closed = c;
+        told = t;
+        uncounted = l;
+      }
+
+      abbrev in_front : List (List Captured) → Contents → Result (List (List Captured)) Refusal
+      in_front others m = Ok (packets ∷ others)
+
+      -- the first capture is sound, and a later one ends it
+      pub later_ends : (halt : Halt) → Judges Ahead (captures_from r limit (input + 1) rows) Q mid new (Err halt)
+          → Judges Ahead (captures_from r limit input (row ∷ rows)) R old new (Err halt)
+      later_ends halt g =
+          judges_as_err first_then (captures_from r limit input (row ∷ rows)) first_is R old new halt
+          (judges_after (packets_at r input limit row.read) then_later R Q R old mid new packets halt
+          (packets_stay r input limit row.read) more judged_first
+          (judges_then (captures_from r limit (input + 1) rows) in_front Q Q mid new halt (λ name u. u) g))
+
+      -- all are sound
+      pub all_arrive : (others : List (List Captured))
+          → Judges Ahead (captures_from r limit (input + 1) rows) Q mid new (Ok others)
+          → Judges Ahead (captures_from r limit input (row ∷ rows)) R old new (Ok (packets ∷ others))
+      all_arrive others g =
+          judges_as_ok first_then (captures_from r limit input (row ∷ rows)) first_is R old new (packets ∷ others)
+          (judges_both (packets_at r input limit row.read) then_later R R R old mid new packets (packets ∷ others)
+          judged_first
+          (judges_both (captures_from r limit (input + 1) rows) in_front Q R R mid new new others (packets ∷ others) g
+          (judges_computed (Ok (packets ∷ others)) R new (packets ∷ others) g.closed refl)))
+
+      -- all are sound, and memory ran out after that
+      pub memory_ends : (others : List (List Captured))
+          → Judges Ahead (captures_from r limit (input + 1) rows) Q mid new (Ok others)
+          → Judges Ahead (captures_from r limit input (row ∷ rows)) R old new (Err NoMemory)
+      memory_ends others g = record {
+        ok = tt;
+        halt = inl (g.uncounted ∙ l);
+        closed = g.closed;
+        told = g.told ∙ t;
+        uncounted = tt;
+      }
+
+-- no input is left
+pub none_arrive : (r : Reader) (limit input : ℕ) (R : List ℕ → Type 0) (at : Space) → at.mode ≡ Closed
+    → Judges Ahead (captures_from r limit input []) R at at (Ok [])
+unfolding captures_from
+none_arrive r limit input R at c = judges_computed (Ok []) R at [] c refl

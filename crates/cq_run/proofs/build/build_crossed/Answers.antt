@@ -1,0 +1,12 @@
+use Rattle.std.proofs.Common.{◌∙◌, ap}
+use Rattle.cq_base.specs.Texts.{trace_of}
+use Rattle.cq_run.proofs.Captures.{crossed_writes}
+use Rattle.cq_run.proofs.build.build_crossed.Goals as goal
+
+pub returns-clause-writes : goal.returns-clause-writes
+returns-clause-writes c =
+    c.of.ensures.writes
+    ∙ crossed_writes c.args.tables.now c.args.captures c.args.run.switched.sent.items c.in_ok-writes.writes.items
+    c.put_write.new.writes.items c.put_write-2.new.writes.items c.in_ok-trace.trace.items c.in_ok-log.log.items
+    c.args.run.note.items c.in_ok-writes.ensures c.in_ok-put_write.ensures c.in_ok-put_write-2.ensures
+    (c.in_ok-trace.ensures ∙ ap trace_of c.items.ensures) c.in_ok-log.ensures

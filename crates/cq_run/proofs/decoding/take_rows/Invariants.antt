@@ -1,0 +1,7 @@
+use Rattle.std.proofs.Common.{◌≡◌, map}
+use Rattle.cq_stream.specs.declared.item.Item.TheVariants.{Row}
+use Rattle.cq_stream.specs.Rings.{SameReader, taken}
+use Rattle.cq_run.proofs.decoding.take_rows.Given as goal
+
+abbrev pub invariant-turns : goal.invariant-turns
+invariant-turns g l = (taken l.intake ≡ map Row l.rows.items) × SameReader l.initial.intake l.intake

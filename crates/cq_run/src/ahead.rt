@@ -1,0 +1,142 @@
+//! Reading the captures of a configuration, while readers decode those that were read before.
+//!
+//! Files are read one after another, as where they are read in turn, but the next is read while the last is
+//! decoded. Each reader that is started is joined by the call that started it, after those of the later inputs,
+//! whatever they come to: what was begun cannot be dropped, and finishing it joins its reader.
+ghost use Rattle.std.specs.Prelude.{◌≡◌, ◌+◌, ◌≤◌, ◌<◌, ◌^◌, ◌∷◌, [], IfErr, IfOk, IfSome, MatchOption, OnOk, length};
+ghost use Rattle.cq_pcap.specs.Record.{Spells};
+ghost use Rattle.cq_route.specs.Tables.{AreTables, ports_of};
+ghost use Rattle.cq_space.specs.Failing.{Fails, Reads};
+ghost use Rattle.cq_space.specs.Space.{Closed};
+ghost use Rattle.cq_run.specs.Decoding.{IsBegun, IsBegunFor, source};
+ghost use Rattle.cq_run.specs.Input.{IsHaltFor};
+ghost use Rattle.cq_run.specs.Judging.{Halts, Judges};
+ghost use Rattle.cq_run.specs.Pace.{Ahead, InTurn};
+ghost use Rattle.cq_run.specs.Reader.{Reader};
+ghost use Rattle.cq_run.specs.Verdict.{captures_from, captures_in, packets_at};
+
+use crate::Halt;
+use crate::decoding::{Decoding, begin, finish};
+use crate::reading::{read_file, unreadable};
+use cq_base::{Name, NoMemory, Port, Sequence};
+use cq_pcap::Capture;
+use cq_route::{PortRow, Tables};
+use cq_space::Files;
+use cq_stream::Watch;
+use std::alloc::Global;
+use std::sync::Wait;
+use std::thread::Threads;
+
+/// What arrives at each input, in order. Where several have a fault, the first of these is told; files behind it
+/// may have been read, and a fault met there is counted and not told. Each reader that was started is joined.
+pub fn stream_inputs<R: Threads + Wait + Copy + Send + 'static, F: Files, W: Watch + 'static>(
+    rt: R,
+    alloc: Global,
+    files: &mut F,
+    tables: &Tables,
+    watch: &W,
+) -> Result<Sequence<Capture>, Halt>
+    requires closed { (F.space files.old).mode ≡ Closed }
+    requires tables { AreTables tables.now }
+    ensures judges { (r : Reader) → Judges Ahead (captures_in r tables.now)
+        (λ asked. Fails F.space F.may_fail F.keeps (Reads asked) files.old files.new)
+        (F.space files.old) (F.space files.new) result }
+    ensures kept { F.keeps files.old files.new }
+    ensures each { IfOk result (λ captures. length captures ≡ ports_of tables.now.setup) }
+{
+    let rows = tables.ports.as_slice();
+    stream_from(rt, alloc, files, rows, 0, tables.limit_bytes, watch)
+}
+
+// What arrives at the inputs of these rows, of which the first is this input.
+fn stream_from<R: Threads + Wait + Copy + Send + 'static, F: Files, W: Watch + 'static>(
+    rt: R,
+    alloc: Global,
+    files: &mut F,
+    rows: &[PortRow],
+    input: Port,
+    limit: u64,
+    watch: &W,
+) -> Result<Sequence<Capture>, Halt>
+    requires closed { (F.space files.old).mode ≡ Closed }
+    requires limit { limit ≤ 2 ^ 28 }
+    requires few { input + length rows.now < 2 ^ 16 }
+    ensures judges { (r : Reader) → Judges Ahead (captures_from r limit input rows.now)
+        (λ asked. Fails F.space F.may_fail F.keeps (Reads asked) files.old files.new)
+        (F.space files.old) (F.space files.new) result }
+    ensures kept { F.keeps files.old files.new }
+    ensures each { IfOk result (λ captures. length captures ≡ length rows.now) }
+{
+    match rows.split_first() {
+        None => Ok(Sequence::of(Vec::new(alloc))),
+        Some((row, rest)) => {
+            let begun = begin_port(rt, alloc, files, row, input, limit, watch)?;
+            let later = stream_from(rt, alloc, files, rest, input + 1, limit, watch);
+            let capture = finish_port(&rt, alloc, begun, input)?;
+            let captures = later?;
+            Ok(in_front(capture, captures)?)
+        }
+    }
+}
+
+// Reads the file of an input, and begins to decode it. Where it has no file there is nothing to decode.
+fn begin_port<R: Threads + Wait + Copy + Send + 'static, F: Files, W: Watch + 'static>(
+    rt: R,
+    alloc: Global,
+    files: &mut F,
+    row: &PortRow,
+    input: Port,
+    limit: u64,
+    watch: &W,
+) -> Result<Option<Decoding>, Halt>
+    requires closed { (F.space files.old).mode ≡ Closed }
+    requires limit { limit ≤ 2 ^ 28 }
+    ensures begun { IfOk result (IsBegunFor row.now.read limit (F.space files.old).told) }
+    ensures halts { IfErr result (λ halt. (r : Reader) → Halts InTurn (packets_at r input limit row.now.read)
+        (λ asked. Fails F.space F.may_fail F.keeps (Reads asked) files.old files.new)
+        (F.space files.old) (F.space files.new) halt) }
+    ensures uncounted { OnOk result ((F.space files.new).faults ≡ (F.space files.old).faults) }
+    ensures told { (F.space files.new).told ≡ (F.space files.old).told }
+    ensures closed { (F.space files.new).mode ≡ Closed }
+    ensures kept { F.keeps files.old files.new }
+{
+    match &row.read {
+        None => Ok(None),
+        Some(name) => {
+            let name = Name::of(alloc, name.text())?;
+            let bytes = read_file(alloc, files, name, input, limit)?;
+            Ok(Some(begin(rt, alloc, bytes, input, watch.again())?))
+        }
+    }
+}
+
+// What arrives at an input. Its reader is joined, whatever the answer is.
+fn finish_port<R: Threads + Wait>(
+    rt: &R,
+    alloc: Global,
+    begun: Option<Decoding>,
+    input: Port,
+) -> Result<Capture, Halt>
+    requires begun { IfSome begun IsBegun }
+    requires small { IfSome begun (λ decoding. length (source decoding) ≤ 2 ^ 28) }
+    ensures spelt { IfOk result (λ packets. MatchOption begun (packets ≡ [])
+        (λ decoding. Spells (source decoding) packets)) }
+    ensures halts { IfErr result (λ halt. MatchOption begun ⊥ (λ decoding. IsHaltFor input (source decoding) halt)) }
+{
+    match begun {
+        None => Ok(Capture::empty(alloc)),
+        Some(decoding) => match finish(rt, alloc, decoding) {
+            Ok(capture) => Ok(capture),
+            Err(refusal) => Err(unreadable(input, refusal)),
+        },
+    }
+}
+
+// The captures with this one in front.
+fn in_front(capture: Capture, later: Sequence<Capture>) -> Result<Sequence<Capture>, NoMemory>
+    ensures { IfOk result (λ captures. captures ≡ capture ∷ later) }
+{
+    let mut captures = later.into_vec();
+    captures.insert(0, capture)?;
+    Ok(Sequence::of(captures))
+}

@@ -1,0 +1,114 @@
+//! The top call that reads ahead. It is the one public function of this crate that waits.
+ghost use Rattle.std.specs.Prelude.{◌≡◌, None, Some, IfSome, map, string_bytes};
+ghost use Rattle.cq_space.specs.Failing.{Fails, FailsTaking, Reads, Writes};
+ghost use Rattle.cq_space.specs.Space.{Closed};
+ghost use Rattle.cq_words.specs.Streamed.{as_run};
+ghost use Rattle.cq_words.specs.Words.{command_for};
+ghost use Rattle.cq_run.specs.Headline.{Emulates};
+ghost use Rattle.cq_run.specs.Pace.{Ahead, pace_of};
+ghost use Rattle.cq_run.specs.Plan.{Plan};
+ghost use Rattle.cq_run.specs.Planning.{known_by};
+ghost use Rattle.cq_run.specs.Reader.{Reader};
+ghost use Rattle.cq_run.specs.Verdict.{verdict};
+ghost use Rattle.cq_run.specs.Writing.{IsDone};
+ghost use Rattle.cq_run.specs.World.{world, taken_by};
+ghost use Rattle.cq_run.specs.Ending.{CommandEnds};
+ghost use Rattle.cq_run.specs.Answers.{Answers};
+ghost use Rattle.cq_run.specs.StatusCauses.{StatusCauses};
+
+use crate::judge::run_ahead;
+use crate::perform::perform;
+use crate::top::answer;
+use crate::{Command, Stop, switch_top};
+use cq_base::{Name, Status};
+use cq_crew::Gate;
+use cq_space::{Files, Sink};
+use cq_stream::Watch;
+use cq_words::streamed;
+use std::alloc::Global;
+use std::sync::Wait;
+use std::thread::Threads;
+
+/// Does what `switch_top` does, and for `stream CONFIG` what that does for `run CONFIG`: the same verdict, files,
+/// text and refusals. There each capture is decoded by a reader in a thread of its own, where one can be had, while
+/// the next file is read, and every reader that was started is joined on every way out. The watch is told of each
+/// that begins to send, and changes no answer.
+///
+/// The clauses are those of `switch_top`, where this call returns. For `stream CONFIG` they say less of the count of
+/// faults of the file space: with the refusal of the capture of an input, and with want of memory, it may have risen
+/// in a call that reads a name. By the code that is the file of an input behind the one that is refused or finds no
+/// memory, but no clause says so.
+///
+/// No clause says that a reader ever gets on, or that it runs beside the caller.
+pub fn stream_top<R, F: Files, O: Sink, E: Sink, G: Gate, W: Watch + 'static>(
+    rt: R,
+    alloc: Global,
+    words: &[String],
+    files: &mut F,
+    out: &mut O,
+    err: &mut E,
+    gate: &G,
+    watch: &W,
+) -> Status
+where
+    R: Threads + Wait + Sync + Copy + Send + 'static,
+    requires { (F.space files.old).mode ≡ Closed }
+    ensures answer { (r : Reader) → Answers (pace_of (map string_bytes words.now)) r
+        (λ name. Fails F.space F.may_fail F.keeps (Reads name) files.old files.new)
+        (λ name. Fails F.space F.may_fail F.keeps (Writes name) files.old files.new)
+        (FailsTaking O.taken O.faults O.may_fail O.keeps out.old out.new) (as_run (map string_bytes words.now))
+        (world F.space O.taken O.faults files.old out.old)
+        (world F.space O.taken O.faults files.new out.new)
+        (taken_by E.taken E.faults err.old) (taken_by E.taken E.faults err.new) result }
+    ensures causes { (r : Reader) → StatusCauses (pace_of (map string_bytes words.now))
+        (verdict r (as_run (map string_bytes words.now)))
+        (known_by (command_for (as_run (map string_bytes words.now))) (F.space files.old))
+        (world F.space O.taken O.faults files.old out.old)
+        (world F.space O.taken O.faults files.new out.new) result }
+
+    // The headline, of `run CONFIG`, of `stream CONFIG` and of `pass IN OUT`.
+    ensures headline { (r : Reader) (command : Command) →
+        command_for (as_run (map string_bytes words.now)) ≡ Some command → result ≡ Status.Done →
+        IfSome (F.space files.old).told (λ m. (plan : Plan) × Emulates r command m plan
+        × IsDone plan (world F.space O.taken O.faults files.old out.old)
+        (world F.space O.taken O.faults files.new out.new)) }
+
+    // Also over files that tell nothing.
+    ensures no_command { command_for (as_run (map string_bytes words.now)) ≡ None → result ≡ Status.Words }
+    ensures words_only { result ≡ Status.Words → command_for (as_run (map string_bytes words.now)) ≡ None }
+    ensures closed { (F.space files.new).mode ≡ Closed }
+{
+    match streamed(words) {
+        Some(config) => {
+            let end = stream(rt, alloc, files, out, config, gate, watch);
+            answer(err, end)
+        }
+        None => switch_top(&rt, alloc, words, files, out, err, gate),
+    }
+}
+
+fn stream<R, F: Files, O: Sink, G: Gate, W: Watch + 'static>(
+    rt: R,
+    alloc: Global,
+    files: &mut F,
+    out: &mut O,
+    config: &str,
+    gate: &G,
+    watch: &W,
+) -> Result<(), Stop>
+where
+    R: Threads + Wait + Sync + Copy + Send + 'static,
+    requires { (F.space files.old).mode ≡ Closed }
+    ensures ends { (r : Reader) → CommandEnds Ahead r
+        (λ name. Fails F.space F.may_fail F.keeps (Reads name) files.old files.new)
+        (λ name. Fails F.space F.may_fail F.keeps (Writes name) files.old files.new)
+        (FailsTaking O.taken O.faults O.may_fail O.keeps out.old out.new) (Command.Run config.now)
+        (world F.space O.taken O.faults files.old out.old)
+        (world F.space O.taken O.faults files.new out.new) result }
+    ensures closed { (F.space files.new).mode ≡ Closed }
+{
+    let name = Name::of(alloc, config)?;
+    let work = run_ahead(rt, alloc, files, name, gate, watch)?;
+    perform(files, out, work)?;
+    Ok(())
+}
