@@ -27,6 +27,7 @@ PARTS = (
     ("What a cell costs", "cases.py"),
     ("How a slot grows", "growth.py"),
     ("The ideal switch", "ideal.py"),
+    ("Captures that are read ahead", "stream.py"),
     ("One port", "pass.py"),
     ("The largest configuration", "check.py"),
 )
@@ -40,7 +41,7 @@ def others():
 def how_often(runs):
     if runs == "1":
         return "each run once"
-    return "medians of %s runs" % runs if runs else "medians of 3 runs, of `pass` 7, of `check` 9"
+    return "medians of %s runs" % runs if runs else "medians of 3 runs, of `stream` 5, of `pass` 7, of `check` 9"
 
 
 def machine(before, after, runs):

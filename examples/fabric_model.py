@@ -13,7 +13,7 @@ through whole lists in every slot, and takes what it is given as sound: it refus
 import sys
 
 from model import Packet
-from switch_model import Limits, Queued, Switch
+from switch_model import Limits, Switch
 
 
 class Fabric:
@@ -45,7 +45,7 @@ class Fabric:
         for cell in cells:
             if not self.limits.admits(cell, self.held(cell.output)):
                 continue
-            self.insert(Queued(self.ranks[cell.output].rank(cell.kind), slot, cell.input, cell))
+            self.insert(self.ranks[cell.output].queued(slot, cell))
             self.cells[cell.input] += 1
         for i, line in enumerate(self.lists):
             self.longest[i] = max(self.longest[i], len(line))

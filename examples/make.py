@@ -32,6 +32,13 @@ BURST = {
     "phone.pcap": ((0, 60), (1, 60), (2, 60), (4, 60)),
 }
 
+# For each capture of the levels, all to one output: microseconds, and bytes captured.
+LEVELS = {
+    "office.pcap": ((0, 384),),
+    "backup.pcap": ((0, 384),),
+    "phone.pcap": ((0, 60), (1, 60), (2, 60)),
+}
+
 # For each capture of the office: microseconds, bytes captured, the destination, and what stands behind the addresses.
 TELEPHONES, SERVERS, EVERYBODY = "020000000001", "020000000002", "ffffffffffff"
 OFFICE = {
@@ -84,12 +91,13 @@ def office():
     write_crossed("office.toml")
 
 
-def burst():
-    os.chdir(os.path.join(HERE, "burst"))
-    for name, packets in BURST.items():
+def to_the_uplink(folder, captures):
+    """An example in which all packets go to output 0."""
+    os.chdir(os.path.join(HERE, folder))
+    for name, packets in captures.items():
         with open(name, "wb") as file:
             file.write(captured(Packet(BEGIN + micros * 1000, length, addressed(0, length)) for micros, length in packets))
-    write_crossed("burst.toml")
+    write_crossed(folder + ".toml")
 
 
 def one_port():
@@ -108,5 +116,6 @@ if __name__ == "__main__":
     one_port()
     three_ports()
     office()
-    burst()
+    to_the_uplink("burst", BURST)
+    to_the_uplink("levels", LEVELS)
     lab()

@@ -27,9 +27,10 @@ class Cell(NamedTuple):
 
 
 class Queued(NamedTuple):
+    level: int
     rank: int
     slot: int
-    input: int  # queued cells compare by their keys: rank, slot and input
+    input: int  # queued cells compare by their keys: level, rank, slot and input
     cell: Cell
 
 
@@ -69,25 +70,34 @@ def fields_of(body):
 
 
 class Ranks:
-    """The discipline of one output: it ranks cells, and is told what was sent in each slot."""
+    """The discipline of one output: it ranks cells, and is told what was sent in each slot. A fair one keeps a virtual time
+    for each level."""
 
     def __init__(self, discipline, classes):
-        self.discipline, self.classes, self.now, self.tags = discipline, classes, 0, {}
+        self.discipline, self.classes, self.times, self.tags = discipline, classes, {}, {}
+
+    def level(self, kind):
+        return self.classes[kind].get("level", 0)
 
     def rank(self, kind):
         if self.discipline == "first-come":
             return 0
         if self.discipline == "priority":
             return int(self.classes[kind].get("priority", 0))
-        self.tags[kind] = max(self.tags.get(kind, 0), self.now) + int(self.classes[kind].get("cost", 1))
+        begin = max(self.tags.get(kind, 0), self.times.get(self.level(kind), 0))
+        self.tags[kind] = begin + int(self.classes[kind].get("cost", 1))
         return self.tags[kind]
+
+    def queued(self, slot, cell):
+        """A cell that arrives in this slot, with its key."""
+        return Queued(self.level(cell.kind), self.rank(cell.kind), slot, cell.input, cell)
 
     def tell(self, sent):
         """What was sent: a queued cell, or None."""
         if sent is None:
-            self.now, self.tags = 0, {}
+            self.times, self.tags = {}, {}
         else:
-            self.now = sent.rank
+            self.times[sent.level] = sent.rank
 
 
 class Limits:
@@ -167,7 +177,7 @@ class Switch:
         while arrivals or any(queues):
             for cell in arrivals.pop(slot, []):
                 if limits.admits(cell, len(queues[cell.output])):
-                    queues[cell.output].append(Queued(ranks[cell.output].rank(cell.kind), slot, cell.input, cell))
+                    queues[cell.output].append(ranks[cell.output].queued(slot, cell))
             for output, queue in enumerate(queues):
                 queue.sort()
                 first = queue.pop(0) if queue else None

@@ -3,13 +3,14 @@
 
     tests/drawn.py --bin PROGRAM [--seed N] [--count N] [--only CASE] [--jobs N]
 
-Each case draws a configuration of one to five ports, in which outputs have limits or none, and captures that crowd
-some of the outputs. The program and the models of `examples/` run `ideal` and `run` on it, each in a folder of its own. It
-fails on a status that is not 0, a report that differs, or a written file that differs or is not there.
+Each case draws a configuration of one to five ports, in which outputs have limits or none, and in version 2 classes have
+levels, and captures that crowd some of the outputs. The program and the models of `examples/` run `ideal` and `run` on
+it, each in a folder of its own. It fails on a status that is not 0, a report that differs, or a written file that differs
+or is not there.
 
 A case depends on the seed and its number alone: `--only CASE` runs it again, and keeps its folders. A line tells how many
-cases refused a packet, so that nobody trusts draws that never do. The last line is `drawn: P passed, F failed`, and the
-status is 0 where none failed. It needs Python 3.11 and is no part of the gate.
+cases refused a packet and how many had classes of two levels, so that nobody trusts draws that never do. The last line is
+`drawn: P passed, F failed`, and the status is 0 where none failed. It needs Python 3.11 and is no part of the gate.
 """
 
 import argparse
@@ -44,10 +45,13 @@ def drawn_capture(draw, ports, slot_ns, cell_bytes):
 def drawn_tables(draw, ports):
     """A configuration, with the numbers on which the captures depend."""
     slot_ns, cell_bytes, classes = draw.choice((100, 512)), draw.choice((32, 64)), draw.randrange(1, 4)
-    lines = ["version = 1", 'trace = "trace.txt"', 'log = "log.txt"', "slot_ns = %d" % slot_ns,
+    version = draw.choice((1, 2, 2))
+    lines = ["version = %d" % version, 'trace = "trace.txt"', 'log = "log.txt"', "slot_ns = %d" % slot_ns,
              "cell_bytes = %d" % cell_bytes, "workers = %d" % draw.randrange(1, 4)]
     for _ in range(classes):
         lines += ["[[class]]", 'priority = "%d"' % draw.randrange(4), 'cost = "%d"' % draw.randrange(1, 5)]
+        if version == 2 and draw.random() < 0.8:
+            lines.append("level = %d" % draw.choice((0, 1, 2, 15)))
     for port in range(ports):
         lines += ["[[port]]", 'write = "out%d.pcap"' % port, 'discipline = "%s"' % draw.choice(DISCIPLINES)]
         if draw.random() < 0.9:
@@ -82,6 +86,12 @@ def ran(folder, files, command):
         with open(os.path.join(folder, name), "rb") as file:
             left[name] = file.read()
     return done.returncode, done.stdout, done.stderr, left
+
+
+def has_levels(config):
+    """Whether it has classes of two levels."""
+    rows = config.split("[[class]]")[1:]
+    return len({row.split("level = ")[1].split("\n")[0] if "level = " in row else "0" for row in rows}) > 1
 
 
 def try_case(program, seed, number, keep):
@@ -121,15 +131,16 @@ def main():
     options = parser.parse_args()
     program, only = os.path.abspath(options.bin), options.only
     numbers = range(options.count) if only is None else [only]
-    failed = refusing = 0
+    failed = refusing = levelled = 0
     with concurrent.futures.ThreadPoolExecutor(options.jobs) as pool:
         found = pool.map(lambda number: try_case(program, options.seed, number, only is not None), numbers)
         for number, (difference, refused) in zip(numbers, found):
             refusing += refused
+            levelled += has_levels(draw_case(options.seed, number)["switch.toml"].decode())
             if difference is not None:
                 failed += 1
                 print("case %d: %s" % (number, difference), flush=True)
-    print("cases that refused a packet: %d" % refusing)
+    print("cases that refused a packet: %d, with classes of two levels: %d" % (refusing, levelled))
     print("drawn: %d passed, %d failed" % (len(numbers) - failed, failed))
     return 1 if failed else 0
 

@@ -46,7 +46,8 @@ WALL = 10
 NEVER = 2**64 - 1  # the number of no growth
 QUIET = 16  # so many numbers in turn that refuse nothing end a round
 NO_WORDS = 10  # the status of a call whose words could not be kept
-USAGE = (1, b"usage: cq_switch pass IN OUT | check CONFIG | ideal CONFIG | run CONFIG | soak SEED PORTS SLOTS\n")
+USAGE = (1, b"usage: cq_switch pass IN OUT | check CONFIG | ideal CONFIG | run CONFIG | soak SEED PORTS SLOTS"
+         b" | stream CONFIG\n")
 BEFORE = b"what stood here before\n"
 
 # What is asked for is told through a file in memory, since the program may end in any way.
@@ -244,12 +245,15 @@ def cases():
              b"ok ports 3 classes 1 addresses 2 rules 0\n"),
         Case("ideal", ["ideal", "switch.toml"], reads, ideal),
         Case("run", run, reads, crossed, *shipped("three-ports", "report.txt").values()),
+        Case("stream", ["stream", "switch.toml"], reads, crossed, *shipped("three-ports", "report.txt").values()),
         Case("office", ["run", "office.toml"], office, ranked, *shipped("office", "report.txt").values()),
         Case("two workers", run, two_ports("out0.pcap", "out1.pcap"), TWO_PORTS, TWO_PORTS_REPORT),
         Case("soak", ["soak", "1", "4", "20"], {}, {}, drawn),
         Case("no command", ["help"], {}, {}, refusal=USAGE),
         Case("unknown key", run, unknown, crossed, refusal=(2, b"configuration: C5 at address[1].zzz\n")),
         Case("cut capture", run, cut, crossed, refusal=(3, b"capture of input 1: 6 at 100\n")),
+        Case("cut capture, read ahead", ["stream", "switch.toml"], cut, crossed,
+             refusal=(3, b"capture of input 1: 6 at 100\n")),
         Case("too dear", run, dear, TWO_PORTS, refusal=(4, b"tag: slot 1, input 0, output 0\n")),
         # A port would write over what was read, under another name.
         Case("own capture", run, two_ports("./in0.pcap", "out1.pcap"), TWO_PORTS,

@@ -46,7 +46,7 @@ def named(number: int, packet: int, part: int) -> str:
 def queued(cell: Cell) -> Queued:
     """A cell as the model of the ranks is told of it."""
     told = switch_model.Cell(cell.input, cell.packet, cell.part, cell.output, cell.kind, cell.last)
-    return Queued(cell.key[1], cell.slot, cell.input, told)
+    return Queued(*cell.key, told)
 
 
 class InputList:
