@@ -1,26 +1,23 @@
 -- Only proofs use this.
 -- A decoding that was begun.
-use Rattle.std.specs.Prelude.{◌≡◌, ℕ, List, [], ◌∷◌, ◌++◌, Option, None, Some}
+use Rattle.std.specs.Prelude.{◌≡◌, ℕ, List, [], ◌∷◌, Option, None, Some}
 use Rattle.cq_space.specs.Space.{Contents}
-use Rattle.cq_stream.specs.declared.intake.Intake.{Intake}
-use Rattle.cq_stream.specs.declared.item.Item.{Item}
-use Rattle.cq_stream.specs.declared.item.Item.TheVariants.{Ended}
 use Rattle.cq_stream.specs.declared.item.Order.TheVariants.{Send}
-use Rattle.cq_stream.specs.Stream.{promised}
 use Rattle.cq_stream.specs.Rings.{IsPairOf, bytes_to_read, taken, told}
 use Rattle.cq_run.specs.declared.decoding.Decoding.{Decoding}
 use Rattle.cq_run.specs.declared.decoding.Decoding.TheVariants.{There, Here}
 use Rattle.cq_run.specs.Input.{IsFileOf}
+use Rattle.cq_run.specs.Running.{reader_of}
 
 -- the bytes that are decoded
 abbrev pub source : Decoding → List ℕ
-source (There intake reader) = bytes_to_read (promised reader.promise)
+source (There intake reader) = bytes_to_read (reader_of reader)
 source (Here bytes) = bytes.items
 
 -- its reader is the one of this intake, was told to send, and nothing was taken yet of what it sends
 abbrev pub IsBegun : Decoding → Type 0
 IsBegun (There intake reader) =
-    IsPairOf (promised reader.promise) intake × (told intake ≡ Send ∷ []) × (taken intake ≡ [])
+    IsPairOf (reader_of reader) intake × (told intake ≡ Send ∷ []) × (taken intake ≡ [])
 IsBegun (Here bytes) = Unit {0}
 
 -- what was begun for an input: the decoding of its file, and nothing where it has none
@@ -29,7 +26,3 @@ IsBegunFor None limit contents None = Unit {0}
 IsBegunFor (Some name) limit contents (Some decoding) =
     IsBegun decoding × IsFileOf name limit contents (source decoding)
 IsBegunFor _ limit contents _ = ⊥
-
--- all items of the reader were taken: the last one says that there are no more
-abbrev pub IsEmptied : Intake → Type 0
-IsEmptied intake = (before : List Item) × (taken intake ≡ before ++ Ended ∷ [])

@@ -9,6 +9,7 @@ pub mod Verdict
 pub mod Judging
 pub mod Switching
 pub mod Input
+pub mod Running
 pub mod Decoding
 pub mod World
 pub mod Writing

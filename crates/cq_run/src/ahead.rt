@@ -2,7 +2,8 @@
 //!
 //! Files are read one after another, as where they are read in turn, but the next is read while the last is
 //! decoded. Each reader that is started is joined by the call that started it, after those of the later inputs,
-//! whatever they come to: what was begun cannot be dropped, and finishing it joins its reader.
+//! whatever they come to: neither what was begun nor its reader can be dropped, and only a join uses a reader up. So
+//! a way out that leaves one behind is no program.
 ghost use Rattle.std.specs.Prelude.{◌≡◌, ◌+◌, ◌≤◌, ◌<◌, ◌^◌, ◌∷◌, [], IfErr, IfOk, IfSome, MatchOption, OnOk, length};
 ghost use Rattle.cq_pcap.specs.Record.{Spells};
 ghost use Rattle.cq_route.specs.Tables.{AreTables, ports_of};

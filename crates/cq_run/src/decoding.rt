@@ -3,32 +3,28 @@ ghost use Rattle.std.specs.Prelude.{◌≡◌, ◌≤◌, ◌^◌, [], IfErr, If
 ghost use Rattle.cq_pcap.specs.Faults.{IsFaulty, fault_of};
 ghost use Rattle.cq_pcap.specs.Record.{Spells};
 ghost use Rattle.cq_stream.specs.Rings.{IsPairOf, SameReader, bytes_to_read, taken};
-ghost use Rattle.cq_stream.specs.Stream.{items_of, promised};
-ghost use Rattle.cq_run.specs.Decoding.{IsBegun, IsEmptied, source};
+ghost use Rattle.cq_stream.specs.Stream.{items_of};
+ghost use Rattle.cq_run.specs.Decoding.{IsBegun, source};
+ghost use Rattle.cq_run.specs.Running.{IsEmptied, reader_of};
 
+use crate::running::Running;
 use cq_base::{NoMemory, Port};
 use cq_pcap::{Capture, PacketRow, PcapRefusal, read_capture};
-use cq_stream::{Done, DoneOf, Intake, Item, Watch, pair};
+use cq_stream::{Intake, Item, Watch, pair};
 use std::alloc::Global;
 use std::sync::Wait;
-use std::thread;
-use std::thread::{PromisedHandle, Threads, yield_now};
+use std::thread::{Threads, yield_now};
 
 // How many items may wait in a reader's ring.
 const ROOM: u16 = 1024;
 
-/// A decoding that was begun. It cannot be dropped: whoever begins one has to finish it. That this joins its reader
-/// is the code of `finish`, and said by no clause.
+/// A decoding that was begun. Neither it nor its reader can be dropped: whoever begins one has to finish it, and that
+/// joins its reader.
 pub enum Decoding {
     /// A reader sends what it finds.
-    There {
-        intake: Intake,
-        reader: PromisedHandle<Done, DoneOf>,
-    },
+    There { intake: Intake, reader: Running },
     /// There was no thread, and these bytes are not decoded yet.
-    Here {
-        bytes: Vec<u8>,
-    },
+    Here { bytes: Vec<u8> },
 }
 
 /// Begins to decode the capture of an input, of at most 2^28 bytes. The watch is told where a reader begins to
@@ -46,7 +42,7 @@ pub fn begin<R: Threads + Wait + Copy + Send + 'static, W: Watch + 'static>(
 {
     let (reader, mut intake) = pair(alloc, bytes, ROOM)?;
     let promise = reader.promise();
-    match thread::spawn_with(&rt, promise, move || {
+    match Running::start(&rt, promise, move || {
         let watch = watch;
         reader.run(&rt, input, watch)
     }) {
@@ -89,16 +85,16 @@ pub fn finish<R: Threads + Wait>(
 fn join_and_close<R: Threads>(
     rt: &R,
     intake: Intake,
-    reader: PromisedHandle<Done, DoneOf>,
+    reader: Running,
     rows: Result<Vec<PacketRow>, NoMemory>,
 ) -> Result<Capture, PcapRefusal>
-    requires pair { IsPairOf (promised reader.promise) intake }
+    requires pair { IsPairOf (reader_of reader) intake }
     requires emptied { IsEmptied intake }
     requires taken { IfOk rows (λ rows. taken intake ≡ items_of rows.items) }
-    ensures spelt { IfOk result (λ packets. Spells (bytes_to_read (promised reader.promise)) packets) }
-    ensures faulty { IfErr result (λ refusal. IfSome (fault_of refusal) (IsFaulty (bytes_to_read (promised reader.promise)))) }
+    ensures spelt { IfOk result (λ packets. Spells (bytes_to_read (reader_of reader)) packets) }
+    ensures faulty { IfErr result (λ refusal. IfSome (fault_of refusal) (IsFaulty (bytes_to_read (reader_of reader)))) }
 {
-    let done = reader.join(rt);
+    let done = reader.join(rt, &intake);
     intake.close(done, rows?)
 }
 

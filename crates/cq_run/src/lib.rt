@@ -16,6 +16,7 @@ mod perform;
 mod plan;
 mod reading;
 mod refusal;
+mod running;
 mod say;
 mod stop;
 mod stream;
