@@ -5,8 +5,8 @@ ghost use Rattle.cq_tables.specs.declared.version.Version.TheVariants.{One, Two}
 ghost use Rattle.cq_tables.specs.Document.{class_array, class_rows};
 ghost use Rattle.cq_tables.specs.Key.{check_of};
 
-/// What version 1 accepts as classes version 2 accepts too, as the same classes. The definition of a configuration
-/// differs between the versions in nothing else. This function does nothing: its contract is the claim.
+/// An array of classes that version 1 accepts is one that version 2 accepts, with the same rows. This function does
+/// nothing: its contract is the claim, and says no word of the other keys of a configuration.
 pub fn version_two_keeps_classes()
     ensures accepted { (top : Members) → check_of top (class_array One) ≡ None → check_of top (class_array Two) ≡ None }
     ensures classes { (top : Members) → check_of top (class_array One) ≡ None → class_rows Two top ≡ class_rows One top }
