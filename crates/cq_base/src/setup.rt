@@ -15,8 +15,8 @@ pub enum Kind {
 /// What the disciplines know of a class.
 #[derive(Clone, Copy, Debug, PartialEq, Eq)]
 pub struct ClassRow {
-    /// Its level, 0 to 15. At every output, whatever the discipline, a cell of a lesser level is the more
-    /// urgent.
+    /// A number up to 15 that stands first in the keys of its cells. So the lower level goes ahead, and a
+    /// discipline decides among the cells of one level alone.
     pub level: u8,
     /// The rank of its cells at an output by priority.
     pub priority: u128,
