@@ -14,7 +14,7 @@ use Rattle.cq_laws.specs.Fabric.{Fabric, empty_fabric}
 use Rattle.cq_laws.specs.Measures.{no_figures}
 use Rattle.cq_laws.proofs.WholeRuns.{empty_agree}
 use Rattle.cq_laws.proofs.LeastRun.{more_at_first}
-use Rattle.cq_engine.specs.Parts.{Queues, fabric_of}
+use Rattle.cq_fabric.specs.Queues.{Queues, fabric_of}
 use Rattle.cq_ideal.specs.Limiter.{LimiterView}
 use Rattle.cq_laws.specs.Holding.{fabric_held, waiting_for}
 use Rattle.cq_engine.specs.Engine.{IsInStep, IsRunning}

@@ -22,7 +22,7 @@ use Rattle.cq_laws.proofs.WholeRuns.{empty_agree, no_place}
 use Rattle.cq_ideal.specs.Limiter.{LimiterView}
 use Rattle.cq_laws.specs.Holding.{fabric_held}
 use Rattle.cq_engine.specs.Engine.{HoldsFabric, IsInStep}
-use Rattle.cq_engine.specs.Parts.{Queues, fabric_of}
+use Rattle.cq_fabric.specs.Queues.{Queues, fabric_of}
 
 -- ## The machines
 

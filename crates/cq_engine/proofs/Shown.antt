@@ -16,7 +16,7 @@ use Rattle.cq_ideal.proofs.Refusals.{each_once}
 use Rattle.cq_prefs.specs.FirstCells.{list_of}
 use Rattle.cq_laws.specs.Fabric.{Fabric}
 use Rattle.cq_laws.specs.Holding.{fabric_held, held_for, waiting_for}
-use Rattle.cq_engine.specs.Parts.{Queues, fabric_of}
+use Rattle.cq_fabric.specs.Queues.{Queues, fabric_of}
 use Rattle.cq_engine.specs.Engine.{EngineView, HaveBufferRoom, HaveListRoom, IsRunning, ports_of}
 
 -- what is seen of these parts

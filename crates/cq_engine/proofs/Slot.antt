@@ -45,15 +45,16 @@ use Rattle.cq_laws.proofs.Falls.{rest_of}
 use Rattle.cq_laws.proofs.InputBest.{stable_slot}
 use Rattle.cq_laws.proofs.LeastSlack.{by_arrivals, more_after}
 use Rattle.cq_laws.proofs.OneSlot.{same_slot, sound_from}
-use Rattle.cq_engine.specs.Parts.{Queues, ComeApart, FitLists, CanCross, fabric_of}
+use Rattle.cq_fabric.specs.Queues.{Queues, ComeApart, FitLists, CanCross, fabric_of}
 use Rattle.cq_ideal.specs.Ideal.{count_for}
 use Rattle.cq_laws.specs.Holding.{waiting_for}
 use Rattle.cq_engine.specs.Engine.{HoldsFabric, IsInStep, CountsFit}
-use Rattle.cq_engine.specs.Measuring.{IsNewest, arriving_slack, input_counted, output_counted}
-use Rattle.cq_engine.proofs.Newest.{newest_arrived}
+use Rattle.cq_fabric.specs.Newest.{IsNewest}
+use Rattle.cq_engine.specs.Measuring.{arriving_slack, input_counted, output_counted}
+use Rattle.cq_fabric.proofs.Newest.{newest_arrived}
 use Rattle.cq_engine.proofs.Shown.{held_at}
-use Rattle.cq_engine.proofs.Changed.{length-by_place}
-use Rattle.cq_engine.proofs.Queued.{has_cell}
+use Rattle.cq_fabric.proofs.Changed.{length-by_place}
+use Rattle.cq_fabric.proofs.Queued.{has_cell}
 
 -- ## Cells that wait or come for an output
 
@@ -271,7 +272,7 @@ module _ (ms : List Machine) (slot : ℕ) (x : Figures) (q0 : Queues) (ranks0 : 
         sent_was_held j some =
             ⊎_elim
             (λ r.
-            let have = has_cell q1.inputs q1.buffers q1.from_inputs q1.to_outputs (orders_of q1.inputs) m1 can_cross_first refl best1 in
+            let have = has_cell q1.inputs q1.buffers q1.from_inputs q1.to_outputs (orders_of q1.inputs) m1 can_cross_first refl best1.stable.matching in
             let cell = have r.0 j r.1 in
             let p = first_at (is_for j) (list_of q1.inputs r.0) cell.0 cell.1 in
             let one = one_waits r.0 j cell.0 (among_at (list_of q1.inputs r.0) p.place cell.0 p.at) (eqb-true cell.0.cell.output j p.passes) in
@@ -329,7 +330,7 @@ module _ (ms : List Machine) (slot : ℕ) (x : Figures) (q0 : Queues) (ranks0 : 
             let rest = ap (λ bs. length (list_of bs j)) buffers3 ∙ ap length (rest_of q2.buffers j) in
             ⊎_elim
             (λ r.
-            let have = has_cell q1.inputs q1.buffers q1.from_inputs q1.to_outputs (orders_of q1.inputs) m1 can_cross_first refl best1 in
+            let have = has_cell q1.inputs q1.buffers q1.from_inputs q1.to_outputs (orders_of q1.inputs) m1 can_cross_first refl best1.stable.matching in
             let cell = have r.0 j r.1 in
             let given = ap (λ l. length (drop 1 l)) (moves1.given r.0 j cell.0 r.1 cell.1) in
             let longer = put_length cell.0 (list_of q1.buffers j) in

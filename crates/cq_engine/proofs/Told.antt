@@ -4,7 +4,7 @@ use Rattle.std.proofs.lemmas.List.FromFn.{get_or-map-range_with_len, length-map-
 use Rattle.cq_base.specs.declared.cell.Queued.{Queued}
 use Rattle.cq_rank.specs.Machine.{Machine, machine_at, told}
 use Rattle.cq_ideal.specs.IdealSlot.{all_told}
-use Rattle.cq_engine.proofs.Changed.{changed_to, at_place, next_place}
+use Rattle.cq_fabric.proofs.Changed.{changed_to, at_place, next_place}
 
 pub length-told : (ms : List Machine) (gone : List (Option Queued)) (ranks : List (List ℕ)) → length (all_told ms gone ranks) ≡ length ranks
 unfolding all_told

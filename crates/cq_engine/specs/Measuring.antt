@@ -1,6 +1,6 @@
 -- Only proofs use this.
 -- What one slot adds to the figures of an input and of an output. The slack that is added is that of the cell that arrived.
-use Rattle.std.specs.Prelude.{◌≡◌, ℕ, ◌+◌, ◌-◌, ◌==◌, min, max, if◌then◌else◌, length, List, Option, Some, is_some, slice_get}
+use Rattle.std.specs.Prelude.{ℕ, ◌+◌, ◌-◌, ◌==◌, min, max, if◌then◌else◌, length, Option, is_some}
 use Rattle.std.specs.List.{position_or_len}
 use Rattle.std.specs.Option.{option_map}
 use Rattle.cq_base.specs.declared.cell.Queued.{Queued}
@@ -9,13 +9,7 @@ use Rattle.cq_base.specs.declared.figures.OutputFigures.{OutputFigures}
 use Rattle.cq_base.specs.Cells.{cushion}
 use Rattle.cq_prefs.specs.FirstCells.{list_of}
 use Rattle.cq_laws.specs.Measures.{either_by}
-use Rattle.cq_engine.specs.Parts.{Queues}
-
--- the cell stands in the list, and no other cell there arrived in its slot
-pub record IsNewest (c : Queued) (cells : List Queued) : Type 0 where
-  pub place : ℕ
-  pub at : slice_get cells place ≡ Some c
-  pub alone : (other : ℕ) (x : Queued) → slice_get cells other ≡ Some x → x.key.slot ≡ c.key.slot → other ≡ place
+use Rattle.cq_fabric.specs.Queues.{Queues}
 
 -- the slack of the cell that came to input i, if one did
 abbrev pub arriving_slack : Queues → ℕ → Option Queued → Option ℕ

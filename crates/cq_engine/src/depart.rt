@@ -7,8 +7,8 @@ ghost use Rattle.cq_laws.specs.Phases.{came_to};
 ghost use Rattle.cq_engine.specs.Measuring.{output_counted};
 
 use crate::measure::count_outputs;
-use crate::queues::Queues;
 use cq_base::{Departure, Figures, Port, Queued, Room, Slot};
+use cq_fabric::Queues;
 use cq_ideal::{Limiter, Ranks};
 use cq_rank::Rank;
 

@@ -15,12 +15,13 @@ ghost use Rattle.cq_engine.specs.Engine.{HaveBufferRoom, HaveListRoom, SlotDone,
 
 use crate::depart::depart;
 use crate::measure::count_inputs;
-use crate::queues::{Queues, nobody};
+use crate::settle::cross;
 use cq_base::{
     Arrivals, Departure, Figures, InputFigures, NoMemory, OutputFigures, Room, Sequence, Slot,
     TagFault, Transfer,
 };
 use cq_crew::Gate;
+use cq_fabric::{Queues, nobody};
 use cq_ideal::{Limiter, Ranks, Refused};
 use cq_rank::Rank;
 use std::alloc::Global;
@@ -60,7 +61,7 @@ pub struct Seen {
 impl<R: Rank> Model for Engine<R> {
     ghost use Rattle.std.specs.Prelude.{◌≡◌, false, map};
     ghost use Rattle.cq_engine.specs.Engine.{AreWorkers, EngineView, IsRunning};
-    ghost use Rattle.cq_engine.specs.Parts.{fabric_of};
+    ghost use Rattle.cq_fabric.specs.Queues.{fabric_of};
 
     ghost Value = { EngineView };
 
@@ -222,7 +223,7 @@ impl<R: Rank> Engine<R> {
         self.queues.arrive(&came);
         count_inputs(&mut self.figures.inputs, &self.queues, &came);
         let workers = self.workers;
-        let first = self.queues.cross(rt, alloc, workers, slot, 1, gate, note);
+        let first = cross(&mut self.queues, rt, alloc, workers, slot, 1, gate, note);
         depart(
             &mut self.ranks,
             &mut self.queues,
@@ -231,7 +232,7 @@ impl<R: Rank> Engine<R> {
             slot,
             sent,
         );
-        let second = self.queues.cross(rt, alloc, workers, slot, 2, gate, note);
+        let second = cross(&mut self.queues, rt, alloc, workers, slot, 2, gate, note);
         count_proposals(&mut self.figures, first.proposals, second.proposals);
         self.next = slot + 1;
         Ok(())

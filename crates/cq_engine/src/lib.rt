@@ -10,7 +10,7 @@ mod depart;
 mod engine;
 mod laws;
 mod measure;
-mod queues;
+mod settle;
 #[cfg(test)]
 mod tests;
 

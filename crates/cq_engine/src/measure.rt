@@ -7,10 +7,11 @@ ghost use Rattle.cq_base.specs.declared.figures.OutputFigures.{OutputFigures as 
 ghost use Rattle.cq_prefs.specs.FirstCells.{list_of};
 ghost use Rattle.cq_laws.specs.Measures.{either_by};
 ghost use Rattle.cq_laws.specs.Phases.{came_to};
-ghost use Rattle.cq_engine.specs.Measuring.{IsNewest, arriving_slack, input_counted, output_counted, wait_of};
+ghost use Rattle.cq_fabric.specs.Newest.{IsNewest};
+ghost use Rattle.cq_engine.specs.Measuring.{arriving_slack, input_counted, output_counted, wait_of};
 
-use crate::queues::Queues;
 use cq_base::{InputFigures, OutputFigures, Queued, Sequence, Slot};
+use cq_fabric::Queues;
 
 // The lesser of two numbers, of which each may be none.
 fn lesser(a: Option<u64>, b: Option<u64>) -> Option<u64>

@@ -2,7 +2,7 @@ use Rattle.std.proofs.Common.{List, None, length, get_or, ap, ◌∙◌, arith}
 use Rattle.cq_base.specs.declared.figures.OutputFigures.{OutputFigures}
 use Rattle.cq_laws.specs.Phases.{came_to}
 use Rattle.cq_engine.specs.Measuring.{output_counted}
-use Rattle.cq_engine.proofs.Changed.{at_end, length-by_place, by_place_next, not_yet, still_long}
+use Rattle.cq_fabric.proofs.Changed.{at_end, length-by_place, by_place_next, not_yet, still_long}
 use Rattle.cq_engine.proofs.measure.count_outputs.Goals as goal
 
 pub bounds-as_slice-output : goal.bounds-as_slice-output

@@ -9,7 +9,7 @@ use Rattle.cq_ideal.specs.Refused.{with_refused}
 use Rattle.cq_ideal.proofs.Slot.{by_marks}
 use Rattle.cq_prefs.specs.Moves.{transfers_of}
 use Rattle.cq_engine.specs.Engine.{EngineView, IsRunning, SlotDone, answer_to, its_admission}
-use Rattle.cq_engine.specs.Parts.{fabric_of}
+use Rattle.cq_fabric.specs.Queues.{fabric_of}
 use Rattle.cq_engine.proofs.Limits.{admits_are, still_holds}
 use Rattle.cq_engine.proofs.Told.{length-told}
 use Rattle.cq_engine.proofs.Slot.{came_outputs, came_newest, come_apart, fits_lists, can_cross_first, can_cross_second, few_cross, held_before, whole_slot}
@@ -149,7 +149,7 @@ depart-requires-clause-holds g c =
     let came = c.take.new.came in
     let ranked = c.in_default.ensures.came in
     let room = buffer_room_at g.R.Rank.machine c.args.slot c.args.arrivals.now c.args.self.now e.ranks.fixed e.ranks.states e.queues e.limiter e.figures e.next e.stopped c.self.view_is c.requires.running c.requires.next c.self.invariant.1 marks c.requires.buffer_room in
-    λ j. held_before ms c.args.slot e.figures e.queues e.ranks.states cells classes came c.take.new.self.states running.in_step come ranked c.arrive.new.self c.arrive.ensures.ports c.arrive.ensures.lists c.arrive.ensures.buffers c.arrive.ensures.to_outputs room c.cross-first.result.matching c.cross-first.ensures.best c.cross-first.new.self c.cross-first.ensures.moves e.limiter c.judge.new.self c.count.new.self running.holds c.judge.ensures.held c.count.ensures.held j
+    λ j. held_before ms c.args.slot e.figures e.queues e.ranks.states cells classes came c.take.new.self.states running.in_step come ranked c.arrive.new.self c.arrive.ensures.ports c.arrive.ensures.lists c.arrive.ensures.buffers c.arrive.ensures.to_outputs room c.cross-first.result.matching c.cross-first.ensures.best c.cross-first.new.queues c.cross-first.ensures.moves e.limiter c.judge.new.self c.count.new.self running.holds c.judge.ensures.held c.count.ensures.held j
 
 pub cross-second-requires-clause-cells : goal.cross-second-requires-clause-cells
 cross-second-requires-clause-cells g c =
@@ -163,8 +163,8 @@ cross-second-requires-clause-cells g c =
     let came = c.take.new.came in
     let ranked = c.in_default.ensures.came in
     let room = buffer_room_at g.R.Rank.machine c.args.slot c.args.arrivals.now c.args.self.now e.ranks.fixed e.ranks.states e.queues e.limiter e.figures e.next e.stopped c.self.view_is c.requires.running c.requires.next c.self.invariant.1 marks c.requires.buffer_room in
-    let told : c.depart.new.ranks.states ≡ all_told ms (fronts c.cross-first.new.self.buffers) c.take.new.self.states = c.depart.ensures.ranks ∙ ap (λ (fixed : List (List ℕ)). all_told (map g.R.Rank.machine fixed) (fronts c.cross-first.new.self.buffers) c.take.new.self.states) c.take.ensures.fixed in
-    λ _ _. can_cross_second ms c.args.slot e.figures e.queues e.ranks.states cells classes came c.take.new.self.states running.in_step come ranked c.arrive.new.self c.arrive.ensures.ports c.arrive.ensures.lists c.arrive.ensures.buffers c.arrive.ensures.to_outputs room c.cross-first.result.matching c.cross-first.ensures.best c.cross-first.new.self c.cross-first.ensures.moves c.depart.new.ranks.states c.depart.new.queues c.depart.ensures.inputs c.depart.ensures.buffers told (c.depart.ensures.to_outputs ∙ c.cross-first.ensures.to_outputs)
+    let told : c.depart.new.ranks.states ≡ all_told ms (fronts c.cross-first.new.queues.buffers) c.take.new.self.states = c.depart.ensures.ranks ∙ ap (λ (fixed : List (List ℕ)). all_told (map g.R.Rank.machine fixed) (fronts c.cross-first.new.queues.buffers) c.take.new.self.states) c.take.ensures.fixed in
+    λ _ _. can_cross_second ms c.args.slot e.figures e.queues e.ranks.states cells classes came c.take.new.self.states running.in_step come ranked c.arrive.new.self c.arrive.ensures.ports c.arrive.ensures.lists c.arrive.ensures.buffers c.arrive.ensures.to_outputs room c.cross-first.result.matching c.cross-first.ensures.best c.cross-first.new.queues c.cross-first.ensures.moves c.depart.new.ranks.states c.depart.new.queues c.depart.ensures.inputs c.depart.ensures.buffers told (c.depart.ensures.to_outputs ∙ c.cross-first.ensures.to_outputs)
 
 pub cross-second-requires-clause-note : goal.cross-second-requires-clause-note
 cross-second-requires-clause-note g c =
@@ -200,9 +200,9 @@ invariant_of-self-2 g c =
     let came = c.take.new.came in
     let ranked = c.in_default.ensures.came in
     let room = buffer_room_at g.R.Rank.machine c.args.slot c.args.arrivals.now c.args.self.now e.ranks.fixed e.ranks.states e.queues e.limiter e.figures e.next e.stopped c.self.view_is c.requires.running c.requires.next c.self.invariant.1 marks c.requires.buffer_room in
-    let told : c.depart.new.ranks.states ≡ all_told ms (fronts c.cross-first.new.self.buffers) c.take.new.self.states = c.depart.ensures.ranks ∙ ap (λ (fixed : List (List ℕ)). all_told (map g.R.Rank.machine fixed) (fronts c.cross-first.new.self.buffers) c.take.new.self.states) c.take.ensures.fixed in
+    let told : c.depart.new.ranks.states ≡ all_told ms (fronts c.cross-first.new.queues.buffers) c.take.new.self.states = c.depart.ensures.ranks ∙ ap (λ (fixed : List (List ℕ)). all_told (map g.R.Rank.machine fixed) (fronts c.cross-first.new.queues.buffers) c.take.new.self.states) c.take.ensures.fixed in
     let y = c.count_proposals.new.figures in
-    let whole = whole_slot ms c.args.slot e.figures e.queues e.ranks.states cells classes came c.take.new.self.states running.in_step come ranked c.arrive.new.self c.arrive.ensures.ports c.arrive.ensures.lists c.arrive.ensures.buffers c.arrive.ensures.to_outputs room c.cross-first.result.matching c.cross-first.ensures.best c.cross-first.new.self c.cross-first.ensures.moves c.depart.new.ranks.states c.depart.new.queues c.depart.ensures.inputs c.depart.ensures.buffers told (c.depart.ensures.to_outputs ∙ c.cross-first.ensures.to_outputs) c.cross-second.result.matching c.cross-second.ensures.best c.cross-second.new.self c.cross-second.ensures.moves y c.cross-first.result.proposals c.cross-second.result.proposals c.cross-first.ensures.proposals c.cross-second.ensures.proposals
+    let whole = whole_slot ms c.args.slot e.figures e.queues e.ranks.states cells classes came c.take.new.self.states running.in_step come ranked c.arrive.new.self c.arrive.ensures.ports c.arrive.ensures.lists c.arrive.ensures.buffers c.arrive.ensures.to_outputs room c.cross-first.result.matching c.cross-first.ensures.best c.cross-first.new.queues c.cross-first.ensures.moves c.depart.new.ranks.states c.depart.new.queues c.depart.ensures.inputs c.depart.ensures.buffers told (c.depart.ensures.to_outputs ∙ c.cross-first.ensures.to_outputs) c.cross-second.result.matching c.cross-second.ensures.best c.cross-second.new.queues c.cross-second.ensures.moves y c.cross-first.result.proposals c.cross-second.result.proposals c.cross-first.ensures.proposals c.cross-second.ensures.proposals
     (c.count_proposals.ensures.slots ∙ c.depart.ensures.slots)
     (c.count_proposals.ensures.proposals ∙ ap (λ n. n + (c.cross-first.result.proposals + c.cross-second.result.proposals)) c.depart.ensures.proposals)
     (c.count_proposals.ensures.most ∙ ap (λ n. max n (max c.cross-first.result.proposals c.cross-second.result.proposals)) c.depart.ensures.most)
@@ -211,16 +211,16 @@ invariant_of-self-2 g c =
     let judged = c.judge.ensures.ports.held in
     let limits = ap length c.judge.ensures.limits in
     let kept = ap length c.count.ensures.held in
-    let holds = still_holds ms c.args.slot cells (fabric_of e.queues e.ranks.states) (fabric_of c.cross-second.new.self c.depart.new.ranks.states) whole.ideal came (fronts c.cross-first.new.self.buffers) c.take.new.self.states whole.agreed ranked whole.alike e.limiter c.count.new.self c.depart.new.limiter running.holds
+    let holds = still_holds ms c.args.slot cells (fabric_of e.queues e.ranks.states) (fabric_of c.cross-second.new.queues c.depart.new.ranks.states) whole.ideal came (fronts c.cross-first.new.queues.buffers) c.take.new.self.states whole.agreed ranked whole.alike e.limiter c.count.new.self c.depart.new.limiter running.holds
     (c.count.ensures.limits ∙ c.judge.ensures.limits) (omega arith)
     (λ j inside. ap (λ (h : List ℕ). get_or h j 0) c.count.ensures.held ∙ c.judge.ensures.held j inside)
     c.depart.ensures.limits c.depart.ensures.ports c.depart.ensures.held in
     let many = ap length told in (
       c.self.invariant.0,
-      λ _. subst (λ (fixed : List (List ℕ)). IsRunning (map g.R.Rank.machine fixed) (c.args.slot + 1) y (fabric_of c.cross-second.new.self c.depart.new.ranks.states) c.depart.new.limiter) (sym (c.depart.ensures.fixed ∙ c.take.ensures.fixed))
+      λ _. subst (λ (fixed : List (List ℕ)). IsRunning (map g.R.Rank.machine fixed) (c.args.slot + 1) y (fabric_of c.cross-second.new.queues c.depart.new.ranks.states) c.depart.new.limiter) (sym (c.depart.ensures.fixed ∙ c.take.ensures.fixed))
           (record {
             in_step = whole.in_step;
-            ranks = many ∙ length-told ms (fronts c.cross-first.new.self.buffers) c.take.new.self.states ∙ c.take.ensures.many ∙ running.ranks;
+            ranks = many ∙ length-told ms (fronts c.cross-first.new.queues.buffers) c.take.new.self.states ∙ c.take.ensures.many ∙ running.ranks;
             holds = holds;
           }),
     )
@@ -274,9 +274,9 @@ returns-clause-slot g c =
     let came = c.take.new.came in
     let ranked = c.in_default.ensures.came in
     let room = buffer_room_at g.R.Rank.machine c.args.slot c.args.arrivals.now c.args.self.now e.ranks.fixed e.ranks.states e.queues e.limiter e.figures e.next e.stopped c.self.view_is c.requires.running c.requires.next c.self.invariant.1 marks c.requires.buffer_room in
-    let told : c.depart.new.ranks.states ≡ all_told ms (fronts c.cross-first.new.self.buffers) c.take.new.self.states = c.depart.ensures.ranks ∙ ap (λ (fixed : List (List ℕ)). all_told (map g.R.Rank.machine fixed) (fronts c.cross-first.new.self.buffers) c.take.new.self.states) c.take.ensures.fixed in
+    let told : c.depart.new.ranks.states ≡ all_told ms (fronts c.cross-first.new.queues.buffers) c.take.new.self.states = c.depart.ensures.ranks ∙ ap (λ (fixed : List (List ℕ)). all_told (map g.R.Rank.machine fixed) (fronts c.cross-first.new.queues.buffers) c.take.new.self.states) c.take.ensures.fixed in
     let y = c.count_proposals.new.figures in
-    let whole = whole_slot ms c.args.slot e.figures e.queues e.ranks.states cells classes came c.take.new.self.states running.in_step come ranked c.arrive.new.self c.arrive.ensures.ports c.arrive.ensures.lists c.arrive.ensures.buffers c.arrive.ensures.to_outputs room c.cross-first.result.matching c.cross-first.ensures.best c.cross-first.new.self c.cross-first.ensures.moves c.depart.new.ranks.states c.depart.new.queues c.depart.ensures.inputs c.depart.ensures.buffers told (c.depart.ensures.to_outputs ∙ c.cross-first.ensures.to_outputs) c.cross-second.result.matching c.cross-second.ensures.best c.cross-second.new.self c.cross-second.ensures.moves y c.cross-first.result.proposals c.cross-second.result.proposals c.cross-first.ensures.proposals c.cross-second.ensures.proposals
+    let whole = whole_slot ms c.args.slot e.figures e.queues e.ranks.states cells classes came c.take.new.self.states running.in_step come ranked c.arrive.new.self c.arrive.ensures.ports c.arrive.ensures.lists c.arrive.ensures.buffers c.arrive.ensures.to_outputs room c.cross-first.result.matching c.cross-first.ensures.best c.cross-first.new.queues c.cross-first.ensures.moves c.depart.new.ranks.states c.depart.new.queues c.depart.ensures.inputs c.depart.ensures.buffers told (c.depart.ensures.to_outputs ∙ c.cross-first.ensures.to_outputs) c.cross-second.result.matching c.cross-second.ensures.best c.cross-second.new.queues c.cross-second.ensures.moves y c.cross-first.result.proposals c.cross-second.result.proposals c.cross-first.ensures.proposals c.cross-second.ensures.proposals
     (c.count_proposals.ensures.slots ∙ c.depart.ensures.slots)
     (c.count_proposals.ensures.proposals ∙ ap (λ n. n + (c.cross-first.result.proposals + c.cross-second.result.proposals)) c.depart.ensures.proposals)
     (c.count_proposals.ensures.most ∙ ap (λ n. max n (max c.cross-first.result.proposals c.cross-second.result.proposals)) c.depart.ensures.most)
@@ -295,11 +295,11 @@ returns-clause-slot g c =
     let new : EngineView = record {
       fixed = c.depart.new.ranks.fixed;
       limits = limiter.limits;
-      fabric = fabric_of c.cross-second.new.self c.depart.new.ranks.states;
+      fabric = fabric_of c.cross-second.new.queues c.depart.new.ranks.states;
       marks = limiter.marks;
       refused = limiter.refused;
-      from_inputs = c.cross-second.new.self.from_inputs;
-      to_outputs = c.cross-second.new.self.to_outputs;
+      from_inputs = c.cross-second.new.queues.from_inputs;
+      to_outputs = c.cross-second.new.queues.to_outputs;
       figures = y;
       next = c.args.slot + 1;
       stopped = e.stopped;

@@ -1,0 +1,88 @@
+-- The cell that arrived last in a list. All others arrived in slots before, so its slot finds it; and the cells for its
+-- output that stand ahead of it are more urgent, so its key finds it too.
+use Rattle.std.proofs.Common.{◌≡◌, ◌≢◌, ℕ, zero, suc, ◌+◌, ◌<◌, ◌≤◌, eqb, Bool, true, false, not, List, [], ◌∷◌, length, Some, refl, sym, ap, ◌∙◌, subst, ⊎_elim, arith}
+use Rattle.std.specs.Prelude.{◌&&◌, insert, slice_get}
+use Rattle.std.specs.List.{position_or_len}
+use Rattle.std.proofs.lemmas.Bool.{eq-eqb, ne_eqb, cases_eq}
+use Rattle.std.proofs.lemmas.Option.{same_Some}
+use Rattle.cq_base.specs.declared.cell.Queued.{Queued}
+use Rattle.cq_base.specs.Key.{is_before}
+use Rattle.cq_base.specs.Cells.{KeepsOrder, ArrivedBefore, is_for, place_of_arrival, with_arrival}
+use Rattle.cq_base.proofs.Keys.{key_laws}
+use Rattle.cq_base.proofs.Lists.{all_at, first_here, first_later}
+use Rattle.cq_fabric.specs.Newest.{IsNewest}
+
+-- an older cell ahead
+newest_later : (y c : Queued) (xs : List Queued) → y.key.slot < c.key.slot → IsNewest c xs → IsNewest c (y ∷ xs)
+newest_later y c xs older rest = record { place = suc rest.place; at = rest.at; alone = alone }
+  where
+    alone : (t : ℕ) (x : Queued) → slice_get (y ∷ xs) t ≡ Some x → x.key.slot ≡ c.key.slot → t ≡ suc rest.place
+    alone zero x at same =
+        let slot : y.key.slot ≡ x.key.slot = ap (λ (q : Queued). q.key.slot) (same_Some y x at) in
+        absurd (omega arith)
+    alone (suc t) x at same = ap suc (rest.alone t x at same)
+
+newest_insert : (xs : List Queued) (p : ℕ) (c : Queued) → p ≤ length xs → ArrivedBefore c.key.slot xs →
+    IsNewest c (insert xs p c)
+newest_insert xs zero c inside before = record { place = 0; at = refl; alone = alone }
+  where
+    alone : (t : ℕ) (x : Queued) → slice_get (c ∷ xs) t ≡ Some x → x.key.slot ≡ c.key.slot → t ≡ 0
+    alone zero x at same = refl
+    alone (suc t) x at same = let older : x.key.slot < c.key.slot =
+        all_at (λ y. y.key.slot < c.key.slot) xs t x before at in absurd (omega arith)
+newest_insert [] (suc p) c inside before = absurd (omega arith)
+newest_insert (y ∷ xs) (suc p) c inside before =
+    newest_later y c (insert xs p c) before.0 (newest_insert xs p c (omega arith) before.1)
+
+pub newest_arrived : (cushion : ℕ) (c : Queued) (xs : List Queued) → ArrivedBefore c.key.slot xs →
+    IsNewest c (with_arrival cushion c xs)
+newest_arrived cushion c xs before = newest_insert xs (place_of_arrival cushion c xs) c (omega arith) before
+
+-- ## The place that its key tells
+
+-- whether a cell is for its output, and no more urgent
+no_sooner : Queued → Queued → Bool
+no_sooner c x = is_for c.cell.output x && not (is_before x.key c.key)
+
+in_slot : Queued → Queued → Bool
+in_slot c x = eqb x.key.slot c.key.slot
+
+finds_itself : (c : Queued) → no_sooner c c ≡ true
+unfolding no_sooner
+finds_itself c =
+    ap (λ b. b && not (is_before c.key c.key)) (eq-eqb c.cell.output c.cell.output refl)
+    ∙ ap not (key_laws.never_itself c.key)
+
+-- a cell ahead of it is for another output, or more urgent
+passes_by : (c x : Queued) → (x.cell.output ≡ c.cell.output → is_before x.key c.key ≡ true) → no_sooner c x ≡ false
+unfolding no_sooner
+passes_by c x ahead =
+    ⊎_elim
+    (λ own. ap (λ b. b && not (is_before x.key c.key)) (eq-eqb x.cell.output c.cell.output own) ∙ ap not (ahead own))
+    (λ other. ap (λ b. b && not (is_before x.key c.key)) (ne_eqb x.cell.output c.cell.output other))
+    (cases_eq x.cell.output c.cell.output)
+
+found : (c : Queued) (xs : List Queued) (place : ℕ) → slice_get xs place ≡ Some c →
+    ((t : ℕ) (x : Queued) → slice_get xs t ≡ Some x → x.key.slot ≡ c.key.slot → t ≡ place) → KeepsOrder xs →
+    position_or_len (no_sooner c) xs ≡ position_or_len (in_slot c) xs
+unfolding in_slot
+found c [] place at alone order = absurd (let P : ⊥ = cc in P)
+found c (x ∷ xs) zero at alone order =
+    let same : c ≡ x = sym (same_Some x c at) in
+    first_here (no_sooner c) x xs (subst (λ (y : Queued). no_sooner c y ≡ true) same (finds_itself c))
+    ∙ sym (first_here (in_slot c) x xs (eq-eqb x.key.slot c.key.slot (ap (λ (y : Queued). y.key.slot) (sym same))))
+found c (x ∷ xs) (suc place) at alone order =
+    let other : x.key.slot ≢ c.key.slot = λ same.
+    (let e : 0 ≡ suc place = alone 0 x refl same in absurd (omega arith)) in
+    let ahead = all_at (λ y. x.cell.output ≡ y.cell.output → is_before x.key y.key ≡ true) xs place c order.0 at in
+    let rest = found c xs place at (λ t y here same. let e = alone (suc t) y here same in omega arith) order.1 in
+    first_later (no_sooner c) x xs (passes_by c x ahead)
+    ∙ ap (λ n. 1 + n) rest
+    ∙ sym (first_later (in_slot c) x xs (ne_eqb x.key.slot c.key.slot other))
+
+pub found_by_key :
+    (c : Queued) (xs : List Queued) → IsNewest c xs → KeepsOrder xs →
+    position_or_len (λ x. is_for c.cell.output x && not (is_before x.key c.key)) xs ≡ position_or_len
+    (λ x. eqb x.key.slot c.key.slot) xs
+unfolding no_sooner in_slot
+found_by_key c xs newest order = found c xs newest.place newest.at newest.alone order

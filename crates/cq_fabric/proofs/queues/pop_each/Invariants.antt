@@ -1,0 +1,12 @@
+use Rattle.std.proofs.Common.{◌≡◌, length, map, take}
+use Rattle.cq_fabric.specs.Queues.{front_of, popped}
+use Rattle.cq_fabric.proofs.Changed.{changed_to}
+use Rattle.cq_fabric.proofs.queues.pop_each.Given as goal
+
+-- the first cells of the buffers before this one have left
+abbrev pub invariant-outputs : goal.invariant-outputs
+invariant-outputs l = record {
+  long : length l.gone ≡ 64;
+  gone : take l.output l.gone ≡ take l.output (map front_of l.fn.buffers);
+  buffers : l.buffers ≡ changed_to (map popped l.fn.buffers) l.fn.buffers l.output;
+}

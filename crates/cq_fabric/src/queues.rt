@@ -1,0 +1,322 @@
+//! The lists of all inputs, and the buffers of all outputs.
+ghost use Rattle.std.specs.Prelude.{◌≡◌, ◌≢◌, ◌==◌, ◌+◌, ◌-◌, ◌^◌, ◌<◌, ◌≤◌, ◌++◌, ℕ, [], All, IfOk, IsTrue, None, Some, length, map, replicate, slice_index, take};
+ghost use Rattle.std.specs.List.{list_all, position_or_len};
+ghost use Rattle.cq_base.specs.Cells.{cushion};
+ghost use Rattle.cq_ideal.specs.IdealSlot.{fronts, rests};
+ghost use Rattle.cq_list.specs.InputList.{cells_of};
+ghost use Rattle.cq_urgency.specs.OutputBuffer.{cells_in};
+ghost use Rattle.cq_prefs.specs.FirstCells.{list_of, orders_of};
+ghost use Rattle.cq_prefs.specs.Moves.{Moves, transfers_of};
+ghost use Rattle.cq_prefs.specs.Pairing.{IsMatching, with_pair};
+ghost use Rattle.cq_xbar.specs.Crossbar.{HaveCells, HaveRoom, KeysAreNew, MovesRoom};
+ghost use Rattle.cq_laws.specs.Phases.{came_to, list_arrived};
+ghost use Rattle.cq_fabric.specs.Newest.{IsNewest};
+ghost use Rattle.cq_fabric.specs.Queues.{CanCross, ComeApart, Comes, FitEach, FitLists, Fits, KeysApart, buffer_room, fabric_of, front_of, list_at, list_room, list_with, popped};
+
+use cq_base::{NoMemory, Port, Queued, Room, Slot, Transfer};
+use cq_list::InputList;
+use cq_prefs::{Matching, Offers};
+use cq_urgency::OutputBuffer;
+use cq_xbar::transfer;
+use std::alloc::Global;
+use std::marker::Model;
+
+/// The cells that wait at the inputs and at the outputs of a fabric. Contracts see the cells of each list and of
+/// each buffer, and how many cells each of them can hold.
+#[derive(Drop)]
+pub struct Queues {
+    lists: Vec<InputList>,
+    buffers: Vec<OutputBuffer>,
+    offers: Offers,
+}
+
+impl Model for Queues {
+    ghost use Rattle.std.specs.Prelude.{map};
+    ghost use Rattle.cq_list.specs.InputList.{cells_of};
+    ghost use Rattle.cq_urgency.specs.OutputBuffer.{cells_in};
+    ghost use Rattle.cq_fabric.specs.Queues.{Queues as Held, AreOffered, list_room, buffer_room};
+
+    ghost Value = { Held };
+
+    ghost view = { λ a. record {
+      inputs = cells_of a.lists.items;
+      buffers = cells_in a.buffers.items;
+      from_inputs = map list_room a.lists.items;
+      to_outputs = map buffer_room a.buffers.items;
+    } };
+
+    ghost invariant = { λ a. AreOffered a.lists.items a.buffers.items a.offers };
+}
+
+// The one pair of an input and an output.
+fn one_pair(ports: u16, input: Port, output: Port) -> Matching
+    requires few { ports ≤ 64 }
+    requires input { input < ports }
+    requires output { output < ports }
+    ensures { result ≡ with_pair (replicate ports None) input output }
+{
+    let mut pair = Matching::none(ports);
+    pair.join(input, output);
+    pair
+}
+
+// A cell that came goes into the list of its input, with the cushion that it has in the buffer of its output. The
+// offers follow.
+fn insert_one(
+    lists: &mut [InputList],
+    buffers: &[OutputBuffer],
+    offers: &mut Offers,
+    input: usize,
+    queued: Queued,
+)
+    requires fits { Fits (cells_in buffers.now) (list_at lists.old input) queued }
+    requires comes { Comes lists.old offers.old input queued }
+    ensures ports { length lists.new ≡ length lists.old }
+    ensures list { list_at lists.new input ≡ list_with (cells_in buffers.now) (Some queued) (list_at lists.old input) }
+    ensures others { (i : ℕ) → i ≢ input → list_at lists.new i ≡ list_at lists.old i }
+    ensures offers { offers.new ≡ orders_of (cells_of lists.new) }
+{
+    let output = queued.cell.output;
+    let cushion = buffers[output as usize].cushion(queued.key);
+    lists[input].insert(queued, cushion);
+    let pair = one_pair(lists.len() as u16, input as Port, output);
+    offers.renew(lists, &pair);
+}
+
+// Each cell that came goes into the list of its input.
+fn insert_each(
+    lists: &mut [InputList],
+    buffers: &[OutputBuffer],
+    offers: &mut Offers,
+    came: &[Option<Queued>; 64],
+)
+    requires few { length lists.old ≤ 64 }
+    requires fit { FitEach (cells_in buffers.now) came.now lists.old }
+    requires come { ComeApart came.now (cells_of lists.old) }
+    requires outputs { All (λ list. list.outputs ≡ length lists.old) lists.old }
+    requires offers { offers.old ≡ orders_of (cells_of lists.old) }
+    ensures ports { length lists.new ≡ length lists.old }
+    ensures lists { (i : ℕ) → i < length lists.old → list_at lists.new i ≡ list_with (cells_in buffers.now) (came_to came.now i) (list_at lists.old i) }
+    ensures offers { offers.new ≡ orders_of (cells_of lists.new) }
+{
+    'inputs: for input in 0..lists.len() {
+        if let Some(queued) = came[input] {
+            insert_one(lists, buffers, offers, input, queued);
+        }
+    }
+}
+
+// The first cells of the pairs of a matching cross, and are noted. The offers follow.
+fn cross_matched(
+    matching: &Matching,
+    lists: &mut [InputList],
+    buffers: &mut [OutputBuffer],
+    offers: &mut Offers,
+    slot: Slot,
+    phase: u8,
+    note: &mut Room<Transfer>,
+)
+    requires lists { length lists.old ≡ length matching.now }
+    requires buffers { length buffers.old ≡ length matching.now }
+    requires cells { HaveCells matching.now (cells_of lists.old) }
+    requires keys { KeysAreNew matching.now (cells_of lists.old) (cells_in buffers.old) }
+    requires room { HaveRoom matching.now buffers.old }
+    requires note { length matching.now ≤ note.old.spare }
+    requires apart { KeysApart (cells_of lists.old) }
+    requires outputs { All (λ list. list.outputs ≡ length lists.old) lists.old }
+    requires offers { offers.old ≡ orders_of (cells_of lists.old) }
+    ensures moves { Moves matching.now (cells_of lists.old) (cells_in buffers.old) (cells_of lists.new) (cells_in buffers.new) }
+    ensures room { MovesRoom matching.now lists.old buffers.old lists.new buffers.new }
+    ensures outputs { map (λ list. list.outputs) lists.new ≡ map (λ list. list.outputs) lists.old }
+    ensures offers { offers.new ≡ orders_of (cells_of lists.new) }
+    ensures note { note.new.items ≡ note.old.items ++ transfers_of matching.now (cells_of lists.old) slot phase }
+    ensures note_room { note.new.spare + length (transfers_of matching.now (cells_of lists.old) slot phase) ≡ note.old.spare }
+{
+    transfer(matching, lists, buffers, slot, phase, note);
+    offers.renew(lists, matching);
+}
+
+/// No cell in any of 64 places.
+pub fn nobody() -> [Option<Queued>; 64]
+    ensures { result ≡ replicate 64 None }
+{
+    [None; 64]
+}
+
+// The first cell of each buffer, which leaves it.
+fn pop_each(buffers: &mut [OutputBuffer]) -> [Option<Queued>; 64]
+    requires { length buffers.old ≤ 64 }
+    ensures gone { take (length buffers.old) result ≡ map front_of buffers.old }
+    ensures buffers { buffers.new ≡ map popped buffers.old }
+{
+    let mut gone = nobody();
+    'outputs: for output in 0..buffers.len() {
+        gone[output] = buffers[output].pop();
+    }
+    gone
+}
+
+// A list for each of these rooms, over as many outputs.
+fn new_lists(alloc: Global, rooms: &[u64]) -> Result<Vec<InputList>, NoMemory>
+    requires { length rooms.now ≤ 64 }
+    ensures cells { IfOk result (λ lists. cells_of lists.items ≡ replicate (length rooms.now) []) }
+    ensures rooms { IfOk result (λ lists. map list_room lists.items ≡ rooms.now) }
+    ensures outputs { IfOk result (λ lists. map (λ list. list.outputs) lists.items ≡ replicate (length rooms.now) (length rooms.now)) }
+{
+    let mut lists = Vec::with_capacity(alloc, rooms.len())?;
+    for room in rooms {
+        lists.push(InputList::new(alloc, rooms.len() as u16, *room)?)?;
+    }
+    Ok(lists)
+}
+
+// A buffer for each of these rooms.
+fn new_buffers(alloc: Global, rooms: &[u64]) -> Result<Vec<OutputBuffer>, NoMemory>
+    ensures cells { IfOk result (λ buffers. cells_in buffers.items ≡ replicate (length rooms.now) []) }
+    ensures rooms { IfOk result (λ buffers. map buffer_room buffers.items ≡ rooms.now) }
+    ensures few { IfOk result (λ _. All (λ room. room < 2 ^ 64) rooms.now) }
+{
+    let mut buffers = Vec::with_capacity(alloc, rooms.len())?;
+    for room in rooms {
+        buffers.push(OutputBuffer::new(alloc, *room)?)?;
+    }
+    Ok(buffers)
+}
+
+// Whether each of the lists is empty.
+fn none_wait(lists: &[InputList]) -> bool
+    ensures { result ≡ list_all (λ list. length list.cells == 0) lists.now }
+{
+    lists.iter().all(|list| list.len() == 0)
+}
+
+// Whether each of the buffers is empty.
+fn none_crossed(buffers: &[OutputBuffer]) -> bool
+    ensures { result ≡ list_all (λ buffer. length buffer.cells == 0) buffers.now }
+{
+    buffers.iter().all(|buffer| buffer.len() == 0)
+}
+
+impl Queues {
+    /// No cell waits. The lists and the buffers can hold so many cells. The error is want of memory.
+    pub fn new(alloc: Global, from_inputs: &[u64], to_outputs: &[u64]) -> Result<Queues, NoMemory>
+        requires few { length from_inputs.now ≤ 64 }
+        requires square { length to_outputs.now ≡ length from_inputs.now }
+        ensures inputs { IfOk result (λ q. q.inputs ≡ replicate (length from_inputs.now) []) }
+        ensures buffers { IfOk result (λ q. q.buffers ≡ replicate (length from_inputs.now) []) }
+        ensures from_inputs { IfOk result (λ q. q.from_inputs ≡ from_inputs.now) }
+        ensures to_outputs { IfOk result (λ q. q.to_outputs ≡ to_outputs.now) }
+    {
+        Ok(Queues {
+            lists: new_lists(alloc, from_inputs)?,
+            buffers: new_buffers(alloc, to_outputs)?,
+            offers: Offers::new(alloc, from_inputs.len() as u16)?,
+        })
+    }
+
+    /// The number of inputs, and of outputs.
+    pub fn ports(&self) -> u16
+        ensures value { result ≡ length self.now.inputs }
+        ensures buffers { length self.now.buffers ≡ length self.now.inputs }
+        ensures few { length self.now.inputs ≤ 64 }
+        ensures within { (j : ℕ) → length (list_of self.now.buffers j) ≤ slice_index self.now.to_outputs j }
+        ensures rooms { (j : ℕ) → slice_index self.now.to_outputs j < 2 ^ 64 }
+    {
+        self.lists.len() as u16
+    }
+
+    /// How many cells wait at an input.
+    pub fn len_of(&self, input: usize) -> u64
+        requires { input < length self.now.inputs }
+        ensures { result ≡ length (list_of self.now.inputs input) }
+    {
+        self.lists[input].len()
+    }
+
+    /// The slack of the cell that arrived in its slot at an input. Its key finds it there, however many cells wait.
+    pub fn slack_of(&self, input: usize, queued: &Queued) -> u64
+        requires input { input < length self.now.inputs }
+        requires output { queued.now.cell.output < length self.now.inputs }
+        requires newest { IsNewest queued.now (list_of self.now.inputs input) }
+        ensures { result ≡ cushion queued.now.key (list_of self.now.buffers queued.now.cell.output) - position_or_len (λ x. x.key.slot == queued.now.key.slot) (list_of self.now.inputs input) }
+    {
+        let list = &self.lists[input];
+        let _waiting = list.outputs();
+        let place = list.place_of_key(queued.cell.output, queued.key);
+        self.buffers[queued.cell.output as usize]
+            .cushion(queued.key)
+            .saturating_sub(place)
+    }
+
+    /// The cells arrive, each at its input.
+    pub fn arrive(&mut self, came: &[Option<Queued>; 64])
+        requires fit { FitLists came.now self.old }
+        requires come { ComeApart came.now self.old.inputs }
+        ensures ports { length self.new.inputs ≡ length self.old.inputs }
+        ensures lists { (i : ℕ) → list_of self.new.inputs i ≡ list_arrived (fabric_of self.old []) (came_to came.now i) (list_of self.old.inputs i) }
+        ensures buffers { self.new.buffers ≡ self.old.buffers }
+        ensures from_inputs { self.new.from_inputs ≡ self.old.from_inputs }
+        ensures to_outputs { self.new.to_outputs ≡ self.old.to_outputs }
+    {
+        insert_each(&mut self.lists, &self.buffers, &mut self.offers, came);
+    }
+
+    /// The list of each input.
+    pub fn lists(&self) -> &[InputList]
+        ensures cells { cells_of result.now ≡ self.now.inputs }
+        ensures few { length result.now ≤ 64 }
+        ensures outputs { All (λ list. list.outputs ≡ length result.now) result.now }
+    {
+        &self.lists
+    }
+
+    /// What the inputs offer to the outputs. It follows the lists, so that no list is read for it.
+    pub fn offers(&self) -> &Offers
+        ensures { result.now ≡ orders_of self.now.inputs }
+    {
+        &self.offers
+    }
+
+    /// The first cells of the pairs of a matching cross, and are noted with the slot and the phase, in order of
+    /// input. It takes no memory.
+    pub fn cross(&mut self, matching: &Matching, slot: Slot, phase: u8, note: &mut Room<Transfer>)
+        requires matching { IsMatching (orders_of self.old.inputs) matching.now }
+        requires cells { CanCross self.old }
+        requires note { length self.old.inputs ≤ note.old.spare }
+        ensures moves { Moves matching.now self.old.inputs self.old.buffers self.new.inputs self.new.buffers }
+        ensures from_inputs { self.new.from_inputs ≡ self.old.from_inputs }
+        ensures to_outputs { self.new.to_outputs ≡ self.old.to_outputs }
+        ensures note { note.new.items ≡ note.old.items ++ transfers_of matching.now self.old.inputs slot phase }
+        ensures note_room { note.new.spare + length (transfers_of matching.now self.old.inputs slot phase) ≡ note.old.spare }
+    {
+        cross_matched(
+            matching,
+            &mut self.lists,
+            &mut self.buffers,
+            &mut self.offers,
+            slot,
+            phase,
+            note,
+        );
+    }
+
+    /// The first cell of each buffer, which leaves it, by output.
+    pub fn depart(&mut self) -> [Option<Queued>; 64]
+        ensures gone { take (length self.old.inputs) result ≡ fronts self.old.buffers }
+        ensures buffers { self.new.buffers ≡ rests self.old.buffers }
+        ensures inputs { self.new.inputs ≡ self.old.inputs }
+        ensures from_inputs { self.new.from_inputs ≡ self.old.from_inputs }
+        ensures to_outputs { self.new.to_outputs ≡ self.old.to_outputs }
+    {
+        pop_each(&mut self.buffers)
+    }
+
+    /// Whether no cell waits in any list or buffer.
+    pub fn are_empty(&self) -> bool
+        ensures lists { IsTrue result → All (λ cells. cells ≡ []) self.now.inputs }
+        ensures buffers { IsTrue result → All (λ cells. cells ≡ []) self.now.buffers }
+        ensures empty { All (λ cells. cells ≡ []) self.now.inputs → All (λ cells. cells ≡ []) self.now.buffers → IsTrue result }
+    {
+        none_wait(&self.lists) && none_crossed(&self.buffers)
+    }
+}
