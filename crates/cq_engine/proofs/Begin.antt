@@ -1,7 +1,7 @@
 -- Before the first slot nothing waits and nothing was counted.
-use Rattle.std.proofs.Common.{◌≡◌, ℕ, zero, suc, List, [], Option, Some, None, length, get_or, replicate, refl, sym, ap, ◌∙◌, subst, arith}
+use Rattle.std.proofs.Common.{◌≡◌, ℕ, zero, suc, List, [], Option, Some, None, length, replicate, sym, ap, ◌∙◌, subst, arith}
 use Rattle.std.specs.Prelude.{slice_get}
-use Rattle.std.proofs.lemmas.List.{ext_get_or, get_or-replicate, length-replicate}
+use Rattle.std.proofs.lemmas.List.{length-replicate}
 use Rattle.std.proofs.lemmas.Option.{same_Some}
 use Rattle.cq_base.specs.declared.cell.Queued.{Queued}
 use Rattle.cq_base.specs.declared.figures.InputFigures.{InputFigures}
@@ -16,9 +16,8 @@ use Rattle.cq_laws.proofs.WholeRuns.{empty_agree}
 use Rattle.cq_laws.proofs.LeastRun.{more_at_first}
 use Rattle.cq_fabric.specs.Queues.{Queues, fabric_of}
 use Rattle.cq_ideal.specs.Limiter.{LimiterView}
-use Rattle.cq_laws.specs.Holding.{fabric_held, waiting_for}
 use Rattle.cq_engine.specs.Engine.{IsInStep, IsRunning}
-use Rattle.cq_engine.proofs.Shown.{held_at, held_long}
+use Rattle.cq_fabric.proofs.Limits.{holds_first}
 
 replicated : {X : Type 0} (n i : ℕ) (x y : X) → slice_get (replicate n x) i ≡ Some y → y ≡ x
 replicated zero i x y h = absurd (let P : ⊥ = cc in P)
@@ -52,36 +51,12 @@ in_step_first ms n ranks q x one ports inputs buffers figures =
     subst (λ (f : Fabric). IsInStep ms 0 x f) (sym fabric) (subst (λ (y : Figures). IsInStep ms 0 y (empty_fabric n ranks)) (sym figures) (first_up ms n ranks one ports))
 
 -- and no output holds a cell
-pub nothing_for : (j n : ℕ) → waiting_for j (replicate n []) ≡ 0
-nothing_for j zero = refl
-nothing_for j (suc n) = let rest = nothing_for j n in omega arith
-
-pub nothing_in : (j n : ℕ) → length (get_or {A = List Queued} (replicate n []) j []) ≡ 0
-nothing_in j zero = refl
-nothing_in zero (suc n) = refl
-nothing_in (suc j) (suc n) = nothing_in j n
-
 pub running_first : (ms : List Machine) (n : ℕ) (ranks : List (List ℕ)) (q : Queues) (x : Figures) (l : LimiterView) →
     AreForOneSwitch ms → length ms ≡ n → length ranks ≡ n → q.inputs ≡ replicate n [] → q.buffers ≡ replicate n [] →
     x ≡ no_figures n → length l.limits ≡ n → l.held ≡ replicate n 0 → IsRunning ms 0 x (fabric_of q ranks) l
 running_first ms n ranks q x l one ports states inputs buffers figures limits held =
-    let none : List Queued = [] in
-    let f : Fabric = fabric_of q ranks in
-    let long = ap length inputs ∙ length-replicate n none in
     record {
       in_step = in_step_first ms n ranks q x one ports inputs buffers figures;
       ranks = states ∙ sym ports;
-      holds = record {
-        ports = limits ∙ sym long;
-        held =
-            ext_get_or 0 l.held (fabric_held f)
-            (ap length held ∙ length-replicate n 0 ∙ sym (held_long f ∙ long))
-            (λ j inside.
-            let size = ap length held ∙ length-replicate n 0 in
-            let was : get_or l.held j 0 ≡ 0 = ap (λ (h : List ℕ). get_or h j 0) held ∙ get_or-replicate n j 0 0 (omega arith) in
-            let now = held_at f j (omega arith) in
-            let waits = ap (waiting_for j) inputs ∙ nothing_for j n in
-            let stands = ap (λ (b : List (List Queued)). length (get_or b j none)) buffers ∙ nothing_in j n in
-            omega arith);
-      };
+      holds = holds_first n ranks q l inputs buffers limits held;
     }

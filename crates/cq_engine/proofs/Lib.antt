@@ -1,6 +1,5 @@
 pub mod Told
 pub mod NoOffers
-pub mod Limits
 pub mod Slot
 pub mod Shown
 pub mod Begin

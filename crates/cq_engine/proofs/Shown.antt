@@ -1,7 +1,6 @@
 -- What the parts of an engine show of what a slot asks.
 use Rattle.std.proofs.Common.{◌≡◌, ◌+◌, ◌-◌, ◌<◌, ◌≤◌, ◌^◌, ℕ, Bool, false, List, Option, Some, length, map, get_or, sym, ap, ◌∙◌, subst, arith}
 use Rattle.std.proofs.lemmas.List.{length-map}
-use Rattle.std.proofs.lemmas.List.FromFn.{get_or-map-range_with_len, length-map-range_with_len}
 use Rattle.cq_base.specs.Arrivals.{arrival_at}
 use Rattle.cq_base.specs.declared.cell.Cell.{Cell}
 use Rattle.cq_base.specs.declared.figures.Figures.{Figures}
@@ -12,11 +11,10 @@ use Rattle.cq_ideal.specs.Ideal.{count_for}
 use Rattle.cq_ideal.specs.Limiter.{CanCount, ComeToPorts, LimiterView}
 use Rattle.cq_ideal.specs.Ranking.{AreForPorts}
 use Rattle.cq_ideal.proofs.Admitted.{admitted_arrives, admitted_for_ports}
-use Rattle.cq_ideal.proofs.Refusals.{each_once}
 use Rattle.cq_prefs.specs.FirstCells.{list_of}
-use Rattle.cq_laws.specs.Fabric.{Fabric}
-use Rattle.cq_laws.specs.Holding.{fabric_held, held_for, waiting_for}
+use Rattle.cq_laws.specs.Holding.{waiting_for}
 use Rattle.cq_fabric.specs.Queues.{Queues, fabric_of}
+use Rattle.cq_fabric.proofs.Limits.{admitted_room, numbers_fit as held_numbers_fit}
 use Rattle.cq_engine.specs.Engine.{EngineView, HaveBufferRoom, HaveListRoom, IsRunning, ports_of}
 
 -- what is seen of these parts
@@ -34,14 +32,6 @@ seen fixed states q l x next stopped =
       next = next;
       stopped = stopped;
     }
-
-pub held_long : (f : Fabric) → length (fabric_held f) ≡ length f.inputs
-unfolding fabric_held
-held_long f = length-map-range_with_len (λ (k : ℕ). held_for k f) 0 (length f.inputs)
-
-pub held_at : (f : Fabric) (j : ℕ) → j < length f.inputs → get_or (fabric_held f) j 0 ≡ held_for j f
-unfolding fabric_held
-held_at f j inside = get_or-map-range_with_len (λ (k : ℕ). held_for k f) 0 (length f.inputs) j j 0 inside (omega arith)
 
 module _ (M : List ℕ → Machine) (slot : ℕ) (cells : List (Option Cell)) (v : EngineView) (fixed states : List (List ℕ))
     (q : Queues) (l : LimiterView) (x : Figures) (next : ℕ) (stopped : Bool)
@@ -91,23 +81,15 @@ module _ (M : List ℕ → Machine) (slot : ℕ) (cells : List (Option Cell)) (v
 
   pub buffer_room_at : (marks : List Bool) → HaveBufferRoom cells v → (j : ℕ) → j < length (map M fixed) →
       waiting_for j q.inputs + count_for j (admitted marks cells) ≤ get_or q.to_outputs j 0 - length (list_of q.buffers j)
-  buffer_room_at marks room j inside =
-      let had = room_at room j inside in
-      let split = each_once j marks cells in
-      omega arith
+  buffer_room_at marks room j inside = admitted_room q marks cells j (room_at room j inside)
 
   -- the numbers of cells that outputs hold stay below 2^64
   pub numbers_fit : HaveBufferRoom cells v → ((j : ℕ) → length (list_of q.buffers j) ≤ get_or q.to_outputs j 0) →
       ((j : ℕ) → get_or q.to_outputs j 0 < 2 ^ 64) → (j : ℕ) → j < length l.limits →
       get_or l.held j 0 + count_for j cells < 2 ^ 64
-  numbers_fit room within top j inside =
-      let ports = up.holds.ports in
-      let machines = up.in_step.ports in
-      let had = room_at room j (omega arith) in
-      let fits = within j in
-      let most = top j in
-      let held = ap (λ (h : List ℕ). get_or h j 0) up.holds.held ∙ held_at (fabric_of q states) j (omega arith) in
-      omega arith
+  numbers_fit room =
+      held_numbers_fit q states l cells up.holds
+      (λ j inside. room_at room j (let machines = up.in_step.ports in omega arith))
 
   pub can_count : (now : LimiterView) → CanCount (ports_of v) v.refused → now.limits ≡ l.limits →
       now.refused ≡ l.refused → CanCount (length now.limits) now.refused

@@ -22,7 +22,7 @@ use Rattle.cq_laws.specs.Fabric.{Fabric, input, empty_fabric}
 use Rattle.cq_ideal.specs.Ideal.{count_for}
 use Rattle.cq_laws.specs.Holding.{fabric_held, held_for}
 use Rattle.cq_engine.specs.Engine.{EngineView, SlotDone, HaveBufferRoom}
-use Rattle.cq_engine.proofs.Begin.{nothing_for, nothing_in}
+use Rattle.cq_fabric.proofs.Limits.{nothing_for, nothing_in}
 use Rattle.cq_engine.proofs.Kept.{lists_kept, outputs_kept}
 
 -- nothing comes where nothing came

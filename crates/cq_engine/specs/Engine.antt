@@ -20,10 +20,11 @@ use Rattle.cq_ideal.specs.Refused.{with_refused}
 use Rattle.cq_ideal.specs.IdealSlot.{IdealState, departures_in}
 use Rattle.cq_prefs.specs.Pairing.{IsInputBest}
 use Rattle.cq_laws.specs.Fabric.{Fabric, input, buffer}
-use Rattle.cq_laws.specs.Holding.{fabric_held, waiting_for}
+use Rattle.cq_laws.specs.Holding.{waiting_for}
 use Rattle.cq_laws.specs.LimitedFabric.{LimitedFabricSlot, LimitedRecord, fabric_admission}
 use Rattle.cq_laws.specs.Records.{transfers_in}
 use Rattle.cq_laws.specs.Agreement.{Agrees}
+use Rattle.cq_fabric.specs.Held.{HoldsFabric}
 use Rattle.cq_laws.specs.Measures.{HasMoreSlack, figures_after}
 
 -- an engine
@@ -114,11 +115,6 @@ pub record IsInStep (ms : List Machine) (next : ℕ) (x : Figures) (f : Fabric) 
   pub slack : HasMoreSlack x f
   pub outputs : length x.outputs ≡ length ms
   pub counts : CountsFit next x
-
--- the outputs hold the cells for them, at all inputs and in their buffers
-pub record HoldsFabric (f : Fabric) (limiter : LimiterView) : Type 0 where
-  pub ports : length limiter.limits ≡ length f.inputs
-  pub held : limiter.held ≡ fabric_held f
 
 -- what holds of an engine that is not stopped
 pub record IsRunning (ms : List Machine) (next : ℕ) (x : Figures) (f : Fabric) (limiter : LimiterView) : Type 0 where

@@ -5,3 +5,6 @@ pub mod Newest
 pub mod Empty
 pub mod Rooms
 pub mod Kept
+pub mod Limits
+pub mod Slot
+pub mod Rested

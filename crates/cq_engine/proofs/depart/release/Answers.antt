@@ -4,7 +4,7 @@ use Rattle.std.proofs.lemmas.Bool.{cases_eq, cases_lt}
 use Rattle.std.proofs.lemmas.List.{get_or_past}
 use Rattle.cq_base.specs.declared.cell.Queued.{Queued}
 use Rattle.cq_laws.specs.Phases.{came_to}
-use Rattle.cq_engine.proofs.Limits.{bit, released}
+use Rattle.cq_fabric.proofs.Limits.{bit, released}
 use Rattle.cq_engine.proofs.depart.release.Goals as goal
 
 pub outputs-init : goal.outputs-init

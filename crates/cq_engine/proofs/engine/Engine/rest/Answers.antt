@@ -9,7 +9,8 @@ use Rattle.cq_laws.specs.LimitedFabric.{LimitedFabricRun}
 use Rattle.cq_laws.specs.LimitedQuiet.{quiet_limited_slots}
 use Rattle.cq_engine.specs.Engine.{EngineView, IsRunning, marked_fabric}
 use Rattle.cq_fabric.specs.Queues.{fabric_of}
-use Rattle.cq_engine.proofs.Rested.{rested_in_step, rested_limited_run, still_held}
+use Rattle.cq_fabric.proofs.Rested.{rested_limited_run, still_held}
+use Rattle.cq_engine.proofs.Rested.{rested_in_step}
 use Rattle.cq_engine.proofs.Shown.{up}
 use Rattle.cq_engine.proofs.engine.Engine.rest.Goals as goal
 

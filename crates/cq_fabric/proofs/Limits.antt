@@ -1,26 +1,95 @@
--- What the outputs of an engine hold. Between two slots these are as many cells as the lists of an ideal switch have with which
+-- What the outputs of a fabric hold. Between two slots these are as many cells as the lists of an ideal switch have with which
 -- the fabric agrees. So the numbers that a limiter keeps are followed through a slot by the lists of that switch: it takes in
 -- the same cells and sends the same, and agrees again.
-use Rattle.std.proofs.Common.{◌≡◌, ◌≢◌, ℕ, ◌+◌, ◌-◌, ◌<◌, Bool, List, [], ◌∷◌, length, map, get_or, drop, Option, Some, None, Ok, refl, sym, ap, ◌∙◌, subst, arith, get_or-set_same, get_or-set_other, length-set}
+use Rattle.std.proofs.Common.{◌≡◌, ◌≢◌, ℕ, zero, suc, ◌+◌, ◌-◌, ◌<◌, ◌≤◌, ◌^◌, Bool, List, [], ◌∷◌, length, map, get_or, drop, replicate, Option, Some, None, Ok, refl, sym, ap, ◌∙◌, subst, arith, get_or-set_same, get_or-set_other, length-set}
 use Rattle.std.specs.Prelude.{IfSome, if◌then◌else◌, is_some, slice_get}
-use Rattle.std.proofs.lemmas.List.{ext_get_or, get_or-map, length-map}
+use Rattle.std.proofs.lemmas.List.{ext_get_or, get_or-map, get_or-replicate, length-map, length-replicate}
+use Rattle.std.proofs.lemmas.List.FromFn.{get_or-map-range_with_len, length-map-range_with_len}
 use Rattle.cq_base.specs.declared.cell.Cell.{Cell}
 use Rattle.cq_base.specs.declared.cell.Queued.{Queued}
 use Rattle.cq_rank.specs.Machine.{Machine}
-use Rattle.cq_ideal.specs.Admission.{admission, marked, marks_after}
+use Rattle.cq_ideal.specs.Admission.{admission, admitted, marked, marks_after}
 use Rattle.cq_ideal.specs.Ideal.{count_for}
 use Rattle.cq_ideal.specs.IdealSlot.{IdealState, Sent, filled, fronts, ideal_sends, ideal_slot, rests}
 use Rattle.cq_ideal.specs.Limiter.{HoldsLists, LimiterView, held_without}
 use Rattle.cq_ideal.specs.Ranking.{Ranking, ranking}
 use Rattle.cq_ideal.proofs.Holding.{holds_filled}
+use Rattle.cq_ideal.proofs.Refusals.{each_once}
 use Rattle.cq_ideal.proofs.Slot.{by_marks, sent_from}
 use Rattle.cq_ideal.proofs.Spare.{came_for}
 use Rattle.cq_laws.specs.Agreement.{Agrees, SendsAlike}
 use Rattle.cq_laws.specs.Fabric.{Fabric}
+use Rattle.cq_laws.specs.Holding.{fabric_held, held_for, waiting_for}
 use Rattle.cq_laws.specs.LimitedFabric.{fabric_admission}
 use Rattle.cq_laws.specs.Phases.{came_to}
 use Rattle.cq_laws.proofs.Held.{hold_as_many}
-use Rattle.cq_engine.specs.Engine.{HoldsFabric}
+use Rattle.cq_prefs.specs.FirstCells.{list_of}
+use Rattle.cq_fabric.specs.Held.{HoldsFabric}
+use Rattle.cq_fabric.specs.Queues.{Queues, fabric_of}
+
+pub held_long : (f : Fabric) → length (fabric_held f) ≡ length f.inputs
+unfolding fabric_held
+held_long f = length-map-range_with_len (λ (k : ℕ). held_for k f) 0 (length f.inputs)
+
+pub held_at : (f : Fabric) (j : ℕ) → j < length f.inputs → get_or (fabric_held f) j 0 ≡ held_for j f
+unfolding fabric_held
+held_at f j inside = get_or-map-range_with_len (λ (k : ℕ). held_for k f) 0 (length f.inputs) j j 0 inside (omega arith)
+
+-- ## Before the first slot
+
+-- no output holds a cell where no list and no buffer has one
+pub nothing_for : (j n : ℕ) → waiting_for j (replicate n []) ≡ 0
+nothing_for j zero = refl
+nothing_for j (suc n) = let rest = nothing_for j n in omega arith
+
+pub nothing_in : (j n : ℕ) → length (get_or {A = List Queued} (replicate n []) j []) ≡ 0
+nothing_in j zero = refl
+nothing_in zero (suc n) = refl
+nothing_in (suc j) (suc n) = nothing_in j n
+
+pub holds_first : (n : ℕ) (ranks : List (List ℕ)) (q : Queues) (l : LimiterView) → q.inputs ≡ replicate n [] →
+    q.buffers ≡ replicate n [] → length l.limits ≡ n → l.held ≡ replicate n 0 → HoldsFabric (fabric_of q ranks) l
+holds_first n ranks q l inputs buffers limits held =
+    let none : List Queued = [] in
+    let f : Fabric = fabric_of q ranks in
+    let long = ap length inputs ∙ length-replicate n none in
+    record {
+      ports = limits ∙ sym long;
+      held =
+          ext_get_or 0 l.held (fabric_held f)
+          (ap length held ∙ length-replicate n 0 ∙ sym (held_long f ∙ long))
+          (λ j inside.
+          let size = ap length held ∙ length-replicate n 0 in
+          let was : get_or l.held j 0 ≡ 0 = ap (λ (h : List ℕ). get_or h j 0) held ∙ get_or-replicate n j 0 0 (omega arith) in
+          let now = held_at f j (omega arith) in
+          let waits = ap (waiting_for j) inputs ∙ nothing_for j n in
+          let stands = ap (λ (b : List (List Queued)). length (get_or b j none)) buffers ∙ nothing_in j n in
+          omega arith);
+    }
+
+-- ## Before a slot
+
+-- the numbers of cells that outputs hold stay below 2^64 where their buffers have room for all that wait or come
+pub numbers_fit : (q : Queues) (ranks : List (List ℕ)) (l : LimiterView) (cells : List (Option Cell)) →
+    HoldsFabric (fabric_of q ranks) l →
+    ((j : ℕ) → j < length q.inputs → waiting_for j q.inputs + count_for j cells ≤ get_or q.to_outputs j 0 - length (list_of q.buffers j)) →
+    ((j : ℕ) → length (list_of q.buffers j) ≤ get_or q.to_outputs j 0) → ((j : ℕ) → get_or q.to_outputs j 0 < 2 ^ 64) →
+    (j : ℕ) → j < length l.limits → get_or l.held j 0 + count_for j cells < 2 ^ 64
+numbers_fit q ranks l cells holds room within top j inside =
+    let ports = holds.ports in
+    let had = room j (omega arith) in
+    let fits = within j in
+    let most = top j in
+    let held = ap (λ (h : List ℕ). get_or h j 0) holds.held ∙ held_at (fabric_of q ranks) j (omega arith) in
+    omega arith
+
+-- what is admitted finds room where all that comes does
+pub admitted_room : (q : Queues) (marks : List Bool) (cells : List (Option Cell)) (j : ℕ) →
+    waiting_for j q.inputs + count_for j cells ≤ get_or q.to_outputs j 0 - length (list_of q.buffers j) →
+    waiting_for j q.inputs + count_for j (admitted marks cells) ≤ get_or q.to_outputs j 0 - length (list_of q.buffers j)
+admitted_room q marks cells j room =
+    let split = each_once j marks cells in
+    omega arith
 
 -- what is admitted by these marks is what the fabric admits
 pub admits_are : (l : LimiterView) (f : Fabric) (cells : List (Option Cell)) (marks : List Bool) → HoldsFabric f l →

@@ -1,0 +1,101 @@
+-- Slots in which nothing waits and nothing comes. The first of them tells each machine that its output was idle, and the
+-- others change nothing. After them the fabric is as empty as before, so it is in step with an ideal switch that is empty too.
+use Rattle.std.proofs.Common.{◌≡◌, ℕ, zero, suc, ◌<◌, ◌≤◌, Bool, List, Option, length, replicate, refl, sym, ap, ◌∙◌, subst, arith}
+use Rattle.cq_base.specs.Arrivals.{no_arrivals}
+use Rattle.cq_rank.specs.Machine.{Machine}
+use Rattle.cq_ideal.specs.Admission.{marked}
+use Rattle.cq_ideal.specs.IdealRun.{empty_ideal}
+use Rattle.cq_ideal.specs.IdealSlot.{IdealState}
+use Rattle.cq_ideal.specs.Parts.{all_idle}
+use Rattle.cq_prefs.specs.Pairing.{IsInputBest}
+use Rattle.cq_laws.specs.Agreement.{Agrees}
+use Rattle.cq_laws.specs.Fabric.{Fabric, IsEmptyFabric, empty_fabric}
+use Rattle.cq_laws.specs.FabricRun.{FabricRun}
+use Rattle.cq_laws.specs.Quiet.{idled, idled_for, quiet_slots}
+use Rattle.cq_laws.specs.LimitedFabric.{LimitedFabricRun}
+use Rattle.cq_laws.specs.LimitedQuiet.{quiet_limited_slots}
+use Rattle.cq_laws.proofs.NothingRefused.{none_come, run_with}
+use Rattle.cq_laws.proofs.QuietSlots.{empty_is, quiet_run}
+use Rattle.cq_laws.proofs.WholeRuns.{empty_agree}
+use Rattle.cq_ideal.specs.Limiter.{LimiterView}
+use Rattle.cq_laws.specs.Holding.{fabric_held}
+use Rattle.cq_fabric.specs.Held.{HoldsFabric}
+use Rattle.cq_fabric.specs.Queues.{Queues, fabric_of}
+
+-- ## The machines
+
+module _ (ms : List Machine) (ports : ℕ) where
+  idle_is : (ranks : List (List ℕ)) → all_idle ms ports ranks ≡ idled ms ports ranks
+  unfolding idled
+  idle_is ranks = refl
+
+  stays_idle : (count : ℕ) (ranks : List (List ℕ)) → all_idle ms ports ranks ≡ ranks → idled_for ms count ports ranks ≡ ranks
+  stays_idle zero ranks same = refl
+  stays_idle (suc count) ranks same =
+      ap (idled_for ms count ports) (sym (idle_is ranks) ∙ same) ∙ stays_idle count ranks same
+
+  idle_once : (count : ℕ) (ranks rested : List (List ℕ)) → 0 < count → rested ≡ all_idle ms ports ranks →
+      all_idle ms ports rested ≡ rested → idled_for ms count ports ranks ≡ rested
+  idle_once zero ranks rested some is again = absurd (omega arith)
+  idle_once (suc count) ranks rested some is again =
+      ap (idled_for ms count ports) (sym (idle_is ranks) ∙ sym is) ∙ stays_idle count rested again
+
+-- ## The fabric
+
+-- the fabric with other states of its machines
+abbrev pub with_ranks : Fabric → List (List ℕ) → Fabric
+with_ranks f ranks = record { inputs = f.inputs; buffers = f.buffers; ranks = ranks }
+
+pub rested_run : (ms : List Machine) (ports count slot : ℕ) (f : Fabric) (rested : List (List ℕ)) → IsEmptyFabric f →
+    length f.buffers ≡ length f.inputs → length f.inputs ≡ ports → 0 < count → rested ≡ all_idle ms ports f.ranks →
+    all_idle ms ports rested ≡ rested →
+    FabricRun IsInputBest ms slot (replicate count no_arrivals) f (quiet_slots ms count slot ports f.ranks)
+    (record { inputs = f.inputs; buffers = f.buffers; ranks = rested })
+rested_run ms ports count slot f rested empty square long some is again =
+    let opening : f ≡ empty_fabric ports f.ranks =
+    empty_is f empty square ∙ ap (λ (n : ℕ). empty_fabric n f.ranks) long in
+    let Run : Fabric → Fabric → Type 0 = λ from to.
+    FabricRun IsInputBest ms slot (replicate count no_arrivals) from (quiet_slots ms count slot ports f.ranks) to in
+    let there : Run (empty_fabric ports f.ranks) (empty_fabric ports rested) =
+    subst (λ (ranks : List (List ℕ)). Run (empty_fabric ports f.ranks) (empty_fabric ports ranks))
+    (idle_once ms ports count f.ranks rested some is again) (quiet_run ms count slot ports f.ranks) in
+    subst (λ (from : Fabric). Run from (with_ranks f rested)) (sym opening)
+    (subst (λ (to : Fabric). Run (empty_fabric ports f.ranks) (with_ranks to rested)) (sym opening) there)
+
+agrees_later : (slot later : ℕ) (f : Fabric) (ideal : IdealState) → slot ≤ later → Agrees slot f ideal → Agrees later f ideal
+agrees_later slot later f ideal le a = record {
+  fabric = a.fabric;
+  ports = a.ports;
+  ranks = a.ranks;
+  rising = a.rising;
+  same = a.same;
+  order = a.order;
+  differ = a.differ;
+  earlier = λ p c at. let before = a.earlier p c at in omega arith;
+  slack = a.slack;
+}
+
+-- an empty fabric agrees with an empty ideal switch, whatever the slot
+pub rested_agrees : (slot later : ℕ) (f : Fabric) (ideal : IdealState) (rested : List (List ℕ)) → IsEmptyFabric f →
+    Agrees slot f ideal → Agrees later (with_ranks f rested) (empty_ideal (length f.inputs) rested)
+rested_agrees slot later f ideal rested empty had =
+    let ports = length f.inputs in
+    let opening : f ≡ empty_fabric ports f.ranks = empty_is f empty had.fabric.square in
+    subst (λ (g : Fabric). Agrees later (with_ranks g rested) (empty_ideal ports rested)) (sym opening)
+    (agrees_later 0 later (empty_fabric ports rested) (empty_ideal ports rested) (omega arith) (empty_agree ports rested))
+
+-- what the outputs hold does not depend on the states of the rank machines
+pub still_held : (q : Queues) (ranks rested : List (List ℕ)) (l : LimiterView) → HoldsFabric (fabric_of q ranks) l →
+    HoldsFabric (fabric_of q rested) l
+unfolding fabric_held
+still_held q ranks rested l holds = record { ports = holds.ports; held = holds.held }
+
+-- with limits the marks stay, and nothing is refused
+pub rested_limited_run : (limits : List (Option ℕ)) (marks : List Bool) (ms : List Machine) (ports count slot : ℕ) (f : Fabric)
+    (rested : List (List ℕ)) → IsEmptyFabric f → length f.buffers ≡ length f.inputs → length f.inputs ≡ ports → 0 < count →
+    rested ≡ all_idle ms ports f.ranks → all_idle ms ports rested ≡ rested →
+    LimitedFabricRun IsInputBest limits ms slot (replicate count no_arrivals) (marked marks f)
+    (quiet_limited_slots ms count slot ports f.ranks marks) (marked marks (with_ranks f rested))
+rested_limited_run limits marks ms ports count slot f rested empty square long some is again =
+    run_with IsInputBest limits ms marks slot (replicate count no_arrivals) _ _ _
+    (none_come IsInputBest limits ms marks count) (rested_run ms ports count slot f rested empty square long some is again)
