@@ -1,4 +1,3 @@
-pub mod Told
 pub mod NoOffers
 pub mod Slot
 pub mod Shown

@@ -8,7 +8,7 @@ ghost use Rattle.cq_engine.specs.Measuring.{output_counted};
 
 use crate::measure::count_outputs;
 use cq_base::{Departure, Figures, Port, Queued, Room, Slot};
-use cq_fabric::Queues;
+use cq_fabric::{Queues, release, tell};
 use cq_ideal::{Limiter, Ranks};
 use cq_rank::Rank;
 
@@ -17,36 +17,6 @@ fn any_sent(gone: &[Option<Queued>]) -> bool
     ensures { result ≡ list_any is_some gone.now }
 {
     gone.iter().any(|queued| queued.is_some())
-}
-
-// Each machine is told what its output sent in the slot that ends.
-fn tell<R: Rank>(ranks: &mut Ranks<R>, gone: &[Option<Queued>])
-    requires few { length gone.now ≤ 64 }
-    requires outputs { length gone.now ≡ length ranks.old.fixed }
-    requires states { length ranks.old.states ≡ length ranks.old.fixed }
-    ensures fixed { ranks.new.fixed ≡ ranks.old.fixed }
-    ensures states { ranks.new.states ≡ all_told (map R.machine ranks.old.fixed) gone.now ranks.old.states }
-{
-    'outputs: for output in 0..gone.len() {
-        ranks.told(output as Port, gone[output]);
-    }
-}
-
-// Each output holds the cell that it sent no longer.
-fn release(limiter: &mut Limiter, gone: &[Option<Queued>])
-    requires few { length gone.now ≤ 64 }
-    requires outputs { length gone.now ≡ length limiter.old.held }
-    requires holds { (j : ℕ) → IfSome (came_to gone.now j) (λ _. 0 < slice_index_or limiter.old.held j 0) }
-    ensures held { (j : ℕ) → slice_index_or limiter.new.held j 0 + (if is_some (came_to gone.now j) then 1 else 0)
-        ≡ slice_index_or limiter.old.held j 0 }
-    ensures ports { length limiter.new.held ≡ length limiter.old.held }
-    ensures marks { limiter.new.marks ≡ limiter.old.marks }
-    ensures refused { limiter.new.refused ≡ limiter.old.refused }
-    ensures limits { limiter.new.limits ≡ limiter.old.limits }
-{
-    'outputs: for output in 0..gone.len() {
-        limiter.sent(output as Port, gone[output]);
-    }
 }
 
 // The cells that left are put at the end of what was sent.

@@ -6,5 +6,6 @@ pub mod Empty
 pub mod Rooms
 pub mod Kept
 pub mod Limits
+pub mod Told
 pub mod Slot
 pub mod Rested

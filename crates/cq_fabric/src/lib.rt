@@ -1,12 +1,14 @@
 //! The lists of the inputs and the buffers of the outputs, together.
 //!
-//! A cell arrives at its list, crosses where a matching says so, and leaves its buffer. Who finds the matching, and by
-//! what it is judged, is not known here. The offers of the inputs follow the lists. All memory is taken when the
-//! queues are made.
+//! A cell arrives at its list, crosses where a matching says so, and leaves its buffer. The rank machines are told what
+//! left, and the limiter takes note of it. Who finds the matching, and by what it is judged, is not known here. The
+//! offers of the inputs follow the lists. All memory is taken when the queues are made.
 #![tactic(auto)]
 
 mod queues;
+mod sent;
 #[cfg(test)]
 mod tests;
 
 pub use queues::{Queues, nobody};
+pub use sent::{release, tell};

@@ -11,7 +11,7 @@ use Rattle.cq_prefs.specs.Moves.{transfers_of}
 use Rattle.cq_engine.specs.Engine.{EngineView, IsRunning, SlotDone, answer_to, its_admission}
 use Rattle.cq_fabric.specs.Queues.{fabric_of}
 use Rattle.cq_fabric.proofs.Limits.{admits_are, still_holds}
-use Rattle.cq_engine.proofs.Told.{length-told}
+use Rattle.cq_fabric.proofs.Told.{length-told}
 use Rattle.cq_engine.proofs.Slot.{came_outputs, came_newest, come_apart, fits_lists, can_cross_first, can_cross_second, few_cross, held_before, whole_slot}
 use Rattle.cq_engine.proofs.Shown.{admitted_come, buffer_room_at, can_count, come_to_ports, few, list_room_at, numbers_fit, ports_are, up}
 use Rattle.cq_engine.proofs.engine.Engine.slot.Goals as goal

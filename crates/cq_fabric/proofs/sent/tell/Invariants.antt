@@ -1,7 +1,7 @@
 use Rattle.std.proofs.Common.{◌≡◌, map}
 use Rattle.cq_ideal.specs.IdealSlot.{all_told}
 use Rattle.cq_fabric.proofs.Changed.{changed_to}
-use Rattle.cq_engine.proofs.depart.tell.Given as goal
+use Rattle.cq_fabric.proofs.sent.tell.Given as goal
 
 -- the machines of the outputs before this one have been told
 abbrev pub invariant-outputs : goal.invariant-outputs

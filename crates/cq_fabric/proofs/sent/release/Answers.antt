@@ -5,7 +5,7 @@ use Rattle.std.proofs.lemmas.List.{get_or_past}
 use Rattle.cq_base.specs.declared.cell.Queued.{Queued}
 use Rattle.cq_laws.specs.Phases.{came_to}
 use Rattle.cq_fabric.proofs.Limits.{bit, released}
-use Rattle.cq_engine.proofs.depart.release.Goals as goal
+use Rattle.cq_fabric.proofs.sent.release.Goals as goal
 
 pub outputs-init : goal.outputs-init
 outputs-init c = record {
