@@ -1,32 +1,43 @@
--- What a transfer asks for. Each pair of a stable matching is offered, so its input has a first cell for its output;
--- and where that is so the buffer has room, and no cell with its key.
-use Rattle.std.proofs.Common.{◌≡◌, ℕ, List, length, subst, ◌∙◌}
+-- What is told of the lists of some queues is told of their inputs, and so are the transfers of what the lines tell.
+use Rattle.std.proofs.Common.{◌≡◌, ◌+◌, ◌++◌, ℕ, List, length, sym, ap, ◌∙◌, subst}
 use Rattle.std.proofs.lemmas.List.{length-map}
+use Rattle.cq_base.specs.declared.cell.Queued.{Queued}
 use Rattle.cq_base.specs.declared.cell.Transfer.{Transfer}
 use Rattle.cq_list.specs.InputList.{Waiting, cells_of}
-use Rattle.cq_urgency.specs.OutputBuffer.{Buffered, cells_in}
-use Rattle.cq_prefs.specs.FirstCells.{list_of, output_order}
-use Rattle.cq_prefs.specs.Orders.{IsListed}
-use Rattle.cq_prefs.specs.Pairing.{Partners}
-use Rattle.cq_prefs.proofs.OutputOrder.{is_output_order}
-use Rattle.cq_xbar.specs.Crossbar.{HaveCells, HaveRoom, KeysAreNew}
-use Rattle.cq_laws.proofs.OneRun.{outputs_at}
-use Rattle.cq_audit.specs.Crossing.{CanCross}
-use Rattle.cq_audit.specs.Phase.{IsStableTold}
+use Rattle.cq_prefs.specs.FirstCells.{orders_of}
+use Rattle.cq_prefs.specs.Moves.{Moves, transfers_of}
+use Rattle.cq_prefs.specs.Pairing.{Partners, IsMatching}
+use Rattle.cq_fabric.specs.Queues.{Queues}
+use Rattle.cq_audit.specs.Crossing.{HaveCrossed}
+use Rattle.cq_audit.specs.Phase.{IsPhaseFault, IsStableTold}
+use Rattle.cq_audit.specs.declared.phase.PhaseFault.{PhaseFault}
 
-module _ (lists : List Waiting) (slot phase : ℕ) (lines : List Transfer) (m : Partners)
-    (told : IsStableTold (cells_of lists) slot phase lines m) where
-  pub as_long : length m ≡ length lists
-  as_long = told.stable.matching.size ∙ length-map (cells_of lists) output_order ∙ length-map lists
-      (λ (w : Waiting). w.cells)
+-- there are as many lists as inputs
+pub lists_long : (lists : List Waiting) (inputs : List (List Queued)) → cells_of lists ≡ inputs → length lists ≡ length inputs
+lists_long lists inputs is = sym (length-map lists (λ (w : Waiting). w.cells)) ∙ ap length is
 
-  pub have_cells : HaveCells m (cells_of lists)
-  have_cells i j is = ((is_output_order (list_of (cells_of lists) i)).offered j).0
-      (subst (λ order. IsListed order j) (outputs_at (cells_of lists) i) (told.stable.matching.offered i j is))
+pub fault_there : (lists : List Waiting) (inputs : List (List Queued)) (lines : List Transfer) (fault : PhaseFault) →
+    cells_of lists ≡ inputs → IsPhaseFault (cells_of lists) lines fault → IsPhaseFault inputs lines fault
+fault_there lists inputs lines fault is wrong = subst (λ (x : List (List Queued)). IsPhaseFault x lines fault) is wrong
 
-  module _ (buffers : List Buffered) (can : CanCross lists buffers) where
-    pub have_room : HaveRoom m buffers
-    have_room i j is = can.room i j (have_cells i j is)
+module _ (lists : List Waiting) (old new : Queues) (slot phase : ℕ) (lines : List Transfer) (pairs m : Partners)
+    (is : cells_of lists ≡ old.inputs) (told : IsStableTold (cells_of lists) slot phase lines pairs) (same : m ≡ pairs) where
+  told_there : IsStableTold old.inputs slot phase lines m
+  told_there =
+      subst (IsStableTold old.inputs slot phase lines) (sym same)
+      (subst (λ (x : List (List Queued)). IsStableTold x slot phase lines pairs) is told)
 
-    pub keys_are_new : KeysAreNew m (cells_of lists) (cells_in buffers)
-    keys_are_new i j c is first = can.keys i j c first
+  pub is_matching : IsMatching (orders_of old.inputs) m
+  is_matching = told_there.stable.matching
+
+  pub have_crossed : Moves m old.inputs old.buffers new.inputs new.buffers → HaveCrossed slot phase lines old new
+  have_crossed moves = record { pairs = m; told = told_there; moves = moves }
+
+  pub as_noted : (items items' : List Transfer) → items' ≡ items ++ transfers_of m old.inputs slot phase →
+      items' ≡ items ++ lines
+  as_noted items items' noted = noted ∙ ap (λ (l : List Transfer). items ++ l) told_there.moved
+
+  pub as_many_noted : (spare spare' : ℕ) → spare' + length (transfers_of m old.inputs slot phase) ≡ spare →
+      spare' + length lines ≡ spare
+  as_many_noted spare spare' room =
+      ap (λ (l : List Transfer). spare' + length l) (sym told_there.moved) ∙ room

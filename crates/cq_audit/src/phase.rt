@@ -1,7 +1,7 @@
 //! The lines of a phase, held against what the lists offer.
-ghost use Rattle.std.specs.Prelude.{◌≡◌, ◌<◌, ◌≤◌, All, IfErr, IfOk, length};
+ghost use Rattle.std.specs.Prelude.{◌≡◌, ◌≤◌, IfErr, IfOk, length};
 ghost use Rattle.cq_list.specs.InputList.{cells_of};
-ghost use Rattle.cq_prefs.specs.Orders.{ports};
+ghost use Rattle.cq_prefs.specs.FirstCells.{orders_of};
 ghost use Rattle.cq_audit.specs.Phase.{AreOfPhase, IsPhaseFault, IsStableTold};
 
 use crate::blocking::first_blocking;
@@ -20,27 +20,24 @@ pub enum PhaseFault {
 
 /// The stable matching that the lines of a phase tell. The error is the least input whose line does not name its
 /// first cell for an output that is still free; or, where each line does, the first pair that shows that their
-/// matching is not stable. It takes no memory, and each list is read once.
+/// matching is not stable, by the orders of the offers: no list is read for that. It takes no memory.
 pub fn stable_told(
     lists: &[InputList],
-    offers: &mut Offers,
+    offers: &Offers,
     slot: Slot,
     phase: u8,
     lines: &[Transfer],
 ) -> Result<Pairs, PhaseFault>
-    requires ports { length lists.now ≡ ports offers.old }
-    requires lists { All (λ list. list.outputs ≡ ports offers.old) lists.now }
+    requires few { length lists.now ≤ 64 }
+    requires offers { offers.now ≡ orders_of (cells_of lists.now) }
     requires lines { AreOfPhase (length lists.now) slot phase lines.now }
     ensures stable { IfOk result (IsStableTold (cells_of lists.now) slot phase lines.now) }
     ensures fault { IfErr result (IsPhaseFault (cells_of lists.now) lines.now) }
-    ensures offers { ports offers.new ≡ ports offers.old }
 {
-    let _few = offers.ports();
     let pairs = match told(lists, lines) {
         Ok(pairs) => pairs,
         Err(input) => return Err(PhaseFault::WrongLine(input)),
     };
-    offers.fill(lists);
     match first_blocking(offers, &pairs) {
         Some((input, output)) => Err(PhaseFault::Blocking(input, output)),
         None => Ok(pairs),

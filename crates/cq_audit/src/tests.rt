@@ -1,6 +1,7 @@
 //! A log and a trace that were worked by hand, and what is wrong with others.
-ghost use Rattle.std.specs.Prelude.{◌≡◌, ◌<◌, All, IfOk, length};
-ghost use Rattle.cq_prefs.specs.Orders.{ports};
+ghost use Rattle.std.specs.Prelude.{◌≡◌, ◌≤◌, IfOk, length};
+ghost use Rattle.cq_list.specs.InputList.{cells_of};
+ghost use Rattle.cq_prefs.specs.FirstCells.{orders_of};
 ghost use Rattle.cq_audit.specs.Phase.{AreOfPhase};
 
 use crate::{LogRefusal, PhaseFault, audit_trace, part, read_log, stable_told};
@@ -128,11 +129,10 @@ fn crossing(input: Port, output: Port) -> Transfer
 }
 
 // What is wrong with these lines, if anything is.
-fn verdict(lists: &[InputList], offers: &mut Offers, lines: &[Transfer]) -> Option<PhaseFault>
-    requires ports { length lists.now ≡ ports offers.old }
-    requires lists { All (λ list. list.outputs ≡ ports offers.old) lists.now }
+fn verdict(lists: &[InputList], offers: &Offers, lines: &[Transfer]) -> Option<PhaseFault>
+    requires few { length lists.now ≤ 64 }
+    requires offers { offers.now ≡ orders_of (cells_of lists.now) }
     requires lines { AreOfPhase (length lists.now) 0 1 lines.now }
-    ensures offers { ports offers.new ≡ ports offers.old }
 {
     match stable_told(lists, offers, 0, 1, lines) {
         Ok(_) => None,
@@ -146,23 +146,24 @@ fn a_phase_is_refused_at_its_first_wrong_line_or_first_unsettled_pair(
 ) -> Result<(), Fail> {
     let lists = [one_waits(rt.alloc(), 0)?, one_waits(rt.alloc(), 1)?];
     let mut offers = Offers::new(rt.alloc(), 2)?;
+    offers.fill(&lists);
     let first = crossing(0, 0);
     let second = crossing(1, 0);
-    assert_eq!(rt; verdict(&lists, &mut offers, &[first]), None);
+    assert_eq!(rt; verdict(&lists, &offers, &[first]), None);
     assert_eq!(rt;
-        verdict(&lists, &mut offers, &[]),
+        verdict(&lists, &offers, &[]),
         Some(PhaseFault::Blocking(0, 0))
     );
     assert_eq!(rt;
-        verdict(&lists, &mut offers, &[second]),
+        verdict(&lists, &offers, &[second]),
         Some(PhaseFault::Blocking(0, 0))
     );
     assert_eq!(rt;
-        verdict(&lists, &mut offers, &[crossing(0, 1)]),
+        verdict(&lists, &offers, &[crossing(0, 1)]),
         Some(PhaseFault::WrongLine(0))
     );
     assert_eq!(rt;
-        verdict(&lists, &mut offers, &[first, second]),
+        verdict(&lists, &offers, &[first, second]),
         Some(PhaseFault::WrongLine(1))
     );
     Ok(())
