@@ -36,6 +36,7 @@ use Rattle.cq_prefs.specs.Moves.{list_taken, noted, transfers_of}
 use Rattle.cq_prefs.specs.Orders.{Orders, ports, outputs_of, place_in}
 use Rattle.cq_prefs.specs.Pairing.{Partners, partner_of, spent, proposals, IsMatching, IsInputBest}
 use Rattle.cq_rank.specs.Machine.{Machine}
+use Rattle.cq_traffic.proofs.FromInputs.{one_if}
 use Rattle.cq_ideal.proofs.Waiting.{total, total_none}
 
 -- ## Numbers that are added over a range
@@ -56,11 +57,6 @@ total_next f a b (suc n) e =
     omega arith
 
 -- ## Arrivals
-
--- one where a cell arrives
-abbrev pub one_if : Option Cell → ℕ
-one_if None = 0
-one_if (Some cell) = 1
 
 pub one_present : (cells : List (Option Cell)) (i : ℕ) → one_if (arrival_at cells i) ≤ length (present cells)
 one_present [] i = omega arith

@@ -2,7 +2,7 @@
 -- classes in every slot, and so are those that it admits; and the run begins where nothing waits and no mark is up, where the
 -- fabric and the ideal switch agree. By its own records it is a run without limits of what they admit, and so its matchings and
 -- its slack are what they are without limits.
-use Rattle.std.proofs.Common.{◌≡◌, ℕ, zero, suc, ◌+◌, ◌<◌, ◌≤◌, List, [], ◌∷◌, take, Option, Ok, ap, ◌∙◌, refl, sym, subst, ⊎_elim, arith}
+use Rattle.std.proofs.Common.{◌≡◌, ℕ, ◌+◌, ◌<◌, ◌≤◌, List, [], ◌∷◌, take, Option, Ok, ap, ◌∙◌, refl, sym, subst, ⊎_elim, arith}
 use Rattle.std.specs.Prelude.{All, IsOkAnd, Result, length, max}
 use Rattle.std.specs.List.{AllByRecursion}
 use Rattle.std.proofs.lemmas.Bool.{cases_lt}
@@ -13,7 +13,7 @@ use Rattle.cq_base.specs.declared.cell.TagFault.{TagFault}
 use Rattle.cq_rank.specs.Machine.{Machine}
 use Rattle.cq_ideal.proofs.LimitedEnds.{limited_found_end}
 use Rattle.cq_ideal.specs.Admission.{Admission, Marked, NoLimits, admitted_in}
-use Rattle.cq_ideal.specs.Ending.{arriving_from, first_slots, slots_of}
+use Rattle.cq_ideal.specs.Ending.{first_slots, slots_of}
 use Rattle.cq_ideal.specs.IdealRun.{empty_ideal}
 use Rattle.cq_ideal.specs.IdealSlot.{IdealState}
 use Rattle.cq_ideal.specs.LimitedEnding.{departures_limited, whole_limited_run}
@@ -44,17 +44,10 @@ use Rattle.cq_route.specs.declared.tables.Tables.{Tables}
 use Rattle.cq_scfq.specs.Disciplines.{machines_of, openings_of}
 use Rattle.cq_simulate.proofs.Departed.{last_departs_without_limits, slots_are}
 use Rattle.cq_simulate.proofs.OnceASlot.{once_a_slot}
-use Rattle.cq_simulate.proofs.Steps.{arrivals_for}
 use Rattle.cq_simulate.specs.FabricRuns.{AlwaysHasSlack, AreInputBest, IsBestFor, IsFabricRun, IsKeptOf, SendsSlotBySlot, departures_in_run}
 use Rattle.cq_simulate.specs.IdealRuns.{ideal_departures, ran_ideal, slots_ran}
 use Rattle.cq_simulate.specs.declared.fabric_run.FabricRun as kept
-
-slots_fit : (ports classes : ℕ) (came : List Arrival) (slot n : ℕ) → IsTraffic ports classes came →
-    AllByRecursion (AreForPorts ports classes) (arriving_from came slot n)
-unfolding arriving_from
-slots_fit ports classes came slot zero traffic = tt
-slots_fit ports classes came slot (suc n) traffic =
-    (arrivals_for ports classes came slot traffic, slots_fit ports classes came (slot + 1) n traffic)
+use Rattle.cq_traffic.proofs.ForPorts.{slots_fit}
 
 -- ## A whole run with input-best matchings is one with stable ones
 

@@ -4,8 +4,8 @@
 -- for: in each list, in each buffer, and in the list of transfers, as each admitted cell crosses once. While a cell waits one
 -- leaves in each slot, so there are no more slots with proposals than cells; and a slot has no more than twice the number of
 -- ports squared.
-use Rattle.std.proofs.Common.{take, ◌≡◌, ℕ, zero, suc, ◌+◌, ◌-◌, ◌*◌, ◌<◌, ◌≤◌, false, List, [], ◌∷◌, ◌++◌, length, map, replicate, Option, Some, None, Ok, Err, refl, sym, ap, ◌∙◌, subst, ⊎_elim, arith, length-append}
-use Rattle.std.specs.Prelude.{is_some, sum}
+use Rattle.std.proofs.Common.{take, ◌≡◌, ℕ, zero, suc, ◌+◌, ◌-◌, ◌*◌, ◌<◌, ◌≤◌, false, List, [], ◌∷◌, ◌++◌, length, map, replicate, Option, Ok, Err, refl, sym, ap, ◌∙◌, subst, ⊎_elim, arith, length-append}
+use Rattle.std.specs.Prelude.{sum}
 use Rattle.std.specs.List.{range_with_len}
 use Rattle.std.proofs.lemmas.Bool.{cases_lt}
 use Rattle.std.proofs.lemmas.List.{length-map, length-replicate, get_or_past, map-append, take_all, take-append-le}
@@ -55,13 +55,13 @@ use Rattle.cq_laws.specs.Measures.{figures_of, figures_after, proposals_in}
 use Rattle.cq_laws.specs.Records.{gone_in, transfers_in, transfers_of_run}
 use Rattle.cq_prefs.specs.Pairing.{IsInputBest}
 use Rattle.cq_rank.specs.Machine.{Machine}
-use Rattle.cq_simulate.proofs.Coming.{come_for, come_for-traffic_of}
-use Rattle.cq_simulate.proofs.FabricComing.{bit, come_from, from_here, no_more_from, arrives_found, first_more}
-use Rattle.cq_simulate.proofs.FabricCounts.{at_inputs, cross_few, none_proposed, proposed_few, one_if, square_few}
-use Rattle.cq_simulate.proofs.Running.{Running, of_admitted, running_first, running_next, running_fault, slot_left, come_here, for_here}
+use Rattle.cq_simulate.proofs.FabricCounts.{at_inputs, cross_few, none_proposed, proposed_few, square_few}
+use Rattle.cq_simulate.proofs.Running.{Running, of_admitted, running_first, running_next, running_fault, slot_left, come_here}
 use Rattle.cq_simulate.proofs.Steps.{whole_run}
 use Rattle.cq_simulate.specs.FabricReady.{HasRun, IsReadyFabric}
 use Rattle.cq_simulate.specs.Ready.{IsReady}
+use Rattle.cq_traffic.proofs.FromInputs.{arrives_found, come_from, first_more, from_here, no_more_from, some_one}
+use Rattle.cq_traffic.proofs.ToOutputs.{come_for, come_for-traffic_of, for_here}
 
 proposals_more : (x : Figures) (r : SlotRecord) → (figures_after x r).proposals ≡ x.proposals + sum (proposals_in r)
 unfolding figures_after
@@ -260,10 +260,6 @@ none_at f empty i =
     let nil : List Queued = [] in
     ⊎_elim (λ inside. ap length (empty.inputs i nil inside)) (λ past.
     ap length (get_or_past f.inputs i nil past)) (cases_lt i (length f.inputs))
-
-some_one : (o : Option Cell) → bit (is_some o) ≡ one_if o
-some_one None = refl
-some_one (Some cell) = refl
 
 -- one record more
 slots_more : (rs : List LimitedRecord) (r : LimitedRecord) → slots_in (rs ++ r ∷ []) ≡ slots_in rs ++ r.of_slot ∷ []

@@ -24,14 +24,17 @@ use Rattle.cq_laws.specs.LimitedQuiet.{quiet_limited_slots}
 use Rattle.cq_prefs.specs.Pairing.{IsInputBest}
 use Rattle.cq_rank.specs.Machine.{Machine}
 use Rattle.cq_rank.specs.Switch.{class_count}
-use Rattle.cq_simulate.proofs.FabricComing.{arrives_found, from_here}
-use Rattle.cq_simulate.proofs.FabricCounts.{one_if, square_few}
+use Rattle.cq_simulate.proofs.FabricCounts.{square_few}
 use Rattle.cq_simulate.proofs.FabricRunning.{Crossing, crossing_fault, crossing_first, crossing_left, crossing_next, crossing_over, switch_of}
-use Rattle.cq_simulate.proofs.Running.{can_count, for_here}
-use Rattle.cq_simulate.proofs.Steps.{arrivals_for, ends_early}
+use Rattle.cq_simulate.proofs.Running.{can_count}
+use Rattle.cq_simulate.proofs.Steps.{ends_early}
 use Rattle.cq_simulate.proofs.FabricStretches.{crossing_rest, same_fabric}
 use Rattle.cq_simulate.specs.FabricReady.{HasRun, IsReadyFabric}
-use Rattle.cq_simulate.specs.Stretch.{FabricHasRested, IsQuiet}
+use Rattle.cq_simulate.specs.Stretch.{FabricHasRested}
+use Rattle.cq_traffic.proofs.ForPorts.{arrivals_for}
+use Rattle.cq_traffic.proofs.FromInputs.{arrives_found, from_here, one_if}
+use Rattle.cq_traffic.proofs.ToOutputs.{for_here}
+use Rattle.cq_traffic.specs.Stretch.{IsQuiet}
 
 pub goes_on : (b : Bool) (end slot : ℕ) (Empty : Type 0) → b ≡ false → (IsTrue b ↔ ((end ≤ slot) × Empty)) →
     end ≤ slot → Empty → ⊥

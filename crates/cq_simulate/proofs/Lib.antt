@@ -1,6 +1,4 @@
-pub mod Coming
 pub mod Departed
-pub mod FabricComing
 pub mod FabricCounts
 pub mod FabricLaws
 pub mod FabricOpening

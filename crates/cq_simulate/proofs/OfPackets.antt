@@ -18,7 +18,7 @@ use Rattle.cq_pcap.specs.Captured.{Captured}
 use Rattle.cq_route.specs.Tables.{AreTables, classes_of, ports_of}
 use Rattle.cq_route.specs.declared.tables.Tables.{Tables}
 use Rattle.cq_simulate.proofs.Runnable.{later_rise}
-use Rattle.cq_simulate.proofs.Steps.{arrivals_for}
+use Rattle.cq_traffic.proofs.ForPorts.{arrivals_for}
 
 -- the cells of arrivals in consecutive slots
 cells_in : (s : ℕ) (f : ℕ → Cell) (a n : ℕ) →

@@ -31,8 +31,8 @@ use Rattle.cq_ideal.proofs.FlowCount.{come_count-traffic_of, none_after}
 use Rattle.cq_ideal.specs.Ending.{slots_of, arriving_from}
 use Rattle.cq_simulate.specs.Ready.{IsReady}
 use Rattle.cq_ideal.proofs.Waiting.{waiting, counted}
-use Rattle.cq_simulate.proofs.Coming.{come_for, come_for-traffic_of}
 use Rattle.cq_ideal.proofs.Ends.{all_slots}
+use Rattle.cq_traffic.proofs.ToOutputs.{come_for, come_for-traffic_of, for_here}
 use Rattle.cq_ideal.proofs.LastSlot.{slots_of-append, slots_of-departures}
 use Rattle.cq_ideal.proofs.LimitedParts.{limited_stays_empty}
 use Rattle.cq_ideal.proofs.LimitedRuns.{run_fault, run_step}
@@ -230,12 +230,6 @@ pub come_here : (came : List Arrival) (slot n : ℕ) →
     (arriving_from came (slot + 1) n)
 unfolding arriving_from come_count
 come_here came slot n = refl
-
-pub for_here : (j : ℕ) (came : List Arrival) (slot n : ℕ) →
-    come_for j (arriving_from came slot (suc n)) ≡ count_for j (arriving came slot) + come_for j
-    (arriving_from came (slot + 1) n)
-unfolding arriving_from come_for
-for_here j came slot n = refl
 
 none_come : (came : List Arrival) (n slot : ℕ) → end_of came ≤ slot → come_count (arriving_from came slot n) ≡ 0
 unfolding arriving_from come_count

@@ -1,19 +1,15 @@
 -- What each step of the loop over the slots asks for, where so many slots are left as are not yet over.
-use Rattle.std.proofs.Common.{◌≡◌, ◌↔◌, ℕ, suc, ◌+◌, ◌-◌, ◌<◌, ◌≤◌, ◌^◌, Bool, true, false, List, [], length, map, replicate, get_or, Option, Some, None, Result, Ok, Err, refl, sym, ap, ◌∙◌, subst, ⊎_elim, arith}
+use Rattle.std.proofs.Common.{◌≡◌, ◌↔◌, ℕ, suc, ◌+◌, ◌-◌, ◌<◌, ◌≤◌, ◌^◌, Bool, true, false, List, [], length, map, replicate, Option, Result, Ok, Err, refl, sym, ap, ◌∙◌, subst, ⊎_elim, arith}
 use Rattle.std.specs.Prelude.{IsTrue, All, IfOk, slice_index}
-use Rattle.std.specs.List.{AllByRecursion, range_with_len}
 use Rattle.std.proofs.lemmas.Bool.{cases_lt}
-use Rattle.std.proofs.lemmas.List.{get_or_past}
-use Rattle.std.proofs.lemmas.List.FromFn.{get_or-map-range_with_len, length-map-range_with_len}
-use Rattle.std.proofs.lemmas.Option.{unwrap_or-slice_get}
 use Rattle.cq_base.specs.declared.cell.Cell.{Cell}
 use Rattle.cq_base.specs.declared.cell.Departure.{Departure}
 use Rattle.cq_base.specs.declared.cell.Queued.{Queued}
 use Rattle.cq_base.specs.declared.cell.TagFault.{TagFault}
-use Rattle.cq_base.specs.Arrivals.{arrival_at, no_arrivals}
-use Rattle.cq_base.specs.Arriving.{Arrival, arriving, arriving_at, end_of, enough, traffic_of}
+use Rattle.cq_base.specs.Arrivals.{no_arrivals}
+use Rattle.cq_base.specs.Arriving.{Arrival, arriving, end_of, enough, traffic_of}
 use Rattle.cq_base.specs.Room.{RoomView}
-use Rattle.cq_cells.specs.Traffic.{IsInRange, IsTraffic, number_of, is_to}
+use Rattle.cq_cells.specs.Traffic.{number_of, is_to}
 use Rattle.cq_rank.specs.Machine.{Machine}
 use Rattle.cq_rank.specs.Switch.{class_count}
 use Rattle.cq_ideal.specs.Admission.{Marked}
@@ -24,54 +20,16 @@ use Rattle.cq_ideal.specs.LimitedIdeal.{LimitedRan, LimitedSent, limited_run, li
 use Rattle.cq_ideal.specs.Limiter.{CanCount}
 use Rattle.cq_ideal.specs.Refused.{with_refused}
 use Rattle.cq_ideal.specs.Ranking.{AreForPorts}
-use Rattle.cq_ideal.proofs.FlowPut.{all_from}
-use Rattle.cq_ideal.proofs.FlowFound.{cell_listed, found, all_found, arriving_is}
 use Rattle.cq_simulate.specs.Ready.{IsReady}
-use Rattle.cq_simulate.specs.Stretch.{HasRested, IsQuiet}
+use Rattle.cq_simulate.specs.Stretch.{HasRested}
 use Rattle.cq_ideal.proofs.Waiting.{waiting}
 use Rattle.cq_simulate.proofs.Stretches.{running_rest}
-use Rattle.cq_simulate.proofs.Running.{Running, can_count, running_first, running_next, running_over, running_fault, slot_left, for_here, run_from, sent_from}
+use Rattle.cq_simulate.proofs.Running.{Running, can_count, running_first, running_next, running_over, running_fault, slot_left, run_from, sent_from}
 use Rattle.cq_ideal.specs.Ending.{arriving_from, slots_of}
 use Rattle.cq_ideal.proofs.Ends.{none_waits, nothing_left}
-
--- ## The cells of a slot
-
--- what is known of the cells that arrive
-record Fits (ports classes k : ℕ) (cell : Cell) : Type 0 where
-  pub input : k < ports
-  pub output : cell.output < ports
-  pub class : cell.class < classes
-
-one_found : (P : Cell → Type 0) (came : List Arrival) (t k : ℕ) (cell : Cell) → AllByRecursion P (found came t k) → arriving_at came t k ≡ Some cell → P cell
-unfolding found
-one_found P came t k cell all is =
-    let one : AllByRecursion P (cell_listed (Some cell)) = subst (λ (o : Option Cell). AllByRecursion P (cell_listed o)) is all in
-    one.0
-
-arriving_fits : (ports classes : ℕ) (came : List Arrival) (t k : ℕ) (cell : Cell) → AllByRecursion (IsInRange ports classes) came → arriving_at came t k ≡ Some cell → Fits ports classes k cell
-arriving_fits ports classes came t k cell all is =
-    one_found (Fits ports classes k) came t k cell
-    (all_found (Fits ports classes k) came t k
-    (all_from (IsInRange ports classes) (λ a. a.slot ≡ t → a.cell.id.input ≡ k → Fits ports classes k a.cell)
-    (λ a r _ same. record { input = subst (λ (i : ℕ). i < ports) same r.input; output = r.output; class = r.class }) came all)) is
-
-pub place_of : (came : List Arrival) (t input inputs : ℕ) (cell : Cell) → inputs ≡ 64 → arrival_at (arriving came t) input ≡ Some cell → arriving_at came t input ≡ Some cell
-place_of came t input inputs cell are at =
-    let none : Option Cell = None in
-    let cells : List (Option Cell) = map (arriving_at came t) (range_with_len 0 inputs) in
-    let here : get_or cells input none ≡ Some cell =
-    ap (λ (l : List (Option Cell)). get_or l input none) (sym (arriving_is came t inputs are)) ∙ sym (unwrap_or-slice_get (arriving came t) input none) ∙ at in
-    ⊎_elim
-    (λ inside. sym (get_or-map-range_with_len (arriving_at came t) 0 inputs input input none inside (omega arith)) ∙ here)
-    (λ outside. absurd (let past : get_or cells input none ≡ none = get_or_past cells input none (let l = length-map-range_with_len (arriving_at came t) 0 inputs in omega arith) in let P : ⊥ = cc in P))
-    (cases_lt input inputs)
-
-pub arrivals_for : (ports classes : ℕ) (came : List Arrival) (t : ℕ) → IsTraffic ports classes came → AreForPorts ports classes (arriving came t)
-arrivals_for ports classes came t traffic = record {
-  inputs = λ input cell at. (arriving_fits ports classes came t input cell traffic.in_range (place_of came t input 64 cell refl at)).input;
-  outputs = λ input cell at. (arriving_fits ports classes came t input cell traffic.in_range (place_of came t input 64 cell refl at)).output;
-  classes = λ input cell at. (arriving_fits ports classes came t input cell traffic.in_range (place_of came t input 64 cell refl at)).class;
-}
+use Rattle.cq_traffic.proofs.ForPorts.{arrivals_for}
+use Rattle.cq_traffic.proofs.ToOutputs.{for_here}
+use Rattle.cq_traffic.specs.Stretch.{IsQuiet}
 
 -- ## The test
 

@@ -1,21 +1,16 @@
--- Stretches of slots that are skipped. No cell comes before the next arrival, so the slots up to it are those that a
--- switch rests for where none waits. What is known of the ideal switch before the first of them is known after the
--- last: none sends a cell, nothing is refused, and the lists stay as they are.
-use Rattle.std.proofs.Common.{◌≡◌, ℕ, zero, suc, ◌+◌, ◌-◌, ◌<◌, ◌≤◌, ◌&&◌, eqb, Bool, false, List, [], ◌∷◌, ◌++◌, length, replicate, Option, Some, None, Result, Ok, Err, refl, sym, ap, ◌∙◌, ⊎_elim, inl, inr, subst, arith}
-use Rattle.std.specs.Prelude.{slice_index_or, unwrap_or}
-use Rattle.std.specs.List.{AllByRecursion}
-use Rattle.std.proofs.lemmas.Bool.{cases_lt, ne_eqb}
+-- Stretches of slots that are skipped, since no cell comes in them and none waits. What is known of the ideal switch before
+-- the first of them is known after the last: none sends a cell, nothing is refused, and the lists stay as they are.
+use Rattle.std.proofs.Common.{◌≡◌, ℕ, zero, suc, ◌+◌, ◌-◌, ◌<◌, ◌≤◌, false, List, [], ◌++◌, length, replicate, Option, None, Result, Ok, Err, refl, sym, ap, ◌∙◌, ⊎_elim, subst, arith}
+use Rattle.std.specs.Prelude.{slice_index_or}
+use Rattle.std.proofs.lemmas.Bool.{cases_lt}
 use Rattle.std.proofs.lemmas.List.{length-replicate}
 use Rattle.cq_base.specs.Arrivals.{no_arrivals}
-use Rattle.cq_base.specs.Arriving.{Arrival, arriving, arriving_at, end_of, enough}
+use Rattle.cq_base.specs.Arriving.{Arrival, arriving, end_of, enough}
 use Rattle.cq_base.specs.Room.{RoomView}
 use Rattle.cq_base.specs.declared.cell.Cell.{Cell}
 use Rattle.cq_base.specs.declared.cell.Departure.{Departure}
 use Rattle.cq_base.specs.declared.cell.Queued.{Queued}
 use Rattle.cq_base.specs.declared.cell.TagFault.{TagFault}
-use Rattle.cq_cells.proofs.Rising.{all_each}
-use Rattle.cq_cells.specs.NextArrival.{ArrivesIn, IsNextArrival}
-use Rattle.cq_ideal.proofs.FlowFound.{arriving_is}
 use Rattle.cq_ideal.proofs.FlowRun.{come_count}
 use Rattle.cq_ideal.proofs.LimitedParts.{behind, limited_going_on, limited_parts}
 use Rattle.cq_ideal.proofs.Parted.{arriving_parts}
@@ -25,52 +20,13 @@ use Rattle.cq_ideal.specs.Ideal.{IdealSwitch, marked_state}
 use Rattle.cq_ideal.specs.IdealRun.{departures_of}
 use Rattle.cq_ideal.specs.IdealSlot.{IdealState, departures_in}
 use Rattle.cq_ideal.specs.LimitedIdeal.{LimitedRan, limited_run, nothing_came}
-use Rattle.cq_laws.proofs.AddingUp.{map-constant}
 use Rattle.cq_laws.proofs.QuietSlots.{no_departures}
 use Rattle.cq_rank.specs.Machine.{Machine}
 use Rattle.cq_ideal.proofs.Waiting.{waiting}
-use Rattle.cq_simulate.proofs.Coming.{come_for}
-use Rattle.cq_simulate.proofs.Running.{Running, come_here, for_here, run_from, sent_after, sent_from}
-use Rattle.cq_simulate.specs.Stretch.{HasRested, IsQuiet}
-
--- ## Up to the next arrival
-
-not_at : (came : List Arrival) (t i : ℕ) → AllByRecursion (λ a. a.slot ≡ t → ⊥) came → arriving_at came t i ≡ None
-not_at [] t i all = refl
-not_at (a ∷ came) t i all =
-    let other : eqb a.slot t ≡ false = ne_eqb a.slot t all.0 in
-    let test : (eqb a.slot t && eqb a.cell.id.input i) ≡ false = ap (λ (b : Bool). b && eqb a.cell.id.input i) other in
-    rw test (not_at came t i all.1)
-
-none_arrive : (came : List Arrival) (t inputs : ℕ) → inputs ≡ 64 → AllByRecursion (λ a. a.slot ≡ t → ⊥) came →
-    arriving came t ≡ replicate inputs None
-none_arrive came t inputs are all =
-    let none : Option Cell = None in
-    arriving_is came t inputs are ∙ map-constant (arriving_at came t) none (λ i. not_at came t i all) 0 inputs
-
-before_end : (came : List Arrival) (slot : ℕ) → ArrivesIn slot came → slot < end_of came
-before_end [] slot at = absurd at
-before_end (a ∷ came) slot (inl here) = omega arith
-before_end (a ∷ came) slot (inr later) = let rest = before_end came slot later in omega arith
-
-pub no_stretch : (came : List Arrival) (slot : ℕ) → IsQuiet came slot slot
-no_stretch came slot = record {
-  late = omega arith;
-  none = λ t from to. absurd (omega arith);
-  more = λ later. absurd (omega arith);
-}
-
-pub quiet_to_next : (came : List Arrival) (slot : ℕ) (next : Option ℕ) → IsNextArrival came slot next →
-    IsQuiet came slot (unwrap_or next slot)
-quiet_to_next came slot None all = no_stretch came slot
-quiet_to_next came slot (Some next) is = record {
-  late = is.late;
-  none = λ t from to.
-      none_arrive came t 64 refl
-      (all_each (λ (a : Arrival). slot ≤ a.slot → next ≤ a.slot) (λ (a : Arrival). a.slot ≡ t → ⊥) came
-      (λ a had at. let later = had (omega arith) in omega arith) is.none_before);
-  more = λ later. before_end came next is.arrives;
-}
+use Rattle.cq_simulate.proofs.Running.{Running, come_here, run_from, sent_after, sent_from}
+use Rattle.cq_simulate.specs.Stretch.{HasRested}
+use Rattle.cq_traffic.proofs.Quiet.{quiet_slots}
+use Rattle.cq_traffic.proofs.ToOutputs.{come_for, for_here}
 
 -- ## The ideal switch
 
@@ -97,18 +53,6 @@ no_rest ms slot now next running = record {
   refused = refl;
   rooms = refl;
 }
-
--- what comes in a stretch, and behind it
-quiet_slots : (came : List Arrival) (slot k : ℕ) →
-    ((t : ℕ) → slot ≤ t → t < slot + k → arriving came t ≡ no_arrivals) →
-    arriving_from came slot k ≡ replicate k no_arrivals
-unfolding arriving_from
-quiet_slots came slot zero quiet = refl
-quiet_slots came slot (suc k) quiet =
-    ap (λ (cells : List (Option Cell)). cells ∷ arriving_from came (slot + 1) k)
-    (quiet slot (omega arith) (omega arith))
-    ∙ ap (λ (l : List (List (Option Cell))). no_arrivals ∷ l)
-    (quiet_slots came (slot + 1) k (λ t from to. quiet t (omega arith) (omega arith)))
 
 -- fewer come in some slots than in those with the stretch before them
 fewer_come : (count : List (List (Option Cell)) → ℕ) (came : List Arrival) →

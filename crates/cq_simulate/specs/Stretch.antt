@@ -1,8 +1,7 @@
 -- Only proofs use this.
 -- Stretches of slots in which nothing comes and nothing waits.
-use Rattle.std.specs.Prelude.{◌≡◌, ℕ, ◌-◌, ◌<◌, ◌≤◌, List, length, false, Ok, replicate}
+use Rattle.std.specs.Prelude.{◌≡◌, ℕ, ◌-◌, List, length, false, Ok, replicate}
 use Rattle.cq_base.specs.Arrivals.{no_arrivals}
-use Rattle.cq_base.specs.Arriving.{Arrival, arriving, end_of}
 use Rattle.cq_engine.specs.Engine.{EngineView, marked_fabric, ports_of}
 use Rattle.cq_ideal.specs.Ideal.{IdealSwitch, marked_state}
 use Rattle.cq_ideal.specs.LimitedIdeal.{limited_run, nothing_came}
@@ -10,12 +9,6 @@ use Rattle.cq_laws.specs.LimitedFabric.{LimitedFabricRun}
 use Rattle.cq_laws.specs.LimitedQuiet.{quiet_limited_slots}
 use Rattle.cq_prefs.specs.Pairing.{IsInputBest}
 use Rattle.cq_rank.specs.Machine.{Machine}
-
--- no cell arrives from this slot on up to the other; and if that is later, there are cells still to come
-pub record IsQuiet (came : List Arrival) (slot next : ℕ) : Type 0 where
-  pub late : slot ≤ next
-  pub none : (t : ℕ) → slot ≤ t → t < next → arriving came t ≡ no_arrivals
-  pub more : slot < next → next < end_of came
 
 -- the slots from this one on up to the other, without arrivals, are behind the ideal switch: in none did an output send,
 -- nothing was refused, and the lists stayed as they were

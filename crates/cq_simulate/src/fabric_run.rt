@@ -1,8 +1,7 @@
 //! The run of the fabric.
 ghost use Rattle.std.specs.Prelude.{◌≡◌, ◌↔◌, ◌≤◌, IsTrue, false, IfOk, IfErr, Ok, Err, OnOk, length, map};
-ghost use Rattle.std.specs.List.{range_with_len};
 ghost use Rattle.cq_base.specs.Arriving.{end_of, traffic_of};
-ghost use Rattle.cq_cells.specs.Traffic.{IsTraffic, IsShort, is_from, number_of};
+ghost use Rattle.cq_cells.specs.Traffic.{IsTraffic, IsShort};
 ghost use Rattle.cq_ideal.specs.LimitedEnding.{departures_limited};
 ghost use Rattle.cq_ideal.specs.LimitedIdeal.{empty_limited, limited_run};
 ghost use Rattle.cq_laws.specs.Fabric.{IsEmptyFabric};
@@ -10,18 +9,18 @@ ghost use Rattle.cq_route.specs.Tables.{AreTables, classes_of, ports_of};
 ghost use Rattle.cq_simulate.specs.FabricReady.{HasRun, IsReadyFabric};
 ghost use Rattle.cq_simulate.specs.FabricRuns.{IsKeptOf};
 ghost use Rattle.cq_simulate.specs.IdealRuns.{ideal_departures, IsRefusalOf};
-ghost use Rattle.cq_simulate.specs.Stretch.{FabricHasRested, IsQuiet};
+ghost use Rattle.cq_simulate.specs.Stretch.{FabricHasRested};
+ghost use Rattle.cq_traffic.specs.Stretch.{IsQuiet};
 
 use crate::RunRefusal;
-use crate::ideal_run::rooms_of;
-use crate::stretch::quiet_until;
-use cq_base::{Departure, Figures, NoMemory, Room, Slot, TagFault, Transfer};
+use cq_base::{Departure, Figures, Room, Slot, TagFault, Transfer};
 use cq_cells::{Nearby, Schedule};
 use cq_crew::Gate;
 use cq_engine::{Engine, Refused};
 use cq_rank::Rank;
 use cq_route::Tables;
 use cq_scfq::Discipline;
+use cq_traffic::{quiet_until, rooms_from, rooms_to};
 use std::alloc::Global;
 use std::thread::Threads;
 
@@ -63,7 +62,7 @@ pub fn run_fabric<R: Threads + Sync, G: Gate>(
     let ranks = Discipline::all(alloc, &tables.setup)?;
     let ports = ranks.len() as u16;
     let from_inputs = rooms_from(alloc, schedule, ports)?;
-    let to_outputs = rooms_of(alloc, schedule, ports)?;
+    let to_outputs = rooms_to(alloc, schedule, ports)?;
     let total = schedule.total();
     let mut sent = Room::new(alloc, total + ports as u64)?;
     let mut note = Room::new(alloc, total + 2 * ports as u64)?;
@@ -83,18 +82,6 @@ pub fn run_fabric<R: Threads + Sync, G: Gate>(
         figures: seen.figures,
         refused: seen.refused,
     })
-}
-
-// How many cells arrive at each input.
-fn rooms_from(alloc: Global, schedule: &Schedule, ports: u16) -> Result<Vec<u64>, NoMemory>
-    requires { ports ≤ schedule.now.ports }
-    ensures { IfOk result (λ rooms. rooms.items ≡ map (λ i. number_of (is_from i) schedule.now.came) (range_with_len 0 ports)) }
-{
-    let mut rooms = Vec::with_capacity(alloc, ports as usize)?;
-    'inputs: for input in 0..ports {
-        rooms.push_reserved(schedule.from_input(input));
-    }
-    Ok(rooms)
 }
 
 // Whether no cell arrives any more and none waits.

@@ -1,8 +1,7 @@
 //! The run of the ideal switch.
 ghost use Rattle.std.specs.Prelude.{◌≡◌, ◌↔◌, ◌+◌, ◌<◌, ◌≤◌, ◌^◌, IsTrue, false, All, Ok, Err, IfOk, IfErr, OnOk, [], map, max};
-ghost use Rattle.std.specs.List.{range_with_len};
 ghost use Rattle.cq_base.specs.Arriving.{end_of, traffic_of};
-ghost use Rattle.cq_cells.specs.Traffic.{IsTraffic, IsShort, is_to, number_of};
+ghost use Rattle.cq_cells.specs.Traffic.{IsTraffic, IsShort};
 ghost use Rattle.cq_ideal.specs.Admission.{NoLimits};
 ghost use Rattle.cq_ideal.specs.Ideal.{marked_state};
 ghost use Rattle.cq_ideal.specs.LimitedEnding.{departures_limited};
@@ -11,16 +10,17 @@ ghost use Rattle.cq_route.specs.Tables.{AreTables, classes_of, ports_of};
 ghost use Rattle.cq_ideal.specs.Ending.{slots_of};
 ghost use Rattle.cq_simulate.specs.IdealRuns.{ideal_departures, slots_ran, IsRefusalOf};
 ghost use Rattle.cq_simulate.specs.Ready.{IsReady};
-ghost use Rattle.cq_simulate.specs.Stretch.{HasRested, IsQuiet};
+ghost use Rattle.cq_simulate.specs.Stretch.{HasRested};
+ghost use Rattle.cq_traffic.specs.Stretch.{IsQuiet};
 
 use crate::RunRefusal;
-use crate::stretch::quiet_until;
-use cq_base::{Departure, NoMemory, Room, Slot, TagFault};
+use cq_base::{Departure, Room, Slot, TagFault};
 use cq_cells::{Nearby, Schedule};
 use cq_ideal::Ideal;
 use cq_rank::Rank;
 use cq_route::Tables;
 use cq_scfq::Discipline;
+use cq_traffic::{quiet_until, rooms_to};
 use std::alloc::Global;
 
 /// What the ideal switch did.
@@ -56,24 +56,12 @@ pub fn run_ideal(
 {
     let ranks = Discipline::all(alloc, &tables.setup)?;
     let ports = ranks.len() as u16;
-    let rooms = rooms_of(alloc, schedule, ports)?;
+    let rooms = rooms_to(alloc, schedule, ports)?;
     let mut sent = Room::new(alloc, schedule.total() + ports as u64)?;
     let mut ideal = Ideal::new(alloc, ranks, rooms.as_slice(), tables.limits.as_slice())?;
     run_slots(&mut ideal, schedule, &mut sent)?;
     let slots = slots_of(sent.items());
     Ok(IdealRun { sent, slots })
-}
-
-// How many cells arrive for each output.
-pub fn rooms_of(alloc: Global, schedule: &Schedule, ports: u16) -> Result<Vec<u64>, NoMemory>
-    requires { ports ≤ schedule.now.ports }
-    ensures { IfOk result (λ rooms. rooms.items ≡ map (λ j. number_of (is_to j) schedule.now.came) (range_with_len 0 ports)) }
-{
-    let mut rooms = Vec::with_capacity(alloc, ports as usize)?;
-    'outputs: for output in 0..ports {
-        rooms.push_reserved(schedule.to_output(output));
-    }
-    Ok(rooms)
 }
 
 // Whether no cell arrives any more and none waits.

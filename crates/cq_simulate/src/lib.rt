@@ -8,7 +8,6 @@ mod laws;
 mod packets;
 mod packing;
 mod refusal;
-mod stretch;
 #[cfg(test)]
 mod tests;
 

@@ -1,5 +1,5 @@
 //! Stretches of slots in which no cell arrives.
-ghost use Rattle.cq_simulate.specs.Stretch.{IsQuiet};
+ghost use Rattle.cq_traffic.specs.Stretch.{IsQuiet};
 
 use cq_base::Slot;
 use cq_cells::Schedule;

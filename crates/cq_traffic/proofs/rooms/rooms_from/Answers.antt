@@ -2,7 +2,7 @@ use Rattle.std.proofs.Common.{ℕ, List, [], ◌∷◌, ◌++◌, ◌+◌, map, 
 use Rattle.std.specs.List.{range_with_len}
 use Rattle.std.proofs.lemmas.List.FromFn.{map-range_with_len_more}
 use Rattle.cq_cells.specs.Traffic.{is_from, number_of}
-use Rattle.cq_simulate.proofs.fabric_run.rooms_from.Goals as goal
+use Rattle.cq_traffic.proofs.rooms.rooms_from.Goals as goal
 
 pub inputs-preserved : goal.inputs-preserved
 inputs-preserved c =

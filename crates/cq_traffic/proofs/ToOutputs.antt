@@ -1,12 +1,14 @@
 -- What is still to come for one output. Each arrival adds one cell at most to what comes, at its slot and input, and only
 -- to what comes for its output. So no more cells come for an output than there are arrivals for it.
-use Rattle.std.proofs.Common.{◌≡◌, ℕ, zero, suc, ◌+◌, ◌≤◌, Bool, true, false, cond, List, [], ◌∷◌, length, map, Option, Some, None, refl, sym, ap, ◌∙◌, arith}
+use Rattle.std.proofs.Common.{◌≡◌, ℕ, zero, suc, ◌+◌, ◌≤◌, Bool, true, false, cond, List, [], ◌∷◌, ◌++◌, length, map, Option, Some, None, refl, sym, ap, ◌∙◌, arith}
 use Rattle.std.specs.Prelude.{◌==◌}
 use Rattle.std.specs.List.{range_with_len, filter}
 use Rattle.cq_base.specs.declared.cell.Cell.{Cell}
 use Rattle.cq_base.specs.Arriving.{Arrival, arriving_at, arriving, enough, traffic_of}
 use Rattle.cq_cells.specs.Traffic.{number_of, is_to}
+use Rattle.cq_ideal.specs.Ending.{arriving_from, first_slots}
 use Rattle.cq_ideal.specs.Ideal.{count_for}
+use Rattle.cq_traffic.proofs.FromInputs.{first_more}
 use Rattle.cq_ideal.proofs.FlowFound.{cell_listed, found, found_here, other_slot, other_input, found_none, arriving_is}
 use Rattle.cq_ideal.proofs.Waiting.{total, total_none, total_same, total_more}
 
@@ -14,6 +16,27 @@ use Rattle.cq_ideal.proofs.Waiting.{total, total_none, total_same, total_more}
 unfoldable pub come_for : ℕ → List (List (Option Cell)) → ℕ
 come_for j [] = 0
 come_for j (cells ∷ traffic) = count_for j cells + come_for j traffic
+
+pub for_here : (j : ℕ) (came : List Arrival) (slot n : ℕ) →
+    come_for j (arriving_from came slot (suc n)) ≡ count_for j (arriving came slot) + come_for j
+    (arriving_from came (slot + 1) n)
+unfolding arriving_from come_for
+for_here j came slot n = refl
+
+-- the last of the slots
+come_for-append : (j : ℕ) (before after : List (List (Option Cell))) →
+    come_for j (before ++ after) ≡ come_for j before + come_for j after
+unfolding come_for
+come_for-append j [] after = omega arith
+come_for-append j (cells ∷ before) after = let rest = come_for-append j before after in omega arith
+
+pub for_last : (j : ℕ) (came : List Arrival) (slot : ℕ) →
+    come_for j (first_slots came (slot + 1)) ≡ come_for j (first_slots came slot) + count_for j (arriving came slot)
+unfolding come_for
+for_last j came slot =
+    let more = ap (come_for j) (first_more came slot) in
+    let both = come_for-append j (first_slots came slot) (arriving came slot ∷ []) in
+    omega arith
 
 -- how many of these cells are for the output
 count_to : ℕ → List Cell → ℕ
@@ -75,3 +98,9 @@ module _ (j : ℕ) where
   pub come_for-traffic_of : (came : List Arrival) → come_for j (traffic_of came) ≤ number_of (is_to j) came
   unfolding traffic_of
   come_for-traffic_of came = let count = count_from 64 refl came 0 (enough came) in let few = no_more_than 64 refl came (enough came) in omega arith
+
+  -- so it is in any number of slots
+  pub no_more_to : (came : List Arrival) (n : ℕ) → come_for j (first_slots came n) ≤ number_of (is_to j) came
+  unfolding arriving_from
+  no_more_to came n =
+      let count = count_from 64 refl came 0 n in let few = no_more_than 64 refl came n in omega arith

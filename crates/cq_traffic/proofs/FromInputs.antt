@@ -1,5 +1,6 @@
--- What is still to come at one input, and for one output. Each arrival adds one cell at most to what comes at its input.
-use Rattle.std.proofs.Common.{◌≡◌, ℕ, suc, ◌+◌, ◌≤◌, Bool, true, false, cond, List, [], ◌∷◌, ◌++◌, length, Option, Some, None, refl, sym, ap, ⊎_elim, arith}
+-- What is still to come at one input. Each arrival adds one cell at most to what comes at its input.
+use Rattle.std.proofs.Common.{◌≡◌, ℕ, zero, suc, ◌+◌, ◌≤◌, Bool, true, false, cond, List, [], ◌∷◌, ◌++◌, length, Option, Some, None, refl, sym, ap, ⊎_elim, arith}
+use Rattle.std.specs.Prelude.{is_some}
 use Rattle.std.specs.List.{filter}
 use Rattle.std.proofs.lemmas.Bool.{cases_eq, eq-eqb}
 use Rattle.std.proofs.lemmas.List.FromFn.{map-range_with_len_more}
@@ -8,22 +9,44 @@ use Rattle.cq_base.specs.Arriving.{Arrival, arriving, arriving_at}
 use Rattle.cq_base.specs.declared.cell.Cell.{Cell}
 use Rattle.cq_cells.specs.Traffic.{number_of, is_from}
 use Rattle.cq_ideal.proofs.FlowFound.{cell_listed, found, found_here, found_none, other_slot, other_input}
-use Rattle.cq_simulate.proofs.FabricCounts.{one_if}
-use Rattle.cq_simulate.proofs.Steps.{place_of}
 use Rattle.cq_ideal.proofs.Waiting.{total, total_none, total_more}
 use Rattle.cq_ideal.specs.Ending.{arriving_from, first_slots}
+use Rattle.cq_traffic.proofs.ForPorts.{place_of}
 
 -- how many cells come at the input in so many slots from this one on
 unfoldable pub come_from : ℕ → List Arrival → ℕ → ℕ → ℕ
 come_from i came slot n = total (λ t. length (found came t i)) slot n
 
+-- one where a cell arrives
+abbrev pub one_if : Option Cell → ℕ
+one_if None = 0
+one_if (Some cell) = 1
+
 abbrev pub bit : Bool → ℕ
 bit b = cond b 1 0
+
+pub some_one : (o : Option Cell) → bit (is_some o) ≡ one_if o
+some_one None = refl
+some_one (Some cell) = refl
 
 module _ (i : ℕ) where
   pub from_here : (came : List Arrival) (slot n : ℕ) → come_from i came slot (suc n) ≡ length (found came slot i) + come_from i came (slot + 1) n
   unfolding come_from total
   from_here came slot n = refl
+
+  -- the last of the slots
+  pub from_last : (came : List Arrival) (slot n : ℕ) →
+      come_from i came slot (suc n) ≡ come_from i came slot n + length (found came (slot + n) i)
+  unfolding come_from total
+  from_last came slot zero =
+      let at : slot ≡ slot + 0 = omega arith in
+      let same = ap (λ (t : ℕ). length (found came t i)) at in
+      omega arith
+  from_last came slot (suc n) =
+      let rest = from_last came (slot + 1) n in
+      let at : slot + 1 + n ≡ slot + suc n = omega arith in
+      let same = ap (λ (t : ℕ). length (found came t i)) at in
+      omega arith
 
   one_more : (a : Arrival) (came : List Arrival) → length (found (a ∷ came) a.slot i) ≤ length (found came a.slot i) + bit (is_from i a)
   one_more a came =

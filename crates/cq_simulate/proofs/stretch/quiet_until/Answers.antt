@@ -1,8 +1,0 @@
-use Rattle.std.proofs.Common.{sym, subst, ℕ}
-use Rattle.cq_simulate.specs.Stretch.{IsQuiet}
-use Rattle.cq_simulate.proofs.Stretches.{quiet_to_next}
-use Rattle.cq_simulate.proofs.stretch.quiet_until.Goals as goal
-
-pub returns : goal.returns
-returns c =
-    subst (λ (n : ℕ). IsQuiet c.args.schedule.now.came c.args.slot n) (sym c.unwrap_or.ensures) (quiet_to_next c.args.schedule.now.came c.args.slot c.next_arrival.result c.next_arrival.ensures)

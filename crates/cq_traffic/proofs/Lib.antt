@@ -1,0 +1,4 @@
+pub mod ForPorts
+pub mod Quiet
+pub mod ToOutputs
+pub mod FromInputs

@@ -1,0 +1,69 @@
+-- Stretches of slots in which no cell arrives. No cell comes before the next arrival, so up to it there is nothing that
+-- comes at any input.
+use Rattle.std.proofs.Common.{◌≡◌, ℕ, zero, suc, ◌+◌, ◌<◌, ◌≤◌, ◌&&◌, eqb, Bool, false, List, [], ◌∷◌, map, replicate, Option, Some, None, refl, ap, ◌∙◌, inl, inr, arith}
+use Rattle.std.specs.Prelude.{unwrap_or}
+use Rattle.std.specs.List.{AllByRecursion, range_with_len}
+use Rattle.std.proofs.lemmas.Bool.{ne_eqb}
+use Rattle.cq_base.specs.Arrivals.{no_arrivals}
+use Rattle.cq_base.specs.Arriving.{Arrival, arriving, arriving_at, end_of}
+use Rattle.cq_base.specs.declared.cell.Cell.{Cell}
+use Rattle.cq_cells.proofs.Rising.{all_each}
+use Rattle.cq_cells.specs.NextArrival.{ArrivesIn, IsNextArrival}
+use Rattle.cq_ideal.proofs.FlowFound.{arriving_is}
+use Rattle.cq_ideal.specs.Ending.{arriving_from}
+use Rattle.cq_traffic.specs.Stretch.{IsQuiet}
+
+-- ## Up to the next arrival
+
+not_at : (came : List Arrival) (t i : ℕ) → AllByRecursion (λ a. a.slot ≡ t → ⊥) came → arriving_at came t i ≡ None
+not_at [] t i all = refl
+not_at (a ∷ came) t i all =
+    let other : eqb a.slot t ≡ false = ne_eqb a.slot t all.0 in
+    let test : (eqb a.slot t && eqb a.cell.id.input i) ≡ false = ap (λ (b : Bool). b && eqb a.cell.id.input i) other in
+    rw test (not_at came t i all.1)
+
+none_at : (came : List Arrival) (t : ℕ) → AllByRecursion (λ a. a.slot ≡ t → ⊥) came → (a n : ℕ) →
+    map (arriving_at came t) (range_with_len a n) ≡ replicate n None
+none_at came t all a zero = refl
+none_at came t all a (suc n) = λ k. not_at came t a all k ∷ none_at came t all (a + 1) n k
+
+none_arrive : (came : List Arrival) (t inputs : ℕ) → inputs ≡ 64 → AllByRecursion (λ a. a.slot ≡ t → ⊥) came →
+    arriving came t ≡ replicate inputs None
+none_arrive came t inputs are all = arriving_is came t inputs are ∙ none_at came t all 0 inputs
+
+before_end : (came : List Arrival) (slot : ℕ) → ArrivesIn slot came → slot < end_of came
+before_end [] slot at = absurd at
+before_end (a ∷ came) slot (inl here) = omega arith
+before_end (a ∷ came) slot (inr later) = let rest = before_end came slot later in omega arith
+
+no_stretch : (came : List Arrival) (slot : ℕ) → IsQuiet came slot slot
+no_stretch came slot = record {
+  late = omega arith;
+  none = λ t from to. absurd (omega arith);
+  more = λ later. absurd (omega arith);
+}
+
+pub quiet_to_next : (came : List Arrival) (slot : ℕ) (next : Option ℕ) → IsNextArrival came slot next →
+    IsQuiet came slot (unwrap_or next slot)
+quiet_to_next came slot None all = no_stretch came slot
+quiet_to_next came slot (Some next) is = record {
+  late = is.late;
+  none = λ t from to.
+      none_arrive came t 64 refl
+      (all_each (λ (a : Arrival). slot ≤ a.slot → next ≤ a.slot) (λ (a : Arrival). a.slot ≡ t → ⊥) came
+      (λ a had at. let later = had (omega arith) in omega arith) is.none_before);
+  more = λ later. before_end came next is.arrives;
+}
+
+-- ## What comes in a stretch
+
+pub quiet_slots : (came : List Arrival) (slot k : ℕ) →
+    ((t : ℕ) → slot ≤ t → t < slot + k → arriving came t ≡ no_arrivals) →
+    arriving_from came slot k ≡ replicate k no_arrivals
+unfolding arriving_from
+quiet_slots came slot zero quiet = refl
+quiet_slots came slot (suc k) quiet =
+    ap (λ (cells : List (Option Cell)). cells ∷ arriving_from came (slot + 1) k)
+    (quiet slot (omega arith) (omega arith))
+    ∙ ap (λ (l : List (List (Option Cell))). no_arrivals ∷ l)
+    (quiet_slots came (slot + 1) k (λ t from to. quiet t (omega arith) (omega arith)))
