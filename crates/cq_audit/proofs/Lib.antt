@@ -11,3 +11,5 @@ pub mod Rising
 pub mod Crossings
 pub mod Following
 pub mod WholeFollowing
+pub mod Slots
+pub mod Stands

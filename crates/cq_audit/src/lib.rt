@@ -1,7 +1,7 @@
 //! Checks the log and the trace of any maker.
 //!
-//! A log is read line by line, and its lines are held phase by phase against what the lists of the inputs offer.
-//! Nothing here knows how a matching is found.
+//! A log is read line by line. Then a fabric goes by its lines, phase by phase: they are held against what the lists of
+//! the inputs offer, and their transfers are made. Nothing here knows how a matching is found.
 #![tactic(auto)]
 
 mod blocking;
@@ -11,6 +11,7 @@ mod log;
 mod pairs;
 mod parted;
 mod phase;
+mod replay;
 #[cfg(test)]
 mod tests;
 mod told;
@@ -23,4 +24,5 @@ pub use log::{LogRefusal, read_log};
 pub use pairs::Pairs;
 pub use parted::part;
 pub use phase::{PhaseFault, stable_told};
+pub use replay::{Replay, SlotFault};
 pub use trace::audit_trace;

@@ -1,0 +1,165 @@
+//! A fabric that goes by the lines of a log.
+//!
+//! It is the fabric of the definitions, with the matchings that the lines tell in place of ones that were looked for.
+ghost use Rattle.std.specs.Prelude.{◌≡◌, ◌-◌, ◌*◌, ◌<◌, ◌≤◌, ◌↔◌, ◌^◌, IfErr, IfOk, IsOk, IsTrue, length, map, replicate};
+ghost use Rattle.cq_base.specs.Arrivals.{no_arrivals};
+ghost use Rattle.cq_rank.specs.Switch.{AreForOneSwitch, class_count};
+ghost use Rattle.cq_ideal.specs.Ranking.{AreForPorts, ranking};
+ghost use Rattle.cq_laws.specs.Fabric.{IsEmptyFabric};
+ghost use Rattle.cq_laws.specs.LimitedFabric.{LimitedFabricRun, empty_limited_fabric, fabric_admission};
+ghost use Rattle.cq_laws.specs.LimitedQuiet.{quiet_limited_slots};
+ghost use Rattle.cq_prefs.specs.Pairing.{IsStable};
+ghost use Rattle.cq_audit.specs.Log.{AreInOrder};
+ghost use Rattle.cq_audit.specs.Phase.{NoneBefore};
+ghost use Rattle.cq_audit.specs.Replay.{HasBufferRoom, HasListRoom, IsInStep, IsSlotFault, SlotReplayed, ports_in};
+
+use crate::crossing::cross;
+use crate::parted::part;
+use crate::phase::PhaseFault;
+use cq_base::{Arrivals, NoMemory, Room, Slot, Transfer};
+use cq_fabric::{Queues, nobody, release, tell};
+use cq_ideal::{Limiter, Ranks};
+use cq_rank::Rank;
+use std::alloc::Global;
+use std::marker::Model;
+
+/// What is wrong with the lines of a slot: the phase, 1 or 2, and its first fault.
+#[derive(Clone, Copy, Debug, PartialEq, Eq)]
+pub struct SlotFault {
+    pub phase: u8,
+    pub fault: PhaseFault,
+}
+
+/// A fabric whose matchings are told. Contracts see the numbers that give the rank machines, the limits of the
+/// outputs, the fabric with its marks, how many cells each output holds, and how many each list and each buffer can
+/// hold.
+#[derive(Drop)]
+pub struct Replay<R: Rank> {
+    ranks: Ranks<R>,
+    queues: Queues,
+    limiter: Limiter,
+}
+
+impl<R: Rank> Model for Replay<R> {
+    ghost use Rattle.std.specs.Prelude.{map};
+    ghost use Rattle.cq_ideal.specs.Admission.{marked};
+    ghost use Rattle.cq_fabric.specs.Queues.{fabric_of};
+    ghost use Rattle.cq_audit.specs.Replay.{ReplayView};
+
+    ghost Value = { ReplayView };
+
+    ghost view = { λ a. record {
+      fixed = a.ranks.fixed;
+      limits = a.limiter.limits;
+      fabric = marked a.limiter.marks (fabric_of a.queues a.ranks.states);
+      held = a.limiter.held;
+      from_inputs = a.queues.from_inputs;
+      to_outputs = a.queues.to_outputs;
+    } };
+}
+
+impl<R: Rank> Replay<R> {
+    /// A fabric with an input and an output for each rank. No cell waits, list i has room for `from_inputs[i]` cells
+    /// and buffer j for `to_outputs[j]`, and output j has the limit `limits[j]`, or none. All memory that slots need
+    /// is taken here. The error is want of memory.
+    pub fn new(
+        alloc: Global,
+        ranks: Vec<R>,
+        limits: &[Option<u64>],
+        from_inputs: &[u64],
+        to_outputs: &[u64],
+    ) -> Result<Replay<R>, NoMemory>
+        requires machines { AreForOneSwitch (map R.machine (map R.fixed ranks.items)) }
+        requires limits { length limits.now ≡ length ranks.items }
+        requires from_inputs { length from_inputs.now ≡ length ranks.items }
+        requires to_outputs { length to_outputs.now ≡ length ranks.items }
+        ensures fixed { IfOk result (λ replay. replay.fixed ≡ map R.fixed ranks.items) }
+        ensures limits { IfOk result (λ replay. replay.limits ≡ limits.now) }
+        ensures fabric { IfOk result (λ replay. replay.fabric ≡ empty_limited_fabric (length ranks.items) (map R.state ranks.items)) }
+        ensures from_inputs { IfOk result (λ replay. replay.from_inputs ≡ from_inputs.now) }
+        ensures to_outputs { IfOk result (λ replay. replay.to_outputs ≡ to_outputs.now) }
+        ensures in_step { IfOk result (λ replay. IsInStep (map R.machine replay.fixed) 0 replay) }
+    {
+        Ok(Replay {
+            queues: Queues::new(alloc, from_inputs, to_outputs)?,
+            limiter: Limiter::new(alloc, limits)?,
+            ranks: Ranks::of(ranks),
+        })
+    }
+
+    /// One slot: the cells that are admitted arrive, the transfers that the lines of its first phase tell are made,
+    /// each output sends or is idle, and those of its second phase are made. The answer is the lines behind it. The
+    /// transfers are noted. It takes no memory, and no list is read from end to end.
+    ///
+    /// The error is the first fault of the first phase whose lines are not the transfers of a stable matching. Then
+    /// the fabric stands where it was found.
+    pub fn slot<'a>(
+        &mut self,
+        slot: Slot,
+        arrivals: &Arrivals,
+        lines: &'a [Transfer],
+        note: &mut Room<Transfer>,
+    ) -> Result<&'a [Transfer], SlotFault>
+        requires in_step { IsInStep (map R.machine self.old.fixed) slot self.old }
+        requires early { slot < 2 ^ 64 - 1 }
+        requires arrivals { AreForPorts (ports_in self.old) (class_count (map R.machine self.old.fixed)) arrivals.now }
+        requires ranked { IsOk (ranking (map R.machine self.old.fixed) slot 0 (fabric_admission self.old.limits
+            arrivals.now self.old.fabric).cells self.old.fabric.state.ranks) }
+        requires list_room { HasListRoom arrivals.now self.old }
+        requires buffer_room { HasBufferRoom arrivals.now self.old }
+        requires in_order { AreInOrder (ports_in self.old) lines.now }
+        requires none_before { NoneBefore slot 1 lines.now }
+        requires note { 2 * ports_in self.old ≤ note.old.spare }
+        ensures slot { IfOk result (λ rest. SlotReplayed (map R.machine self.old.fixed) slot arrivals.now lines.now
+            rest.now self.old self.new note.old note.new) }
+        ensures fault { IfErr result (IsSlotFault (map R.machine self.old.fixed) slot arrivals.now lines.now self.old) }
+    {
+        let mut came = nobody();
+        self.queues.ports();
+        self.limiter.judge(arrivals);
+        if let Err(_) = self.ranks.take(slot, arrivals, &self.limiter, &mut came) {
+            // The ideal switch has no tag fault, and so this fabric has none.
+            unreachable!()
+        }
+        self.queues.arrive(&came);
+        let (first, behind) = part(lines, slot, 1);
+        if let Err(fault) = cross(&mut self.queues, slot, 1, first, note) {
+            return Err(SlotFault { phase: 1, fault });
+        }
+        let ports = self.queues.ports() as usize;
+        let places = self.queues.depart();
+        let gone = &places[..ports];
+        tell(&mut self.ranks, gone);
+        release(&mut self.limiter, gone);
+        let (second, rest) = part(behind, slot, 2);
+        if let Err(fault) = cross(&mut self.queues, slot, 2, second, note) {
+            return Err(SlotFault { phase: 2, fault });
+        }
+        Ok(rest)
+    }
+
+    /// All slots from this one on up to the other, in which no cell arrives and none waits, and of which there is no
+    /// line. They take no longer than one slot: each machine is told once that its output was idle.
+    pub fn rest(&mut self, slot: Slot, to: Slot)
+        requires in_step { IsInStep (map R.machine self.old.fixed) slot self.old }
+        requires empty { IsEmptyFabric self.old.fabric.state }
+        requires later { slot < to }
+        ensures slots { LimitedFabricRun IsStable self.old.limits (map R.machine self.old.fixed) slot (replicate (to -
+            slot) no_arrivals) self.old.fabric (quiet_limited_slots (map R.machine self.old.fixed) (to - slot) slot
+            (ports_in self.old) self.old.fabric.state.ranks self.old.fabric.marks) self.new.fabric }
+        ensures in_step { IsInStep (map R.machine self.old.fixed) to self.new }
+        ensures fixed { self.new.fixed ≡ self.old.fixed }
+        ensures limits { self.new.limits ≡ self.old.limits }
+        ensures from_inputs { self.new.from_inputs ≡ self.old.from_inputs }
+        ensures to_outputs { self.new.to_outputs ≡ self.old.to_outputs }
+    {
+        self.ranks.rest();
+    }
+
+    /// Whether no cell waits, at an input or at an output.
+    pub fn empty(&self) -> bool
+        ensures { IsTrue result ↔ IsEmptyFabric self.now.fabric.state }
+    {
+        self.queues.are_empty()
+    }
+}
