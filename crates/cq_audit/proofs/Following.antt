@@ -76,7 +76,7 @@ module _ (slot phase i : ℕ) (cells : List Queued) where
       from (Some c) f = let same : crosses j c ≡ t = let both : Some (crosses j c) ≡ Some t = f in cc in
           (sym (ap (λ (x : Transfer). x.slot) same), sym (ap (λ (x : Transfer). x.phase) same))
 
-transfers_at : (m : Partners) (lists : List (List Queued)) (slot phase : ℕ) →
+pub transfers_at : (m : Partners) (lists : List (List Queued)) (slot phase : ℕ) →
     AllByRecursion (λ t. (t.slot ≡ slot) × (t.phase ≡ phase)) (transfers_of m lists slot phase)
 unfolding transfers_of
 transfers_at m lists slot phase = all_noted (λ i. noted slot phase i (list_of lists i) (partner_of m i))
@@ -123,7 +123,7 @@ same_lists xs ys size each = ext_get_or [] xs ys size (λ i _. each i)
 one_result : (a b : Ranking) (x : Result Ranking TagFault) → x ≡ Ok a → x ≡ Ok b → a ≡ b
 one_result a b x e f = let both : ◌≡◌ {A = Result Ranking TagFault} (Ok a) (Ok b) = sym e ∙ f in cc
 
-one_arrival : (ms : List Machine) (slot : ℕ) (cells : List (Option Cell)) (c d : List (Option Queued))
+pub one_arrival : (ms : List Machine) (slot : ℕ) (cells : List (Option Cell)) (c d : List (Option Queued))
     (old a b : Fabric) →
     Arrives ms slot cells c old a → Arrives ms slot cells d old b → (c ≡ d) × (a ≡ b)
 one_arrival ms slot cells c d old a b x y =
@@ -154,7 +154,7 @@ one_transfer m old a b stable x y =
         (subst (λ order. IsListed order j) (outputs_at old.inputs i) (stable.matching.offered i j is))
 
 -- from one state, by the same transfers
-one_move : (m n : Partners) (slot phase : ℕ) (a b c d : Fabric) → a ≡ b → IsStable (orders_of a.inputs) m →
+pub one_move : (m n : Partners) (slot phase : ℕ) (a b c d : Fabric) → a ≡ b → IsStable (orders_of a.inputs) m →
     IsStable (orders_of b.inputs) n → transfers_of m a.inputs slot phase ≡ transfers_of n b.inputs slot phase →
     Transfers m a c → Transfers n b d → (m ≡ n) × (c ≡ d)
 one_move m n slot phase a b c d same stable_m stable_n moved x y =
@@ -167,7 +167,7 @@ one_move m n slot phase a b c d same stable_m stable_n moved x y =
           (subst (λ (p : Partners). Transfers p a d) (sym chosen) (subst (λ (f : Fabric). Transfers n f d) back y)),
     )
 
-one_departure : (ms : List Machine) (u v : List (Option Queued)) (a b c d : Fabric) → a ≡ b → Departs ms u a c →
+pub one_departure : (ms : List Machine) (u v : List (Option Queued)) (a b c d : Fabric) → a ≡ b → Departs ms u a c →
     Departs ms v b d → (u ≡ v) × (c ≡ d)
 one_departure ms u v a b c d same x y =
     let gone : u ≡ v = x.sent ∙ ap (λ (f : Fabric). fronts f.buffers) same ∙ sym y.sent in (

@@ -13,3 +13,10 @@ pub mod Following
 pub mod WholeFollowing
 pub mod Slots
 pub mod Stands
+pub mod BySlot
+pub mod Skips
+pub mod Replaying
+pub mod Bounded
+pub mod Steps
+pub mod Opened
+pub mod AuditExact

@@ -21,17 +21,17 @@ use Rattle.cq_audit.specs.StableRun.{StableRun}
 use Rattle.cq_audit.proofs.Following.{NoneOf, both_hold, one_stable_run, run_later, same_parts, slot_at, weaker}
 
 -- the transfers of records
-abbrev moved : List LimitedRecord → List Transfer
+abbrev pub moved : List LimitedRecord → List Transfer
 moved rs = transfers_of_run (slots_in rs)
 
-moved_parts : (xs ys : List LimitedRecord) → moved (xs ++ ys) ≡ moved xs ++ moved ys
+pub moved_parts : (xs ys : List LimitedRecord) → moved (xs ++ ys) ≡ moved xs ++ moved ys
 unfolding transfers_of_run
 moved_parts [] ys = refl
 moved_parts (x ∷ xs) ys = ap (λ (l : List Transfer). transfers_in x.of_slot ++ l) (moved_parts xs ys)
     ∙ sym (append_assoc (transfers_in x.of_slot) (moved xs) (moved ys))
 
 module _ (limits : List (Option ℕ)) (ms : List Machine) where
-  run_before : (slot : ℕ) (traffic : List (List (Option Cell))) (f g : Marked Fabric) (rs : List LimitedRecord) →
+  pub run_before : (slot : ℕ) (traffic : List (List (Option Cell))) (f g : Marked Fabric) (rs : List LimitedRecord) →
       LimitedFabricRun IsStable limits ms slot traffic f rs g →
       AllByRecursion (λ t. t.slot < slot + length traffic) (moved rs)
   unfolding transfers_of_run
@@ -52,7 +52,7 @@ module _ (limits : List (Option ℕ)) (ms : List Machine) where
     nothing_waits : Marked Fabric → Type 0
     nothing_waits f = IsEmptyFabric f.state
 
-    whole_run : (rs : List LimitedRecord) (g : Marked Fabric) → StableRun limits ms came start rs g →
+    pub whole_run : (rs : List LimitedRecord) (g : Marked Fabric) → StableRun limits ms came start rs g →
         LimitedFabricRun IsStable limits ms 0 (first_slots came (length rs)) start rs g
     unfolding Step nothing_waits
     whole_run rs g w = run_of_whole Step came start rs nothing_waits g w

@@ -1,7 +1,7 @@
 -- When a log is that of a stable run, and where it first is not that of one. A stable run is a run of the fabric in
 -- which each phase takes any stable matching. A log is judged phase by phase: what its lines of a phase say of
 -- cells, then whether their matching is stable, and the fabric goes on with it. Whether the run reaches a line is
--- judged at its end. `StableRun` is cited by a contract, the others by none yet.
+-- judged at its end.
 use Rattle.std.specs.Prelude.{◌≡◌, ℕ, ◌+◌, ◌≤◌, nat_lt, ◌⊎◌, List, length, filter, Option}
 use Rattle.cq_base.specs.Arriving.{Arrival, arriving, end_of}
 use Rattle.cq_base.specs.declared.cell.Queued.{Queued}
@@ -20,6 +20,10 @@ use Rattle.cq_laws.specs.SlotBySlot.{AfterBy, WholeBy}
 use Rattle.cq_audit.specs.Phase.{IsPhaseFault, in_phase}
 use Rattle.cq_audit.specs.declared.phase.PhaseFault.{PhaseFault}
 
+-- the lines of the slots before one
+abbrev pub before_slot : ℕ → List Transfer → List Transfer
+before_slot slot note = filter (λ t. nat_lt t.slot slot) note
+
 module _ (limits : List (Option ℕ)) (ms : List Machine) (came : List Arrival) (start : Marked Fabric) where
   -- ## A yes
 
@@ -35,10 +39,6 @@ module _ (limits : List (Option ℕ)) (ms : List Machine) (came : List Arrival) 
     pub moved : transfers_of_run (slots_in records) ≡ note
 
   -- ## Where a phase begins
-
-  -- the lines of the slots before one
-  abbrev pub before_slot : ℕ → List Transfer → List Transfer
-  before_slot slot note = filter (λ t. nat_lt t.slot slot) note
 
   -- the run is stable up to this slot, has moved what the lines before it say, and is over at no slot up to it
   pub record Reaches (note : List Transfer) (slot : ℕ) (old : Marked Fabric) : Type 0 where

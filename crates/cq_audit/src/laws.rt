@@ -3,12 +3,14 @@ ghost use Rattle.std.specs.Prelude.{◌≡◌, ℕ, List, Option};
 ghost use Rattle.cq_base.specs.Arriving.{Arrival};
 ghost use Rattle.cq_base.specs.declared.cell.Cell.{Cell};
 ghost use Rattle.cq_base.specs.declared.cell.Transfer.{Transfer};
+ghost use Rattle.cq_base.specs.declared.setup.Setup.{Setup};
 ghost use Rattle.cq_ideal.specs.Admission.{Marked};
 ghost use Rattle.cq_rank.specs.Machine.{Machine};
 ghost use Rattle.cq_prefs.specs.Pairing.{IsStable};
 ghost use Rattle.cq_laws.specs.Fabric.{Fabric};
 ghost use Rattle.cq_laws.specs.LimitedFabric.{LimitedFabricRun, LimitedRecord, slots_in};
 ghost use Rattle.cq_laws.specs.Records.{transfers_of_run};
+ghost use Rattle.cq_audit.specs.Audit.{IsAuditExact};
 ghost use Rattle.cq_audit.specs.Log.{AreInOrder, IsLog, IsLogExact};
 ghost use Rattle.cq_audit.specs.Phase.{IsPhaseExact};
 ghost use Rattle.cq_audit.specs.StableRun.{StableRun};
@@ -51,4 +53,10 @@ pub fn transfers_tell_the_run()
         (start g h : Marked Fabric) (rs ss : List LimitedRecord) →
         StableRun limits ms came start rs g → StableRun limits ms came start ss h →
         transfers_of_run (slots_in rs) ≡ transfers_of_run (slots_in ss) → (rs ≡ ss) × (g ≡ h) }
+{}
+
+/// A log is that of a stable run, or is refused for one thing, and never both; want of memory is no such thing. It does
+/// nothing: its contract is the claim.
+pub fn audits_are_exact()
+    ensures { (setup : Setup) (limits : List (Option ℕ)) (came : List Arrival) → IsAuditExact setup limits came }
 {}

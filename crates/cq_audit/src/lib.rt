@@ -4,6 +4,7 @@
 //! the inputs offer, and their transfers are made. Nothing here knows how a matching is found.
 #![tactic(auto)]
 
+mod audit;
 mod blocking;
 mod crossing;
 mod laws;
@@ -11,6 +12,7 @@ mod log;
 mod pairs;
 mod parted;
 mod phase;
+mod refusal;
 mod replay;
 #[cfg(test)]
 mod tests;
@@ -18,11 +20,15 @@ mod told;
 mod trace;
 mod transfer;
 
+pub use audit::audit_log;
 pub use crossing::cross;
-pub use laws::{logs_are_exact, phases_are_exact, traces_are_exact, transfers_tell_the_run};
+pub use laws::{
+    audits_are_exact, logs_are_exact, phases_are_exact, traces_are_exact, transfers_tell_the_run,
+};
 pub use log::{LogRefusal, read_log};
 pub use pairs::Pairs;
 pub use parted::part;
 pub use phase::{PhaseFault, stable_told};
+pub use refusal::AuditRefusal;
 pub use replay::{Replay, SlotFault};
 pub use trace::audit_trace;

@@ -1,0 +1,179 @@
+-- The lines of a log by slots and phases. Of lines of earlier slots and then later ones, those before a slot are the first,
+-- and those of its phases are among the others.
+use Rattle.std.proofs.Common.{◌≡◌, ℕ, ◌+◌, ◌<◌, ◌≤◌, ◌⊎◌, eqb, ltb, Bool, true, false, List, [], ◌∷◌, ◌++◌, cond, refl, sym, ap, ◌∙◌, ⊎_elim, inl, inr, arith}
+use Rattle.std.specs.List.{AllByRecursion, filter}
+use Rattle.std.proofs.lemmas.Bool.{and_from, and_left, and_parts, and_right, cases_lt, cond-false, cond_both, eq-eqb, eqb-true, false_from_ne_true, le-ltb, lt-ltb, ltb-true, ne_eqb}
+use Rattle.std.proofs.lemmas.List.{append-nil}
+use Rattle.std.proofs.lemmas.List.Elements.{filter-append}
+use Rattle.cq_base.specs.declared.cell.Transfer.{Transfer}
+use Rattle.cq_audit.specs.Log.{AreInOrder, IsBefore, IsOf}
+use Rattle.cq_audit.specs.Phase.{AllBehind, NoneBefore, in_phase, is_at}
+use Rattle.cq_audit.specs.Running.{FirstIsLeast}
+use Rattle.cq_audit.specs.StableRun.{before_slot}
+use Rattle.cq_audit.proofs.Following.{weaker}
+
+-- ## What is kept of lines by a test
+
+module _ (keep : Transfer → Bool) where
+  keeps_all : (xs : List Transfer) → AllByRecursion (λ t. keep t ≡ true) xs → filter keep xs ≡ xs
+  keeps_all [] all = refl
+  keeps_all (x ∷ xs) all =
+      cond_both (keep x) (x ∷ filter keep xs) (filter keep xs) (λ (l : List Transfer). l ≡ x ∷ xs)
+      (λ _. ap (λ (l : List Transfer). x ∷ l) (keeps_all xs all.1))
+      (λ no. absurd (let clash : true ≡ false = sym all.0 ∙ no in let P : ⊥ = cc in P))
+
+  keeps_none : (xs : List Transfer) → AllByRecursion (λ t. keep t ≡ false) xs → filter keep xs ≡ []
+  keeps_none [] all = refl
+  keeps_none (x ∷ xs) all =
+      cond_both (keep x) (x ∷ filter keep xs) (filter keep xs) (λ (l : List Transfer). l ≡ [])
+      (λ yes. absurd (let clash : true ≡ false = sym yes ∙ all.0 in let P : ⊥ = cc in P))
+      (λ _. keeps_none xs all.1)
+
+  keeps_first : (xs ys : List Transfer) → AllByRecursion (λ t. keep t ≡ true) xs →
+      AllByRecursion (λ t. keep t ≡ false) ys → filter keep (xs ++ ys) ≡ xs
+  keeps_first xs ys all none =
+      filter-append keep xs ys ∙ ap (λ (l : List Transfer). l ++ filter keep ys) (keeps_all xs all)
+      ∙ ap (λ (l : List Transfer). xs ++ l) (keeps_none ys none) ∙ append-nil xs
+
+  keeps_later : (xs ys : List Transfer) → AllByRecursion (λ t. keep t ≡ false) xs →
+      filter keep (xs ++ ys) ≡ filter keep ys
+  keeps_later xs ys none =
+      filter-append keep xs ys ∙ ap (λ (l : List Transfer). l ++ filter keep ys) (keeps_none xs none)
+
+  -- no test that all these pass takes a line from them
+  keeps_of_kept : (wider : Transfer → Bool) → ((t : Transfer) → keep t ≡ true → wider t ≡ true) →
+      (xs : List Transfer) → filter keep (filter wider xs) ≡ filter keep xs
+  keeps_of_kept wider all [] = refl
+  keeps_of_kept wider all (x ∷ xs) =
+      cond_both (wider x) (x ∷ filter wider xs) (filter wider xs)
+      (λ (l : List Transfer). filter keep l ≡ filter keep (x ∷ xs))
+      (λ _. ap (λ (l : List Transfer). cond (keep x) (x ∷ l) l) (keeps_of_kept wider all xs))
+      (λ no.
+      let out : keep x ≡ false =
+      false_from_ne_true (keep x) (λ yes. let clash : true ≡ false = sym (all x yes) ∙ no in let P : ⊥ = cc in P) in
+      keeps_of_kept wider all xs ∙ sym (cond-false (keep x) (x ∷ filter keep xs) (filter keep xs) out))
+
+-- ## Lines before a slot
+
+module _ (slot : ℕ) where
+  early : (t : Transfer) → t.slot < slot → ltb t.slot slot ≡ true
+  early t lt = lt-ltb t.slot slot lt
+
+  late : (t : Transfer) → slot ≤ t.slot → ltb t.slot slot ≡ false
+  late t le = le-ltb t.slot slot le
+
+  pub before_all : (xs : List Transfer) → AllByRecursion (λ t. t.slot < slot) xs → before_slot slot xs ≡ xs
+  before_all xs all =
+      keeps_all (λ t. ltb t.slot slot) xs
+      (weaker (λ t. t.slot < slot) (λ t. ltb t.slot slot ≡ true) early xs all)
+
+  pub before_is : (xs ys : List Transfer) → AllByRecursion (λ t. t.slot < slot) xs →
+      AllByRecursion (λ t. slot ≤ t.slot) ys → before_slot slot (xs ++ ys) ≡ xs
+  before_is xs ys all none =
+      keeps_first (λ t. ltb t.slot slot) xs ys
+      (weaker (λ t. t.slot < slot) (λ t. ltb t.slot slot ≡ true) early xs all)
+      (weaker (λ t. slot ≤ t.slot) (λ t. ltb t.slot slot ≡ false) late ys none)
+
+  -- those before this slot are among those before a later one
+  pub before_later : (to : ℕ) (note : List Transfer) → slot ≤ to → before_slot slot (before_slot to note) ≡ before_slot slot note
+  before_later to note le =
+      keeps_of_kept (λ t. ltb t.slot slot) (λ t. ltb t.slot to)
+      (λ t here. let lt : t.slot < slot = ltb-true t.slot slot here in lt-ltb t.slot to (omega arith)) note
+
+  -- ## Lines of a phase
+
+  module _ (phase : ℕ) where
+    other_slot : (t : Transfer) → (t.slot ≡ slot → ⊥) → is_at slot phase t ≡ false
+    other_slot t ne = and_left (eqb t.slot slot) (eqb t.phase phase) (ne_eqb t.slot slot ne)
+
+    -- earlier lines are none of this phase
+    pub phase_later : (xs ys : List Transfer) → AllByRecursion (λ t. t.slot < slot) xs →
+        in_phase slot phase (xs ++ ys) ≡ in_phase slot phase ys
+    phase_later xs ys all =
+        keeps_later (is_at slot phase) xs ys
+        (weaker (λ t. t.slot < slot) (λ t. is_at slot phase t ≡ false)
+        (λ t lt. other_slot t (λ e. let P : ⊥ = omega arith in P)) xs all)
+
+    -- and so are later ones
+    pub phase_now : (xs ys : List Transfer) → AllByRecursion (λ t. slot + 1 ≤ t.slot) ys →
+        in_phase slot phase (xs ++ ys) ≡ in_phase slot phase xs
+    phase_now xs ys all =
+        filter-append (is_at slot phase) xs ys
+        ∙ ap (λ (l : List Transfer). in_phase slot phase xs ++ l)
+        (keeps_none (is_at slot phase) ys
+        (weaker (λ t. slot + 1 ≤ t.slot) (λ t. is_at slot phase t ≡ false)
+        (λ t le. other_slot t (λ e. let P : ⊥ = omega arith in P)) ys all))
+        ∙ append-nil (in_phase slot phase xs)
+
+    -- the lines of the phase are before each later slot
+    pub phase_before : (to : ℕ) (note : List Transfer) → slot < to →
+        in_phase slot phase (before_slot to note) ≡ in_phase slot phase note
+    phase_before to note lt =
+        keeps_of_kept (is_at slot phase) (λ t. ltb t.slot to)
+        (λ t here.
+        let both = and_parts (eqb t.slot slot) (eqb t.phase phase) here in
+        let own : t.slot ≡ slot = eqb-true t.slot slot both.0 in
+        lt-ltb t.slot to (omega arith)) note
+
+  -- of the lines of the first phase and then those of the second
+  pub first_of_two : (xs ys : List Transfer) → AllByRecursion (λ t. (t.slot ≡ slot) × (t.phase ≡ 1)) xs →
+      AllByRecursion (λ t. (t.slot ≡ slot) × (t.phase ≡ 2)) ys → in_phase slot 1 (xs ++ ys) ≡ xs
+  first_of_two xs ys first second =
+      keeps_first (is_at slot 1) xs ys
+      (weaker (λ t. (t.slot ≡ slot) × (t.phase ≡ 1)) (λ t. is_at slot 1 t ≡ true)
+      (λ t at. and_from (eqb t.slot slot) (eqb t.phase 1) (eq-eqb t.slot slot at.0) (eq-eqb t.phase 1 at.1)) xs first)
+      (weaker (λ t. (t.slot ≡ slot) × (t.phase ≡ 2)) (λ t. is_at slot 1 t ≡ false)
+      (λ t at. and_right (eqb t.slot slot) (eqb t.phase 1)
+      (ne_eqb t.phase 1 (λ one. let two = at.1 in let P : ⊥ = omega arith in P))) ys second)
+
+  pub second_of_two : (xs ys : List Transfer) → AllByRecursion (λ t. (t.slot ≡ slot) × (t.phase ≡ 1)) xs →
+      AllByRecursion (λ t. (t.slot ≡ slot) × (t.phase ≡ 2)) ys → in_phase slot 2 (xs ++ ys) ≡ ys
+  second_of_two xs ys first second =
+      keeps_later (is_at slot 2) xs ys
+      (weaker (λ t. (t.slot ≡ slot) × (t.phase ≡ 1)) (λ t. is_at slot 2 t ≡ false)
+      (λ t at. and_right (eqb t.slot slot) (eqb t.phase 2)
+      (ne_eqb t.phase 2 (λ two. let one = at.1 in let P : ⊥ = omega arith in P))) xs first)
+      ∙ keeps_all (is_at slot 2) ys
+      (weaker (λ t. (t.slot ≡ slot) × (t.phase ≡ 2)) (λ t. is_at slot 2 t ≡ true)
+      (λ t at. and_from (eqb t.slot slot) (eqb t.phase 2) (eq-eqb t.slot slot at.0) (eq-eqb t.phase 2 at.1)) ys second)
+
+-- ## Lines in order
+
+module _ (ports : ℕ) where
+  pub first_least : (lines : List Transfer) → AreInOrder ports lines → FirstIsLeast lines
+  first_least [] order = tt
+  first_least (t ∷ lines) order =
+      weaker (IsBefore t) (λ u. t.slot ≤ u.slot)
+      (λ u before. ⊎_elim (λ less. omega arith) (λ same. let e = same.0 in omega arith) before) lines order.1
+
+  -- lines of no earlier slot are of no earlier phase than its first
+  pub none_from : (slot : ℕ) (lines : List Transfer) → AreInOrder ports lines →
+      AllByRecursion (λ t. slot ≤ t.slot) lines → NoneBefore slot 1 lines
+  none_from slot [] order all = tt
+  none_from slot (t ∷ lines) order all = (here t order.0 all.0, none_from slot lines order.2 all.1)
+    where
+      here : (u : Transfer) → IsOf ports u → slot ≤ u.slot → (slot < u.slot) ⊎ ((slot ≡ u.slot) × (1 ≤ u.phase))
+      here u of le =
+          let phase = of.phase.0 in
+          ⊎_elim (λ less. inl less) (λ more. inr (omega arith, omega arith)) (cases_lt slot u.slot)
+
+  pub none_first : (lines : List Transfer) → AreInOrder ports lines → NoneBefore 0 1 lines
+  none_first lines order = none_from 0 lines order (all lines)
+    where
+      all : (ls : List Transfer) → AllByRecursion (λ t. 0 ≤ t.slot) ls
+      all [] = tt
+      all (t ∷ ls) = (omega arith, all ls)
+
+  -- behind the second phase of a slot they are of later slots
+  pub none_next : (slot : ℕ) (lines : List Transfer) → AreInOrder ports lines → AllBehind slot 2 lines →
+      NoneBefore (slot + 1) 1 lines
+  none_next slot lines order behind = none_from (slot + 1) lines order (later lines order behind)
+    where
+      later : (ls : List Transfer) → AreInOrder ports ls → AllBehind slot 2 ls →
+          AllByRecursion (λ t. slot + 1 ≤ t.slot) ls
+      later [] o b = tt
+      later (t ∷ ls) o b = (
+        let phase = o.0.phase.1 in
+            ⊎_elim (λ less. omega arith) (λ here. let more = here.1 in absurd (omega arith)) b.0,
+        later ls o.2 b.1,
+      )

@@ -1,0 +1,63 @@
+-- Only proofs use this.
+-- A replay over all cells that arrive: what it begins with, and what its end says of the lines.
+use Rattle.std.specs.Prelude.{◌≡◌, ℕ, ◌+◌, ◌-◌, ◌*◌, ◌<◌, ◌≤◌, List, [], ◌∷◌, length, Result, Ok, Err, IsOk, replicate, slice_index}
+use Rattle.std.specs.List.{AllByRecursion}
+use Rattle.cq_base.specs.Arrivals.{no_arrivals}
+use Rattle.cq_base.specs.Arriving.{Arrival, arriving, end_of}
+use Rattle.cq_base.specs.Room.{RoomView}
+use Rattle.cq_base.specs.declared.cell.Transfer.{Transfer}
+use Rattle.cq_cells.specs.Traffic.{IsShort, IsTraffic, is_from, is_to, number_of}
+use Rattle.cq_rank.specs.Machine.{Machine}
+use Rattle.cq_rank.specs.Switch.{class_count}
+use Rattle.cq_ideal.specs.LimitedEnding.{whole_limited_run}
+use Rattle.cq_ideal.specs.LimitedIdeal.{empty_limited}
+use Rattle.cq_laws.specs.LimitedFabric.{LimitedFabricRun, empty_limited_fabric}
+use Rattle.cq_laws.specs.LimitedQuiet.{quiet_limited_slots}
+use Rattle.cq_prefs.specs.Pairing.{IsStable}
+use Rattle.cq_audit.specs.Audit.{IsNoOf}
+use Rattle.cq_audit.specs.Log.{AreInOrder}
+use Rattle.cq_audit.specs.Replay.{IsInStep, ReplayView, ports_in}
+use Rattle.cq_audit.specs.StableRun.{IsOfStableRun}
+use Rattle.cq_audit.specs.declared.refusal.AuditRefusal.{AuditRefusal}
+
+-- no line is of an earlier slot than the first
+abbrev pub FirstIsLeast : List Transfer → Type 0
+FirstIsLeast [] = Unit {0}
+FirstIsLeast (t ∷ lines) = AllByRecursion (λ u. t.slot ≤ u.slot) lines
+
+-- no cell arrives from this slot on up to the other, and there is no line of these slots; and if the other is later, there are
+-- cells still to come
+pub record IsStill (came : List Arrival) (lines : List Transfer) (slot next : ℕ) : Type 0 where
+  pub late : slot ≤ next
+  pub none : (t : ℕ) → slot ≤ t → t < next → arriving came t ≡ no_arrivals
+  pub no_line : AllByRecursion (λ t. next ≤ t.slot) lines
+  pub more : slot < next → next < end_of came
+
+-- the slots from this one on up to the other, without arrivals and without lines, are behind the fabric
+pub record HasRested (ms : List Machine) (slot next : ℕ) (old new : ReplayView) : Type 0 where
+  pub ran : LimitedFabricRun IsStable old.limits ms slot (replicate (next - slot) no_arrivals) old.fabric
+      (quiet_limited_slots ms (next - slot) slot (ports_in old) old.fabric.state.ranks old.fabric.marks) new.fabric
+  pub in_step : IsInStep ms next new
+  pub fixed : new.fixed ≡ old.fixed
+  pub limits : new.limits ≡ old.limits
+  pub from_inputs : new.from_inputs ≡ old.from_inputs
+  pub to_outputs : new.to_outputs ≡ old.to_outputs
+
+-- The fabric has had no slot and holds no cell, there is room for all cells that arrive and for all lines, the lines are in
+-- order, and the ideal switch has no tag fault.
+pub record IsReady (ms : List Machine) (came : List Arrival) (lines : List Transfer) (v : ReplayView)
+    (note : RoomView Transfer) : Type 0 where
+  pub in_step : IsInStep ms 0 v
+  pub fabric : v.fabric ≡ empty_limited_fabric (ports_in v) v.fabric.state.ranks
+  pub traffic : IsTraffic (ports_in v) (class_count ms) came
+  pub short : IsShort came
+  pub from_inputs : (i : ℕ) → i < ports_in v → slice_index v.from_inputs i ≡ number_of (is_from i) came
+  pub to_outputs : (j : ℕ) → j < ports_in v → slice_index v.to_outputs j ≡ number_of (is_to j) came
+  pub in_order : AreInOrder (ports_in v) lines
+  pub ranked : IsOk (whole_limited_run v.limits ms came (empty_limited (ports_in v) v.fabric.state.ranks))
+  pub note_room : note.spare ≡ length lines + 2 * ports_in v
+
+-- the lines are those of a stable run, or this is the first thing wrong with them
+abbrev pub RunEnds : List Machine → List Arrival → List Transfer → ReplayView → Result (Unit {0}) AuditRefusal → Type 0
+RunEnds ms came lines old (Ok done) = IsOfStableRun old.limits ms came old.fabric lines
+RunEnds ms came lines old (Err refusal) = IsNoOf old.limits ms came old.fabric lines refusal

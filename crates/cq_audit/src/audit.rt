@@ -1,0 +1,155 @@
+//! Whether a log of any maker is that of a stable run.
+ghost use Rattle.std.specs.Prelude.{◌≡◌, ◌↔◌, ◌+◌, ◌-◌, ◌<◌, ◌≤◌, [], IfErr, IsOk, IsTrue, OnOk, length, map};
+ghost use Rattle.cq_base.specs.Arriving.{end_of};
+ghost use Rattle.cq_cells.specs.Traffic.{IsShort, IsTraffic};
+ghost use Rattle.cq_ideal.specs.LimitedEnding.{whole_limited_run};
+ghost use Rattle.cq_ideal.specs.LimitedIdeal.{empty_limited};
+ghost use Rattle.cq_laws.specs.Fabric.{IsEmptyFabric};
+ghost use Rattle.cq_rank.specs.Classes.{AreClasses};
+ghost use Rattle.cq_scfq.specs.Disciplines.{machines_of, openings_of};
+ghost use Rattle.cq_audit.specs.Audit.{IsNo, IsYes};
+ghost use Rattle.cq_audit.specs.Log.{AreInOrder};
+ghost use Rattle.cq_audit.specs.Phase.{NoneBefore};
+ghost use Rattle.cq_audit.specs.Replay.{IsInStep, ports_in};
+ghost use Rattle.cq_audit.specs.Running.{FirstIsLeast, HasRested, IsReady, IsStill, RunEnds};
+ghost use Rattle.cq_audit.specs.declared.refusal.AuditRefusal.TheVariants.{Left};
+
+use crate::log::read_log;
+use crate::refusal::AuditRefusal;
+use crate::replay::Replay;
+use cq_base::{Room, Setup, Slot, Transfer};
+use cq_cells::{Nearby, Schedule};
+use cq_rank::Rank;
+use cq_scfq::Discipline;
+use cq_traffic::{quiet_until, rooms_from, rooms_to};
+use std::alloc::Global;
+
+/// Checks a log of any maker, of a switch of this setup with these limits, over cells that arrive by this schedule. A
+/// stable run is one in which each phase takes any stable matching. Where these bytes are the log of one, written out,
+/// the answer is Ok, and for no others. The log is read first, then it is replayed phase by phase, and at the end of the
+/// run no line may be left. It takes time for the slots in which a cell waits or comes or of which there is a line, and
+/// none for those between them.
+///
+/// Each error but want of memory comes for one cause alone: see `AuditRefusal`.
+pub fn audit_log(
+    alloc: Global,
+    setup: &Setup,
+    limits: &[Option<u64>],
+    schedule: &Schedule,
+    log: &[u8],
+) -> Result<(), AuditRefusal>
+    requires classes { AreClasses setup.now.classes }
+    requires some { 0 < length setup.now.kinds }
+    requires few { length setup.now.kinds ≤ 64 }
+    requires ports { schedule.now.ports ≡ length setup.now.kinds }
+    requires limits { length limits.now ≡ length setup.now.kinds }
+    requires traffic { IsTraffic (length setup.now.kinds) (length setup.now.classes) schedule.now.came }
+    requires short { IsShort schedule.now.came }
+    requires ranked { IsOk (whole_limited_run limits.now (machines_of setup.now) schedule.now.came
+        (empty_limited (length setup.now.kinds) (openings_of setup.now))) }
+    ensures yes { OnOk result (IsYes setup.now limits.now schedule.now.came log.now) }
+    ensures no { IfErr result (IsNo setup.now limits.now schedule.now.came log.now) }
+{
+    let ranks = Discipline::all(alloc, setup)?;
+    let ports = ranks.len() as u16;
+    let lines = read_log(alloc, log, ports)?;
+    let from_inputs = rooms_from(alloc, schedule, ports)?;
+    let to_outputs = rooms_to(alloc, schedule, ports)?;
+    let mut note = Room::new(alloc, lines.len() as u64 + 2 * ports as u64)?;
+    let mut replay = Replay::new(
+        alloc,
+        ranks,
+        limits,
+        from_inputs.as_slice(),
+        to_outputs.as_slice(),
+    )?;
+    replay_run(&mut replay, schedule, lines.as_slice(), &mut note)
+}
+
+// Whether no cell arrives any more and none waits.
+fn is_over<R: Rank>(replay: &Replay<R>, schedule: &Schedule, slot: Slot) -> bool
+    ensures { IsTrue result ↔ ((end_of schedule.now.came ≤ slot) × IsEmptyFabric replay.now.fabric.state) }
+{
+    schedule.end() <= slot && replay.empty()
+}
+
+// The slot up to which no cell arrives and of which there is no line: the lesser of those of the next arrival and of
+// the next line, or this one where no cell arrives any more.
+fn still_until(schedule: &Schedule, lines: &[Transfer], slot: Slot) -> Slot
+    requires least { FirstIsLeast lines.now }
+    requires none_before { NoneBefore slot 1 lines.now }
+    ensures { IsStill schedule.now.came lines.now slot result }
+{
+    let next = quiet_until(schedule, slot);
+    match lines.first() {
+        Some(line) => next.min(line.slot),
+        None => next,
+    }
+}
+
+// Where no cell waits, the slots up to the next arrival or line are skipped: the fabric rests. The answer is the slot
+// that comes then.
+fn skip<R: Rank>(
+    replay: &mut Replay<R>,
+    schedule: &Schedule,
+    lines: &[Transfer],
+    slot: Slot,
+) -> Slot
+    requires in_step { IsInStep (map R.machine replay.old.fixed) slot replay.old }
+    requires in_order { AreInOrder (ports_in replay.old) lines.now }
+    requires none_before { NoneBefore slot 1 lines.now }
+    ensures still { IsStill schedule.now.came lines.now slot result }
+    ensures rested { HasRested (map R.machine replay.old.fixed) slot result replay.old replay.new }
+{
+    if !replay.empty() {
+        return slot;
+    }
+    let next = still_until(schedule, lines, slot);
+    if next == slot {
+        return slot;
+    }
+    replay.rest(slot, next);
+    next
+}
+
+// What the lines that are left at the end of the run come to. The first of them is of a slot that the run does not
+// reach.
+fn left_over(lines: &[Transfer], rest: &[Transfer]) -> Result<(), AuditRefusal>
+    requires { length rest.now ≤ length lines.now }
+    ensures none { OnOk result (rest.now ≡ []) }
+    ensures some { IfErr result (λ refusal. (refusal ≡ Left (length lines.now - length rest.now + 1)) × (0 < length rest.now)) }
+{
+    if rest.is_empty() {
+        Ok(())
+    } else {
+        Err(AuditRefusal::Left {
+            line: (lines.len() - rest.len()) as u64 + 1,
+        })
+    }
+}
+
+// Replays the lines over all cells that arrive. The error is the first fault of a phase, or else the first line that is
+// left at the end of the run.
+fn replay_run<R: Rank>(
+    replay: &mut Replay<R>,
+    schedule: &Schedule,
+    lines: &[Transfer],
+    note: &mut Room<Transfer>,
+) -> Result<(), AuditRefusal>
+    requires { IsReady (map R.machine replay.old.fixed) schedule.now.came lines.now replay.old note.old }
+    ensures { RunEnds (map R.machine replay.old.fixed) schedule.now.came lines.now replay.old result }
+{
+    let mut near = Nearby::nowhere();
+    let mut slot = 0;
+    let mut rest = lines;
+    'slots: while !is_over(replay, schedule, slot) {
+        slot = skip(replay, schedule, rest, slot);
+        let arrivals = schedule.arrivals_near(slot, &mut near);
+        rest = match replay.slot(slot, &arrivals, rest, note) {
+            Ok(rest) => rest,
+            Err(fault) => return Err(AuditRefusal::of_slot(slot, fault)),
+        };
+        slot += 1;
+    }
+    left_over(lines, rest)
+}
