@@ -39,6 +39,8 @@ pub enum Status {
     WriteFault = 6,
     /// There was no memory for the work.
     NoMemory = 7,
+    /// An audit says no.
+    AuditNo = 8,
 }
 
 impl Status {
