@@ -11,17 +11,15 @@ use Rattle.cq_cells.specs.Traffic.{IsTraffic}
 use Rattle.cq_base.specs.declared.cell.Cell.{Cell}
 use Rattle.cq_base.specs.declared.cell.TagFault.{TagFault}
 use Rattle.cq_rank.specs.Machine.{Machine}
-use Rattle.cq_ideal.proofs.LimitedEnds.{limited_found_end}
 use Rattle.cq_ideal.specs.Admission.{Admission, Marked, NoLimits, admitted_in}
 use Rattle.cq_ideal.specs.Ending.{first_slots, slots_of}
 use Rattle.cq_ideal.specs.IdealRun.{empty_ideal}
 use Rattle.cq_ideal.specs.IdealSlot.{IdealState}
-use Rattle.cq_ideal.specs.LimitedEnding.{departures_limited, whole_limited_run}
-use Rattle.cq_ideal.specs.LimitedIdeal.{LimitedRan, empty_limited, limited_run}
+use Rattle.cq_ideal.specs.LimitedIdeal.{LimitedRan}
 use Rattle.cq_ideal.specs.Ranking.{AreForPorts}
 use Rattle.cq_laws.proofs.EndsTogether.{slots_of_figures}
 use Rattle.cq_laws.proofs.InputBest.{stable_limited_run, stable_run, stable_slot}
-use Rattle.cq_laws.proofs.LimitedEnds.{limited_ends, one_limited_whole}
+use Rattle.cq_laws.proofs.LimitedEnds.{one_limited_whole}
 use Rattle.cq_laws.proofs.LimitedSlots.{admission_for_ports}
 use Rattle.cq_laws.proofs.OneSlot.{after_sent, arrived, ports_kept, same_slot}
 use Rattle.cq_laws.proofs.Parted.{reach, run_of_whole}
@@ -33,7 +31,6 @@ use Rattle.cq_laws.specs.Fabric.{Fabric, IsEmptyFabric, empty_fabric}
 use Rattle.cq_laws.specs.FabricRun.{FabricRun}
 use Rattle.cq_laws.specs.FabricSlot.{SlotRecord}
 use Rattle.cq_laws.specs.Holding.{fabric_held}
-use Rattle.cq_laws.specs.LimitedAgreement.{LimitedEndsAlike}
 use Rattle.cq_laws.specs.LimitedFabric.{LimitedFabricRun, LimitedFabricSlot, LimitedRecord, LimitedWholeRun, admissions_in, empty_limited_fabric, slots_in}
 use Rattle.cq_laws.specs.Measures.{figures_of}
 use Rattle.cq_laws.specs.Records.{gone_in}
@@ -44,6 +41,7 @@ use Rattle.cq_route.specs.declared.tables.Tables.{Tables}
 use Rattle.cq_scfq.specs.Disciplines.{machines_of, openings_of}
 use Rattle.cq_simulate.proofs.Departed.{last_departs_without_limits, slots_are}
 use Rattle.cq_simulate.proofs.OnceASlot.{once_a_slot}
+use Rattle.cq_simulate.proofs.StableRuns.{stable_sends, stable_slots, whole_ran}
 use Rattle.cq_simulate.specs.FabricRuns.{AlwaysHasSlack, AreInputBest, IsBestFor, IsFabricRun, IsKeptOf, SendsSlotBySlot, departures_in_run}
 use Rattle.cq_simulate.specs.IdealRuns.{ideal_departures, ran_ideal, slots_ran}
 use Rattle.cq_simulate.specs.declared.fabric_run.FabricRun as kept
@@ -79,7 +77,7 @@ module _ (limits : List (Option ℕ)) (ms : List Machine) where
     same_choices (slot + 1) traffic x.0 y.0 g g' rs x.2 y.2,
   )
 
-  stable_whole : (came : List Arrival) (start g : Marked Fabric) (rs : List LimitedRecord) →
+  pub stable_whole : (came : List Arrival) (start g : Marked Fabric) (rs : List LimitedRecord) →
       LimitedWholeRun IsInputBest limits ms came start rs g → LimitedWholeRun IsStable limits ms came start rs g
   stable_whole came start g rs w =
       record {
@@ -186,26 +184,12 @@ module _ (t : Tables) (came : List Arrival) where
         (admitted_fit t.limits ms (ports_of t.setup) (classes_of t.setup) 0 (first_slots came (length rs)) start is.end
         rs (traffic_fits (length rs) traffic) (runs rs is))
 
-    -- the run of the ideal switch ends with that of the fabric
-    alike : LimitedEndsAlike t.limits ms came (empty_limited (ports_of t.setup) (openings_of t.setup)) rs is.end
-    alike =
-        limited_ends t.limits ms (ports_of t.setup) (classes_of t.setup) (openings_of t.setup) came rs is.end
-        (traffic_fits (length rs) traffic) (stable_whole t.limits ms came start is.end rs is.runs)
+    -- with stable matchings it is one too
+    stable : LimitedWholeRun IsStable t.limits ms came start rs is.end
+    stable = stable_whole t.limits ms came start is.end rs is.runs
 
     pub as_many_slots : slots_ran t came ≡ length rs
-    as_many_slots =
-        limited_found_end t.limits ms (ports_of t.setup) (openings_of t.setup) came (length rs) alike.after alike.ends
-
-    -- what the ideal switch did
-    abbrev told : LimitedRan
-    told = record { admissions = admissions_in rs; gone = gone_in (slots_in rs); after = alike.after }
-
-    whole_ran : whole_limited_run t.limits ms came (empty_limited (ports_of t.setup) (openings_of t.setup)) ≡ Ok told
-    unfolding whole_limited_run
-    whole_ran =
-        ap (λ (n : ℕ). limited_run t.limits ms 0 (first_slots came n) (empty_limited (ports_of t.setup)
-        (openings_of t.setup))) as_many_slots
-        ∙ alike.ran
+    as_many_slots = stable_slots t came rs is.end traffic stable
 
     pub best_in_each : AreInputBest rs
     best_in_each =
@@ -219,11 +203,10 @@ module _ (t : Tables) (came : List Arrival) where
     slot_by_slot =
         let P : Result LimitedRan TagFault → Type 0 =
         λ r. IsOkAnd r (λ ideal. (gone_in (slots_in rs) ≡ ideal.gone) × (admissions_in rs ≡ ideal.admissions)) in
-        subst P (sym whole_ran) (refl, refl)
+        subst P (sym (whole_ran t came rs is.end traffic stable)) (refl, refl)
 
     pub sends_as_ideal : ideal_departures t came ≡ Ok (departures_in_run rs)
-    unfolding ideal_departures ran_ideal
-    sends_as_ideal = ap departures_limited whole_ran
+    sends_as_ideal = stable_sends t came rs is.end traffic stable
 
     pub always_slack : AlwaysHasSlack rs
     always_slack =

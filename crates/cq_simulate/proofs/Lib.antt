@@ -1,5 +1,6 @@
 pub mod Departed
 pub mod FabricCounts
+pub mod StableRuns
 pub mod FabricLaws
 pub mod FabricOpening
 pub mod FabricRunning
