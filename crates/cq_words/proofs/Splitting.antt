@@ -12,7 +12,7 @@ use Rattle.clap.specs.Takes.{default_passes, is_valid, level_passes, settle_pass
 use Rattle.cq_words.specs.Words.{command_for, is_value, numbered, with_config}
 use Rattle.cq_words.specs.Line.{captures_in, command_found, line, numbers_in, value_rule}
 use Rattle.cq_words.specs.declared.command.Command.{Command}
-use Rattle.cq_words.specs.declared.command.Command.TheVariants.{Check, Ideal, Pass, Run}
+use Rattle.cq_words.specs.declared.command.Command.TheVariants.{Audit, Check, Ideal, Pass, Run}
 use Rattle.cq_words.proofs.Plain.{at, value_taken, value_walked}
 
 -- the value of a place, as `clap` fills it in
@@ -91,6 +91,10 @@ ideal_split v is = config_split (codes "ideal") v is refl refl
 run_split : (v : Text) → is_value v ≡ true → IsSplit (codes "run" ∷ v ∷ [])
 unfolding walked walk_passes
 run_split v is = config_split (codes "run") v is refl refl
+
+audit_split : (v : Text) → is_value v ≡ true → IsSplit (codes "audit" ∷ v ∷ [])
+unfolding walked walk_passes
+audit_split v is = config_split (codes "audit") v is refl refl
 
 -- ---- two values
 
@@ -185,25 +189,27 @@ soak_split v u t iv iu it =
 is_text : (word text : Text) → bytes_eq word text ≡ true → word ≡ text
 is_text word text e = (bytes_eq-Decides word text).0 e
 
-config_tests : (x y z : Command) (a b c d : Bool)
-    → is_some (if a && true then (if b then Some x else if c then Some y else if d then Some z else None) else None) ≡ true
-    → (a ≡ true) × ((b ≡ true) ⊎ ((c ≡ true) ⊎ (d ≡ true)))
-config_tests x y z true true c d h = (refl, inl refl)
-config_tests x y z true false true d h = (refl, inr (inl refl))
-config_tests x y z true false false true h = (refl, inr (inr refl))
-config_tests x y z true false false false h = let bad : false ≡ true = h in cc
-config_tests x y z false b c d h = let bad : false ≡ true = h in cc
+config_tests : (x y z u : Command) (a b c d e : Bool)
+    → is_some (if a && true then (if b then Some x else if c then Some y else if d then Some z else if e then Some u else None) else None) ≡ true
+    → (a ≡ true) × ((b ≡ true) ⊎ ((c ≡ true) ⊎ ((d ≡ true) ⊎ (e ≡ true))))
+config_tests x y z u true true c d e h = (refl, inl refl)
+config_tests x y z u true false true d e h = (refl, inr (inl refl))
+config_tests x y z u true false false true e h = (refl, inr (inr (inl refl)))
+config_tests x y z u true false false false true h = (refl, inr (inr (inr refl)))
+config_tests x y z u true false false false false h = let bad : false ≡ true = h in cc
+config_tests x y z u false b c d e h = let bad : false ≡ true = h in cc
 
 config_case : (word v : Text) → is_value v ≡ true
-    → (bytes_eq word (codes "check") ≡ true) ⊎ ((bytes_eq word (codes "ideal") ≡ true) ⊎ (bytes_eq word (codes "run") ≡ true))
+    → (bytes_eq word (codes "check") ≡ true) ⊎ ((bytes_eq word (codes "ideal") ≡ true) ⊎ ((bytes_eq word (codes "run") ≡ true) ⊎ (bytes_eq word (codes "audit") ≡ true)))
     → IsSplit (word ∷ v ∷ [])
 config_case word v is (inl e) = subst (λ (w : Text). IsSplit (w ∷ v ∷ [])) (sym (is_text word (codes "check") e)) (check_split v is)
 config_case word v is (inr (inl e)) = subst (λ (w : Text). IsSplit (w ∷ v ∷ [])) (sym (is_text word (codes "ideal") e)) (ideal_split v is)
-config_case word v is (inr (inr e)) = subst (λ (w : Text). IsSplit (w ∷ v ∷ [])) (sym (is_text word (codes "run") e)) (run_split v is)
+config_case word v is (inr (inr (inl e))) = subst (λ (w : Text). IsSplit (w ∷ v ∷ [])) (sym (is_text word (codes "run") e)) (run_split v is)
+config_case word v is (inr (inr (inr e))) = subst (λ (w : Text). IsSplit (w ∷ v ∷ [])) (sym (is_text word (codes "audit") e)) (audit_split v is)
 
 config_words : (word v : Text) → is_some (command_for (word ∷ v ∷ [])) ≡ true → IsSplit (word ∷ v ∷ [])
 config_words word v h =
-    let tests = config_tests (Check v) (Ideal v) (Run v) (is_value v) (bytes_eq word (codes "check")) (bytes_eq word (codes "ideal")) (bytes_eq word (codes "run")) h in
+    let tests = config_tests (Check v) (Ideal v) (Run v) (Audit v) (is_value v) (bytes_eq word (codes "check")) (bytes_eq word (codes "ideal")) (bytes_eq word (codes "run")) (bytes_eq word (codes "audit")) h in
     config_case word v tests.0 tests.1
 
 pass_tests : (x : Command) (a b c : Bool) → is_some (if a && (b && true) then (if c then Some x else None) else None) ≡ true

@@ -26,7 +26,7 @@ bare_line = on_top (λ top. record top {
 abbrev pub pass_form : App
 pass_form = with_rule (with_rule (new_app (codes "pass")) (value_rule (codes "IN"))) (value_rule (codes "OUT"))
 
--- `check CONFIG`, `ideal CONFIG` or `run CONFIG`
+-- `check CONFIG`, `ideal CONFIG`, `run CONFIG` or `audit CONFIG`
 abbrev pub config_form : List ℕ → App
 config_form word = with_rule (new_app word) (value_rule (codes "CONFIG"))
 
@@ -41,7 +41,9 @@ with_form line form = with_subcommand line form.top
 
 -- the whole line: one subcommand a form
 abbrev pub line : App
-line = with_form (with_form (with_form (with_form (with_form bare_line pass_form) (config_form (codes "check"))) (config_form (codes "ideal"))) (config_form (codes "run"))) soak_form
+line =
+    with_form (with_form (with_form (with_form (with_form (with_form bare_line pass_form) (config_form (codes "check")))
+    (config_form (codes "ideal"))) (config_form (codes "run"))) soak_form) (config_form (codes "audit"))
 
 -- the command of `clap` is this form, and no value of it stands for other forms
 abbrev pub IsForm : App → Parser → Type 0

@@ -4,19 +4,20 @@ use Rattle.std.specs.List.{list_all}
 use Rattle.std.specs.Str.{bytes_eq}
 use Rattle.cq_words.specs.Numbers.{number_from}
 use Rattle.cq_words.specs.declared.command.Command.{Command}
-use Rattle.cq_words.specs.declared.command.Command.TheVariants.{Pass, Check, Ideal, Run, Soak}
+use Rattle.cq_words.specs.declared.command.Command.TheVariants.{Pass, Check, Ideal, Run, Soak, Audit}
 
 -- a word that is a value: it is not empty and does not begin with a dash (byte 45)
 abbrev pub is_value : List ℕ → Bool
 is_value [] = false
 is_value (byte ∷ rest) = not (byte == 45)
 
--- `check CONFIG`, `ideal CONFIG` or `run CONFIG`
+-- `check CONFIG`, `ideal CONFIG`, `run CONFIG` or `audit CONFIG`
 abbrev pub with_config : List ℕ → List ℕ → Option Command
 with_config word config =
     if bytes_eq word (codes "check") then Some (Check config)
     else if bytes_eq word (codes "ideal") then Some (Ideal config)
     else if bytes_eq word (codes "run") then Some (Run config)
+    else if bytes_eq word (codes "audit") then Some (Audit config)
     else None
 
 -- `pass IN OUT`

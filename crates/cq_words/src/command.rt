@@ -18,6 +18,8 @@ pub enum Command {
     Run { config: Name },
     /// Runs the fabric with made traffic from a seed: 1 to 64 ports, and 1 to 20,000 slots.
     Soak { seed: u64, ports: u16, slots: u32 },
+    /// Checks the trace and the log that a configuration names, whoever wrote them.
+    Audit { config: Name },
 }
 
 // The command of the texts of three numbers, where each is in its range.

@@ -21,7 +21,7 @@ pub fn is_command(words: &[String]) -> bool
 fn is_config_form(word: &str, config: &str) -> bool
     ensures { result ≡ is_some (command_for (word.now ∷ config.now ∷ [])) }
 {
-    is_value(config) && matches!(word, "check" | "ideal" | "run")
+    is_value(config) && matches!(word, "check" | "ideal" | "run" | "audit")
 }
 
 fn is_pass_form(word: &str, from: &str, to: &str) -> bool

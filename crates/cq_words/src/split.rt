@@ -57,7 +57,8 @@ fn line<'a>(alloc: Global) -> Result<Command<'a>, AllocError>
     let line = with_subcommand(line, config(alloc, "check")?)?;
     let line = with_subcommand(line, config(alloc, "ideal")?)?;
     let line = with_subcommand(line, config(alloc, "run")?)?;
-    with_subcommand(line, soak(alloc)?)
+    let line = with_subcommand(line, soak(alloc)?)?;
+    with_subcommand(line, config(alloc, "audit")?)
 }
 
 fn pass<'a>(alloc: Global) -> Result<Command<'a>, AllocError>

@@ -31,16 +31,21 @@ fn said_of(alloc: Global, line: &str) -> Result<String, Fail> {
         Some(Command::Soak { seed, ports, slots }) => {
             Ok(format!(in alloc; "seed {seed}, {ports} ports, {slots} slots")?)
         }
+        Some(Command::Audit { config }) => {
+            let config = config.text();
+            Ok(format!(in alloc; "audits {config}")?)
+        }
     }
 }
 
 #[test]
 fn words_of_a_form_are_its_command(rt: HostRuntime) -> Result<(), Fail> {
-    let cases: [(&str, &str); 11] = [
+    let cases: [(&str, &str); 12] = [
         ("pass a b", "from a to b"),
         ("pass a a", "from a to a"),
         ("check c.toml", "checks c.toml"),
         ("ideal c.toml", "ideal of c.toml"),
+        ("audit c.toml", "audits c.toml"),
         ("run c.toml", "runs c.toml"),
         ("run help", "runs help"),
         ("run =", "runs ="),

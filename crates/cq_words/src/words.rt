@@ -53,6 +53,7 @@ fn with_config(alloc: Global, word: &str, values: &ArgMatches) -> Result<Option<
         "check" => Ok(Some(Command::Check { config })),
         "ideal" => Ok(Some(Command::Ideal { config })),
         "run" => Ok(Some(Command::Run { config })),
+        "audit" => Ok(Some(Command::Audit { config })),
         _ => Ok(None),
     }
 }

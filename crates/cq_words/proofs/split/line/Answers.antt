@@ -1,7 +1,7 @@
 use Rattle.std.proofs.Common.{◌≡◌, ◌∙◌, ap₂, codes}
 use Rattle.std.proofs.lemmas.Result.{IfOk-weaker}
 use Rattle.clap.specs.Words.{app_of}
-use Rattle.cq_words.specs.Line.{bare_line, config_form, pass_form, with_form}
+use Rattle.cq_words.specs.Line.{bare_line, config_form, pass_form, soak_form, with_form}
 use Rattle.cq_words.proofs.Bare.{bare_is}
 use Rattle.cq_words.proofs.split.line.Goals as goal
 
@@ -18,4 +18,6 @@ returns c =
     c.in_ok-line-3.ensures ∙ ap₂ with_form two c.in_ok-config-2.ensures.0 in
     let four : app_of c.in_ok-line-4.line ≡ with_form (with_form (with_form (with_form bare_line pass_form) (config_form (codes "check"))) (config_form (codes "ideal"))) (config_form (codes "run")) =
     c.in_ok-line-4.ensures ∙ ap₂ with_form three c.in_ok-config-3.ensures.0 in
-    IfOk-weaker c.with_subcommand-5.result _ _ (λ r h. h ∙ ap₂ with_form four c.in_ok-soak.ensures.0) c.with_subcommand-5.ensures
+    let five : app_of c.in_ok-line-5.line ≡ with_form (with_form (with_form (with_form (with_form bare_line pass_form) (config_form (codes "check"))) (config_form (codes "ideal"))) (config_form (codes "run"))) soak_form =
+    c.in_ok-line-5.ensures ∙ ap₂ with_form four c.in_ok-soak.ensures.0 in
+    IfOk-weaker c.with_subcommand-6.result _ _ (λ r h. h ∙ ap₂ with_form five c.in_ok-config-4.ensures.0) c.with_subcommand-6.ensures
