@@ -47,7 +47,7 @@ NEVER = 2**64 - 1  # the number of no growth
 QUIET = 16  # so many numbers in turn that refuse nothing end a round
 NO_WORDS = 10  # the status of a call whose words could not be kept
 USAGE = (1, b"usage: cq_switch pass IN OUT | check CONFIG | ideal CONFIG | run CONFIG | soak SEED PORTS SLOTS"
-         b" | stream CONFIG\n")
+         b" | audit CONFIG | stream CONFIG\n")
 BEFORE = b"what stood here before\n"
 
 # What is asked for is told through a file in memory, since the program may end in any way.

@@ -7,27 +7,27 @@ use Rattle.cq_base.specs.declared.status.Status.{Status}
 use Rattle.cq_base.specs.declared.status.Status.TheVariants as status
 use Rattle.cq_words.specs.declared.command.Command.{Command}
 use Rattle.cq_run.specs.declared.refusal.Refusal.{Refusal}
-use Rattle.cq_run.specs.declared.refusal.Refusal.TheVariants.{Words, Missing, Configuration, Capture, Tag}
+use Rattle.cq_run.specs.declared.refusal.Refusal.TheVariants.{Words, Missing, Configuration, Capture, Tag, Audit}
 use Rattle.cq_run.specs.declared.stop.Halt.TheVariants.{Refused, Unread, NoMemory}
 use Rattle.cq_run.specs.declared.stop.Unwritten.TheVariants.{File, Output}
 use Rattle.cq_run.specs.declared.stop.Stop.{Stop}
 use Rattle.cq_run.specs.declared.stop.Stop.TheVariants.{Halted, Cut}
 use Rattle.cq_run.specs.Headline.{Emulates}
 use Rattle.cq_run.specs.Plan.{Plan}
-use Rattle.cq_run.specs.Aim.{Aim, Meets}
+use Rattle.cq_run.specs.Aim.{Aim, Auditing, Crossing, Denies, Exactly, Meets, Reporting}
 use Rattle.cq_run.specs.Pace.{Pace, Uncounted, AnyName}
-use Rattle.cq_run.specs.Planning.{known_to, known_by}
+use Rattle.cq_run.specs.Planning.{CommandHalts, IsDenial, known_to, known_by}
 use Rattle.cq_run.specs.Reader.{Reader}
 use Rattle.cq_run.specs.Refusals.{meaning_of}
 use Rattle.cq_run.specs.Judging.{IsRefused}
 use Rattle.cq_run.specs.Verdict.{judged, judged_or_words, MayRead}
 use Rattle.cq_run.specs.World.{World, IsUntouched}
 use Rattle.cq_run.specs.Writing.{IsDone, IsCutAtFile}
-use Rattle.cq_run.specs.Ending.{WordsEnd, CommandEnds, status_of, status_by}
+use Rattle.cq_run.specs.Ending.{CallsFor, WordsEnd, CommandEnds, status_of}
 use Rattle.cq_run.specs.StatusCauses.{StatusCauses}
 use Rattle.cq_run.proofs.Never.{never_words}
 use Rattle.cq_run.proofs.Counted.{counts_same, rose_from}
-use Rattle.cq_run.proofs.Planned.{counts_known, rose_known}
+use Rattle.cq_run.proofs.Planned.{counts_known, rose_known, same_faults}
 use Rattle.cq_run.proofs.Told.{told_map, told_any, told_of_match, told_is_some, some_map}
 
 -- the table of refusals
@@ -38,6 +38,7 @@ not_done (Missing name) e = cc
 not_done (Configuration code path) e = cc
 not_done (Capture input fault) e = cc
 not_done (Tag fault) e = cc
+not_done (Audit denial) e = cc
 
 not_cut : (r : Refusal) → (meaning_of r).status ≢ status.WriteFault
 not_cut Words e = cc
@@ -45,6 +46,7 @@ not_cut (Missing name) e = cc
 not_cut (Configuration code path) e = cc
 not_cut (Capture input fault) e = cc
 not_cut (Tag fault) e = cc
+not_cut (Audit denial) e = cc
 
 missed_is_told : (r : Refusal) → (meaning_of r).status ≡ status.ReadFault → ¬ IsTrue (meaning_of r).untold
 missed_is_told Words e u = cc
@@ -52,6 +54,7 @@ missed_is_told (Missing name) e u = cc
 missed_is_told (Configuration code path) e u = cc
 missed_is_told (Capture input fault) e u = cc
 missed_is_told (Tag fault) e u = cc
+missed_is_told (Audit denial) e u = cc
 
 -- only the refusal of an input's capture is told before a fault of a name that is read behind it
 outruns_is : (r : Refusal) → IsTrue (meaning_of r).outruns → (meaning_of r).status ≡ status.Capture
@@ -60,6 +63,7 @@ outruns_is (Missing name) h = absurd (let no : ⊥ = cc h in no)
 outruns_is (Configuration code path) h = absurd (let no : ⊥ = cc h in no)
 outruns_is (Capture input fault) h = refl
 outruns_is (Tag fault) h = absurd (let no : ⊥ = cc h in no)
+outruns_is (Audit denial) h = absurd (let no : ⊥ = cc h in no)
 
 -- the statuses of answers that may come before such a fault
 abbrev Outruns : Status → Type 0
@@ -76,9 +80,17 @@ aimed : (v : Result Aim Refusal) (P Q : Aim → Type 0) → ((aim : Aim) → P a
 aimed (Ok aim) P Q f h = f aim h
 aimed (Err e) P Q f h = absurd h
 
-aimed_status : (v : Result Aim Refusal) (P : Aim → Type 0) → IsOkAnd v P → status_by v ≡ status.Done
-aimed_status (Ok aim) P h = refl
+aimed_status : (v : Result Aim Refusal) (P : Aim → Type 0) → IsOkAnd v P → CallsFor v status.Done
+aimed_status (Ok aim) P h = inl refl
 aimed_status (Err e) P h = absurd h
+
+-- a verdict calls for the status of its refusal, and of what denies its aim
+refused_status : (v : Result Aim Refusal) (r : Refusal) → v ≡ Err r → CallsFor v (meaning_of r).status
+refused_status v r e = let P : Result Aim Refusal → Type 0 = λ x. CallsFor x (meaning_of r).status in subst P (sym e) refl
+
+denied_status : (v : Result Aim Refusal) (r : Refusal) → IsOkAnd v (λ aim. Denies aim r) → CallsFor v (meaning_of r).status
+denied_status (Ok aim) r h = inr (r, h, refl)
+denied_status (Err e) r h = absurd h
 
 aimed_ok : (v : Result Aim Refusal) (P : Aim → Type 0) → IsOkAnd v P → IsOk v
 aimed_ok (Ok aim) P h = refl
@@ -97,21 +109,37 @@ memory_causes p v known old new c h = record {
   complete = λ f o. told_any known _ (λ m. inr refl);
 }
 
--- a refusal is the verdict where contents are known
-refusal_causes : (p : Pace) (v : Contents → Result Aim Refusal) (known : Option Contents) (r : Refusal) (old new : World) → MatchOption known (IsTrue (meaning_of r).untold) (λ m. v m ≡ Err r)
+-- What is said of the verdict where contents are known calls for the status of a refusal: it is the verdict, or denies what
+-- the verdict aims at.
+halted_causes : (p : Pace) (v : Contents → Result Aim Refusal) (known : Option Contents) (r : Refusal) (old new : World) (P : Contents → Type 0)
+    → ((m : Contents) → P m → CallsFor (v m) (meaning_of r).status) → MatchOption known (IsTrue (meaning_of r).untold) P
     → Uncounted p (Outruns (meaning_of r).status) old.files.faults new.files.faults → IsUntouched old new → StatusCauses p v known old new (meaning_of r).status
-refusal_causes p v known r old new h c u =
-    let by : IfSome known (λ m. v m ≡ Err r) = told_of_match known _ _ h in
+halted_causes p v known r old new P calls h c u =
+    let by : IfSome known P = told_of_match known (IsTrue (meaning_of r).untold) P h in
     record {
-      by_verdict = λ _ _ _. told_map known _ _ (λ m e. ap status_by e) by;
+      by_verdict = λ _ _ _. told_map known P (λ m. CallsFor (v m) (meaning_of r).status) calls by;
       done = λ e. absurd (not_done r e);
-      read = λ e. inl (some_map known _ _ (λ m f. ap status_by f ∙ e) (told_is_some known _ _ (missed_is_told r e) h));
+      read = λ e. inl (some_map known P (λ m. CallsFor (v m) status.ReadFault)
+          (λ m q. let Q : Status → Type 0 = λ s. CallsFor (v m) s in subst Q e (calls m q))
+          (told_is_some known (IsTrue (meaning_of r).untold) P (missed_is_told r e) h));
       write = λ e. absurd (not_cut r e);
       write_planned = λ e. absurd (not_cut r e);
       untouched = λ _ _. u;
       uncounted = λ _ _. (c, ap (λ s. s.faults) u.out);
-      complete = λ _ _. told_map known _ _ (λ m e. inl (ap status_by e)) by;
+      complete = λ _ _. told_map known P (λ m. CallsFor (v m) (meaning_of r).status ⊎ ((meaning_of r).status ≡ status.NoMemory)) (λ m q. inl (calls m q)) by;
     }
+
+-- a refusal is the verdict
+refusal_causes : (p : Pace) (v : Contents → Result Aim Refusal) (known : Option Contents) (r : Refusal) (old new : World) → MatchOption known (IsTrue (meaning_of r).untold) (λ m. v m ≡ Err r)
+    → Uncounted p (Outruns (meaning_of r).status) old.files.faults new.files.faults → IsUntouched old new → StatusCauses p v known old new (meaning_of r).status
+refusal_causes p v known r old new h c u =
+    halted_causes p v known r old new (λ m. v m ≡ Err r) (λ m e. refused_status (v m) r e) h c u
+
+-- a denial denies it
+denial_causes : (p : Pace) (v : Contents → Result Aim Refusal) (known : Option Contents) (r : Refusal) (old new : World) → IsDenial v known r
+    → Uncounted p (Outruns (meaning_of r).status) old.files.faults new.files.faults → IsUntouched old new → StatusCauses p v known old new (meaning_of r).status
+denial_causes p v known r old new h c u =
+    halted_causes p v known r old new (λ m. IsOkAnd (v m) (λ aim. Denies aim r)) (λ m d. denied_status (v m) r d) h c u
 
 -- a plan that was cut short is aimed at, and the cut was counted
 cut_causes : (p : Pace) (v : Contents → Result Aim Refusal) (known : Option Contents) (plan : Plan) (old new : World) → IfSome known (λ m. IsOkAnd (v m) (λ aim. Meets aim plan)) → Rose old.files.faults new.files.faults ⊎ Rose old.out.faults new.out.faults → StatusCauses p v known old new status.WriteFault
@@ -126,6 +154,32 @@ cut_causes p v known plan old new by rose = record {
   complete = λ f o. absurd (elim rose as (λ _. ⊥) [ inl r ↦ f r | inr r ↦ o r ]);
 }
 
+-- each way to halt, by whether judging ended it or an aim was denied
+module _ (p : Pace) (a : Reader) (R : List ℕ → Type 0) (command : Command) (old new : World) where
+  abbrev Asked : List ℕ → Type 0
+  Asked name = MayRead command name × R name
+
+  refused_at : (r : Refusal) → IsUntouched old new
+      → CommandHalts p (judged a command) Asked (known_to command old.files) (known_to command new.files) (Refused r)
+      → StatusCauses p (judged a command) (known_to command old.files).told old new (meaning_of r).status
+  refused_at r u (inl h) =
+      let U : Type 0 = IsTrue (meaning_of r).outruns × AnyName Asked in
+      refusal_causes p (judged a command) (known_to command old.files).told r old new h.0
+      (counts_known p U (Outruns (meaning_of r).status) command old.files new.files (λ w. inl (outruns_is r w.0)) h.1) u
+  refused_at r u (inr h) =
+      denial_causes p (judged a command) (known_to command old.files).told r old new h.0
+      (counts_same p (Outruns (meaning_of r).status) old.files.faults new.files.faults (same_faults command old.files new.files h.1)) u
+
+  unread_rose : (name : List ℕ) → CommandHalts p (judged a command) Asked (known_to command old.files) (known_to command new.files) (Unread name)
+      → Rose old.files.faults new.files.faults
+  unread_rose name (inl h) = rose_known command old.files new.files h.0
+  unread_rose name (inr h) = absurd h
+
+  memory_counts : CommandHalts p (judged a command) Asked (known_to command old.files) (known_to command new.files) NoMemory
+      → Uncounted p (Outruns status.NoMemory) old.files.faults new.files.faults
+  memory_counts (inl h) = counts_known p (AnyName Asked) (Outruns status.NoMemory) command old.files new.files (λ u. inr refl) h
+  memory_counts (inr h) = absurd h
+
 command_causes : (p : Pace) (a : Reader) (R W : List ℕ → Type 0) (T : Type 0) (command : Command) (old new : World) (end : Result (Unit {0}) Stop) → CommandEnds p a R W T command old new end → StatusCauses p (judged a command) (known_to command old.files).told old new (status_of end)
 command_causes p a R W T command old new (Ok x) h = record {
   by_verdict = λ _ _ _. told_map (known_to command old.files).told _ _ (λ m e. aimed_status (judged a command m) (λ aim. Meets aim h.0) e) h.1.verdict;
@@ -137,23 +191,21 @@ command_causes p a R W T command old new (Ok x) h = record {
   uncounted = λ _ _. (counts_same p (Outruns status.Done) old.files.faults new.files.faults h.2.files_uncounted, h.2.out_uncounted);
   complete = λ _ _. told_map (known_to command old.files).told _ _ (λ m e. inl (aimed_status (judged a command m) (λ aim. Meets aim h.0) e)) h.1.verdict;
 }
-command_causes p a R W T command old new (Err (Halted (Refused r))) h =
-    let U : Type 0 = IsTrue (meaning_of r).outruns × AnyName (λ name. MayRead command name × R name) in
-    refusal_causes p (judged a command) (known_to command old.files).told r old new h.0.0
-    (counts_known p U (Outruns (meaning_of r).status) command old.files new.files (λ u. inl (outruns_is r u.0)) h.0.1) h.1
-command_causes p a R W T command old new (Err (Halted (Unread name))) h = record {
-  by_verdict = λ r _ _. absurd (r refl);
-  done = λ e. cc;
-  read = λ _. inr (rose_known command old.files new.files h.0.0);
-  write = λ e. cc;
-  write_planned = λ e. cc;
-  untouched = λ _ _. h.1;
-  uncounted = λ r _. absurd (r refl);
-  complete = λ f _. absurd (f (rose_known command old.files new.files h.0.0));
-}
+command_causes p a R W T command old new (Err (Halted (Refused r))) h = refused_at p a R command old new r h.1 h.0
+command_causes p a R W T command old new (Err (Halted (Unread name))) h =
+    let rose = unread_rose p a R command old new name h.0 in
+    record {
+      by_verdict = λ r _ _. absurd (r refl);
+      done = λ e. cc;
+      read = λ _. inr rose;
+      write = λ e. cc;
+      write_planned = λ e. cc;
+      untouched = λ _ _. h.1;
+      uncounted = λ r _. absurd (r refl);
+      complete = λ f _. absurd (f rose);
+    }
 command_causes p a R W T command old new (Err (Halted NoMemory)) h =
-    memory_causes p (judged a command) (known_to command old.files).told old new
-    (counts_known p (AnyName (λ name. MayRead command name × R name)) (Outruns status.NoMemory) command old.files new.files (λ u. inr refl) h.0) h.1
+    memory_causes p (judged a command) (known_to command old.files).told old new (memory_counts p a R command old new h.0) h.1
 command_causes p a R W T command old new (Err (Cut (File name))) h = cut_causes p (judged a command) (known_to command old.files).told h.0 old new h.1.verdict (inl (cut_rose h.0.writes name old.files new.files h.2.0))
 command_causes p a R W T command old new (Err (Cut Output)) h = cut_causes p (judged a command) (known_to command old.files).told h.0 old new h.1.verdict (inr h.2.0.cause)
 
@@ -190,16 +242,40 @@ words_is (Missing name) e = cc
 words_is (Configuration code path) e = cc
 words_is (Capture input fault) e = cc
 words_is (Tag fault) e = cc
+words_is (Audit denial) e = cc
 
 not_refused : (a : Reader) (command : Command) (told : Option Contents) → IsRefused (judged a command) told Words → ⊥
 not_refused a command None h = cc
 not_refused a command (Some m) h = never_words a command m h
 
+-- and no aim is denied so
+never_denied : (aim : Aim) → Denies aim Words → ⊥
+never_denied (Exactly plan) h = h
+never_denied (Crossing tables captures sent) h = h
+never_denied (Reporting tables captures) h = h
+never_denied (Auditing tables captures sent trace log) h = h
+
+never_denied_at : (v : Result Aim Refusal) → IsOkAnd v (λ aim. Denies aim Words) → ⊥
+never_denied_at (Ok aim) h = never_denied aim h
+never_denied_at (Err e) h = h
+
+not_denied : (a : Reader) (command : Command) (told : Option Contents) → IsDenial (judged a command) told Words → ⊥
+not_denied a command None h = cc
+not_denied a command (Some m) h = never_denied_at (judged a command m) h
+
+not_words_at : (p : Pace) (a : Reader) (R : List ℕ → Type 0) (command : Command) (old new : World) (r : Refusal) → r ≡ Words
+    → CommandHalts p (judged a command) R (known_to command old.files) (known_to command new.files) (Refused r) → ⊥
+not_words_at p a R command old new r is (inl h) =
+    let P : Refusal → Type 0 = λ s. IsRefused (judged a command) (known_to command old.files).told s in
+    not_refused a command (known_to command old.files).told (subst P is h.0)
+not_words_at p a R command old new r is (inr h) =
+    let P : Refusal → Type 0 = λ s. IsDenial (judged a command) (known_to command old.files).told s in
+    not_denied a command (known_to command old.files).told (subst P is h.0)
+
 not_words : (p : Pace) (a : Reader) (R W : List ℕ → Type 0) (T : Type 0) (command : Command) (old new : World) (end : Result (Unit {0}) Stop) → CommandEnds p a R W T command old new end → status_of end ≡ status.Words → ⊥
 not_words p a R W T command old new (Ok x) h e = cc
 not_words p a R W T command old new (Err (Halted (Refused r))) h e =
-    let P : Refusal → Type 0 = λ s. IsRefused (judged a command) (known_to command old.files).told s in
-    not_refused a command (known_to command old.files).told (subst P (words_is r e) h.0.0)
+    not_words_at p a (λ name. MayRead command name × R name) command old new r (words_is r e) h.0
 not_words p a R W T command old new (Err (Halted (Unread name))) h e = cc
 not_words p a R W T command old new (Err (Halted NoMemory)) h e = cc
 not_words p a R W T command old new (Err (Cut at)) h e = cc

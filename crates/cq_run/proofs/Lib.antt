@@ -21,3 +21,7 @@ pub mod OnePort
 pub mod AllLeave
 pub mod Behind
 pub mod Streaming
+pub mod Decided
+pub mod Denied
+pub mod Audited
+pub mod TextRead

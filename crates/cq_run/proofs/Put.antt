@@ -3,7 +3,7 @@ use Rattle.std.proofs.Common.{◌≡◌, ◌<◌, ◌≤◌, ℕ, ◌+◌, List,
 use Rattle.std.specs.Prelude.{Option, None, Some, Result, Ok, Err, IsErr}
 use Rattle.std.specs.Io.KnownBytes.{append_known}
 use Rattle.std.specs.List.{flat_map}
-use Rattle.std.proofs.lemmas.List.{take_at, take-append-drop, drop_more}
+use Rattle.std.proofs.lemmas.List.{append-nil, take_at, take-append-drop, drop_more}
 use Rattle.std.proofs.lemmas.Grind.{flat_map-append}
 use Rattle.std.proofs.Math.Seq.{take-append-add}
 use Rattle.cq_space.specs.Causes.{Rose}
@@ -34,6 +34,25 @@ line_of_three a b b' c d d' e f f' p q r = ap (λ ys. a ++ (ys ++ (c ++ (d ++ (e
 pub line_after : (a b b' c text : List ℕ) → b ≡ b' → a ++ (b ++ c) ++ line text ≡ line (a ++ b' ++ c ++ text)
 unfolding line
 line_after a b b' c text e = ap (λ ys. a ++ (ys ++ c) ++ (text ++ 10 ∷ [])) e ∙ simp append_assoc
+
+-- a line of a text and a number, after a text
+pub line_behind : (head a b : List ℕ) → head ++ line (a ++ b) ≡ line (head ++ a ++ b)
+unfolding line
+line_behind head a b = simp append_assoc
+
+-- and of two of each
+pub lines_behind : (head a b c d : List ℕ) → head ++ line (a ++ b ++ c ++ d) ≡ line (head ++ a ++ b ++ c ++ d)
+unfolding line
+lines_behind head a b c d = simp append_assoc
+
+-- a text of two numbers in pieces, behind a head
+pub two_behind : (head a b b' c d d' : List ℕ) → b ≡ b' → d ≡ d' →
+    head ++ (a ++ (b ++ (c ++ (d ++ [])))) ≡ head ++ (a ++ b' ++ c ++ d')
+two_behind head a b b' c d d' e f =
+    ap (λ ys. head ++ (a ++ (ys ++ (c ++ (d ++ []))))) e
+    ∙ ap (λ ys. head ++ (a ++ (b' ++ (c ++ (ys ++ []))))) f
+    ∙ ap (λ ys. head ++ (a ++ (b' ++ (c ++ ys)))) (append-nil d')
+    ∙ simp append_assoc
 
 pub puts_as : {E : Type 0} (a b : List ℕ) (old new : Taken) (r : Result (Unit {0}) E) → a ≡ b → Puts a old new r → Puts b old new r
 puts_as a b old new r e h = let P : List ℕ → Type 0 = λ t. Puts t old new r in subst P e h

@@ -12,8 +12,9 @@ use Rattle.cq_route.specs.declared.tables.PortRow.{PortRow}
 use Rattle.cq_tables.specs.Document.{read_or_refused}
 use Rattle.cq_run.specs.declared.refusal.Refusal.{Refusal}
 use Rattle.cq_run.specs.declared.refusal.Refusal.TheVariants.{Missing}
+use Rattle.cq_run.specs.declared.denial.Denial.{Denial}
 use Rattle.cq_run.specs.Reader.{Reader}
-use Rattle.cq_run.specs.Verdict.{◌>>=◌, named, found_or_missing, tables_in, read_or_refused_for, capture_in, capture_of, packets_at, captures_from}
+use Rattle.cq_run.specs.Verdict.{◌>>=◌, named, found_or_missing, tables_in, read_or_refused_for, capture_in, capture_of, packets_at, captures_from, text_in, text_or_long}
 
 -- without a name the judgement comes to the same, or misses that name
 unfoldable pub Stays : {A : Type 0} → (Contents → Result A Refusal) → Type 0
@@ -54,6 +55,9 @@ tables_stay name = then_stays (λ (m : Contents). named m name) (λ (bytes : Lis
 
 pub capture_stays : (r : Reader) (name : List ℕ) (input limit : ℕ) → Stays (capture_in r name input limit)
 capture_stays r name input limit = then_stays (λ (m : Contents). named m name) (λ (bytes : List ℕ) (m : Contents). capture_of r input limit bytes) (named_stays name) (λ bytes. pure_stays _)
+
+pub text_stays : (long : Denial) (name : List ℕ) → Stays (text_in long name)
+text_stays long name = then_stays (λ (m : Contents). named m name) (λ (bytes : List ℕ) (m : Contents). text_or_long long bytes) (named_stays name) (λ bytes. pure_stays _)
 
 pub packets_stay : (r : Reader) (input limit : ℕ) (read : Option (List ℕ)) → Stays (packets_at r input limit read)
 packets_stay r input limit None = pure_stays _

@@ -8,7 +8,7 @@ use Rattle.std.proofs.lemmas.Bool.{leb-true}
 use Rattle.cq_words.specs.Numbers.{is_numeral, number_from, value_of}
 use Rattle.cq_words.specs.Words.{command_for, form_of, is_value, soak_of, with_captures, with_config, with_numbers}
 use Rattle.cq_words.specs.declared.command.Command.{Command}
-use Rattle.cq_words.specs.declared.command.Command.TheVariants.{Pass, Check, Ideal, Run, Soak}
+use Rattle.cq_words.specs.declared.command.Command.TheVariants.{Pass, Check, Ideal, Run, Soak, Audit}
 use Rattle.cq_run.specs.Planning.{IsWithinRange}
 
 -- a command that there may be
@@ -48,7 +48,8 @@ config_within : (word config : List ℕ) → IsWithin (with_config word config)
 config_within word config =
     either_within (bytes_eq word (codes "check")) _ _ (some_within (Check config) tt)
     (either_within (bytes_eq word (codes "ideal")) _ _ (some_within (Ideal config) tt)
-    (either_within (bytes_eq word (codes "run")) _ _ (some_within (Run config) tt) none_within))
+    (either_within (bytes_eq word (codes "run")) _ _ (some_within (Run config) tt)
+    (either_within (bytes_eq word (codes "audit")) _ _ (some_within (Audit config) tt) none_within)))
 
 captures_within : (word from to : List ℕ) → IsWithin (with_captures word from to)
 captures_within word from to = either_within (bytes_eq word (codes "pass")) _ _ (some_within (Pass from to) tt) none_within

@@ -1,5 +1,5 @@
 -- How a run may end, what it leaves then, and its status.
-use Rattle.std.specs.Prelude.{◌≡◌, ℕ, List, IfSome, MatchOption, Result, Ok, Err, IsOkAnd}
+use Rattle.std.specs.Prelude.{◌≡◌, ◌⊎◌, ℕ, List, IfSome, MatchOption, Result, Ok, Err, IsOkAnd}
 use Rattle.std.specs.List.{AllByRecursion}
 use Rattle.cq_base.specs.declared.status.Status.{Status}
 use Rattle.cq_base.specs.declared.status.Status.TheVariants as status
@@ -13,14 +13,13 @@ use Rattle.cq_run.specs.declared.stop.Stop.{Stop}
 use Rattle.cq_run.specs.declared.stop.Stop.TheVariants.{Halted, Cut}
 use Rattle.cq_words.specs.Words.{command_for}
 use Rattle.cq_run.specs.Plan.{Plan}
-use Rattle.cq_run.specs.Aim.{Aim, Meets}
+use Rattle.cq_run.specs.Aim.{Aim, Denies, Meets}
 use Rattle.cq_run.specs.Headline.{Emulates}
 use Rattle.cq_run.specs.Pace.{Pace}
-use Rattle.cq_run.specs.Planning.{known_to}
+use Rattle.cq_run.specs.Planning.{CommandHalts, known_to}
 use Rattle.cq_run.specs.Reader.{Reader}
 use Rattle.cq_run.specs.Refusals.{meaning_of}
 use Rattle.cq_run.specs.Verdict.{judged, MayRead, MayWrite}
-use Rattle.cq_run.specs.Judging.{Halts}
 use Rattle.cq_run.specs.World.{World, IsUntouched}
 use Rattle.cq_run.specs.Writing.{IsDone, IsCut}
 
@@ -37,7 +36,7 @@ abbrev pub CommandEnds : Pace → Reader → (unread unwritten : List ℕ → Ty
 CommandEnds pace r unread unwritten untaken command old new (Ok x) =
     (plan : Plan) × IsPlanned r command old.files plan × IsDone plan old new
 CommandEnds pace r unread unwritten untaken command old new (Err (Halted halt)) =
-    Halts pace (judged r command) (λ name. MayRead command name × unread name) (known_to command old.files)
+    CommandHalts pace (judged r command) (λ name. MayRead command name × unread name) (known_to command old.files)
     (known_to command new.files) halt
     × IsUntouched old new
 CommandEnds pace r unread unwritten untaken command old new (Err (Cut at)) =
@@ -70,7 +69,8 @@ abbrev pub status_of : Result (Unit {0}) Stop → Status
 status_of (Ok x) = status.Done
 status_of (Err stop) = stop_status stop
 
--- the status that a verdict calls for
-abbrev pub status_by : Result Aim Refusal → Status
-status_by (Ok aim) = status.Done
-status_by (Err refusal) = (meaning_of refusal).status
+-- the statuses that a verdict calls for: that of its refusal; and with an aim that all is done, or that of its denial
+abbrev pub CallsFor : Result Aim Refusal → Status → Type 0
+CallsFor (Ok aim) answer =
+    (answer ≡ status.Done) ⊎ ((refusal : Refusal) × Denies aim refusal × ((meaning_of refusal).status ≡ answer))
+CallsFor (Err refusal) answer = (meaning_of refusal).status ≡ answer

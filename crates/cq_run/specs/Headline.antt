@@ -1,5 +1,8 @@
--- What the program claims of `run CONFIG` and of `pass IN OUT`, in one place.
-use Rattle.std.specs.Prelude.{◌≡◌, ℕ, List, [], ◌∷◌, Ok}
+-- What the program claims of `run CONFIG`, of `pass IN OUT` and of `audit CONFIG`, in one place.
+use Rattle.std.specs.Prelude.{◌≡◌, ℕ, List, [], ◌∷◌, Some, Ok}
+use Rattle.std.specs.FinMap.{get}
+use Rattle.cq_audit.specs.Audit.{IsYes}
+use Rattle.cq_base.specs.Texts.{trace_of}
 use Rattle.cq_cells.specs.Schedule.{arrivals}
 use Rattle.cq_laws.specs.Fabric.{IsEmptyFabric}
 use Rattle.cq_laws.specs.LimitedFabric.{LimitedRecord}
@@ -7,13 +10,14 @@ use Rattle.cq_pcap.specs.Captured.{Captured}
 use Rattle.cq_route.specs.Plain.{plain_tables}
 use Rattle.cq_route.specs.declared.tables.Tables.{Tables}
 use Rattle.cq_simulate.specs.EachPacket.{EachPacketOnce}
+use Rattle.cq_simulate.specs.IdealRuns.{ideal_departures}
 use Rattle.cq_simulate.specs.FabricRuns.{AlwaysHasSlack, AreInputBest, IsFabricRun, SendsSlotBySlot, departures_in_run, refused_in_run}
 use Rattle.cq_space.specs.Space.{Contents}
 use Rattle.cq_words.specs.declared.command.Command.{Command}
-use Rattle.cq_words.specs.declared.command.Command.TheVariants.{Pass, Check, Ideal, Run, Soak}
+use Rattle.cq_words.specs.declared.command.Command.TheVariants.{Pass, Check, Ideal, Run, Soak, Audit}
 use Rattle.cq_run.specs.Passing.{capture_of_all}
 use Rattle.cq_run.specs.Plan.{Plan}
-use Rattle.cq_run.specs.Plans.{crossed, passed}
+use Rattle.cq_run.specs.Plans.{audited, crossed, passed}
 use Rattle.cq_run.specs.Reader.{Reader}
 use Rattle.cq_run.specs.Verdict.{tables_in, capture_in, captures_in}
 
@@ -56,10 +60,28 @@ pub record IsPassage (r : Reader) (from to : List ℕ) (m : Contents) (plan : Pl
   pub written : plan ≡ passed from to packets (departures_in_run records)
   pub whole : plan.writes ≡ (to, capture_of_all (plain_tables from to) packets) ∷ []
 
--- the same of a command that crosses a switch and writes what left it; of the others nothing is said here
+-- What a yes of an audit says over these contents: the log is that of a stable run of the switch over these captures, and the
+-- trace is at once what that run sends and what the ideal switch sends.
+pub record IsAudited (r : Reader) (config : List ℕ) (m : Contents) (plan : Plan) : Type 0 where
+  pub tables : Tables
+  pub configured : tables_in config m ≡ Ok tables
+  pub captures : List (List Captured)
+  pub captured : captures_in r tables m ≡ Ok captures
+  pub trace : List ℕ
+  pub traced : get m tables.trace ≡ Some trace
+  pub log : List ℕ
+  pub logged : get m tables.log ≡ Some log
+  pub audit : IsYes tables.setup tables.limits (arrivals tables captures) log
+  -- what that run sends is what the ideal switch sends, and what the trace says
+  pub same : ideal_departures tables (arrivals tables captures) ≡ Ok (departures_in_run audit.run.records)
+  pub sent : trace ≡ trace_of (departures_in_run audit.run.records)
+  pub written : plan ≡ audited
+
+-- the same of a command that crosses a switch and writes what left it, and of an audit; of the others nothing is said here
 abbrev pub Emulates : Reader → Command → Contents → Plan → Type 0
 Emulates r (Pass from to) m plan = IsPassage r from to m plan
 Emulates r (Check config) m plan = Unit {0}
 Emulates r (Ideal config) m plan = Unit {0}
 Emulates r (Run config) m plan = IsEmulation r config m plan
 Emulates r (Soak seed ports slots) m plan = Unit {0}
+Emulates r (Audit config) m plan = IsAudited r config m plan

@@ -1,6 +1,7 @@
 pub mod Plan
 pub mod Plans
 pub mod Passing
+pub mod Auditing
 pub mod Aim
 pub mod Refusals
 pub mod Reader
@@ -8,6 +9,7 @@ pub mod Pace
 pub mod Verdict
 pub mod Judging
 pub mod Switching
+pub mod AuditEnds
 pub mod Input
 pub mod Running
 pub mod Decoding

@@ -4,10 +4,12 @@ use Rattle.cq_base.specs.declared.status.Status.{Status}
 use Rattle.cq_base.specs.declared.status.Status.TheVariants as status
 use Rattle.cq_base.specs.Decimal.{decimal}
 use Rattle.cq_pcap.specs.Faults as pcap
+use Rattle.cq_run.specs.declared.denial.Denial.{Denial}
+use Rattle.cq_run.specs.declared.denial.Denial.TheVariants as audit
 use Rattle.cq_run.specs.declared.refusal.CaptureFault.{CaptureFault}
 use Rattle.cq_run.specs.declared.refusal.CaptureFault.TheVariants.{NoHeader, Magic, Version, LinkType, CutHeader, CutBody, LongRecord, Long}
 use Rattle.cq_run.specs.declared.refusal.Refusal.{Refusal}
-use Rattle.cq_run.specs.declared.refusal.Refusal.TheVariants.{Words, Missing, Configuration, Capture, Tag}
+use Rattle.cq_run.specs.declared.refusal.Refusal.TheVariants.{Words, Missing, Configuration, Capture, Tag, Audit}
 
 -- what a refusal comes to
 pub record Meaning : Type 0 where
@@ -42,9 +44,26 @@ fault_text (CutBody offset) = codes "6 at " ++ decimal offset
 fault_text (LongRecord offset len) = codes "7 at " ++ decimal offset ++ codes ", length " ++ decimal len
 fault_text (Long limit) = codes "8, limit " ++ decimal limit
 
+-- in which phase of which slot
+abbrev pub in_phase_text : ℕ → ℕ → List ℕ
+in_phase_text slot phase = codes " at slot " ++ decimal slot ++ codes " phase " ++ decimal phase
+
+-- what an audit says no to, with its figures
+abbrev pub denial_text : Denial → List ℕ
+denial_text audit.LongTrace = codes "audit: A6 trace"
+denial_text audit.LongLog = codes "audit: A6 log"
+denial_text (audit.Line n) = codes "audit: A1 at line " ++ decimal n
+denial_text (audit.Transfer slot phase input) =
+    (codes "audit: A2" ++ in_phase_text slot phase) ++ codes " input " ++ decimal input
+denial_text (audit.Blocking slot phase input output) =
+    (codes "audit: A3" ++ in_phase_text slot phase) ++ codes " input " ++ decimal input ++ codes " output "
+    ++ decimal output
+denial_text (audit.Left n) = codes "audit: A4 at line " ++ decimal n
+denial_text (audit.Trace n) = codes "audit: A5 at line " ++ decimal n
+
 -- the forms of the commands
 abbrev pub usage : List ℕ
-usage = codes "usage: cq_switch pass IN OUT | check CONFIG | ideal CONFIG | run CONFIG | soak SEED PORTS SLOTS | stream CONFIG"
+usage = codes "usage: cq_switch pass IN OUT | check CONFIG | ideal CONFIG | run CONFIG | soak SEED PORTS SLOTS | audit CONFIG | stream CONFIG"
 
 -- words are judged before any file is asked for, and a name is missed only where contents are told
 abbrev pub meaning_of : Refusal → Meaning
@@ -71,6 +90,12 @@ meaning_of (Tag fault) = record {
   status = status.Tag;
   text = codes "tag: slot " ++ decimal fault.slot ++ codes ", input " ++ decimal fault.input
       ++ codes ", output " ++ decimal fault.output;
+  untold = true;
+  outruns = false;
+}
+meaning_of (Audit denial) = record {
+  status = status.AuditNo;
+  text = denial_text denial;
   untold = true;
   outruns = false;
 }

@@ -17,12 +17,14 @@ use Rattle.cq_simulate.specs.IdealRuns.{ideal_departures}
 use Rattle.cq_tables.specs.Check.{Refused}
 use Rattle.cq_tables.specs.Document.{read_or_refused}
 use Rattle.cq_words.specs.declared.command.Command.{Command}
-use Rattle.cq_words.specs.declared.command.Command.TheVariants.{Pass, Check, Ideal, Run, Soak}
+use Rattle.cq_words.specs.declared.command.Command.TheVariants.{Pass, Check, Ideal, Run, Soak, Audit}
 use Rattle.cq_run.specs.declared.refusal.Refusal.{Refusal}
-use Rattle.cq_run.specs.declared.refusal.Refusal.TheVariants.{Words, Missing, Configuration, Capture, Tag}
+use Rattle.cq_run.specs.declared.refusal.Refusal.TheVariants.{Words, Missing, Configuration, Capture, Tag, Audit as Denied}
+use Rattle.cq_run.specs.declared.denial.Denial.{Denial}
+use Rattle.cq_run.specs.declared.denial.Denial.TheVariants.{LongTrace, LongLog}
 use Rattle.cq_run.specs.declared.refusal.CaptureFault.TheVariants.{Long}
 use Rattle.cq_words.specs.Words.{command_for}
-use Rattle.cq_run.specs.Aim.{Aim, Exactly, Crossing, Reporting}
+use Rattle.cq_run.specs.Aim.{Aim, Exactly, Crossing, Reporting, Auditing}
 use Rattle.cq_run.specs.Reader.{Reader}
 use Rattle.cq_run.specs.Refusals.{capture_fault}
 use Rattle.cq_run.specs.Plans.{checked, passed, switched}
@@ -84,6 +86,14 @@ captures_from r limit input (row ∷ rows) m = do
 abbrev pub captures_in : Reader → Tables → Contents → Result (List (List Captured)) Refusal
 captures_in r tables m = captures_from r tables.limit_bytes 0 tables.ports m
 
+-- the bytes of a trace or a log; a file that is too long is refused before it is looked at
+abbrev pub text_or_long : Denial → List ℕ → Result (List ℕ) Refusal
+text_or_long long bytes = if nat_lt 268435456 (length bytes) then Err (Denied long) else Ok bytes
+
+-- the trace or the log of this name
+abbrev pub text_in : Denial → List ℕ → Contents → Result (List ℕ) Refusal
+text_in long name m = named m name >>= text_or_long long
+
 -- the departures of a run, or its tag fault
 abbrev pub sent_or_tag : Result (List Departure) TagFault → Result (List Departure) Refusal
 sent_or_tag (Ok sent) = Ok sent
@@ -115,6 +125,13 @@ judged r (Run config) m = do
 judged r (Soak seed ports slots) m = do
   sent ← ideally_sent (soak_tables ports) (soak_captures seed ports slots)
   Ok (Reporting (soak_tables ports) (soak_captures seed ports slots))
+judged r (Audit config) m = do
+  tables ← tables_in config m
+  captures ← captures_in r tables m
+  trace ← text_in LongTrace tables.trace m
+  log ← text_in LongLog tables.log m
+  sent ← ideally_sent tables captures
+  Ok (Auditing tables captures sent trace log)
 
 -- words that are no command are refused before anything is read
 abbrev pub judged_or_words : Reader → Option Command → Contents → Result Aim Refusal
@@ -132,6 +149,7 @@ MayRead (Check config) name = name ≡ config
 MayRead (Ideal config) name = Unit {0}
 MayRead (Run config) name = Unit {0}
 MayRead (Soak seed ports slots) name = ⊥
+MayRead (Audit config) name = Unit {0}
 
 -- the names that a command's plan may write, whatever the contents: where a configuration says what is written, any
 abbrev pub MayWrite : Command → List ℕ → Type 0
@@ -140,3 +158,4 @@ MayWrite (Check config) name = ⊥
 MayWrite (Ideal config) name = Unit {0}
 MayWrite (Run config) name = Unit {0}
 MayWrite (Soak seed ports slots) name = ⊥
+MayWrite (Audit config) name = ⊥

@@ -2,7 +2,7 @@
 ghost use Rattle.std.specs.Prelude.{◌≡◌, ◌∷◌, ◌++◌, ◌≤◌, [], All, IfOk, OnOk, length};
 ghost use Rattle.cq_pcap.specs.Written.{written};
 ghost use Rattle.cq_route.specs.Tables.{AreTables, ports_of};
-ghost use Rattle.cq_run.specs.Plans.{capture_out, captures_out, check_line, checked, counted, switched};
+ghost use Rattle.cq_run.specs.Plans.{audited, capture_out, captures_out, check_line, checked, counted, switched, yes_line};
 ghost use Rattle.cq_report.specs.Report.{report_with};
 ghost use Rattle.cq_base.specs.Texts.{log_of, trace_of};
 ghost use Rattle.cq_run.specs.Switching.{IsSwitched};
@@ -22,6 +22,24 @@ pub fn build_check(alloc: Global, tables: &Tables) -> Result<Work, NoMemory>
 {
     let text = check_text(alloc, tables)?;
     Ok(Work::of(Vec::new(alloc), text))
+}
+
+/// The answer of an audit that says yes. Nothing is written.
+pub fn build_yes(alloc: Global) -> Result<Work, NoMemory>
+    ensures { IfOk result (λ plan. plan ≡ audited) }
+{
+    let text = yes_text(alloc)?;
+    Ok(Work::of(Vec::new(alloc), text))
+}
+
+#[tactic(auto, unfolding(crate::specs::Plans::yes_line))]
+fn yes_text(alloc: Global) -> Result<Vec<u8>, NoMemory>
+    ensures { IfOk result (λ text. text.items ≡ yes_line) }
+{
+    let mut text = Vec::new(alloc);
+    text.extend_from_slice(b"audit yes")?;
+    text.push(b'\n')?;
+    Ok(text)
 }
 
 #[tactic(auto, unfolding(crate::specs::Plans::check_line))]

@@ -9,19 +9,21 @@ ghost use Rattle.cq_gen.specs.Packets.{soak_captures};
 ghost use Rattle.cq_gen.specs.Tables.{soak_tables};
 ghost use Rattle.cq_run.specs.Aim.{Meets, Reporting};
 ghost use Rattle.cq_run.specs.Judging.{IsHaltOf};
-ghost use Rattle.cq_run.specs.Headline.{Emulates, IsEmulation, IsPassage};
+ghost use Rattle.cq_run.specs.Headline.{Emulates, IsAudited, IsEmulation, IsPassage};
 ghost use Rattle.cq_run.specs.Pace.{Ahead, InTurn};
-ghost use Rattle.cq_run.specs.Planning.{Plans, known_to, IsWithinRange};
+ghost use Rattle.cq_run.specs.Planning.{Decides, Plans, known_to, IsWithinRange};
 ghost use Rattle.cq_run.specs.Reader.{Reader};
 ghost use Rattle.cq_run.specs.Switching.{IsCrossing};
 ghost use Rattle.cq_run.specs.Verdict.{ideally_sent, judged, MayRead, MayWrite};
 
 use crate::ahead::stream_inputs;
-use crate::build::{build_check, build_crossed, build_passed, build_report, build_switched};
+use crate::build::{
+    build_check, build_crossed, build_passed, build_report, build_switched, build_yes,
+};
 use crate::plan::Work;
-use crate::reading::{put_capture, read_configuration, read_input, read_inputs};
-use crate::switching::{switch_by_crossbar, switch_ideally};
-use crate::{Command, Halt};
+use crate::reading::{put_capture, read_configuration, read_input, read_inputs, read_text};
+use crate::switching::{audit_texts, switch_by_crossbar, switch_ideally};
+use crate::{Command, Denial, Halt};
 use cq_base::{Name, Sequence};
 use cq_crew::Gate;
 use cq_gen::make;
@@ -33,7 +35,7 @@ use std::alloc::Global;
 use std::sync::Wait;
 use std::thread::Threads;
 
-/// What a command comes to: the work to be done, with all its bytes, or the first refusal. It reads
+/// What a command comes to: the work to be done, with all its bytes, or the first refusal or denial. It reads
 /// only, and leaves the file space closed. The gate is told of the workers' steps, and changes no answer. The
 /// clauses hold for any reader of captures that goes by the grammar.
 pub fn judge<R: Threads + Sync, F: Files, G: Gate>(
@@ -45,7 +47,7 @@ pub fn judge<R: Threads + Sync, F: Files, G: Gate>(
 ) -> Result<Work, Halt>
     requires closed { (F.space files.old).mode ≡ Closed }
     requires range { IsWithinRange command }
-    ensures judges { (r : Reader) → Plans InTurn (judged r command)
+    ensures judges { (r : Reader) → Decides InTurn (judged r command)
         (λ name. MayRead command name × Fails F.space F.may_fail F.keeps (Reads name) files.old files.new)
         (known_to command (F.space files.old)) (known_to command (F.space files.new)) result }
     ensures kept { F.keeps files.old files.new }
@@ -60,6 +62,7 @@ pub fn judge<R: Threads + Sync, F: Files, G: Gate>(
         Command::Ideal { config } => ideal(rt, alloc, files, config),
         Command::Run { config } => run(rt, alloc, files, config, gate),
         Command::Soak { seed, ports, slots } => soak(rt, alloc, seed, ports, slots, gate),
+        Command::Audit { config } => audit(rt, alloc, files, config),
     }
 }
 
@@ -215,4 +218,36 @@ fn soak<R: Threads + Sync, G: Gate>(
     let soak = make(alloc, seed, ports, slots)?;
     let crossed = switch_by_crossbar(rt, alloc, &soak.tables, &soak.captures, gate)?;
     Ok(build_report(alloc, &crossed.figures, &crossed.refused)?)
+}
+
+fn audit<R: Threads + Sync, F: Files>(
+    rt: &R,
+    alloc: Global,
+    files: &mut F,
+    config: Name,
+) -> Result<Work, Halt>
+    requires { (F.space files.old).mode ≡ Closed }
+    ensures judges { let command = Command.Audit config in
+        (r : Reader) → Decides InTurn (judged r command)
+        (λ name. MayRead command name × Fails F.space F.may_fail F.keeps (Reads name) files.old files.new)
+        (F.space files.old) (F.space files.new) result }
+    ensures kept { F.keeps files.old files.new }
+    ensures names { let command = Command.Audit config in
+        IfOk result (λ plan. AllByRecursion (λ write. MayWrite command write.0) plan.writes) }
+    ensures emulates { (r : Reader) → IfOk result (λ plan. IfSome (F.space files.old).told
+        (λ m. IsAudited r config m plan)) }
+{
+    let tables = read_configuration(alloc, files, config)?;
+    let captures = read_inputs(alloc, files, &tables)?;
+    let trace = read_text(alloc, files, &tables.trace, Denial::LongTrace)?;
+    let log = read_text(alloc, files, &tables.log, Denial::LongLog)?;
+    audit_texts(
+        rt,
+        alloc,
+        &tables,
+        captures.as_slice(),
+        trace.as_slice(),
+        log.as_slice(),
+    )?;
+    Ok(build_yes(alloc)?)
 }

@@ -10,6 +10,7 @@
 mod ahead;
 mod build;
 mod decoding;
+mod denial;
 mod judge;
 mod laws;
 mod perform;
@@ -27,6 +28,7 @@ pub use cq_simulate::{
     FabricRun, IdealRun, Refused, RunRefusal, packets_of, run_fabric, run_ideal,
 };
 pub use cq_words::{Command, command_of};
+pub use denial::Denial;
 pub use laws::captures_are_read_in_one_way;
 pub use refusal::{CaptureFault, Refusal};
 pub use stop::{Halt, Stop, Unwritten};

@@ -11,9 +11,9 @@ ghost use Rattle.cq_run.specs.Pace.{InTurn};
 ghost use Rattle.cq_run.specs.Reader.{Reader};
 ghost use Rattle.cq_run.specs.Refusals.{capture_fault};
 ghost use Rattle.cq_run.specs.Switching.{halt_for};
-ghost use Rattle.cq_run.specs.Verdict.{capture_in, captures_in, packets_at, tables_in};
+ghost use Rattle.cq_run.specs.Verdict.{capture_in, captures_in, packets_at, tables_in, text_in};
 
-use crate::{CaptureFault, Halt, Refusal};
+use crate::{CaptureFault, Denial, Halt, Refusal};
 use cq_base::{Name, NoMemory, Sequence};
 use cq_pcap::{Capture, PcapRefusal, read_capture};
 use cq_route::{PortRow, Tables};
@@ -23,6 +23,9 @@ use std::alloc::Global;
 
 // The greatest length of a configuration, in bytes.
 const LONGEST_CONFIGURATION: u64 = 1_048_576;
+
+// The greatest length of a trace and of a log that are audited, in bytes.
+const LONGEST_TEXT: u64 = 268_435_456;
 
 // The code of a configuration that is too long. It is a fault of the whole text, whose path is `-`.
 const TOO_LONG: u8 = 10;
@@ -57,6 +60,37 @@ pub fn read_configuration<F: Files>(
                 code: TOO_LONG,
                 path: Name::of(alloc, "-")?,
             },
+        }),
+        Err(ReadRefusal::NoMemory) => Err(Halt::NoMemory),
+    }
+}
+
+/// The bytes of the file of this name, a trace or a log. Where it has more than 268,435,456 of them an audit says this
+/// no, and they are not looked at.
+pub fn read_text<F: Files>(
+    alloc: Global,
+    files: &mut F,
+    name: &Name,
+    long: Denial,
+) -> Result<Sequence<u8>, Halt>
+    requires { (F.space files.old).mode ≡ Closed }
+    ensures judges { Judges InTurn (text_in long name.now)
+        (λ asked. (asked ≡ name.now) × Fails F.space F.may_fail F.keeps (Reads asked) files.old files.new)
+        (F.space files.old) (F.space files.new) result }
+    ensures kept { F.keeps files.old files.new }
+{
+    let asked = Name::of(alloc, name.text())?;
+    match read_whole(alloc, files, asked.text(), LONGEST_TEXT) {
+        Ok(bytes) => {
+            let text = Sequence::of(bytes);
+            Ok(text)
+        }
+        Err(ReadRefusal::Missing) => Err(Halt::Refused {
+            refusal: Refusal::Missing { name: asked },
+        }),
+        Err(ReadRefusal::Fault) => Err(Halt::Unread { name: asked }),
+        Err(ReadRefusal::Long { .. }) => Err(Halt::Refused {
+            refusal: Refusal::Audit { denial: long },
         }),
         Err(ReadRefusal::NoMemory) => Err(Halt::NoMemory),
     }

@@ -4,6 +4,7 @@ ghost use Rattle.std.specs.Option.{option_map};
 ghost use Rattle.cq_pcap.specs.Faults.{fault_of};
 ghost use Rattle.cq_run.specs.Refusals.{capture_fault, meaning_of};
 
+use crate::Denial;
 use cq_base::{Name, Status, TagFault};
 use cq_pcap::PcapRefusal;
 
@@ -61,6 +62,8 @@ pub enum Refusal {
     Capture { input: u16, fault: CaptureFault },
     /// A rank does not fit 128 bits.
     Tag { fault: TagFault },
+    /// An audit says no.
+    Audit { denial: Denial },
 }
 
 impl Refusal {
@@ -74,6 +77,7 @@ impl Refusal {
             Refusal::Configuration { .. } => Status::Configuration,
             Refusal::Capture { .. } => Status::Capture,
             Refusal::Tag { .. } => Status::Tag,
+            Refusal::Audit { .. } => Status::AuditNo,
         }
     }
 }

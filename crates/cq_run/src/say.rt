@@ -3,15 +3,15 @@ ghost use Rattle.std.specs.Prelude.{◌++◌};
 ghost use Rattle.std.specs.List.{flat_map};
 ghost use Rattle.cq_base.specs.Decimal.{decimal};
 ghost use Rattle.cq_run.specs.World.{taken_by};
-ghost use Rattle.cq_run.specs.Refusals.{meaning_of, fault_text};
+ghost use Rattle.cq_run.specs.Refusals.{denial_text, fault_text, in_phase_text, meaning_of};
 ghost use Rattle.cq_run.specs.Line.{Puts, line, halt_text, unwritten_text, stop_text};
 
-use crate::{CaptureFault, Halt, Refusal, Stop, Unwritten};
-use cq_base::{MOST_DIGITS, Name, TagFault, digits};
+use crate::{CaptureFault, Denial, Halt, Refusal, Stop, Unwritten};
+use cq_base::{MOST_DIGITS, Name, Port, Slot, TagFault, digits};
 use cq_space::{Sink, WriteFault, put_all};
 
-const USAGE: &[u8; 111] =
-    b"usage: cq_switch pass IN OUT | check CONFIG | ideal CONFIG | run CONFIG | soak SEED PORTS SLOTS | stream CONFIG";
+const USAGE: &[u8; 126] =
+    b"usage: cq_switch pass IN OUT | check CONFIG | ideal CONFIG | run CONFIG | soak SEED PORTS SLOTS | audit CONFIG | stream CONFIG";
 
 const READ_FAULT: &[u8; 12] = b"read fault: ";
 
@@ -60,6 +60,7 @@ fn say_refusal<S: Sink>(sink: &mut S, refusal: &Refusal) -> Result<(), WriteFaul
         Refusal::Configuration { code, path } => say_configuration(sink, *code, path),
         Refusal::Capture { input, fault } => say_capture(sink, *input, *fault),
         Refusal::Tag { fault } => say_tag(sink, *fault),
+        Refusal::Audit { denial } => say_denial(sink, *denial),
     }
 }
 
@@ -147,6 +148,82 @@ fn say_long_record<S: Sink>(sink: &mut S, offset: u64, length: u32) -> Result<()
             b", length ",
             &stated[..stated_count],
             b"\n",
+        ],
+    )
+}
+
+fn say_denial<S: Sink>(sink: &mut S, denial: Denial) -> Result<(), WriteFault>
+    ensures { Puts (line (denial_text denial)) (taken_by S.taken S.faults sink.old)
+        (taken_by S.taken S.faults sink.new) result }
+{
+    match denial {
+        Denial::LongTrace => say_line(sink, b"audit: A6 trace"),
+        Denial::LongLog => say_line(sink, b"audit: A6 log"),
+        Denial::Line { line } => say_number(sink, b"audit: A1 at line ", line),
+        Denial::Transfer { slot, phase, input } => say_transfer(sink, slot, phase, input),
+        Denial::Blocking {
+            slot,
+            phase,
+            input,
+            output,
+        } => say_blocking(sink, slot, phase, input, output),
+        Denial::Left { line } => say_number(sink, b"audit: A4 at line ", line),
+        Denial::Trace { line } => say_number(sink, b"audit: A5 at line ", line),
+    }
+}
+
+fn say_transfer<S: Sink>(sink: &mut S, slot: Slot, phase: u8, input: Port) -> Result<(), WriteFault>
+    ensures { Puts (line (denial_text (Denial.Transfer slot phase input)))
+        (taken_by S.taken S.faults sink.old) (taken_by S.taken S.faults sink.new) result }
+{
+    put_phase(sink, b"audit: A2", slot, phase)?;
+    say_number(sink, b" input ", u64::from(input))
+}
+
+fn say_blocking<S: Sink>(
+    sink: &mut S,
+    slot: Slot,
+    phase: u8,
+    input: Port,
+    output: Port,
+) -> Result<(), WriteFault>
+    ensures { Puts (line (denial_text (Denial.Blocking slot phase input output)))
+        (taken_by S.taken S.faults sink.old) (taken_by S.taken S.faults sink.new) result }
+{
+    put_phase(sink, b"audit: A3", slot, phase)?;
+    let mut row = [0u8; MOST_DIGITS];
+    let row_count = digits(u128::from(input), &mut row);
+    let mut column = [0u8; MOST_DIGITS];
+    let column_count = digits(u128::from(output), &mut column);
+    put_pieces(
+        sink,
+        &[
+            b" input ",
+            &row[..row_count],
+            b" output ",
+            &column[..column_count],
+            b"\n",
+        ],
+    )
+}
+
+// Puts a text, and behind it in which phase of which slot.
+fn put_phase<S: Sink>(sink: &mut S, head: &[u8], slot: Slot, phase: u8) -> Result<(), WriteFault>
+    ensures { Puts (head.now ++ in_phase_text slot phase) (taken_by S.taken S.faults sink.old)
+        (taken_by S.taken S.faults sink.new) result }
+{
+    let mut place = [0u8; MOST_DIGITS];
+    let place_count = digits(u128::from(slot), &mut place);
+    let mut which = [0u8; MOST_DIGITS];
+    let which_count = digits(u128::from(phase), &mut which);
+    put_pieces(
+        sink,
+        &[
+            head,
+            b" at slot ",
+            &place[..place_count],
+            b" phase ",
+            &which[..which_count],
         ],
     )
 }

@@ -1,15 +1,18 @@
 //! Running a switch over the captures that were read.
-ghost use Rattle.std.specs.Prelude.{◌≡◌, ◌≤◌, All, IfOk, IfErr, length};
+ghost use Rattle.std.specs.Prelude.{◌≡◌, ◌≤◌, All, IfOk, IfErr, OnOk, length};
 ghost use Rattle.cq_route.specs.Tables.{AreTables, ports_of};
+ghost use Rattle.cq_run.specs.AuditEnds.{IsAuditHalted, IsAuditPassed};
 ghost use Rattle.cq_run.specs.Judging.{IsHaltOf};
 ghost use Rattle.cq_run.specs.Switching.{IsCrossed, IsSwitched};
 ghost use Rattle.cq_run.specs.Verdict.{ideally_sent};
 
-use crate::{Halt, Refusal};
+use crate::{Denial, Halt, Refusal};
+use cq_audit::{AuditRefusal, audit_log, audit_trace};
 use cq_base::{Departure, Figures, Room, Transfer};
 use cq_cells::Schedule;
 use cq_crew::Gate;
 use cq_pcap::Capture;
+use cq_report::trace_text;
 use cq_route::Tables;
 use cq_simulate::{Refused, RunRefusal, run_fabric, run_ideal};
 use std::alloc::Global;
@@ -93,6 +96,60 @@ pub fn switch_by_crossbar<R: Threads + Sync, G: Gate>(
         figures: run.figures,
         refused: run.refused,
     })
+}
+
+/// Checks a log and a trace of any maker of what a switch does with these captures, one for each port. Ok comes where
+/// the log is that of a stable run, and the trace is what the ideal switch sends.
+pub fn audit_texts<R: Threads + Sync>(
+    rt: &R,
+    alloc: Global,
+    tables: &Tables,
+    captures: &[Capture],
+    trace: &[u8],
+    log: &[u8],
+) -> Result<(), Halt>
+    requires tables { AreTables tables.now }
+    requires captures { length captures.now ≡ ports_of tables.now.setup }
+    ensures passed { OnOk result (IsAuditPassed tables.now captures.now trace.now log.now) }
+    ensures halted { IfErr result (IsAuditHalted tables.now captures.now trace.now log.now) }
+{
+    let schedule = Schedule::of(rt, alloc, captures, tables)?;
+    let ideal = run_ideal(alloc, tables, &schedule)?;
+    audit_log(
+        alloc,
+        &tables.setup,
+        tables.limits.as_slice(),
+        &schedule,
+        log,
+    )?;
+    let text = trace_text(alloc, ideal.sent.items())?;
+    match audit_trace(trace, &text) {
+        None => Ok(()),
+        Some(line) => Err(denied(Denial::Trace { line })),
+    }
+}
+
+// The halt of an audit that says no.
+fn denied(denial: Denial) -> Halt
+    ensures { result ≡ Halt.Refused (Refusal.Audit denial) }
+{
+    Halt::Refused {
+        refusal: Refusal::Audit { denial },
+    }
+}
+
+impl From<AuditRefusal> for Halt {
+    ghost use Rattle.std.specs.Prelude.{◌≡◌};
+    ghost use Rattle.cq_run.specs.Auditing.{halt_for_log};
+
+    ghost from_gives = { λ refusal halt. halt ≡ halt_for_log refusal };
+
+    fn from(refusal: AuditRefusal) -> Self {
+        match Denial::of(refusal) {
+            Some(denial) => denied(denial),
+            None => Halt::NoMemory,
+        }
+    }
 }
 
 impl From<RunRefusal> for Halt {

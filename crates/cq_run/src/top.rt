@@ -40,6 +40,7 @@ use std::thread::Threads;
 ///   the files before it were whole, or that of `out` rose once all files were. The file of the line is as
 ///   before or has a front of its bytes, and those after it are as before.
 /// - `NoMemory`: there was not the memory to keep the words of a command, or to build all that is to be written.
+/// - `AuditNo`: the trace or the log that is audited is wrong, and the line says what is wrong first.
 ///
 /// All bytes are ready before the first is written, so with every status but `Done` and `WriteFault` no
 /// file is started and `out` is as before. The file space has to be closed, and is closed again. A
@@ -69,7 +70,7 @@ pub fn switch_top<R: Threads + Sync, F: Files, O: Sink, E: Sink, G: Gate>(
         (world F.space O.taken O.faults files.old out.old)
         (world F.space O.taken O.faults files.new out.new) result }
 
-    // The headline, of `run CONFIG` and of `pass IN OUT`.
+    // The headline, of `run CONFIG`, of `pass IN OUT` and of `audit CONFIG`.
     ensures headline { (r : Reader) (command : Command) → command_for (map string_bytes words.now) ≡ Some command →
         result ≡ Status.Done → IfSome (F.space files.old).told (λ m. (plan : Plan) × Emulates r command m plan
         × IsDone plan (world F.space O.taken O.faults files.old out.old) (world F.space O.taken O.faults files.new out.new)) }

@@ -7,7 +7,7 @@ use std::test::Fail;
 use std::thread::Threads;
 
 const USAGE: &str =
-    "usage: cq_switch pass IN OUT | check CONFIG | ideal CONFIG | run CONFIG | soak SEED PORTS SLOTS | stream CONFIG\n";
+    "usage: cq_switch pass IN OUT | check CONFIG | ideal CONFIG | run CONFIG | soak SEED PORTS SLOTS | audit CONFIG | stream CONFIG\n";
 
 /// Words, the code of their status, and the line.
 type Refusal = (&'static [&'static str], u8, &'static str);
@@ -23,7 +23,7 @@ const REFUSALS: &[Refusal] = &[
 /// What `b` holds before, and how much of the line standard error takes.
 type Place = (Option<&'static [u8]>, u64);
 
-const PLACES: &[Place] = &[(None, 100), (Some(b"kept"), 7), (None, 0)];
+const PLACES: &[Place] = &[(None, 140), (Some(b"kept"), 7), (None, 0)];
 
 fn is_refused<R: Threads + Sync>(
     rt: &R,

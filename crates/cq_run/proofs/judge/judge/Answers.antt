@@ -2,10 +2,11 @@ use Rattle.std.proofs.Common.{ℕ, List}
 use Rattle.cq_gen.specs.Packets.{soak_captures}
 use Rattle.cq_gen.specs.Tables.{soak_tables}
 use Rattle.cq_space.specs.Failing.{Fails, Reads}
-use Rattle.cq_words.specs.declared.command.Command.TheVariants.{Pass, Check, Ideal, Run, Soak}
+use Rattle.cq_words.specs.declared.command.Command.TheVariants.{Pass, Check, Ideal, Run, Soak, Audit}
 use Rattle.cq_run.specs.Pace.{InTurn}
 use Rattle.cq_run.specs.Planning.{known_to}
 use Rattle.cq_run.specs.Verdict.{judged, MayRead}
+use Rattle.cq_run.proofs.Decided.{decides_closed, decides_told, plans_decide}
 use Rattle.cq_run.proofs.OneReading.{from_front}
 use Rattle.cq_run.proofs.Planned.{plans_closed, plans_reported, plans_told}
 use Rattle.cq_run.proofs.judge.judge.Goals as goal
@@ -13,17 +14,32 @@ use Rattle.cq_run.proofs.judge.judge.Goals as goal
 pub returns-in-Soak-clause-judges : goal.returns-in-Soak-clause-judges
 returns-in-Soak-clause-judges g c = λ r.
     let command = Soak c.in-Soak.seed c.in-Soak.ports c.in-Soak.slots in
+    let known = known_to command (g.F.Files.space c.args.files.now) in
+    let R : List ℕ → Type 0 = λ name. MayRead command name × Fails g.F.Files.space g.F.Files.may_fail g.F.Files.keeps (Reads name) c.args.files.now c.args.files.now in
     rw c.in-Soak.is
-    (plans_reported (soak_tables c.in-Soak.ports) (soak_captures c.in-Soak.seed c.in-Soak.ports c.in-Soak.slots) (known_to command (g.F.Files.space c.args.files.now)) c.requires.closed _ c.soak.result c.soak.ensures.meets c.soak.ensures.sent c.soak.ensures.refused)
+    (plans_decide InTurn (judged r command) R known known c.soak.result
+    (plans_reported (soak_tables c.in-Soak.ports) (soak_captures c.in-Soak.seed c.in-Soak.ports c.in-Soak.slots) known c.requires.closed R c.soak.result c.soak.ensures.meets c.soak.ensures.sent c.soak.ensures.refused))
 
 pub returns-in-Pass-clause-judges : goal.returns-in-Pass-clause-judges
-returns-in-Pass-clause-judges g c = rw c.in-Pass.is c.pass.ensures.judges
+returns-in-Pass-clause-judges g c = λ r.
+    let command = Pass c.in-Pass.from c.in-Pass.to in
+    let R : List ℕ → Type 0 = λ name. MayRead command name × Fails g.F.Files.space g.F.Files.may_fail g.F.Files.keeps (Reads name) c.args.files.now c.pass.new.files in
+    rw c.in-Pass.is
+    (plans_decide InTurn (judged r command) R (g.F.Files.space c.args.files.now) (g.F.Files.space c.pass.new.files) c.pass.result (c.pass.ensures.judges r))
 
 pub returns-in-Ideal-clause-judges : goal.returns-in-Ideal-clause-judges
-returns-in-Ideal-clause-judges g c = rw c.in-Ideal.is c.ideal.ensures.judges
+returns-in-Ideal-clause-judges g c = λ r.
+    let command = Ideal c.in-Ideal.config in
+    let R : List ℕ → Type 0 = λ name. MayRead command name × Fails g.F.Files.space g.F.Files.may_fail g.F.Files.keeps (Reads name) c.args.files.now c.ideal.new.files in
+    rw c.in-Ideal.is
+    (plans_decide InTurn (judged r command) R (g.F.Files.space c.args.files.now) (g.F.Files.space c.ideal.new.files) c.ideal.result (c.ideal.ensures.judges r))
 
 pub returns-in-Run-clause-judges : goal.returns-in-Run-clause-judges
-returns-in-Run-clause-judges g c = rw c.in-Run.is c.run.ensures.judges
+returns-in-Run-clause-judges g c = λ r.
+    let command = Run c.in-Run.config in
+    let R : List ℕ → Type 0 = λ name. MayRead command name × Fails g.F.Files.space g.F.Files.may_fail g.F.Files.keeps (Reads name) c.args.files.now c.run.new.files in
+    rw c.in-Run.is
+    (plans_decide InTurn (judged r command) R (g.F.Files.space c.args.files.now) (g.F.Files.space c.run.new.files) c.run.result (c.run.ensures.judges r))
 
 pub returns-in-Pass-clause-emulates : goal.returns-in-Pass-clause-emulates
 returns-in-Pass-clause-emulates g c = rw c.in-Pass.is c.pass.ensures.emulates
@@ -32,7 +48,11 @@ pub returns-in-Run-clause-emulates : goal.returns-in-Run-clause-emulates
 returns-in-Run-clause-emulates g c = rw c.in-Run.is c.run.ensures.emulates
 
 pub returns-in-Check-clause-judges : goal.returns-in-Check-clause-judges
-returns-in-Check-clause-judges g c = rw c.in-Check.is c.check.ensures.judges
+returns-in-Check-clause-judges g c = λ r.
+    let command = Check c.in-Check.config in
+    let R : List ℕ → Type 0 = λ name. MayRead command name × Fails g.F.Files.space g.F.Files.may_fail g.F.Files.keeps (Reads name) c.args.files.now c.check.new.files in
+    rw c.in-Check.is
+    (plans_decide InTurn (judged r command) R (g.F.Files.space c.args.files.now) (g.F.Files.space c.check.new.files) c.check.result (c.check.ensures.judges r))
 
 pub returns-in-Check-clause-names : goal.returns-in-Check-clause-names
 returns-in-Check-clause-names g c = rw c.in-Check.is c.check.ensures.names
@@ -90,3 +110,24 @@ returns-in-Run-clause-told g c =
     let command = Run c.in-Run.config in
     let R : List ℕ → Type 0 = λ name. MayRead command name × Fails g.F.Files.space g.F.Files.may_fail g.F.Files.keeps (Reads name) c.args.files.now c.run.new.files in
     plans_told InTurn (judged from_front command) R (g.F.Files.space c.args.files.now) (g.F.Files.space c.run.new.files) c.run.result (c.run.ensures.judges from_front)
+
+pub returns-in-Audit-clause-judges : goal.returns-in-Audit-clause-judges
+returns-in-Audit-clause-judges g c = rw c.in-Audit.is c.audit.ensures.judges
+
+pub returns-in-Audit-clause-names : goal.returns-in-Audit-clause-names
+returns-in-Audit-clause-names g c = rw c.in-Audit.is c.audit.ensures.names
+
+pub returns-in-Audit-clause-emulates : goal.returns-in-Audit-clause-emulates
+returns-in-Audit-clause-emulates g c = rw c.in-Audit.is c.audit.ensures.emulates
+
+pub returns-in-Audit-clause-closed : goal.returns-in-Audit-clause-closed
+returns-in-Audit-clause-closed g c =
+    let command = Audit c.in-Audit.config in
+    let R : List ℕ → Type 0 = λ name. MayRead command name × Fails g.F.Files.space g.F.Files.may_fail g.F.Files.keeps (Reads name) c.args.files.now c.audit.new.files in
+    decides_closed InTurn (judged from_front command) R (g.F.Files.space c.args.files.now) (g.F.Files.space c.audit.new.files) c.audit.result (c.audit.ensures.judges from_front)
+
+pub returns-in-Audit-clause-told : goal.returns-in-Audit-clause-told
+returns-in-Audit-clause-told g c =
+    let command = Audit c.in-Audit.config in
+    let R : List ℕ → Type 0 = λ name. MayRead command name × Fails g.F.Files.space g.F.Files.may_fail g.F.Files.keeps (Reads name) c.args.files.now c.audit.new.files in
+    decides_told InTurn (judged from_front command) R (g.F.Files.space c.args.files.now) (g.F.Files.space c.audit.new.files) c.audit.result (c.audit.ensures.judges from_front)

@@ -33,10 +33,10 @@ returns-clause-ends g c = λ r.
 pub returns-in_err-work-clause-ends : goal.returns-in_err-work-clause-ends
 returns-in_err-work-clause-ends g c = λ r.
     let p = err_from_is_err_and c.from_residual-in_err-work.result c.from_residual-in_err-work.ensures.1 in
-    rw (p.1, p.2, sym c.in_ok-name.ensures) ((c.in_err-work.ensures.judges r).halt, record { told = c.run_ahead.ensures.told; out = refl })
+    rw (p.1, p.2, sym c.in_ok-name.ensures) (inl (c.in_err-work.ensures.judges r).halt, record { told = c.run_ahead.ensures.told; out = refl })
 
 -- want of memory for the name: nothing was read
 pub returns-in_err-name-clause-ends : goal.returns-in_err-name-clause-ends
 returns-in_err-name-clause-ends g c = λ r.
     let p = err_from_is_err_and c.from_residual.result c.from_residual.ensures.1 in
-    rw (p.1, p.2) (inl refl, record { told = refl; out = refl })
+    rw (p.1, p.2) (inl (inl refl), record { told = refl; out = refl })

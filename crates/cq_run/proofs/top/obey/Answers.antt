@@ -1,9 +1,12 @@
-use Rattle.std.proofs.Common.{refl}
+use Rattle.std.proofs.Common.{ℕ, List, refl}
 use Rattle.std.proofs.lemmas.Result.{err_from_is_err_and}
-use Rattle.cq_space.specs.Failing.{Writes}
+use Rattle.cq_space.specs.Failing.{Fails, Reads, Writes}
 use Rattle.cq_run.specs.Pace.{InTurn}
+use Rattle.cq_run.specs.Planning.{known_to}
+use Rattle.cq_run.specs.Verdict.{MayRead, judged}
 use Rattle.cq_run.specs.World.{world}
 use Rattle.cq_run.proofs.Cut.{cut_ends, done_ends}
+use Rattle.cq_run.proofs.Decided.{decides_halt}
 use Rattle.cq_run.proofs.Failed.{fails_after}
 use Rattle.cq_run.proofs.Planned.{planned, plans_uncounted}
 use Rattle.cq_run.proofs.top.obey.Goals as goal
@@ -30,4 +33,10 @@ returns-clause-ends g c = λ r.
 pub returns-in_err-work-clause-ends : goal.returns-in_err-work-clause-ends
 returns-in_err-work-clause-ends g c = λ r.
     let p = err_from_is_err_and c.from_residual.result c.from_residual.ensures.1 in
-    rw (p.1, p.2) ((c.in_err-work.ensures.judges r).halt, record { told = c.judge.ensures.told; out = refl })
+    let command = c.args.command in
+    let R : List ℕ → Type 0 = λ name. MayRead command name × Fails g.F.Files.space g.F.Files.may_fail g.F.Files.keeps (Reads name) c.args.files.now c.judge.new.files in
+    rw (p.1, p.2) (
+      decides_halt InTurn (judged r command) R (known_to command (g.F.Files.space c.args.files.now)) (known_to command (g.F.Files.space c.judge.new.files)) c.in_err-work.field-0.0
+          (c.in_err-work.ensures.judges r),
+      record { told = c.judge.ensures.told; out = refl },
+    )
