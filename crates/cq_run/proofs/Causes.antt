@@ -1,6 +1,6 @@
 -- From how a run ends to what its status says. Each end has one status, and what the end says of the verdict is what the status says of it. The table of refusals is used for three facts alone: no refusal has a status of an end that is none, one with the status of read faults comes only where contents are told, and words are refused only where they are no command.
 use Rattle.std.proofs.Common.{◌≡◌, ◌≢◌, ◌⊎◌, ℕ, IsTrue, List, [], ◌∷◌, refl, ap, sym, subst, ◌∙◌, inl, inr}
-use Rattle.std.specs.Prelude.{Option, None, Some, IfSome, MatchOption, Result, Ok, Err, IsOk, IsOkAnd}
+use Rattle.std.specs.Prelude.{Option, None, Some, IfSome, MatchOption, Result, Ok, Err, IsOkAnd}
 use Rattle.cq_space.specs.Causes.{Rose}
 use Rattle.cq_space.specs.Space.{Contents, Space}
 use Rattle.cq_base.specs.declared.status.Status.{Status}
@@ -92,10 +92,6 @@ denied_status : (v : Result Aim Refusal) (r : Refusal) → IsOkAnd v (λ aim. De
 denied_status (Ok aim) r h = inr (r, h, refl)
 denied_status (Err e) r h = absurd h
 
-aimed_ok : (v : Result Aim Refusal) (P : Aim → Type 0) → IsOkAnd v P → IsOk v
-aimed_ok (Ok aim) P h = refl
-aimed_ok (Err e) P h = absurd h
-
 -- want of memory says nothing of the verdict
 memory_causes : (p : Pace) (v : Contents → Result Aim Refusal) (known : Option Contents) (old new : World) → Uncounted p (Outruns status.NoMemory) old.files.faults new.files.faults → IsUntouched old new → StatusCauses p v known old new status.NoMemory
 memory_causes p v known old new c h = record {
@@ -148,7 +144,7 @@ cut_causes p v known plan old new by rose = record {
   done = λ e. cc;
   read = λ e. cc;
   write = λ _. rose;
-  write_planned = λ _. told_map known _ _ (λ m e. aimed_ok (v m) (λ aim. Meets aim plan) e) by;
+  write_planned = λ _. told_map known _ _ (λ m e. aimed (v m) (λ aim. Meets aim plan) (λ aim. (p : Plan) × Meets aim p) (λ aim h. (plan, h)) e) by;
   untouched = λ _ w. absurd (w refl);
   uncounted = λ _ w. absurd (w refl);
   complete = λ f o. absurd (elim rose as (λ _. ⊥) [ inl r ↦ f r | inr r ↦ o r ]);

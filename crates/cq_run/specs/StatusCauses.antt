@@ -1,5 +1,5 @@
 -- Which status comes when, read off the status alone.
-use Rattle.std.specs.Prelude.{◌≡◌, ◌≢◌, ◌⊎◌, Option, IfSome, IsSomeAnd, Result, IsOk, IsOkAnd}
+use Rattle.std.specs.Prelude.{◌≡◌, ◌≢◌, ◌⊎◌, Option, IfSome, IsSomeAnd, Result, IsOkAnd}
 use Rattle.cq_base.specs.declared.status.Status.{Status}
 use Rattle.cq_base.specs.declared.status.Status.TheVariants.{Done, Capture, ReadFault, WriteFault, NoMemory}
 use Rattle.cq_space.specs.Causes.{Rose}
@@ -23,7 +23,7 @@ pub record StatusCauses (pace : Pace) (verdict : Contents → Result Aim Refusal
   pub read : answer ≡ ReadFault → IsSomeAnd known (λ m. CallsFor (verdict m) ReadFault) ⊎ Rose old.files.faults new.files.faults
   -- a write fault was counted, and comes only where there is a plan
   pub write : answer ≡ WriteFault → Rose old.files.faults new.files.faults ⊎ Rose old.out.faults new.out.faults
-  pub write_planned : answer ≡ WriteFault → IfSome known (λ m. IsOk (verdict m))
+  pub write_planned : answer ≡ WriteFault → IfSome known (λ m. IsOkAnd (verdict m) (λ aim. (plan : Plan) × Meets aim plan))
   -- with every other status nothing was written
   pub untouched : answer ≢ Done → answer ≢ WriteFault → IsUntouched old new
   -- a fault that was counted is answered. Where files are read ahead, a refused capture and want of memory may be
