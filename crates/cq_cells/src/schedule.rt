@@ -59,6 +59,7 @@ impl Schedule {
         ensures schedule { IfOk result (λ s. s ≡ schedule_of tables.now captures.now) }
         ensures traffic { IfOk result (λ s. IsTraffic (ports_of tables.now.setup) (classes_of tables.now.setup) s.came) }
         ensures short { IfOk result (λ s. IsShort s.came) }
+        ensures recorded { IfOk result (λ _. (i : ℕ) → i < length captures.now → IsRecorded (packets_of captures.now i)) }
     {
         let first_stamp = first_stamp(captures);
         let mut to_output = no_cells(alloc, captures.len())?;

@@ -62,3 +62,6 @@ returns-clause-short g c =
     let captures = c.args.captures.now in
     let came : all_of c.in_ok-lines.lines.items ≡ arrivals c.args.tables.now captures = all_lines c.args.tables.now captures c.in_ok-lines.lines.items c.in_ok-lines.ensures.lines in
     rw came (short_is c.args.tables.now captures c.requires.tables c.requires.captures c.in_ok-lines.ensures.recorded)
+
+pub returns-clause-recorded : goal.returns-clause-recorded
+returns-clause-recorded g c = c.in_ok-lines.ensures.recorded
