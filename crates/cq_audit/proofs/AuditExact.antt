@@ -1,7 +1,7 @@
--- A log has one verdict. Up to where its lines say so, the fabric has no choice: the transfers of a stable run tell the run. So
--- of two faults of phases neither stands before the other, for a run that goes on past a phase has made the transfers of a
--- stable matching there, as its lines say. For the same reason no fault stands within a whole run that moves what the lines
--- say, and none behind it, for the run is over there. And two such runs are one.
+-- A log has one verdict. Up to where its lines say so, the fabric has no choice: the transfers of a stable run tell
+-- the run. So of two faults of phases neither stands before the other, for a run that goes on past a phase has made
+-- the transfers of a stable matching there, as its lines say. For the same reason no fault stands within a whole run
+-- that moves what the lines say, and none behind it, for the run is over there. And two such runs are one.
 use Rattle.std.proofs.Common.{◌≡◌, ◌≢◌, ℕ, suc, ◌+◌, ◌-◌, ◌<◌, ◌≤◌, ◌⊎◌, inl, inr, List, [], ◌∷◌, ◌++◌, length, take, drop, Option, refl, sym, ap, ◌∙◌, subst, ⊎_elim, arith}
 use Rattle.std.specs.List.{AllByRecursion}
 use Rattle.std.proofs.lemmas.Bool.{cases_lt, cases_order}
@@ -66,7 +66,8 @@ module _ (limits : List (Option ℕ)) (ms : List Machine) (came : List Arrival) 
     (note : List Transfer) where
   -- ## The states that the lines leave no choice of
 
-  -- the run is stable up to this slot and has moved what the lines before it say, and what is admitted in it has arrived
+  -- the run is stable up to this slot and has moved what the lines before it say, and what is admitted in it has
+  -- arrived
   record HasArrived (slot : ℕ) (arrived : Fabric) : Type 0 where
     pub records : List LimitedRecord
     pub old : Marked Fabric
@@ -152,7 +153,8 @@ module _ (limits : List (Option ℕ)) (ms : List Machine) (came : List Arrival) 
 
   -- lines that are the transfers of a stable matching have none
   told_right : (slot phase at : ℕ) (f g : Fabric) (m : Partners) (fault : PhaseFault) → f ≡ g → phase ≡ at →
-      IsStableTold f.inputs slot at (in_phase slot at note) m → IsPhaseFault g.inputs (in_phase slot phase note) fault → ⊥
+      IsStableTold f.inputs slot at (in_phase slot at note) m →
+      IsPhaseFault g.inputs (in_phase slot phase note) fault → ⊥
   told_right slot phase at f g m fault same here told wrong =
       phase_is_exact.never_both g.inputs slot at (in_phase slot at note) m fault
       (subst (λ (h : Fabric). IsStableTold h.inputs slot at (in_phase slot at note) m) same told)
@@ -215,7 +217,8 @@ module _ (limits : List (Option ℕ)) (ms : List Machine) (came : List Arrival) 
       let parted : before_slot n note ≡ moved (take m rs) ++ moved (drop m rs) =
       sym told ∙ ap moved (sym (take-append-drop m rs)) ∙ moved_parts (take m rs) (drop m rs) in
       let earlier : AllByRecursion (λ t. t.slot < m) (moved (take m rs)) =
-      weaker (λ t. t.slot < 0 + length (first_slots came m)) (λ t. t.slot < m) (λ t lt. omega arith) (moved (take m rs))
+      weaker (λ t. t.slot < 0 + length (first_slots came m)) (λ t. t.slot < m) (λ t lt. omega arith)
+      (moved (take m rs))
       (run_before limits ms 0 (first_slots came m) start r.state (take m rs) r.after) in
       let later = run_later limits ms m (arriving_from came m (n - m)) r.state end (drop m rs) r.rest in
       record {
@@ -290,11 +293,11 @@ module _ (limits : List (Option ℕ)) (ms : List Machine) (came : List Arrival) 
       let h = halfway slot n rs end (omega arith) run told in
       let left : n - slot ≡ suc (n - slot - 1) = omega arith in
       let x = next slot (n - slot - 1) h.state (drop slot rs) end
-      (subst (λ (k : ℕ). LimitedFabricRun IsStable limits ms slot (arriving_from came slot k) h.state (drop slot rs) end)
-      left h.rest) in
+      (subst (λ (k : ℕ).
+      LimitedFabricRun IsStable limits ms slot (arriving_from came slot k) h.state (drop slot rs) end) left h.rest) in
       let r = x.here.of_slot in
-      let of = in_slot slot n lt h.state (take slot rs) (drop slot rs) x.here x.others x.new h.parted h.earlier x.whole x.step
-      x.later in
+      let of = in_slot slot n lt h.state (take slot rs) (drop slot rs) x.here x.others x.new h.parted h.earlier x.whole
+      x.step x.later in
       let begun : HasArrived slot r.arrived = record {
         records = take slot rs;
         old = h.state;
@@ -389,7 +392,8 @@ module _ (limits : List (Option ℕ)) (ms : List Machine) (came : List Arrival) 
   followed_left n l = record { records = l.records; end = l.end; runs = l.runs; told = l.moved }
 
   -- where they are those of a stable run, it moves them all
-  followed_all : (is : IsOfStableRun limits ms came start note) → moved is.records ≡ before_slot (length is.records) note
+  followed_all : (is : IsOfStableRun limits ms came start note) →
+      moved is.records ≡ before_slot (length is.records) note
   followed_all is =
       let n = length is.records in
       let long = arriving_length came 0 n in
@@ -409,8 +413,8 @@ module _ (limits : List (Option ℕ)) (ms : List Machine) (came : List Arrival) 
       (λ (longer : n < length a.records).
       let h = halfway n (length a.records) a.records a.end (omega arith)
       (whole_run limits ms came start a.records a.end a.runs) a.told in
-      let one = one_stable_run limits ms 0 (first_slots came n) start h.state b.end (take n a.records) b.records h.after
-      (whole_run limits ms came start b.records b.end b.runs) (h.before ∙ sym b.told) in
+      let one = one_stable_run limits ms 0 (first_slots came n) start h.state b.end (take n a.records) b.records
+      h.after (whole_run limits ms came start b.records b.end b.runs) (h.before ∙ sym b.told) in
       a.runs.first n h.state h.after b.runs.all_came
       (subst (λ (f : Marked Fabric). IsEmptyFabric f.state) (sym one.1) b.runs.empty))
       (λ (enough : length a.records ≤ n). enough)
@@ -431,8 +435,8 @@ module _ (limits : List (Option ℕ)) (ms : List Machine) (came : List Arrival) 
       none_passed slot phase fault (passed slot n w.records w.end within run w.told) (fault_in slot phase fault f))
       (λ (behind : n ≤ slot).
       let h = halfway n slot at.reached.records at.old behind at.reached.runs at.reached.moved in
-      let one = one_stable_run limits ms 0 (first_slots came n) start h.state w.end (take n at.reached.records) w.records
-      h.after run (h.before ∙ sym w.told) in
+      let one = one_stable_run limits ms 0 (first_slots came n) start h.state w.end (take n at.reached.records)
+      w.records h.after run (h.before ∙ sym w.told) in
       at.reached.goes_on n h.state behind h.after w.runs.all_came
       (subst (λ (g : Marked Fabric). IsEmptyFabric g.state) (sym one.1) w.runs.empty))
       (cases_lt slot n)
@@ -443,7 +447,8 @@ module _ (limits : List (Option ℕ)) (ms : List Machine) (came : List Arrival) 
   none_left n is l =
       let same = one_length (followed_whole is) (followed_left n l) in
       let all : before_slot (length is.records) note ≡ note = sym (followed_all is) ∙ is.moved in
-      let long : length (before_slot (length is.records) note) ≡ length note = ap (λ (ls : List Transfer). length ls) all in
+      let long : length (before_slot (length is.records) note) ≡ length note =
+      ap (λ (ls : List Transfer). length ls) all in
       let there : length (before_slot (length is.records) note) ≡ length (before_slot (length l.records) note) =
       ap (λ (k : ℕ). length (before_slot k note)) same in
       let number : n ≡ length (before_slot (length l.records) note) + 1 = l.number in
@@ -473,7 +478,8 @@ module _ (limits : List (Option ℕ)) (ms : List Machine) (came : List Arrival) 
     pub is : refusal ≡ Left line
     pub at : IsLeftAt limits ms came start note line
 
-  fault_or_left : (refusal : AuditRefusal) → IsNoOf limits ms came start note refusal → OfFault refusal ⊎ OfLeft refusal
+  fault_or_left : (refusal : AuditRefusal) → IsNoOf limits ms came start note refusal →
+      OfFault refusal ⊎ OfLeft refusal
   fault_or_left (Line n) wrong = absurd wrong
   fault_or_left (Wrong slot phase i) wrong =
       inl (record { slot = slot; phase = phase; fault = WrongLine i; is = refl; at = wrong })

@@ -20,3 +20,4 @@ pub mod Bounded
 pub mod Steps
 pub mod Opened
 pub mod AuditExact
+pub mod Noted

@@ -21,7 +21,7 @@ record Fits (ports classes k : ℕ) (cell : Cell) : Type 0 where
   pub output : cell.output < ports
   pub class : cell.class < classes
 
-one_found : (P : Cell → Type 0) (came : List Arrival) (t k : ℕ) (cell : Cell) → AllByRecursion P (found came t k) → arriving_at came t k ≡ Some cell → P cell
+pub one_found : (P : Cell → Type 0) (came : List Arrival) (t k : ℕ) (cell : Cell) → AllByRecursion P (found came t k) → arriving_at came t k ≡ Some cell → P cell
 unfolding found
 one_found P came t k cell all is =
     let one : AllByRecursion P (cell_listed (Some cell)) = subst (λ (o : Option Cell). AllByRecursion P (cell_listed o)) is all in
