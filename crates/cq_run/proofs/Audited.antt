@@ -58,16 +58,16 @@ sent_ok (Err fault) sent h = absurd (let P : ⊥ = cc h in P)
 
 module _ (r : Reader) (config : List ℕ) where
   -- what is judged once all is read, and from each name on
-  abbrev last : Tables → List (List Captured) → List ℕ → List ℕ → Result Aim Refusal
+  abbrev pub last : Tables → List (List Captured) → List ℕ → List ℕ → Result Aim Refusal
   last t captures trace log = ideally_sent t captures >>= (λ sent. Ok (Auditing t captures sent trace log))
 
-  abbrev from_log : Tables → List (List Captured) → List ℕ → Contents → Result Aim Refusal
+  abbrev pub from_log : Tables → List (List Captured) → List ℕ → Contents → Result Aim Refusal
   from_log t captures trace m = text_in LongLog t.log m >>= (λ log. last t captures trace log)
 
-  abbrev from_trace : Tables → List (List Captured) → Contents → Result Aim Refusal
+  abbrev pub from_trace : Tables → List (List Captured) → Contents → Result Aim Refusal
   from_trace t captures m = text_in LongTrace t.trace m >>= (λ trace. from_log t captures trace m)
 
-  abbrev from_captures : Tables → Contents → Result Aim Refusal
+  abbrev pub from_captures : Tables → Contents → Result Aim Refusal
   from_captures t m = captures_in r t m >>= (λ captures. from_trace t captures m)
 
   abbrev all_of : Contents → Result Aim Refusal

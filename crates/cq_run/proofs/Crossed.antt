@@ -1,5 +1,5 @@
 -- What is kept of a run of the crossbar switch, and the plan that is made of it.
-use Rattle.std.proofs.Common.{◌≡◌, ◌∙◌, ◌++◌, ◌∷◌, [], ℕ, List, length, ap, sym, subst}
+use Rattle.std.proofs.Common.{◌≡◌, ◌∙◌, ◌++◌, ◌∷◌, [], ℕ, List, ap, sym, subst}
 use Rattle.std.specs.Prelude.{Option, None, Some, IfSome, Ok}
 use Rattle.cq_base.specs.Arriving.{Arrival}
 use Rattle.cq_base.specs.Texts.{trace_of, log_of}
@@ -12,7 +12,7 @@ use Rattle.cq_laws.specs.LimitedFabric.{LimitedRecord, slots_in}
 use Rattle.cq_laws.specs.Measures.{figures_of}
 use Rattle.cq_pcap.specs.Captured.{Captured}
 use Rattle.cq_report.specs.Report.{report_with}
-use Rattle.cq_route.specs.Tables.{AreTables, classes_of, ports_of}
+use Rattle.cq_route.specs.Tables.{classes_of, ports_of}
 use Rattle.cq_route.specs.declared.tables.Tables.{Tables}
 use Rattle.cq_simulate.proofs.FabricLaws.{always_slack, best_in_each, slot_by_slot}
 use Rattle.cq_simulate.proofs.EachPacket.{each_packet_once}
@@ -20,7 +20,7 @@ use Rattle.cq_simulate.specs.FabricRuns.{IsFabricRun, IsKeptOf}
 use Rattle.cq_simulate.specs.IdealRuns.{ideal_departures}
 use Rattle.cq_simulate.specs.declared.fabric_run.FabricRun.{FabricRun}
 use Rattle.cq_space.specs.Space.{Contents, Space}
-use Rattle.cq_run.specs.Headline.{IsEmulation, KeepsUp}
+use Rattle.cq_run.specs.Headline.{AreGiven, IsEmulation, KeepsUp}
 use Rattle.cq_run.specs.Judging.{Judges}
 use Rattle.cq_run.specs.Pace.{Pace}
 use Rattle.cq_run.specs.Plan.{Plan}
@@ -31,21 +31,21 @@ use Rattle.cq_run.specs.Verdict.{sent_or_tag, tables_in, captures_in}
 use Rattle.cq_run.specs.declared.switching.Crossed.{Crossed}
 use Rattle.cq_run.proofs.Captures.{plan_is}
 
-keeps_up : (t : Tables) (captures : List (List Captured)) (rs : List LimitedRecord) → AreTables t →
-    length captures ≡ ports_of t.setup → IsTraffic (ports_of t.setup) (classes_of t.setup) (arrivals t captures) →
+keeps_up : (t : Tables) (captures : List (List Captured)) (rs : List LimitedRecord) → AreGiven t captures → IsTraffic (ports_of t.setup) (classes_of t.setup) (arrivals t captures) →
     IsFabricRun t (arrivals t captures) rs → KeepsUp t captures rs
-keeps_up t captures rs are each traffic is = record {
+keeps_up t captures rs given traffic is = record {
+  given = given;
   runs = is;
   drained = is.runs.empty;
   input_best = best_in_each t (arrivals t captures) rs traffic is;
   same = slot_by_slot t (arrivals t captures) rs traffic is;
   slack = always_slack t (arrivals t captures) rs traffic is;
-  once = each_packet_once t captures rs are each is;
+  once = each_packet_once t captures rs given.tables given.each is;
 }
 
 -- a run over a schedule of the captures
 pub is_crossed : (t : Tables) (captures : List (List Captured)) (came : List Arrival) (run : FabricRun) (stamp : ℕ) →
-    AreTables t → length captures ≡ ports_of t.setup → came ≡ arrivals t captures → stamp ≡ first_stamp captures →
+    AreGiven t captures → came ≡ arrivals t captures → stamp ≡ first_stamp captures →
     IsTraffic (ports_of t.setup) (classes_of t.setup) came → IsKeptOf t came run →
     ideal_departures t came ≡ Ok run.sent.items →
     IsCrossed t captures (record {
@@ -54,13 +54,13 @@ pub is_crossed : (t : Tables) (captures : List (List Captured)) (came : List Arr
       figures = run.figures;
       refused = run.refused;
     })
-is_crossed t captures came run stamp are each e s traffic kept sent =
+is_crossed t captures came run stamp given e s traffic kept sent =
     let P : List Arrival → Type 0 = λ c. IsFabricRun t c kept.records in
     let Q : List Arrival → Type 0 = λ c. IsTraffic (ports_of t.setup) (classes_of t.setup) c in
     record {
       switched = record { sent = ap sent_or_tag (ap (ideal_departures t) (sym e) ∙ sent); first_stamp = s };
       records = kept.records;
-      keeps_up = keeps_up t captures kept.records are each (subst Q e traffic) (subst P e kept.is_run);
+      keeps_up = keeps_up t captures kept.records given (subst Q e traffic) (subst P e kept.is_run);
       departed = kept.sent;
       note = kept.note;
       figures = kept.figures;

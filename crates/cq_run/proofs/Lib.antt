@@ -25,3 +25,7 @@ pub mod Decided
 pub mod Denied
 pub mod Audited
 pub mod TextRead
+pub mod NamesApart
+pub mod Left
+pub mod CapturesFit
+pub mod OwnAudit

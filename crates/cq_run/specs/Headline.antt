@@ -1,13 +1,15 @@
 -- What the program claims of `run CONFIG`, of `pass IN OUT` and of `audit CONFIG`, in one place.
-use Rattle.std.specs.Prelude.{◌≡◌, ℕ, List, [], ◌∷◌, Some, Ok}
+use Rattle.std.specs.Prelude.{◌≡◌, ℕ, ◌<◌, List, [], ◌∷◌, length, Some, Ok}
 use Rattle.std.specs.FinMap.{get}
 use Rattle.cq_audit.specs.Audit.{IsYes}
 use Rattle.cq_base.specs.Texts.{trace_of}
-use Rattle.cq_cells.specs.Schedule.{arrivals}
+use Rattle.cq_cells.specs.Schedule.{arrivals, packets_of}
+use Rattle.cq_cells.specs.Traffic.{IsRecorded}
 use Rattle.cq_laws.specs.Fabric.{IsEmptyFabric}
 use Rattle.cq_laws.specs.LimitedFabric.{LimitedRecord}
 use Rattle.cq_pcap.specs.Captured.{Captured}
 use Rattle.cq_route.specs.Plain.{plain_tables}
+use Rattle.cq_route.specs.Tables.{AreTables, ports_of}
 use Rattle.cq_route.specs.declared.tables.Tables.{Tables}
 use Rattle.cq_simulate.specs.EachPacket.{EachPacketOnce}
 use Rattle.cq_simulate.specs.IdealRuns.{ideal_departures}
@@ -21,9 +23,16 @@ use Rattle.cq_run.specs.Plans.{audited, crossed, passed}
 use Rattle.cq_run.specs.Reader.{Reader}
 use Rattle.cq_run.specs.Verdict.{tables_in, capture_in, captures_in}
 
+-- what a switch is given: tables that are in range, and for each port the packets that a capture can have
+pub record AreGiven (t : Tables) (captures : List (List Captured)) : Type 0 where
+  pub tables : AreTables t
+  pub each : length captures ≡ ports_of t.setup
+  pub recorded : (i : ℕ) → i < length captures → IsRecorded (packets_of captures i)
+
 -- The records, slot by slot, of the crossbar switch with the traffic of these captures: it keeps up with the ideal switch
 -- (Chuang, Goel, McKeown and Prabhakar 1999) of the same levels, ranks and limits.
 pub record KeepsUp (t : Tables) (captures : List (List Captured)) (rs : List LimitedRecord) : Type 0 where
+  pub given : AreGiven t captures
   -- they are the whole run of the definition, from the empty switch on up to the last slot in which a cell arrives, waits or leaves
   pub runs : IsFabricRun t (arrivals t captures) rs
   -- at its end no cell waits, at an input or at an output

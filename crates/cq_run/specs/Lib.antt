@@ -20,4 +20,5 @@ pub mod Headline
 pub mod Ending
 pub mod Line
 pub mod Answers
+pub mod RunsAudited
 pub mod StatusCauses

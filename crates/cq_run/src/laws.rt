@@ -1,10 +1,17 @@
-//! How captures are read. The law is the contract of a function that does nothing.
+//! How captures are read, and what an audit says of a run. A law is the contract of a function that does nothing.
 ghost use Rattle.std.specs.Prelude.{◌≡◌, ◌<◌, ℕ, List, slice_index};
 ghost use Rattle.cq_run.specs.Reader.{Reader};
+ghost use Rattle.cq_run.specs.RunsAudited.{RunsAreAudited};
 
 /// There is a reader that goes by the grammar of captures and by its faults, and of a file of bytes any two such readers
 /// make the same. So what holds for any reader holds for one that is pinned on all files.
 pub fn captures_are_read_in_one_way()
     ensures a_reader { Reader }
     ensures one_answer { (r s : Reader) (bytes : List ℕ) → ((i : ℕ) → slice_index bytes i < 256) → r.read bytes ≡ s.read bytes }
+{}
+
+/// What `run` leaves over any contents gets a yes from `audit` of the same configuration, unless the run wrote the
+/// configuration itself or a file that is too long for an audit. It does nothing: its contract is the claim.
+pub fn runs_are_audited()
+    ensures { (r : Reader) → RunsAreAudited r }
 {}

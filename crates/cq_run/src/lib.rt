@@ -29,7 +29,7 @@ pub use cq_simulate::{
 };
 pub use cq_words::{Command, command_of};
 pub use denial::Denial;
-pub use laws::captures_are_read_in_one_way;
+pub use laws::{captures_are_read_in_one_way, runs_are_audited};
 pub use refusal::{CaptureFault, Refusal};
 pub use stop::{Halt, Stop, Unwritten};
 pub use stream::stream_top;

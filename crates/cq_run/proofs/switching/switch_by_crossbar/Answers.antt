@@ -6,7 +6,8 @@ use Rattle.cq_run.proofs.switching.switch_by_crossbar.Goals as goal
 
 pub returns-clause-crossed : goal.returns-clause-crossed
 returns-clause-crossed g c =
-    is_crossed c.args.tables.now c.args.captures.now c.in_ok-schedule.schedule.came c.in_ok-run.run' c.t0.result c.requires.tables c.requires.captures (ap (λ s. s.came) c.in_ok-schedule.ensures.schedule) (c.t0.ensures ∙ ap (λ s. s.first_stamp) c.in_ok-schedule.ensures.schedule)
+    is_crossed c.args.tables.now c.args.captures.now c.in_ok-schedule.schedule.came c.in_ok-run.run' c.t0.result
+    (record { tables = c.requires.tables; each = c.requires.captures; recorded = c.in_ok-schedule.ensures.recorded }) (ap (λ s. s.came) c.in_ok-schedule.ensures.schedule) (c.t0.ensures ∙ ap (λ s. s.first_stamp) c.in_ok-schedule.ensures.schedule)
     c.in_ok-schedule.ensures.traffic c.in_ok-run.ensures.run c.in_ok-run.ensures.as_ideal
 
 pub returns-clause-reportable : goal.returns-clause-reportable

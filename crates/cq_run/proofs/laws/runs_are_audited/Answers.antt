@@ -1,0 +1,5 @@
+use Rattle.cq_run.proofs.OwnAudit.{runs_audited}
+use Rattle.cq_run.proofs.laws.runs_are_audited.Goals as goal
+
+pub returns : goal.returns
+returns c = runs_audited
