@@ -10,11 +10,11 @@ _cq_switch() {
     local word=${COMP_WORDS[COMP_CWORD]}
     COMPREPLY=()
     if ((COMP_CWORD == 1)); then
-        mapfile -t COMPREPLY < <(compgen -W 'check ideal pass run soak stream' -- "$word")
+        mapfile -t COMPREPLY < <(compgen -W 'audit check ideal pass run soak stream' -- "$word")
         return
     fi
     case ${COMP_WORDS[1]}-$COMP_CWORD in
-        check-2 | ideal-2 | run-2 | stream-2) _cq_switch_files toml "$word" ;;
+        audit-2 | check-2 | ideal-2 | run-2 | stream-2) _cq_switch_files toml "$word" ;;
         pass-2 | pass-3) _cq_switch_files pcap "$word" ;;
     esac
 }

@@ -28,7 +28,7 @@ offers() {
     fi
 }
 
-offers '[check][ideal][pass][run][soak][stream]' ''
+offers '[audit][check][ideal][pass][run][soak][stream]' ''
 offers '[run]' r
 offers '[a b.toml][more]' run ''
 offers '[in.pcap][more]' pass ''
