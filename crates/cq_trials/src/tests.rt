@@ -1,4 +1,5 @@
 //! Input that is refused, files that fail, and configurations: each with its status and its line.
+mod audited;
 mod configured;
 mod damaged;
 mod failing;

@@ -90,6 +90,17 @@ impl Run {
         self.is_crossed(alloc, &ended, &disk)
     }
 
+    /// Whether an audit says yes to what the run has left on this disk.
+    pub fn is_audited<R: Threads + Sync>(
+        &self,
+        rt: &R,
+        alloc: Global,
+        disk: &mut Disk,
+    ) -> Result<bool, NoMemory> {
+        let ended = answer(rt, alloc, &["audit", "c.toml"], disk)?;
+        Ok(ended.is_done("audit yes\n") && self.is_sent(alloc, disk)?)
+    }
+
     /// Whether the ideal switch sends what the run sends, and touches no log.
     pub fn is_ideal<R: Threads + Sync>(&self, rt: &R, alloc: Global) -> Result<bool, NoMemory> {
         let mut disk = self.disk(alloc, 1)?;

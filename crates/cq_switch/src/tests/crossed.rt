@@ -222,11 +222,14 @@ fn is_crossed<R: Threads + Sync>(
     workers: u8,
 ) -> Result<bool, NoMemory> {
     let mut disk = run.disk(alloc, workers)?;
-    run.crosses(rt, alloc, &mut disk)
+    let crosses = run.crosses(rt, alloc, &mut disk)?;
+    Ok(crosses && run.is_audited(rt, alloc, &mut disk)?)
 }
 
 #[test]
-fn both_switches_write_worked_runs_whatever_the_workers(rt: HostRuntime) -> Result<(), Fail> {
+fn both_switches_write_worked_runs_whatever_the_workers_and_audits_say_yes(
+    rt: HostRuntime,
+) -> Result<(), Fail> {
     for run in RUNS.iter().chain(RUNS_WITH_A_LIMIT).chain(RUNS_BY_KEYS) {
         assert!(rt; run.is_ideal(&rt, rt.alloc())?, "{}", run.shows);
         for workers in [1, 2, 64] {
