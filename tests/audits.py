@@ -4,8 +4,11 @@
     audits.py --bin PROGRAM [--seed N] [--switches N] [--changes N] [--from N]
 
 It draws switches, with limits and levels or without, and their traffic. Each is run by the program, whose audit then has to say
-yes. After that single changes are drawn in the trace and in the log that the run left, and each time the program has to
-print and to answer what `examples/audit_model.py` says. It needs Python 3.11.
+yes, as it has to over the shipped examples. Then the log is made anew by a fabric whose matchings are stable and best for the
+outputs, and that has to get a yes too, with the trace that is there already. After that single changes are drawn in the
+trace and in the log that the run left, and each time the program has to print and to answer what `examples/audit_model.py`
+says. The last line tells how many there were of each answer, and how many of the logs made anew were other ones. It needs
+Python 3.11.
 """
 
 import argparse
@@ -18,14 +21,18 @@ import tempfile
 HERE = os.path.dirname(os.path.realpath(__file__))
 sys.path.insert(0, os.path.join(HERE, "..", "examples"))
 
+import hostile  # noqa: E402
 from audit_model import verdict  # noqa: E402
+from fabric_model import Fabric  # noqa: E402
 from model import Packet, captured  # noqa: E402
+from switch_model import Switch  # noqa: E402
 
 KINDS = ("first-come", "priority", "fair")
+CROWDED = 8  # every eighth switch has eight ports, of which two outputs are busy
 
 
-def configuration(draw, ports, classes, stations):
-    """A drawn switch."""
+def configuration(draw, ports, classes, stations, is_crowded):
+    """A drawn switch. A crowded one is fair and has no limits: there stable matchings differ most often."""
     version = draw.choice((1, 2))
     lines = ["version = %d" % version, "default_output = %d" % draw.randrange(ports)]
     lines += ['trace = "trace.txt"', 'log = "log.txt"']
@@ -35,8 +42,8 @@ def configuration(draw, ports, classes, stations):
             lines.append("level = %d" % draw.choice((0, 1, 2, 15)))
     for i in range(ports):
         lines += ["[[port]]", 'read = "in%d.pcap"' % i, 'write = "out%d.pcap"' % i]
-        lines += ['discipline = "%s"' % draw.choice(KINDS)]
-        if draw.random() < 0.4:
+        lines += ['discipline = "%s"' % draw.choice(KINDS[2:] if is_crowded else KINDS)]
+        if draw.random() < 0.4 and not is_crowded:
             lines.append("limit = %d" % draw.choice((1, 2, 3, 5)))
     for j in range(stations):
         lines += ["[[address]]", 'mac = "02:00:00:00:00:%02x"' % j, "output = %d" % draw.randrange(ports)]
@@ -45,26 +52,37 @@ def configuration(draw, ports, classes, stations):
     return "\n".join(lines) + "\n"
 
 
-def packets(draw, stations, classes, many):
+def packet(draw, stamp, length, station, classes):
+    tag = bytes([0x81, 0, draw.randrange(classes) << 5, 0])
+    head = bytes([2, 0, 0, 0, 0, station]) + bytes([2, 0, 0, 0, 1, 0]) + tag + bytes([0x88, 0xB5])
+    return Packet(stamp, length, head.ljust(length, b"\0"))
+
+
+def packets(draw, stations, classes):
     """What arrives at an input: microseconds are two slots, less a little."""
     stamp = draw.randrange(3) * 1000
-    for _ in range(draw.randrange(many)):
-        length = draw.choice((60, 64, 65, 130, 200, 260))
-        tag = bytes([0x81, 0, draw.randrange(classes) << 5, 0])
-        head = bytes([2, 0, 0, 0, 0, draw.randrange(stations)]) + bytes([2, 0, 0, 0, 1, 0]) + tag + bytes([0x88, 0xB5])
-        yield Packet(stamp, length, head.ljust(length, b"\0"))
+    for _ in range(draw.randrange(9)):
+        yield packet(draw, stamp, draw.choice((60, 64, 65, 130, 200, 260)), draw.randrange(stations), classes)
         stamp += draw.choice((0, 0, 1, 1, 2, 3, 40)) * 1000
 
 
-def make(draw):
+def crowd(draw, stations, classes):
+    """The same, where most go to two stations: a cell in most slots."""
+    for slot in range(30):
+        if draw.random() < 0.9:
+            station = draw.randrange(2) if draw.random() < 0.8 else draw.randrange(stations)
+            yield packet(draw, slot * 512, 60, station, classes)
+
+
+def make(draw, is_crowded):
     """Puts the files of a drawn switch into the folder."""
-    ports, classes = draw.randrange(1, 6), draw.randrange(1, 4)
+    ports, classes = (8, 8) if is_crowded else (draw.randrange(1, 6), draw.randrange(1, 4))
     stations = ports + draw.randrange(2)
     with open("c.toml", "w", encoding="ascii") as file:
-        file.write(configuration(draw, ports, classes, stations))
+        file.write(configuration(draw, ports, classes, stations, is_crowded))
     for i in range(ports):
         with open("in%d.pcap" % i, "wb") as file:
-            file.write(captured(packets(draw, stations, classes, 9)))
+            file.write(captured((crowd if is_crowded else packets)(draw, stations, classes)))
 
 
 def change_number(draw, line):
@@ -101,50 +119,91 @@ def changed(draw, text):
     return b"".join(lines)
 
 
+class OutputBest(Fabric):
+    """A fabric of another maker: in its matchings a free output asks the inputs by the keys of their cells, and an input keeps
+    the output that stands first in its list. This too is stable, and may be another matching than that of the program."""
+
+    def match(self):
+        fronts = [self.fronts(i) for i in self.ports]
+        asked = [sorted(f[j] for f in fronts if j in f) for j in self.ports]
+        kept, free = {}, list(self.ports)
+        while free:
+            output = free.pop()
+            if asked[output]:
+                i = asked[output].pop(0).input
+                order = list(fronts[i])
+                kept[i], *loser = sorted({output, kept.get(i, output)}, key=order.index)
+                free += loser
+        return {output: fronts[i][output] for i, output in kept.items()}
+
+
+def read(name):
+    with open(name, "rb") as file:
+        return file.read()
+
+
+def write(name, data):
+    with open(name, "wb") as file:
+        file.write(data)
+
+
 def answer(program, *words):
     ran = subprocess.run([program, *words], capture_output=True, timeout=120, check=False)
     return ran.returncode, ran.stdout, ran.stderr
 
 
-def audited(program):
+def audited(program, config):
     """What the program says of the files in the folder, and what it is to say."""
-    line = verdict("c.toml")
+    line = verdict(config)
     text = line.encode() + b"\n"
     due = (0, text, b"") if line == "audit yes" else (8, b"", text)
-    return answer(program, "audit", "c.toml"), due
+    return answer(program, "audit", config), due
 
 
 class Trial:
     def __init__(self, program):
-        self.program, self.wrong, self.tried, self.said = program, 0, 0, {}
+        self.program, self.wrong, self.tried, self.others, self.said = program, 0, 0, 0, {}
 
-    def look(self, what):
-        said, due = audited(self.program)
+    def look(self, what, config="c.toml", is_yes=False):
+        said, due = audited(self.program, config)
         self.tried += 1
         kind = (due[1] or due[2]).split()[1].decode()
         self.said[kind] = self.said.get(kind, 0) + 1
-        if said != due:
+        if said != due or is_yes and kind != "yes":
             self.wrong += 1
-            print("%s: said %r, and is to say %r" % (what, said, due))
+            print("%s: said %r, and the model says %r" % (what, said, due))
+
+    def run(self, what, config="c.toml"):
+        """Runs a switch, and then another maker's. Both have to get a yes, and what the first left stands afterwards."""
+        ran = answer(self.program, "run", config)
+        if ran[0]:
+            self.wrong += 1
+            print("%s: run answers %r" % (what, ran))
+            return None
+        self.look(what, config, is_yes=True)
+        other = OutputBest(Switch.of(config))
+        trace, log = read(other.switch.trace), read(other.switch.log)
+        other.run().write()
+        self.others += read(other.switch.log) != log
+        write(other.switch.trace, trace)
+        self.look(what + ", best for the outputs", config, is_yes=True)
+        write(other.switch.log, log)
+        return {other.switch.trace: trace, other.switch.log: log}
+
+    def example(self, config, files):
+        for name, data in files.items():
+            write(name, data)
+        self.run("example " + config, config)
 
     def switch(self, number, seed, changes):
         draw = random.Random(seed * 1_000_003 + number)
-        make(draw)
-        ran = answer(self.program, "run", "c.toml")
-        if ran[0]:
-            self.wrong += 1
-            print("switch %d: run answers %r" % (number, ran))
-            return
-        self.look("switch %d" % number)
-        for change in range(changes):
+        make(draw, number % CROWDED == 0)
+        left = self.run("switch %d" % number)
+        for change in range(changes if left else 0):
             name = draw.choice(("log.txt", "log.txt", "log.txt", "trace.txt"))
-            with open(name, "rb") as file:
-                text = file.read()
-            with open(name, "wb") as file:
-                file.write(changed(draw, text))
+            write(name, changed(draw, left[name]))
             self.look("switch %d, change %d in %s" % (number, change, name))
-            with open(name, "wb") as file:
-                file.write(text)
+            write(name, left[name])
 
 
 def main():
@@ -158,11 +217,13 @@ def main():
     trial = Trial(os.path.realpath(asked.bin))
     with tempfile.TemporaryDirectory() as folder:
         os.chdir(folder)
+        for config, files in hostile.load_examples():
+            trial.example(config, files)
         for number in range(asked.first, asked.switches):
             trial.switch(number, asked.seed, asked.changes)
         os.chdir("/")
     said = ", ".join("%s %d" % pair for pair in sorted(trial.said.items()))
-    print("audits: %d tried (%s), %d wrong" % (trial.tried, said, trial.wrong))
+    print("audits: %d tried (%s), %d other logs, %d wrong" % (trial.tried, said, trial.others, trial.wrong))
     return 1 if trial.wrong else 0
 
 
