@@ -108,7 +108,11 @@ class Launcher(unittest.TestCase):
                 ("read fault: in0.pcap", 5, "in0.pcap is missing or cannot be read"),
                 ("write fault: out0.pcap", 6, "out0.pcap could not be written"),
                 ("write fault: -", 6, "standard output took only a part"),
-                ("no memory", 7, "there was not the memory for this run")):
+                ("no memory", 7, "there was not the memory for this run"),
+                ("audit: A1 at line 3", 8, "this is the first thing wrong with the log"),
+                ("audit: A3 at slot 0 phase 2 input 1 output 0", 8, "this is the first thing wrong with the log"),
+                ("audit: A5 at line 2", 8, "the log is sound; the trace is not"),
+                ("audit: A6 trace", 8, "the trace has more than 268435456 bytes")):
             with self.subTest(line):
                 code, said = self.call(line, "run", "c.toml", status=status)
                 self.assertEqual(code, status)

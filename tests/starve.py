@@ -239,6 +239,11 @@ def cases():
     cut = {**reads, "in1.pcap": reads["in1.pcap"][:-1]}
     dear = {"switch.toml": DEAR, "in0.pcap": HEADER + record(0, 0) + record(512, 0)}
     run = ["run", "switch.toml"]
+    # What was left of a run: each name is read, and none is written.
+    left = {**two_ports("out0.pcap", "out1.pcap"), **{name: TWO_PORTS[name] for name in ("trace.txt", "log.txt")}}
+    early = {**left, "log.txt": b"0 1 0 0 0 0\n"}
+    late = {**left, "trace.txt": b"0 0 0 0 0\n"}
+    audit = ["audit", "switch.toml"]
     return (
         Case("pass", ["pass", "in.pcap", "out.pcap"], shipped("one-port", "in.pcap"), shipped("one-port", "out.pcap")),
         Case("check", ["check", "switch.toml"], shipped("three-ports", "switch.toml"), {},
@@ -249,6 +254,9 @@ def cases():
         Case("office", ["run", "office.toml"], office, ranked, *shipped("office", "report.txt").values()),
         Case("two workers", run, two_ports("out0.pcap", "out1.pcap"), TWO_PORTS, TWO_PORTS_REPORT),
         Case("soak", ["soak", "1", "4", "20"], {}, {}, drawn),
+        Case("audit", audit, left, {}, b"audit yes\n"),
+        Case("short log", audit, early, {}, refusal=(8, b"audit: A3 at slot 0 phase 2 input 1 output 0\n")),
+        Case("short trace", audit, late, {}, refusal=(8, b"audit: A5 at line 2\n")),
         Case("no command", ["help"], {}, {}, refusal=USAGE),
         Case("unknown key", run, unknown, crossed, refusal=(2, b"configuration: C5 at address[1].zzz\n")),
         Case("cut capture", run, cut, crossed, refusal=(3, b"capture of input 1: 6 at 100\n")),
