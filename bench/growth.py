@@ -56,7 +56,8 @@ def quiet(program, command, ports, slots, options):
         write_capture(".", number, (0, slots * model().SLOT_NS) if number == 0 else ())
     words = [program, command, write_configuration(".", ports)]
     spent = middle([run(words) for _ in range(options.runs)])
-    return ("`%s`" % command, ports, whole(slots), "%.3f s" % spent.seconds, "%.3f s" % spent.busy)
+    counted = None if options.fast else instructions(words)
+    return ("`%s`" % command, ports, whole(slots), "%.3f s" % spent.seconds, "%.3f s" % spent.busy, per(counted, 1))
 
 
 def main():
@@ -71,7 +72,7 @@ def main():
         os.chdir(folder)
         table(("bytes at an input", "cells in all", "longest list", "slots", *TIMES, "instructions a slot"),
               with_cells(program, options))
-        table(("command", "ports", "quiet slots", "time", "processor time"),
+        table(("command", "ports", "quiet slots", "time", "processor time", "instructions"),
               (quiet(program, command, ports, slots, options)
                for command in ("run", "ideal") for ports in QUIET_PORTS for slots in QUIET_SLOTS))
 
