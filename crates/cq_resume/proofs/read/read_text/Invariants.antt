@@ -1,9 +1,0 @@
-use Rattle.std.proofs.Common.{length}
-use Rattle.cq_resume.proofs.Due.{ReadSoFar}
-use Rattle.cq_resume.proofs.read.read_text.Given as goal
-
-abbrev pub invariant-lines : goal.invariant-lines
-invariant-lines l = ReadSoFar l.text l.told l.line l.place l.rest
-
-abbrev pub decreases-lines : goal.decreases-lines
-decreases-lines l = length l.rest

@@ -1,7 +1,0 @@
--- Only proofs use this.
--- A place as the code keeps it.
-use Rattle.cq_resume.specs.StateText as text
-use Rattle.cq_resume.specs.declared.next.Place.{Place}
-
-abbrev pub place_of : Place → text.Place
-place_of p = record { due = p.due.now; seen = p.seen; ports = p.ports }

@@ -1,0 +1,148 @@
+-- Each text that is allowed is that of a state. From the front on: where a kind is due, the lines that lead to the
+-- end of the text begin with those of this kind, each of which tells what its fields say, and what is behind them
+-- leads to the end from where the next kind is due.
+use Rattle.std.proofs.Common.{◌≡◌, ℕ, ◌+◌, ◌<◌, ◌≤◌, List, [], ◌∷◌, ◌++◌, length, Option, refl, ap, sym, subst, ◌∙◌, arith, ⊎_elim, inl, inr}
+use Rattle.std.specs.Prelude.{IsTrue, ◌⊎◌}
+use Rattle.std.specs.List.{AllByRecursion}
+use Rattle.cq_lines.specs.Texts.{Leads}
+use Rattle.cq_lines.specs.Ranges.{Within}
+use Rattle.cq_state.proofs.Written.{at, Completes}
+use Rattle.cq_state.specs.declared.kind.Kind.{Kind}
+use Rattle.cq_state.specs.StateText.{Line, Place, Comes, MayEnd, is_free, needed, ranges, further, ports_behind}
+use Rattle.cq_state.specs.State.{numbered}
+
+abbrev pub line_of : Kind → List (Option ℕ) → Line
+line_of k fs = record { kind = k; fields = fs }
+
+of_kind : (k : Kind) (x : Line) → x.kind ≡ k → x ≡ line_of k x.fields
+of_kind k x e = ap (λ j. line_of j x.fields) e
+
+-- at the end of the text nothing is lacking, and nothing of the kinds behind the first that is due
+ends : (k : Kind) (due : List Kind) (seen ports : ℕ) → Completes (at (k ∷ due) seen ports) [] →
+    (needed ports k ≤ seen) × Completes (at due 0 ports) []
+unfolding Completes
+ends k due seen ports c = let whole : MayEnd (at (k ∷ due) seen ports) = subst MayEnd (sym c.1) c.2 in
+    (whole.0, (at due 0 ports, refl, whole.1))
+
+-- a line of the kind that is due first, or all of its lines stand there
+pub record One (k : Kind) (due : List Kind) (seen ports : ℕ) (x : Line) (xs : List Line) : Type 0 where
+  pub is : x ≡ line_of k x.fields
+  pub room : IsTrue (is_free k) ⊎ (seen < needed ports k)
+  pub within : Within (ranges ports seen k) (further k) x.fields
+  pub rest : Completes (at (k ∷ due) (seen + 1) (ports_behind ports k x.fields)) xs
+
+goes_on : (k : Kind) (due : List Kind) (seen ports : ℕ) (x : Line) (xs : List Line) →
+    Completes (at (k ∷ due) seen ports) (x ∷ xs) →
+    One k due seen ports x xs ⊎ ((needed ports k ≤ seen) × Completes (at due 0 ports) (x ∷ xs))
+unfolding Completes
+goes_on k due seen ports x xs c = ⊎_elim
+    (λ one. inl (record {
+      is = of_kind k x one.kind;
+      room = one.room;
+      within = one.within;
+      rest = (c.0, subst (λ (p : Place). Leads Comes p xs c.0) one.leads c.1.2, c.2);
+    }))
+    (λ later. inr (later.0, (c.0, (c.1.0, later.1, c.1.2), c.2))) c.1.1
+
+-- ## One line
+
+module _ (k : Kind) (not_free : IsTrue (is_free k) → ⊥) (needs_one : (ports : ℕ) → needed ports k ≡ 1) (due : List
+    Kind) where
+  no_more : (ports : ℕ) (xs : List Line) → Completes (at (k ∷ due) 1 ports) xs → Completes (at due 0 ports) xs
+  no_more ports [] c = (ends k due 1 ports c).1
+  no_more ports (x ∷ xs) c = ⊎_elim
+      (λ one. ⊎_elim (λ free. absurd (not_free free)) (λ low. let needs = needs_one ports in absurd (omega arith))
+      one.room)
+      (λ later. later.1) (goes_on k due 1 ports x xs c)
+
+  pub record OneTold (ports : ℕ) (xs : List Line) : Type 0 where
+    pub fields : List (Option ℕ)
+    pub behind : List Line
+    pub is : xs ≡ line_of k fields ∷ behind
+    pub within : Within (ranges ports 0 k) (further k) fields
+    pub rest : Completes (at due 0 (ports_behind ports k fields)) behind
+
+  pub one_told : (ports : ℕ) (xs : List Line) → Completes (at (k ∷ due) 0 ports) xs → OneTold ports xs
+  one_told ports [] c = let enough = (ends k due 0 ports c).0 in let needs = needs_one ports in absurd (omega arith)
+  one_told ports (x ∷ xs) c = ⊎_elim
+      (λ one. record {
+        fields = x.fields;
+        behind = xs;
+        is = ap (λ y. y ∷ xs) one.is;
+        within = one.within;
+        rest = no_more (ports_behind ports k x.fields) xs one.rest;
+      })
+      (λ later. let enough = later.0 in let needs = needs_one ports in absurd (omega arith))
+      (goes_on k due 0 ports x xs c)
+
+-- ## Many lines
+
+module _ {X : Type 0} (k : Kind) (due : List Kind) (ports : ℕ) (told : (fs : List (Option ℕ)) →
+    ports_behind ports k fs ≡ ports) (line : ℕ → X → Line) (value : List (Option ℕ) → X) (Is : X → Type 0) (reads :
+    (seen :
+    ℕ) (fs : List (Option ℕ)) → Within (ranges ports seen k) (further k) fs → (line_of k fs ≡ line seen (value fs)) × Is
+    (value fs)) where
+  -- the lines of this kind, and those behind them
+  pub record ManyTold (seen : ℕ) (xs : List Line) : Type 0 where
+    pub values : List X
+    pub behind : List Line
+    pub is : xs ≡ numbered line seen values ++ behind
+    pub in_range : AllByRecursion Is values
+    pub enough : needed ports k ≤ seen + length values
+    pub few : IsTrue (is_free k) ⊎ (seen + length values ≤ needed ports k)
+    pub rest : Completes (at due 0 ports) behind
+
+  pub many_told : (xs : List Line) (seen : ℕ) → IsTrue (is_free k) ⊎ (seen ≤ needed ports k) →
+      Completes (at (k ∷ due) seen ports) xs → ManyTold seen xs
+  many_told [] seen few c = let end = ends k due seen ports c in
+      record {
+        values = [];
+        behind = [];
+        is = refl;
+        in_range = tt;
+        enough = none end.0;
+        few = none_few few;
+        rest =
+            end.1;
+      }
+    where
+      none : needed ports k ≤ seen → needed ports k ≤ seen + 0
+      none enough = omega arith
+
+      none_few : IsTrue (is_free k) ⊎ (seen ≤ needed ports k) → IsTrue (is_free k) ⊎ (seen + 0 ≤ needed ports k)
+      none_few few = ⊎_elim (λ free. inl free) (λ low. inr (omega arith)) few
+  many_told (x ∷ xs) seen few c = ⊎_elim
+      (λ one. more one (many_told xs (seen + 1) (room one.room) (subst (λ n. Completes (at (k ∷ due) (seen + 1) n) xs)
+      (told x.fields) one.rest)))
+      (λ later. record {
+        values = [];
+        behind = x ∷ xs;
+        is = refl;
+        in_range = tt;
+        enough = none later.0;
+        few = none_few few;
+        rest = later.1;
+      }) (goes_on k due seen ports x xs c)
+    where
+      none : needed ports k ≤ seen → needed ports k ≤ seen + 0
+      none enough = omega arith
+
+      none_few : IsTrue (is_free k) ⊎ (seen ≤ needed ports k) → IsTrue (is_free k) ⊎ (seen + 0 ≤ needed ports k)
+      none_few few = ⊎_elim (λ free. inl free) (λ low. inr (omega arith)) few
+
+      room : IsTrue (is_free k) ⊎ (seen < needed ports k) → IsTrue (is_free k) ⊎ (seen + 1 ≤ needed ports k)
+      room few = ⊎_elim (λ free. inl free) (λ low. inr (omega arith)) few
+
+      more : One k due seen ports x xs → ManyTold (seen + 1) xs → ManyTold seen (x ∷ xs)
+      more one rest =
+          let reads_one = reads seen x.fields one.within in
+          let enough = rest.enough in
+          record {
+            values = value x.fields ∷ rest.values;
+            behind = rest.behind;
+            is = ap (λ y. y ∷ xs) (one.is ∙ reads_one.0) ∙ ap (λ ys. line seen (value x.fields) ∷ ys) rest.is;
+            in_range = (reads_one.1, rest.in_range);
+            enough = omega arith;
+            few = ⊎_elim (λ free. inl free) (λ low. inr (omega arith)) rest.few;
+            rest = rest.rest;
+          }

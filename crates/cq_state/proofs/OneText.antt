@@ -1,0 +1,248 @@
+-- States and texts stand one for one. What the lines of a text that is allowed tell is a state in range, and its
+-- lines are those of the text. And who gathers what the lines of a state tell has the state again, so states with
+-- the same lines are the same.
+use Rattle.std.proofs.Common.{◌≡◌, ℕ, ◌+◌, ◌≤◌, false, true, List, [], ◌∷◌, ◌++◌, length, map, drop, Option, Some, refl, ap, sym, subst, ◌∙◌, arith, append_assoc, ⊎_elim, inl, inr}
+use Rattle.std.specs.Prelude.{IsTrue, unwrap_or, ◌⊎◌}
+use Rattle.std.specs.List.{AllByRecursion}
+use Rattle.std.proofs.lemmas.List.{append-nil}
+use Rattle.cq_base.specs.declared.cell.Transfer.{Transfer}
+use Rattle.cq_state.proofs.EachTold.{one_told, many_told, line_of}
+use Rattle.cq_state.proofs.Fields.{version_told, end_told, count_told, counts_told, shape_told, seen_told, rank_told, named_told, sent_told, moved_told}
+use Rattle.cq_state.proofs.OneReading.{state_is_exact}
+use Rattle.cq_state.proofs.Written.{at, Completes, state_has_text}
+use Rattle.cq_state.specs.declared.kind.Kind.{Kind}
+use Rattle.cq_state.specs.declared.kind.Kind.TheVariants.{Version, Next, Shape, Sum, Input, Rank, Listed, Buffered, Sent, Moved, End}
+use Rattle.cq_state.specs.declared.state.Seen.{Seen}
+use Rattle.cq_state.specs.declared.state.Named.{Named}
+use Rattle.cq_state.specs.declared.state.Sent as kept
+use Rattle.cq_state.specs.declared.state.State.{State}
+use Rattle.cq_state.specs.StateText.{Line, kinds, start, IsStateText}
+use Rattle.cq_state.specs.State.{IsInRange, IsSeen, AreRankNumbers, IsNamed, IsSent, IsMoved, state_lines, state_text, numbered, input_line, rank_line, cell_line, sent_line, moved_line}
+use Rattle.cq_state.specs.Gather.{added, gathered, nothing, number_at, seen_of, rank_of, named_of, sent_of, moved_of}
+use Rattle.cq_state.specs.OneText.{HaveOneText}
+
+-- ## A state again
+
+-- lines of one kind add their values at the end of one list
+module _ {X : Type 0} (line : ℕ → X → Line) (put : State → List X → State) (Is : X → Type 0) (none : (s : State) →
+    put s [] ≡ s) (more : (s : State) (x : X) (xs : List X) → put (put s (x ∷ [])) xs ≡ put s (x ∷ xs)) (one : (s :
+    State) (n : ℕ) (x : X) → Is x → added (line n x).kind (line n x).fields s ≡ put s (x ∷ [])) where
+  part_adds : (xs : List X) (n : ℕ) (s : State) (rest : List Line) → AllByRecursion Is xs →
+      gathered s (numbered line n xs ++ rest) ≡ gathered (put s xs) rest
+  part_adds [] n s rest all = ap (λ t. gathered t rest) (sym (none s))
+  part_adds (x ∷ xs) n s rest all =
+      ap (λ t. gathered t (numbered line (n + 1) xs ++ rest)) (one s n x all.0)
+      ∙ part_adds xs (n + 1) (put s (x ∷ [])) rest all.1 ∙ ap (λ t. gathered t rest) (more s x xs)
+
+-- lines without numbers
+abbrev plain : {X : Type 0} → (X → Line) → ℕ → X → Line
+plain line n x = line x
+
+map_numbered : {X : Type 0} (line : X → Line) (n : ℕ) (xs : List X) → map line xs ≡ numbered (plain line) n xs
+map_numbered line n [] = refl
+map_numbered line n (x ∷ xs) = ap (λ ls. line x ∷ ls) (map_numbered line (n + 1) xs)
+
+all_any : {X : Type 0} (xs : List X) → AllByRecursion (λ x. Unit {0}) xs
+all_any [] = tt
+all_any (x ∷ xs) = (tt, all_any xs)
+
+abbrev with_inputs : State → List Seen → State
+with_inputs s xs = record s { inputs = s.inputs ++ xs }
+
+abbrev with_ranks : State → List (List ℕ) → State
+with_ranks s xs = record s { ranks = s.ranks ++ xs }
+
+abbrev with_listed : State → List Named → State
+with_listed s xs = record s { listed = s.listed ++ xs }
+
+abbrev with_buffered : State → List Named → State
+with_buffered s xs = record s { buffered = s.buffered ++ xs }
+
+abbrev with_sent : State → List kept.Sent → State
+with_sent s xs = record s { sent = s.sent ++ xs }
+
+abbrev with_moved : State → List Transfer → State
+with_moved s xs = record s { moved = s.moved ++ xs }
+
+inputs_add : (xs : List Seen) (s : State) (rest : List Line) → gathered s (numbered input_line 0 xs ++ rest)
+    ≡ gathered (with_inputs s xs) rest
+inputs_add xs s rest = part_adds input_line with_inputs (λ _. Unit {0}) (λ t. ap (λ l. record t { inputs = l })
+    (append-nil t.inputs)) (λ t x ys. ap (λ l. record t { inputs = l }) (append_assoc t.inputs (x ∷ []) ys)) (λ t n x _.
+    refl) xs 0 s rest (all_any xs)
+
+same_numbers : (ns : List ℕ) → map (λ f. unwrap_or f 0) (map Some ns) ≡ ns
+same_numbers [] = refl
+same_numbers (n ∷ ns) = ap (λ ms. n ∷ ms) (same_numbers ns)
+
+ranks_add : (xs : List (List ℕ)) (s : State) (rest : List Line) → gathered s (numbered rank_line 0 xs ++ rest)
+    ≡ gathered (with_ranks s xs) rest
+ranks_add xs s rest = part_adds rank_line with_ranks (λ _. Unit {0}) (λ t. ap (λ l. record t { ranks = l }) (append-nil
+    t.ranks)) (λ t x ys. ap (λ l. record t { ranks = l }) (append_assoc t.ranks (x ∷ []) ys)) (λ t n x _. ap (λ ns.
+    record
+    t { ranks = t.ranks ++ ns ∷ [] }) (same_numbers x)) xs 0 s rest (all_any xs)
+
+listed_add : (xs : List Named) (s : State) (rest : List Line) → gathered s (map (cell_line Listed) xs ++ rest)
+    ≡ gathered (with_listed s xs) rest
+listed_add xs s rest = ap (λ ls. gathered s (ls ++ rest)) (map_numbered (cell_line Listed) 0 xs)
+    ∙ part_adds (plain (cell_line Listed)) with_listed (λ _. Unit {0}) (λ t. ap (λ l. record t { listed = l })
+    (append-nil
+    t.listed)) (λ t x ys. ap (λ l. record t { listed = l }) (append_assoc t.listed (x ∷ []) ys)) (λ t n x _. refl)
+    xs 0 s
+    rest (all_any xs)
+
+buffered_add : (xs : List Named) (s : State) (rest : List Line) → gathered s (map (cell_line Buffered) xs ++ rest)
+    ≡ gathered (with_buffered s xs) rest
+buffered_add xs s rest = ap (λ ls. gathered s (ls ++ rest)) (map_numbered (cell_line Buffered) 0 xs)
+    ∙ part_adds (plain (cell_line Buffered)) with_buffered (λ _. Unit {0}) (λ t. ap (λ l. record t { buffered = l })
+    (append-nil t.buffered)) (λ t x ys. ap (λ l. record t { buffered = l }) (append_assoc t.buffered (x ∷ []) ys))
+    (λ t n
+    x _. refl) xs 0 s rest (all_any xs)
+
+sent_add : (xs : List kept.Sent) (s : State) (rest : List Line) → gathered s (map sent_line xs ++ rest)
+    ≡ gathered (with_sent s xs) rest
+sent_add xs s rest = ap (λ ls. gathered s (ls ++ rest)) (map_numbered sent_line 0 xs)
+    ∙ part_adds (plain sent_line) with_sent (λ _. Unit {0}) (λ t. ap (λ l. record t { sent = l }) (append-nil
+    t.sent)) (λ
+    t x ys. ap (λ l. record t { sent = l }) (append_assoc t.sent (x ∷ []) ys)) (λ t n x _. refl) xs 0 s rest
+    (all_any xs)
+
+moved_again : (t : Transfer) → t.id.input ≡ t.input → moved_of (moved_line t).fields ≡ t
+moved_again t own = ap (λ i. record t { id = record (t.id) { input = i } }) (sym own)
+
+moved_add : (xs : List Transfer) (s : State) (rest : List Line) → AllByRecursion (λ t. t.id.input ≡ t.input) xs →
+    gathered s (map moved_line xs ++ rest) ≡ gathered (with_moved s xs) rest
+moved_add xs s rest all = ap (λ ls. gathered s (ls ++ rest)) (map_numbered moved_line 0 xs)
+    ∙ part_adds (plain moved_line) with_moved (λ t. t.id.input ≡ t.input) (λ t. ap (λ l. record t { moved = l })
+    (append-nil t.moved)) (λ t x ys. ap (λ l. record t { moved = l }) (append_assoc t.moved (x ∷ []) ys)) (λ t n x own.
+    ap (λ y. record t { moved = t.moved ++ y ∷ [] }) (moved_again x own)) xs 0 s rest all
+
+all_own : (ports : ℕ) (xs : List Transfer) → AllByRecursion (IsMoved ports) xs →
+    AllByRecursion (λ t. t.id.input ≡ t.input) xs
+all_own ports [] all = tt
+all_own ports (t ∷ xs) all = (all.0.own, all_own ports xs all.1)
+
+pub state_again : (s : State) → IsInRange s → gathered nothing (state_lines s) ≡ s
+unfolding state_lines
+state_again s is =
+    let s1 : State = record nothing { head = s.head } in
+    let s2 : State = with_inputs s1 s.inputs in
+    let s3 : State = with_ranks s2 s.ranks in
+    let s4 : State = with_listed s3 s.listed in
+    let s5 : State = with_buffered s4 s.buffered in
+    let s6 : State = with_sent s5 s.sent in
+    inputs_add s.inputs s1 _ ∙ ranks_add s.ranks s2 _ ∙ listed_add s.listed s3 _ ∙ buffered_add s.buffered s4 _
+    ∙ sent_add s.sent s5 _ ∙ moved_add s.moved s6 _ (all_own s.head.ports s.moved is.moved)
+
+-- ## What a text tells
+
+false_is_not_true : IsTrue false → ⊥
+false_is_not_true e = let clash : false ≡ true = e in let P : ⊥ = cc in P
+
+all_told : (ports n : ℕ) → ports ≤ 0 + n → IsTrue false ⊎ (0 + n ≤ ports) → n ≡ ports
+all_told ports n enough few = ⊎_elim (λ free. absurd (false_is_not_true free)) (λ low. omega arith) few
+
+cons_is : (xs zs ws : List Line) (x y : Line) → xs ≡ x ∷ zs → x ≡ y → zs ≡ ws → xs ≡ y ∷ ws
+cons_is xs zs ws x y e f g = e ∙ ap (λ z. z ∷ zs) f ∙ ap (λ vs. y ∷ vs) g
+
+plain_is : {X : Type 0} (line : X → Line) (vs : List X) (xs zs ws : List Line) → xs ≡ numbered (plain line) 0 vs ++ zs →
+    zs ≡ ws → xs ≡ map line vs ++ ws
+plain_is line vs xs zs ws e f = e ∙ ap (λ ys. ys ++ zs) (sym (map_numbered line 0 vs)) ∙ ap (λ ys. map line vs ++ ys) f
+
+nothing_behind : (ports : ℕ) (xs : List Line) → Completes (at [] 0 ports) xs → xs ≡ []
+unfolding Completes
+nothing_behind ports [] c = refl
+nothing_behind ports (x ∷ xs) c = absurd c.1.1
+
+told_line : {A : Type 0} {fs gs : List (Option ℕ)} (k : Kind) → (fs ≡ gs) × A → (line_of k fs ≡ line_of k gs) × A
+told_line k told = (ap (line_of k) told.0, told.1)
+
+pub each_told : (xs : List Line) → Completes start xs → (s : State) × IsInRange s × (xs ≡ state_lines s)
+unfolding state_lines
+each_told xs c =
+    let version = one_told Version false_is_not_true (λ _. refl) (drop 1 kinds) 0 xs c in
+    let next = one_told Next false_is_not_true (λ _. refl) (drop 2 kinds) 0 version.behind version.rest in
+    let shape = one_told Shape false_is_not_true (λ _. refl) (drop 3 kinds) 0 next.behind next.rest in
+    let ports : ℕ = number_at shape.fields 0 in
+    let sum = one_told Sum false_is_not_true (λ _. refl) (drop 4 kinds) ports shape.behind shape.rest in
+    let is_shape = shape_told shape.fields shape.within in
+    let next_told = count_told next.fields next.within in
+    let sum_told = counts_told sum.fields sum.within in
+    let some = is_shape.ports.0 in
+    let inputs = many_told Input (drop 5 kinds) ports (λ _. refl) input_line seen_of IsSeen
+    (λ i fs w. told_line Input (seen_told i fs w)) sum.behind 0 (inr (omega arith)) sum.rest in
+    let ranks = many_told Rank (drop 6 kinds) ports (λ _. refl) rank_line rank_of AreRankNumbers
+    (λ j fs w. told_line Rank (rank_told j fs w)) inputs.behind 0 (inr (omega arith)) inputs.rest in
+    let listed = many_told Listed (drop 7 kinds) ports (λ _. refl) (plain (cell_line Listed)) (λ fs. named_of fs 0)
+    (IsNamed ports) (λ _ fs w. told_line Listed (named_told ports fs some w)) ranks.behind 0 (inl refl) ranks.rest in
+    let buffered = many_told Buffered (drop 8 kinds) ports (λ _. refl) (plain (cell_line Buffered))
+    (λ fs. named_of fs 0) (IsNamed ports) (λ _ fs w. told_line Buffered (named_told ports fs some w)) listed.behind 0
+    (inl refl) listed.rest in
+    let sent = many_told Sent (drop 9 kinds) ports (λ _. refl) (plain sent_line) sent_of (IsSent ports)
+    (λ _ fs w. told_line Sent (sent_told ports fs some w)) buffered.behind 0 (inl refl) buffered.rest in
+    let moved = many_told Moved (drop 10 kinds) ports (λ _. refl) (plain moved_line) moved_of (IsMoved ports)
+    (λ _ fs w. told_line Moved (moved_told ports fs some w)) sent.behind 0 (inl refl) sent.rest in
+    let end = one_told End false_is_not_true (λ _. refl) [] ports moved.behind moved.rest in
+    let s : State = record {
+      head = record {
+        next = number_at next.fields 0;
+        ports = ports;
+        classes = number_at shape.fields 1;
+        t0 = number_at shape.fields 2;
+        total = number_at shape.fields 3;
+        proposals = number_at sum.fields 0;
+        most = number_at sum.fields 1;
+      };
+      inputs = inputs.values;
+      ranks = ranks.values;
+      listed = listed.values;
+      buffered = buffered.values;
+      sent = sent.values;
+      moved = moved.values;
+    } in (
+      s,
+      record {
+        head = record {
+          next = next_told.1;
+          ports = is_shape.ports;
+          classes = is_shape.classes;
+          t0 = is_shape.t0;
+          total = is_shape.total;
+          proposals = sum_told.1;
+          most = sum_told.2;
+        };
+        inputs_told = all_told ports (length inputs.values) inputs.enough inputs.few;
+        outputs_told = all_told ports (length ranks.values) ranks.enough ranks.few;
+        inputs = inputs.in_range;
+        ranks = ranks.in_range;
+        listed = listed.in_range;
+        buffered = buffered.in_range;
+        sent = sent.in_range;
+        moved = moved.in_range;
+      },
+      cons_is xs _ _ _ _ version.is (ap (line_of Version) (version_told version.fields version.within))
+          (cons_is _ _ _ _ _ next.is (ap (line_of Next) next_told.0)
+          (cons_is _ _ _ _ _ shape.is (ap (line_of Shape) is_shape.fields)
+          (cons_is _ _ _ _ _ sum.is (ap (line_of Sum) sum_told.0)
+          (inputs.is ∙ ap (λ ls. numbered input_line 0 inputs.values ++ ls)
+          (ranks.is ∙ ap (λ ls. numbered rank_line 0 ranks.values ++ ls)
+          (plain_is (cell_line Listed) listed.values _ _ _ listed.is
+          (plain_is (cell_line Buffered) buffered.values _ _ _ buffered.is
+          (plain_is sent_line sent.values _ _ _ sent.is
+          (plain_is moved_line moved.values _ _ _ moved.is
+          (cons_is _ _ _ _ _ end.is (ap (line_of End) (end_told end.fields end.within)) (nothing_behind ports end.behind
+          end.rest))))))))))),
+    )
+
+-- ## One for one
+
+pub have_one_text : HaveOneText
+unfolding Completes
+have_one_text = record {
+  allowed = state_has_text;
+  one_state = λ s t is_s is_t e.
+      let same = state_is_exact.one_reading (state_lines s) (state_lines t) (state_text s) (state_has_text s is_s)
+      (subst
+      (λ text. IsStateText (state_lines t) text) (sym e) (state_has_text t is_t)) in
+      sym (state_again s is_s) ∙ ap (gathered nothing) same ∙ state_again t is_t;
+  each_told = λ xs text f. each_told xs (f.last, f.allowed, f.ended);
+}

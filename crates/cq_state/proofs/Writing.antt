@@ -1,0 +1,91 @@
+-- Writing a state's text part by part. A part is put line by line. Parts that are put one after another are one
+-- text, which is seen from the end back: what is put last stands behind what was put before it.
+use Rattle.std.proofs.Common.{◌≡◌, ℕ, ◌+◌, ◌<◌, ◌≤◌, List, [], ◌∷◌, ◌++◌, length, map, take, get_or, Option, ap, sym, ◌∙◌, arith, append_assoc, length-take}
+use Rattle.std.specs.List.{flat_map}
+use Rattle.std.proofs.lemmas.List.{append-nil, map-append, take_more, take_all}
+use Rattle.std.proofs.lemmas.List.Concat.{flat_map-append}
+use Rattle.cq_state.specs.declared.kind.Kind.{Kind}
+use Rattle.cq_state.specs.declared.kind.Kind.TheVariants.{Listed, Buffered, End}
+use Rattle.cq_state.specs.declared.state.State.{State}
+use Rattle.cq_state.specs.State.{state_lines, state_text, head_lines, numbers, numbered, input_line, rank_line, cell_line, sent_line, moved_line}
+use Rattle.cq_state.specs.StateText.{Line, spelled}
+
+abbrev of_parts : Kind → List (Option ℕ) → Line
+of_parts k fs = record { kind = k; fields = fs }
+
+abbrev text : List Line → List ℕ
+text xs = flat_map spelled xs
+
+one_line : (x : Line) → text (x ∷ []) ≡ spelled x
+one_line x = append-nil (spelled x)
+
+-- what is put behind a part stands with it behind what was there before
+put_behind : (old now new : List ℕ) (xs ys : List Line) → now ≡ old ++ text xs → new ≡ now ++ text ys →
+    new ≡ old ++ text (xs ++ ys)
+put_behind old now new xs ys e f =
+    f ∙ ap (λ t. t ++ text ys) e ∙ append_assoc old (text xs) (text ys)
+    ∙ ap (λ t. old ++ t) (sym (flat_map-append spelled xs ys))
+
+line_behind : (old now new : List ℕ) (xs : List Line) (x : Line) → now ≡ old ++ text xs → new ≡ now ++ spelled x →
+    new ≡ old ++ text (xs ++ x ∷ [])
+line_behind old now new xs x e f = put_behind old now new xs (x ∷ []) e (f ∙ ap (λ t. now ++ t) (sym (one_line x)))
+
+same_line : (k : Kind) (fs : List (Option ℕ)) (x : Line) → x.kind ≡ k → fs ≡ x.fields →
+    of_parts k fs ≡ x
+same_line k fs x own fields = ap (of_parts k) fields ∙ ap (λ j. of_parts j x.fields) (sym own)
+
+numbered_more : {X : Type 0} (line : ℕ → X → Line) (n : ℕ) (xs : List X) (x : X) → numbered line n (xs ++ x ∷ [])
+    ≡ numbered line n xs ++ line (n + length xs) x ∷ []
+numbered_more line n [] x = let e : n + 0 ≡ n = omega arith in ap (λ m. line m x ∷ []) (sym e)
+numbered_more line n (y ∷ xs) x =
+    let e : (n + 1) + length xs ≡ n + length (y ∷ xs) = omega arith in
+    ap (λ ls. line n y ∷ ls) (numbered_more line (n + 1) xs x
+    ∙ ap (λ m. numbered line (n + 1) xs ++ line m x ∷ []) e)
+
+-- the items of a list, a line each: a line of one kind with these fields
+module _ {X : Type 0} (xs : List X) (old : List ℕ) (k : Kind) where
+  pub line_put : (line : X → Line) → ((x : X) → (line x).kind ≡ k) → (i : ℕ) (d : X) (fs : List (Option ℕ)) (now new :
+      List ℕ) → i < length xs → now ≡ old ++ text (map line (take i xs)) → fs ≡ (line (get_or xs i d)).fields →
+      new ≡ now ++ spelled (record { kind = k; fields = fs }) → new ≡ old ++ text (map line (take (i + 1) xs))
+  line_put line own i d fs now new inside e fields f =
+      let x = get_or xs i d in
+      line_behind old now new (map line (take i xs)) (line x) e (f ∙ ap (λ z. now ++ spelled z) (same_line k fs (line x)
+      (own x) fields))
+      ∙ ap (λ ls. old ++ text ls) (sym (ap (map line) (take_more xs i d inside) ∙ map-append line (take i xs) (x ∷ [])))
+
+  pub lines_put : (line : X → Line) (i : ℕ) (new : List ℕ) → length xs ≤ i →
+      new ≡ old ++ text (map line (take i xs)) → new ≡ old ++ text (map line xs)
+  lines_put line i new past e = e ∙ ap (λ ys. old ++ text (map line ys)) (take_all i xs past)
+
+  pub numbered_line_put : (line : ℕ → X → Line) → ((i : ℕ) (x : X) → (line i x).kind ≡ k) → (i : ℕ) (d : X) (fs : List
+      (Option ℕ)) (now new : List ℕ) → i < length xs → now ≡ old ++ text (numbered line 0 (take i xs)) →
+      fs ≡ (line i (get_or xs i d)).fields → new ≡ now ++ spelled (record { kind = k; fields = fs }) →
+      new ≡ old ++ text (numbered line 0 (take (i + 1) xs))
+  numbered_line_put line own i d fs now new inside e fields f =
+      let x = get_or xs i d in
+      let size : 0 + length (take i xs) ≡ i = omega (arith, length-take i xs) in
+      line_behind old now new (numbered line 0 (take i xs)) (line i x) e (f ∙ ap (λ z. now ++ spelled z) (same_line k fs
+      (line i x) (own i x) fields))
+      ∙ ap (λ ls. old ++ text ls) (sym (ap (numbered line 0) (take_more xs i d inside) ∙ numbered_more line 0 (take
+      i xs) x
+      ∙ ap (λ m. numbered line 0 (take i xs) ++ line m x ∷ []) size))
+
+  pub numbered_lines_put : (line : ℕ → X → Line) (i : ℕ) (new : List ℕ) → length xs ≤ i →
+      new ≡ old ++ text (numbered line 0 (take i xs)) → new ≡ old ++ text (numbered line 0 xs)
+  numbered_lines_put line i new past e = e ∙ ap (λ ys. old ++ text (numbered line 0 ys)) (take_all i xs past)
+
+pub state_put : (s : State) (t0 t1 t2 t3 t4 t5 t6 t7 t8 : List ℕ) → t1 ≡ t0 ++ text (head_lines s.head) →
+    t2 ≡ t1 ++ text (numbered input_line 0 s.inputs) → t3 ≡ t2 ++ text (numbered rank_line 0 s.ranks) →
+    t4 ≡ t3 ++ text (map (cell_line Listed) s.listed) → t5 ≡ t4 ++ text (map (cell_line Buffered) s.buffered) →
+    t6 ≡ t5 ++ text (map sent_line s.sent) → t7 ≡ t6 ++ text (map moved_line s.moved) →
+    t8 ≡ t7 ++ spelled (numbers End []) → t8 ≡ t0 ++ state_text s
+unfolding state_lines
+state_put s t0 t1 t2 t3 t4 t5 t6 t7 t8 head inputs ranks listed buffered sent moved end =
+    put_behind t0 t1 t8 (head_lines s.head) _ head
+    (put_behind t1 t2 t8 (numbered input_line 0 s.inputs) _ inputs
+    (put_behind t2 t3 t8 (numbered rank_line 0 s.ranks) _ ranks
+    (put_behind t3 t4 t8 (map (cell_line Listed) s.listed) _ listed
+    (put_behind t4 t5 t8 (map (cell_line Buffered) s.buffered) _ buffered
+    (put_behind t5 t6 t8 (map sent_line s.sent) _ sent
+    (put_behind t6 t7 t8 (map moved_line s.moved) (numbers End [] ∷ []) moved
+    (end ∙ ap (λ t. t7 ++ t) (sym (one_line (numbers End []))))))))))

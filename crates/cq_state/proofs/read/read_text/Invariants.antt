@@ -1,0 +1,9 @@
+use Rattle.std.proofs.Common.{length}
+use Rattle.cq_state.proofs.Due.{ReadSoFar}
+use Rattle.cq_state.proofs.read.read_text.Given as goal
+
+abbrev pub invariant-lines : goal.invariant-lines
+invariant-lines l = ReadSoFar l.text l.told l.line l.place l.rest
+
+abbrev pub decreases-lines : goal.decreases-lines
+decreases-lines l = length l.rest

@@ -1,0 +1,167 @@
+//! The kinds of line of a state.
+ghost use Rattle.std.specs.Prelude.{◌≡◌, ◌≢◌, ℕ, ◌≤◌, List, ◌++◌, length, take, Option, IfSome, IfNone, IsTrue, ◌↔◌};
+ghost use Rattle.cq_lines.specs.Lines.{line, ending};
+ghost use Rattle.cq_lines.specs.Ranges.{Within, any_number};
+ghost use Rattle.cq_state.specs.StateText.{word, needed, is_free, ranges, further, between, count, count_or_none};
+
+use cq_lines::{Range, behind, take_fields_within};
+
+/// A kind of line, in the order in which they stand.
+#[derive(Clone, Copy)]
+pub enum Kind {
+    /// Which form of text it is.
+    Version,
+    /// How many slots are done.
+    Next,
+    /// The ports, the classes, the time of slot 0, and the cells of the schedule.
+    Shape,
+    /// The sum and the greatest number of proposals.
+    Sum,
+    /// An input's greatest length and least slack.
+    Input,
+    /// The numbers of an output's rank state.
+    Rank,
+    /// A cell in an input's list.
+    Listed,
+    /// A cell in an output's buffer.
+    Buffered,
+    /// A departure.
+    Sent,
+    /// A transfer.
+    Moved,
+    /// Nothing more.
+    End,
+}
+
+/// The kinds, in the order in which their lines stand.
+pub const KINDS: [Kind; 11] = [
+    Kind::Version,
+    Kind::Next,
+    Kind::Shape,
+    Kind::Sum,
+    Kind::Input,
+    Kind::Rank,
+    Kind::Listed,
+    Kind::Buffered,
+    Kind::Sent,
+    Kind::Moved,
+    Kind::End,
+];
+
+// The greatest number of what is counted in a run.
+const MOST: u128 = (1 << 63) - 1;
+
+// The greatest number of packets and of cells of a packet.
+const WIDE: u128 = (1 << 32) - 1;
+
+// The most fields of a line.
+pub const MOST_FIELDS: usize = 33;
+
+impl Kind {
+    /// The word of its lines.
+    pub fn word(self) -> &'static [u8]
+        ensures { result.now ≡ word self }
+    {
+        match self {
+            Kind::Version => b"cq-state",
+            Kind::Next => b"next",
+            Kind::Shape => b"shape",
+            Kind::Sum => b"sum",
+            Kind::Input => b"input",
+            Kind::Rank => b"rank",
+            Kind::Listed => b"list",
+            Kind::Buffered => b"buffer",
+            Kind::Sent => b"sent",
+            Kind::Moved => b"moved",
+            Kind::End => b"end",
+        }
+    }
+
+    /// How many lines of it there are at least, in a switch of so many ports.
+    pub fn needed(self, ports: u16) -> u64
+        ensures { result ≡ needed ports self }
+    {
+        match self {
+            Kind::Input | Kind::Rank => u64::from(ports),
+            Kind::Listed | Kind::Buffered | Kind::Sent | Kind::Moved => 0,
+            _ => 1,
+        }
+    }
+
+    /// Whether there may be more of them.
+    pub fn is_free(self) -> bool
+        ensures { result ≡ is_free self }
+    {
+        matches!(
+            self,
+            Kind::Listed | Kind::Buffered | Kind::Sent | Kind::Moved
+        )
+    }
+}
+
+/// The fields of a line of this kind at the front, behind so many lines of its kind in a switch of so many
+/// ports, and what stands behind the line. None where no such line stands there.
+pub fn take_kind<'a>(
+    kind: Kind,
+    ports: u16,
+    index: u64,
+    text: &'a [u8],
+    to: &mut [Option<u128>; MOST_FIELDS],
+) -> Option<(usize, &'a [u8])>
+    ensures found { IfSome result (λ f. (f.0 ≤ length to.new)
+        × Within (ranges ports index kind) (further kind) (take f.0 to.new)
+        × (text.now ≡ line (word kind) (take f.0 to.new) ++ f.1.now)) }
+    ensures none { IfNone result ((fs : List (Option ℕ)) (more : List ℕ) →
+        Within (ranges ports index kind) (further kind) fs → text.now ≢ line (word kind) fs ++ more) }
+{
+    let rest = behind(text, kind.word())?;
+    take_kind_fields(kind, ports, u128::from(index), rest, to)
+}
+
+// The fields of a line of this kind behind its word.
+fn take_kind_fields<'a>(
+    kind: Kind,
+    ports: u16,
+    index: u128,
+    text: &'a [u8],
+    to: &mut [Option<u128>; MOST_FIELDS],
+) -> Option<(usize, &'a [u8])>
+    ensures found { IfSome result (λ f. (f.0 ≤ length to.new)
+        × Within (ranges ports index kind) (further kind) (take f.0 to.new)
+        × (text.now ≡ ending (take f.0 to.new) ++ f.1.now)) }
+    ensures none { IfNone result ((fs : List (Option ℕ)) (more : List ℕ) →
+        Within (ranges ports index kind) (further kind) fs → text.now ≢ ending fs ++ more) }
+{
+    let own = Range::between(index, index);
+    let count = Range::between(0, MOST);
+    let count_or_none = Range {
+        least: 0,
+        most: MOST,
+        or_none: true,
+    };
+    let level = Range::between(0, 15);
+    let rank = Range::between(0, u128::MAX);
+    let port = Range::between(0, u128::from(ports.saturating_sub(1)));
+    let wide = Range::between(0, WIDE);
+    match kind {
+        Kind::Version => take_fields_within(text, &[Range::between(1, 1)], 0, to),
+        Kind::Next => take_fields_within(text, &[count], 0, to),
+        Kind::Shape => {
+            let ports = Range::between(1, 64);
+            let classes = Range::between(1, 16);
+            take_fields_within(text, &[ports, classes, count, count], 0, to)
+        }
+        Kind::Sum => take_fields_within(text, &[count, count], 0, to),
+        Kind::Input => take_fields_within(text, &[own, count, count_or_none], 0, to),
+        Kind::Rank => take_fields_within(text, &[own], 32, to),
+        Kind::Listed | Kind::Buffered => {
+            take_fields_within(text, &[level, rank, count, port], 0, to)
+        }
+        Kind::Sent => take_fields_within(text, &[count, level, rank, count, port], 0, to),
+        Kind::Moved => {
+            let phase = Range::between(1, 2);
+            take_fields_within(text, &[count, phase, port, port, wide, wide], 0, to)
+        }
+        Kind::End => take_fields_within(text, &[], 0, to),
+    }
+}

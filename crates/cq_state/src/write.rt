@@ -1,0 +1,191 @@
+//! Writes the text of a state, part by part.
+ghost use Rattle.std.specs.Prelude.{◌≡◌, ◌≤◌, ◌^◌, [], ◌∷◌, ◌++◌, length, map, Some, OnOk, IfOk, IfErr};
+ghost use Rattle.std.specs.List.{flat_map};
+ghost use Rattle.cq_state.specs.Refusals.{IsTooLong};
+ghost use Rattle.cq_state.specs.State.{state_text, head_lines, numbered, input_line, rank_line, cell_numbers, cell_line, sent_line, moved_line};
+ghost use Rattle.cq_state.specs.StateText.{spelled};
+
+use crate::kind::Kind;
+use crate::state::{Head, Named, Seen, Sent, State};
+use cq_base::{NoMemory, Sequence, Transfer};
+use cq_lines::put_line;
+use std::alloc::Global;
+
+/// Why there is no text.
+#[derive(Clone, Copy, Debug, PartialEq, Eq)]
+pub enum StateLong {
+    /// It would have more than 2^28 bytes.
+    Long,
+    /// Want of memory.
+    NoMemory,
+}
+
+impl From<NoMemory> for StateLong {
+    ghost use Rattle.std.specs.Prelude.{◌≡◌};
+    ghost use Rattle.cq_state.specs.declared.write.StateLong.TheVariants.{NoMemory as no_memory};
+
+    ghost from_gives = { λ _ long. long ≡ no_memory };
+
+    fn from(_: NoMemory) -> Self {
+        StateLong::NoMemory
+    }
+}
+
+// The most bytes of a state's text.
+const MOST_BYTES: usize = 1 << 28;
+
+/// The text of a state.
+pub fn text_of(alloc: Global, state: &State) -> Result<Vec<u8>, StateLong>
+    ensures text { IfOk result (λ text. text.items ≡ state_text state.now) }
+    ensures short { IfOk result (λ text. length text.items ≤ 2 ^ 28) }
+    ensures long { IfErr result (IsTooLong (state_text state.now)) }
+{
+    let mut text = Vec::new(alloc);
+    put_state(alloc, &mut text, state)?;
+    if text.len() > MOST_BYTES {
+        Err(StateLong::Long)
+    } else {
+        Ok(text)
+    }
+}
+
+#[tactic(auto, using(crate::proofs::Writing::state_put))]
+fn put_state(alloc: Global, text: &mut Vec<u8>, state: &State) -> Result<(), NoMemory>
+    ensures { OnOk result (text.new.items ≡ text.old.items ++ state_text state.now) }
+{
+    put_head(text, state.head)?;
+    put_inputs(text, state.inputs.as_slice())?;
+    put_ranks(alloc, text, state.ranks.as_slice())?;
+    put_cells(text, Kind::Listed, state.listed.as_slice())?;
+    put_cells(text, Kind::Buffered, state.buffered.as_slice())?;
+    put_sent(text, state.sent.as_slice())?;
+    put_moved(text, state.moved.as_slice())?;
+    put_numbers(text, Kind::End, &[])
+}
+
+fn put_numbers(text: &mut Vec<u8>, kind: Kind, fields: &[Option<u128>]) -> Result<(), NoMemory>
+    ensures { OnOk result (text.new.items ≡ text.old.items ++ spelled (record { kind = kind; fields = fields.now })) }
+{
+    put_line(text, kind.word(), fields)
+}
+
+fn put_head(text: &mut Vec<u8>, head: Head) -> Result<(), NoMemory>
+    ensures { OnOk result (text.new.items ≡ text.old.items ++ flat_map spelled (head_lines head)) }
+{
+    put_numbers(text, Kind::Version, &[Some(1)])?;
+    put_numbers(text, Kind::Next, &[Some(u128::from(head.next))])?;
+    let shape = [
+        Some(u128::from(head.ports)),
+        Some(u128::from(head.classes)),
+        Some(u128::from(head.t0)),
+        Some(u128::from(head.total)),
+    ];
+    put_numbers(text, Kind::Shape, &shape)?;
+    let sum = [
+        Some(u128::from(head.proposals)),
+        Some(u128::from(head.most)),
+    ];
+    put_numbers(text, Kind::Sum, &sum)
+}
+
+fn put_inputs(text: &mut Vec<u8>, inputs: &[Seen]) -> Result<(), NoMemory>
+    ensures { OnOk result (text.new.items ≡ text.old.items ++ flat_map spelled (numbered input_line 0 inputs.now)) }
+{
+    'inputs: for input in 0..inputs.len() {
+        put_numbers(text, Kind::Input, &input_fields(input, inputs[input]))?;
+    }
+    Ok(())
+}
+
+fn input_fields(input: usize, seen: Seen) -> [Option<u128>; 3]
+    ensures { result ≡ Some input ∷ Some seen.longest ∷ seen.slack ∷ [] }
+{
+    let slack = match seen.slack {
+        Some(slack) => Some(u128::from(slack)),
+        None => None,
+    };
+    [Some(input as u128), Some(u128::from(seen.longest)), slack]
+}
+
+fn put_ranks(alloc: Global, text: &mut Vec<u8>, ranks: &[Sequence<u128>]) -> Result<(), NoMemory>
+    ensures { OnOk result (text.new.items ≡ text.old.items ++ flat_map spelled (numbered rank_line 0 ranks.now)) }
+{
+    'outputs: for output in 0..ranks.len() {
+        let fields = rank_fields(alloc, output, ranks[output].as_slice())?;
+        put_numbers(text, Kind::Rank, &fields)?;
+    }
+    Ok(())
+}
+
+fn rank_fields(
+    alloc: Global,
+    output: usize,
+    numbers: &[u128],
+) -> Result<Vec<Option<u128>>, NoMemory>
+    ensures { IfOk result (λ fields. fields.items ≡ map Some (output ∷ numbers.now)) }
+{
+    let mut fields = Vec::new(alloc);
+    fields.push(Some(output as u128))?;
+    'numbers: for number in numbers {
+        fields.push(Some(*number))?;
+    }
+    Ok(fields)
+}
+
+fn put_cells(text: &mut Vec<u8>, kind: Kind, cells: &[Named]) -> Result<(), NoMemory>
+    ensures { OnOk result (text.new.items ≡ text.old.items ++ flat_map spelled (map (cell_line kind) cells.now)) }
+{
+    'cells: for cell in cells {
+        put_numbers(text, kind, &cell_fields(*cell))?;
+    }
+    Ok(())
+}
+
+fn cell_fields(cell: Named) -> [Option<u128>; 4]
+    ensures { result ≡ map Some (cell_numbers cell) }
+{
+    [
+        Some(u128::from(cell.level)),
+        Some(cell.rank),
+        Some(u128::from(cell.slot)),
+        Some(u128::from(cell.input)),
+    ]
+}
+
+fn put_sent(text: &mut Vec<u8>, sent: &[Sent]) -> Result<(), NoMemory>
+    ensures { OnOk result (text.new.items ≡ text.old.items ++ flat_map spelled (map sent_line sent.now)) }
+{
+    'sent: for departure in sent {
+        put_numbers(text, Kind::Sent, &sent_fields(*departure))?;
+    }
+    Ok(())
+}
+
+fn sent_fields(sent: Sent) -> [Option<u128>; 5]
+    ensures { result ≡ map Some (sent.slot ∷ cell_numbers sent.cell) }
+{
+    let [level, rank, slot, input] = cell_fields(sent.cell);
+    [Some(u128::from(sent.slot)), level, rank, slot, input]
+}
+
+fn put_moved(text: &mut Vec<u8>, moved: &[Transfer]) -> Result<(), NoMemory>
+    ensures { OnOk result (text.new.items ≡ text.old.items ++ flat_map spelled (map moved_line moved.now)) }
+{
+    'moved: for transfer in moved {
+        put_numbers(text, Kind::Moved, &moved_fields(*transfer))?;
+    }
+    Ok(())
+}
+
+fn moved_fields(moved: Transfer) -> [Option<u128>; 6]
+    ensures { result ≡ (moved_line moved).fields }
+{
+    [
+        Some(u128::from(moved.slot)),
+        Some(u128::from(moved.phase)),
+        Some(u128::from(moved.input)),
+        Some(u128::from(moved.output)),
+        Some(u128::from(moved.id.packet)),
+        Some(u128::from(moved.id.index)),
+    ]
+}
