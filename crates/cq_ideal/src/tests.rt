@@ -45,6 +45,16 @@ impl Rank for RefusesClassOne {
     fn sent(&mut self, _level: u8, _rank: u128) {}
 
     fn idle(&mut self) {}
+
+    fn width(&self) -> u16 {
+        0
+    }
+
+    fn number(&self, _at: u16) -> u128 {
+        0
+    }
+
+    fn put(&mut self, _at: u16, _number: u128) {}
 }
 
 // The arrivals, and a packet of one cell that comes to the input.

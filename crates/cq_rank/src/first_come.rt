@@ -75,4 +75,19 @@ impl Rank for FirstCome {
     fn sent(&mut self, _level: u8, _rank: u128) {}
 
     fn idle(&mut self) {}
+
+    /// There are none.
+    fn width(&self) -> u16 {
+        let _ = &self.classes;
+        0
+    }
+
+    fn number(&self, _at: u16) -> u128 {
+        let _ = &self.classes;
+        0
+    }
+
+    fn put(&mut self, _at: u16, _number: u128) {
+        let _ = &self.classes;
+    }
 }

@@ -1,5 +1,5 @@
 //! The trait of what ranks the cells of an output.
-ghost use Rattle.std.specs.Prelude.{◌≡◌, ◌↔◌, ◌<◌, ◌≤◌, ◌^◌, ℕ, List, IfOk, IsErr, OnErr, OnOk, length};
+ghost use Rattle.std.specs.Prelude.{◌≡◌, ◌↔◌, ◌<◌, ◌≤◌, ◌^◌, ℕ, List, IfOk, IsErr, OnErr, OnOk, length, slice_index, slice_set};
 ghost use Rattle.cq_rank.specs.Machine.{Machine, KeepsLaws};
 
 use cq_base::Class;
@@ -51,6 +51,22 @@ pub trait Rank: Drop {
     fn idle(&mut self)
         ensures fixed { fixed self.new ≡ fixed self.old }
         ensures state { state self.new ≡ (machine (fixed self.old)).idle (state self.old) };
+
+    /// How many numbers the state has.
+    fn width(&self) -> u16
+        ensures width { result ≡ length (state self.now) }
+        ensures sized { result ≡ (machine (fixed self.now)).size };
+
+    /// The number that stands at a place of the state.
+    fn number(&self, at: u16) -> u128
+        requires { at < length (state self.now) }
+        ensures { result ≡ slice_index (state self.now) at };
+
+    /// Sets the number at a place of the state. The others stay.
+    fn put(&mut self, at: u16, number: u128)
+        requires { at < length (state self.old) }
+        ensures fixed { fixed self.new ≡ fixed self.old }
+        ensures state { state self.new ≡ slice_set (state self.old) at number };
 
     /// Each machine keeps the laws.
     ghost laws: { (numbers : List ℕ) → KeepsLaws (machine numbers) };

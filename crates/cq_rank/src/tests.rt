@@ -41,19 +41,19 @@ fn some_keys<R: Rank>(mut r: R) -> ([u8; 2], [Option<u128>; 3])
 #[test]
 fn every_cell_comes_first_at_a_first_come_output(rt: HostRuntime) -> Result<(), Fail> {
     let classes = two_classes();
-    assert_eq!(rt; FirstCome::new(rt.alloc(), &classes)?.classes(), 2);
-    let keys = some_keys(FirstCome::new(rt.alloc(), &classes)?);
-    assert_eq!(rt; keys, ([3, 15], [Some(0), Some(0), Some(0)]));
+    let machine = FirstCome::new(rt.alloc(), &classes)?;
+    assert_eq!(rt; (machine.classes(), machine.width()), (2, 0));
+    assert_eq!(rt; some_keys(machine), ([3, 15], [Some(0), Some(0), Some(0)]));
     Ok(())
 }
 
 #[test]
 fn a_cell_is_ranked_by_the_priority_of_its_class(rt: HostRuntime) -> Result<(), Fail> {
     let classes = two_classes();
-    assert_eq!(rt; Priority::new(rt.alloc(), &classes)?.classes(), 2);
-    let keys = some_keys(Priority::new(rt.alloc(), &classes)?);
+    let machine = Priority::new(rt.alloc(), &classes)?;
+    assert_eq!(rt; (machine.classes(), machine.width()), (2, 0));
     assert_eq!(rt;
-        keys,
+        some_keys(machine),
         ([3, 15], [Some(u128::MAX), Some(7), Some(u128::MAX)])
     );
     Ok(())

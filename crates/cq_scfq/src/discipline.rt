@@ -102,4 +102,28 @@ impl Rank for Discipline {
             Discipline::Fair(rank) => rank.idle(),
         }
     }
+
+    fn width(&self) -> u16 {
+        match self {
+            Discipline::FirstCome(rank) => rank.width(),
+            Discipline::Priority(rank) => rank.width(),
+            Discipline::Fair(rank) => rank.width(),
+        }
+    }
+
+    fn number(&self, at: u16) -> u128 {
+        match self {
+            Discipline::FirstCome(rank) => rank.number(at),
+            Discipline::Priority(rank) => rank.number(at),
+            Discipline::Fair(rank) => rank.number(at),
+        }
+    }
+
+    fn put(&mut self, at: u16, number: u128) {
+        match self {
+            Discipline::FirstCome(rank) => rank.put(at, number),
+            Discipline::Priority(rank) => rank.put(at, number),
+            Discipline::Fair(rank) => rank.put(at, number),
+        }
+    }
 }

@@ -100,4 +100,17 @@ impl Rank for Fair {
     fn idle(&mut self) {
         self.numbers.fill(0);
     }
+
+    /// One for each class, and one for each level.
+    fn width(&self) -> u16 {
+        self.classes.len() + LEVELS as u16
+    }
+
+    fn number(&self, at: u16) -> u128 {
+        self.numbers[at as usize]
+    }
+
+    fn put(&mut self, at: u16, number: u128) {
+        self.numbers[at as usize] = number;
+    }
 }

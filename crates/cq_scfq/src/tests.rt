@@ -109,3 +109,36 @@ fn each_port_ranks_by_its_own_discipline(rt: HostRuntime) -> Result<(), Fail> {
     assert_eq!(rt; after_idle.as_slice(), &[Some(5), Some(0), Some(9)][..]);
     Ok(())
 }
+
+// The numbers of a machine's state are put into another, one after the other.
+fn copied<R: Rank, S: Rank>(from: &R, to: &mut S) {
+    for at in 0..from.width().min(to.width()) {
+        to.put(at, from.number(at));
+    }
+}
+
+#[test]
+fn a_machine_goes_on_from_the_numbers_of_another(rt: HostRuntime) -> Result<(), Fail> {
+    let classes = [
+        ClassRow {
+            level: 1,
+            priority: 0,
+            cost: 3,
+        },
+        ClassRow {
+            level: 0,
+            priority: 0,
+            cost: 5,
+        },
+    ];
+    let mut first = Fair::new(rt.alloc(), &classes)?;
+    assert_eq!(rt; first.width(), 18);
+    assert_eq!(rt; rank_of(&mut first, 1), Some(5));
+    assert_eq!(rt; rank_of(&mut first, 1), Some(10));
+    first.sent(1, 7);
+    let mut second = Fair::new(rt.alloc(), &classes)?;
+    copied(&first, &mut second);
+    assert_eq!(rt; rank_of(&mut second, 0), Some(10));
+    assert_eq!(rt; rank_of(&mut second, 1), Some(15));
+    Ok(())
+}
