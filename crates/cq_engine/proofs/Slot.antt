@@ -216,7 +216,7 @@ module _ (ms : List Machine) (slot : ℕ) (x : Figures) (q0 : Queues) (ranks0 : 
                 ports = moves2.ports.0 ∙ ap length inputs3 ∙ moves1.ports.0 ∙ ports1 ∙ up.ports;
                 ideal = alike.next;
                 agrees = alike.agrees;
-                slack = more_after ms slot class_count cells (fabric_of q0 ranks0) (fabric_of q4 ranks2) up.ideal recorded up.agrees come stable x up.slack;
+                slack = more_after ms slot class_count cells (fabric_of q0 ranks0) (fabric_of q4 ranks2) up.ideal recorded up.agrees come stable x up.slack.ports;
                 outputs = outputs_long x recorded ∙ up.outputs;
                 counts = record {
                   inputs = λ i y at. count_input slot x recorded up.counts i y at;

@@ -47,7 +47,7 @@ module _ (ms : List Machine) (class_count : ℕ) where
       let now = least_after x r i inside ∙ by_arrivals ms slot class_count cells f run.0 ideal r agrees come.0 run.1 x has i in
       let rest = filter_map (slack_on_arrival i) rs in
       let long = length-after x r in
-      least_run (slot + 1) traffic run.0 g one.next rs (figures_after x r) i one.agrees (subst (λ n. AllByRecursion (AreForPorts n class_count) traffic) (sym ports) come.1) run.2 (more_after ms slot class_count cells f run.0 ideal r agrees come.0 run.1 x has) (omega arith)
+      least_run (slot + 1) traffic run.0 g one.next rs (figures_after x r) i one.agrees (subst (λ n. AllByRecursion (AreForPorts n class_count) traffic) (sym ports) come.1) run.2 (more_after ms slot class_count cells f run.0 ideal r agrees come.0 run.1 x has.ports) (omega arith)
       ∙ ap (λ (o : Option ℕ). either_by min o (reduce min rest)) now
       ∙ either-assoc (least_slack x i) (slack_on_arrival i r) (reduce min rest)
       ∙ ap (either_by min (least_slack x i)) (sym (reduce-cons (slack_on_arrival i r) rest))

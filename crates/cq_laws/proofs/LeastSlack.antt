@@ -223,12 +223,15 @@ module _ (ms : List Machine) (slot class_count : ℕ) (cells : List (Option Cell
     unfolding slack_on_arrival
     by_arrivals i = same_least (least_slack x i) (slack_on_arrival i r) (slacks r.arrived i) (low i) (λ v e. there_on i v (came_to r.came i) refl e)
 
+  -- Whatever the cells were that waited before: the figures after the slot are no greater than any slack after its arrivals, and
+  -- each has risen since.
+  module _ (x : Figures) (as_many : length x.inputs ≡ length f.inputs) where
     pub more_after : HasMoreSlack (figures_after x r) g
     more_after =
         let ports = ports_kept ms slot class_count cells f g ideal r agrees come step in
-        let old_ports = has.ports in
+        let old_ports : length x.inputs ≡ length f.inputs = as_many in
         record {
-          ports = length-after x r ∙ has.ports ∙ sym ports;
+          ports = length-after x r ∙ as_many ∙ sym ports;
           more = λ i t c at.
               let rise = slot_rises i t c at in
               let within = slack_arrived ms slot class_count cells f g ideal r agrees come step i rise.before c rise.stood in

@@ -13,5 +13,6 @@ pub mod LimitedAgreement
 pub mod LimitedQuiet
 pub mod Measures
 pub mod Quiet
+pub mod Frozen
 pub mod Entering
 pub mod Example

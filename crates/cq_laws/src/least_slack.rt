@@ -44,6 +44,10 @@ pub fn least_slack_is_on_arrival()
     ensures kept { (ms : List Machine) (slot class_count : ℕ) (cells : List (Option Cell)) (f g : Fabric) (ideal : IdealState) (r : SlotRecord) →
         Agrees slot f ideal → AreForPorts (length f.inputs) class_count cells → FabricSlot IsStable ms slot cells f r g →
         (x : Figures) → HasMoreSlack x f → HasMoreSlack (figures_after x r) g }
+    // whatever the cells were that waited before, a slot whose slacks were all looked at leaves more slack to each
+    ensures looked { (ms : List Machine) (slot class_count : ℕ) (cells : List (Option Cell)) (f g : Fabric) (ideal : IdealState) (r : SlotRecord) →
+        Agrees slot f ideal → AreForPorts (length f.inputs) class_count cells → FabricSlot IsStable ms slot cells f r g →
+        (x : Figures) → length x.inputs ≡ length f.inputs → HasMoreSlack (figures_after x r) g }
     ensures begin { (ports : ℕ) (ranks : List (List ℕ)) → HasMoreSlack (no_figures ports) (empty_fabric ports ranks) }
     // the input thread with which a cell arrives is the place at which it goes in
     ensures place { (ms : List Machine) (slot class_count : ℕ) (cells : List (Option Cell)) (f g : Fabric) (ideal : IdealState) (r : SlotRecord) →

@@ -9,7 +9,11 @@ pub returns-clause-slot : goal.returns-clause-slot
 returns-clause-slot c = by_arrivals
 
 pub returns-clause-kept : goal.returns-clause-kept
-returns-clause-kept c = more_after
+returns-clause-kept c = λ ms slot class_count cells f g ideal r agrees come step x has.
+    more_after ms slot class_count cells f g ideal r agrees come step x has.ports
+
+pub returns-clause-looked : goal.returns-clause-looked
+returns-clause-looked c = more_after
 
 pub returns-clause-begin : goal.returns-clause-begin
 returns-clause-begin c = more_at_first
