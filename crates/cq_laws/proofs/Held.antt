@@ -3,7 +3,7 @@
 -- in it, since no key is, and none is twice in the ideal list, whose keys rise. The two lists have the same members, and of two
 -- lists without repeats with the same members neither is longer: take a member of the first off both, and go on.
 use Rattle.std.proofs.Common.{◌≡◌, ℕ, zero, suc, ◌+◌, ◌<◌, ◌≤◌, ◌⊎◌, Bool, true, List, [], ◌∷◌, ◌++◌, length, map, filter, refl, sym, ap, ◌∙◌, subst, inl, inr, ⊎_elim, arith}
-use Rattle.std.specs.List.{range_with_len}
+use Rattle.std.specs.List.{flat_map, range_with_len}
 use Rattle.std.proofs.lemmas.Bool.{cond_both, eqb-true, eq-eqb}
 use Rattle.std.proofs.lemmas.List.{ext_get_or, get_or-map, length-append, length-map}
 use Rattle.std.proofs.lemmas.List.FromFn.{get_or-map-range_with_len, length-map-range_with_len}
@@ -13,8 +13,8 @@ use Rattle.cq_ideal.specs.IdealSlot.{IdealState}
 use Rattle.cq_ideal.specs.LimitedIdeal.{ideal_held}
 use Rattle.cq_prefs.specs.FirstCells.{list_of}
 use Rattle.cq_laws.specs.Agreement.{Agrees}
-use Rattle.cq_laws.specs.Fabric.{Fabric, buffer, IsAmong}
-use Rattle.cq_laws.specs.Holding.{waiting_for, held_for, fabric_held}
+use Rattle.cq_laws.specs.Fabric.{Fabric, buffer, IsAmong, IsFabric, ListsKeepOrder}
+use Rattle.cq_laws.specs.Holding.{cells_for, waiting_for, held_for, fabric_held}
 use Rattle.cq_laws.specs.Places.{HasFor}
 use Rattle.cq_laws.proofs.Members.{all_among}
 use Rattle.cq_laws.proofs.Sound.{Apart, apart_from, not_before_itself}
@@ -52,7 +52,7 @@ filter_among p c (x ∷ xs) h e =
 -- ## Lists without repeats
 
 -- no cell stands twice in the list
-abbrev HasNoRepeat : List Queued → Type 0
+abbrev pub HasNoRepeat : List Queued → Type 0
 HasNoRepeat [] = Unit {0}
 HasNoRepeat (x ∷ xs) = (IsAmong x xs → ⊥) × HasNoRepeat xs
 
@@ -115,12 +115,11 @@ as_long xs ys x y to back =
 -- ## The cells that wait for an output
 
 module _ (j : ℕ) where
-  waits : List (List Queued) → List Queued
-  waits [] = []
-  waits (cells ∷ lists) = filter (is_for j) cells ++ waits lists
+  -- of each of these lists those for the output
+  abbrev waits : List (List Queued) → List Queued
+  waits lists = flat_map (filter (is_for j)) lists
 
   length-waits : (lists : List (List Queued)) → length (waits lists) ≡ waiting_for j lists
-  unfolding waits
   length-waits [] = refl
   length-waits (cells ∷ lists) =
       length-append (filter (is_for j) cells) (waits lists) ∙ ap (λ n. length (filter (is_for j) cells) + n)
@@ -128,7 +127,6 @@ module _ (j : ℕ) where
 
   waits_at : (lists : List (List Queued)) (c : Queued) → IsAmong c (waits lists) →
       (i : ℕ) × IsAmong c (list_of lists i) × (c.cell.output ≡ j)
-  unfolding waits
   waits_at [] c h = absurd h
   waits_at (cells ∷ lists) c h =
       ⊎_elim
@@ -138,7 +136,6 @@ module _ (j : ℕ) where
 
   at_waits : (lists : List (List Queued)) (i : ℕ) (c : Queued) → IsAmong c (list_of lists i) → c.cell.output ≡ j →
       IsAmong c (waits lists)
-  unfolding waits
   at_waits [] i c h e = absurd h
   at_waits (cells ∷ lists) zero c h e =
       among_left c (filter (is_for j) cells) (waits lists)
@@ -149,7 +146,6 @@ module _ (j : ℕ) where
   waits_once : (lists : List (List Queued)) → ((i : ℕ) → KeepsOrder (list_of lists i)) →
       ((i k : ℕ) (c : Queued) → IsAmong c (list_of lists i) → IsAmong c (list_of lists k) → i ≡ k) →
       HasNoRepeat (waits lists)
-  unfolding waits
   waits_once [] order apart = tt
   waits_once (cells ∷ lists) order apart =
       append_once (filter (is_for j) cells) (waits lists)
@@ -157,39 +153,29 @@ module _ (j : ℕ) where
       (waits_once lists (λ i. order (suc i)) (λ i k c a b. let e = apart (suc i) (suc k) c a b in omega arith))
       (λ c l r. let at = waits_at lists c r in let e = apart zero (suc at.0) c (among_filter (is_for j) c cells l).0 at.1 in absurd (omega arith))
 
-  module _ (slot : ℕ) (f : Fabric) (ideal : IdealState) (agrees : Agrees slot f ideal) where
-    apart : Apart f
-    apart = apart_from f agrees.differ
+  pub to_cells : (f : Fabric) (c : Queued) → HasFor f j c → IsAmong c (cells_for j f)
+  to_cells f c h =
+      ⊎_elim (λ w. among_left c (waits f.inputs) (buffer f j) (at_waits f.inputs w.0 c w.1 w.2))
+      (λ b. among_right c (waits f.inputs) (buffer f j) b) h
 
-    -- the cells of the fabric for the output
-    all : List Queued
-    all = waits f.inputs ++ buffer f j
+  pub from_cells : (f : Fabric) (c : Queued) → IsAmong c (cells_for j f) → HasFor f j c
+  from_cells f c h =
+      ⊎_elim (λ l. inl (waits_at f.inputs c l)) (λ r. inr r) (among_append c (waits f.inputs) (buffer f j) h)
 
-    all_once : HasNoRepeat all
-    unfolding all
-    all_once =
-        append_once (waits f.inputs) (buffer f j)
-        (waits_once f.inputs agrees.order (λ i k c a b. (apart.waiting i k c c a b refl).0))
-        (rising_once (buffer f j) (agrees.fabric.rising j))
-        (λ c l r. let at = waits_at f.inputs c l in apart.between at.0 j c c at.1 r refl)
+  pub cells_once : (f : Fabric) → IsFabric f → ListsKeepOrder f → Apart f → HasNoRepeat (cells_for j f)
+  cells_once f fabric order apart =
+      append_once (waits f.inputs) (buffer f j)
+      (waits_once f.inputs order (λ i k c a b. (apart.waiting i k c c a b refl).0))
+      (rising_once (buffer f j) (fabric.rising j))
+      (λ c l r. let at = waits_at f.inputs c l in apart.between at.0 j c c at.1 r refl)
 
-    to_all : (c : Queued) → HasFor f j c → IsAmong c all
-    unfolding all
-    to_all c h =
-        ⊎_elim (λ w. among_left c (waits f.inputs) (buffer f j) (at_waits f.inputs w.0 c w.1 w.2))
-        (λ b. among_right c (waits f.inputs) (buffer f j) b) h
-
-    from_all : (c : Queued) → IsAmong c all → HasFor f j c
-    unfolding all
-    from_all c h =
-        ⊎_elim (λ l. inl (waits_at f.inputs c l)) (λ r. inr r) (among_append c (waits f.inputs) (buffer f j) h)
-
-    pub holds_as_many : length (list_of ideal.lists j) ≡ held_for j f
-    unfolding all
-    holds_as_many =
-        as_long (list_of ideal.lists j) all (rising_once (list_of ideal.lists j) (agrees.rising j)) all_once
-        (λ c h. to_all c ((agrees.same j c).0 h)) (λ c h. (agrees.same j c).1 (from_all c h))
-        ∙ length-append (waits f.inputs) (buffer f j) ∙ ap (λ n. n + length (buffer f j)) (length-waits f.inputs)
+  holds_as_many : (slot : ℕ) (f : Fabric) (ideal : IdealState) → Agrees slot f ideal →
+      length (list_of ideal.lists j) ≡ held_for j f
+  holds_as_many slot f ideal agrees =
+      as_long (list_of ideal.lists j) (cells_for j f) (rising_once (list_of ideal.lists j) (agrees.rising j))
+      (cells_once f agrees.fabric agrees.order (apart_from f agrees.differ))
+      (λ c h. to_cells f c ((agrees.same j c).0 h)) (λ c h. (agrees.same j c).1 (from_cells f c h))
+      ∙ length-append (waits f.inputs) (buffer f j) ∙ ap (λ n. n + length (buffer f j)) (length-waits f.inputs)
 
 -- ## So for all outputs
 

@@ -12,6 +12,7 @@ pub mod Fronts
 pub mod OneSlot
 pub mod KeptWhole
 pub mod Held
+pub mod IdealOf
 pub mod LimitedSlots
 pub mod WholeRuns
 pub mod LimitedWhole

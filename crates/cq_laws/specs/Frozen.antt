@@ -1,11 +1,14 @@
 -- What clauses see of a fabric that stands still: its state with the marks, and what it is that a fabric can go on from.
-use Rattle.std.specs.Prelude.{◌≡◌, ℕ, ◌<◌, List, length, map, Option}
-use Rattle.std.specs.List.{enumerate_from, filter_map}
+use Rattle.std.specs.Prelude.{◌≡◌, ℕ, ◌<◌, List, length, map, Option, [], ◌∷◌}
+use Rattle.std.specs.List.{enumerate_from, filter_map, range_with_len}
 use Rattle.std.specs.Option.{option_map}
 use Rattle.cq_base.specs.declared.cell.Queued.{Queued}
 use Rattle.cq_ideal.specs.Admission.{Marked}
 use Rattle.cq_ideal.specs.declared.refused.Refused.{Refused}
+use Rattle.cq_ideal.specs.IdealSlot.{IdealState}
+use Rattle.cq_base.specs.Cells.{put}
 use Rattle.cq_laws.specs.Fabric.{Fabric, IsAmong, IsFabric, ListsKeepOrder, buffer, input}
+use Rattle.cq_laws.specs.Holding.{cells_for}
 use Rattle.cq_laws.specs.Places.{NoKeyTwice, AllBefore}
 use Rattle.cq_laws.specs.Slack.{HasSlack}
 use Rattle.cq_laws.specs.declared.frozen.Frozen.{Frozen}
@@ -51,3 +54,14 @@ limited limits = filter_map (λ at. option_map (λ limit. (at.0, limit)) at.1) (
 -- there is one count of refused packets for each of them, in order
 abbrev pub AreCountsOf : List (Option ℕ) → List Refused → Type 0
 AreCountsOf limits refused = map (λ r. (r.output, r.limit)) refused ≡ limited limits
+
+-- ## The ideal switch beside it
+
+-- these cells in the order of their keys
+abbrev pub in_order : List Queued → List Queued
+in_order [] = []
+in_order (c ∷ cells) = put c (in_order cells)
+
+-- the state of the ideal switch that agrees with a fabric: per output all cells for it, in the order of their keys
+unfoldable pub ideal_of : Fabric → IdealState
+ideal_of f = record { lists = map (λ j. in_order (cells_for j f)) (range_with_len 0 (length f.inputs)); ranks = f.ranks }

@@ -1,4 +1,10 @@
 //! A fabric that stands still between two slots.
+ghost use Rattle.std.specs.Prelude.{◌≡◌, ℕ};
+ghost use Rattle.cq_ideal.specs.IdealSlot.{IdealState};
+ghost use Rattle.cq_laws.specs.Agreement.{Agrees};
+ghost use Rattle.cq_laws.specs.Fabric.{Fabric};
+ghost use Rattle.cq_laws.specs.Frozen.{IsSoundFabric, ideal_of};
+
 use crate::Refused;
 use cq_base::{Figures, Queued, Sequence, Slot};
 
@@ -20,3 +26,12 @@ pub struct Frozen {
     /// For each output the cells of its buffer, the most urgent first.
     pub buffers: Sequence<Sequence<Queued>>,
 }
+
+/// A fabric whose lists and buffers stand in order, whose keys differ, and whose waiting cells have slack 1 at least, is in
+/// step with an ideal switch: with the one that has all its cells, in the order of their keys, and with no other. This function
+/// does nothing: its contract is the claim.
+pub fn sound_fabrics_are_in_step()
+    ensures agrees { (slot : ℕ) (f : Fabric) → IsSoundFabric slot f → Agrees slot f (ideal_of f) }
+    ensures sound { (slot : ℕ) (f : Fabric) (ideal : IdealState) → Agrees slot f ideal → IsSoundFabric slot f }
+    ensures only { (slot : ℕ) (f : Fabric) (ideal : IdealState) → Agrees slot f ideal → ideal ≡ ideal_of f }
+{}

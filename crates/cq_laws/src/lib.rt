@@ -25,7 +25,7 @@ pub use ending::{more_slots_add_nothing, one_whole_run, runs_end_together};
 pub use entering::cells_find_their_places;
 pub use example::worked_run;
 pub use figures::figures_add_up;
-pub use frozen::Frozen;
+pub use frozen::{Frozen, sound_fabrics_are_in_step};
 pub use least_slack::{least_slack_is_on_arrival, slack_never_falls};
 pub use limits::{
     limited_runs_are_of_admitted, limited_runs_end_together, outputs_hold_as_many,
