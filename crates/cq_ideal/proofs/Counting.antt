@@ -130,7 +130,7 @@ counted_both before now r =
     let b = cells_both r.output before now in omega arith in
     λ k. record { output = r.output; limit = r.limit; packets = packets k; cells = cells k }
 
-all_counted_both : (before now : List Cell) (counts : List Refused) →
+pub all_counted_both : (before now : List Cell) (counts : List Refused) →
     with_refused (before ++ now) counts ≡ with_refused now (with_refused before counts)
 all_counted_both before now [] = refl
 all_counted_both before now (r ∷ counts) =
@@ -138,7 +138,7 @@ all_counted_both before now (r ∷ counts) =
     let rest = all_counted_both before now counts in
     λ k. here k ∷ rest k
 
-none_counted : (counts : List Refused) → with_refused [] counts ≡ counts
+pub none_counted : (counts : List Refused) → with_refused [] counts ≡ counts
 unfolding cells_refused packets_refused
 none_counted [] = refl
 none_counted (r ∷ counts) =

@@ -114,6 +114,11 @@ pub quiet_at_end : (came : List Arrival) → QuietAfter (end_of came) (traffic_o
 unfolding traffic_of
 quiet_at_end came = quiet_from 64 refl came (end_of came) (end_of came) 0 (enough came) (before_end came) (omega arith)
 
+-- in any number of slots
+pub come_count-first : (came : List Arrival) (n : ℕ) →
+    come_count (map (arriving came) (range_with_len 0 n)) ≤ length came
+come_count-first came n = let count = count_from 64 refl came 0 n in let few = no_more_than 64 refl came n in omega arith
+
 pub come_count-traffic_of : (came : List Arrival) → come_count (traffic_of came) ≤ length came
 unfolding traffic_of
 come_count-traffic_of came = let count = count_from 64 refl came 0 (enough came) in let few = no_more_than 64 refl came (enough came) in omega arith

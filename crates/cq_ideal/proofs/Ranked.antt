@@ -6,6 +6,15 @@ use Rattle.std.proofs.Math.Seq.{map-set_same}
 use Rattle.cq_rank.specs.Machine.{Machine, machine_at, first_come}
 use Rattle.cq_ideal.specs.Parts.{RanksView}
 
+-- there are as many states as machines
+pub as_many : {R : Type 0} (F S : R → List ℕ) (items : List R) (v : RanksView) →
+    record { fixed = map F items; states = map S items } ≡ v → length v.states ≡ length v.fixed
+as_many F S items v view_is =
+    sym (ap (λ (w : RanksView). length w.states) view_is)
+    ∙ length-map items S
+    ∙ sym (length-map items F)
+    ∙ ap (λ (w : RanksView). length w.fixed) view_is
+
 module _ {R : Type 0} (F S : R → List ℕ) (M : List ℕ → Machine) (items : List R) (o : ℕ) (r : R) (v : RanksView) (inside : o < length v.fixed) (is : r ≡ get_or items o r) (view_is : record { fixed = map F items; states = map S items } ≡ v) where
   fixed_is : map F items ≡ v.fixed
   fixed_is = ap (λ (w : RanksView). w.fixed) view_is

@@ -3,7 +3,7 @@
 -- this one on, are all departures of the slot.
 use Rattle.std.proofs.Common.{◌≡◌, ℕ, ◌+◌, ◌<◌, ◌≤◌, List, [], ◌∷◌, ◌++◌, length, map, get_or, set, take, drop, Option, Some, None, refl, sym, ap, ◌∙◌, arith, append_assoc, length-append, length-set}
 use Rattle.std.specs.Prelude.{slice_get}
-use Rattle.std.proofs.lemmas.List.{get_or-map, length-map, length-take-le, get_or_at, set_at, take_more, drop_more, take_all, drop_all, append-nil}
+use Rattle.std.proofs.lemmas.List.{get_or-map, length-drop, length-map, length-take, length-take-le, get_or_at, set_at, take_more, drop_more, take_all, drop_all, append-nil}
 use Rattle.std.proofs.lemmas.List.FromFn.{get_or-map-range_with_len, length-map-range_with_len}
 use Rattle.cq_base.specs.declared.cell.Departure.{Departure}
 use Rattle.cq_base.specs.declared.cell.Queued.{Queued}
@@ -28,6 +28,21 @@ next_place new old j y d same inside is =
     ∙ set_at (take j new) (get_or old j d) (drop (j + 1) old) y j (length-take-le j new (omega arith))
     ∙ sym (append_assoc (take j new) (y ∷ []) (drop (j + 1) old))
     ∙ ap (λ l. l ++ drop (j + 1) old) (ap (λ v. take j new ++ v ∷ []) is ∙ sym (take_more new j d (omega arith)))
+
+-- what is put at its place alone
+pub put_next : {X : Type 0} (new old now next : List X) (j : ℕ) (y d : X) → now ≡ changed_to new old j →
+    next ≡ set now j y → y ≡ get_or new j d → length new ≡ length old → j < length old →
+    next ≡ changed_to new old (j + 1)
+put_next new old now next j y d so_far put is same inside =
+    put ∙ ap (λ l. set l j y) so_far ∙ next_place new old j y d same inside is
+
+pub length-changed : {X : Type 0} (new old : List X) (j : ℕ) → length new ≡ length old →
+    length (changed_to new old j) ≡ length old
+length-changed new old j same =
+    let whole = length-append (take j new) (drop j old) in
+    let front = length-take j new in
+    let rest = length-drop j old in
+    omega arith
 
 pub at_end : {X : Type 0} (new old : List X) (j : ℕ) → length new ≡ length old → length old ≤ j → changed_to new old j ≡ new
 at_end new old j same end = ap (λ l. take j new ++ l) (drop_all j old end) ∙ append-nil (take j new) ∙ take_all j new (omega arith)

@@ -129,6 +129,34 @@ impl Limiter {
         })
     }
 
+    /// Outputs with these limits hold so many cells, these marks are up, and so much was refused. The error is want of
+    /// memory.
+    pub fn of(
+        alloc: Global,
+        limits: &[Option<u64>],
+        held: &[u64],
+        marks: &[bool],
+        refused: &[Refused],
+    ) -> Result<Limiter, NoMemory>
+        requires held { length held.now ≡ length limits.now }
+        requires marks { length marks.now ≡ length limits.now }
+        ensures limits { IfOk result (λ limiter. limiter.limits ≡ limits.now) }
+        ensures held { IfOk result (λ limiter. limiter.held ≡ held.now) }
+        ensures marks { IfOk result (λ limiter. limiter.marks ≡ marks.now) }
+        ensures refused { IfOk result (λ limiter. limiter.refused ≡ refused.now) }
+    {
+        let limits = Vec::from_slice(alloc, limits)?;
+        let held = Vec::from_slice(alloc, held)?;
+        let marks = Vec::from_slice(alloc, marks)?;
+        let refused = Vec::from_slice(alloc, refused)?;
+        Ok(Limiter {
+            limits,
+            held,
+            marks,
+            refused,
+        })
+    }
+
     // Whether the mark of an input is up.
     fn is_up(&self, input: Port) -> bool
         requires { input < length self.now.marks }
@@ -273,7 +301,15 @@ impl Limiter {
     {
         self.refused.as_slice()
     }
-    /// These numbers, without the limiter.
+
+    /// For each input whether its mark is up: the packet that is arriving there, or arrived last, is refused.
+    pub fn marks(&self) -> &[bool]
+        ensures { result.now ≡ self.now.marks }
+    {
+        self.marks.as_slice()
+    }
+
+    /// The numbers of what was refused, without the limiter.
     pub fn into_refused(self) -> Vec<Refused>
         ensures { result.items ≡ self.refused }
     {

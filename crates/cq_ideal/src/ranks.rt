@@ -2,14 +2,15 @@
 ghost use Rattle.std.specs.Prelude.{◌≡◌, ◌↔◌, ◌+◌, ◌<◌, ◌≤◌, ◌^◌, ◌∷◌, List, Option, Ok, Err, IfErr, IfOk, IsErr, None, OnErr, OnOk, Some, length, map, replicate, slice_index_or, slice_set, []};
 ghost use Rattle.cq_base.specs.declared.cell.Cell.{Cell};
 ghost use Rattle.cq_rank.specs.Machine.{machine_at, told};
-ghost use Rattle.cq_rank.specs.Switch.{AreForOneSwitch, class_count};
+ghost use Rattle.cq_rank.specs.Switch.{AreForOneSwitch, AreSized, class_count};
 ghost use Rattle.cq_ideal.specs.Admission.{admitted};
 ghost use Rattle.cq_ideal.specs.Parts.{all_idle, given_at, level_at, rank_at};
 ghost use Rattle.cq_ideal.specs.Ranking.{AreForPorts, after_input, keyed, ranking};
 
 use crate::limiter::Limiter;
-use cq_base::{Arrivals, Cell, Class, Key, Port, Queued, Slot, TagFault};
+use cq_base::{Arrivals, Cell, Class, Key, NoMemory, Port, Queued, Sequence, Slot, TagFault};
 use cq_rank::{Rank, TagOverflow};
+use std::alloc::Global;
 use std::marker::Model;
 
 /// Per output what ranks its cells. Contracts see the numbers that give the machines, and their states.
@@ -48,6 +49,30 @@ fn tell_idle<R: Rank>(rank: &mut R)
     rank.idle();
 }
 
+// The numbers of a machine's state. The error is want of memory.
+fn numbers_of<R: Rank>(alloc: Global, rank: &R) -> Result<Sequence<u128>, NoMemory>
+    ensures { IfOk result (λ numbers. numbers ≡ R.state rank.now) }
+{
+    let count = rank.width();
+    let mut numbers = Vec::with_capacity(alloc, count as usize)?;
+    'places: for at in 0..count {
+        numbers.push_reserved(rank.number(at));
+    }
+    Ok(Sequence::of(numbers))
+}
+
+// These become the numbers of a machine's state.
+fn put_numbers<R: Rank>(rank: &mut R, numbers: &[u128])
+    requires { length numbers.now ≡ (R.machine (R.fixed rank.old)).size }
+    ensures fixed { R.fixed rank.new ≡ R.fixed rank.old }
+    ensures state { R.state rank.new ≡ numbers.now }
+{
+    let count = rank.width();
+    'places: for at in 0..count {
+        rank.put(at, numbers[at as usize]);
+    }
+}
+
 impl<R: Rank> Ranks<R> {
     /// One for each output, in order.
     pub fn of(ranks: Vec<R>) -> Ranks<R>
@@ -57,12 +82,59 @@ impl<R: Rank> Ranks<R> {
         Ranks { ranks }
     }
 
-    // How many machines there are.
+    // How many machines there are. Each has a state.
     fn len(&self) -> Port
         requires { length self.now.fixed ≤ 64 }
         ensures value { result ≡ length self.now.fixed }
+        ensures as_many { length self.now.states ≡ length self.now.fixed }
     {
         self.ranks.len() as Port
+    }
+
+    // The numbers of the state of one machine. The error is want of memory.
+    fn numbers_at(&self, alloc: Global, output: Port) -> Result<Sequence<u128>, NoMemory>
+        requires { output < length self.now.fixed }
+        ensures { IfOk result (λ numbers. numbers ≡ slice_index_or self.now.states output []) }
+    {
+        numbers_of(alloc, &self.ranks[output as usize])
+    }
+
+    /// The numbers of the state of each machine, in order of output. The error is want of memory.
+    pub fn numbers(&self, alloc: Global) -> Result<Sequence<Sequence<u128>>, NoMemory>
+        requires { length self.now.fixed ≤ 64 }
+        ensures { IfOk result (λ states. states ≡ self.now.states) }
+    {
+        let ports = self.len();
+        let mut states = Vec::with_capacity(alloc, ports as usize)?;
+        'outputs: for output in 0..ports {
+            let numbers = self.numbers_at(alloc, output)?;
+            states.push_reserved(numbers);
+        }
+        Ok(Sequence::of(states))
+    }
+
+    // These become the numbers of the state of one machine.
+    fn put_at(&mut self, output: Port, numbers: &[u128])
+        requires output { output < length self.old.fixed }
+        requires sized { length numbers.now ≡ (machine_at (map R.machine self.old.fixed) output).size }
+        ensures fixed { self.new.fixed ≡ self.old.fixed }
+        ensures states { self.new.states ≡ slice_set self.old.states output numbers.now }
+    {
+        put_numbers(&mut self.ranks[output as usize], numbers);
+    }
+
+    /// These become the numbers of the states of the machines, in order of output.
+    pub fn put(&mut self, states: &[Sequence<u128>])
+        requires few { length self.old.fixed ≤ 64 }
+        requires outputs { length states.now ≡ length self.old.fixed }
+        requires sized { AreSized (map R.machine self.old.fixed) states.now }
+        ensures fixed { self.new.fixed ≡ self.old.fixed }
+        ensures states { self.new.states ≡ states.now }
+    {
+        let ports = self.len();
+        'outputs: for output in 0..ports {
+            self.put_at(output, states[output as usize].as_slice());
+        }
     }
 
     // The level of a cell of the class that arrives for an output.

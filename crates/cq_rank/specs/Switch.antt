@@ -1,5 +1,5 @@
 -- The machines of the outputs of one switch.
-use Rattle.std.specs.Prelude.{◌≡◌, ℕ, ◌<◌, ◌≤◌, List, length}
+use Rattle.std.specs.Prelude.{◌≡◌, ℕ, ◌<◌, ◌≤◌, List, [], length, slice_index_or}
 use Rattle.std.specs.List.{AllByRecursion}
 use Rattle.cq_rank.specs.Machine.{Machine, machine_at}
 
@@ -12,3 +12,7 @@ pub record AreForOneSwitch (ms : List Machine) : Type 0 where
   pub some : 0 < length ms
   pub few : length ms ≤ 64
   pub same : AllByRecursion (λ m. m.classes ≡ class_count ms) ms
+
+-- each state has as many numbers as its machine asks for
+abbrev pub AreSized : List Machine → List (List ℕ) → Type 0
+AreSized ms states = (j : ℕ) → j < length states → length (slice_index_or states j []) ≡ (machine_at ms j).size

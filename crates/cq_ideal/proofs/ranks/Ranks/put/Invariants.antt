@@ -1,0 +1,10 @@
+use Rattle.std.proofs.Common.{◌≡◌}
+use Rattle.cq_ideal.proofs.Sending.{changed_to}
+use Rattle.cq_ideal.proofs.ranks.Ranks.put.Given as goal
+
+-- the states of the outputs before this one are the new ones
+abbrev pub invariant-outputs : goal.invariant-outputs
+invariant-outputs g l = record {
+  fixed : l.self.fixed ≡ l.fn.self.fixed;
+  states : l.self.states ≡ changed_to l.states l.fn.self.states l.output;
+}
