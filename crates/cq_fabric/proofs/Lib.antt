@@ -9,3 +9,4 @@ pub mod Limits
 pub mod Told
 pub mod Slot
 pub mod Rested
+pub mod Filling

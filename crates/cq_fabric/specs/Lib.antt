@@ -1,3 +1,4 @@
 pub mod Queues
+pub mod Holding
 pub mod Newest
 pub mod Held

@@ -7,6 +7,7 @@
 
 mod queues;
 mod sent;
+mod standing;
 #[cfg(test)]
 mod tests;
 

@@ -1,7 +1,8 @@
 //! The lists of all inputs, and the buffers of all outputs.
-ghost use Rattle.std.specs.Prelude.{◌≡◌, ◌≢◌, ◌==◌, ◌+◌, ◌-◌, ◌^◌, ◌<◌, ◌≤◌, ◌++◌, ℕ, [], All, IfOk, IsTrue, None, Some, length, map, replicate, slice_index, take};
+ghost use Rattle.std.specs.Prelude.{◌≡◌, ◌≢◌, ◌==◌, ◌+◌, ◌-◌, ◌^◌, ◌<◌, ◌≤◌, ◌++◌, ℕ, [], All, IfOk, IsTrue, None, Some, length, map, replicate, slice_get, slice_index, take};
 ghost use Rattle.std.specs.List.{list_all, position_or_len};
 ghost use Rattle.cq_base.specs.Cells.{cushion};
+ghost use Rattle.cq_base.specs.declared.cell.Queued.{Queued as OfCell};
 ghost use Rattle.cq_ideal.specs.IdealSlot.{fronts, rests};
 ghost use Rattle.cq_list.specs.InputList.{cells_of};
 ghost use Rattle.cq_urgency.specs.OutputBuffer.{cells_in};
@@ -10,10 +11,12 @@ ghost use Rattle.cq_prefs.specs.Moves.{Moves, transfers_of};
 ghost use Rattle.cq_prefs.specs.Pairing.{IsMatching, with_pair};
 ghost use Rattle.cq_xbar.specs.Crossbar.{HaveCells, HaveRoom, KeysAreNew, MovesRoom};
 ghost use Rattle.cq_laws.specs.Phases.{came_to, list_arrived};
+ghost use Rattle.cq_fabric.specs.Holding.{CanHold};
 ghost use Rattle.cq_fabric.specs.Newest.{IsNewest};
 ghost use Rattle.cq_fabric.specs.Queues.{CanCross, ComeApart, Comes, FitEach, FitLists, Fits, KeysApart, buffer_room, fabric_of, front_of, list_at, list_room, list_with, popped};
 
-use cq_base::{NoMemory, Port, Queued, Room, Slot, Transfer};
+use crate::standing::{all_buffered, all_listed, filled_buffers, filled_lists};
+use cq_base::{NoMemory, Port, Queued, Room, Sequence, Slot, Transfer};
 use cq_list::InputList;
 use cq_prefs::{Matching, Offers};
 use cq_urgency::OutputBuffer;
@@ -214,6 +217,49 @@ impl Queues {
         })
     }
 
+    /// These cells wait, and the lists and the buffers can hold so many. The error is want of memory.
+    pub fn holding(
+        alloc: Global,
+        from_inputs: &[u64],
+        to_outputs: &[u64],
+        lists: &[Sequence<Queued>],
+        buffers: &[Sequence<Queued>],
+    ) -> Result<Queues, NoMemory>
+        requires few { length from_inputs.now ≤ 64 }
+        requires square { length to_outputs.now ≡ length from_inputs.now }
+        requires lists { length lists.now ≡ length from_inputs.now }
+        requires buffers { length buffers.now ≡ length from_inputs.now }
+        requires hold { CanHold from_inputs.now to_outputs.now lists.now buffers.now }
+        ensures inputs { IfOk result (λ q. q.inputs ≡ lists.now) }
+        ensures buffers { IfOk result (λ q. q.buffers ≡ buffers.now) }
+        ensures from_inputs { IfOk result (λ q. q.from_inputs ≡ from_inputs.now) }
+        ensures to_outputs { IfOk result (λ q. q.to_outputs ≡ to_outputs.now) }
+    {
+        let waiting = filled_lists(alloc, from_inputs, lists)?;
+        let crossed = filled_buffers(alloc, to_outputs, buffers)?;
+        let mut offers = Offers::new(alloc, from_inputs.len() as u16)?;
+        offers.fill(&waiting);
+        Ok(Queues {
+            lists: waiting,
+            buffers: crossed,
+            offers,
+        })
+    }
+
+    /// The cells of each list, in order. The error is want of memory.
+    pub fn listed(&self, alloc: Global) -> Result<Sequence<Sequence<Queued>>, NoMemory>
+        ensures { IfOk result (λ lists. lists ≡ self.now.inputs) }
+    {
+        all_listed(alloc, &self.lists)
+    }
+
+    /// The cells of each buffer, the most urgent first. The error is want of memory.
+    pub fn buffered(&self, alloc: Global) -> Result<Sequence<Sequence<Queued>>, NoMemory>
+        ensures { IfOk result (λ buffers. buffers ≡ self.now.buffers) }
+    {
+        all_buffered(alloc, &self.buffers)
+    }
+
     /// The number of inputs, and of outputs.
     pub fn ports(&self) -> u16
         ensures value { result ≡ length self.now.inputs }
@@ -243,6 +289,20 @@ impl Queues {
         let list = &self.lists[input];
         let _waiting = list.outputs();
         let place = list.place_of_key(queued.cell.output, queued.key);
+        self.buffers[queued.cell.output as usize]
+            .cushion(queued.key)
+            .saturating_sub(place)
+    }
+
+    /// The slack of the cell that stands at a place in the list of an input.
+    pub fn slack_at(&self, input: usize, place: u64) -> u64
+        requires input { input < length self.now.inputs }
+        requires place { place < length (list_of self.now.inputs input) }
+        ensures { (c : OfCell) → slice_get (list_of self.now.inputs input) place ≡ Some c → result ≡ cushion c.key (list_of self.now.buffers c.cell.output) - place }
+    {
+        let list = &self.lists[input];
+        let _waiting = list.outputs();
+        let queued = list.at(place);
         self.buffers[queued.cell.output as usize]
             .cushion(queued.key)
             .saturating_sub(place)

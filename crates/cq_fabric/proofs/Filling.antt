@@ -1,0 +1,221 @@
+-- Cells that come into an empty list or an empty buffer in the order in which they are to stand. Each finds those ahead of it
+-- alone: in a list all more urgent cells for its output stand there, and no less urgent one, so that it goes in at the end; in a
+-- buffer all have lesser keys.
+use Rattle.std.proofs.Common.{◌≡◌, ◌≢◌, ℕ, ◌+◌, ◌<◌, ◌^◌, cond, Bool, false, List, [], ◌∷◌, ◌++◌, length, map, get_or, take, drop, replicate, Some, refl, sym, ap, ◌∙◌, subst, ⊎_elim, arith}
+use Rattle.std.specs.Prelude.{◌&&◌, All, insert, slice_get}
+use Rattle.std.specs.List.{AllByRecursion}
+use Rattle.std.proofs.lemmas.Bool.{and_left, and_right, cases_Bool, eqb-true}
+use Rattle.std.proofs.lemmas.List.{drop_all, drop_more, get_or-map, length-map, length-take-le, map_push, replicate_more, take-append-drop, take_all, take_more}
+use Rattle.std.proofs.lemmas.List.Elements.{All-from_recursion, All-push}
+use Rattle.std.proofs.lemmas.Option.{same_Some, slice_get-get_or}
+use Rattle.cq_base.specs.declared.cell.Queued.{Queued}
+use Rattle.cq_base.specs.Key.{is_before}
+use Rattle.cq_base.specs.Cells.{EachPair, HasOtherKey, IsBefore, IsRising, MoreUrgentAhead, is_for, place_of_arrival, place_of_later, put, with_arrival}
+use Rattle.cq_base.proofs.Keys.{key_laws}
+use Rattle.cq_base.proofs.Lists.{ahead_of_end, first_later}
+use Rattle.cq_list.specs.InputList.{Waiting, cells_of}
+use Rattle.cq_urgency.specs.OutputBuffer.{Buffered, cells_in}
+use Rattle.cq_prefs.specs.FirstCells.{list_of}
+use Rattle.cq_laws.proofs.Sound.{not_before_itself}
+use Rattle.cq_fabric.specs.Holding.{CanWait}
+use Rattle.cq_fabric.specs.Queues.{buffer_room, list_room}
+
+-- ## A cell behind those that stand before its place
+
+here_of : (P : Queued → Type 0) (xs ys : List Queued) (c : Queued) → AllByRecursion P (xs ++ c ∷ ys) → P c
+here_of P [] ys c all = all.0
+here_of P (x ∷ xs) ys c all = here_of P xs ys c all.1
+
+each_before : (R : Queued → Queued → Type 0) (xs ys : List Queued) (c : Queued) → EachPair R (xs ++ c ∷ ys) →
+    AllByRecursion (λ x. R x c) xs
+each_before R [] ys c pairs = tt
+each_before R (x ∷ xs) ys c pairs = (here_of (R x) xs ys c pairs.0, each_before R xs ys c pairs.1)
+
+parted_at : (cells : List Queued) (i : ℕ) (d : Queued) → i < length cells →
+    cells ≡ take i cells ++ get_or cells i d ∷ drop (i + 1) cells
+parted_at cells i d inside =
+    sym (take-append-drop i cells) ∙ ap (λ (l : List Queued). take i cells ++ l) (drop_more cells i d inside)
+
+-- what holds of each cell and each behind it holds of those before a place and the one that stands there
+before_place : (R : Queued → Queued → Type 0) (cells : List Queued) (i : ℕ) (d : Queued) → i < length cells →
+    EachPair R cells → AllByRecursion (λ x. R x (get_or cells i d)) (take i cells)
+before_place R cells i d inside pairs =
+    each_before R (take i cells) (drop (i + 1) cells) (get_or cells i d)
+    (subst (EachPair R) (parted_at cells i d inside) pairs)
+
+-- ## The end of a list
+
+not_later : (c x : Queued) → (x.cell.output ≡ c.cell.output → IsBefore x c) →
+    (is_for c.cell.output x && is_before c.key x.key) ≡ false
+not_later c x before =
+    ⊎_elim
+    (λ same.
+    and_right (is_for c.cell.output x) (is_before c.key x.key)
+    (key_laws.one_way x.key c.key (before (eqb-true x.cell.output c.cell.output same))))
+    (λ other. and_left (is_for c.cell.output x) (is_before c.key x.key) other)
+    (cases_Bool (is_for c.cell.output x))
+
+none_later : (c : Queued) (xs : List Queued) →
+    AllByRecursion (λ x. x.cell.output ≡ c.cell.output → IsBefore x c) xs → place_of_later c xs ≡ length xs
+none_later c [] all = refl
+none_later c (x ∷ xs) all =
+    let later =
+    first_later (λ (y : Queued). is_for c.cell.output y && is_before c.key y.key) x xs (not_later c x all.0) in
+    let rest = none_later c xs all.1 in
+    omega arith
+
+goes_last : (n : ℕ) (c : Queued) (xs : List Queued) → length xs ≡ n →
+    AllByRecursion (λ x. x.cell.output ≡ c.cell.output → IsBefore x c) xs → with_arrival n c xs ≡ xs ++ c ∷ []
+goes_last n c xs long all =
+    let later = none_later c xs all in
+    let place : place_of_arrival n c xs ≡ length xs = omega arith in
+    ap (λ (p : ℕ). insert xs p c) place
+    ∙ ap (λ (l : List Queued). l ++ c ∷ drop (length xs) xs) (take_all (length xs) xs (omega arith))
+    ∙ ap (λ (l : List Queued). xs ++ c ∷ l) (drop_all (length xs) xs (omega arith))
+
+-- the cell at a place of the cells that a list is to have, once those before it are there
+module _ (outputs most : ℕ) (cells : List Queued) (wait : CanWait outputs most cells) (at : ℕ)
+    (inside : at < length cells) (d : Queued) (w : Waiting) (so_far : w.cells ≡ take at cells) where
+  long : length w.cells ≡ at
+  long = ap length so_far ∙ length-take-le at cells (omega arith)
+
+  pub comes_in_range : w.outputs ≡ outputs → (get_or cells at d).cell.output < w.outputs
+  comes_in_range same =
+      subst (λ (n : ℕ). (get_or cells at d).cell.output < n) (sym same)
+      (All-from_recursion (λ (x : Queued). x.cell.output < outputs) cells wait.outputs at d inside)
+
+  pub comes_anew : HasOtherKey (get_or cells at d) w.cells
+  comes_anew =
+      subst (HasOtherKey (get_or cells at d)) (sym so_far)
+      (before_place (λ a b. a.key ≢ b.key) cells at d inside wait.differ)
+
+  pub comes_behind : MoreUrgentAhead at (get_or cells at d) w.cells
+  comes_behind = ahead_of_end at (get_or cells at d) w.cells (let l = long in omega arith)
+
+  pub comes_last : with_arrival at (get_or cells at d) w.cells ≡ take (at + 1) cells
+  comes_last =
+      goes_last at (get_or cells at d) w.cells long
+      (subst
+      (AllByRecursion (λ (x : Queued). x.cell.output ≡ (get_or cells at d).cell.output → IsBefore x (get_or cells at d)))
+      (sym so_far)
+      (before_place (λ a b. a.cell.output ≡ b.cell.output → IsBefore a b) cells at d inside wait.order))
+      ∙ ap (λ (l : List Queued). l ++ get_or cells at d ∷ []) so_far
+      ∙ sym (take_more cells at d inside)
+
+-- ## The end of a buffer
+
+other_keys : (c : Queued) (xs : List Queued) → AllByRecursion (λ x. IsBefore x c) xs → HasOtherKey c xs
+other_keys c [] all = tt
+other_keys c (x ∷ xs) all = (
+  λ same. not_before_itself c (ap (λ k. is_before k c.key) (sym same) ∙ all.0),
+  other_keys c xs all.1,
+)
+
+put_last : (c : Queued) (xs : List Queued) → AllByRecursion (λ x. IsBefore x c) xs → put c xs ≡ xs ++ c ∷ []
+put_last c [] all = refl
+put_last c (x ∷ xs) all =
+    ap (λ (b : Bool). cond b (c ∷ x ∷ xs) (x ∷ put c xs)) (key_laws.one_way x.key c.key all.0)
+    ∙ ap (λ (l : List Queued). x ∷ l) (put_last c xs all.1)
+
+-- the cell at a place of the cells that a buffer is to have, once those before it are there
+module _ (cells : List Queued) (rising : IsRising cells) (at : ℕ) (inside : at < length cells) (d : Queued)
+    (xs : List Queued) (so_far : xs ≡ take at cells) where
+  pub stands_anew : HasOtherKey (get_or cells at d) xs
+  stands_anew =
+      subst (HasOtherKey (get_or cells at d)) (sym so_far)
+      (other_keys (get_or cells at d) (take at cells) (before_place IsBefore cells at d inside rising))
+
+  pub stands_last : put (get_or cells at d) xs ≡ take (at + 1) cells
+  stands_last =
+      ap (put (get_or cells at d)) so_far
+      ∙ put_last (get_or cells at d) (take at cells) (before_place IsBefore cells at d inside rising)
+      ∙ sym (take_more cells at d inside)
+
+-- ## All lists, and all buffers
+
+-- the lists of the first n inputs have their cells, and these rooms
+pub record Filled (sizes : List ℕ) (cells : List (List Queued)) (n : ℕ) (lists : List Waiting) : Type 0 where
+  pub filled : cells_of lists ≡ take n cells
+  pub rooms : map list_room lists ≡ take n sizes
+  pub outputs : map (λ list. list.outputs) lists ≡ replicate n (length sizes)
+
+pub one_filled : (sizes : List ℕ) (cells : List (List Queued)) (n : ℕ) (lists more : List Waiting) (w : Waiting) →
+    Filled sizes cells n lists → more ≡ lists ++ w ∷ [] → n < length sizes → length cells ≡ length sizes →
+    w.cells ≡ list_of cells n → list_room w ≡ get_or sizes n 0 → w.outputs ≡ length sizes →
+    Filled sizes cells (n + 1) more
+one_filled sizes cells n lists more w so_far is inside as_many here room outputs =
+    let within : n < length cells = omega arith in
+    let none : List Queued = [] in
+    let cells_at : Waiting → List Queued = λ x. x.cells in
+    let outputs_at : Waiting → ℕ = λ x. x.outputs in
+    record {
+      filled =
+          ap cells_of is ∙ map_push cells_at lists w
+          ∙ ap (λ (l : List (List Queued)). l ++ w.cells ∷ []) so_far.filled
+          ∙ ap (λ (c : List Queued). take n cells ++ c ∷ []) here
+          ∙ sym (take_more cells n none within);
+      rooms =
+          ap (map list_room) is ∙ map_push list_room lists w
+          ∙ ap (λ (l : List ℕ). l ++ list_room w ∷ []) so_far.rooms
+          ∙ ap (λ (r : ℕ). take n sizes ++ r ∷ []) room
+          ∙ sym (take_more sizes n 0 inside);
+      outputs =
+          ap (map outputs_at) is ∙ map_push outputs_at lists w
+          ∙ ap (λ (l : List ℕ). l ++ w.outputs ∷ []) so_far.outputs
+          ∙ ap (λ (o : ℕ). replicate n (length sizes) ++ o ∷ []) outputs
+          ∙ replicate_more n (length sizes);
+    }
+
+-- the buffers of the first n outputs have their cells, and these rooms
+pub record Stored (sizes : List ℕ) (cells : List (List Queued)) (n : ℕ) (buffers : List Buffered) : Type 0 where
+  pub stored : cells_in buffers ≡ take n cells
+  pub rooms : map buffer_room buffers ≡ take n sizes
+  pub few : All (λ room. room < 2 ^ 64) (take n sizes)
+
+pub one_stored : (sizes : List ℕ) (cells : List (List Queued)) (n : ℕ) (buffers more : List Buffered) (b : Buffered) →
+    Stored sizes cells n buffers → more ≡ buffers ++ b ∷ [] → n < length sizes → length cells ≡ length sizes →
+    b.cells ≡ list_of cells n → buffer_room b ≡ get_or sizes n 0 → get_or sizes n 0 < 2 ^ 64 →
+    Stored sizes cells (n + 1) more
+one_stored sizes cells n buffers more b so_far is inside as_many here room one =
+    let within : n < length cells = omega arith in
+    let none : List Queued = [] in
+    let cells_at : Buffered → List Queued = λ x. x.cells in
+    let few : ℕ → Type 0 = λ r. r < 2 ^ 64 in
+    record {
+      stored =
+          ap cells_in is ∙ map_push cells_at buffers b
+          ∙ ap (λ (l : List (List Queued)). l ++ b.cells ∷ []) so_far.stored
+          ∙ ap (λ (c : List Queued). take n cells ++ c ∷ []) here
+          ∙ sym (take_more cells n none within);
+      rooms =
+          ap (map buffer_room) is ∙ map_push buffer_room buffers b
+          ∙ ap (λ (l : List ℕ). l ++ buffer_room b ∷ []) so_far.rooms
+          ∙ ap (λ (r : ℕ). take n sizes ++ r ∷ []) room
+          ∙ sym (take_more sizes n 0 inside);
+      few = subst (All few) (sym (take_more sizes n 0 inside)) (All-push few (take n sizes) (get_or sizes n 0) so_far.few one);
+    }
+
+-- ## What waits
+
+-- the cell at a place behind those before it
+pub one_read : (cells : List Queued) (i : ℕ) (xs more : List Queued) (c : Queued) → xs ≡ take i cells →
+    more ≡ xs ++ c ∷ [] → i < length cells → slice_get cells i ≡ Some c → more ≡ take (i + 1) cells
+one_read cells i xs more c so_far is inside at =
+    let here : c ≡ get_or cells i c = same_Some c (get_or cells i c) (sym at ∙ slice_get-get_or cells i c inside) in
+    is
+    ∙ ap (λ (l : List Queued). l ++ c ∷ []) so_far
+    ∙ ap (λ (x : Queued). take i cells ++ x ∷ []) here
+    ∙ sym (take_more cells i c inside)
+
+-- the cells of one item behind those of the items before it
+pub one_told : {X : Type 0} (f : X → List Queued) (items : List X) (i : ℕ) (x : X) (all more : List (List Queued))
+    (cells : List Queued) → all ≡ take i (map f items) → more ≡ all ++ cells ∷ [] → i < length items →
+    x ≡ get_or items i x → cells ≡ f x → more ≡ take (i + 1) (map f items)
+one_told f items i x all more cells so_far is inside read told =
+    let none : List Queued = [] in
+    let long = length-map items f in
+    let here : cells ≡ get_or (map f items) i none = told ∙ ap f read ∙ sym (get_or-map f items i x none inside) in
+    is
+    ∙ ap (λ (l : List (List Queued)). l ++ cells ∷ []) so_far
+    ∙ ap (λ (c : List Queued). take i (map f items) ++ c ∷ []) here
+    ∙ sym (take_more (map f items) i none (omega arith))

@@ -1,0 +1,20 @@
+use Rattle.std.proofs.Common.{List, ◌∙◌, arith}
+use Rattle.std.proofs.lemmas.List.{length-map, take_all}
+use Rattle.cq_base.specs.declared.cell.Queued.{Queued}
+use Rattle.cq_list.specs.InputList.{Waiting, cells_of}
+use Rattle.cq_fabric.proofs.Filling.{one_told}
+use Rattle.cq_fabric.proofs.standing.all_listed.Goals as goal
+
+pub inputs-preserved : goal.inputs-preserved
+inputs-preserved c =
+    let cells_at : Waiting → List Queued = λ x. x.cells in
+    one_told cells_at c.args.lists.now c.inputs.input c.index-lists-input.result c.inputs.all.items c.push.new.self.items
+    c.in_ok-cells.cells c.inputs.invariant c.in_ok-push.ensures.items c.inputs-test.true c.index-lists-input.is
+    c.in_ok-cells.ensures
+
+pub returns : goal.returns
+returns c =
+    let cells_at : Waiting → List Queued = λ x. x.cells in
+    let many = length-map c.args.lists.now cells_at in
+    let past = c.inputs-test.false in
+    c.of.ensures ∙ c.inputs.invariant ∙ take_all c.inputs.input (cells_of c.args.lists.now) (omega arith)

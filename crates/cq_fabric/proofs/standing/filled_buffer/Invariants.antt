@@ -1,0 +1,10 @@
+use Rattle.std.proofs.Common.{◌≡◌, take}
+use Rattle.cq_fabric.specs.Queues.{buffer_room}
+use Rattle.cq_fabric.proofs.standing.filled_buffer.Given as goal
+
+-- the cells before this one are there
+abbrev pub invariant-places : goal.invariant-places
+invariant-places l = record {
+  cells : l.buffer.cells ≡ take l.at l.cells;
+  room : buffer_room l.buffer ≡ l.fn.room;
+}

@@ -1,0 +1,144 @@
+//! Lists and buffers in which cells wait from the start, and the cells that wait in them.
+ghost use Rattle.std.specs.Prelude.{◌≡◌, ◌^◌, ◌<◌, ◌≤◌, ℕ, All, IfOk, length, map, replicate, slice_index};
+ghost use Rattle.cq_list.specs.InputList.{cells_of};
+ghost use Rattle.cq_urgency.specs.OutputBuffer.{cells_in};
+ghost use Rattle.cq_prefs.specs.FirstCells.{list_of};
+ghost use Rattle.cq_fabric.specs.Holding.{CanStand, CanWait};
+ghost use Rattle.cq_fabric.specs.Queues.{buffer_room, list_room};
+
+use cq_base::{NoMemory, Queued, Sequence};
+use cq_list::InputList;
+use cq_urgency::OutputBuffer;
+use std::alloc::Global;
+
+// A list for so many outputs, with room for so many cells, in which these wait. Each comes behind the others. The error is
+// want of memory.
+fn filled_list(
+    alloc: Global,
+    outputs: u16,
+    room: u64,
+    cells: &[Queued],
+) -> Result<InputList, NoMemory>
+    requires few { outputs ≤ 64 }
+    requires wait { CanWait outputs room cells.now }
+    ensures cells { IfOk result (λ list. list.cells ≡ cells.now) }
+    ensures room { IfOk result (λ list. list_room list ≡ room) }
+    ensures outputs { IfOk result (λ list. list.outputs ≡ outputs) }
+{
+    let mut list = InputList::new(alloc, outputs, room)?;
+    'places: for at in 0..cells.len() {
+        list.insert(cells[at], at as u64);
+    }
+    Ok(list)
+}
+
+// A buffer with room for so many cells, in which these wait. The error is want of memory.
+fn filled_buffer(alloc: Global, room: u64, cells: &[Queued]) -> Result<OutputBuffer, NoMemory>
+    requires { CanStand room cells.now }
+    ensures cells { IfOk result (λ buffer. buffer.cells ≡ cells.now) }
+    ensures room { IfOk result (λ buffer. buffer_room buffer ≡ room) }
+{
+    let mut buffer = OutputBuffer::new(alloc, room)?;
+    'places: for at in 0..cells.len() {
+        buffer.put(cells[at]);
+    }
+    Ok(buffer)
+}
+
+/// A list for each of these rooms, over as many outputs, in which these cells wait. The error is want of memory.
+pub fn filled_lists(
+    alloc: Global,
+    rooms: &[u64],
+    cells: &[Sequence<Queued>],
+) -> Result<Vec<InputList>, NoMemory>
+    requires few { length rooms.now ≤ 64 }
+    requires as_many { length cells.now ≡ length rooms.now }
+    requires wait { (i : ℕ) → i < length cells.now →
+        CanWait (length cells.now) (slice_index rooms.now i) (list_of cells.now i) }
+    ensures cells { IfOk result (λ lists. cells_of lists.items ≡ cells.now) }
+    ensures rooms { IfOk result (λ lists. map list_room lists.items ≡ rooms.now) }
+    ensures outputs { IfOk result (λ lists. map (λ list. list.outputs) lists.items ≡ replicate (length rooms.now) (length rooms.now)) }
+{
+    let mut lists = Vec::with_capacity(alloc, rooms.len())?;
+    'inputs: for input in 0..rooms.len() {
+        let waiting = cells[input].as_slice();
+        let list = filled_list(alloc, rooms.len() as u16, rooms[input], waiting)?;
+        lists.push(list)?;
+    }
+    Ok(lists)
+}
+
+/// A buffer for each of these rooms, in which these cells wait. The error is want of memory.
+pub fn filled_buffers(
+    alloc: Global,
+    rooms: &[u64],
+    cells: &[Sequence<Queued>],
+) -> Result<Vec<OutputBuffer>, NoMemory>
+    requires as_many { length cells.now ≡ length rooms.now }
+    requires stand { (j : ℕ) → j < length cells.now → CanStand (slice_index rooms.now j) (list_of cells.now j) }
+    ensures cells { IfOk result (λ buffers. cells_in buffers.items ≡ cells.now) }
+    ensures rooms { IfOk result (λ buffers. map buffer_room buffers.items ≡ rooms.now) }
+    ensures few { IfOk result (λ _. All (λ room. room < 2 ^ 64) rooms.now) }
+{
+    let mut buffers = Vec::with_capacity(alloc, rooms.len())?;
+    'outputs: for output in 0..rooms.len() {
+        let crossed = cells[output].as_slice();
+        let buffer = filled_buffer(alloc, rooms[output], crossed)?;
+        buffers.push(buffer)?;
+    }
+    Ok(buffers)
+}
+
+// The cells of a list, in order. The error is want of memory.
+fn listed(alloc: Global, list: &InputList) -> Result<Sequence<Queued>, NoMemory>
+    ensures { IfOk result (λ cells. cells ≡ list.now.cells) }
+{
+    let count = list.len();
+    let mut cells = Vec::with_capacity(alloc, count as usize)?;
+    'places: for place in 0..count {
+        cells.push(list.at(place))?;
+    }
+    Ok(Sequence::of(cells))
+}
+
+// The cells of a buffer, the most urgent first. The error is want of memory.
+fn buffered(alloc: Global, buffer: &OutputBuffer) -> Result<Sequence<Queued>, NoMemory>
+    ensures { IfOk result (λ cells. cells ≡ buffer.now.cells) }
+{
+    let count = buffer.len();
+    let mut cells = Vec::with_capacity(alloc, count as usize)?;
+    'places: for place in 0..count {
+        cells.push(buffer.at(place))?;
+    }
+    Ok(Sequence::of(cells))
+}
+
+/// The cells of each of some lists, in order. The error is want of memory.
+pub fn all_listed(
+    alloc: Global,
+    lists: &[InputList],
+) -> Result<Sequence<Sequence<Queued>>, NoMemory>
+    ensures { IfOk result (λ all. all ≡ cells_of lists.now) }
+{
+    let mut all = Vec::with_capacity(alloc, lists.len())?;
+    'inputs: for input in 0..lists.len() {
+        let cells = listed(alloc, &lists[input])?;
+        all.push(cells)?;
+    }
+    Ok(Sequence::of(all))
+}
+
+/// The cells of each of some buffers, the most urgent first. The error is want of memory.
+pub fn all_buffered(
+    alloc: Global,
+    buffers: &[OutputBuffer],
+) -> Result<Sequence<Sequence<Queued>>, NoMemory>
+    ensures { IfOk result (λ all. all ≡ cells_in buffers.now) }
+{
+    let mut all = Vec::with_capacity(alloc, buffers.len())?;
+    'outputs: for output in 0..buffers.len() {
+        let cells = buffered(alloc, &buffers[output])?;
+        all.push(cells)?;
+    }
+    Ok(Sequence::of(all))
+}
