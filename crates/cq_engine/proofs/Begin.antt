@@ -16,7 +16,8 @@ use Rattle.cq_laws.proofs.WholeRuns.{empty_agree}
 use Rattle.cq_laws.proofs.LeastRun.{more_at_first}
 use Rattle.cq_fabric.specs.Queues.{Queues, fabric_of}
 use Rattle.cq_ideal.specs.Limiter.{LimiterView}
-use Rattle.cq_engine.specs.Engine.{IsInStep, IsRunning}
+use Rattle.cq_engine.specs.Engine.{IsInStep, IsRunning, IsSeen}
+use Rattle.cq_engine.specs.declared.measure.Look.TheVariants as look
 use Rattle.cq_fabric.proofs.Limits.{holds_first}
 
 replicated : {X : Type 0} (n i : ℕ) (x y : X) → slice_get (replicate n x) i ≡ Some y → y ≡ x
@@ -35,7 +36,7 @@ first_up ms n ranks one ports =
       ports = length-replicate n none ∙ sym ports;
       ideal = empty_ideal n ranks;
       agrees = empty_agree n ranks;
-      slack = more_at_first n ranks;
+      inputs = length-replicate n no_input ∙ sym (length-replicate n none);
       outputs = length-replicate n no_output ∙ sym ports;
       counts = record {
         inputs = λ i y at. let is = ap (λ (z : InputFigures). z.cells) (replicated n i no_input y at) in omega arith;
@@ -50,13 +51,24 @@ in_step_first ms n ranks q x one ports inputs buffers figures =
     let fabric : had ≡ want = cc in
     subst (λ (f : Fabric). IsInStep ms 0 x f) (sym fabric) (subst (λ (y : Figures). IsInStep ms 0 y (empty_fabric n ranks)) (sym figures) (first_up ms n ranks one ports))
 
+-- so an engine begins by looking at the arriving cells alone
+seen_first : (n : ℕ) (ranks : List (List ℕ)) (q : Queues) (x : Figures) → q.inputs ≡ replicate n [] →
+    q.buffers ≡ replicate n [] → x ≡ no_figures n → IsSeen look.Arriving x (fabric_of q ranks)
+seen_first n ranks q x inputs buffers figures =
+    let had : Fabric = fabric_of q ranks in
+    let want : Fabric = empty_fabric n ranks in
+    let fabric : had ≡ want = cc in
+    subst (λ (f : Fabric). IsSeen look.Arriving x f) (sym fabric)
+    (subst (λ (y : Figures). IsSeen look.Arriving y (empty_fabric n ranks)) (sym figures) (more_at_first n ranks))
+
 -- and no output holds a cell
 pub running_first : (ms : List Machine) (n : ℕ) (ranks : List (List ℕ)) (q : Queues) (x : Figures) (l : LimiterView) →
     AreForOneSwitch ms → length ms ≡ n → length ranks ≡ n → q.inputs ≡ replicate n [] → q.buffers ≡ replicate n [] →
-    x ≡ no_figures n → length l.limits ≡ n → l.held ≡ replicate n 0 → IsRunning ms 0 x (fabric_of q ranks) l
+    x ≡ no_figures n → length l.limits ≡ n → l.held ≡ replicate n 0 → IsRunning ms 0 look.Arriving x (fabric_of q ranks) l
 running_first ms n ranks q x l one ports states inputs buffers figures limits held =
     record {
       in_step = in_step_first ms n ranks q x one ports inputs buffers figures;
+      seen = seen_first n ranks q x inputs buffers figures;
       ranks = states ∙ sym ports;
       holds = holds_first n ranks q l inputs buffers limits held;
     }

@@ -5,3 +5,6 @@ pub mod Begin
 pub mod Kept
 pub mod Worked
 mod Rested
+mod Looking
+mod Counted
+mod Going

@@ -8,27 +8,36 @@ use Rattle.cq_laws.specs.Fabric.{Fabric, IsEmptyFabric, empty_fabric, input}
 use Rattle.cq_laws.proofs.QuietSlots.{empty_is}
 use Rattle.cq_laws.proofs.WholeRuns.{no_place}
 use Rattle.cq_fabric.proofs.Rested.{rested_agrees}
-use Rattle.cq_engine.specs.Engine.{IsInStep}
+use Rattle.cq_engine.specs.Engine.{IsInStep, IsSeen}
+use Rattle.cq_engine.specs.declared.measure.Look.{Look}
+use Rattle.cq_engine.specs.declared.measure.Look.TheVariants as look
 
 pub rested_in_step : (ms : List Machine) (slot later : ℕ) (x : Figures) (f : Fabric) (rested : List (List ℕ)) → slot ≤ later →
     IsEmptyFabric f → IsInStep ms slot x f →
     IsInStep ms later x (record { inputs = f.inputs; buffers = f.buffers; ranks = rested })
 rested_in_step ms slot later x f rested le empty had =
-    let ports = length f.inputs in
-    let opening : f ≡ empty_fabric ports f.ranks = empty_is f empty had.agrees.fabric.square in
     record {
       machines = had.machines;
       ports = had.ports;
-      ideal = empty_ideal ports rested;
+      ideal = empty_ideal (length f.inputs) rested;
       agrees = rested_agrees slot later f had.ideal rested empty had.agrees;
-      slack = record {
-        ports = had.slack.ports;
-        more = λ i thread c at.
-            absurd (no_place ports rested i thread c (ap (λ (g : Fabric). slice_get (input g i) thread) (sym opening) ∙ at));
-      };
+      inputs = had.inputs;
       outputs = had.outputs;
       counts = record {
         inputs = λ i y at. let few = had.counts.inputs i y at in omega arith;
         outputs = λ j y at. let few = had.counts.outputs j y at in omega arith;
       };
+    }
+
+-- where no cell waits, each that waits has more slack
+pub rested_seen : (looks : Look) (x : Figures) (f : Fabric) (rested : List (List ℕ)) → IsEmptyFabric f →
+    length f.buffers ≡ length f.inputs → length x.inputs ≡ length f.inputs →
+    IsSeen looks x (record { inputs = f.inputs; buffers = f.buffers; ranks = rested })
+rested_seen look.All x f rested empty square ports = tt
+rested_seen look.Arriving x f rested empty square ports =
+    let opening : f ≡ empty_fabric (length f.inputs) f.ranks = empty_is f empty square in
+    record {
+      ports = ports;
+      more = λ i thread c at.
+          absurd (no_place (length f.inputs) rested i thread c (ap (λ (g : Fabric). slice_get (input g i) thread) (sym opening) ∙ at));
     }

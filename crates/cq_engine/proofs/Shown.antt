@@ -16,6 +16,7 @@ use Rattle.cq_laws.specs.Holding.{waiting_for}
 use Rattle.cq_fabric.specs.Queues.{Queues, fabric_of}
 use Rattle.cq_fabric.proofs.Limits.{admitted_room, numbers_fit as held_numbers_fit}
 use Rattle.cq_engine.specs.Engine.{EngineView, HaveBufferRoom, HaveListRoom, IsRunning, ports_of}
+use Rattle.cq_engine.specs.declared.measure.Look.{Look}
 
 -- what is seen of these parts
 abbrev pub seen : List (List ℕ) → List (List ℕ) → Queues → LimiterView → Figures → ℕ → Bool → EngineView
@@ -34,12 +35,12 @@ seen fixed states q l x next stopped =
     }
 
 module _ (M : List ℕ → Machine) (slot : ℕ) (cells : List (Option Cell)) (v : EngineView) (fixed states : List (List ℕ))
-    (q : Queues) (l : LimiterView) (x : Figures) (next : ℕ) (stopped : Bool)
+    (q : Queues) (l : LimiterView) (x : Figures) (next : ℕ) (looks : Look) (stopped : Bool)
     (is : seen fixed states q l x next stopped ≡ v) (running : v.stopped ≡ false) (now : slot ≡ v.next)
-    (invariant : stopped ≡ false → IsRunning (map M fixed) next x (fabric_of q states) l) where
-  pub up : IsRunning (map M fixed) slot x (fabric_of q states) l
+    (invariant : stopped ≡ false → IsRunning (map M fixed) next looks x (fabric_of q states) l) where
+  pub up : IsRunning (map M fixed) slot looks x (fabric_of q states) l
   up =
-      subst (λ n. IsRunning (map M fixed) n x (fabric_of q states) l) (ap (λ (w : EngineView). w.next) is ∙ sym now)
+      subst (λ n. IsRunning (map M fixed) n looks x (fabric_of q states) l) (ap (λ (w : EngineView). w.next) is ∙ sym now)
       (invariant (ap (λ (w : EngineView). w.stopped) is ∙ running))
 
   long : length (map M fixed) ≡ ports_of v

@@ -37,8 +37,10 @@ use Rattle.cq_fabric.specs.Newest.{IsNewest}
 use Rattle.cq_fabric.specs.Queues.{Queues, ComeApart, FitLists, CanCross, fabric_of}
 use Rattle.cq_fabric.proofs.Changed.{length-by_place}
 use Rattle.cq_fabric.proofs.Slot.{came_newest as slot_newest, came_outputs as slot_outputs, can_cross_first as slot_first, can_cross_second as slot_second, come as slot_come, come_apart as slot_apart, arrive as slot_arrives, depart as slot_departs, few_cross as matched_few, fill as slot_fills, fits_lists as slot_fits, held_before as slot_held, keyed as slot_keyed}
-use Rattle.cq_engine.specs.Engine.{IsInStep, CountsFit}
-use Rattle.cq_engine.specs.Measuring.{arriving_slack, input_counted, output_counted}
+use Rattle.cq_engine.specs.Engine.{IsInStep, IsSeen, CountsFit}
+use Rattle.cq_engine.specs.declared.measure.Look.{Look}
+use Rattle.cq_engine.specs.declared.measure.Look.TheVariants as look
+use Rattle.cq_engine.specs.Measuring.{arriving_slack, input_counted, output_counted, slack_seen}
 
 abbrev bit : Bool → ℕ
 bit b = if b then 1 else 0
@@ -108,6 +110,7 @@ pub record Whole (ms : List Machine) (slot : ℕ) (cells : List (Option Cell)) (
   pub crossed : transfers_in of_slot ≡ noted
   pub figures : y ≡ figures_after x of_slot
   pub in_step : IsInStep ms (slot + 1) y g
+  pub seen : IsSeen look.Arriving y g
   pub ideal : IdealState
   pub agreed : Agrees slot f ideal
   pub alike : SendsAlike ms slot cells ideal left g
@@ -179,25 +182,26 @@ module _ (ms : List Machine) (slot : ℕ) (x : Figures) (q0 : Queues) (ranks0 : 
           told_slack i None is = refl
           told_slack i (Some c) is = let at = keyed.slot_is i c is in ap (λ n. Some (cushion c.key (list_of q1.buffers c.cell.output) - position_or_len (λ (d : Queued). eqb d.key.slot n) (list_of q1.inputs i))) (sym at)
 
-          slack_told : (i : ℕ) (y : InputFigures) → slice_get x.inputs i ≡ Some y → either_by min y.slack (arriving_slack q1 i (came_to came i)) ≡ either_by min y.slack (reduce min (slacks (fabric_of q1 ranks1) i))
-          unfolding slack_on_arrival
-          slack_told i y at =
+          slack_told : (looks : Look) → IsSeen looks x (fabric_of q0 ranks0) → (i : ℕ) (y : InputFigures) → slice_get x.inputs i ≡ Some y → either_by min y.slack (slack_seen looks q1 i (came_to came i)) ≡ either_by min y.slack (reduce min (slacks (fabric_of q1 ranks1) i))
+          unfolding slack_on_arrival slacks
+          slack_told look.All seen i y at = refl
+          slack_told look.Arriving seen i y at =
               let kept : least_slack x i ≡ y.slack = ap (option_and_then (λ (z : InputFigures). z.slack)) at in
               ap (either_by min y.slack) (sym (told_slack i (came_to came i) refl))
               ∙ ap (λ k. either_by min k (slack_on_arrival i recorded)) (sym kept)
-              ∙ sym (by_arrivals ms slot class_count cells (fabric_of q0 ranks0) (fabric_of q4 ranks2) up.ideal recorded up.agrees come stable x up.slack i)
+              ∙ sym (by_arrivals ms slot class_count cells (fabric_of q0 ranks0) (fabric_of q4 ranks2) up.ideal recorded up.agrees come stable x seen i)
               ∙ ap (λ k. either_by min k (reduce min (slacks (fabric_of q1 ranks1) i))) kept
 
-          input_told : (i : ℕ) (y : InputFigures) → slice_get x.inputs i ≡ Some y → input_counted q1 i (came_to came i) y ≡ input_after recorded i y
+          input_told : (looks : Look) → IsSeen looks x (fabric_of q0 ranks0) → (i : ℕ) (y : InputFigures) → slice_get x.inputs i ≡ Some y → input_counted looks q1 i (came_to came i) y ≡ input_after recorded i y
           unfolding input_counted input_after
-          input_told i y at =
-              let n = slack_told i y at in
+          input_told looks seen i y at =
+              let n = slack_told looks seen i y at in
               ap (λ (k : Option ℕ). record { cells = y.cells + bit (is_some (came_to came i)); longest = max y.longest (length (list_of q1.inputs i)); slack = k }) n
 
-          pub counted_inputs : map (λ at. input_counted q1 at.0 (came_to came at.0) at.1) (enumerate_from 0 x.inputs) ≡ map (λ at. input_after recorded at.0 at.1) (enumerate_from 0 x.inputs)
-          counted_inputs = by_place_same (λ k. input_counted q1 k (came_to came k)) (input_after recorded) 0 x.inputs (λ i y k e at.
+          pub counted_inputs : (looks : Look) → IsSeen looks x (fabric_of q0 ranks0) → map (λ at. input_counted looks q1 at.0 (came_to came at.0) at.1) (enumerate_from 0 x.inputs) ≡ map (λ at. input_after recorded at.0 at.1) (enumerate_from 0 x.inputs)
+          counted_inputs looks seen = by_place_same (λ k. input_counted looks q1 k (came_to came k)) (input_after recorded) 0 x.inputs (λ i y k e at.
               let is : k ≡ i = omega arith in
-              ap (λ n. input_counted q1 n (came_to came n) y) is ∙ input_told i y at ∙ ap (λ n. input_after recorded n y) (sym is))
+              ap (λ n. input_counted looks q1 n (came_to came n) y) is ∙ input_told looks seen i y at ∙ ap (λ n. input_after recorded n y) (sym is))
 
           output_told : (j : ℕ) (y : OutputFigures) → output_counted slot (came_to (fronts q2.buffers) j) y ≡ output_after recorded j y
           unfolding output_counted output_after
@@ -209,6 +213,9 @@ module _ (ms : List Machine) (slot : ℕ) (x : Figures) (q0 : Queues) (ranks0 : 
           alike : SendsAlike ms slot cells up.ideal (fronts q2.buffers) (fabric_of q4 ranks2)
           alike = same_slot ms slot class_count cells (fabric_of q0 ranks0) (fabric_of q4 ranks2) up.ideal recorded up.agrees come stable
 
+          seen_after : IsSeen look.Arriving (figures_after x recorded) (fabric_of q4 ranks2)
+          seen_after = more_after ms slot class_count cells (fabric_of q0 ranks0) (fabric_of q4 ranks2) up.ideal recorded up.agrees come stable x up.inputs
+
           pub in_step : IsInStep ms (slot + 1) (figures_after x recorded) (fabric_of q4 ranks2)
           in_step =
               record {
@@ -216,7 +223,7 @@ module _ (ms : List Machine) (slot : ℕ) (x : Figures) (q0 : Queues) (ranks0 : 
                 ports = moves2.ports.0 ∙ ap length inputs3 ∙ moves1.ports.0 ∙ ports1 ∙ up.ports;
                 ideal = alike.next;
                 agrees = alike.agrees;
-                slack = more_after ms slot class_count cells (fabric_of q0 ranks0) (fabric_of q4 ranks2) up.ideal recorded up.agrees come stable x up.slack.ports;
+                inputs = seen_after.ports;
                 outputs = outputs_long x recorded ∙ up.outputs;
                 counts = record {
                   inputs = λ i y at. count_input slot x recorded up.counts i y at;
@@ -224,10 +231,10 @@ module _ (ms : List Machine) (slot : ℕ) (x : Figures) (q0 : Queues) (ranks0 : 
                 };
               }
 
-          pub whole_slot : (y : Figures) (p1 p2 : ℕ) → p1 ≡ proposals (orders_of q1.inputs) m1 → p2 ≡ proposals (orders_of q3.inputs) m2 → y.slots ≡ (if list_any is_some (fronts q2.buffers) then max x.slots (slot + 1) else x.slots) → y.proposals ≡ x.proposals + (p1 + p2) → y.most ≡ max x.most (max p1 p2) → y.inputs ≡ map (λ at. input_counted q1 at.0 (came_to came at.0) at.1) (enumerate_from 0 x.inputs) → y.outputs ≡ map (λ at. output_counted slot (came_to (fronts q2.buffers) at.0) at.1) (enumerate_from 0 x.outputs) → Whole ms slot cells x y (fabric_of q0 ranks0) (fabric_of q4 ranks2) (fronts q2.buffers) (transfers_of m1 q1.inputs slot 1 ++ transfers_of m2 q3.inputs slot 2)
+          pub whole_slot : (looks : Look) → IsSeen looks x (fabric_of q0 ranks0) → (y : Figures) (p1 p2 : ℕ) → p1 ≡ proposals (orders_of q1.inputs) m1 → p2 ≡ proposals (orders_of q3.inputs) m2 → y.slots ≡ (if list_any is_some (fronts q2.buffers) then max x.slots (slot + 1) else x.slots) → y.proposals ≡ x.proposals + (p1 + p2) → y.most ≡ max x.most (max p1 p2) → y.inputs ≡ map (λ at. input_counted looks q1 at.0 (came_to came at.0) at.1) (enumerate_from 0 x.inputs) → y.outputs ≡ map (λ at. output_counted slot (came_to (fronts q2.buffers) at.0) at.1) (enumerate_from 0 x.outputs) → Whole ms slot cells x y (fabric_of q0 ranks0) (fabric_of q4 ranks2) (fronts q2.buffers) (transfers_of m1 q1.inputs slot 1 ++ transfers_of m2 q3.inputs slot 2)
           unfolding transfers_in
-          whole_slot y p1 p2 first second slots all most inputs outputs =
-              let figures = figures_are x y recorded p1 p2 first second slots all most (inputs ∙ counted_inputs) (outputs ∙ counted_outputs) in
+          whole_slot looks seen y p1 p2 first second slots all most inputs outputs =
+              let figures = figures_are x y recorded p1 p2 first second slots all most (inputs ∙ counted_inputs looks seen) (outputs ∙ counted_outputs) in
               record {
                 of_slot = recorded;
                 is_slot = is_slot;
@@ -235,6 +242,7 @@ module _ (ms : List Machine) (slot : ℕ) (x : Figures) (q0 : Queues) (ranks0 : 
                 crossed = refl;
                 figures = figures;
                 in_step = subst (λ z. IsInStep ms (slot + 1) z (fabric_of q4 ranks2)) (sym figures) in_step;
+                seen = subst (λ z. IsSeen look.Arriving z (fabric_of q4 ranks2)) (sym figures) seen_after;
                 ideal = up.ideal;
                 agreed = up.agrees;
                 alike = alike;

@@ -1,5 +1,5 @@
 -- What clauses see of an engine, what a slot asks of it, and what it does.
-use Rattle.std.specs.Prelude.{◌≡◌, ℕ, ◌+◌, ◌-◌, ◌<◌, ◌≤◌, ◌++◌, Bool, List, length, Option, Some, Result, Ok, Err, slice_get, slice_index}
+use Rattle.std.specs.Prelude.{◌≡◌, ℕ, ◌+◌, ◌-◌, ◌<◌, ◌≤◌, ◌++◌, Bool, List, length, Option, Some, Result, Ok, Err, slice_get, slice_index, ⊤}
 use Rattle.cq_base.specs.declared.cell.Cell.{Cell}
 use Rattle.cq_base.specs.declared.cell.Departure.{Departure}
 use Rattle.cq_base.specs.declared.cell.TagFault.{TagFault}
@@ -10,7 +10,7 @@ use Rattle.cq_base.specs.declared.figures.Figures.{Figures}
 use Rattle.cq_base.specs.Arrivals.{arrival_at}
 use Rattle.cq_base.specs.Room.{RoomView}
 use Rattle.cq_rank.specs.Machine.{Machine}
-use Rattle.cq_rank.specs.Switch.{AreForOneSwitch}
+use Rattle.cq_rank.specs.Switch.{AreForOneSwitch, AreSized, class_count}
 use Rattle.cq_ideal.specs.declared.refused.Refused.{Refused}
 use Rattle.cq_ideal.specs.Admission.{Admission, Marked, marked}
 use Rattle.cq_ideal.specs.Ideal.{count_for}
@@ -20,12 +20,16 @@ use Rattle.cq_ideal.specs.Refused.{with_refused}
 use Rattle.cq_ideal.specs.IdealSlot.{IdealState, departures_in}
 use Rattle.cq_prefs.specs.Pairing.{IsInputBest}
 use Rattle.cq_laws.specs.Fabric.{Fabric, input, buffer}
-use Rattle.cq_laws.specs.Holding.{waiting_for}
+use Rattle.cq_laws.specs.Frozen.{AreCountsOf, AreOwn, HasPorts, IsSoundFabric, fabric_in}
+use Rattle.cq_laws.specs.Holding.{held_for, waiting_for}
 use Rattle.cq_laws.specs.LimitedFabric.{LimitedFabricSlot, LimitedRecord, fabric_admission}
 use Rattle.cq_laws.specs.Records.{transfers_in}
 use Rattle.cq_laws.specs.Agreement.{Agrees}
 use Rattle.cq_fabric.specs.Held.{HoldsFabric}
 use Rattle.cq_laws.specs.Measures.{HasMoreSlack, figures_after}
+use Rattle.cq_laws.specs.declared.frozen.Frozen.{Frozen}
+use Rattle.cq_engine.specs.declared.measure.Look.{Look}
+use Rattle.cq_engine.specs.declared.measure.Look.TheVariants as look
 
 -- an engine
 pub record EngineView : Type 0 where
@@ -106,18 +110,52 @@ pub record AreWorkers (workers : ℕ) : Type 0 where
   pub few : workers ≤ 64
 
 -- the fabric is in step with an ideal switch: there is a state of one with which it agrees before this slot. And its figures are
--- of its ports, and have a least slack below that of each cell that waits
+-- of its ports
 pub record IsInStep (ms : List Machine) (next : ℕ) (x : Figures) (f : Fabric) : Type 0 where
   pub machines : AreForOneSwitch ms
   pub ports : length f.inputs ≡ length ms
   pub ideal : IdealState
   pub agrees : Agrees next f ideal
-  pub slack : HasMoreSlack x f
+  pub inputs : length x.inputs ≡ length f.inputs
   pub outputs : length x.outputs ≡ length ms
   pub counts : CountsFit next x
 
--- what holds of an engine that is not stopped
-pub record IsRunning (ms : List Machine) (next : ℕ) (x : Figures) (f : Fabric) (limiter : LimiterView) : Type 0 where
+-- where a slot looks at the arriving cells alone, each cell that waits has more slack than the least that the figures have
+abbrev pub IsSeen : Look → Figures → Fabric → Type 0
+IsSeen look.Arriving x f = HasMoreSlack x f
+IsSeen look.All x f = ⊤
+
+-- what holds of an engine that is not stopped, and looks at these cells in its next slot
+pub record IsRunning (ms : List Machine) (next : ℕ) (looks : Look) (x : Figures) (f : Fabric) (limiter : LimiterView) : Type 0 where
   pub in_step : IsInStep ms next x f
+  pub seen : IsSeen looks x f
   pub ranks : length f.ranks ≡ length ms
   pub holds : HoldsFabric f limiter
+
+-- ## Standing still
+
+-- the state of an engine between two slots, with all that was counted
+abbrev pub frozen_of : EngineView → Frozen
+frozen_of e = record {
+  next = e.next;
+  figures = e.figures;
+  refused = e.refused;
+  marks = e.marks;
+  ranks = e.fabric.ranks;
+  lists = e.fabric.inputs;
+  buffers = e.fabric.buffers;
+}
+
+-- An engine with these machines, limits and rooms can go on from this state: it has what each port has, its fabric is one that
+-- a fabric can go on from, its cells are of their inputs, each rank state is of its machine's size, what was refused is counted
+-- for each output with a limit, and no port has counted more cells than there were slots. Each list has room for its cells, and
+-- each buffer for all cells that its output holds.
+pub record CanGoOn (ms : List Machine) (limits : List (Option ℕ)) (from_inputs to_outputs : List ℕ) (x : Frozen) : Type 0 where
+  pub ports : HasPorts (length ms) x
+  pub sound : IsSoundFabric x.next (fabric_in x)
+  pub own : AreOwn (length ms) (class_count ms) (fabric_in x)
+  pub sized : AreSized ms x.ranks
+  pub refused : AreCountsOf limits x.refused
+  pub counts : CountsFit x.next x.figures
+  pub list_rooms : (i : ℕ) → i < length ms → length (input (fabric_in x) i) ≤ slice_index from_inputs i
+  pub buffer_rooms : (j : ℕ) → j < length ms → held_for j (fabric_in x) ≤ slice_index to_outputs j

@@ -11,10 +11,11 @@ ghost use Rattle.cq_laws.specs.LimitedFabric.{LimitedFabricRun};
 ghost use Rattle.cq_laws.specs.LimitedQuiet.{quiet_limited_slots};
 ghost use Rattle.cq_laws.specs.Measures.{no_figures};
 ghost use Rattle.cq_prefs.specs.Pairing.{IsInputBest};
-ghost use Rattle.cq_engine.specs.Engine.{HaveBufferRoom, HaveListRoom, SlotDone, answer_to, its_admission, marked_fabric, ports_of};
+ghost use Rattle.cq_engine.specs.Engine.{CanGoOn, HaveBufferRoom, HaveListRoom, SlotDone, answer_to, frozen_of, its_admission, marked_fabric, ports_of};
 
+use crate::copied::{copied_figures, held_in};
 use crate::depart::depart;
-use crate::measure::count_inputs;
+use crate::measure::{Look, count_inputs};
 use crate::settle::cross;
 use cq_base::{
     Arrivals, Departure, Figures, InputFigures, NoMemory, OutputFigures, Room, Sequence, Slot,
@@ -23,6 +24,7 @@ use cq_base::{
 use cq_crew::Gate;
 use cq_fabric::{Queues, nobody};
 use cq_ideal::{Limiter, Ranks, Refused};
+use cq_laws::Frozen;
 use cq_rank::Rank;
 use std::alloc::Global;
 use std::marker::Model;
@@ -46,6 +48,7 @@ pub struct Engine<R: Rank> {
     figures: Figures,
     workers: u16,
     next: Slot,
+    look: Look,
     stopped: bool,
 }
 
@@ -78,7 +81,7 @@ impl<R: Rank> Model for Engine<R> {
       stopped = a.stopped;
     } };
 
-    ghost invariant = { λ a. AreWorkers a.workers × (a.stopped ≡ false → IsRunning (map R.machine a.ranks.fixed) a.next a.figures (fabric_of a.queues a.ranks.states) a.limiter) };
+    ghost invariant = { λ a. AreWorkers a.workers × (a.stopped ≡ false → IsRunning (map R.machine a.ranks.fixed) a.next a.look a.figures (fabric_of a.queues a.ranks.states) a.limiter) };
 }
 
 // Nothing was seen yet of so many inputs and outputs.
@@ -162,7 +165,81 @@ impl<R: Rank> Engine<R> {
             ranks: Ranks::of(ranks),
             workers,
             next: 0,
+            look: Look::Arriving,
             stopped: false,
+        })
+    }
+
+    /// An engine that goes on from a state in which another stood still, with an input and an output for each rank. The
+    /// ranks take on the states of their machines. List i has room for `from_inputs[i]` cells and buffer j for
+    /// `to_outputs[j]`, those that wait included; output j has the limit `limits[j]`, or none. All memory that a slot needs
+    /// is taken here. The first slot looks at all cells that wait, since nothing is known yet of their slack. The error is
+    /// want of memory.
+    pub fn thaw(
+        alloc: Global,
+        ranks: Vec<R>,
+        from_inputs: &[u64],
+        to_outputs: &[u64],
+        limits: &[Option<u64>],
+        workers: u16,
+        from: &Frozen,
+    ) -> Result<Engine<R>, NoMemory>
+        requires machines { AreForOneSwitch (map R.machine (map R.fixed ranks.items)) }
+        requires from_inputs { length from_inputs.now ≡ length ranks.items }
+        requires to_outputs { length to_outputs.now ≡ length ranks.items }
+        requires limits { length limits.now ≡ length ranks.items }
+        requires some { 1 ≤ workers }
+        requires few { workers ≤ 64 }
+        requires goes_on { CanGoOn (map R.machine (map R.fixed ranks.items)) limits.now from_inputs.now to_outputs.now from.now }
+        ensures fixed { IfOk result (λ engine. engine.fixed ≡ map R.fixed ranks.items) }
+        ensures limits { IfOk result (λ engine. engine.limits ≡ limits.now) }
+        ensures frozen { IfOk result (λ engine. frozen_of engine ≡ from.now) }
+        ensures from_inputs { IfOk result (λ engine. engine.from_inputs ≡ from_inputs.now) }
+        ensures to_outputs { IfOk result (λ engine. engine.to_outputs ≡ to_outputs.now) }
+        ensures stopped { IfOk result (λ engine. engine.stopped ≡ false) }
+    {
+        let mut ranks = Ranks::of(ranks);
+        let states = from.ranks.as_slice();
+        ranks.put(states);
+        let held = held_in(alloc, from)?;
+        let figures = copied_figures(alloc, &from.figures)?;
+        let lists = from.lists.as_slice();
+        let buffers = from.buffers.as_slice();
+        let queues = Queues::holding(alloc, from_inputs, to_outputs, lists, buffers)?;
+        let marks = from.marks.as_slice();
+        let refused = from.refused.as_slice();
+        let limiter = Limiter::of(alloc, limits, held.as_slice(), marks, refused)?;
+        Ok(Engine {
+            ranks,
+            queues,
+            limiter,
+            figures,
+            workers,
+            next: from.next,
+            look: Look::All,
+            stopped: false,
+        })
+    }
+
+    /// The state in which it stands between two slots, with all that was counted. The error is want of memory.
+    pub fn freeze(&self, alloc: Global) -> Result<Frozen, NoMemory>
+        requires { self.now.stopped ≡ false }
+        ensures { IfOk result (λ frozen. frozen ≡ frozen_of self.now) }
+    {
+        let refused = Vec::from_slice(alloc, self.limiter.refused())?;
+        let marks = Vec::from_slice(alloc, self.limiter.marks())?;
+        let figures = copied_figures(alloc, &self.figures)?;
+        let ranks = self.ranks.numbers(alloc)?;
+        let lists = self.queues.listed(alloc)?;
+        let buffers = self.queues.buffered(alloc)?;
+        Ok(Frozen {
+            next: self.next,
+            figures,
+            refused: Sequence::of(refused),
+            marks: Sequence::of(marks),
+            ranks,
+            lists,
+            buffers,
         })
     }
 
@@ -221,7 +298,8 @@ impl<R: Rank> Engine<R> {
         }
         self.limiter.count(arrivals);
         self.queues.arrive(&came);
-        count_inputs(&mut self.figures.inputs, &self.queues, &came);
+        count_inputs(self.look, &mut self.figures.inputs, &self.queues, &came);
+        self.look = Look::Arriving;
         let workers = self.workers;
         let first = cross(&mut self.queues, rt, alloc, workers, slot, 1, gate, note);
         depart(
@@ -313,6 +391,7 @@ impl<R: Rank> Engine<R> {
             figures,
             workers: _,
             next: _,
+            look: _,
             stopped: _,
         } = self;
         Seen {

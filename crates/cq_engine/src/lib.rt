@@ -6,6 +6,7 @@
 //! engine is made.
 #![tactic(auto)]
 
+mod copied;
 mod depart;
 mod engine;
 mod laws;
@@ -17,5 +18,6 @@ mod tests;
 pub use cq_base::{Figures, InputFigures, OutputFigures};
 pub use cq_crew::{Gate, OpenGate};
 pub use cq_ideal::Refused;
+pub use cq_laws::Frozen;
 pub use engine::{Engine, Seen};
 pub use laws::cells_are_kept;

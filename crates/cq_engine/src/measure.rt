@@ -1,17 +1,27 @@
 //! The figures of a run, slot by slot.
-ghost use Rattle.std.specs.Prelude.{◌≡◌, ℕ, ◌-◌, ◌<◌, ◌^◌, length, map, max, min, slice_get, Some, is_some, if◌then◌else◌};
-ghost use Rattle.std.specs.List.{enumerate_from};
+ghost use Rattle.std.specs.Prelude.{◌≡◌, ℕ, ◌-◌, [], ◌<◌, ◌^◌, length, map, max, min, slice_get, Some, is_some, if◌then◌else◌};
+ghost use Rattle.std.specs.List.{enumerate_from, reduce};
 ghost use Rattle.cq_base.specs.declared.cell.Queued.{Queued};
 ghost use Rattle.cq_base.specs.declared.figures.InputFigures.{InputFigures as OfInput};
 ghost use Rattle.cq_base.specs.declared.figures.OutputFigures.{OutputFigures as OfOutput};
 ghost use Rattle.cq_prefs.specs.FirstCells.{list_of};
-ghost use Rattle.cq_laws.specs.Measures.{either_by};
+ghost use Rattle.cq_laws.specs.Measures.{either_by, slacks};
 ghost use Rattle.cq_laws.specs.Phases.{came_to};
 ghost use Rattle.cq_fabric.specs.Newest.{IsNewest};
-ghost use Rattle.cq_engine.specs.Measuring.{arriving_slack, input_counted, output_counted, wait_of};
+ghost use Rattle.cq_fabric.specs.Queues.{fabric_of};
+ghost use Rattle.cq_engine.specs.Measuring.{arriving_slack, input_counted, output_counted, slack_seen, wait_of};
 
 use cq_base::{InputFigures, OutputFigures, Queued, Sequence, Slot};
 use cq_fabric::Queues;
+
+/// Which of the waiting cells a slot looks at for the least slack.
+#[derive(Clone, Copy, Debug, PartialEq, Eq)]
+pub enum Look {
+    /// Those that arrive: no other has less slack than the least that was seen.
+    Arriving,
+    /// All: of those that waited before nothing was seen yet.
+    All,
+}
 
 // The lesser of two numbers, of which each may be none.
 fn lesser(a: Option<u64>, b: Option<u64>) -> Option<u64>
@@ -48,6 +58,32 @@ fn slack_of(queues: &Queues, input: usize, came: Option<Queued>) -> Option<u64>
     }
 }
 
+// The least slack of the cells that wait at an input, if one waits.
+fn least_slack(queues: &Queues, input: usize) -> Option<u64>
+    requires { input < length queues.now.inputs }
+    ensures { result ≡ reduce min (slacks (fabric_of queues.now []) input) }
+{
+    let count = queues.len_of(input);
+    let mut least = None;
+    'places: for place in 0..count {
+        least = lesser(least, Some(queues.slack_at(input, place)));
+    }
+    least
+}
+
+// The slack that is seen at an input, if a cell is looked at there.
+fn slack_seen(look: Look, queues: &Queues, input: usize, came: Option<Queued>) -> Option<u64>
+    requires input { input < length queues.now.inputs }
+    requires output { (c : Queued) → came ≡ Some c → c.cell.output < length queues.now.inputs }
+    requires newest { (c : Queued) → came ≡ Some c → IsNewest c (list_of queues.now.inputs input) }
+    ensures { result ≡ slack_seen look queues.now input came }
+{
+    match look {
+        Look::Arriving => slack_of(queues, input, came),
+        Look::All => least_slack(queues, input),
+    }
+}
+
 // How many cells there are: one or none.
 fn count_of(queued: Option<Queued>) -> u64
     ensures { result ≡ (if is_some queued then 1 else 0) }
@@ -61,6 +97,7 @@ fn count_of(queued: Option<Queued>) -> u64
 // What was seen of an input, with a slot more.
 #[tactic(auto, unfolding(crate::specs::Measuring::input_counted))]
 fn input_counted(
+    look: Look,
     figures: InputFigures,
     queues: &Queues,
     input: usize,
@@ -70,12 +107,12 @@ fn input_counted(
     requires output { (c : Queued) → came ≡ Some c → c.cell.output < length queues.now.inputs }
     requires newest { (c : Queued) → came ≡ Some c → IsNewest c (list_of queues.now.inputs input) }
     requires count { figures.cells < 2 ^ 64 - 1 }
-    ensures { result ≡ input_counted queues.now input came figures }
+    ensures { result ≡ input_counted look queues.now input came figures }
 {
     InputFigures {
         cells: figures.cells + count_of(came),
         longest: figures.longest.max(queues.len_of(input)),
-        slack: lesser(figures.slack, slack_of(queues, input, came)),
+        slack: lesser(figures.slack, slack_seen(look, queues, input, came)),
     }
 }
 
@@ -101,8 +138,10 @@ fn output_counted(figures: OutputFigures, slot: Slot, gone: Option<Queued>) -> O
     }
 }
 
-/// Adds the cells that came to the inputs to what was seen of them, once they stand in their lists.
+/// Adds the cells that came to the inputs to what was seen of them, once they stand in their lists, and what is seen
+/// of the slacks.
 pub fn count_inputs(
+    look: Look,
     inputs: &mut Sequence<InputFigures>,
     queues: &Queues,
     came: &[Option<Queued>; 64],
@@ -111,10 +150,10 @@ pub fn count_inputs(
     requires outputs { (i : ℕ) (c : Queued) → came_to came.now i ≡ Some c → c.cell.output < length queues.now.inputs }
     requires newest { (i : ℕ) (c : Queued) → came_to came.now i ≡ Some c → IsNewest c (list_of queues.now.inputs i) }
     requires counts { (i : ℕ) (x : OfInput) → slice_get inputs.old i ≡ Some x → x.cells < 2 ^ 64 - 1 }
-    ensures { inputs.new ≡ map (λ at. input_counted queues.now at.0 (came_to came.now at.0) at.1) (enumerate_from 0 inputs.old) }
+    ensures { inputs.new ≡ map (λ at. input_counted look queues.now at.0 (came_to came.now at.0) at.1) (enumerate_from 0 inputs.old) }
 {
     'inputs: for input in 0..queues.ports() as usize {
-        let counted = input_counted(inputs.as_slice()[input], queues, input, came[input]);
+        let counted = input_counted(look, inputs.as_slice()[input], queues, input, came[input]);
         inputs.set(input, counted);
     }
 }

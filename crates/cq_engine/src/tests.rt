@@ -12,8 +12,8 @@ mod slow;
 
 use crate::{Engine, Gate, OpenGate, Refused};
 use cq_base::{
-    Arrivals, Cell, CellId, ClassRow, Departure, InputFigures, NoMemory, OutputFigures, Port, Room,
-    TagFault, Transfer,
+    Arrivals, Cell, CellId, ClassRow, Departure, InputFigures, NoMemory, OutputFigures, Port,
+    Queued, Room, Sequence, TagFault, Transfer,
 };
 use cq_rank::{FirstCome, Priority, Rank};
 use slow::{LEVELS, PRIORITIES, Slow};
@@ -280,6 +280,31 @@ fn figures_count_cells_proposals_slack_and_waits(rt: HostRuntime) -> Result<(), 
     assert_eq!(rt; [figures.slots, figures.proposals, figures.most], [3, 7, 3]);
     assert_eq!(rt; figures.inputs.as_slice(), &inputs[..]);
     assert_eq!(rt; figures.outputs.as_slice(), &outputs[..]);
+    Ok(())
+}
+
+// How many cells each of these has.
+fn lengths(alloc: Global, queues: &[Sequence<Queued>]) -> Result<Vec<usize>, NoMemory> {
+    let mut lengths = Vec::new(alloc);
+    for cells in queues {
+        lengths.push(cells.as_slice().len())?;
+    }
+    Ok(lengths)
+}
+
+#[test]
+fn an_engine_that_stands_still_tells_what_waits(rt: HostRuntime) -> Result<(), Fail> {
+    let all = and(and(and(nothing(), 0, 0, 0, 0), 0, 1, 0, 0), 0, 2, 0, 0);
+    let slots = [nothing(), nothing(), all];
+    let (engine, _) = worked(&rt, rt.alloc(), NO_LIMITS, slots, 2)?;
+    assert!(rt; !engine.stopped());
+    let frozen = engine.freeze(rt.alloc())?;
+    let lists = lengths(rt.alloc(), frozen.lists.as_slice())?;
+    let buffers = lengths(rt.alloc(), frozen.buffers.as_slice())?;
+    assert_eq!(rt; frozen.next, 3);
+    assert_eq!(rt; lists.as_slice(), &[0, 0, 1, 0][..]);
+    assert_eq!(rt; buffers.as_slice(), &[1, 0, 0, 0][..]);
+    assert_eq!(rt; frozen.marks.as_slice(), &[false; 4][..]);
     Ok(())
 }
 

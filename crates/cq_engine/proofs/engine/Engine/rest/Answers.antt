@@ -10,14 +10,14 @@ use Rattle.cq_laws.specs.LimitedQuiet.{quiet_limited_slots}
 use Rattle.cq_engine.specs.Engine.{EngineView, IsRunning, marked_fabric}
 use Rattle.cq_fabric.specs.Queues.{fabric_of}
 use Rattle.cq_fabric.proofs.Rested.{rested_limited_run, still_held}
-use Rattle.cq_engine.proofs.Rested.{rested_in_step}
+use Rattle.cq_engine.proofs.Rested.{rested_in_step, rested_seen}
 use Rattle.cq_engine.proofs.Shown.{up}
 use Rattle.cq_engine.proofs.engine.Engine.rest.Goals as goal
 
 pub rest-requires-clause-few : goal.rest-requires-clause-few
 rest-requires-clause-few g c =
     let e = c.self.inside in
-    let running = up g.R.Rank.machine c.args.self.now.next no_arrivals c.args.self.now e.ranks.fixed e.ranks.states e.queues e.limiter e.figures e.next e.stopped c.self.view_is c.requires.running refl c.self.invariant.1 in
+    let running = up g.R.Rank.machine c.args.self.now.next no_arrivals c.args.self.now e.ranks.fixed e.ranks.states e.queues e.limiter e.figures e.next e.look e.stopped c.self.view_is c.requires.running refl c.self.invariant.1 in
     let few = running.in_step.machines.few in
     let long = length-map e.ranks.fixed g.R.Rank.machine in
     omega arith
@@ -25,20 +25,21 @@ rest-requires-clause-few g c =
 pub rest-requires-clause-states : goal.rest-requires-clause-states
 rest-requires-clause-states g c =
     let e = c.self.inside in
-    let running = up g.R.Rank.machine c.args.self.now.next no_arrivals c.args.self.now e.ranks.fixed e.ranks.states e.queues e.limiter e.figures e.next e.stopped c.self.view_is c.requires.running refl c.self.invariant.1 in
+    let running = up g.R.Rank.machine c.args.self.now.next no_arrivals c.args.self.now e.ranks.fixed e.ranks.states e.queues e.limiter e.figures e.next e.look e.stopped c.self.view_is c.requires.running refl c.self.invariant.1 in
     running.ranks ∙ length-map e.ranks.fixed g.R.Rank.machine
 
 pub invariant_of-self : goal.invariant_of-self
 invariant_of-self g c =
     let e = c.self.inside in
-    let running = up g.R.Rank.machine c.args.self.now.next no_arrivals c.args.self.now e.ranks.fixed e.ranks.states e.queues e.limiter e.figures e.next e.stopped c.self.view_is c.requires.running refl c.self.invariant.1 in
+    let running = up g.R.Rank.machine c.args.self.now.next no_arrivals c.args.self.now e.ranks.fixed e.ranks.states e.queues e.limiter e.figures e.next e.look e.stopped c.self.view_is c.requires.running refl c.self.invariant.1 in
     let later = c.requires.later in
     let empty = subst (λ (v : EngineView). IsEmptyFabric v.fabric) (sym c.self.view_is) c.requires.empty in
     let rested = c.rest.new.self.states in (
       c.self.invariant.0,
-      λ _. subst (λ (fixed : List (List ℕ)). IsRunning (map g.R.Rank.machine fixed) c.args.to e.figures (fabric_of e.queues rested) e.limiter) (sym c.rest.ensures.fixed)
+      λ _. subst (λ (fixed : List (List ℕ)). IsRunning (map g.R.Rank.machine fixed) c.args.to e.look e.figures (fabric_of e.queues rested) e.limiter) (sym c.rest.ensures.fixed)
           (record {
             in_step = rested_in_step (map g.R.Rank.machine e.ranks.fixed) c.args.self.now.next c.args.to e.figures (fabric_of e.queues e.ranks.states) rested (omega arith) empty running.in_step;
+            seen = rested_seen e.look e.figures (fabric_of e.queues e.ranks.states) rested empty running.in_step.agrees.fabric.square running.in_step.inputs;
             ranks = ap length c.rest.ensures.states ∙ length-idle (map g.R.Rank.machine e.ranks.fixed) (length e.ranks.fixed) e.ranks.states ∙ running.ranks;
             holds = still_held e.queues e.ranks.states rested e.limiter running.holds;
           }),
@@ -47,7 +48,7 @@ invariant_of-self g c =
 pub returns-clause-slots : goal.returns-clause-slots
 returns-clause-slots g c =
     let e = c.self.inside in
-    let running = up g.R.Rank.machine c.args.self.now.next no_arrivals c.args.self.now e.ranks.fixed e.ranks.states e.queues e.limiter e.figures e.next e.stopped c.self.view_is c.requires.running refl c.self.invariant.1 in
+    let running = up g.R.Rank.machine c.args.self.now.next no_arrivals c.args.self.now e.ranks.fixed e.ranks.states e.queues e.limiter e.figures e.next e.look e.stopped c.self.view_is c.requires.running refl c.self.invariant.1 in
     let empty = subst (λ (v : EngineView). IsEmptyFabric v.fabric) (sym c.self.view_is) c.requires.empty in
     let later : e.next < c.args.to = subst (λ (v : EngineView). v.next < c.args.to) (sym c.self.view_is) c.requires.later in
     let rested = c.rest.new.self.states in

@@ -9,6 +9,7 @@ use Rattle.cq_ideal.specs.Refused.{with_refused}
 use Rattle.cq_ideal.proofs.Slot.{by_marks}
 use Rattle.cq_prefs.specs.Moves.{transfers_of}
 use Rattle.cq_engine.specs.Engine.{EngineView, IsRunning, SlotDone, answer_to, its_admission}
+use Rattle.cq_engine.specs.declared.measure.Look.TheVariants.{Arriving}
 use Rattle.cq_fabric.specs.Queues.{fabric_of}
 use Rattle.cq_fabric.proofs.Limits.{admits_are, still_holds}
 use Rattle.cq_fabric.proofs.Told.{length-told}
@@ -19,24 +20,24 @@ use Rattle.cq_engine.proofs.engine.Engine.slot.Goals as goal
 pub judge-requires-clause-few : goal.judge-requires-clause-few
 judge-requires-clause-few g c =
     let e = c.self.inside in
-    few g.R.Rank.machine c.args.slot c.args.arrivals.now c.args.self.now e.ranks.fixed e.ranks.states e.queues e.limiter e.figures e.next e.stopped c.self.view_is c.requires.running c.requires.next c.self.invariant.1
+    few g.R.Rank.machine c.args.slot c.args.arrivals.now c.args.self.now e.ranks.fixed e.ranks.states e.queues e.limiter e.figures e.next e.look e.stopped c.self.view_is c.requires.running c.requires.next c.self.invariant.1
 
 pub judge-requires-clause-arrivals : goal.judge-requires-clause-arrivals
 judge-requires-clause-arrivals g c =
     let e = c.self.inside in
-    come_to_ports g.R.Rank.machine c.args.slot c.args.arrivals.now c.args.self.now e.ranks.fixed e.ranks.states e.queues e.limiter e.figures e.next e.stopped c.self.view_is c.requires.running c.requires.next c.self.invariant.1 (class_count (map g.R.Rank.machine c.args.self.now.fixed)) c.requires.arrivals
+    come_to_ports g.R.Rank.machine c.args.slot c.args.arrivals.now c.args.self.now e.ranks.fixed e.ranks.states e.queues e.limiter e.figures e.next e.look e.stopped c.self.view_is c.requires.running c.requires.next c.self.invariant.1 (class_count (map g.R.Rank.machine c.args.self.now.fixed)) c.requires.arrivals
 
 pub judge-requires-clause-held : goal.judge-requires-clause-held
 judge-requires-clause-held g c =
     let e = c.self.inside in
-    numbers_fit g.R.Rank.machine c.args.slot c.args.arrivals.now c.args.self.now e.ranks.fixed e.ranks.states e.queues e.limiter e.figures e.next e.stopped c.self.view_is c.requires.running c.requires.next c.self.invariant.1 c.requires.buffer_room c.ports.ensures.within c.ports.ensures.rooms
+    numbers_fit g.R.Rank.machine c.args.slot c.args.arrivals.now c.args.self.now e.ranks.fixed e.ranks.states e.queues e.limiter e.figures e.next e.look e.stopped c.self.view_is c.requires.running c.requires.next c.self.invariant.1 c.requires.buffer_room c.ports.ensures.within c.ports.ensures.rooms
 
 pub take-requires-clause-marks : goal.take-requires-clause-marks
 take-requires-clause-marks g c =
     let e = c.self.inside in
     let marks = c.judge.ensures.ports.marks in
     let limits = ap length c.judge.ensures.limits in
-    let ports = ports_are g.R.Rank.machine c.args.slot c.args.arrivals.now c.args.self.now e.ranks.fixed e.ranks.states e.queues e.limiter e.figures e.next e.stopped c.self.view_is c.requires.running c.requires.next c.self.invariant.1 in
+    let ports = ports_are g.R.Rank.machine c.args.slot c.args.arrivals.now c.args.self.now e.ranks.fixed e.ranks.states e.queues e.limiter e.figures e.next e.look e.stopped c.self.view_is c.requires.running c.requires.next c.self.invariant.1 in
     let seen = ap (λ (v : EngineView). length v.fixed) c.self.view_is in
     omega arith
 
@@ -44,13 +45,13 @@ pub count-requires-clause-few : goal.count-requires-clause-few
 count-requires-clause-few g c =
     let e = c.self.inside in
     let limits = ap length c.judge.ensures.limits in
-    let most = few g.R.Rank.machine c.args.slot c.args.arrivals.now c.args.self.now e.ranks.fixed e.ranks.states e.queues e.limiter e.figures e.next e.stopped c.self.view_is c.requires.running c.requires.next c.self.invariant.1 in
+    let most = few g.R.Rank.machine c.args.slot c.args.arrivals.now c.args.self.now e.ranks.fixed e.ranks.states e.queues e.limiter e.figures e.next e.look e.stopped c.self.view_is c.requires.running c.requires.next c.self.invariant.1 in
     omega arith
 
 pub count-requires-clause-refused : goal.count-requires-clause-refused
 count-requires-clause-refused g c =
     let e = c.self.inside in
-    can_count g.R.Rank.machine c.args.slot c.args.arrivals.now c.args.self.now e.ranks.fixed e.ranks.states e.queues e.limiter e.figures e.next e.stopped c.self.view_is c.requires.running c.requires.next c.self.invariant.1 c.judge.new.self c.requires.refused c.judge.ensures.limits c.judge.ensures.refused
+    can_count g.R.Rank.machine c.args.slot c.args.arrivals.now c.args.self.now e.ranks.fixed e.ranks.states e.queues e.limiter e.figures e.next e.look e.stopped c.self.view_is c.requires.running c.requires.next c.self.invariant.1 c.judge.new.self c.requires.refused c.judge.ensures.limits c.judge.ensures.refused
 
 pub arrive-requires-clause-fit : goal.arrive-requires-clause-fit
 arrive-requires-clause-fit g c =
@@ -59,11 +60,11 @@ arrive-requires-clause-fit g c =
     let classes = class_count (map g.R.Rank.machine c.args.self.now.fixed) in
     let marks = c.judge.new.self.marks in
     let cells = admitted marks c.args.arrivals.now in
-    let running = up g.R.Rank.machine c.args.slot c.args.arrivals.now c.args.self.now e.ranks.fixed e.ranks.states e.queues e.limiter e.figures e.next e.stopped c.self.view_is c.requires.running c.requires.next c.self.invariant.1 in
-    let come = admitted_come g.R.Rank.machine c.args.slot c.args.arrivals.now c.args.self.now e.ranks.fixed e.ranks.states e.queues e.limiter e.figures e.next e.stopped c.self.view_is c.requires.running c.requires.next c.self.invariant.1 classes c.requires.arrivals marks in
+    let running = up g.R.Rank.machine c.args.slot c.args.arrivals.now c.args.self.now e.ranks.fixed e.ranks.states e.queues e.limiter e.figures e.next e.look e.stopped c.self.view_is c.requires.running c.requires.next c.self.invariant.1 in
+    let come = admitted_come g.R.Rank.machine c.args.slot c.args.arrivals.now c.args.self.now e.ranks.fixed e.ranks.states e.queues e.limiter e.figures e.next e.look e.stopped c.self.view_is c.requires.running c.requires.next c.self.invariant.1 classes c.requires.arrivals marks in
     let came = c.take.new.came in
     let ranked = c.in_default.ensures.came in
-    fits_lists ms c.args.slot e.figures e.queues e.ranks.states cells classes came c.take.new.self.states running.in_step come ranked (list_room_at g.R.Rank.machine c.args.slot c.args.arrivals.now c.args.self.now e.ranks.fixed e.ranks.states e.queues e.limiter e.figures e.next e.stopped c.self.view_is c.requires.running c.requires.next c.self.invariant.1 marks c.requires.list_room)
+    fits_lists ms c.args.slot e.figures e.queues e.ranks.states cells classes came c.take.new.self.states running.in_step come ranked (list_room_at g.R.Rank.machine c.args.slot c.args.arrivals.now c.args.self.now e.ranks.fixed e.ranks.states e.queues e.limiter e.figures e.next e.look e.stopped c.self.view_is c.requires.running c.requires.next c.self.invariant.1 marks c.requires.list_room)
 
 pub arrive-requires-clause-come : goal.arrive-requires-clause-come
 arrive-requires-clause-come g c =
@@ -72,8 +73,8 @@ arrive-requires-clause-come g c =
     let classes = class_count (map g.R.Rank.machine c.args.self.now.fixed) in
     let marks = c.judge.new.self.marks in
     let cells = admitted marks c.args.arrivals.now in
-    let running = up g.R.Rank.machine c.args.slot c.args.arrivals.now c.args.self.now e.ranks.fixed e.ranks.states e.queues e.limiter e.figures e.next e.stopped c.self.view_is c.requires.running c.requires.next c.self.invariant.1 in
-    let come = admitted_come g.R.Rank.machine c.args.slot c.args.arrivals.now c.args.self.now e.ranks.fixed e.ranks.states e.queues e.limiter e.figures e.next e.stopped c.self.view_is c.requires.running c.requires.next c.self.invariant.1 classes c.requires.arrivals marks in
+    let running = up g.R.Rank.machine c.args.slot c.args.arrivals.now c.args.self.now e.ranks.fixed e.ranks.states e.queues e.limiter e.figures e.next e.look e.stopped c.self.view_is c.requires.running c.requires.next c.self.invariant.1 in
+    let come = admitted_come g.R.Rank.machine c.args.slot c.args.arrivals.now c.args.self.now e.ranks.fixed e.ranks.states e.queues e.limiter e.figures e.next e.look e.stopped c.self.view_is c.requires.running c.requires.next c.self.invariant.1 classes c.requires.arrivals marks in
     let came = c.take.new.came in
     let ranked = c.in_default.ensures.came in
     come_apart ms c.args.slot e.figures e.queues e.ranks.states cells classes came c.take.new.self.states running.in_step come ranked
@@ -85,8 +86,8 @@ count_inputs-requires-clause-outputs g c =
     let classes = class_count (map g.R.Rank.machine c.args.self.now.fixed) in
     let marks = c.judge.new.self.marks in
     let cells = admitted marks c.args.arrivals.now in
-    let running = up g.R.Rank.machine c.args.slot c.args.arrivals.now c.args.self.now e.ranks.fixed e.ranks.states e.queues e.limiter e.figures e.next e.stopped c.self.view_is c.requires.running c.requires.next c.self.invariant.1 in
-    let come = admitted_come g.R.Rank.machine c.args.slot c.args.arrivals.now c.args.self.now e.ranks.fixed e.ranks.states e.queues e.limiter e.figures e.next e.stopped c.self.view_is c.requires.running c.requires.next c.self.invariant.1 classes c.requires.arrivals marks in
+    let running = up g.R.Rank.machine c.args.slot c.args.arrivals.now c.args.self.now e.ranks.fixed e.ranks.states e.queues e.limiter e.figures e.next e.look e.stopped c.self.view_is c.requires.running c.requires.next c.self.invariant.1 in
+    let come = admitted_come g.R.Rank.machine c.args.slot c.args.arrivals.now c.args.self.now e.ranks.fixed e.ranks.states e.queues e.limiter e.figures e.next e.look e.stopped c.self.view_is c.requires.running c.requires.next c.self.invariant.1 classes c.requires.arrivals marks in
     let came = c.take.new.came in
     let ranked = c.in_default.ensures.came in
     λ i q is. subst (λ (n : ℕ). q.cell.output < n) (sym c.arrive.ensures.ports) (came_outputs ms c.args.slot e.figures e.queues e.ranks.states cells classes came c.take.new.self.states running.in_step come ranked i q is)
@@ -98,8 +99,8 @@ count_inputs-requires-clause-newest g c =
     let classes = class_count (map g.R.Rank.machine c.args.self.now.fixed) in
     let marks = c.judge.new.self.marks in
     let cells = admitted marks c.args.arrivals.now in
-    let running = up g.R.Rank.machine c.args.slot c.args.arrivals.now c.args.self.now e.ranks.fixed e.ranks.states e.queues e.limiter e.figures e.next e.stopped c.self.view_is c.requires.running c.requires.next c.self.invariant.1 in
-    let come = admitted_come g.R.Rank.machine c.args.slot c.args.arrivals.now c.args.self.now e.ranks.fixed e.ranks.states e.queues e.limiter e.figures e.next e.stopped c.self.view_is c.requires.running c.requires.next c.self.invariant.1 classes c.requires.arrivals marks in
+    let running = up g.R.Rank.machine c.args.slot c.args.arrivals.now c.args.self.now e.ranks.fixed e.ranks.states e.queues e.limiter e.figures e.next e.look e.stopped c.self.view_is c.requires.running c.requires.next c.self.invariant.1 in
+    let come = admitted_come g.R.Rank.machine c.args.slot c.args.arrivals.now c.args.self.now e.ranks.fixed e.ranks.states e.queues e.limiter e.figures e.next e.look e.stopped c.self.view_is c.requires.running c.requires.next c.self.invariant.1 classes c.requires.arrivals marks in
     let came = c.take.new.came in
     let ranked = c.in_default.ensures.came in
     came_newest ms c.args.slot e.figures e.queues e.ranks.states cells classes came c.take.new.self.states running.in_step come ranked c.arrive.new.self c.arrive.ensures.ports c.arrive.ensures.lists c.arrive.ensures.buffers c.arrive.ensures.to_outputs
@@ -111,11 +112,11 @@ cross-first-requires-clause-cells g c =
     let classes = class_count (map g.R.Rank.machine c.args.self.now.fixed) in
     let marks = c.judge.new.self.marks in
     let cells = admitted marks c.args.arrivals.now in
-    let running = up g.R.Rank.machine c.args.slot c.args.arrivals.now c.args.self.now e.ranks.fixed e.ranks.states e.queues e.limiter e.figures e.next e.stopped c.self.view_is c.requires.running c.requires.next c.self.invariant.1 in
-    let come = admitted_come g.R.Rank.machine c.args.slot c.args.arrivals.now c.args.self.now e.ranks.fixed e.ranks.states e.queues e.limiter e.figures e.next e.stopped c.self.view_is c.requires.running c.requires.next c.self.invariant.1 classes c.requires.arrivals marks in
+    let running = up g.R.Rank.machine c.args.slot c.args.arrivals.now c.args.self.now e.ranks.fixed e.ranks.states e.queues e.limiter e.figures e.next e.look e.stopped c.self.view_is c.requires.running c.requires.next c.self.invariant.1 in
+    let come = admitted_come g.R.Rank.machine c.args.slot c.args.arrivals.now c.args.self.now e.ranks.fixed e.ranks.states e.queues e.limiter e.figures e.next e.look e.stopped c.self.view_is c.requires.running c.requires.next c.self.invariant.1 classes c.requires.arrivals marks in
     let came = c.take.new.came in
     let ranked = c.in_default.ensures.came in
-    let room = buffer_room_at g.R.Rank.machine c.args.slot c.args.arrivals.now c.args.self.now e.ranks.fixed e.ranks.states e.queues e.limiter e.figures e.next e.stopped c.self.view_is c.requires.running c.requires.next c.self.invariant.1 marks c.requires.buffer_room in
+    let room = buffer_room_at g.R.Rank.machine c.args.slot c.args.arrivals.now c.args.self.now e.ranks.fixed e.ranks.states e.queues e.limiter e.figures e.next e.look e.stopped c.self.view_is c.requires.running c.requires.next c.self.invariant.1 marks c.requires.buffer_room in
     λ _ _. can_cross_first ms c.args.slot e.figures e.queues e.ranks.states cells classes came c.take.new.self.states running.in_step come ranked c.arrive.new.self c.arrive.ensures.ports c.arrive.ensures.lists c.arrive.ensures.buffers c.arrive.ensures.to_outputs room
 
 pub depart-requires-clause-held : goal.depart-requires-clause-held
@@ -125,8 +126,8 @@ depart-requires-clause-held g c =
     let classes = class_count (map g.R.Rank.machine c.args.self.now.fixed) in
     let marks = c.judge.new.self.marks in
     let cells = admitted marks c.args.arrivals.now in
-    let running = up g.R.Rank.machine c.args.slot c.args.arrivals.now c.args.self.now e.ranks.fixed e.ranks.states e.queues e.limiter e.figures e.next e.stopped c.self.view_is c.requires.running c.requires.next c.self.invariant.1 in
-    let come = admitted_come g.R.Rank.machine c.args.slot c.args.arrivals.now c.args.self.now e.ranks.fixed e.ranks.states e.queues e.limiter e.figures e.next e.stopped c.self.view_is c.requires.running c.requires.next c.self.invariant.1 classes c.requires.arrivals marks in
+    let running = up g.R.Rank.machine c.args.slot c.args.arrivals.now c.args.self.now e.ranks.fixed e.ranks.states e.queues e.limiter e.figures e.next e.look e.stopped c.self.view_is c.requires.running c.requires.next c.self.invariant.1 in
+    let come = admitted_come g.R.Rank.machine c.args.slot c.args.arrivals.now c.args.self.now e.ranks.fixed e.ranks.states e.queues e.limiter e.figures e.next e.look e.stopped c.self.view_is c.requires.running c.requires.next c.self.invariant.1 classes c.requires.arrivals marks in
     let came = c.take.new.came in
     let ranked = c.in_default.ensures.came in
     let held = c.judge.ensures.ports.held in
@@ -144,11 +145,11 @@ depart-requires-clause-holds g c =
     let classes = class_count (map g.R.Rank.machine c.args.self.now.fixed) in
     let marks = c.judge.new.self.marks in
     let cells = admitted marks c.args.arrivals.now in
-    let running = up g.R.Rank.machine c.args.slot c.args.arrivals.now c.args.self.now e.ranks.fixed e.ranks.states e.queues e.limiter e.figures e.next e.stopped c.self.view_is c.requires.running c.requires.next c.self.invariant.1 in
-    let come = admitted_come g.R.Rank.machine c.args.slot c.args.arrivals.now c.args.self.now e.ranks.fixed e.ranks.states e.queues e.limiter e.figures e.next e.stopped c.self.view_is c.requires.running c.requires.next c.self.invariant.1 classes c.requires.arrivals marks in
+    let running = up g.R.Rank.machine c.args.slot c.args.arrivals.now c.args.self.now e.ranks.fixed e.ranks.states e.queues e.limiter e.figures e.next e.look e.stopped c.self.view_is c.requires.running c.requires.next c.self.invariant.1 in
+    let come = admitted_come g.R.Rank.machine c.args.slot c.args.arrivals.now c.args.self.now e.ranks.fixed e.ranks.states e.queues e.limiter e.figures e.next e.look e.stopped c.self.view_is c.requires.running c.requires.next c.self.invariant.1 classes c.requires.arrivals marks in
     let came = c.take.new.came in
     let ranked = c.in_default.ensures.came in
-    let room = buffer_room_at g.R.Rank.machine c.args.slot c.args.arrivals.now c.args.self.now e.ranks.fixed e.ranks.states e.queues e.limiter e.figures e.next e.stopped c.self.view_is c.requires.running c.requires.next c.self.invariant.1 marks c.requires.buffer_room in
+    let room = buffer_room_at g.R.Rank.machine c.args.slot c.args.arrivals.now c.args.self.now e.ranks.fixed e.ranks.states e.queues e.limiter e.figures e.next e.look e.stopped c.self.view_is c.requires.running c.requires.next c.self.invariant.1 marks c.requires.buffer_room in
     λ j. held_before ms c.args.slot e.figures e.queues e.ranks.states cells classes came c.take.new.self.states running.in_step come ranked c.arrive.new.self c.arrive.ensures.ports c.arrive.ensures.lists c.arrive.ensures.buffers c.arrive.ensures.to_outputs room c.cross-first.result.matching c.cross-first.ensures.best c.cross-first.new.queues c.cross-first.ensures.moves e.limiter c.judge.new.self c.count.new.self running.holds c.judge.ensures.held c.count.ensures.held j
 
 pub cross-second-requires-clause-cells : goal.cross-second-requires-clause-cells
@@ -158,11 +159,11 @@ cross-second-requires-clause-cells g c =
     let classes = class_count (map g.R.Rank.machine c.args.self.now.fixed) in
     let marks = c.judge.new.self.marks in
     let cells = admitted marks c.args.arrivals.now in
-    let running = up g.R.Rank.machine c.args.slot c.args.arrivals.now c.args.self.now e.ranks.fixed e.ranks.states e.queues e.limiter e.figures e.next e.stopped c.self.view_is c.requires.running c.requires.next c.self.invariant.1 in
-    let come = admitted_come g.R.Rank.machine c.args.slot c.args.arrivals.now c.args.self.now e.ranks.fixed e.ranks.states e.queues e.limiter e.figures e.next e.stopped c.self.view_is c.requires.running c.requires.next c.self.invariant.1 classes c.requires.arrivals marks in
+    let running = up g.R.Rank.machine c.args.slot c.args.arrivals.now c.args.self.now e.ranks.fixed e.ranks.states e.queues e.limiter e.figures e.next e.look e.stopped c.self.view_is c.requires.running c.requires.next c.self.invariant.1 in
+    let come = admitted_come g.R.Rank.machine c.args.slot c.args.arrivals.now c.args.self.now e.ranks.fixed e.ranks.states e.queues e.limiter e.figures e.next e.look e.stopped c.self.view_is c.requires.running c.requires.next c.self.invariant.1 classes c.requires.arrivals marks in
     let came = c.take.new.came in
     let ranked = c.in_default.ensures.came in
-    let room = buffer_room_at g.R.Rank.machine c.args.slot c.args.arrivals.now c.args.self.now e.ranks.fixed e.ranks.states e.queues e.limiter e.figures e.next e.stopped c.self.view_is c.requires.running c.requires.next c.self.invariant.1 marks c.requires.buffer_room in
+    let room = buffer_room_at g.R.Rank.machine c.args.slot c.args.arrivals.now c.args.self.now e.ranks.fixed e.ranks.states e.queues e.limiter e.figures e.next e.look e.stopped c.self.view_is c.requires.running c.requires.next c.self.invariant.1 marks c.requires.buffer_room in
     let told : c.depart.new.ranks.states ≡ all_told ms (fronts c.cross-first.new.queues.buffers) c.take.new.self.states = c.depart.ensures.ranks ∙ ap (λ (fixed : List (List ℕ)). all_told (map g.R.Rank.machine fixed) (fronts c.cross-first.new.queues.buffers) c.take.new.self.states) c.take.ensures.fixed in
     λ _ _. can_cross_second ms c.args.slot e.figures e.queues e.ranks.states cells classes came c.take.new.self.states running.in_step come ranked c.arrive.new.self c.arrive.ensures.ports c.arrive.ensures.lists c.arrive.ensures.buffers c.arrive.ensures.to_outputs room c.cross-first.result.matching c.cross-first.ensures.best c.cross-first.new.queues c.cross-first.ensures.moves c.depart.new.ranks.states c.depart.new.queues c.depart.ensures.inputs c.depart.ensures.buffers told (c.depart.ensures.to_outputs ∙ c.cross-first.ensures.to_outputs)
 
@@ -173,8 +174,8 @@ cross-second-requires-clause-note g c =
     let classes = class_count (map g.R.Rank.machine c.args.self.now.fixed) in
     let marks = c.judge.new.self.marks in
     let cells = admitted marks c.args.arrivals.now in
-    let running = up g.R.Rank.machine c.args.slot c.args.arrivals.now c.args.self.now e.ranks.fixed e.ranks.states e.queues e.limiter e.figures e.next e.stopped c.self.view_is c.requires.running c.requires.next c.self.invariant.1 in
-    let come = admitted_come g.R.Rank.machine c.args.slot c.args.arrivals.now c.args.self.now e.ranks.fixed e.ranks.states e.queues e.limiter e.figures e.next e.stopped c.self.view_is c.requires.running c.requires.next c.self.invariant.1 classes c.requires.arrivals marks in
+    let running = up g.R.Rank.machine c.args.slot c.args.arrivals.now c.args.self.now e.ranks.fixed e.ranks.states e.queues e.limiter e.figures e.next e.look e.stopped c.self.view_is c.requires.running c.requires.next c.self.invariant.1 in
+    let come = admitted_come g.R.Rank.machine c.args.slot c.args.arrivals.now c.args.self.now e.ranks.fixed e.ranks.states e.queues e.limiter e.figures e.next e.look e.stopped c.self.view_is c.requires.running c.requires.next c.self.invariant.1 classes c.requires.arrivals marks in
     let came = c.take.new.came in
     let ranked = c.in_default.ensures.came in
     let few = few_cross c.cross-first.result.matching c.arrive.new.self.inputs c.args.slot 1 c.cross-first.ensures.best in
@@ -195,14 +196,14 @@ invariant_of-self-2 g c =
     let classes = class_count (map g.R.Rank.machine c.args.self.now.fixed) in
     let marks = c.judge.new.self.marks in
     let cells = admitted marks c.args.arrivals.now in
-    let running = up g.R.Rank.machine c.args.slot c.args.arrivals.now c.args.self.now e.ranks.fixed e.ranks.states e.queues e.limiter e.figures e.next e.stopped c.self.view_is c.requires.running c.requires.next c.self.invariant.1 in
-    let come = admitted_come g.R.Rank.machine c.args.slot c.args.arrivals.now c.args.self.now e.ranks.fixed e.ranks.states e.queues e.limiter e.figures e.next e.stopped c.self.view_is c.requires.running c.requires.next c.self.invariant.1 classes c.requires.arrivals marks in
+    let running = up g.R.Rank.machine c.args.slot c.args.arrivals.now c.args.self.now e.ranks.fixed e.ranks.states e.queues e.limiter e.figures e.next e.look e.stopped c.self.view_is c.requires.running c.requires.next c.self.invariant.1 in
+    let come = admitted_come g.R.Rank.machine c.args.slot c.args.arrivals.now c.args.self.now e.ranks.fixed e.ranks.states e.queues e.limiter e.figures e.next e.look e.stopped c.self.view_is c.requires.running c.requires.next c.self.invariant.1 classes c.requires.arrivals marks in
     let came = c.take.new.came in
     let ranked = c.in_default.ensures.came in
-    let room = buffer_room_at g.R.Rank.machine c.args.slot c.args.arrivals.now c.args.self.now e.ranks.fixed e.ranks.states e.queues e.limiter e.figures e.next e.stopped c.self.view_is c.requires.running c.requires.next c.self.invariant.1 marks c.requires.buffer_room in
+    let room = buffer_room_at g.R.Rank.machine c.args.slot c.args.arrivals.now c.args.self.now e.ranks.fixed e.ranks.states e.queues e.limiter e.figures e.next e.look e.stopped c.self.view_is c.requires.running c.requires.next c.self.invariant.1 marks c.requires.buffer_room in
     let told : c.depart.new.ranks.states ≡ all_told ms (fronts c.cross-first.new.queues.buffers) c.take.new.self.states = c.depart.ensures.ranks ∙ ap (λ (fixed : List (List ℕ)). all_told (map g.R.Rank.machine fixed) (fronts c.cross-first.new.queues.buffers) c.take.new.self.states) c.take.ensures.fixed in
     let y = c.count_proposals.new.figures in
-    let whole = whole_slot ms c.args.slot e.figures e.queues e.ranks.states cells classes came c.take.new.self.states running.in_step come ranked c.arrive.new.self c.arrive.ensures.ports c.arrive.ensures.lists c.arrive.ensures.buffers c.arrive.ensures.to_outputs room c.cross-first.result.matching c.cross-first.ensures.best c.cross-first.new.queues c.cross-first.ensures.moves c.depart.new.ranks.states c.depart.new.queues c.depart.ensures.inputs c.depart.ensures.buffers told (c.depart.ensures.to_outputs ∙ c.cross-first.ensures.to_outputs) c.cross-second.result.matching c.cross-second.ensures.best c.cross-second.new.queues c.cross-second.ensures.moves y c.cross-first.result.proposals c.cross-second.result.proposals c.cross-first.ensures.proposals c.cross-second.ensures.proposals
+    let whole = whole_slot ms c.args.slot e.figures e.queues e.ranks.states cells classes came c.take.new.self.states running.in_step come ranked c.arrive.new.self c.arrive.ensures.ports c.arrive.ensures.lists c.arrive.ensures.buffers c.arrive.ensures.to_outputs room c.cross-first.result.matching c.cross-first.ensures.best c.cross-first.new.queues c.cross-first.ensures.moves c.depart.new.ranks.states c.depart.new.queues c.depart.ensures.inputs c.depart.ensures.buffers told (c.depart.ensures.to_outputs ∙ c.cross-first.ensures.to_outputs) c.cross-second.result.matching c.cross-second.ensures.best c.cross-second.new.queues c.cross-second.ensures.moves e.look running.seen y c.cross-first.result.proposals c.cross-second.result.proposals c.cross-first.ensures.proposals c.cross-second.ensures.proposals
     (c.count_proposals.ensures.slots ∙ c.depart.ensures.slots)
     (c.count_proposals.ensures.proposals ∙ ap (λ n. n + (c.cross-first.result.proposals + c.cross-second.result.proposals)) c.depart.ensures.proposals)
     (c.count_proposals.ensures.most ∙ ap (λ n. max n (max c.cross-first.result.proposals c.cross-second.result.proposals)) c.depart.ensures.most)
@@ -217,9 +218,10 @@ invariant_of-self-2 g c =
     c.depart.ensures.limits c.depart.ensures.ports c.depart.ensures.held in
     let many = ap length told in (
       c.self.invariant.0,
-      λ _. subst (λ (fixed : List (List ℕ)). IsRunning (map g.R.Rank.machine fixed) (c.args.slot + 1) y (fabric_of c.cross-second.new.queues c.depart.new.ranks.states) c.depart.new.limiter) (sym (c.depart.ensures.fixed ∙ c.take.ensures.fixed))
+      λ _. subst (λ (fixed : List (List ℕ)). IsRunning (map g.R.Rank.machine fixed) (c.args.slot + 1) Arriving y (fabric_of c.cross-second.new.queues c.depart.new.ranks.states) c.depart.new.limiter) (sym (c.depart.ensures.fixed ∙ c.take.ensures.fixed))
           (record {
             in_step = whole.in_step;
+            seen = whole.seen;
             ranks = many ∙ length-told ms (fronts c.cross-first.new.queues.buffers) c.take.new.self.states ∙ c.take.ensures.many ∙ running.ranks;
             holds = holds;
           }),
@@ -230,7 +232,7 @@ returns-in-Err-clause-answer g c =
     let e = c.self.inside in
     let ms = map g.R.Rank.machine e.ranks.fixed in
     let marks = c.judge.new.self.marks in
-    let running = up g.R.Rank.machine c.args.slot c.args.arrivals.now c.args.self.now e.ranks.fixed e.ranks.states e.queues e.limiter e.figures e.next e.stopped c.self.view_is c.requires.running c.requires.next c.self.invariant.1 in
+    let running = up g.R.Rank.machine c.args.slot c.args.arrivals.now c.args.self.now e.ranks.fixed e.ranks.states e.queues e.limiter e.figures e.next e.look e.stopped c.self.view_is c.requires.running c.requires.next c.self.invariant.1 in
     let admits = admits_are e.limiter (fabric_of e.queues e.ranks.states) c.args.arrivals.now marks running.holds c.judge.ensures.marks in
     let fault = sym (ap (λ (a : Admission). ranking ms c.args.slot 0 a.cells e.ranks.states) admits) ∙ c.in-Err.ensures.fault in
     sym (ap answer_to (sym (ap (λ (v : EngineView). ranking (map g.R.Rank.machine v.fixed) c.args.slot 0 (its_admission c.args.arrivals.now v).cells v.fabric.ranks) c.self.view_is) ∙ fault))
@@ -254,8 +256,8 @@ returns-clause-answer g c =
     let classes = class_count (map g.R.Rank.machine c.args.self.now.fixed) in
     let marks = c.judge.new.self.marks in
     let cells = admitted marks c.args.arrivals.now in
-    let running = up g.R.Rank.machine c.args.slot c.args.arrivals.now c.args.self.now e.ranks.fixed e.ranks.states e.queues e.limiter e.figures e.next e.stopped c.self.view_is c.requires.running c.requires.next c.self.invariant.1 in
-    let come = admitted_come g.R.Rank.machine c.args.slot c.args.arrivals.now c.args.self.now e.ranks.fixed e.ranks.states e.queues e.limiter e.figures e.next e.stopped c.self.view_is c.requires.running c.requires.next c.self.invariant.1 classes c.requires.arrivals marks in
+    let running = up g.R.Rank.machine c.args.slot c.args.arrivals.now c.args.self.now e.ranks.fixed e.ranks.states e.queues e.limiter e.figures e.next e.look e.stopped c.self.view_is c.requires.running c.requires.next c.self.invariant.1 in
+    let come = admitted_come g.R.Rank.machine c.args.slot c.args.arrivals.now c.args.self.now e.ranks.fixed e.ranks.states e.queues e.limiter e.figures e.next e.look e.stopped c.self.view_is c.requires.running c.requires.next c.self.invariant.1 classes c.requires.arrivals marks in
     let came = c.take.new.came in
     let ranked = c.in_default.ensures.came in
     let admits = admits_are e.limiter (fabric_of e.queues e.ranks.states) c.args.arrivals.now marks running.holds c.judge.ensures.marks in
@@ -269,14 +271,14 @@ returns-clause-slot g c =
     let classes = class_count (map g.R.Rank.machine c.args.self.now.fixed) in
     let marks = c.judge.new.self.marks in
     let cells = admitted marks c.args.arrivals.now in
-    let running = up g.R.Rank.machine c.args.slot c.args.arrivals.now c.args.self.now e.ranks.fixed e.ranks.states e.queues e.limiter e.figures e.next e.stopped c.self.view_is c.requires.running c.requires.next c.self.invariant.1 in
-    let come = admitted_come g.R.Rank.machine c.args.slot c.args.arrivals.now c.args.self.now e.ranks.fixed e.ranks.states e.queues e.limiter e.figures e.next e.stopped c.self.view_is c.requires.running c.requires.next c.self.invariant.1 classes c.requires.arrivals marks in
+    let running = up g.R.Rank.machine c.args.slot c.args.arrivals.now c.args.self.now e.ranks.fixed e.ranks.states e.queues e.limiter e.figures e.next e.look e.stopped c.self.view_is c.requires.running c.requires.next c.self.invariant.1 in
+    let come = admitted_come g.R.Rank.machine c.args.slot c.args.arrivals.now c.args.self.now e.ranks.fixed e.ranks.states e.queues e.limiter e.figures e.next e.look e.stopped c.self.view_is c.requires.running c.requires.next c.self.invariant.1 classes c.requires.arrivals marks in
     let came = c.take.new.came in
     let ranked = c.in_default.ensures.came in
-    let room = buffer_room_at g.R.Rank.machine c.args.slot c.args.arrivals.now c.args.self.now e.ranks.fixed e.ranks.states e.queues e.limiter e.figures e.next e.stopped c.self.view_is c.requires.running c.requires.next c.self.invariant.1 marks c.requires.buffer_room in
+    let room = buffer_room_at g.R.Rank.machine c.args.slot c.args.arrivals.now c.args.self.now e.ranks.fixed e.ranks.states e.queues e.limiter e.figures e.next e.look e.stopped c.self.view_is c.requires.running c.requires.next c.self.invariant.1 marks c.requires.buffer_room in
     let told : c.depart.new.ranks.states ≡ all_told ms (fronts c.cross-first.new.queues.buffers) c.take.new.self.states = c.depart.ensures.ranks ∙ ap (λ (fixed : List (List ℕ)). all_told (map g.R.Rank.machine fixed) (fronts c.cross-first.new.queues.buffers) c.take.new.self.states) c.take.ensures.fixed in
     let y = c.count_proposals.new.figures in
-    let whole = whole_slot ms c.args.slot e.figures e.queues e.ranks.states cells classes came c.take.new.self.states running.in_step come ranked c.arrive.new.self c.arrive.ensures.ports c.arrive.ensures.lists c.arrive.ensures.buffers c.arrive.ensures.to_outputs room c.cross-first.result.matching c.cross-first.ensures.best c.cross-first.new.queues c.cross-first.ensures.moves c.depart.new.ranks.states c.depart.new.queues c.depart.ensures.inputs c.depart.ensures.buffers told (c.depart.ensures.to_outputs ∙ c.cross-first.ensures.to_outputs) c.cross-second.result.matching c.cross-second.ensures.best c.cross-second.new.queues c.cross-second.ensures.moves y c.cross-first.result.proposals c.cross-second.result.proposals c.cross-first.ensures.proposals c.cross-second.ensures.proposals
+    let whole = whole_slot ms c.args.slot e.figures e.queues e.ranks.states cells classes came c.take.new.self.states running.in_step come ranked c.arrive.new.self c.arrive.ensures.ports c.arrive.ensures.lists c.arrive.ensures.buffers c.arrive.ensures.to_outputs room c.cross-first.result.matching c.cross-first.ensures.best c.cross-first.new.queues c.cross-first.ensures.moves c.depart.new.ranks.states c.depart.new.queues c.depart.ensures.inputs c.depart.ensures.buffers told (c.depart.ensures.to_outputs ∙ c.cross-first.ensures.to_outputs) c.cross-second.result.matching c.cross-second.ensures.best c.cross-second.new.queues c.cross-second.ensures.moves e.look running.seen y c.cross-first.result.proposals c.cross-second.result.proposals c.cross-first.ensures.proposals c.cross-second.ensures.proposals
     (c.count_proposals.ensures.slots ∙ c.depart.ensures.slots)
     (c.count_proposals.ensures.proposals ∙ ap (λ n. n + (c.cross-first.result.proposals + c.cross-second.result.proposals)) c.depart.ensures.proposals)
     (c.count_proposals.ensures.most ∙ ap (λ n. max n (max c.cross-first.result.proposals c.cross-second.result.proposals)) c.depart.ensures.most)

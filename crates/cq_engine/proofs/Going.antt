@@ -1,0 +1,115 @@
+-- An engine that goes on from a state in which another stood still. The lists and buffers of a sound fabric can wait in lists and
+-- buffers of their rooms: no two cells of a list have one key, since no two places have. By the law on sound fabrics it is in step with
+-- the ideal switch of its cells. Of the slacks nothing is claimed, since the first slot looks at all of them.
+use Rattle.std.proofs.Common.{◌≡◌, ◌≢◌, ℕ, zero, suc, ◌<◌, List, [], ◌∷◌, length, Option, Some, refl, sym, ap, ◌∙◌, subst, arith}
+use Rattle.std.specs.Prelude.{slice_get}
+use Rattle.cq_base.specs.declared.cell.Queued.{Queued}
+use Rattle.cq_base.specs.declared.figures.Figures.{Figures}
+use Rattle.cq_base.specs.declared.figures.InputFigures.{InputFigures}
+use Rattle.cq_base.specs.declared.figures.OutputFigures.{OutputFigures}
+use Rattle.cq_base.specs.Cells.{EachPair, KeysDiffer}
+use Rattle.cq_base.proofs.Lists.{all_by}
+use Rattle.cq_ideal.specs.Limiter.{LimiterView}
+use Rattle.cq_rank.specs.Machine.{Machine}
+use Rattle.cq_rank.specs.Switch.{AreForOneSwitch}
+use Rattle.cq_laws.specs.Fabric.{Fabric, input}
+use Rattle.cq_laws.specs.Frozen.{fabric_in, ideal_of}
+use Rattle.cq_laws.specs.Holding.{fabric_held}
+use Rattle.cq_laws.specs.Places.{NoKeyTwice, Waiting}
+use Rattle.cq_laws.specs.declared.frozen.Frozen.{Frozen}
+use Rattle.cq_laws.proofs.IdealOf.{agrees_of}
+use Rattle.cq_laws.proofs.Members.{all_from}
+use Rattle.cq_fabric.specs.Holding.{CanHold}
+use Rattle.cq_fabric.specs.Queues.{Queues, fabric_of}
+use Rattle.cq_engine.specs.Engine.{CanGoOn, IsRunning}
+use Rattle.cq_engine.specs.declared.measure.Look.TheVariants as look
+
+-- ## The same, part by part
+
+pub same_figures : (x : Figures) (inputs : List InputFigures) (outputs : List OutputFigures) → inputs ≡ x.inputs →
+    outputs ≡ x.outputs →
+    record { slots = x.slots; proposals = x.proposals; most = x.most; inputs = inputs; outputs = outputs } ≡ x
+same_figures x inputs outputs e g =
+    λ k. record { slots = x.slots; proposals = x.proposals; most = x.most; inputs = e k; outputs = g k }
+
+pub same_frozen : (a b : Frozen) → a.next ≡ b.next → a.figures ≡ b.figures → a.refused ≡ b.refused →
+    a.marks ≡ b.marks → a.ranks ≡ b.ranks → a.lists ≡ b.lists → a.buffers ≡ b.buffers → a ≡ b
+same_frozen a b e1 e2 e3 e4 e5 e6 e7 = λ k. record {
+  next = e1 k;
+  figures = e2 k;
+  refused = e3 k;
+  marks = e4 k;
+  ranks = e5 k;
+  lists = e6 k;
+  buffers = e7 k;
+}
+
+-- ## What waits in lists and buffers
+
+pairs_by : (R : Queued → Queued → Type 0) (xs : List Queued) →
+    ((s t : ℕ) (a b : Queued) → slice_get xs s ≡ Some a → slice_get xs t ≡ Some b → s < t → R a b) → EachPair R xs
+pairs_by R [] each = tt
+pairs_by R (x ∷ xs) each = (
+  all_by (R x) xs (λ t c at. each zero (suc t) x c refl at (omega arith)),
+  pairs_by R xs (λ s t a b u v l. each (suc s) (suc t) a b u v (omega arith)),
+)
+
+place_same : (i s t : ℕ) → Waiting i s ≡ Waiting i t → s ≡ t
+place_same i s t e = cc
+
+keys_differ : (f : Fabric) (i : ℕ) → NoKeyTwice f → KeysDiffer (input f i)
+keys_differ f i differ =
+    pairs_by (λ a b. a.key ≢ b.key) (input f i)
+    (λ s t a b u v l e.
+    let one : s ≡ t = place_same i s t (differ (Waiting i s) (Waiting i t) a b u v e) in
+    absurd (omega arith))
+
+pub can_hold : (ms : List Machine) (limits : List (Option ℕ)) (from to : List ℕ) (x : Frozen) →
+    CanGoOn ms limits from to x → CanHold from to x.lists x.buffers
+can_hold ms limits from to x can =
+    let f = fabric_in x in
+    record {
+      inputs = λ i inside.
+          let ports : length x.lists ≡ length ms = can.ports.lists in
+          record {
+            room = can.list_rooms i (omega arith);
+            outputs = all_from (λ (c : Queued). c.cell.output < length x.lists) (input f i) (can.sound.fabric.outputs i);
+            order = can.sound.order i;
+            differ = keys_differ f i can.sound.differ;
+          };
+      outputs = λ j inside.
+          let ports : length x.buffers ≡ length ms = can.ports.buffers in
+          let room = can.buffer_rooms j (omega arith) in
+          record { room = omega arith; rising = can.sound.fabric.rising j };
+    }
+
+-- ## The engine
+
+module _ (ms : List Machine) (limits : List (Option ℕ)) (from to : List ℕ) (x : Frozen) (one : AreForOneSwitch ms)
+    (can : CanGoOn ms limits from to x) (l : LimiterView) (limits_are : l.limits ≡ limits)
+    (long : length limits ≡ length ms) (held : l.held ≡ fabric_held (fabric_in x)) where
+  frozen_runs : IsRunning ms x.next look.All x.figures (fabric_in x) l
+  frozen_runs = record {
+    in_step = record {
+      machines = one;
+      ports = can.ports.lists;
+      ideal = ideal_of (fabric_in x);
+      agrees = agrees_of x.next (fabric_in x) can.sound;
+      inputs = can.ports.inputs ∙ sym can.ports.lists;
+      outputs = can.ports.outputs;
+      counts = can.counts;
+    };
+    seen = tt;
+    ranks = can.ports.ranks;
+    holds = record { ports = ap length limits_are ∙ long ∙ sym can.ports.lists; held = held };
+  }
+
+  pub goes_on : (q : Queues) (states : List (List ℕ)) (figures : Figures) → q.inputs ≡ x.lists →
+      q.buffers ≡ x.buffers → states ≡ x.ranks → figures ≡ x.figures →
+      IsRunning ms x.next look.All figures (fabric_of q states) l
+  goes_on q states figures inputs buffers ranks seen =
+      let had : Fabric = fabric_of q states in
+      let want : Fabric = fabric_in x in
+      let fabric : had ≡ want = λ k. record { inputs = inputs k; buffers = buffers k; ranks = ranks k } in
+      subst (λ (f : Fabric). IsRunning ms x.next look.All figures f l) (sym fabric)
+      (subst (λ (y : Figures). IsRunning ms x.next look.All y (fabric_in x) l) (sym seen) frozen_runs)

@@ -1,0 +1,98 @@
+//! What an engine that stands still is copied into, and what one is made of that goes on.
+ghost use Rattle.std.specs.Prelude.{◌≡◌, ℕ, ◌+◌, ◌<◌, ◌^◌, All, IfOk, filter, length, map, slice_index, slice_set};
+ghost use Rattle.cq_base.specs.Cells.{is_for};
+ghost use Rattle.cq_base.specs.declared.cell.Queued.{Queued as OfCell};
+ghost use Rattle.cq_laws.specs.Fabric.{IsAmong, input};
+ghost use Rattle.cq_laws.specs.Frozen.{fabric_in};
+ghost use Rattle.cq_laws.specs.Holding.{fabric_held, held_for};
+
+use cq_base::{Figures, InputFigures, NoMemory, OutputFigures, Port, Queued, Sequence};
+use cq_laws::Frozen;
+use std::alloc::Global;
+
+fn copied_inputs(
+    alloc: Global,
+    inputs: &Sequence<InputFigures>,
+) -> Result<Sequence<InputFigures>, NoMemory>
+    ensures { IfOk result (λ copy. copy ≡ inputs.now) }
+{
+    let copy = Vec::from_slice(alloc, inputs.as_slice())?;
+    Ok(Sequence::of(copy))
+}
+
+fn copied_outputs(
+    alloc: Global,
+    outputs: &Sequence<OutputFigures>,
+) -> Result<Sequence<OutputFigures>, NoMemory>
+    ensures { IfOk result (λ copy. copy ≡ outputs.now) }
+{
+    let copy = Vec::from_slice(alloc, outputs.as_slice())?;
+    Ok(Sequence::of(copy))
+}
+
+/// The same figures. The error is want of memory.
+pub fn copied_figures(alloc: Global, figures: &Figures) -> Result<Figures, NoMemory>
+    ensures { IfOk result (λ copy. copy ≡ figures.now) }
+{
+    let inputs = copied_inputs(alloc, &figures.inputs)?;
+    let outputs = copied_outputs(alloc, &figures.outputs)?;
+    Ok(Figures {
+        slots: figures.slots,
+        proposals: figures.proposals,
+        most: figures.most,
+        inputs,
+        outputs,
+    })
+}
+
+// How many cells each of these has. The error is want of memory.
+fn lengths_of(alloc: Global, buffers: &[Sequence<Queued>]) -> Result<Sequence<u64>, NoMemory>
+    ensures { IfOk result (λ counts. counts ≡ map length buffers.now) }
+{
+    let mut counts = Vec::with_capacity(alloc, buffers.len())?;
+    'outputs: for output in 0..buffers.len() {
+        let cells = buffers[output].as_slice();
+        counts.push(cells.len() as u64)?;
+    }
+    Ok(Sequence::of(counts))
+}
+
+// One cell more is counted for an output.
+fn count_one(held: &mut Sequence<u64>, output: Port)
+    requires output { output < length held.old }
+    requires fits { slice_index held.old output + 1 < 2 ^ 64 }
+    ensures { held.new ≡ slice_set held.old output (slice_index held.old output + 1) }
+{
+    let more = held.as_slice()[output as usize] + 1;
+    held.set(output as usize, more);
+}
+
+// The cells of a list are counted, each for its output.
+fn count_each(held: &mut Sequence<u64>, cells: &[Queued])
+    requires outputs { All (λ c. c.cell.output < length held.old) cells.now }
+    requires fit { (j : ℕ) → j < length held.old → slice_index held.old j + length (filter (is_for j) cells.now) < 2 ^ 64 }
+    ensures ports { length held.new ≡ length held.old }
+    ensures counts { (j : ℕ) → j < length held.old →
+        slice_index held.new j ≡ slice_index held.old j + length (filter (is_for j) cells.now) }
+{
+    'places: for at in 0..cells.len() {
+        count_one(held, cells[at].cell.output);
+    }
+}
+
+/// How many cells each output holds, in the lists and in its buffer. The error is want of memory.
+pub fn held_in(alloc: Global, from: &Frozen) -> Result<Sequence<u64>, NoMemory>
+    requires square { length from.now.buffers ≡ length from.now.lists }
+    requires outputs { (i : ℕ) (c : OfCell) → IsAmong c (input (fabric_in from.now) i) →
+        c.cell.output < length from.now.lists }
+    requires fit { (j : ℕ) → j < length from.now.lists → held_for j (fabric_in from.now) < 2 ^ 64 }
+    ensures { IfOk result (λ held. held ≡ fabric_held (fabric_in from.now)) }
+{
+    let buffers = from.buffers.as_slice();
+    let lists = from.lists.as_slice();
+    let mut held = lengths_of(alloc, buffers)?;
+    'inputs: for input in 0..lists.len() {
+        count_each(&mut held, lists[input].as_slice());
+    }
+    Ok(held)
+}
