@@ -1,5 +1,5 @@
 // What arrives at all inputs.
-ghost use Rattle.std.specs.Prelude.{◌≡◌, ℕ, ◌^◌, ◌<◌, ◌≤◌, length, map, replicate, IfOk};
+ghost use Rattle.std.specs.Prelude.{◌≡◌, ℕ, ◌^◌, ◌<◌, ◌≤◌, filter, length, map, replicate, IfOk};
 ghost use Rattle.std.specs.List.{range_with_len};
 ghost use Rattle.cq_base.specs.Arriving.{arriving, arriving_at, end_of};
 ghost use Rattle.cq_cells.specs.Lines.{AreAdded, AreOwn, all_of};
@@ -105,6 +105,15 @@ impl Schedule {
         ensures { IsNextArrival self.now.came from result }
     {
         next_of(&self.lines, from)
+    }
+
+    /// The least slot from this one on in which a cell arrives at the input, or None where none arrives there any more.
+    pub fn next_at(&self, input: Port, from: Slot) -> Option<Slot>
+        requires { input < self.now.ports }
+        ensures { IsNextArrival (filter (is_from input) self.now.came) from result }
+    {
+        let line = &self.lines[input as usize];
+        line.next_arrival(from)
     }
 
     /// The stamp from which slots are counted, in nanoseconds: the least one, or 0 where there is no

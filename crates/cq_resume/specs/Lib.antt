@@ -1,0 +1,9 @@
+pub mod Switch
+pub mod Told
+pub mod Refused
+pub mod Sound
+pub mod Counted
+pub mod Finding
+pub mod Reading
+pub mod Resumed
+pub mod Parts

@@ -1,0 +1,47 @@
+-- What a state is judged by.
+use Rattle.std.specs.Prelude.{◌≡◌, ℕ, List, length, Option, None, Some, slice_index_or}
+use Rattle.cq_base.specs.Arriving.{Arrival}
+use Rattle.cq_base.specs.declared.setup.Setup.{Setup}
+use Rattle.cq_cells.specs.Scheduled.{Scheduled}
+use Rattle.cq_rank.specs.Machine.{Machine}
+use Rattle.cq_rank.specs.Switch.{AreSized}
+use Rattle.cq_route.specs.declared.tables.Tables.{Tables}
+use Rattle.cq_route.specs.Tables.{classes_of}
+use Rattle.cq_scfq.specs.Disciplines.{machines_of}
+use Rattle.cq_state.specs.declared.state.State.{State}
+
+-- a switch with what arrives at it: per output its machine and its limit, the number of its classes, the stamp from which slots
+-- are counted, and the cells
+pub record Switch : Type 0 where
+  pub machines : List Machine
+  pub limits : List (Option ℕ)
+  pub classes : ℕ
+  pub first_stamp : ℕ
+  pub came : List Arrival
+
+-- the switch of this setup, with these limits of its outputs, and with this schedule
+abbrev pub switch_with : Setup → List (Option ℕ) → Scheduled → Switch
+switch_with setup limits s =
+    record {
+      machines = machines_of setup;
+      limits = limits;
+      classes = classes_of setup;
+      first_stamp = s.first_stamp;
+      came = s.came;
+    }
+
+-- the switch that these tables and this schedule describe
+abbrev pub switch_of : Tables → Scheduled → Switch
+switch_of t s = switch_with t.setup t.limits s
+
+-- the output has a limit
+abbrev pub HasLimit : List (Option ℕ) → ℕ → Type 0
+HasLimit limits j = (limit : ℕ) × (slice_index_or limits j None ≡ Some limit)
+
+-- the state tells of a switch of this shape, and each of its rank states has as many numbers as its machine asks for
+pub record HasShape (w : Switch) (s : State) : Type 0 where
+  pub ports : s.head.ports ≡ length w.machines
+  pub classes : s.head.classes ≡ w.classes
+  pub first_stamp : s.head.t0 ≡ w.first_stamp
+  pub total : s.head.total ≡ length w.came
+  pub ranks : AreSized w.machines s.ranks

@@ -1,0 +1,29 @@
+//! A stopped run, and what it comes to where it goes on.
+//!
+//! The text of a state names cells by when and where they arrived. Here they are looked up among the cells that arrive,
+//! and the state is judged: whether it is one that the switch could be in.
+#![tactic(auto)]
+
+mod floors;
+mod flows;
+mod found;
+mod laws;
+mod order;
+mod packets;
+mod read;
+mod refusal;
+mod shape;
+mod slack;
+mod sound;
+mod taken;
+#[cfg(test)]
+mod tests;
+mod write;
+
+pub use cq_laws::Frozen;
+pub use cq_state::StateLong;
+pub use laws::parts_join;
+pub use read::read_state;
+pub use refusal::StateRefusal;
+pub use taken::Taken;
+pub use write::state_bytes;

@@ -1,0 +1,9 @@
+//! Shows what no clause says.
+use crate::StateRefusal;
+use std::test::Fail;
+
+#[test]
+fn refusals_differ(rt: HostRuntime) -> Result<(), Fail> {
+    assert!(rt; StateRefusal::Shape != StateRefusal::Text { line: 1 });
+    Ok(())
+}
