@@ -1,43 +1,63 @@
 -- Only proofs use this.
 -- The clauses of a sound state, over cells that were looked up: each cell stands with its output and its class.
-use Rattle.std.specs.Prelude.{◌≡◌, ◌⊎◌, ℕ, ◌<◌, ◌≤◌, ◌&&◌, ◌==◌, nat_lt, not, Bool, true, false, All, AllPairs, List, ◌++◌, map, filter, length, take, Option, Some, None, option_map, slice_get, slice_index_or, [], IsPermutation, ⊤}
-use Rattle.std.specs.List.{list_any, range_with_len}
-use Rattle.cq_base.specs.Arriving.{Arrival, arriving_at}
+use Rattle.std.specs.Prelude.{◌≡◌, ◌⊎◌, ℕ, ◌+◌, ◌-◌, ◌<◌, ◌≤◌, ◌&&◌, ◌||◌, ◌==◌, nat_lt, nat_le, not, is_some, Bool, true, false, if◌then◌else◌, AllPairs, List, [], ◌∷◌, ◌++◌, map, filter, length, take, Option, Some, None, slice_get, slice_index, slice_index_or, IsPermutation, ⊤}
+use Rattle.std.specs.List.{AllByRecursion, AllZip, flat_map, list_any, range_with_len}
+use Rattle.cq_base.specs.Arriving.{Arrival}
 use Rattle.cq_base.specs.Cells.{IsBefore}
 use Rattle.cq_base.specs.Key.{is_before}
 use Rattle.cq_base.specs.declared.cell.Queued.{Queued}
+use Rattle.cq_base.specs.declared.setup.Setup.{Setup}
+use Rattle.cq_cells.specs.Traffic.{is_from}
 use Rattle.cq_ideal.specs.Refused.{refused_counts}
+use Rattle.cq_rank.specs.Machine.{machine_at}
 use Rattle.cq_resume.specs.Counted.{latest}
 use Rattle.cq_resume.specs.Switch.{HasLimit}
-use Rattle.cq_resume.specs.Told.{is_of_packet, queued_of}
+use Rattle.cq_resume.specs.Told.{packet_before, queued_of}
 use Rattle.cq_resume.specs.declared.found.Gone.{Gone}
 use Rattle.cq_resume.specs.declared.found.Name.{Name}
 use Rattle.cq_resume.specs.declared.found.Found.{Found}
 use Rattle.cq_resume.specs.declared.packets.Tally.{Tally}
-use Rattle.cq_base.specs.declared.setup.Setup.{Setup}
-use Rattle.cq_rank.specs.Machine.{machine_at}
 use Rattle.cq_scfq.specs.Disciplines.{machines_of}
 use Rattle.cq_state.specs.declared.state.Named.{Named}
 use Rattle.cq_state.specs.declared.state.Sent.{Sent}
 use Rattle.cq_state.specs.declared.state.State.{State}
 
--- a departure with its cell, if that arrives
-abbrev pub gone_of : List Arrival → Sent → Option Gone
-gone_of came d = option_map (λ q. record { slot = d.slot; queued = q }) (queued_of came d.cell)
+-- ## Names that were looked up
 
--- the cells of these names in their order, of which each arrives before the next slot
-pub record AreTold (came : List Arrival) (next : ℕ) (names : List Named) (told : List Queued) : Type 0 where
-  pub told_is : map Some told ≡ map (queued_of came) names
-  pub early : All (λ c. c.slot < next) names
+-- the cell of this name with its key, if it arrives before the next slot
+abbrev pub told_of : List Arrival → ℕ → Named → Option Queued
+told_of came next c = if nat_lt c.slot next then queued_of came c else None
 
-pub record AreGone (came : List Arrival) (next : ℕ) (sent : List Sent) (gone : List Gone) : Type 0 where
-  pub gone_is : map Some gone ≡ map (gone_of came) sent
-  pub early : All (λ d. d.cell.slot < next) sent
+-- this is that cell
+abbrev pub IsTold : List Arrival → ℕ → Named → Queued → Type 0
+IsTold came next c q = told_of came next c ≡ Some q
 
--- names stand by input, and then by slot of arrival, none twice
+-- and this is the departure of such a cell
+abbrev pub IsGone : List Arrival → ℕ → Sent → Gone → Type 0
+IsGone came next d g = (g.slot ≡ d.slot) × IsTold came next d.cell g.queued
+
+-- each of these names has its cell, in their order
+abbrev pub AreTold : List Arrival → ℕ → List Named → List Queued → Type 0
+AreTold came next names told = AllZip (IsTold came next) names told
+
+abbrev pub AreGone : List Arrival → ℕ → List Sent → List Gone → Type 0
+AreGone came next sent gone = AllZip (IsGone came next) sent gone
+
+-- one of these names has none
+abbrev pub IsMissed : List Arrival → ℕ → Named → Type 0
+IsMissed came next c = told_of came next c ≡ None
+
+abbrev pub SomeMissed : List Arrival → ℕ → List Named → Type 0
+SomeMissed came next names = AllByRecursion (λ c. IsMissed came next c → ⊥) names → ⊥
+
+-- a name stands before another: by input, and then by slot of arrival; or it is no later than that
 abbrev pub IsNameBefore : Name → Name → Type 0
 IsNameBefore a b = (a.queued.key.input < b.queued.key.input) ⊎
     ((a.queued.key.input ≡ b.queued.key.input) × (a.queued.key.slot < b.queued.key.slot))
+
+abbrev pub IsNameNotAfter : Name → Name → Type 0
+IsNameNotAfter a b = (a.queued.key.input < b.queued.key.input) ⊎
+    ((a.queued.key.input ≡ b.queued.key.input) × (a.queued.key.slot ≤ b.queued.key.slot))
 
 abbrev pub waiting_name : Queued → Name
 waiting_name q = record { queued = q; sent = None }
@@ -45,9 +65,9 @@ waiting_name q = record { queued = q; sent = None }
 abbrev pub sent_name : Gone → Name
 sent_name g = record { queued = g.queued; sent = Some g.slot }
 
--- the names of the lines, in their order
-abbrev pub names_told : Found → List Name
-names_told f = map waiting_name f.listed.items ++ map waiting_name f.buffered.items ++ map sent_name f.sent.items
+-- the names of these cells, in their order
+abbrev pub names_of : List Queued → List Queued → List Gone → List Name
+names_of listed buffered sent = map waiting_name listed ++ map waiting_name buffered ++ map sent_name sent
 
 -- the cells that a state names were found
 pub record IsFound (came : List Arrival) (s : State) (f : Found) : Type 0 where
@@ -55,22 +75,40 @@ pub record IsFound (came : List Arrival) (s : State) (f : Found) : Type 0 where
   pub buffered : AreTold came s.head.next s.buffered f.buffered.items
   pub sent : AreGone came s.head.next s.sent f.sent.items
   pub ordered : AllPairs IsNameBefore f.names.items
-  pub same : IsPermutation (names_told f) f.names.items
+  pub same : IsPermutation (names_of f.listed.items f.buffered.items f.sent.items) f.names.items
 
 -- ## In order
 
+abbrev pub IsNoLaterInput : Queued → Queued → Type 0
+IsNoLaterInput a b = a.key.input ≤ b.key.input
+
+abbrev pub IsListedBefore : Queued → Queued → Type 0
+IsListedBefore a b = a.key.input ≡ b.key.input → a.cell.output ≡ b.cell.output → IsBefore a b
+
+abbrev pub IsBufferedBefore : Queued → Queued → Type 0
+IsBufferedBefore a b = (a.cell.output < b.cell.output) ⊎ ((a.cell.output ≡ b.cell.output) × IsBefore a b)
+
+abbrev pub IsSentBefore : Gone → Gone → Type 0
+IsSentBefore a b = (a.slot < b.slot) ⊎ ((a.slot ≡ b.slot) × (a.queued.cell.output < b.queued.cell.output))
+
 pub record ListsStand (listed : List Queued) : Type 0 where
-  pub inputs : AllPairs (λ a b. a.key.input ≤ b.key.input) listed
-  pub keys : AllPairs (λ a b. a.key.input ≡ b.key.input → a.cell.output ≡ b.cell.output → IsBefore a b) listed
+  pub inputs : AllPairs IsNoLaterInput listed
+  pub keys : AllPairs IsListedBefore listed
 
 abbrev pub BuffersStand : List Queued → Type 0
-BuffersStand buffered = AllPairs (λ a b. (a.cell.output < b.cell.output) ⊎
-    ((a.cell.output ≡ b.cell.output) × IsBefore a b)) buffered
+BuffersStand buffered = AllPairs IsBufferedBefore buffered
+
+-- a departure is no earlier than its cell's arrival, and before the next slot
+abbrev pub IsTimely : ℕ → Gone → Type 0
+IsTimely next g = (g.queued.key.slot ≤ g.slot) × (g.slot < next)
 
 pub record SentStand (next : ℕ) (sent : List Gone) : Type 0 where
-  pub ordered : AllPairs (λ a b. (a.slot < b.slot) ⊎
-      ((a.slot ≡ b.slot) × (a.queued.cell.output < b.queued.cell.output))) sent
-  pub timely : All (λ g. (g.queued.key.slot ≤ g.slot) × (g.slot < next)) sent
+  pub ordered : AllPairs IsSentBefore sent
+  pub timely : AllByRecursion (IsTimely next) sent
+
+-- of items with these inputs the one at this place is of a later input than the one before it
+abbrev pub begins_at : List ℕ → ℕ → Bool
+begins_at inputs n = nat_lt 0 n && nat_lt (slice_index inputs (n - 1)) (slice_index inputs n)
 
 -- ## Slack
 
@@ -78,10 +116,14 @@ pub record SentStand (next : ℕ) (sent : List Gone) : Type 0 where
 abbrev pub cushion_in : List Queued → Queued → List Queued
 cushion_in buffered t = filter (λ o. o.cell.output == t.cell.output && is_before o.key t.key) buffered
 
--- there are more of them than cells ahead of it in its list
+-- the cells ahead of a place in the list of this input
+abbrev pub thread_in : List Queued → ℕ → ℕ → List Queued
+thread_in listed place input = filter (λ o. o.key.input == input) (take place listed)
+
+-- there are more cells in the cushion than ahead in the list
 abbrev pub SlackStands : List Queued → List Queued → Type 0
 SlackStands listed buffered = (place : ℕ) (t : Queued) → slice_get listed place ≡ Some t →
-    length (filter (λ o. o.key.input == t.key.input) (take place listed)) < length (cushion_in buffered t)
+    length (thread_in listed place t.key.input) < length (cushion_in buffered t)
 
 -- ## Flows
 
@@ -92,14 +134,17 @@ pub record InOneFlow (a b : Name) : Type 0 where
   pub class : a.queued.cell.class ≡ b.queued.cell.class
 
 -- of two cells the first arrived earlier: it leaves earlier
-abbrev pub LeavesEarlier : Name → Name → Option ℕ → Option ℕ → Type 0
-LeavesEarlier a b (Some s) (Some t) = s < t
-LeavesEarlier a b (Some s) None = ⊤
-LeavesEarlier a b None (Some t) = ⊥
-LeavesEarlier a b None None = IsBefore a.queued b.queued
+abbrev pub Leaves : Queued → Queued → Option ℕ → Option ℕ → Type 0
+Leaves a b (Some s) (Some t) = s < t
+Leaves a b (Some s) None = ⊤
+Leaves a b None (Some t) = ⊥
+Leaves a b None None = IsBefore a b
+
+abbrev pub LeavesEarlier : Name → Name → Type 0
+LeavesEarlier a b = InOneFlow a b → Leaves a.queued b.queued a.sent b.sent
 
 abbrev pub FlowsStand : List Name → Type 0
-FlowsStand names = AllPairs (λ a b. InOneFlow a b → LeavesEarlier a b a.sent b.sent) names
+FlowsStand names = AllPairs LeavesEarlier names
 
 -- ## Floors
 
@@ -113,29 +158,85 @@ pub record StandsBelow (setup : Setup) (ranks : List (List ℕ)) (q : Queued) : 
 abbrev pub has_name : List Name → Arrival → Bool
 has_name names a = list_any (λ n. n.queued.key.slot == a.slot && n.queued.key.input == a.cell.id.input) names
 
--- what arrived before this slot, at all inputs and at one
-abbrev pub before : ℕ → List Arrival → List Arrival
-before next came = filter (λ a. nat_lt a.slot next) came
+-- a packet that has begun: all its cells that arrived are named; or none, and its output has a limit
+abbrev pub IsWholePacket : List (Option ℕ) → ℕ → List Arrival → List Name → Arrival → Type 0
+IsWholePacket limits next came names a =
+    AllByRecursion (λ b. has_name names b ≡ true) (packet_before came next a)
+    ⊎ (AllByRecursion (λ b. has_name names b ≡ false) (packet_before came next a) × HasLimit limits a.cell.output)
 
-abbrev pub before_at : ℕ → ℕ → List Arrival → List Arrival
-before_at i next came = filter (λ a. a.cell.id.input == i) (before next came)
+abbrev pub PacketsStand : List (Option ℕ) → ℕ → List Arrival → List Name → Type 0
+PacketsStand limits next came names =
+    AllByRecursion (λ a. a.cell.id.index ≡ 0 → a.slot < next → IsWholePacket limits next came names a) came
 
--- the cells of each packet that arrived are named together, or not, and these go to an output that has a limit
-pub record PacketsStand (limits : List (Option ℕ)) (next : ℕ) (came : List Arrival) (names : List Name) : Type 0 where
-  pub whole : All (λ a. All (λ b. is_of_packet a b ≡ true → has_name names a ≡ has_name names b) (before next came)) (before next came)
-  pub limited : All (λ a. has_name names a ≡ false → HasLimit limits a.cell.output) (before next came)
+-- what arrived before this slot, and is not named
+abbrev pub left_out : ℕ → List Arrival → List Name → List Arrival
+left_out next came names = filter (λ a. nat_lt a.slot next && not (has_name names a)) came
 
--- whether the last arrival is not named
-abbrev pub is_left_out : List Name → Option Arrival → Bool
-is_left_out names None = false
-is_left_out names (Some a) = not (has_name names a)
+-- the first cells that came to an input before this slot
+abbrev pub firsts_before : ℕ → ℕ → List Arrival → List Arrival
+firsts_before i next came = filter (λ a. a.cell.id.input == i && a.cell.id.index == 0 && nat_lt a.slot next) came
+
+-- whether the packet of this cell is not named
+abbrev pub is_left_out : List Name → ℕ → List Arrival → Option Arrival → Bool
+is_left_out names next came None = false
+is_left_out names next came (Some a) = not (list_any (has_name names) (packet_before came next a))
 
 -- what was refused then, and the marks that were left
 pub record TalliesUp (limits : List (Option ℕ)) (next : ℕ) (came : List Arrival) (names : List Name) (x : Tally) : Type 0 where
-  pub marks : x.marks ≡ map (λ i. is_left_out names (latest (before_at i next came))) (range_with_len 0 (length limits))
-  pub refused : x.refused ≡ refused_counts limits (map (λ a. a.cell) (filter (λ a. not (has_name names a)) (before next came)))
+  pub marks : x.marks ≡ map (λ i. is_left_out names next came (latest (firsts_before i next came))) (range_with_len 0 (length limits))
+  pub refused : x.refused ≡ refused_counts limits (map (λ a. a.cell) (left_out next came names))
 
--- each name is that of an arrival before this slot
-abbrev pub NameArrivals : ℕ → List Arrival → List Name → Type 0
-NameArrivals next came names = All (λ n. (n.queued.key.slot < next)
-    × (arriving_at came n.queued.key.slot n.queued.key.input ≡ Some n.queued.cell)) names
+-- ## Packets that arrive whole, one after another
+
+-- of two cells of one input the second comes next: it goes on with the packet of the first, or begins a later one
+abbrev pub ComesNext : Arrival → Arrival → Type 0
+ComesNext a b = (a.slot < b.slot) ×
+    (((b.cell.id.packet ≡ a.cell.id.packet) × (b.cell.id.index ≡ a.cell.id.index + 1) × (b.cell.output ≡ a.cell.output))
+    ⊎ ((a.cell.id.packet < b.cell.id.packet) × (b.cell.id.index ≡ 0)))
+
+abbrev pub ComeBehind : Arrival → List Arrival → Type 0
+ComeBehind a [] = ⊤
+ComeBehind a (b ∷ line) = ComesNext a b × ComeBehind b line
+
+-- the cells of an input, packet after packet, each packet from its first cell on
+abbrev pub IsLine : List Arrival → Type 0
+IsLine [] = ⊤
+IsLine (a ∷ line) = (a.cell.id.index ≡ 0) × ComeBehind a line
+
+-- the cells that arrive are those of so many inputs, input after input, and at each they come packet after packet; each
+-- comes to one of these inputs and goes to one of as many outputs
+pub record ArePackets (ports : ℕ) (came : List Arrival) : Type 0 where
+  pub by_input : came ≡ flat_map (λ i. filter (is_from i) came) (range_with_len 0 ports)
+  pub lines : (i : ℕ) → i < ports → IsLine (filter (is_from i) came)
+  pub inputs : AllByRecursion (λ a. a.cell.id.input < ports) came
+  pub outputs : AllByRecursion (λ a. a.cell.output < ports) came
+
+-- ## The walk over the cells of one input
+
+-- those that arrive at the input from this slot on and before the next one
+abbrev pub coming : ℕ → ℕ → ℕ → List Arrival → List Arrival
+coming input from next came = filter (λ a. nat_le from a.slot && nat_lt a.slot next) (filter (is_from input) came)
+
+abbrev pub has_limit : List (Option ℕ) → ℕ → Bool
+has_limit limits j = is_some (slice_index_or limits j None)
+
+abbrev pub is_same : Bool → Bool → Bool
+is_same true b = b
+is_same false b = not b
+
+-- whether a cell may come where the packet before it is left out or not: the first of a packet always may, another only if it
+-- is named as its packet is; and one that is not named only for an output that has a limit
+abbrev pub may_come : Bool → Bool → Bool → Bool → Bool
+may_come first named limited mark = (first || is_same mark (not named)) && (named || limited)
+
+-- the mark of an input after these cells, of which some are named; none where one of them may not come
+abbrev pub mark_on : (Arrival → Bool) → (ℕ → Bool) → Bool → List Arrival → Option Bool
+mark_on named limited mark [] = Some mark
+mark_on named limited mark (a ∷ line) =
+    if may_come (a.cell.id.index == 0) (named a) (limited a.cell.output) mark
+    then mark_on named limited (not (named a)) line
+    else None
+
+-- those that are not named
+abbrev pub unnamed : List Name → List Arrival → List Arrival
+unnamed names line = filter (λ a. not (has_name names a)) line

@@ -1,5 +1,6 @@
 -- When a state is sound: six clauses, in order.
 use Rattle.std.specs.Prelude.{◌≡◌, ◌≢◌, ◌⊎◌, ℕ, ◌<◌, ◌≤◌, zero, suc, true, false, All, AllPairs, IsSome, List, [], slice_index_or, ⊤}
+use Rattle.std.specs.List.{AllByRecursion}
 use Rattle.cq_base.specs.Arriving.{Arrival}
 use Rattle.cq_base.specs.declared.cell.Transfer.{Transfer}
 use Rattle.cq_laws.specs.Slack.{HasSlack}
@@ -108,9 +109,8 @@ pub record IsFirstUnsound (w : Switch) (s : State) (k : ℕ) : Type 0 where
 
 -- Only proofs use these.
 -- the inputs that a state names are those of so many ports
-pub record IsForPorts (ports : ℕ) (s : State) : Type 0 where
-  pub named : All (λ c. c.input < ports) (named_in s)
-  pub moved : All (λ t. t.input < ports) s.moved
+abbrev pub IsForPorts : ℕ → State → Type 0
+IsForPorts ports s = AllByRecursion (λ c. c.input < ports) (named_in s)
 
 -- the refusal is this clause, and then this holds; or memory ran out
 abbrev pub IsOnlyFor : ℕ → Type 0 → StateRefusal → Type 0

@@ -2,12 +2,14 @@
 use Rattle.std.specs.Prelude.{◌≡◌, ℕ, List, length, Option, None, Some, slice_index_or}
 use Rattle.cq_base.specs.Arriving.{Arrival}
 use Rattle.cq_base.specs.declared.setup.Setup.{Setup}
-use Rattle.cq_cells.specs.Scheduled.{Scheduled}
+use Rattle.cq_cells.specs.Scheduled.{Scheduled, schedule_of}
+use Rattle.cq_pcap.specs.Captured.{Captured}
 use Rattle.cq_rank.specs.Machine.{Machine}
 use Rattle.cq_rank.specs.Switch.{AreSized}
 use Rattle.cq_route.specs.declared.tables.Tables.{Tables}
-use Rattle.cq_route.specs.Tables.{classes_of}
+use Rattle.cq_route.specs.Tables.{classes_of, ports_of}
 use Rattle.cq_scfq.specs.Disciplines.{machines_of}
+use Rattle.cq_state.specs.declared.state.Head.{Head}
 use Rattle.cq_state.specs.declared.state.State.{State}
 
 -- a switch with what arrives at it: per output its machine and its limit, the number of its classes, the stamp from which slots
@@ -34,14 +36,24 @@ switch_with setup limits s =
 abbrev pub switch_of : Tables → Scheduled → Switch
 switch_of t s = switch_with t.setup t.limits s
 
+-- the schedule is that of these tables, for some captures, one for each port
+pub record IsScheduleOf (t : Tables) (s : Scheduled) : Type 0 where
+  pub captures : List (List Captured)
+  pub ports : length captures ≡ ports_of t.setup
+  pub schedule : s ≡ schedule_of t captures
+
 -- the output has a limit
 abbrev pub HasLimit : List (Option ℕ) → ℕ → Type 0
 HasLimit limits j = (limit : ℕ) × (slice_index_or limits j None ≡ Some limit)
 
+-- the first lines of a state tell of this switch
+pub record IsHeadOf (w : Switch) (head : Head) : Type 0 where
+  pub ports : head.ports ≡ length w.machines
+  pub classes : head.classes ≡ w.classes
+  pub first_stamp : head.t0 ≡ w.first_stamp
+  pub total : head.total ≡ length w.came
+
 -- the state tells of a switch of this shape, and each of its rank states has as many numbers as its machine asks for
 pub record HasShape (w : Switch) (s : State) : Type 0 where
-  pub ports : s.head.ports ≡ length w.machines
-  pub classes : s.head.classes ≡ w.classes
-  pub first_stamp : s.head.t0 ≡ w.first_stamp
-  pub total : s.head.total ≡ length w.came
+  pub head : IsHeadOf w s.head
   pub ranks : AreSized w.machines s.ranks

@@ -1,5 +1,6 @@
 //! The levels and the floors of the classes.
-ghost use Rattle.std.specs.Prelude.{◌≡◌, ◌↔◌, ◌<◌, ℕ, All, IsTrue, length, slice_index_or, []};
+ghost use Rattle.std.specs.Prelude.{◌≡◌, ◌↔◌, ◌<◌, ℕ, IsTrue, length, slice_index_or, []};
+ghost use Rattle.std.specs.List.{AllByRecursion};
 ghost use Rattle.cq_rank.specs.Machine.{machine_at};
 ghost use Rattle.cq_rank.specs.Switch.{AreSized};
 ghost use Rattle.cq_resume.specs.Finding.{StandsBelow};
@@ -40,17 +41,31 @@ fn level_of(setup: &Setup, class: Class) -> u8
     setup.classes.as_slice()[class as usize].level
 }
 
+// Whether the cell is of its class's level, and its rank no greater than the floor of its class.
+fn is_below_floor(setup: &Setup, ranks: &[Sequence<u128>], queued: Queued) -> bool
+    requires output { queued.cell.output < length setup.now.kinds }
+    requires class { queued.cell.class < length setup.now.classes }
+    requires ranks { length ranks.now ≡ length setup.now.kinds }
+    requires sized { AreSized (machines_of setup.now) ranks.now }
+    ensures { IsTrue result ↔ StandsBelow setup.now ranks.now queued }
+{
+    let cell = queued.cell;
+    queued.key.level == level_of(setup, cell.class)
+        && queued.key.rank <= floor_at(setup, ranks, cell.output, cell.class)
+}
+
 /// Whether each cell is of its class's level, and its rank no greater than the floor of its class.
 pub fn are_below_floors(setup: &Setup, ranks: &[Sequence<u128>], cells: &[Queued]) -> bool
     requires ranks { length ranks.now ≡ length setup.now.kinds }
     requires sized { AreSized (machines_of setup.now) ranks.now }
-    requires outputs { All (λ q. q.cell.output < length setup.now.kinds) cells.now }
-    requires classes { All (λ q. q.cell.class < length setup.now.classes) cells.now }
-    ensures { IsTrue result ↔ All (StandsBelow setup.now ranks.now) cells.now }
+    requires outputs { AllByRecursion (λ q. q.cell.output < length setup.now.kinds) cells.now }
+    requires classes { AllByRecursion (λ q. q.cell.class < length setup.now.classes) cells.now }
+    ensures { IsTrue result ↔ AllByRecursion (StandsBelow setup.now ranks.now) cells.now }
 {
-    cells.iter().all(|queued| {
-        let cell = queued.cell;
-        queued.key.level == level_of(setup, cell.class)
-            && queued.key.rank <= floor_at(setup, ranks, cell.output, cell.class)
-    })
+    'places: for at in 0..cells.len() {
+        if !is_below_floor(setup, ranks, cells[at]) {
+            return false;
+        }
+    }
+    true
 }

@@ -1,83 +1,88 @@
 //! The cells of one input, output and class: they leave in the order of arrival.
-ghost use Rattle.std.specs.Prelude.{◌↔◌, ◌<◌, ◌≤◌, All, AllPairs, IfOk, IsTrue};
-ghost use Rattle.cq_resume.specs.Finding.{FlowsStand, IsNameBefore};
+ghost use Rattle.std.specs.Prelude.{◌≡◌, ◌↔◌, ◌<◌, ◌≤◌, AllPairs, IfOk, IfSome, IsTrue, None, length, map, replicate};
+ghost use Rattle.std.specs.List.{AllByRecursion};
+ghost use Rattle.cq_base.specs.Cells.{IsBefore};
+ghost use Rattle.cq_resume.specs.Finding.{FlowsStand, IsNameBefore, Leaves, begins_at};
 
 use crate::found::Name;
-use cq_base::{Key, NoMemory, Slot};
+use cq_base::{NoMemory, Queued, Slot};
 use std::alloc::Global;
 
-// What was seen of a flow, in the order of arrival: when its last cell was sent, and the key of its last cell that waits.
-#[derive(Clone, Copy)]
-struct Flow {
-    sent: Option<Slot>,
-    waits: Option<Key>,
+// A flow is numbered by its output and its class, of which there are so many at most.
+const MOST_CLASSES: usize = 16;
+
+// Whether a cell is more urgent than another.
+#[tactic(auto, unfolding(cq_base::specs::Key::is_before))]
+fn is_before(queued: &Queued, other: &Queued) -> bool
+    ensures { IsTrue result ↔ IsBefore queued.now other.now }
+{
+    queued.key < other.key
 }
 
-const NOTHING_SEEN: Flow = Flow {
-    sent: None,
-    waits: None,
-};
-
-impl Flow {
-    // With a cell more, that was sent in this slot. None where it left too early.
-    fn with_sent(self, slot: Slot) -> Option<Flow> {
-        if self.waits.is_some() || self.sent.is_some_and(|before| slot <= before) {
-            return None;
-        }
-        Some(Flow {
-            sent: Some(slot),
-            waits: None,
-        })
+// Whether the first of two cells of a flow, which arrived before the other, leaves before it.
+fn leaves(first: &Name, other: &Name) -> bool
+    ensures { IsTrue result ↔ Leaves first.now.queued other.now.queued first.now.sent other.now.sent }
+{
+    match (first.sent, other.sent) {
+        (Some(since), Some(slot)) => since < slot,
+        (Some(_), None) => true,
+        (None, Some(_)) => false,
+        (None, None) => is_before(&first.queued, &other.queued),
     }
+}
 
-    // With a cell more, that waits. None where it would leave too early.
-    fn with_waiting(self, key: Key) -> Option<Flow> {
-        if self.waits.is_some_and(|before| key <= before) {
-            return None;
-        }
-        Some(Flow {
-            sent: self.sent,
-            waits: Some(key),
-        })
+// Whether a cell may leave behind the last one of its flow, if there is one.
+fn may_leave(last: Option<Name>, name: &Name) -> bool
+    ensures { IsTrue result ↔ IfSome last (λ first. Leaves first.queued name.now.queued first.sent name.now.sent) }
+{
+    match last {
+        Some(first) => leaves(&first, name),
+        None => true,
     }
+}
 
-    fn with(self, name: Name) -> Option<Flow> {
-        match name.sent {
-            Some(slot) => self.with_sent(slot),
-            None => self.with_waiting(name.queued.key),
-        }
+// Whether the name at a place is the first one of its input.
+fn begins(names: &[Name], at: usize) -> bool
+    requires { at < length names.now }
+    ensures { result ≡ begins_at (map (λ n. n.queued.key.input) names.now) at }
+{
+    if at == 0 {
+        return false;
     }
+    names[at - 1].queued.key.input < names[at].queued.key.input
+}
+
+// No cell was seen of any of so many flows.
+fn none_seen(alloc: Global, flows: usize) -> Result<Vec<Option<Name>>, NoMemory>
+    ensures { IfOk result (λ last. last.items ≡ replicate flows None) }
+{
+    let mut last = Vec::new(alloc);
+    last.resize(flows, None)?;
+    Ok(last)
 }
 
 /// Whether the cells of each flow were sent in the order of arrival, and those that wait arrived after them and are to be
 /// sent in that order. The names stand by input and then by slot of arrival.
-pub fn keep_arrival_order(
-    alloc: Global,
-    names: &[Name],
-    ports: u16,
-    classes: u16,
-) -> Result<bool, NoMemory>
+pub fn keep_arrival_order(alloc: Global, names: &[Name], ports: u16) -> Result<bool, NoMemory>
     requires ordered { AllPairs IsNameBefore names.now }
     requires ports { ports ≤ 64 }
-    requires classes { classes ≤ 16 }
-    requires outputs { All (λ name. name.queued.cell.output < ports) names.now }
-    requires of_classes { All (λ name. name.queued.cell.class < classes) names.now }
+    requires outputs { AllByRecursion (λ name. name.queued.cell.output < ports) names.now }
+    requires of_classes { AllByRecursion (λ name. name.queued.cell.class < 16) names.now }
     ensures { IfOk result (λ holds. IsTrue holds ↔ FlowsStand names.now) }
 {
-    let mut flows = Vec::new(alloc);
-    flows.resize(ports as usize * classes as usize, NOTHING_SEEN)?;
-    let mut input = 0;
-    'names: for name in names {
-        if name.queued.key.input != input {
-            input = name.queued.key.input;
-            flows.fill(NOTHING_SEEN);
+    let flows = ports as usize * MOST_CLASSES;
+    let mut last = none_seen(alloc, flows)?;
+    'places: for at in 0..names.len() {
+        let name = names[at];
+        if begins(names, at) {
+            last = none_seen(alloc, flows)?;
         }
         let cell = name.queued.cell;
-        let at = cell.output as usize * classes as usize + cell.class as usize;
-        match flows[at].with(*name) {
-            Some(flow) => flows[at] = flow,
-            None => return Ok(false),
+        let flow = cell.output as usize * MOST_CLASSES + cell.class as usize;
+        if !may_leave(last[flow], &name) {
+            return Ok(false);
         }
+        last[flow] = Some(name);
     }
     Ok(true)
 }

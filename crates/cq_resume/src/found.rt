@@ -1,8 +1,8 @@
 //! The cells that a state names, looked up among those that arrive.
-ghost use Rattle.std.specs.Prelude.{◌≡◌, ◌<◌, All, IfErr, IfNone, IfOk, IfSome, IsSome, OnOk, Some};
-ghost use Rattle.cq_resume.specs.Finding.{AreGone, AreTold, IsFound};
+ghost use Rattle.std.specs.Prelude.{◌≡◌, ◌↔◌, ◌<◌, ◌&&◌, ◌||◌, ◌==◌, ◌++◌, nat_lt, AllPairs, IfErr, IfNone, IfOk, IfSome, IsPermutation, IsTrue, None, OnOk, filter, length, map};
+ghost use Rattle.std.specs.List.{AllAdjacentBelow, AllByRecursion, list_any};
+ghost use Rattle.cq_resume.specs.Finding.{AreGone, AreTold, IsFound, IsNameBefore, IsNameNotAfter, SomeMissed, names_of as names_told, sent_name, told_of, waiting_name};
 ghost use Rattle.cq_resume.specs.Sound.{AreArrivals, IsForPorts, IsOnlyFor};
-ghost use Rattle.cq_resume.specs.Told.{queued_of};
 
 use crate::StateRefusal;
 use cq_base::{Key, NoMemory, Port, Queued, Slot};
@@ -34,17 +34,18 @@ pub struct Found {
 }
 
 // When and where a cell arrived, as names stand: by input, and then by slot.
-fn arrived(queued: &Queued) -> (Port, Slot) {
-    (queued.key.input, queued.key.slot)
+fn arrived(name: &Name) -> (Port, Slot)
+    ensures { result ≡ (name.now.queued.key.input, name.now.queued.key.slot) }
+{
+    (name.queued.key.input, name.queued.key.slot)
 }
 
 // The cell of this name with its key, if it arrives before the next slot.
-fn queued_of(schedule: &Schedule, next: Slot, named: Named) -> Option<Queued>
+fn told_of(schedule: &Schedule, next: Slot, named: Named) -> Option<Queued>
     requires { named.input < schedule.now.ports }
-    ensures told { IfSome result (λ queued. (named.slot < next) × (queued_of schedule.now.came named ≡ Some queued)) }
-    ensures none { IfNone result (named.slot < next → IsSome (queued_of schedule.now.came named) → ⊥) }
+    ensures { result ≡ told_of schedule.now.came next named }
 {
-    if next <= named.slot {
+    if named.slot >= next {
         return None;
     }
     let cell = schedule.cell_at(named.slot, named.input)?;
@@ -64,14 +65,14 @@ fn told_all(
     next: Slot,
     named: &[Named],
 ) -> Result<Option<Vec<Queued>>, NoMemory>
-    requires { All (λ c. c.input < schedule.now.ports) named.now }
+    requires { AllByRecursion (λ c. c.input < schedule.now.ports) named.now }
     ensures told { IfOk result (λ all. IfSome all (λ told. AreTold schedule.now.came next named.now told.items)) }
-    ensures none { IfOk result (λ all. IfNone all (All (λ c. (c.slot < next) × IsSome (queued_of schedule.now.came c)) named.now → ⊥)) }
+    ensures none { IfOk result (λ all. IfNone all (SomeMissed schedule.now.came next named.now)) }
 {
-    let mut all = Vec::with_capacity(alloc, named.len())?;
+    let mut all = Vec::new(alloc);
     'names: for name in named {
-        match queued_of(schedule, next, *name) {
-            Some(queued) => all.push_reserved(queued),
+        match told_of(schedule, next, *name) {
+            Some(queued) => all.push(queued)?,
             None => return Ok(None),
         }
     }
@@ -85,21 +86,47 @@ fn gone_all(
     next: Slot,
     sent: &[Sent],
 ) -> Result<Option<Vec<Gone>>, NoMemory>
-    requires { All (λ d. d.cell.input < schedule.now.ports) sent.now }
+    requires { AllByRecursion (λ d. d.cell.input < schedule.now.ports) sent.now }
     ensures gone { IfOk result (λ all. IfSome all (λ gone. AreGone schedule.now.came next sent.now gone.items)) }
-    ensures none { IfOk result (λ all. IfNone all (All (λ d. (d.cell.slot < next) × IsSome (queued_of schedule.now.came d.cell)) sent.now → ⊥)) }
+    ensures none { IfOk result (λ all. IfNone all (AllByRecursion (λ d. told_of schedule.now.came next d.cell ≡ None → ⊥) sent.now → ⊥)) }
 {
-    let mut all = Vec::with_capacity(alloc, sent.len())?;
+    let mut all = Vec::new(alloc);
     'sent: for departure in sent {
-        match queued_of(schedule, next, departure.cell) {
-            Some(queued) => all.push_reserved(Gone {
+        match told_of(schedule, next, departure.cell) {
+            Some(queued) => all.push(Gone {
                 slot: departure.slot,
                 queued,
-            }),
+            })?,
             None => return Ok(None),
         }
     }
     Ok(Some(all))
+}
+
+// The names of cells that wait are put behind the others.
+fn put_waiting(names: &mut Vec<Name>, cells: &[Queued]) -> Result<(), NoMemory>
+    ensures { OnOk result (names.new.items ≡ names.old.items ++ map waiting_name cells.now) }
+{
+    'cells: for queued in cells {
+        names.push(Name {
+            queued: *queued,
+            sent: None,
+        })?;
+    }
+    Ok(())
+}
+
+// And those of cells that were sent.
+fn put_sent(names: &mut Vec<Name>, sent: &[Gone]) -> Result<(), NoMemory>
+    ensures { OnOk result (names.new.items ≡ names.old.items ++ map sent_name sent.now) }
+{
+    'sent: for gone in sent {
+        names.push(Name {
+            queued: gone.queued,
+            sent: Some(gone.slot),
+        })?;
+    }
+    Ok(())
 }
 
 // All names, by input and then by slot of arrival.
@@ -108,38 +135,33 @@ fn names_of(
     listed: &[Queued],
     buffered: &[Queued],
     sent: &[Gone],
-) -> Result<Vec<Name>, NoMemory> {
-    let mut names = Vec::with_capacity(alloc, listed.len() + buffered.len() + sent.len())?;
-    put_queued(&mut names, listed);
-    put_queued(&mut names, buffered);
-    'sent: for gone in sent {
-        names.push_reserved(Name {
-            queued: gone.queued,
-            sent: Some(gone.slot),
-        });
-    }
-    names.sort_unstable_by_key(|name| arrived(&name.queued));
+) -> Result<Vec<Name>, NoMemory>
+    ensures same { IfOk result (λ names. IsPermutation (names_told listed.now buffered.now sent.now) names.items) }
+    ensures ordered { IfOk result (λ names. AllAdjacentBelow IsNameNotAfter names.items (length names.items)) }
+{
+    let mut names = Vec::new(alloc);
+    put_waiting(&mut names, listed)?;
+    put_waiting(&mut names, buffered)?;
+    put_sent(&mut names, sent)?;
+    names.sort_unstable_by_key(|name| arrived(name));
     Ok(names)
 }
 
-fn put_queued(names: &mut Vec<Name>, cells: &[Queued]) {
-    'cells: for queued in cells {
-        names.push_reserved(Name {
-            queued: *queued,
-            sent: None,
-        });
-    }
+// Whether a name stands before another.
+fn is_before(name: &Name, other: &Name) -> bool
+    ensures { IsTrue result ↔ IsNameBefore name.now other.now }
+{
+    arrived(name) < arrived(other)
 }
 
-// Whether no two of these names, which stand in order, are the same.
-fn differ(names: &[Name]) -> bool {
-    let mut last = None;
-    'names: for name in names {
-        let at = arrived(&name.queued);
-        if last == Some(at) {
+// Whether each name stands before the next: where they stand in order, whether no two of them are the same.
+fn differ(names: &[Name]) -> bool
+    ensures { IsTrue result ↔ AllPairs IsNameBefore names.now }
+{
+    'places: for at in 1..names.len() {
+        if !is_before(&names[at - 1], &names[at]) {
             return false;
         }
-        last = Some(at);
     }
     true
 }
@@ -153,9 +175,15 @@ pub fn find(alloc: Global, state: &State, schedule: &Schedule) -> Result<Found, 
 {
     let next = state.head.next;
     let listed = told_all(alloc, schedule, next, state.listed.as_slice())?;
+    let Some(listed) = listed else {
+        return Err(StateRefusal::Unsound { clause: 1 });
+    };
     let buffered = told_all(alloc, schedule, next, state.buffered.as_slice())?;
+    let Some(buffered) = buffered else {
+        return Err(StateRefusal::Unsound { clause: 1 });
+    };
     let sent = gone_all(alloc, schedule, next, state.sent.as_slice())?;
-    let (Some(listed), Some(buffered), Some(sent)) = (listed, buffered, sent) else {
+    let Some(sent) = sent else {
         return Err(StateRefusal::Unsound { clause: 1 });
     };
     let names = names_of(alloc, &listed, &buffered, &sent)?;
@@ -170,9 +198,41 @@ pub fn find(alloc: Global, state: &State, schedule: &Schedule) -> Result<Found, 
     })
 }
 
+// Whether a name is of an earlier input, or of this one and of an earlier slot.
+fn is_ahead(name: &Name, input: Port, slot: Slot) -> bool
+    ensures { result ≡ (nat_lt name.now.queued.key.input input
+        || (name.now.queued.key.input == input && nat_lt name.now.queued.key.slot slot)) }
+{
+    let (at, since) = arrived(name);
+    at < input || (at == input && since < slot)
+}
+
+// Whether a name is of the cell that arrived in the slot at the input.
+fn is_of(name: &Name, input: Port, slot: Slot) -> bool
+    ensures { result ≡ (name.now.queued.key.slot == slot && name.now.queued.key.input == input) }
+{
+    name.queued.key.slot == slot && name.queued.key.input == input
+}
+
+/// Whether one of the names, which stand in order, is of the cell that arrived in the slot at the input.
+pub fn is_named(names: &[Name], input: Port, slot: Slot) -> bool
+    requires { AllPairs IsNameBefore names.now }
+    ensures { result ≡ list_any (λ n. n.queued.key.slot == slot && n.queued.key.input == input) names.now }
+{
+    let at = names.partition_point(|name| is_ahead(name, input, slot));
+    if at >= names.len() {
+        return false;
+    }
+    is_of(&names[at], input, slot)
+}
+
 /// Those of the names, which stand in order, that are of this input.
-pub fn names_at(names: &[Name], input: Port) -> &[Name] {
-    let start = names.partition_point(|name| name.queued.key.input < input);
+pub fn names_at(names: &[Name], input: Port) -> &[Name]
+    requires { AllPairs IsNameBefore names.now }
+    ensures { result.now ≡ filter (λ n. n.queued.key.input == input) names.now }
+{
     let end = names.partition_point(|name| name.queued.key.input <= input);
-    &names[start..end]
+    let upto = &names[..end];
+    let start = upto.partition_point(|name| name.queued.key.input < input);
+    &upto[start..]
 }

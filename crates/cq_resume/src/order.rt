@@ -1,78 +1,185 @@
 //! Whether the lines of a state stand in order.
-ghost use Rattle.std.specs.Prelude.{◌↔◌, ◌<◌, All, AllPairs, IsTrue};
-ghost use Rattle.cq_resume.specs.Finding.{BuffersStand, ListsStand, SentStand};
+ghost use Rattle.std.specs.Prelude.{◌≡◌, ◌↔◌, ◌<◌, AllPairs, IfSome, IsTrue, None, length, map, replicate};
+ghost use Rattle.std.specs.List.{AllByRecursion};
+ghost use Rattle.cq_base.specs.Cells.{IsBefore};
+ghost use Rattle.cq_resume.specs.Finding.{BuffersStand, IsBufferedBefore, IsListedBefore, IsNoLaterInput, IsSentBefore, IsTimely, ListsStand, SentStand, begins_at};
 ghost use Rattle.cq_resume.specs.Sound.{IsMovedBefore};
 
 use crate::found::{Found, Gone};
-use cq_base::{Key, Port, Queued, Slot, Transfer};
+use cq_base::{Key, Queued, Slot, Transfer};
 
-// Whether the lists stand by input, and the cells of each for one output by their keys.
-fn lists_in_order(listed: &[Queued]) -> bool
-    requires { All (λ q. q.cell.output < 64) listed.now }
-    ensures { IsTrue result ↔ ListsStand listed.now }
+// Whether a cell is more urgent than another.
+#[tactic(auto, unfolding(cq_base::specs::Key::is_before))]
+fn is_before(queued: &Queued, other: &Queued) -> bool
+    ensures { IsTrue result ↔ IsBefore queued.now other.now }
 {
-    let mut input = 0;
-    let mut last: [Option<Key>; 64] = [None; 64];
-    'cells: for queued in listed {
-        let at = queued.key.input;
-        if at < input {
+    queued.key < other.key
+}
+
+// Whether a cell is of no later input than another.
+fn is_no_later(queued: &Queued, other: &Queued) -> bool
+    ensures { IsTrue result ↔ IsNoLaterInput queued.now other.now }
+{
+    queued.key.input <= other.key.input
+}
+
+// Whether the lists stand by input.
+fn inputs_in_order(listed: &[Queued]) -> bool
+    ensures { IsTrue result ↔ AllPairs IsNoLaterInput listed.now }
+{
+    'places: for at in 1..listed.len() {
+        if !is_no_later(&listed[at - 1], &listed[at]) {
             return false;
         }
-        if input < at {
-            input = at;
-            last = [None; 64];
-        }
-        let output = queued.cell.output as usize;
-        if last[output].is_some_and(|before| queued.key <= before) {
-            return false;
-        }
-        last[output] = Some(queued.key);
     }
     true
+}
+
+/// Whether the cell at a place is the first one of its input, of cells that stand by input.
+pub fn begins(listed: &[Queued], at: usize) -> bool
+    requires { at < length listed.now }
+    ensures { result ≡ begins_at (map (λ q. q.key.input) listed.now) at }
+{
+    if at == 0 {
+        return false;
+    }
+    listed[at - 1].key.input < listed[at].key.input
+}
+
+// No cell was seen for any output.
+fn none_seen() -> [Option<Queued>; 64]
+    ensures { result ≡ replicate 64 None }
+{
+    [None; 64]
+}
+
+// Whether a cell may come behind the last one of its list for its output, if there is one.
+fn may_follow(last: Option<Queued>, queued: &Queued) -> bool
+    ensures { IsTrue result ↔ IfSome last (λ before. IsBefore before queued.now) }
+{
+    match last {
+        Some(before) => is_before(&before, queued),
+        None => true,
+    }
+}
+
+// Whether the cells of each list for one output stand by their keys. The lists stand by input.
+fn keys_in_order(listed: &[Queued]) -> bool
+    requires outputs { AllByRecursion (λ q. q.cell.output < 64) listed.now }
+    requires inputs { AllPairs IsNoLaterInput listed.now }
+    ensures { IsTrue result ↔ AllPairs IsListedBefore listed.now }
+{
+    let mut last = none_seen();
+    'places: for at in 0..listed.len() {
+        let queued = listed[at];
+        if begins(listed, at) {
+            last = none_seen();
+        }
+        let output = queued.cell.output as usize;
+        if !may_follow(last[output], &queued) {
+            return false;
+        }
+        last[output] = Some(queued);
+    }
+    true
+}
+
+// Whether a buffered cell stands before another: by output, then by key.
+fn is_buffered_before(queued: &Queued, other: &Queued) -> bool
+    ensures { IsTrue result ↔ IsBufferedBefore queued.now other.now }
+{
+    queued.cell.output < other.cell.output
+        || (queued.cell.output == other.cell.output && is_before(queued, other))
 }
 
 // Whether the buffers stand by output, and the cells of each by their keys.
 fn buffers_in_order(buffered: &[Queued]) -> bool
     ensures { IsTrue result ↔ BuffersStand buffered.now }
 {
-    let mut last: Option<(Port, Key)> = None;
-    'cells: for queued in buffered {
-        let at = (queued.cell.output, queued.key);
-        if last.is_some_and(|before| at <= before) {
+    'places: for at in 1..buffered.len() {
+        if !is_buffered_before(&buffered[at - 1], &buffered[at]) {
             return false;
         }
-        last = Some(at);
     }
     true
 }
 
-// Whether the departures stand by slot and then by output, each in a slot from its cell's arrival up to the next one.
-fn sent_in_order(sent: &[Gone], next: Slot) -> bool
-    ensures { IsTrue result ↔ SentStand next sent.now }
+// Whether a departure is before another: by slot, then by output.
+fn is_sent_before(gone: &Gone, other: &Gone) -> bool
+    ensures { IsTrue result ↔ IsSentBefore gone.now other.now }
 {
-    let mut last: Option<(Slot, Port)> = None;
-    'sent: for gone in sent {
-        let at = (gone.slot, gone.queued.cell.output);
-        let timely = gone.queued.key.slot <= gone.slot && gone.slot < next;
-        if !timely || last.is_some_and(|before| at <= before) {
+    gone.slot < other.slot
+        || (gone.slot == other.slot && gone.queued.cell.output < other.queued.cell.output)
+}
+
+// Whether the departures stand by slot and then by output.
+fn sent_in_order(sent: &[Gone]) -> bool
+    ensures { IsTrue result ↔ AllPairs IsSentBefore sent.now }
+{
+    'places: for at in 1..sent.len() {
+        if !is_sent_before(&sent[at - 1], &sent[at]) {
             return false;
         }
-        last = Some(at);
     }
     true
 }
 
-// Whether the transfers stand by slot, then by phase, then by input, each before the next slot.
-fn moved_in_order(moved: &[Transfer], next: Slot) -> bool
-    ensures { IsTrue result ↔ (AllPairs IsMovedBefore moved.now × All (λ t. t.slot < next) moved.now) }
+// Whether a departure is in a slot from its cell's arrival up to the next one.
+fn is_timely(gone: &Gone, next: Slot) -> bool
+    ensures { IsTrue result ↔ IsTimely next gone.now }
 {
-    let mut last: Option<(Slot, u8, Port)> = None;
-    'moved: for transfer in moved {
-        let at = (transfer.slot, transfer.phase, transfer.input);
-        if next <= transfer.slot || last.is_some_and(|before| at <= before) {
+    gone.queued.key.slot <= gone.slot && gone.slot < next
+}
+
+// Whether all departures are.
+fn are_timely(sent: &[Gone], next: Slot) -> bool
+    ensures { IsTrue result ↔ AllByRecursion (IsTimely next) sent.now }
+{
+    'places: for at in 0..sent.len() {
+        if !is_timely(&sent[at], next) {
             return false;
         }
-        last = Some(at);
+    }
+    true
+}
+
+// Whether a transfer is before another: by slot, then by phase, then by input.
+fn is_moved_before(transfer: &Transfer, other: &Transfer) -> bool
+    ensures { IsTrue result ↔ IsMovedBefore transfer.now other.now }
+{
+    transfer.slot < other.slot
+        || (transfer.slot == other.slot
+            && (transfer.phase < other.phase
+                || (transfer.phase == other.phase && transfer.input < other.input)))
+}
+
+// Whether the transfers stand by slot, then by phase, then by input.
+fn moved_in_order(moved: &[Transfer]) -> bool
+    ensures { IsTrue result ↔ AllPairs IsMovedBefore moved.now }
+{
+    'places: for at in 1..moved.len() {
+        if !is_moved_before(&moved[at - 1], &moved[at]) {
+            return false;
+        }
+    }
+    true
+}
+
+// Whether a transfer is before the next slot.
+fn is_early(transfer: &Transfer, next: Slot) -> bool
+    ensures { IsTrue result ↔ (transfer.now.slot < next) }
+{
+    transfer.slot < next
+}
+
+// Whether all transfers are.
+fn are_before(moved: &[Transfer], next: Slot) -> bool
+    ensures { IsTrue result ↔ AllByRecursion (λ t. t.slot < next) moved.now }
+{
+    'places: for at in 0..moved.len() {
+        if !is_early(&moved[at], next) {
+            return false;
+        }
     }
     true
 }
@@ -80,12 +187,16 @@ fn moved_in_order(moved: &[Transfer], next: Slot) -> bool
 /// Whether all lines stand in order, the cells of a list for one output by their keys, and each departure and each
 /// transfer has its time.
 pub fn in_order(found: &Found, moved: &[Transfer], next: Slot) -> bool
-    requires { All (λ q. q.cell.output < 64) found.now.listed.items }
+    requires { AllByRecursion (λ q. q.cell.output < 64) found.now.listed.items }
     ensures { IsTrue result ↔ (ListsStand found.now.listed.items × BuffersStand found.now.buffered.items
-        × SentStand next found.now.sent.items × AllPairs IsMovedBefore moved.now × All (λ t. t.slot < next) moved.now) }
+        × SentStand next found.now.sent.items × AllPairs IsMovedBefore moved.now
+        × AllByRecursion (λ t. t.slot < next) moved.now) }
 {
-    lists_in_order(&found.listed)
+    inputs_in_order(&found.listed)
+        && keys_in_order(&found.listed)
         && buffers_in_order(&found.buffered)
-        && sent_in_order(&found.sent, next)
-        && moved_in_order(moved, next)
+        && sent_in_order(&found.sent)
+        && are_timely(&found.sent, next)
+        && moved_in_order(moved)
+        && are_before(moved, next)
 }

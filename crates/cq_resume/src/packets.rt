@@ -1,8 +1,10 @@
 //! The packets that have begun: each is named whole or not at all, and then it was refused.
-ghost use Rattle.std.specs.Prelude.{◌≤◌, AllPairs, IfNone, IfOk, IfSome, length};
-ghost use Rattle.cq_resume.specs.Finding.{IsNameBefore, NameArrivals, PacketsStand, TalliesUp};
+ghost use Rattle.std.specs.Prelude.{◌≡◌, ◌∷◌, ◌+◌, ◌==◌, ◌<◌, ◌≤◌, ◌^◌, [], if◌then◌else◌, AllPairs, IfNone, IfOk, IfSome, false, length, map, not};
+ghost use Rattle.cq_ideal.specs.Limiter.{CanCount};
+ghost use Rattle.cq_ideal.specs.Refused.{refused_counts, with_cells, with_refused};
+ghost use Rattle.cq_resume.specs.Finding.{ArePackets, IsNameBefore, PacketsStand, TalliesUp, coming, has_limit, has_name, mark_on, may_come, unnamed};
 
-use crate::found::{Name, names_at};
+use crate::found::{Name, is_named};
 use cq_base::{Cell, NoMemory, Port, Sequence, Slot};
 use cq_cells::Schedule;
 use cq_laws::Refused;
@@ -18,75 +20,122 @@ pub struct Tally {
 }
 
 // Nothing was refused yet at the outputs that have a limit.
-fn none_refused(alloc: Global, limits: &[Option<u64>]) -> Result<Vec<Refused>, NoMemory> {
+fn none_refused(alloc: Global, limits: &[Option<u64>]) -> Result<Vec<Refused>, NoMemory>
+    requires { length limits.now ≤ 64 }
+    ensures { IfOk result (λ refused. refused.items ≡ refused_counts limits.now []) }
+{
     let mut refused = Vec::new(alloc);
-    'outputs: for (output, limit) in limits.iter().enumerate() {
-        if let Some(limit) = *limit {
-            refused.push(Refused {
+    'outputs: for output in 0..limits.len() {
+        match limits[output] {
+            None => {}
+            Some(limit) => refused.push(Refused {
                 output: output as Port,
                 limit,
                 packets: 0,
                 cells: 0,
-            })?;
+            })?,
         }
     }
     Ok(refused)
 }
 
-// A cell was refused: it is added to the count of its output. It is false where that has no limit, and so no count.
-fn count_refused(refused: &mut [Refused], cell: Cell) -> bool {
-    'outputs: for count in refused.iter_mut() {
-        if count.output == cell.output {
-            count.cells += 1;
-            if cell.id.index == 0 {
-                count.packets += 1;
-            }
-            return true;
-        }
+// The count of an output, with a refused cell added if it is for that output.
+fn with_cell(count: Refused, cell: Cell) -> Refused
+    requires packets { count.packets + 1 < 2 ^ 64 }
+    requires cells { count.cells + 1 < 2 ^ 64 }
+    ensures { result ≡ with_cells (cell ∷ []) count }
+{
+    if count.output != cell.output {
+        return count;
     }
-    false
+    let first = if cell.id.index == 0 { 1 } else { 0 };
+    Refused {
+        output: count.output,
+        limit: count.limit,
+        packets: count.packets + first,
+        cells: count.cells + 1,
+    }
 }
 
-// Goes through what arrived at an input before the next slot, beside the names of its cells in order of arrival. The
-// answer is the mark of the input, or None where a packet is named in part, or not at all though its output has no limit.
+// A refused cell is added to the count of its output.
+fn count_refused(refused: &mut [Refused], cell: Cell)
+    requires { CanCount 1 refused.old }
+    ensures { refused.new ≡ with_refused (cell ∷ []) refused.old }
+{
+    'outputs: for place in 0..refused.len() {
+        refused[place] = with_cell(refused[place], cell);
+    }
+}
+
+// The cell that arrives at an input next, from this slot on and before the next one of the run, with its slot.
+fn next_cell(schedule: &Schedule, input: Port, from: Slot, next: Slot) -> Option<(Slot, Cell)>
+    requires input { input < schedule.now.ports }
+    requires packets { ArePackets schedule.now.ports schedule.now.came }
+    ensures none { IfNone result (coming input from next schedule.now.came ≡ []) }
+    ensures early { IfSome result (λ x. (from ≤ x.0) × (x.0 < next)) }
+    ensures some { IfSome result (λ x. coming input from next schedule.now.came
+        ≡ record { slot = x.0; cell = x.1 } ∷ coming input (x.0 + 1) next schedule.now.came) }
+{
+    let slot = schedule.next_at(input, from)?;
+    if slot >= next {
+        return None;
+    }
+    let cell = schedule.cell_at(slot, input)?;
+    Some((slot, cell))
+}
+
+// Whether a cell may come where the packet before it is left out or not: the first of a packet always may, another only if it
+// is named as its packet is; and one that is not named only for an output that has a limit.
+fn may_come(first: bool, named: bool, limited: bool, mark: bool) -> bool
+    ensures { result ≡ may_come first named limited mark }
+{
+    (first || mark != named) && (named || limited)
+}
+
+// A cell is counted where it is left out.
+fn count_left(refused: &mut [Refused], cell: Cell, left: bool)
+    requires { CanCount 1 refused.old }
+    ensures { refused.new ≡ with_refused (if left then cell ∷ [] else []) refused.old }
+{
+    if !left {
+        return;
+    }
+    count_refused(refused, cell);
+}
+
+// Goes through what arrived at an input before the next slot, and counts what is not named. The answer is the mark of the
+// input, or None where a packet is named in part, or not at all though its output has no limit.
 fn walk(
     schedule: &Schedule,
     input: Port,
     next: Slot,
     names: &[Name],
+    limits: &[Option<u64>],
     refused: &mut [Refused],
-) -> Option<bool> {
+) -> Option<bool>
+    requires input { input < schedule.now.ports }
+    requires next { next < 2 ^ 63 }
+    requires packets { ArePackets schedule.now.ports schedule.now.came }
+    requires limits { length limits.now ≡ schedule.now.ports }
+    requires ordered { AllPairs IsNameBefore names.now }
+    requires room { CanCount (length (coming input 0 next schedule.now.came)) refused.old }
+    ensures mark { result ≡ mark_on (has_name names.now) (has_limit limits.now) false (coming input 0 next schedule.now.came) }
+    ensures refused { IfSome result (λ _. refused.new
+        ≡ with_refused (map (λ a. a.cell) (unnamed names.now (coming input 0 next schedule.now.came))) refused.old) }
+{
     let mut mark = false;
-    let mut at = 0;
     let mut from = 0;
-    'arrivals: while let Some(slot) = schedule.next_at(input, from) {
-        if next <= slot {
-            break;
-        }
-        let cell = schedule.cell_at(slot, input)?;
-        let named = is_next(names, at, slot);
-        if named {
-            at += 1;
-        }
-        if cell.id.index == 0 {
-            mark = !named;
-        } else if mark == named {
+    'arrivals: while let Some((slot, cell)) = next_cell(schedule, input, from, next) {
+        let named = is_named(names, input, slot);
+        let limited = limits[cell.output as usize].is_some();
+        if !may_come(cell.id.index == 0, named, limited, mark) {
             return None;
         }
-        if mark && !count_refused(refused, cell) {
-            return None;
-        }
+        mark = !named;
+        count_left(refused, cell, mark);
         from = slot + 1;
     }
     Some(mark)
-}
-
-// Whether the name at this place is that of a cell which arrived in this slot.
-fn is_next(names: &[Name], at: usize, slot: Slot) -> bool {
-    match names.get(at) {
-        Some(name) => name.queued.key.slot == slot,
-        None => false,
-    }
 }
 
 /// What the arrivals before the next slot come to that are not named. None where a packet is named in part, or where one is
@@ -98,18 +147,21 @@ pub fn tally_packets(
     names: &[Name],
     limits: &[Option<u64>],
 ) -> Result<Option<Tally>, NoMemory>
-    requires limits { length limits.now ≤ schedule.now.ports }
+    requires next { next < 2 ^ 63 }
+    requires few { length limits.now ≤ 64 }
+    requires limits { length limits.now ≡ schedule.now.ports }
+    requires packets { ArePackets schedule.now.ports schedule.now.came }
     requires ordered { AllPairs IsNameBefore names.now }
-    requires arrive { NameArrivals next schedule.now.came names.now }
     ensures stand { IfOk result (λ tally. IfSome tally (λ x. PacketsStand limits.now next schedule.now.came names.now)) }
     ensures tally { IfOk result (λ tally. IfSome tally (TalliesUp limits.now next schedule.now.came names.now)) }
     ensures none { IfOk result (λ tally. IfNone tally (PacketsStand limits.now next schedule.now.came names.now → ⊥)) }
 {
-    let mut marks = Vec::with_capacity(alloc, limits.len())?;
+    let _total = schedule.total();
+    let mut marks = Vec::new(alloc);
     let mut refused = none_refused(alloc, limits)?;
-    'inputs: for input in 0..limits.len() as Port {
-        match walk(schedule, input, next, names_at(names, input), &mut refused) {
-            Some(mark) => marks.push_reserved(mark),
+    'inputs: for input in 0..limits.len() {
+        match walk(schedule, input as Port, next, names, limits, &mut refused) {
+            Some(mark) => marks.push(mark)?,
             None => return Ok(None),
         }
     }

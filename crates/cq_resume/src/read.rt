@@ -1,9 +1,8 @@
 //! Reads a state, and judges it.
-ghost use Rattle.std.specs.Prelude.{◌≡◌, IfErr, IfOk};
-ghost use Rattle.cq_cells.specs.Traffic.{IsTraffic};
+ghost use Rattle.std.specs.Prelude.{IfErr, IfOk};
 ghost use Rattle.cq_resume.specs.Reading.{IsRead, IsRefusal};
-ghost use Rattle.cq_resume.specs.Switch.{switch_of};
-ghost use Rattle.cq_route.specs.Tables.{AreTables, classes_of, ports_of};
+ghost use Rattle.cq_resume.specs.Switch.{IsScheduleOf, switch_of};
+ghost use Rattle.cq_route.specs.Tables.{AreTables};
 
 use crate::shape::has_shape;
 use crate::sound::judge;
@@ -14,7 +13,7 @@ use cq_route::Tables;
 use cq_state::read_text;
 use std::alloc::Global;
 
-/// The state whose text this is, if it is a sound one of the switch that the tables describe, over this schedule.
+/// The state whose text this is, if it is a sound one of the switch that the tables describe, over their schedule.
 ///
 /// - `Text`: the line that it names is the first that is not allowed there, or is missing.
 /// - `Shape`: it is the text of a state, but of a switch of another shape or over another schedule.
@@ -27,8 +26,7 @@ pub fn read_state(
     schedule: &Schedule,
 ) -> Result<Taken, StateRefusal>
     requires tables { AreTables tables.now }
-    requires ports { schedule.now.ports ≡ ports_of tables.now.setup }
-    requires traffic { IsTraffic (ports_of tables.now.setup) (classes_of tables.now.setup) schedule.now.came }
+    requires schedule { IsScheduleOf tables.now schedule.now }
     ensures read { IfOk result (IsRead (switch_of tables.now schedule.now) bytes.now) }
     ensures cause { IfErr result (IsRefusal (switch_of tables.now schedule.now) bytes.now) }
 {
@@ -36,7 +34,6 @@ pub fn read_state(
     if !has_shape(&state, tables, schedule) {
         return Err(StateRefusal::Shape);
     }
-    let limits = tables.limits.as_slice();
-    let (found, tally) = judge(alloc, &state, &tables.setup, limits, schedule)?;
+    let (found, tally) = judge(alloc, &state, tables, schedule)?;
     Ok(take_up(alloc, state, found, tally)?)
 }

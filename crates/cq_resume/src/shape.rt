@@ -1,36 +1,59 @@
 //! Whether a state is one of a switch of this shape.
-ghost use Rattle.std.specs.Prelude.{◌↔◌, IsTrue};
-ghost use Rattle.cq_resume.specs.Switch.{HasShape, switch_of};
+ghost use Rattle.std.specs.Prelude.{◌≡◌, ◌↔◌, ◌≤◌, IsTrue, length};
+ghost use Rattle.cq_rank.specs.Switch.{AreSized};
+ghost use Rattle.cq_resume.specs.Switch.{HasShape, IsHeadOf, switch_of};
+ghost use Rattle.cq_scfq.specs.Disciplines.{machine_of, machines_of};
 
-use cq_base::{Kind, Sequence};
+use cq_base::{ClassRow, Kind, Sequence, Setup};
 use cq_cells::Schedule;
 use cq_rank::LEVELS;
 use cq_route::Tables;
 use cq_state::State;
 
 // How many numbers the rank state of an output of this kind has.
-fn width_of(kind: Kind, classes: usize) -> usize {
+fn width_of(kind: Kind, classes: &[ClassRow]) -> usize
+    requires { length classes.now ≤ 16 }
+    ensures { result ≡ (machine_of kind classes.now).size }
+{
     match kind {
         Kind::FirstCome | Kind::Priority => 0,
-        Kind::Fair => classes + LEVELS,
+        Kind::Fair => classes.len() + LEVELS,
     }
 }
 
-fn are_sized(kinds: &[Kind], classes: usize, ranks: &[Sequence<u128>]) -> bool {
-    kinds.iter().zip(ranks).all(|(kind, numbers)| numbers.as_slice().len()
-        == width_of(*kind, classes))
+// Whether each rank state has as many numbers as its output's.
+fn are_sized(setup: &Setup, ranks: &[Sequence<u128>]) -> bool
+    requires few { length setup.now.classes ≤ 16 }
+    requires as_many { length ranks.now ≡ length setup.now.kinds }
+    ensures { IsTrue result ↔ AreSized (machines_of setup.now) ranks.now }
+{
+    let kinds = setup.kinds.as_slice();
+    let classes = setup.classes.as_slice();
+    'outputs: for output in 0..ranks.len() {
+        if ranks[output].as_slice().len() != width_of(kinds[output], classes) {
+            return false;
+        }
+    }
+    true
 }
 
-/// Whether the state tells of as many ports and classes as the tables, of the stamp and of as many cells as the schedule,
-/// and each rank state has as many numbers as its output's.
-pub fn has_shape(state: &State, tables: &Tables, schedule: &Schedule) -> bool
-    ensures { IsTrue result ↔ HasShape (switch_of tables.now schedule.now) state.now }
+// Whether the first lines of the state tell of as many ports and classes as the tables, and of the stamp and of as many cells
+// as the schedule.
+fn has_head(state: &State, tables: &Tables, schedule: &Schedule) -> bool
+    ensures { IsTrue result ↔ IsHeadOf (switch_of tables.now schedule.now) state.now.head }
 {
-    let kinds = tables.setup.kinds.as_slice();
-    let classes = tables.setup.classes.as_slice().len();
-    state.head.ports as usize == kinds.len()
-        && state.head.classes as usize == classes
+    state.head.ports as usize == tables.setup.kinds.as_slice().len()
+        && state.head.classes as usize == tables.setup.classes.as_slice().len()
         && state.head.t0 == schedule.t0()
         && state.head.total == schedule.total()
-        && are_sized(kinds, classes, state.ranks.as_slice())
+}
+
+/// Whether the state, which has a rank state for each of its ports, tells of as many ports and classes as the tables, of the
+/// stamp and of as many cells as the schedule, and each rank state has as many numbers as its output's.
+pub fn has_shape(state: &State, tables: &Tables, schedule: &Schedule) -> bool
+    requires few { length tables.now.setup.classes ≤ 16 }
+    requires told { length state.now.ranks ≡ state.now.head.ports }
+    ensures { IsTrue result ↔ HasShape (switch_of tables.now schedule.now) state.now }
+{
+    has_head(state, tables, schedule) && are_sized(&tables.setup, state.ranks.as_slice())
 }

@@ -1,41 +1,61 @@
 //! The slack of the cells that wait at inputs.
-ghost use Rattle.std.specs.Prelude.{◌≡◌, ◌↔◌, ◌==◌, IsTrue, filter, length};
-ghost use Rattle.cq_resume.specs.Finding.{BuffersStand, ListsStand, SlackStands, cushion_in};
+ghost use Rattle.std.specs.Prelude.{◌≡◌, ◌↔◌, ◌==◌, AllPairs, IsTrue, filter, length};
+ghost use Rattle.cq_base.specs.Cells.{IsRising, cushion};
+ghost use Rattle.cq_resume.specs.Finding.{BuffersStand, IsNoLaterInput, SlackStands, cushion_in};
 
-use cq_base::{Port, Queued};
+use crate::order::begins;
+use cq_base::{Key, Port, Queued};
 
-/// The cells of one output's buffer, of cells that stand by output.
-pub fn buffer_at(buffered: &[Queued], output: Port) -> &[Queued]
+// The cells for one output, of cells that stand by output.
+fn cells_for(buffered: &[Queued], output: Port) -> &[Queued]
     requires { BuffersStand buffered.now }
     ensures { result.now ≡ filter (λ q. q.cell.output == output) buffered.now }
 {
-    let start = buffered.partition_point(|queued| queued.cell.output < output);
     let end = buffered.partition_point(|queued| queued.cell.output <= output);
-    &buffered[start..end]
+    let upto = &buffered[..end];
+    let start = upto.partition_point(|queued| queued.cell.output < output);
+    &upto[start..]
+}
+
+/// The cells of one output's buffer, of cells that stand by output and then by their keys.
+pub fn buffer_at(buffered: &[Queued], output: Port) -> &[Queued]
+    requires { BuffersStand buffered.now }
+    ensures cells { result.now ≡ filter (λ q. q.cell.output == output) buffered.now }
+    ensures rising { IsRising result.now }
+{
+    cells_for(buffered, output)
+}
+
+// How many cells have a lesser key, of cells that stand by their keys.
+fn count_before(cells: &[Queued], key: Key) -> usize
+    requires { IsRising cells.now }
+    ensures { result ≡ cushion key cells.now }
+{
+    cells.partition_point(|queued| queued.key < key)
 }
 
 // How many cells of its output's buffer are more urgent, where each buffer stands in order.
-fn cushion(buffered: &[Queued], queued: Queued) -> usize
+fn cushion_of(buffered: &[Queued], queued: Queued) -> usize
     requires { BuffersStand buffered.now }
     ensures { result ≡ length (cushion_in buffered.now queued) }
 {
-    buffer_at(buffered, queued.cell.output).partition_point(|other| other.key < queued.key)
+    count_before(buffer_at(buffered, queued.cell.output), queued.key)
 }
 
-/// Whether each cell of a list has slack 1 at least, where lists and buffers stand in order.
+/// Whether each cell of a list has slack 1 at least, where lists stand by input and buffers stand in order.
 pub fn have_slack(listed: &[Queued], buffered: &[Queued]) -> bool
-    requires lists { ListsStand listed.now }
+    requires lists { AllPairs IsNoLaterInput listed.now }
     requires buffers { BuffersStand buffered.now }
     ensures { IsTrue result ↔ SlackStands listed.now buffered.now }
 {
-    let mut input = 0;
     let mut thread = 0;
-    'cells: for queued in listed {
-        if queued.key.input != input {
-            input = queued.key.input;
+    'places: for at in 0..listed.len() {
+        let queued = listed[at];
+        if begins(listed, at) {
             thread = 0;
         }
-        if cushion(buffered, *queued) <= thread {
+        let cushion = cushion_of(buffered, queued);
+        if cushion <= thread {
             return false;
         }
         thread += 1;

@@ -1,9 +1,11 @@
 //! What a sound state comes to.
-ghost use Rattle.std.specs.Prelude.{◌≡◌, IfOk};
-ghost use Rattle.cq_resume.specs.Counted.{IsTally, taken_of};
-ghost use Rattle.cq_resume.specs.Finding.{IsFound};
-ghost use Rattle.cq_resume.specs.Sound.{IsSound};
+ghost use Rattle.std.specs.Prelude.{◌≡◌, ◌+◌, ◌==◌, ◌<◌, ◌≤◌, ◌^◌, AllPairs, IfOk, None, filter, length, map, replicate};
+ghost use Rattle.std.specs.List.{AllByRecursion, enumerate_from, range_with_len};
+ghost use Rattle.cq_ideal.specs.Ending.{slots_of};
+ghost use Rattle.cq_resume.specs.Counted.{IsTally, output_told, taken_of};
+ghost use Rattle.cq_resume.specs.Finding.{BuffersStand, IsFound, IsNameBefore, IsNoLaterInput};
 ghost use Rattle.cq_resume.specs.Switch.{Switch};
+ghost use Rattle.cq_resume.specs.Taking.{CanTakeUp, departed, figures_at_input, longer, with_departure};
 
 use crate::found::{Found, Gone, Name, names_at};
 use crate::packets::Tally;
@@ -28,10 +30,21 @@ pub struct Taken {
 }
 
 // The cells of one input's list, of cells that stand by input.
-fn list_at(listed: &[Queued], input: Port) -> &[Queued] {
-    let start = listed.partition_point(|queued| queued.key.input < input);
+fn list_at(listed: &[Queued], input: Port) -> &[Queued]
+    requires { AllPairs IsNoLaterInput listed.now }
+    ensures { result.now ≡ filter (λ q. q.key.input == input) listed.now }
+{
     let end = listed.partition_point(|queued| queued.key.input <= input);
-    &listed[start..end]
+    let upto = &listed[..end];
+    let start = upto.partition_point(|queued| queued.key.input < input);
+    &upto[start..]
+}
+
+// These cells, as a value.
+fn cells_of(alloc: Global, cells: &[Queued]) -> Result<Sequence<Queued>, NoMemory>
+    ensures { IfOk result (λ copy. copy ≡ cells.now) }
+{
+    Ok(Sequence::of(Vec::from_slice(alloc, cells)?))
 }
 
 // The list of each input.
@@ -39,11 +52,14 @@ fn lists_of(
     alloc: Global,
     listed: &[Queued],
     ports: u16,
-) -> Result<Sequence<Sequence<Queued>>, NoMemory> {
-    let mut lists = Vec::with_capacity(alloc, ports as usize)?;
+) -> Result<Sequence<Sequence<Queued>>, NoMemory>
+    requires { AllPairs IsNoLaterInput listed.now }
+    ensures { IfOk result (λ lists. lists ≡ map (λ i. filter (λ q. q.key.input == i) listed.now) (range_with_len 0 ports)) }
+{
+    let mut lists = Vec::new(alloc);
     'inputs: for input in 0..ports {
-        let cells = Vec::from_slice(alloc, list_at(listed, input))?;
-        lists.push_reserved(Sequence::of(cells));
+        let cells = cells_of(alloc, list_at(listed, input))?;
+        lists.push(cells)?;
     }
     Ok(Sequence::of(lists))
 }
@@ -53,26 +69,38 @@ fn buffers_of(
     alloc: Global,
     buffered: &[Queued],
     ports: u16,
-) -> Result<Sequence<Sequence<Queued>>, NoMemory> {
-    let mut buffers = Vec::with_capacity(alloc, ports as usize)?;
+) -> Result<Sequence<Sequence<Queued>>, NoMemory>
+    requires { BuffersStand buffered.now }
+    ensures { IfOk result (λ buffers. buffers ≡ map (λ j. filter (λ q. q.cell.output == j) buffered.now) (range_with_len 0 ports)) }
+{
+    let mut buffers = Vec::new(alloc);
     'outputs: for output in 0..ports {
-        let cells = Vec::from_slice(alloc, buffer_at(buffered, output))?;
-        buffers.push_reserved(Sequence::of(cells));
+        let cells = cells_of(alloc, buffer_at(buffered, output))?;
+        buffers.push(cells)?;
     }
     Ok(Sequence::of(buffers))
 }
 
-// The departures.
-fn departures_of(alloc: Global, sent: &[Gone]) -> Result<Sequence<Departure>, NoMemory> {
-    let mut departures = Vec::with_capacity(alloc, sent.len())?;
-    'sent: for gone in sent {
-        departures.push_reserved(Departure {
-            slot: gone.slot,
-            output: gone.queued.cell.output,
-            queued: gone.queued,
-        });
+// The departure of a cell that was sent.
+fn departed(gone: Gone) -> Departure
+    ensures { result ≡ departed gone }
+{
+    Departure {
+        slot: gone.slot,
+        output: gone.queued.cell.output,
+        queued: gone.queued,
     }
-    Ok(Sequence::of(departures))
+}
+
+// The departures.
+fn departures_of(alloc: Global, sent: &[Gone]) -> Result<Vec<Departure>, NoMemory>
+    ensures { IfOk result (λ departures. departures.items ≡ map departed sent.now) }
+{
+    let mut departures = Vec::new(alloc);
+    'sent: for gone in sent {
+        departures.push(departed(*gone))?;
+    }
+    Ok(departures)
 }
 
 // What was seen of each input: the cells that are named, and what the lines tell.
@@ -80,33 +108,51 @@ fn inputs_of(
     alloc: Global,
     names: &[Name],
     seen: &[Seen],
-) -> Result<Sequence<InputFigures>, NoMemory> {
-    let mut inputs = Vec::with_capacity(alloc, seen.len())?;
-    'inputs: for (input, seen) in seen.iter().enumerate() {
-        inputs.push_reserved(InputFigures {
+) -> Result<Sequence<InputFigures>, NoMemory>
+    requires few { length seen.now ≤ 64 }
+    requires ordered { AllPairs IsNameBefore names.now }
+    ensures { IfOk result (λ inputs. inputs ≡ map (λ at. figures_at_input names.now at.0 at.1) (enumerate_from 0 seen.now)) }
+{
+    let mut inputs = Vec::new(alloc);
+    'inputs: for input in 0..seen.len() {
+        inputs.push(InputFigures {
             cells: names_at(names, input as Port).len() as u64,
-            longest: seen.longest,
-            slack: seen.slack,
-        });
+            longest: seen[input].longest,
+            slack: seen[input].slack,
+        })?;
     }
     Ok(Sequence::of(inputs))
 }
 
-// What was seen of an output, with a departure more.
-fn with_departure(figures: OutputFigures, departure: &Departure) -> OutputFigures {
-    let wait = departure.slot.saturating_sub(departure.queued.key.slot);
-    OutputFigures {
-        cells: figures.cells + 1,
-        wait: Some(figures.wait.map_or(wait, |most| most.max(wait))),
+// The greater of the waits so far, if there are any, and this one.
+fn longer(wait: Option<u64>, now: u64) -> u64
+    ensures { result ≡ longer wait now }
+{
+    match wait {
+        Some(wait) => wait.max(now),
+        None => now,
     }
 }
 
-// What was seen of each output.
-fn outputs_of(
-    alloc: Global,
-    sent: &[Departure],
-    ports: u16,
-) -> Result<Sequence<OutputFigures>, NoMemory> {
+// What was seen of an output, with a departure more, if it is its own.
+fn with_departure(figures: OutputFigures, output: Port, departure: Departure) -> OutputFigures
+    requires { figures.cells + 1 < 2 ^ 64 }
+    ensures { result ≡ with_departure output figures departure }
+{
+    if departure.output != output {
+        return figures;
+    }
+    let wait = departure.slot.saturating_sub(departure.queued.key.slot);
+    OutputFigures {
+        cells: figures.cells + 1,
+        wait: Some(longer(figures.wait, wait)),
+    }
+}
+
+// What was seen of each output before it sent a cell.
+fn nothing_sent(alloc: Global, ports: u16) -> Result<Vec<OutputFigures>, NoMemory>
+    ensures { IfOk result (λ outputs. outputs.items ≡ replicate ports (record { cells = 0; wait = None })) }
+{
     let mut outputs = Vec::new(alloc);
     outputs.resize(
         ports as usize,
@@ -115,24 +161,42 @@ fn outputs_of(
             wait: None,
         },
     )?;
-    'sent: for departure in sent {
-        let at = departure.output as usize;
-        outputs[at] = with_departure(outputs[at], departure);
+    Ok(outputs)
+}
+
+// What was seen of each output.
+fn outputs_of(
+    alloc: Global,
+    sent: &[Departure],
+    ports: u16,
+) -> Result<Sequence<OutputFigures>, NoMemory>
+    requires { AllByRecursion (λ d. d.output < ports) sent.now }
+    ensures { IfOk result (λ outputs. outputs ≡ map (output_told sent.now) (range_with_len 0 ports)) }
+{
+    let mut outputs = nothing_sent(alloc, ports)?;
+    'sent: for at in 0..sent.len() {
+        let output = sent[at].output;
+        outputs[output as usize] = with_departure(outputs[output as usize], output, sent[at]);
     }
     Ok(Sequence::of(outputs))
 }
 
 // One more than the last slot with a departure, or 0 where there is none.
-fn slots_of(sent: &[Departure]) -> Slot {
-    match sent.last() {
-        Some(departure) => departure.slot + 1,
-        None => 0,
+fn slots_of(sent: &[Departure]) -> Slot
+    requires rising { AllPairs (λ d e. d.slot ≤ e.slot) sent.now }
+    requires low { AllByRecursion (λ d. d.slot < 2 ^ 63) sent.now }
+    ensures { result ≡ slots_of sent.now }
+{
+    if sent.is_empty() {
+        return 0;
     }
+    sent[sent.len() - 1].slot + 1
 }
 
 /// What a state comes to that was found to be sound. The error is want of memory.
 pub fn take_up(alloc: Global, state: State, found: Found, tally: Tally) -> Result<Taken, NoMemory>
-    ensures { (w : Switch) → IsFound w.came state found → IsTally w state tally → IsSound w state → IfOk result (λ taken. taken ≡ taken_of w state) }
+    requires { CanTakeUp state found }
+    ensures { (w : Switch) → IsFound w.came state found → IsTally w state tally → IfOk result (λ taken. taken ≡ taken_of w state) }
 {
     let State {
         head,
@@ -144,12 +208,17 @@ pub fn take_up(alloc: Global, state: State, found: Found, tally: Tally) -> Resul
         moved,
     } = state;
     let sent = departures_of(alloc, &found.sent)?;
+    let slots = slots_of(&sent);
+    let inputs = inputs_of(alloc, &found.names, inputs.as_slice())?;
+    let outputs = outputs_of(alloc, &sent, head.ports)?;
+    let lists = lists_of(alloc, &found.listed, head.ports)?;
+    let buffers = buffers_of(alloc, &found.buffered, head.ports)?;
     let figures = Figures {
-        slots: slots_of(sent.as_slice()),
+        slots,
         proposals: head.proposals,
         most: head.most,
-        inputs: inputs_of(alloc, &found.names, inputs.as_slice())?,
-        outputs: outputs_of(alloc, sent.as_slice(), head.ports)?,
+        inputs,
+        outputs,
     };
     let frozen = Frozen {
         next: head.next,
@@ -157,12 +226,12 @@ pub fn take_up(alloc: Global, state: State, found: Found, tally: Tally) -> Resul
         refused: tally.refused,
         marks: tally.marks,
         ranks,
-        lists: lists_of(alloc, &found.listed, head.ports)?,
-        buffers: buffers_of(alloc, &found.buffered, head.ports)?,
+        lists,
+        buffers,
     };
     Ok(Taken {
         frozen,
-        sent,
+        sent: Sequence::of(sent),
         note: moved,
     })
 }

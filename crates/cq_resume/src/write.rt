@@ -1,6 +1,7 @@
 //! Writes a stopped run as the text of its state.
-ghost use Rattle.std.specs.Prelude.{◌≡◌, ◌≤◌, ◌^◌, IfErr, IfOk, length};
-ghost use Rattle.cq_resume.specs.Reading.{state_of};
+ghost use Rattle.std.specs.Prelude.{◌≡◌, ◌≤◌, ◌^◌, ◌++◌, IfErr, IfOk, OnOk, length, map};
+ghost use Rattle.std.specs.List.{flat_map};
+ghost use Rattle.cq_resume.specs.Reading.{named_as, seen_as, sent_as, state_of};
 ghost use Rattle.cq_state.specs.Refusals.{IsTooLong};
 ghost use Rattle.cq_state.specs.State.{IsInRange, state_text};
 
@@ -10,7 +11,9 @@ use cq_state::{Head, Named, Seen, Sent, State, StateLong, text_of};
 use std::alloc::Global;
 
 // A cell by its name, with its key.
-fn named_as(queued: Queued) -> Named {
+fn named_as(queued: Queued) -> Named
+    ensures { result ≡ named_as queued }
+{
     Named {
         level: queued.key.level,
         rank: queued.key.rank,
@@ -19,56 +22,95 @@ fn named_as(queued: Queued) -> Named {
     }
 }
 
+// What was seen of an input's list.
+fn seen_as(figures: InputFigures) -> Seen
+    ensures { result ≡ seen_as figures }
+{
+    Seen {
+        longest: figures.longest,
+        slack: figures.slack,
+    }
+}
+
+// A departure by its cell's name.
+fn sent_as(departure: Departure) -> Sent
+    ensures { result ≡ sent_as departure }
+{
+    Sent {
+        slot: departure.slot,
+        cell: named_as(departure.queued),
+    }
+}
+
 // What was seen of each input.
-fn seen_as(alloc: Global, inputs: &[InputFigures]) -> Result<Sequence<Seen>, NoMemory> {
-    let mut seen = Vec::with_capacity(alloc, inputs.len())?;
+fn all_seen(alloc: Global, inputs: &[InputFigures]) -> Result<Sequence<Seen>, NoMemory>
+    ensures { IfOk result (λ seen. seen ≡ map seen_as inputs.now) }
+{
+    let mut seen = Vec::new(alloc);
     'inputs: for figures in inputs {
-        seen.push_reserved(Seen {
-            longest: figures.longest,
-            slack: figures.slack,
-        });
+        seen.push(seen_as(*figures))?;
     }
     Ok(Sequence::of(seen))
 }
 
+// The numbers of a rank state.
+fn numbers_of(alloc: Global, numbers: &[u128]) -> Result<Sequence<u128>, NoMemory>
+    ensures { IfOk result (λ copy. copy ≡ numbers.now) }
+{
+    Ok(Sequence::of(Vec::from_slice(alloc, numbers)?))
+}
+
 // The numbers of each rank state.
-fn ranks_as(alloc: Global, ranks: &[Sequence<u128>]) -> Result<Sequence<Sequence<u128>>, NoMemory> {
-    let mut copies = Vec::with_capacity(alloc, ranks.len())?;
-    'outputs: for numbers in ranks {
-        let copy = Vec::from_slice(alloc, numbers.as_slice())?;
-        copies.push_reserved(Sequence::of(copy));
+fn all_numbers(
+    alloc: Global,
+    ranks: &[Sequence<u128>],
+) -> Result<Sequence<Sequence<u128>>, NoMemory>
+    ensures { IfOk result (λ copies. copies ≡ ranks.now) }
+{
+    let mut copies = Vec::new(alloc);
+    'outputs: for output in 0..ranks.len() {
+        let copy = numbers_of(alloc, ranks[output].as_slice())?;
+        copies.push(copy)?;
     }
     Ok(Sequence::of(copies))
 }
 
-// The cells of all these queues, one queue after the other.
-fn all_named(alloc: Global, queues: &[Sequence<Queued>]) -> Result<Sequence<Named>, NoMemory> {
-    let mut named = Vec::new(alloc);
-    'queues: for cells in queues {
-        put_named(&mut named, cells.as_slice())?;
-    }
-    Ok(Sequence::of(named))
-}
-
-fn put_named(named: &mut Vec<Named>, cells: &[Queued]) -> Result<(), NoMemory> {
+// The names of these cells are put behind the others.
+fn put_named(named: &mut Vec<Named>, cells: &[Queued]) -> Result<(), NoMemory>
+    ensures { OnOk result (named.new.items ≡ named.old.items ++ map named_as cells.now) }
+{
     'cells: for queued in cells {
         named.push(named_as(*queued))?;
     }
     Ok(())
 }
 
-fn sent_as(alloc: Global, sent: &[Departure]) -> Result<Sequence<Sent>, NoMemory> {
-    let mut lines = Vec::with_capacity(alloc, sent.len())?;
+// The cells of all these queues by their names, one queue after the other.
+fn all_named(alloc: Global, queues: &[Sequence<Queued>]) -> Result<Sequence<Named>, NoMemory>
+    ensures { IfOk result (λ named. named ≡ map named_as (flat_map (λ cells. cells) queues.now)) }
+{
+    let mut named = Vec::new(alloc);
+    'queues: for queue in 0..queues.len() {
+        put_named(&mut named, queues[queue].as_slice())?;
+    }
+    Ok(Sequence::of(named))
+}
+
+// The departures by the names of their cells.
+fn all_sent(alloc: Global, sent: &[Departure]) -> Result<Sequence<Sent>, NoMemory>
+    ensures { IfOk result (λ lines. lines ≡ map sent_as sent.now) }
+{
+    let mut lines = Vec::new(alloc);
     'sent: for departure in sent {
-        lines.push_reserved(Sent {
-            slot: departure.slot,
-            cell: named_as(departure.queued),
-        });
+        lines.push(sent_as(*departure))?;
     }
     Ok(Sequence::of(lines))
 }
 
-fn moved_as(alloc: Global, note: &[Transfer]) -> Result<Sequence<Transfer>, NoMemory> {
+// The transfers.
+fn all_moved(alloc: Global, note: &[Transfer]) -> Result<Sequence<Transfer>, NoMemory>
+    ensures { IfOk result (λ moved. moved ≡ note.now) }
+{
     Ok(Sequence::of(Vec::from_slice(alloc, note)?))
 }
 
@@ -100,14 +142,20 @@ pub fn state_bytes(
         proposals: frozen.figures.proposals,
         most: frozen.figures.most,
     };
+    let inputs = all_seen(alloc, frozen.figures.inputs.as_slice())?;
+    let ranks = all_numbers(alloc, frozen.ranks.as_slice())?;
+    let listed = all_named(alloc, frozen.lists.as_slice())?;
+    let buffered = all_named(alloc, frozen.buffers.as_slice())?;
+    let lines = all_sent(alloc, sent)?;
+    let moved = all_moved(alloc, note)?;
     let state = State {
         head,
-        inputs: seen_as(alloc, frozen.figures.inputs.as_slice())?,
-        ranks: ranks_as(alloc, frozen.ranks.as_slice())?,
-        listed: all_named(alloc, frozen.lists.as_slice())?,
-        buffered: all_named(alloc, frozen.buffers.as_slice())?,
-        sent: sent_as(alloc, sent)?,
-        moved: moved_as(alloc, note)?,
+        inputs,
+        ranks,
+        listed,
+        buffered,
+        sent: lines,
+        moved,
     };
     text_of(alloc, &state)
 }
