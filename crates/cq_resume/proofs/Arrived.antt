@@ -1,0 +1,133 @@
+-- The first clause, of found cells. Each name that was found arrives; and no cell is named twice exactly where the
+-- names, by input and then by slot, stand strictly in order: order changes nothing of which names are the same.
+use Rattle.std.proofs.Common.{◌≡◌, ◌≢◌, ℕ, ◌<◌, eqb, true, false, List, [], ◌∷◌, ◌++◌, None, length, map, sym, ◌∙◌}
+use Rattle.std.specs.Prelude.{IsPermutation, IsSome}
+use Rattle.std.specs.List.{AllAdjacentBelow, AllByRecursion, AllPairs, AllZip}
+use Rattle.std.proofs.lemmas.Bool.{and_from, and_parts, eq-eqb, eqb-true, false_from_ne_true}
+use Rattle.std.proofs.lemmas.List.Elements.{All-from_recursion, recursion_from_All}
+use Rattle.std.proofs.lemmas.List.Sorted.{IsPermutation-sym}
+use Rattle.std.proofs.lemmas.Map.Keys.{IsDistinct-from_apart, apart_from_distinct}
+use Rattle.cq_base.specs.Arriving.{Arrival}
+use Rattle.cq_base.specs.declared.cell.Queued.{Queued}
+use Rattle.cq_resume.specs.Finding.{AreGone, AreTold, IsNameBefore, IsNameNotAfter, SomeMissed, names_of, told_of}
+use Rattle.cq_resume.specs.Sound.{AreArrivals}
+use Rattle.cq_resume.specs.Told.{arriving_cell, named_in}
+use Rattle.cq_resume.specs.declared.found.Gone.{Gone}
+use Rattle.cq_resume.specs.declared.found.Name.{Name}
+use Rattle.cq_resume.proofs.Chained.{all_pairs, each_pair}
+use Rattle.cq_resume.proofs.Each.{all_left, all_right, all_weaker}
+use Rattle.cq_resume.proofs.Names.{rising_differ, rising_names, same_name, still_differ}
+use Rattle.cq_resume.proofs.Telling.{IsOf, can_be_told, it_arrives, its_input, its_slot, names_zip}
+use Rattle.cq_resume.proofs.Zipped.{all_left as each_left, pairs_back, pairs_over}
+use Rattle.cq_state.specs.declared.state.Named.{Named}
+use Rattle.cq_state.specs.declared.state.Sent.{Sent}
+use Rattle.cq_state.specs.declared.state.State.{State}
+
+-- two names are of different arrivals
+abbrev pub Differ : Named → Named → Type 0
+Differ a b = (a.slot ≡ b.slot) → a.input ≢ b.input
+
+abbrev IsApart : Name → Name → Type 0
+IsApart a b = same_name a b ≡ false
+
+module _ (came : List Arrival) (next : ℕ) (c d : Named) (m n : Name) (first : IsOf came next c m)
+    (second : IsOf came next d n) where
+  apart : Differ c d → IsApart m n
+  apart differ =
+      false_from_ne_true (same_name m n)
+      (λ holds.
+      let parts =
+      and_parts (eqb m.queued.key.slot n.queued.key.slot) (eqb m.queued.key.input n.queued.key.input) holds in
+      differ
+      (its_slot came next c m.queued first.facts ∙ eqb-true m.queued.key.slot n.queued.key.slot parts.0
+      ∙ sym (its_slot came next d n.queued second.facts))
+      (its_input came next c m.queued first.facts ∙ eqb-true m.queued.key.input n.queued.key.input parts.1
+      ∙ sym (its_input came next d n.queued second.facts)))
+
+  differ : IsApart m n → Differ c d
+  differ fails slot input =
+      let slots = its_slot came next c m.queued first.facts in
+      let other_slots = its_slot came next d n.queued second.facts in
+      let inputs = its_input came next c m.queued first.facts in
+      let other_inputs = its_input came next d n.queued second.facts in
+      let holds : same_name m n ≡ true =
+      and_from (eqb m.queued.key.slot n.queued.key.slot) (eqb m.queued.key.input n.queued.key.input)
+      (eq-eqb m.queued.key.slot n.queued.key.slot (sym slots ∙ slot ∙ other_slots))
+      (eq-eqb m.queued.key.input n.queued.key.input (sym inputs ∙ input ∙ other_inputs)) in
+      let clash : true ≡ false = sym holds ∙ fails in
+      let P : ⊥ = cc in P
+
+-- ## All names
+
+images_held : {A B : Type 0} (f : A → B) (P : B → Type 0) (xs : List A) → AllByRecursion P (map f xs) →
+    AllByRecursion (λ x. P (f x)) xs
+images_held f P [] all = tt
+images_held f P (x ∷ xs) all = (all.0, images_held f P xs all.1)
+
+abbrev CanBe : List Arrival → ℕ → Named → Type 0
+CanBe came next c = (c.slot < next) × IsSome (arriving_cell came c)
+
+module _ (came : List Arrival) (s : State) where
+  abbrev IsMiss : Named → Type 0
+  IsMiss c = told_of came s.head.next c ≡ None → ⊥
+
+  -- where each arrives none is missed
+  none_missed : AreArrivals came s → AllByRecursion IsMiss (named_in s)
+  none_missed are =
+      all_weaker (CanBe came s.head.next) IsMiss (λ c can. can_be_told came s.head.next c can.0 can.1) (named_in s)
+      (recursion_from_All (CanBe came s.head.next) (named_in s) are.arrive)
+
+  pub listed_missed : SomeMissed came s.head.next s.listed → AreArrivals came s → ⊥
+  listed_missed missed are =
+      missed (all_left IsMiss s.listed s.buffered
+      (all_left IsMiss (s.listed ++ s.buffered) (map (λ (d : Sent). d.cell) s.sent) (none_missed are)))
+
+  pub buffered_missed : SomeMissed came s.head.next s.buffered → AreArrivals came s → ⊥
+  buffered_missed missed are =
+      missed (all_right IsMiss s.listed s.buffered
+      (all_left IsMiss (s.listed ++ s.buffered) (map (λ (d : Sent). d.cell) s.sent) (none_missed are)))
+
+  pub sent_missed : (AllByRecursion (λ (d : Sent). IsMiss d.cell) s.sent → ⊥) → AreArrivals came s → ⊥
+  sent_missed missed are =
+      missed (images_held (λ (d : Sent). d.cell) IsMiss s.sent
+      (all_right IsMiss (s.listed ++ s.buffered) (map (λ (d : Sent). d.cell) s.sent) (none_missed are)))
+
+  module _ (listed buffered : List Queued) (sent : List Gone) (first : AreTold came s.head.next s.listed listed)
+      (second : AreTold came s.head.next s.buffered buffered) (third : AreGone came s.head.next s.sent sent)
+      (names : List Name) (same : IsPermutation (names_of listed buffered sent) names) where
+    zips : AllZip (IsOf came s.head.next) (named_in s) (names_of listed buffered sent)
+    zips = names_zip came s listed buffered sent first second third
+
+    -- names that stand strictly in order are of different arrivals, and each arrives
+    pub are_arrivals : AllPairs IsNameBefore names → AreArrivals came s
+    are_arrivals rising =
+        record {
+          arrive =
+              All-from_recursion (CanBe came s.head.next) (named_in s)
+              (each_left (IsOf came s.head.next) (CanBe came s.head.next)
+              (λ c n is.
+              (is.facts.early, it_arrives came s.head.next c n.queued is.facts)) (named_in s)
+              (names_of listed buffered sent) zips);
+          once =
+              all_pairs Differ (named_in s)
+              (pairs_back (IsOf came s.head.next) Differ IsApart
+              (λ c d m n own other. differ came s.head.next c d m n own other) (named_in s)
+              (names_of listed buffered sent) zips
+              (each_pair IsApart (names_of listed buffered sent)
+              (λ i j d lt inside.
+              apart_from_distinct same_name (names_of listed buffered sent) i j d
+              (still_differ names (names_of listed buffered sent)
+              (IsPermutation-sym (names_of listed buffered sent) names same) (rising_differ names rising)) lt inside)));
+        }
+
+    -- and the other way
+    pub arrivals_rise : AllAdjacentBelow IsNameNotAfter names (length names) → AreArrivals came s →
+        AllPairs IsNameBefore names
+    arrivals_rise order are =
+        rising_names names order
+        (still_differ (names_of listed buffered sent) names same
+        (IsDistinct-from_apart same_name (names_of listed buffered sent)
+        (all_pairs IsApart (names_of listed buffered sent)
+        (pairs_over (IsOf came s.head.next) Differ IsApart
+        (λ c d m n own other. apart came s.head.next c d m n own other) (named_in s)
+        (names_of listed buffered sent) zips (each_pair Differ (named_in s) are.once)))))

@@ -1,0 +1,45 @@
+-- Where an input begins: at a place behind the first one whose item is of a later input than the one before it.
+use Rattle.std.proofs.Common.{◌≡◌, ℕ, ◌-◌, ◌<◌, ltb, Bool, true, false, List, length, map, get_or, sym, ap, ◌∙◌, arith}
+use Rattle.std.specs.Prelude.{◌&&◌}
+use Rattle.std.proofs.lemmas.Bool.{and_from, and_left, and_parts, le-ltb, lt-ltb, ltb-true}
+use Rattle.std.proofs.lemmas.List.{get_or-map}
+use Rattle.cq_resume.specs.Finding.{begins_at}
+
+module _ {X : Type 0} (input : X → ℕ) (xs : List X) (n : ℕ) where
+  pub none_begins : n ≡ 0 → false ≡ begins_at (map input xs) n
+  none_begins first =
+      sym (and_left (ltb 0 n) (ltb (get_or (map input xs) (n - 1) 0) (get_or (map input xs) n 0))
+      (le-ltb 0 n (omega arith)))
+
+  module _ (d : X) (inside : n < length xs) where
+    before : get_or (map input xs) (n - 1) 0 ≡ input (get_or xs (n - 1) d)
+    before = get_or-map input xs (n - 1) d 0 (omega arith)
+
+    here : get_or (map input xs) n 0 ≡ input (get_or xs n d)
+    here = get_or-map input xs n d 0 inside
+
+    test : begins_at (map input xs) n ≡ (ltb 0 n && ltb (input (get_or xs (n - 1) d)) (input (get_or xs n d)))
+    test =
+        ap (λ (k : ℕ). ltb 0 n && ltb k (get_or (map input xs) n 0)) before
+        ∙ ap (λ (k : ℕ). ltb 0 n && ltb (input (get_or xs (n - 1) d)) k) here
+
+    pub begins_is : 0 < n → ltb (input (get_or xs (n - 1) d)) (input (get_or xs n d)) ≡ begins_at (map input xs) n
+    begins_is later =
+        sym (test
+        ∙ ap (λ (b : Bool). b && ltb (input (get_or xs (n - 1) d)) (input (get_or xs n d))) (lt-ltb 0 n later))
+
+    pub begins_says : begins_at (map input xs) n ≡ true →
+        (0 < n) × (input (get_or xs (n - 1) d) < input (get_or xs n d))
+    begins_says is =
+        let parts = and_parts (ltb 0 n) (ltb (input (get_or xs (n - 1) d)) (input (get_or xs n d))) (sym test ∙ is) in
+        (ltb-true 0 n parts.0, ltb-true (input (get_or xs (n - 1) d)) (input (get_or xs n d)) parts.1)
+
+    pub begins_not : begins_at (map input xs) n ≡ false → 0 < n →
+        input (get_or xs (n - 1) d) < input (get_or xs n d) → ⊥
+    begins_not is later less =
+        let both : begins_at (map input xs) n ≡ true =
+        test
+        ∙ and_from (ltb 0 n) (ltb (input (get_or xs (n - 1) d)) (input (get_or xs n d))) (lt-ltb 0 n later)
+        (lt-ltb (input (get_or xs (n - 1) d)) (input (get_or xs n d)) less) in
+        let clash : true ≡ false = sym both ∙ is in
+        let P : ⊥ = cc in P

@@ -1,0 +1,138 @@
+-- The schedule of captures: its cells are those of its inputs, input after input, and at each input packet comes after
+-- packet, each from its first cell to its last. A packet has a cell at least, its cells come one a slot, and the next
+-- one begins when it has ended, or later.
+use Rattle.std.proofs.Common.{◌≡◌, ℕ, zero, suc, ◌+◌, ◌-◌, ◌<◌, List, ◌++◌, length, map, flat_map, refl, sym, ap, ◌∙◌, subst, inl, inr, arith}
+use Rattle.std.specs.Prelude.{filter}
+use Rattle.std.specs.List.{range_with_len}
+use Rattle.cq_base.specs.Arriving.{Arrival}
+use Rattle.cq_cells.specs.Schedule.{arrivals, arrivals_at, arrivals_of, cell_of, cells, packet_at, packets_of, start}
+use Rattle.cq_cells.specs.Scheduled.{Scheduled}
+use Rattle.cq_cells.specs.Traffic.{IsInRange, IsTraffic, is_from}
+use Rattle.cq_cells.proofs.Looked.{piece}
+use Rattle.cq_cells.proofs.Packets.{ends_before}
+use Rattle.cq_cells.proofs.Pieces.{cells_above}
+use Rattle.cq_cells.proofs.Ranges.{flat_same}
+use Rattle.cq_cells.proofs.Rising.{at_input, traffic_is}
+use Rattle.cq_pcap.specs.Captured.{Captured}
+use Rattle.cq_resume.specs.Finding.{ArePackets, ComeBehind, ComesNext, IsLine}
+use Rattle.cq_resume.specs.Switch.{IsScheduleOf}
+use Rattle.cq_resume.proofs.Each.{all_weaker}
+use Rattle.cq_route.specs.Tables.{AreTables, classes_of, ports_of}
+use Rattle.cq_route.specs.declared.tables.Tables.{Tables}
+
+module _ (t : Tables) (captures : List (List Captured)) (input : ℕ) where
+  -- cell i of packet k as it arrives
+  abbrev cell_in : ℕ → ℕ → Arrival
+  cell_in k i = piece (start t captures input k) (cell_of t captures input k) i
+
+  some_cells : (k : ℕ) → 0 < cells t captures input k
+  unfolding cells
+  some_cells k = cells_above (length (packet_at captures input k).body) t.cell_bytes
+
+  goes_on : (k i : ℕ) → ComesNext (cell_in k i) (cell_in k (i + 1))
+  unfolding cell_of
+  goes_on k i = (omega arith, inl (refl, refl, refl))
+
+  begins : (k : ℕ) (a : Arrival) → a.cell.id.packet < k → a.slot < start t captures input k → ComesNext a (cell_in k 0)
+  unfolding cell_of
+  begins k a packet slot = (omega arith, inr (packet, refl))
+
+  -- the cells of a packet behind one of them, and then those of later ones
+  behind : (k i n : ℕ) (rest : List Arrival) → ComeBehind (cell_in k (i + n)) rest →
+      ComeBehind (cell_in k i) (map (cell_in k) (range_with_len (i + 1) n) ++ rest)
+  behind k i zero rest last =
+      let same : i + 0 ≡ i = omega arith in subst (λ (j : ℕ). ComeBehind (cell_in k j) rest) same last
+  behind k i (suc n) rest last =
+      let same : i + suc n ≡ i + 1 + n = omega arith in
+      (goes_on k i, behind k (i + 1) n rest (subst (λ (j : ℕ). ComeBehind (cell_in k j) rest) same last))
+
+  packet_is : (k i : ℕ) → (cell_in k i).cell.id.packet ≡ k
+  unfolding cell_of
+  packet_is k i = refl
+
+  index_is : (k : ℕ) → (cell_in k 0).cell.id.index ≡ 0
+  unfolding cell_of
+  index_is k = refl
+
+  abbrev packets_from : ℕ → ℕ → List Arrival
+  packets_from k m = flat_map (arrivals_of t captures input) (range_with_len k m)
+
+  -- the cells of a packet of so many behind its first one, and then those of later packets
+  one_packet : (k n : ℕ) (rest : List Arrival) → cells t captures input k ≡ suc n →
+      ((a : Arrival) → a.cell.id.packet < k + 1 → a.slot < start t captures input (k + 1) → ComeBehind a rest) →
+      ComeBehind (cell_in k 0) (map (cell_in k) (range_with_len (0 + 1) n) ++ rest)
+  one_packet k n rest many later =
+      let own = packet_is k (0 + n) in
+      let ends = ends_before t captures input k (k + 1) (omega arith) in
+      behind k 0 n rest (later (cell_in k (0 + n)) (omega arith) (omega arith))
+
+  come_behind : (k m : ℕ) (a : Arrival) → a.cell.id.packet < k → a.slot < start t captures input k →
+      ComeBehind a (packets_from k m)
+  come_behind k zero a packet slot = tt
+  come_behind k (suc m) a packet slot =
+      let some = some_cells k in
+      let many : cells t captures input k ≡ suc (cells t captures input k - 1) = omega arith in
+      subst (λ (n : ℕ). ComeBehind a (map (cell_in k) (range_with_len 0 n) ++ packets_from (k + 1) m)) (sym many) (
+        begins k a packet slot,
+        one_packet k (cells t captures input k - 1) (packets_from (k + 1) m) many
+            (λ b later_packet later_slot. come_behind (k + 1) m b later_packet later_slot),
+      )
+
+  line_of : (m : ℕ) → IsLine (packets_from 0 m)
+  line_of zero = tt
+  line_of (suc m) =
+      let some = some_cells 0 in
+      let many : cells t captures input 0 ≡ suc (cells t captures input 0 - 1) = omega arith in
+      subst (λ (n : ℕ). IsLine (map (cell_in 0) (range_with_len 0 n) ++ packets_from (0 + 1) m)) (sym many) (
+        index_is 0,
+        one_packet 0 (cells t captures input 0 - 1) (packets_from (0 + 1) m) many
+            (λ b later_packet later_slot. come_behind (0 + 1) m b later_packet later_slot),
+      )
+
+  pub input_is_line : IsLine (arrivals_at t captures input)
+  unfolding arrivals_at
+  input_is_line = line_of (length (packets_of captures input))
+
+module _ (t : Tables) (captures : List (List Captured)) (tables : AreTables t)
+    (ports : length captures ≡ ports_of t.setup) where
+  by_input : arrivals t captures
+      ≡ flat_map (λ i. filter (is_from i) (arrivals t captures)) (range_with_len 0 (length captures))
+  unfolding arrivals
+  by_input =
+      flat_same (arrivals_at t captures) (λ i. filter (is_from i) (arrivals t captures)) 0 (length captures)
+      (λ i least lt. sym (at_input t captures i (omega arith)))
+
+  pub packets_of_schedule : ArePackets (length captures) (arrivals t captures)
+  packets_of_schedule =
+      let traffic = traffic_is t captures tables ports in
+      record {
+        by_input = by_input;
+        lines = λ i inside. subst (λ (l : List Arrival). IsLine l) (sym (at_input t captures i inside))
+            (input_is_line t captures i);
+        inputs = all_weaker (IsInRange (ports_of t.setup) (classes_of t.setup))
+            (λ a. a.cell.id.input < length captures) (λ a is. let low = is.input in omega arith) (arrivals t captures)
+            traffic.in_range;
+        outputs = all_weaker (IsInRange (ports_of t.setup) (classes_of t.setup))
+            (λ a. a.cell.output < length captures) (λ a is. let low = is.output in omega arith) (arrivals t captures)
+            traffic.in_range;
+      }
+
+-- what is known of the schedule of tables
+pub record IsKnown (t : Tables) (s : Scheduled) : Type 0 where
+  pub ports : s.ports ≡ ports_of t.setup
+  pub traffic : IsTraffic (ports_of t.setup) (classes_of t.setup) s.came
+  pub packets : ArePackets s.ports s.came
+
+pub schedule_known : (t : Tables) (s : Scheduled) → AreTables t → IsScheduleOf t s → IsKnown t s
+schedule_known t s tables is =
+    let same = is.schedule in
+    let ports : s.ports ≡ length is.captures = ap (λ (x : Scheduled). x.ports) same in
+    let came : s.came ≡ arrivals t is.captures = ap (λ (x : Scheduled). x.came) same in
+    record {
+      ports = ports ∙ is.ports;
+      traffic = subst (λ (l : List Arrival). IsTraffic (ports_of t.setup) (classes_of t.setup) l) (sym came)
+          (traffic_is t is.captures tables is.ports);
+      packets = subst (λ (n : ℕ). ArePackets n s.came) (sym ports)
+          (subst (λ (l : List Arrival). ArePackets (length is.captures) l) (sym came)
+          (packets_of_schedule t is.captures tables is.ports));
+    }

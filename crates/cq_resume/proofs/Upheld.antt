@@ -1,0 +1,69 @@
+-- The walks over all inputs ended with a mark: so all packets stand, and the marks and the counts are those of what is
+-- left out. Or one stopped: so a packet does not stand.
+use Rattle.std.proofs.Common.{◌≡◌, ℕ, ◌<◌, Bool, false, List, length, map, get_or, Option, None, Some, sym, ap, ◌∙◌, arith}
+use Rattle.std.specs.List.{range_with_len}
+use Rattle.std.proofs.lemmas.List.{get_or-map, get_or_default, length-map, same_lists}
+use Rattle.std.proofs.lemmas.List.FromFn.{get_or-map-range_with_len, length-map-range_with_len}
+use Rattle.cq_base.specs.Arriving.{Arrival}
+use Rattle.cq_ideal.specs.declared.refused.Refused.{Refused}
+use Rattle.cq_resume.specs.Counted.{latest}
+use Rattle.cq_resume.specs.Finding.{ArePackets, PacketsStand, TalliesUp, coming, firsts_before, has_limit, has_name, is_left_out}
+use Rattle.cq_resume.specs.declared.found.Name.{Name}
+use Rattle.cq_resume.specs.declared.packets.Tally.{Tally}
+use Rattle.cq_resume.proofs.Adding.{Tallied, mark_at, tallied_counts}
+use Rattle.cq_resume.proofs.Marked.{line_ends, line_stands}
+use Rattle.cq_resume.proofs.Tallied.{LineStands, lines_stand, mark_is, packets_stand, whole}
+
+module _ (limits : List (Option ℕ)) (next : ℕ) (came : List Arrival) (names : List Name) (ports : ℕ)
+    (are : ArePackets ports came) where
+  -- one that stopped
+  pub packet_fails : (input : ℕ) → input < ports → None ≡ mark_at limits next came names input →
+      PacketsStand limits next came names → ⊥
+  packet_fails input inside stops stand =
+      line_ends (has_name names) (has_limit limits) (coming input 0 next came)
+      (whole limits ports next came names are input inside)
+      (lines_stand limits ports next came names are stand input inside) (sym stops)
+
+  module _ (marks : List Bool) (refused : List Refused) (known : Tallied limits next came names ports marks refused) where
+    many : length marks ≡ ports
+    many =
+        sym (length-map marks (λ (m : Bool). Some m)) ∙ ap (λ (l : List (Option Bool)). length l) known.marked
+        ∙ length-map-range_with_len (mark_at limits next came names) 0 ports
+
+    mark_there : (i : ℕ) → i < ports → mark_at limits next came names i ≡ Some (get_or marks i false)
+    mark_there i inside =
+        let size = many in
+        sym (get_or-map-range_with_len (mark_at limits next came names) 0 ports i i None inside (omega arith))
+        ∙ sym (ap (λ (l : List (Option Bool)). get_or l i None) known.marked)
+        ∙ get_or-map (λ (m : Bool). Some m) marks i false None (omega arith)
+
+    stands : (i : ℕ) → i < ports → LineStands limits ports next came names are i
+    stands i inside =
+        line_stands (has_name names) (has_limit limits) (coming i 0 next came) (get_or marks i false)
+        (whole limits ports next came names are i inside) (mark_there i inside)
+
+    pub all_stand : PacketsStand limits next came names
+    all_stand = packets_stand limits ports next came names are stands
+
+    abbrev told : ℕ → Bool
+    told i = is_left_out names next came (latest (firsts_before i next came))
+
+    pub all_marks : marks ≡ map told (range_with_len 0 ports)
+    all_marks =
+        let size = many in
+        let long = length-map-range_with_len told 0 ports in
+        same_lists marks (map told (range_with_len 0 ports)) (omega arith)
+        (λ k d inside.
+        let low : k < ports = omega arith in
+        get_or_default marks k d false inside
+        ∙ mark_is limits ports next came names are k low (stands k low) (get_or marks k false) (mark_there k low)
+        ∙ sym (get_or-map-range_with_len told 0 ports k k d low (omega arith)))
+
+    pub tallies_up : (x : Tally) → length limits ≡ ports → x.marks ≡ marks → x.refused ≡ refused →
+        TalliesUp limits next came names x
+    tallies_up x as_many own_marks own_counts =
+        record {
+          marks =
+              own_marks ∙ all_marks ∙ ap (λ (n : ℕ). map told (range_with_len 0 n)) (sym as_many);
+          refused = own_counts ∙ tallied_counts limits next came names ports are marks refused known;
+        }

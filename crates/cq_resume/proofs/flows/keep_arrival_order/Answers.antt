@@ -1,0 +1,39 @@
+use Rattle.std.proofs.Common.{◌*◌, ◌<◌, ◌≤◌, List, Option, inl, inr, sym, ap, ◌∙◌, subst, arith}
+use Rattle.cq_resume.specs.Finding.{IsNameBefore}
+use Rattle.cq_resume.specs.declared.found.Name.{Name}
+use Rattle.cq_resume.proofs.Chained.{weaker_pairs}
+use Rattle.cq_resume.proofs.Each.{all_at}
+use Rattle.cq_resume.proofs.Lanes.{Lanes, lanes_first, lanes_hold, lanes_next}
+use Rattle.cq_resume.proofs.Orders.{LeavesFirst, flow_of, flows_as_lanes, input_of, leaves_on, name_inputs, through}
+use Rattle.cq_resume.proofs.flows.keep_arrival_order.Goals.{then-begins+in_ok-none_seen, else-begins}
+use Rattle.cq_resume.proofs.flows.keep_arrival_order.Goals as goal
+
+pub places-init : goal.places-init
+places-init c =
+    subst (λ (l : List (Option Name)). Lanes input_of flow_of LeavesFirst c.args.names.now (c.args.ports * 16) 0 l)
+    (sym c.in_ok-last.ensures)
+    (lanes_first input_of flow_of LeavesFirst c.args.names.now (c.args.ports * 16))
+
+pub places-preserved : goal.places-preserved
+places-preserved c =
+    let inside = c.places-test.true in
+    let output = all_at (λ (n : Name). n.queued.cell.output < c.args.ports) c.args.names.now c.places.at _ (omega arith)
+    c.requires.outputs in
+    let class = all_at (λ (n : Name). n.queued.cell.class < 16) c.args.names.now c.places.at _ (omega arith)
+    c.requires.of_classes in
+    lanes_next input_of flow_of LeavesFirst c.args.names.now (c.args.ports * 16) c.places.at c.places.last.items
+    c.places.invariant _ (omega arith)
+    (weaker_pairs IsNameBefore (λ (a b : Name). input_of a ≤ input_of b) name_inputs c.args.names.now c.requires.ordered)
+    c.begins.result c.begins.ensures c.if-begins.last.items
+    (elim c.if-begins.branch [
+      | then-begins+in_ok-none_seen w ↦ inl (w.if-begins.true, ap (λ v. v.items) w.last-is ∙ w.in_ok-none_seen.ensures)
+      | else-begins w ↦ inr (w.if-begins.false, ap (λ v. v.items) w.last-is)
+    ])
+    (omega arith) c.may_leave.result c.may_leave.ensures leaves_on c.if-not-may_leave.false
+
+pub returns : goal.returns
+returns c =
+    let past = c.places-test.false in
+    through
+    (lanes_hold input_of flow_of LeavesFirst c.args.names.now (c.args.ports * 16) c.places.at c.places.last.items
+    c.places.invariant (omega arith)) (flows_as_lanes c.args.names.now c.requires.of_classes)

@@ -1,0 +1,7 @@
+use Rattle.std.proofs.Common.{◌*◌}
+use Rattle.cq_resume.proofs.Lanes.{Lanes}
+use Rattle.cq_resume.proofs.Orders.{LeavesFirst, flow_of, input_of}
+use Rattle.cq_resume.proofs.flows.keep_arrival_order.Given as goal
+
+abbrev pub invariant-places : goal.invariant-places
+invariant-places l = Lanes input_of flow_of LeavesFirst l.names (l.ports * 16) l.at l.last.items

@@ -1,0 +1,79 @@
+use Rattle.std.proofs.Common.{◌≡◌, ℕ, ◌+◌, Bool, List, [], length, sym, ap, ◌∙◌, subst, arith}
+use Rattle.cq_ideal.specs.declared.refused.Refused.{Refused}
+use Rattle.std.proofs.lemmas.List.{length-map, with_items_is}
+use Rattle.cq_ideal.specs.Limiter.{CanCount}
+use Rattle.cq_ideal.specs.Refused.{with_cells, with_refused}
+use Rattle.cq_resume.specs.Finding.{coming, unnamed}
+use Rattle.cq_resume.proofs.Adding.{Tallied, tallied_first, tallied_more, tally_fits}
+use Rattle.cq_resume.proofs.Upheld.{all_stand, packet_fails, tallies_up}
+use Rattle.cq_resume.proofs.Walking.{cells_in}
+use Rattle.cq_resume.proofs.packets.tally_packets.Goals as goal
+
+pub inputs-init : goal.inputs-init
+inputs-init c =
+    subst (λ (m : List Bool). Tallied c.args.limits.now c.args.next c.args.schedule.now.came c.args.names.now 0 m
+    c.in_ok-refused.refused.items) (sym c.new-marks.ensures.items)
+    (subst (λ (l : List Refused). Tallied c.args.limits.now c.args.next c.args.schedule.now.came c.args.names.now 0 [] l)
+    (sym c.in_ok-refused.ensures)
+    (tallied_first c.args.limits.now c.args.next c.args.schedule.now.came c.args.names.now))
+
+pub walk-requires-clause-room : goal.walk-requires-clause-room
+walk-requires-clause-room c =
+    let inside = c.inputs-test.true in
+    let many = c.requires.limits in
+    let few = c.total-total.ensures.few in
+    let size = c.total-total.ensures.cells in
+    subst (λ (l : List Refused). CanCount (length (coming c.inputs.input 0 c.args.next c.args.schedule.now.came)) l)
+    (sym c.deref_mut.ensures.value)
+    (tally_fits c.args.limits.now c.args.next c.args.schedule.now.came c.args.names.now c.args.schedule.now.ports
+    c.requires.packets c.inputs.input c.inputs.marks.items c.inputs.refused.items c.inputs.invariant (omega arith)
+    (omega arith))
+
+pub inputs-preserved : goal.inputs-preserved
+inputs-preserved c =
+    let inside = c.inputs-test.true in
+    let many = c.requires.limits in
+    let few = c.total-total.ensures.few in
+    let size = c.total-total.ensures.cells in
+    let left = cells_in (unnamed c.args.names.now (coming c.inputs.input 0 c.args.next c.args.schedule.now.came)) in
+    let counted : c.walk.new.refused ≡ with_refused left c.inputs.refused.items =
+    c.in-Some.ensures.refused ∙ ap (λ (l : List Refused). with_refused left l) c.deref_mut.ensures.value in
+    let same : length c.walk.new.refused ≡ length (with_refused left c.inputs.refused.items) =
+    ap (λ (l : List Refused). length l) counted in
+    let mapped = length-map c.inputs.refused.items (with_cells left) in
+    subst (λ (l : List Refused). Tallied c.args.limits.now c.args.next c.args.schedule.now.came c.args.names.now
+    (c.inputs.input + 1) c.push.new.self.items l)
+    (sym (with_items_is c.inputs.refused c.walk.new.refused (omega (arith, c.inputs.refused.ok.0))))
+    (tallied_more c.args.limits.now c.args.next c.args.schedule.now.came c.args.names.now c.args.schedule.now.ports
+    c.requires.packets c.inputs.input c.inputs.marks.items c.inputs.refused.items c.inputs.invariant (omega arith)
+    (omega arith) c.in-Some.mark c.push.new.self.items c.walk.new.refused (sym c.in-Some.is ∙ c.walk.ensures.mark)
+    counted c.in_ok-push-in-Some.ensures.items)
+
+pub returns-in-None-clause-none : goal.returns-in-None-clause-none
+returns-in-None-clause-none c stand =
+    let inside = c.inputs-test.true in
+    let many = c.requires.limits in
+    packet_fails c.args.limits.now c.args.next c.args.schedule.now.came c.args.names.now c.args.schedule.now.ports
+    c.requires.packets c.inputs.input (omega arith) (sym c.in-None.is ∙ c.walk.ensures.mark) stand
+
+pub returns-clause-stand : goal.returns-clause-stand
+returns-clause-stand c =
+    let past = c.inputs-test.false in
+    let most = c.inputs.auto.input-end in
+    let many = c.requires.limits in
+    let all : c.inputs.input ≡ c.args.schedule.now.ports = omega arith in
+    all_stand c.args.limits.now c.args.next c.args.schedule.now.came c.args.names.now c.args.schedule.now.ports
+    c.requires.packets c.inputs.marks.items c.inputs.refused.items
+    (subst (λ (n : ℕ). Tallied c.args.limits.now c.args.next c.args.schedule.now.came c.args.names.now n
+    c.inputs.marks.items c.inputs.refused.items) all c.inputs.invariant)
+
+pub returns-clause-tally : goal.returns-clause-tally
+returns-clause-tally c =
+    let past = c.inputs-test.false in
+    let most = c.inputs.auto.input-end in
+    let many = c.requires.limits in
+    let all : c.inputs.input ≡ c.args.schedule.now.ports = omega arith in
+    tallies_up c.args.limits.now c.args.next c.args.schedule.now.came c.args.names.now c.args.schedule.now.ports
+    c.requires.packets c.inputs.marks.items c.inputs.refused.items
+    (subst (λ (n : ℕ). Tallied c.args.limits.now c.args.next c.args.schedule.now.came c.args.names.now n
+    c.inputs.marks.items c.inputs.refused.items) all c.inputs.invariant) _ many c.of.ensures c.of-2.ensures

@@ -1,0 +1,24 @@
+use Rattle.std.proofs.Common.{arith}
+use Rattle.cq_resume.proofs.Scheduling.{schedule_known}
+use Rattle.cq_resume.proofs.read.read_state.Goals as goal
+
+pub has_shape-requires-clause-few : goal.has_shape-requires-clause-few
+has_shape-requires-clause-few c = let most = c.requires.tables.setup.classes in omega arith
+
+pub has_shape-requires-clause-told : goal.has_shape-requires-clause-told
+has_shape-requires-clause-told c = c.in_ok-state.ensures.read.0.outputs_told
+
+pub judge-requires-clause-ports : goal.judge-requires-clause-ports
+judge-requires-clause-ports c =
+    (schedule_known c.args.tables.now c.args.schedule.now c.requires.tables c.requires.schedule).ports
+
+pub judge-requires-clause-traffic : goal.judge-requires-clause-traffic
+judge-requires-clause-traffic c =
+    (schedule_known c.args.tables.now c.args.schedule.now c.requires.tables c.requires.schedule).traffic
+
+pub judge-requires-clause-packets : goal.judge-requires-clause-packets
+judge-requires-clause-packets c =
+    (schedule_known c.args.tables.now c.args.schedule.now c.requires.tables c.requires.schedule).packets
+
+pub judge-requires-clause-shape : goal.judge-requires-clause-shape
+judge-requires-clause-shape c = c.has_shape.ensures.0 c.if-not-has_shape.false

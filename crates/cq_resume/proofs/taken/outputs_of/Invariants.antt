@@ -1,0 +1,7 @@
+use Rattle.std.proofs.Common.{◌≡◌, map, take}
+use Rattle.std.specs.List.{range_with_len}
+use Rattle.cq_resume.specs.Counted.{output_told}
+use Rattle.cq_resume.proofs.taken.outputs_of.Given as goal
+
+abbrev pub invariant-sent : goal.invariant-sent
+invariant-sent l = l.outputs.items ≡ map (output_told (take l.at l.sent)) (range_with_len 0 l.ports)

@@ -1,0 +1,5 @@
+use Rattle.std.proofs.Common.{◌≡◌, take}
+use Rattle.cq_resume.proofs.write.all_numbers.Given as goal
+
+abbrev pub invariant-outputs : goal.invariant-outputs
+invariant-outputs l = l.copies.items ≡ take l.output l.ranks
