@@ -29,3 +29,5 @@ pub mod Departed
 pub mod Continued
 pub mod Joining
 pub mod Judged
+pub mod Pooled
+pub mod GoesOn
