@@ -48,7 +48,7 @@ total_most f g h a zero le = omega arith
 total_most f g h a (suc n) le = let here = le a in let rest = total_most f g h (a + 1) n le in omega arith
 
 -- from the next place on
-total_next : (f : ℕ → ℕ) (a b n : ℕ) → b ≡ suc a → total f b n ≡ total (λ i. f (suc i)) a n
+pub total_next : (f : ℕ → ℕ) (a b n : ℕ) → b ≡ suc a → total f b n ≡ total (λ i. f (suc i)) a n
 unfolding total
 total_next f a b zero e = refl
 total_next f a b (suc n) e =

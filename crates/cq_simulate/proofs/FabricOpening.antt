@@ -54,7 +54,7 @@ built_for M t fixed states limits first machines are same has fabric marks many 
 
 module _ (M : List ℕ → Machine) (t : Tables) (came : List Arrival) (ports : ℕ) (states : List (List ℕ))
     (first : EngineView) (built : IsBuiltFor M t ports states first) where
-  port_count : length first.fixed ≡ length t.setup.kinds
+  pub port_count : length first.fixed ≡ length t.setup.kinds
   port_count = machine_count M first.fixed t.setup built.machines
 
   pub ready_fabric : (sent : RoomView Departure) (note : RoomView Transfer) → IsSetup t.setup →
@@ -96,7 +96,7 @@ module _ (M : List ℕ → Machine) (t : Tables) (came : List Arrival) (ports : 
         note_room = omega arith;
       }
 
-  begun : states ≡ openings_of t.setup → marked_fabric first ≡ empty_limited_fabric (ports_of t.setup)
+  pub begun : states ≡ openings_of t.setup → marked_fabric first ≡ empty_limited_fabric (ports_of t.setup)
       (openings_of t.setup)
   begun openings =
       let state : first.fabric ≡ empty_fabric (length t.setup.kinds) (openings_of t.setup) =

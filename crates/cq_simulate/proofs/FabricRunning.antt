@@ -1,17 +1,17 @@
--- The run of the fabric, slot by slot. Beside it runs an ideal switch with which it agrees, so what is known of that one's
--- run holds here too: its slots do not end before its cells, its departures fit, it refuses the same cells, and its first
--- fault is the fabric's. The cells that the fabric holds, and those that are still to come, are no more than there is room
--- for: in each list, in each buffer, and in the list of transfers, as each admitted cell crosses once. While a cell waits one
--- leaves in each slot, so there are no more slots with proposals than cells; and a slot has no more than twice the number of
--- ports squared.
-use Rattle.std.proofs.Common.{take, ◌≡◌, ℕ, zero, suc, ◌+◌, ◌-◌, ◌*◌, ◌<◌, ◌≤◌, false, List, [], ◌∷◌, ◌++◌, length, map, replicate, Option, Ok, Err, refl, sym, ap, ◌∙◌, subst, ⊎_elim, arith, length-append}
-use Rattle.std.specs.Prelude.{sum}
-use Rattle.std.specs.List.{range_with_len}
+-- The run of the fabric from any slot on, slot by slot. At each slot the fabric agrees with an ideal switch, so what is known of one
+-- slot of that holds here too: its departures fit, it refuses the same cells, and a cell that waits leaves. The cells that the
+-- fabric holds, and those that are still to come, are no more than there is room for: in each list, in each buffer, and in the
+-- lists of departures and of transfers, as each admitted cell leaves once and crosses once. While a cell waits one leaves in each
+-- slot, so that the slots do not end before the cells, and there are no more slots with proposals than cells; and a slot has no more
+-- than twice the number of ports squared.
+use Rattle.std.proofs.Common.{take, ◌≡◌, ℕ, zero, suc, ◌+◌, ◌-◌, ◌*◌, ◌<◌, ◌≤◌, false, List, [], ◌∷◌, ◌++◌, length, map, Option, refl, sym, ap, ◌∙◌, subst, ⊎_elim, arith, length-append, Bool, true, append_assoc}
+use Rattle.std.specs.Prelude.{sum, fold, slice_index}
+use Rattle.std.specs.List.{range_with_len, flat_map}
 use Rattle.std.proofs.lemmas.Bool.{cases_lt}
-use Rattle.std.proofs.lemmas.List.{length-map, length-replicate, get_or_past, map-append, take_all, take-append-le}
-use Rattle.std.proofs.lemmas.List.FromFn.{length-map-range_with_len, get_or-map-range_with_len}
+use Rattle.std.proofs.lemmas.List.{length-map, get_or_past, map-append, take_all, take-append-le, append-nil}
+use Rattle.std.proofs.lemmas.List.FromFn.{map-range_with_len_more}
 use Rattle.cq_base.specs.Arrivals.{arrival_at}
-use Rattle.cq_base.specs.Arriving.{Arrival, arriving, end_of, enough, traffic_of}
+use Rattle.cq_base.specs.Arriving.{Arrival, arriving, end_of}
 use Rattle.cq_base.specs.Room.{RoomView}
 use Rattle.cq_base.specs.declared.cell.Cell.{Cell}
 use Rattle.cq_base.specs.declared.cell.Departure.{Departure}
@@ -19,49 +19,50 @@ use Rattle.cq_base.specs.declared.cell.Queued.{Queued}
 use Rattle.cq_base.specs.declared.cell.TagFault.{TagFault}
 use Rattle.cq_base.specs.declared.cell.Transfer.{Transfer}
 use Rattle.cq_base.specs.declared.figures.Figures.{Figures}
-use Rattle.cq_cells.specs.Traffic.{number_of, is_from, is_to}
 use Rattle.cq_engine.proofs.Kept.{limited_lists_kept, limited_outputs_kept}
 use Rattle.cq_engine.specs.Engine.{EngineView, SlotDone, marked_fabric, ports_of}
-use Rattle.cq_ideal.proofs.Ends.{all_slots, nothing_left}
+use Rattle.cq_ideal.proofs.Ends.{nothing_left}
 use Rattle.cq_ideal.proofs.FlowRank.{present}
 use Rattle.cq_ideal.proofs.FlowRun.{come_count}
-use Rattle.cq_ideal.proofs.FlowCount.{come_count-traffic_of}
-use Rattle.cq_ideal.proofs.Parted.{arriving_length}
-use Rattle.cq_ideal.proofs.Refusals.{counts_more, one_slot_more}
-use Rattle.cq_ideal.proofs.Waiting.{counted, waiting, total_none}
-use Rattle.cq_ideal.specs.Admission.{Admission, Marked, marks_down}
-use Rattle.cq_ideal.specs.Ending.{arriving_from, first_slots}
-use Rattle.cq_ideal.specs.Ideal.{IdealSwitch, marked_state}
-use Rattle.cq_ideal.specs.IdealRun.{departures_of, empty_ideal}
+use Rattle.cq_ideal.proofs.FlowCount.{none_after}
+use Rattle.cq_ideal.proofs.Parted.{arriving_length, arriving_here, arriving_parts}
+use Rattle.cq_ideal.proofs.Refusals.{one_slot_more}
+use Rattle.cq_ideal.proofs.Waiting.{counted, waiting, total}
+use Rattle.cq_ideal.specs.Admission.{Admission, Marked}
+use Rattle.cq_ideal.specs.Ending.{arriving_from}
+use Rattle.cq_ideal.specs.IdealRun.{departures_of}
 use Rattle.cq_ideal.specs.IdealSlot.{IdealState, departures_in}
-use Rattle.cq_ideal.specs.LimitedEnding.{departures_limited}
-use Rattle.cq_ideal.specs.LimitedIdeal.{LimitedSent, empty_limited, limited_run, limited_slot}
+use Rattle.cq_ideal.specs.LimitedIdeal.{LimitedSent}
 use Rattle.cq_ideal.specs.Ranking.{AreForPorts}
-use Rattle.cq_ideal.specs.Refused.{refused_counts, refused_in, with_refused}
-use Rattle.cq_laws.proofs.AddingUp.{figures_none, figures_more}
+use Rattle.cq_ideal.specs.Refused.{refused_in, with_refused}
 use Rattle.cq_laws.proofs.InputBest.{stable_limited_slot}
 use Rattle.cq_laws.proofs.Joined.{all_go_on}
-use Rattle.cq_laws.proofs.KeptParts.{departures_both, departures_one, transfers_both, transfers_one}
-use Rattle.cq_laws.proofs.LimitedSlots.{admission_for_ports, limited_ports_kept, same_limited_fault, same_limited_slot}
+use Rattle.cq_laws.proofs.KeptParts.{departures_one, transfers_both, transfers_one, departures_on}
+use Rattle.cq_laws.proofs.LimitedSlots.{admission_for_ports, limited_ports_kept, same_limited_slot}
 use Rattle.cq_laws.proofs.OneRun.{only_limited_run}
-use Rattle.cq_laws.proofs.WholeRuns.{empty_agree, empty_list, empty_together}
+use Rattle.cq_laws.proofs.WholeRuns.{empty_together}
 use Rattle.cq_laws.specs.Agreement.{Agrees}
-use Rattle.cq_laws.specs.Fabric.{Fabric, IsEmptyFabric, empty_fabric, input, buffer}
+use Rattle.cq_laws.specs.Fabric.{Fabric, IsEmptyFabric, input}
 use Rattle.cq_laws.specs.FabricSlot.{SlotRecord}
-use Rattle.cq_laws.specs.Holding.{fabric_held, held_for, waiting_for}
+use Rattle.cq_laws.specs.Holding.{fabric_held, held_for}
 use Rattle.cq_laws.specs.LimitedAgreement.{LimitedAgrees}
-use Rattle.cq_laws.specs.LimitedFabric.{IsLimitedFault, LimitedFabricRun, LimitedFabricSlot, LimitedRecord, admissions_in, slots_in}
-use Rattle.cq_laws.specs.Measures.{figures_of, figures_after, proposals_in}
+use Rattle.cq_laws.specs.LimitedFabric.{IsLimitedFault, LimitedFabricRun, LimitedFabricSlot, LimitedRecord, admissions_in, slots_in, LimitedFabricStops}
+use Rattle.cq_laws.specs.Measures.{figures_after, proposals_in}
 use Rattle.cq_laws.specs.Records.{gone_in, transfers_in, transfers_of_run}
 use Rattle.cq_prefs.specs.Pairing.{IsInputBest}
 use Rattle.cq_rank.specs.Machine.{Machine}
-use Rattle.cq_simulate.proofs.FabricCounts.{at_inputs, cross_few, none_proposed, proposed_few, square_few}
-use Rattle.cq_simulate.proofs.Running.{Running, of_admitted, running_first, running_next, running_fault, slot_left, come_here}
-use Rattle.cq_simulate.proofs.Steps.{whole_run}
-use Rattle.cq_simulate.specs.FabricReady.{HasRun, IsReadyFabric}
-use Rattle.cq_simulate.specs.Ready.{IsReady}
-use Rattle.cq_traffic.proofs.FromInputs.{arrives_found, come_from, first_more, from_here, no_more_from, some_one}
-use Rattle.cq_traffic.proofs.ToOutputs.{come_for, come_for-traffic_of, for_here}
+use Rattle.cq_simulate.proofs.FabricCounts.{at_inputs, cross_few, none_proposed, proposed_few, square_few, total_next}
+use Rattle.cq_simulate.proofs.Running.{of_admitted, come_here, fewer_left, none_come}
+use Rattle.std.proofs.lemmas.List.Sums.{fold-append, sum_by-cons}
+use Rattle.cq_ideal.proofs.Counting.{all_counted_both, none_counted}
+use Rattle.cq_laws.proofs.Held.{hold_as_many}
+use Rattle.cq_laws.proofs.IdealOf.{agrees_of}
+use Rattle.cq_laws.specs.Frozen.{IsSoundFabric, ideal_of}
+use Rattle.cq_prefs.specs.FirstCells.{list_of}
+use Rattle.cq_simulate.proofs.ToCome.{come_few, for_few, from_few}
+use Rattle.cq_simulate.specs.GoingOn.{HasRunOn, IsReadyOn, RanTo, StopsWithin, WentOn, to_come}
+use Rattle.cq_traffic.proofs.FromInputs.{arrives_found, come_from, from_here, some_one}
+use Rattle.cq_traffic.proofs.ToOutputs.{come_for, for_here}
 
 proposals_more : (x : Figures) (r : SlotRecord) → (figures_after x r).proposals ≡ x.proposals + sum (proposals_in r)
 unfolding figures_after
@@ -69,188 +70,139 @@ proposals_more x r = refl
 
 -- ## The loop
 
--- the ideal switch that runs beside the engine, with room for all cells
-unfoldable pub switch_of : List Arrival → EngineView → IdealSwitch
-switch_of came e =
-    record {
-      fixed = e.fixed;
-      limits = e.limits;
-      state = empty_ideal (ports_of e) e.fabric.ranks;
-      marks = marks_down (ports_of e);
-      refused = e.refused;
-      rooms = map (λ j. number_of (is_to j) came) (range_with_len 0 (ports_of e));
-      next = 0;
-      stopped = false;
-    }
+-- a slot by which a run from this slot on is over
+unfoldable pub over_by : List Arrival → ℕ → ℕ
+over_by came next = next + (end_of came - next) + length came
 
--- what is known before a slot, where so many slots are left
-pub record Crossing (ms : List Machine) (came : List Arrival) (first : EngineView) (first_sent : RoomView Departure)
-    (slot n : ℕ) (now : EngineView) (sent : RoomView Departure) (note : RoomView Transfer) : Type 0 where
-  pub switch : IdealSwitch
-  pub beside : Running ms came (switch_of came first) first_sent slot n switch sent
-  pub agrees : LimitedAgrees slot (marked_fabric now) (marked_state switch)
-  pub refuses : now.refused ≡ switch.refused
+pub over_by_is : (came : List Arrival) (next : ℕ) → over_by came next ≡ next + (end_of came - next) + length came
+unfolding over_by
+over_by_is came next = refl
+
+-- what is known before a slot, where so many slots are left. Of a run to its end (`whole`) that are enough slots, and it was not over
+-- before.
+pub record Crossing (whole : Bool) (ms : List Machine) (came : List Arrival) (first : EngineView)
+    (first_sent : RoomView Departure) (first_note : RoomView Transfer) (slot n : ℕ) (now : EngineView)
+    (sent : RoomView Departure) (note : RoomView Transfer) : Type 0 where
+  pub ideal : Marked IdealState
+  pub agrees : LimitedAgrees slot (marked_fabric now) ideal
   pub running : now.stopped ≡ false
   pub next : now.next ≡ slot
   pub fixed : now.fixed ≡ first.fixed
-  pub limits : now.limits ≡ first.limits
   pub from_inputs : now.from_inputs ≡ first.from_inputs
   pub to_outputs : now.to_outputs ≡ first.to_outputs
   pub ports : length now.fabric.inputs ≡ ports_of first
   pub records : List LimitedRecord
-  pub long : length records ≡ slot
-  pub runs : LimitedFabricRun IsInputBest first.limits ms 0 (first_slots came slot) (marked_fabric first) records
-      (marked_fabric now)
-  pub going : (m : ℕ) (f : Marked Fabric) → m < slot →
-      LimitedFabricRun IsInputBest first.limits ms 0 (first_slots came m) (marked_fabric first) (take m records) f →
-      end_of came ≤ m → IsEmptyFabric f.state → ⊥
-  pub departed : sent.items ≡ departures_of 0 (gone_in (slots_in records))
-  pub crossed : note.items ≡ transfers_of_run (slots_in records)
-  pub counts : now.figures ≡ figures_of (ports_of first) (slots_in records)
-  pub refused : now.refused ≡ refused_counts first.limits (refused_in (admissions_in records))
+  pub long : first.next + length records ≡ slot
+  pub went : WentOn ms came first now first_sent sent first_note note records
   pub lists : (i : ℕ) → i < ports_of first →
-      length (input now.fabric i) + come_from i came slot n ≤ number_of (is_from i) came
+      length (input now.fabric i) + come_from i came slot n ≤ slice_index first.from_inputs i
   pub buffers : (j : ℕ) → j < ports_of first →
-      held_for j now.fabric + come_for j (arriving_from came slot n) ≤ number_of (is_to j) came
+      held_for j now.fabric + come_for j (arriving_from came slot n) ≤ slice_index first.to_outputs j
+  pub spare : waiting ideal.state.lists + come_count (arriving_from came slot n) + ports_of first ≤ sent.spare
   pub room : at_inputs now.fabric (ports_of first) + come_count
       (arriving_from came slot n) + 2 * ports_of first ≤ note.spare
-  pub proposed : now.figures.proposals + 8192 * (waiting switch.state.lists + come_count
-      (arriving_from came slot n)) ≤ 8192 * length came
+  pub proposed : now.figures.proposals + 8192 * (waiting ideal.state.lists + come_count
+      (arriving_from came slot n)) ≤ first.figures.proposals + 8192 * length came
+  pub many : length (refused_in (admissions_in records)) + come_count (arriving_from came slot n) ≤ length
+      (to_come first.next came)
+  pub few : whole ≡ true → waiting ideal.state.lists + come_count (arriving_from came slot n) + (end_of came - slot) ≤ n
+  pub going : whole ≡ true → (m : ℕ) (f : Marked Fabric) → m < length records → RanTo ms came first m records f →
+      end_of came ≤ first.next + m → IsEmptyFabric f.state → ⊥
 
 -- ## Before the first slot
 
-ready_beside : (ms : List Machine) (came : List Arrival) (first : EngineView) (sent : RoomView Departure)
-    (note : RoomView Transfer) → IsReadyFabric ms came first sent note → IsReady ms came (switch_of came first) sent
-unfolding switch_of
-ready_beside ms came first sent note ready =
-    let f : ℕ → ℕ = λ j. number_of (is_to j) came in
-    let n = ports_of first in
-    let long = length-map-range_with_len f 0 n in
-    record {
-      running = refl;
-      next = refl;
-      ports = ready.ports;
-      traffic = ready.traffic;
-      short = ready.short;
-      state = refl;
-      lists = long;
-      rooms = λ j inside. get_or-map-range_with_len f 0 n j j 0 (omega arith) (omega arith);
-      marks = refl;
-      refused = ready.refused;
-      nothing = ready.nothing_sent;
-      spare = ready.sent_room;
-    }
-
-none_waiting_for : (j n : ℕ) → waiting_for j (replicate n []) ≡ 0
-none_waiting_for j zero = refl
-none_waiting_for j (suc n) = let rest = none_waiting_for j n in omega arith
-
-none_held : (n j : ℕ) (ranks : List (List ℕ)) → held_for j (empty_fabric n ranks) ≡ 0
-none_held n j ranks =
-    let none : length (buffer (empty_fabric n ranks) j) ≡ 0 = ap length (empty_list n j) in
-    let waits = none_waiting_for j n in
+waiting-sum : (lists : List (List Queued)) → waiting lists ≡ sum (map length lists)
+unfolding waiting
+waiting-sum [] = refl
+waiting-sum (cells ∷ lists) =
+    let rest = waiting-sum lists in
+    let more = sum_by-cons (λ (n : ℕ). n) (length cells) (map length lists) in
     omega arith
 
-none_at_inputs : (n m : ℕ) (ranks : List (List ℕ)) → at_inputs (empty_fabric n ranks) m ≡ 0
+-- as many cells wait in the ideal switch as the fabric holds
+pub all_wait : (slot : ℕ) (f : Fabric) (ideal : IdealState) → Agrees slot f ideal → waiting ideal.lists ≡ sum (fabric_held f)
+all_wait slot f ideal agrees = waiting-sum ideal.lists ∙ ap (λ (l : List ℕ). sum l) (sym (hold_as_many slot f ideal agrees))
+
+inputs_joined : (lists : List (List Queued)) →
+    total (λ i. length (list_of lists i)) 0 (length lists) ≡ length (flat_map (λ (cells : List Queued). cells) lists)
+unfolding total
+inputs_joined [] = refl
+inputs_joined (cells ∷ lists) =
+    let next : total (λ i. length (list_of (cells ∷ lists) i)) (0 + 1) (length lists) ≡ total
+    (λ i. length (list_of lists i)) 0 (length lists) =
+    total_next (λ i. length (list_of (cells ∷ lists) i)) 0 (0 + 1) (length lists) refl in
+    let rest = inputs_joined lists in
+    let both = length-append cells (flat_map (λ (l : List Queued). l) lists) in
+    omega arith
+
+pub all_at_inputs : (f : Fabric) (p : ℕ) → length f.inputs ≡ p →
+    at_inputs f p ≡ length (flat_map (λ (cells : List Queued). cells) f.inputs)
 unfolding at_inputs
-none_at_inputs n m ranks =
-    total_none (λ i. length (input (empty_fabric n ranks) i)) 0 m (λ i. ap length (empty_list n i))
+all_at_inputs f p same =
+    ap (λ (n : ℕ). total (λ i. length (input f i)) 0 n) (sym same) ∙ inputs_joined f.inputs
 
-none_waiting : (n : ℕ) → waiting (replicate n []) ≡ 0
-unfolding waiting
-none_waiting zero = refl
-none_waiting (suc n) = let rest = none_waiting n in omega arith
+-- where the engine goes on it agrees with the ideal switch of its cells
+abbrev ideal_at : EngineView → Marked IdealState
+ideal_at e = record { state = ideal_of e.fabric; marks = e.marks }
 
-none_beside : (came : List Arrival) (first : EngineView) → waiting (switch_of came first).state.lists ≡ 0
-unfolding switch_of
-none_beside came first = none_waiting (ports_of first)
+begins : (e : EngineView) → IsSoundFabric e.next e.fabric → LimitedAgrees e.next (marked_fabric e) (ideal_at e)
+begins e sound = record { states = agrees_of e.next e.fabric sound; marks = refl }
 
-begins : (came : List Arrival) (first : EngineView) → first.fabric ≡ empty_fabric (ports_of first) first.fabric.ranks →
-    first.marks ≡ marks_down (ports_of first) →
-    LimitedAgrees 0 (marked_fabric first) (marked_state (switch_of came first))
-unfolding switch_of
-begins came first fabric marks =
-    record {
-      states = subst (λ (f : Fabric). Agrees 0 f (empty_ideal (ports_of first) first.fabric.ranks)) (sym fabric)
-          (empty_agree (ports_of first) first.fabric.ranks);
-      marks = marks;
-    }
-
-refuses_first : (came : List Arrival) (first : EngineView) → first.refused ≡ (switch_of came first).refused
-unfolding switch_of
-refuses_first came first = refl
-
--- what an ideal switch of the same limits does, the one beside does
-as_beside : (came : List Arrival) (first : EngineView) (ms : List Machine) (slot : ℕ) (cells : List (Option Cell))
-    (state : Marked IdealState) (sent : LimitedSent) → limited_slot first.limits ms slot cells state ≡ Ok sent →
-    limited_slot (switch_of came first).limits ms slot cells state ≡ Ok sent
-unfolding switch_of
-as_beside came first ms slot cells state sent is = is
-
-starts : (limits : List (Option ℕ)) (ms : List Machine) (came : List Arrival) (f : Marked Fabric) →
-    LimitedFabricRun IsInputBest limits ms 0 (first_slots came 0) f [] f
+starts : (limits : List (Option ℕ)) (ms : List Machine) (came : List Arrival) (slot : ℕ) (f : Marked Fabric) →
+    LimitedFabricRun IsInputBest limits ms slot (arriving_from came slot 0) f [] f
 unfolding arriving_from
-starts limits ms came f = refl
+starts limits ms came slot f = refl
 
-none_departed : departures_of 0 (gone_in []) ≡ []
+none_departed : (slot : ℕ) → departures_of slot (gone_in []) ≡ []
 unfolding departures_of
-none_departed = refl
+none_departed slot = refl
 
 none_crossed : transfers_of_run [] ≡ []
 unfolding transfers_of_run
 none_crossed = refl
 
-pub crossing_first : (ms : List Machine) (came : List Arrival) (first : EngineView) (sent : RoomView Departure)
-    (note : RoomView Transfer) → IsReadyFabric ms came first sent note →
-    Crossing ms came first sent 0 (enough came) first sent note
-crossing_first ms came first sent note ready =
+pub crossing_first : (whole : Bool) (ms : List Machine) (came : List Arrival) (first : EngineView)
+    (sent : RoomView Departure) (note : RoomView Transfer) (n : ℕ) → IsReadyOn ms came first sent note →
+    (whole ≡ true → first.next + n ≡ over_by came first.next) →
+    Crossing whole ms came first sent note first.next n first sent note
+crossing_first whole ms came first sent note n ready slots =
     let p = ports_of first in
-    let ranks = first.fabric.ranks in
-    let come : come_count (arriving_from came 0 (enough came)) ≤ length came =
-    subst (λ (l : List (List (Option Cell))).
-    come_count l ≤ length came) (sym (all_slots came)) (come_count-traffic_of came) in
-    let none : waiting (switch_of came first).state.lists ≡ 0 = none_beside came first in
-    let nil : List Queued = [] in
+    let come = come_few first.next n came in
+    let wait : waiting (ideal_of first.fabric).lists ≡ sum (fabric_held first.fabric) =
+    all_wait first.next first.fabric (ideal_of first.fabric) (agrees_of first.next first.fabric ready.sound) in
+    let cells = ready.cells in
     record {
-      switch = switch_of came first;
-      beside = running_first ms came (switch_of came first) sent (ready_beside ms came first sent note ready);
-      agrees = begins came first ready.fabric ready.marks;
-      refuses = refuses_first came first;
+      ideal = ideal_at first;
+      agrees = begins first ready.sound;
       running = ready.running;
-      next = ready.next;
+      next = refl;
       fixed = refl;
-      limits = refl;
       from_inputs = refl;
       to_outputs = refl;
-      ports = ap (λ (f : Fabric). length f.inputs) ready.fabric ∙ length-replicate p nil;
+      ports = ready.inputs;
       records = [];
-      long = refl;
-      runs = starts first.limits ms came (marked_fabric first);
-      going = λ m f before run le empty. omega arith;
-      departed = ready.nothing_sent ∙ sym none_departed;
-      crossed = ready.nothing_noted ∙ sym none_crossed;
-      counts = ready.figures ∙ sym (figures_none p);
-      refused = ready.refused;
-      lists = λ i inside.
-          let empty : length (input first.fabric i) ≡ 0 = ap (λ (f : Fabric). length (input f i)) ready.fabric
-          ∙ ap length (empty_list p i) in
-          let from = no_more_from i came (enough came) in
-          omega arith;
-      buffers = λ j inside.
-          let empty : held_for j first.fabric ≡ 0 = ap (λ (f : Fabric). held_for j f) ready.fabric
-          ∙ none_held p j ranks in
-          let to : come_for j (arriving_from came 0 (enough came)) ≤ number_of (is_to j) came =
-          subst (λ (l : List (List (Option Cell))).
-          come_for j l ≤ number_of (is_to j) came) (sym (all_slots came)) (come_for-traffic_of j came) in
-          omega arith;
+      long = omega arith;
+      went = record {
+        runs = starts first.limits ms came first.next (marked_fabric first);
+        departed =
+            sym (append-nil sent.items) ∙ ap (λ (l : List Departure). sent.items ++ l) (sym (none_departed first.next));
+        crossed = sym (append-nil note.items) ∙ ap (λ (l : List Transfer). note.items ++ l) (sym none_crossed);
+        counted = refl;
+        refused = sym (none_counted first.refused);
+        limits = refl;
+        running = ready.running;
+      };
+      lists = λ i inside. let had = ready.lists i inside in let from = from_few i first.next n came in omega arith;
+      buffers = λ j inside. let had = ready.buffers j inside in let to = for_few j first.next n came in omega arith;
+      spare = let had = ready.sent_room in omega arith;
       room =
-          let empty : at_inputs first.fabric p ≡ 0 = ap (λ (f : Fabric). at_inputs f p) ready.fabric
-          ∙ none_at_inputs p p ranks in
-          let spare : note.spare ≡ length came + 2 * p = ready.note_room in
+          let had = ready.note_room in
+          let at = all_at_inputs first.fabric p ready.inputs in
           omega arith;
-      proposed =
-          let nothing : first.figures.proposals ≡ 0 = ap (λ (x : Figures). x.proposals) ready.figures in
-          omega arith;
+      proposed = omega arith;
+      many = omega arith;
+      few = λ is. let all = slots is in let over = over_by_is came first.next in omega arith;
+      going = λ is m f before run late empty. omega arith;
     }
 
 -- ## A slot
@@ -271,50 +223,71 @@ refused_more rs r =
     ap (λ (l : List Admission). refused_in l) (map-append (λ (r : LimitedRecord). r.admission) rs (r ∷ []))
     ∙ one_slot_more (admissions_in rs) r.admission
 
-module _ (ms : List Machine) (came : List Arrival) (first : EngineView) (first_sent : RoomView Departure) where
-  -- the first slots of the run are these records
+-- the slots so far and one more
+next_slots : (came : List Arrival) (a n slot k : ℕ) → a + n ≡ slot → k ≡ n + 1 →
+    arriving_from came a n ++ arriving came slot ∷ [] ≡ arriving_from came a k
+unfolding arriving_from
+next_slots came a n slot k at more =
+    sym (map-range_with_len_more (arriving came) a n slot at)
+    ∙ ap (λ (m : ℕ). map (arriving came) (range_with_len a m)) (sym more)
+
+-- those that are left, this one first
+slots_left : (came : List Arrival) (a n slot j k : ℕ) → a + n ≡ slot → k ≡ n + suc j →
+    arriving_from came a n ++ arriving came slot ∷ arriving_from came (slot + 1) j ≡ arriving_from came a k
+slots_left came a n slot j k at long =
+    ap (λ (l : List (List (Option Cell))). arriving_from came a n ++ l) (sym (arriving_here came slot j))
+    ∙ arriving_parts came a slot n (suc j) k (sym at) long
+
+module _ (whole : Bool) (ms : List Machine) (came : List Arrival) (first : EngineView) (first_sent : RoomView Departure)
+    (first_note : RoomView Transfer) where
+  -- these slots of the run are these records
   abbrev Ran : ℕ → List LimitedRecord → Marked Fabric → Type 0
-  Ran m rs f = LimitedFabricRun IsInputBest first.limits ms 0 (first_slots came m) (marked_fabric first) rs f
+  Ran m rs f =
+      LimitedFabricRun IsInputBest first.limits ms first.next (arriving_from came first.next m) (marked_fabric first) rs f
 
   empty_beside : (slot : ℕ) (f : Marked Fabric) (ideal : Marked IdealState) → LimitedAgrees slot f ideal →
       waiting ideal.state.lists ≡ 0 → IsEmptyFabric f.state
   empty_beside slot f ideal agrees none =
       (empty_together slot f.state ideal.state agrees.states).1 (nothing_left ideal.state.lists none)
 
+  -- where a cell is still to come or waits, a slot is left
   pub crossing_left : (slot n : ℕ) (now : EngineView) (sent : RoomView Departure) (note : RoomView Transfer) →
-      Crossing ms came first first_sent slot n now sent note → (end_of came ≤ slot → IsEmptyFabric now.fabric → ⊥) →
-      0 < n
-  crossing_left slot n now sent note c more =
-      slot_left ms came (switch_of came first) first_sent slot n c.switch sent c.beside (λ le none.
-      more le (empty_beside slot (marked_fabric now) (marked_state c.switch) c.agrees none))
+      Crossing whole ms came first first_sent first_note slot n now sent note → whole ≡ true →
+      (end_of came ≤ slot → IsEmptyFabric now.fabric → ⊥) → 0 < n
+  crossing_left slot zero now sent note c is more =
+      let few : waiting c.ideal.state.lists + come_count (arriving_from came slot zero) + (end_of came - slot) ≤ 0 =
+      c.few is in
+      absurd (more (omega arith) (empty_beside slot (marked_fabric now) c.ideal c.agrees (omega arith)))
+  crossing_left slot (suc n) now sent note c is more = omega arith
 
   -- the run is not over before a slot, or at it
   not_before : (slot n : ℕ) (now : EngineView) (sent : RoomView Departure) (note : RoomView Transfer)
-      (c : Crossing ms came first first_sent slot n now sent note) → (end_of came ≤ slot → IsEmptyFabric now.fabric →
-      ⊥) → (m : ℕ) (f : Marked Fabric) → m ≤ slot → Ran m (take m c.records) f → end_of came ≤ m →
-      IsEmptyFabric f.state → ⊥
-  not_before slot n now sent note c more m f le run late empty =
+      (c : Crossing whole ms came first first_sent first_note slot n now sent note) → whole ≡ true →
+      (end_of came ≤ slot → IsEmptyFabric now.fabric → ⊥) → (m : ℕ) (f : Marked Fabric) → m ≤ length c.records →
+      RanTo ms came first m c.records f → end_of came ≤ first.next + m → IsEmptyFabric f.state → ⊥
+  not_before slot n now sent note c is more m f le run late empty =
       ⊎_elim
-      (λ (before : m < slot). c.going m f before run late empty)
-      (λ (now_or_later : slot ≤ m).
-      let at : m ≡ slot = omega arith in
-      let many : length c.records ≡ slot = c.long in
-      let whole : take m c.records ≡ c.records = take_all m c.records (omega arith) in
-      let here : Ran slot c.records f =
-      subst (λ (k : ℕ). Ran k c.records f) at (subst (λ (l : List LimitedRecord). Ran m l f) whole run) in
-      let same = ((only_limited_run ms first.limits).run 0 (first_slots came slot) (marked_fabric first) f
-      (marked_fabric now) c.records c.records here c.runs).1 in
+      (λ (before : m < length c.records). c.going is m f before run late empty)
+      (λ (now_or_later : length c.records ≤ m).
+      let at : m ≡ length c.records = omega arith in
+      let long = c.long in
+      let all : take m c.records ≡ c.records = take_all m c.records now_or_later in
+      let here : Ran (length c.records) c.records f =
+      subst (λ (k : ℕ). Ran k c.records f) at (subst (λ (l : List LimitedRecord). Ran m l f) all run) in
+      let same = ((only_limited_run ms first.limits).run first.next (arriving_from came first.next (length c.records))
+      (marked_fabric first) f (marked_fabric now) c.records c.records here c.went.runs).1 in
       more (omega arith) (subst (λ (g : Marked Fabric). IsEmptyFabric g.state) same empty))
-      (cases_lt m slot)
+      (cases_lt m (length c.records))
 
   pub crossing_next : (slot n : ℕ) (now : EngineView) (sent : RoomView Departure) (note : RoomView Transfer)
       (after : EngineView) (sent_new : RoomView Departure) (note_new : RoomView Transfer) (classes : ℕ) →
-      Crossing ms came first first_sent slot (suc n) now sent note → (end_of came ≤ slot → IsEmptyFabric now.fabric →
-      ⊥) → ports_of first ≤ 64 → AreForPorts (ports_of first) classes (arriving came slot) →
+      Crossing whole ms came first first_sent first_note slot (suc n) now sent note →
+      (whole ≡ true → end_of came ≤ slot → IsEmptyFabric now.fabric → ⊥) → ports_of first ≤ 64 →
+      AreForPorts (ports_of first) classes (arriving came slot) →
       SlotDone ms slot (arriving came slot) now after sent sent_new note note_new → after.stopped ≡ false →
       after.next ≡ slot + 1 → after.fixed ≡ now.fixed → after.limits ≡ now.limits →
       after.from_inputs ≡ now.from_inputs → after.to_outputs ≡ now.to_outputs →
-      Crossing ms came first first_sent (slot + 1) n after sent_new note_new
+      Crossing whole ms came first first_sent first_note (slot + 1) n after sent_new note_new
   crossing_next slot n now sent note after sent_new note_new classes c more few for_ports done running next fixed
       limits from_inputs to_outputs =
       let cells = arriving came slot in
@@ -324,83 +297,77 @@ module _ (ms : List Machine) (came : List Arrival) (first : EngineView) (first_s
       let r = done.record_of in
       let gone = departures_in slot r.of_slot.gone in
       let admitted = r.admission.cells in
-      let ideal = marked_state c.switch in
+      let ideal = c.ideal in
       let step : LimitedFabricSlot IsInputBest first.limits ms slot cells f r g =
-      subst (λ (l : List (Option ℕ)). LimitedFabricSlot IsInputBest l ms slot cells f r g) c.limits done.is_slot in
+      subst (λ (l : List (Option ℕ)). LimitedFabricSlot IsInputBest l ms slot cells f r g) c.went.limits done.is_slot in
       let stable = stable_limited_slot ms first.limits slot cells f g r step in
       let come : AreForPorts (length now.fabric.inputs) classes cells =
       subst (λ (k : ℕ). AreForPorts k classes cells) (sym c.ports) for_ports in
       let alike = same_limited_slot first.limits ms slot classes cells f g ideal r c.agrees come stable in
       let of_slot : LimitedSent =
       record { admission = r.admission; gone = r.of_slot.gone; after = alike.next } in
-      let switch : IdealSwitch = record {
-        fixed = c.switch.fixed;
-        limits = c.switch.limits;
-        state = alike.next.state;
-        marks = alike.next.marks;
-        refused = after.refused;
-        rooms = c.switch.rooms;
-        next =
-            slot + 1;
-        stopped = false;
-      } in
       let here = come_here came slot n in
       let o = of_admitted first.limits ms slot cells ideal of_slot alike.sent in
+      let k = counted ms slot admitted ideal.state o.sent o.ran in
       let once : length (present admitted) + length r.admission.refused ≡ length (present cells) = o.once_each.all in
+      let waits : waiting alike.next.state.lists ≡ waiting o.sent.after.lists =
+      ap (λ (s : IdealState). waiting s.lists) o.after in
+      let fewer : waiting o.sent.after.lists ≤ waiting ideal.state.lists + length (present admitted) - 1 = k.fewer in
       let one_more = slots_more c.records r in
+      let long : first.next + length c.records ≡ slot = c.long in
+      let both = length-append c.records (r ∷ []) in
       record {
-        switch = switch;
-        beside = running_next ms came
-            (switch_of came first) first_sent slot n c.switch sent switch sent_new of_slot c.beside
-            (as_beside came first ms slot cells ideal of_slot alike.sent) refl
-            (done.refused ∙ ap (with_refused r.admission.refused) c.refuses)
-            (record { items = done.departed; spare = done.departed_room }) refl refl refl refl refl;
+        ideal = alike.next;
         agrees = alike.agrees;
-        refuses = refl;
         running = running;
         next = next;
         fixed = fixed ∙ c.fixed;
-        limits = limits ∙ c.limits;
         from_inputs = from_inputs ∙ c.from_inputs;
         to_outputs = to_outputs ∙ c.to_outputs;
         ports = limited_ports_kept first.limits ms slot classes cells f g ideal r c.agrees come stable ∙ c.ports;
         records = c.records ++ r ∷ [];
-        long = let both = length-append c.records (r ∷ []) in let had : length c.records ≡ slot = c.long in
-            omega arith;
-        runs =
-            let long = arriving_length came 0 slot in
-            let at : slot ≡ 0 + length (first_slots came slot) = omega arith in
-            subst (λ (l : List (List (Option Cell))).
-            LimitedFabricRun IsInputBest first.limits ms 0 l (marked_fabric first) (c.records ++ r ∷ []) g)
-            (sym (first_more came slot))
-            ((all_go_on (LimitedFabricSlot IsInputBest first.limits ms) (IsLimitedFault first.limits ms)).slot 0
-            (first_slots came slot) cells (marked_fabric first) f g c.records r c.runs
-            (subst (λ (k : ℕ). LimitedFabricSlot IsInputBest first.limits ms k cells f r g) at step));
-        going = λ m h before run le empty.
-            let many : length c.records ≡ slot = c.long in
-            let same : take m (c.records ++ r ∷ []) ≡ take m c.records =
-            take-append-le m c.records (r ∷ []) (omega arith) in
-            not_before slot (suc n) now sent note c more m h (omega arith)
-            (subst (λ (l : List LimitedRecord). Ran m l h) same run) le empty;
-        departed =
-            let long = length-map c.records (λ (r : LimitedRecord). r.of_slot) ∙ c.long in
-            done.departed
-            ∙ ap (λ (l : List Departure). l ++ gone) c.departed
-            ∙ ap (λ (l : List Departure). departures_of 0 (gone_in (slots_in c.records)) ++ l)
-            (sym (departures_one slot r.of_slot))
-            ∙ sym (departures_both (slots_in c.records) (r.of_slot ∷ []) slot long)
-            ∙ ap (λ (l : List SlotRecord). departures_of 0 (gone_in l)) (sym one_more);
-        crossed =
-            done.crossed
-            ∙ ap (λ (l : List Transfer). l ++ transfers_in r.of_slot) c.crossed
-            ∙ ap (λ (l : List Transfer). transfers_of_run (slots_in c.records) ++ l) (sym (transfers_one r.of_slot))
-            ∙ sym (transfers_both (slots_in c.records) (r.of_slot ∷ []))
-            ∙ ap transfers_of_run (sym one_more);
-        counts = done.counted ∙ ap (λ (x : Figures). figures_after x r.of_slot) c.counts
-            ∙ sym (figures_more p (slots_in c.records) r.of_slot) ∙ ap (figures_of p) (sym one_more);
-        refused = done.refused ∙ ap (with_refused r.admission.refused) c.refused
-            ∙ sym (counts_more first.limits (refused_in (admissions_in c.records)) r.admission.refused)
-            ∙ ap (refused_counts first.limits) (sym (refused_more c.records r));
+        long = omega arith;
+        went = record {
+          runs =
+              let so_far = arriving_length came first.next (length c.records) in
+              let at : slot ≡ first.next + length (arriving_from came first.next (length c.records)) = omega arith in
+              subst (λ (l : List (List (Option Cell))).
+              LimitedFabricRun IsInputBest first.limits ms first.next l (marked_fabric first) (c.records ++ r ∷ []) g)
+              (next_slots came first.next (length c.records) slot (length (c.records ++ r ∷ [])) long (omega arith))
+              ((all_go_on (LimitedFabricSlot IsInputBest first.limits ms) (IsLimitedFault first.limits ms)).slot first.next
+              (arriving_from came first.next (length c.records)) cells (marked_fabric first) f g c.records r c.went.runs
+              (subst (λ (k : ℕ). LimitedFabricSlot IsInputBest first.limits ms k cells f r g) at step));
+          departed =
+              let seen = length-map c.records (λ (r : LimitedRecord). r.of_slot) in
+              done.departed
+              ∙ ap (λ (l : List Departure). l ++ gone) c.went.departed
+              ∙ append_assoc first_sent.items (departures_of first.next (gone_in (slots_in c.records))) gone
+              ∙ ap (λ (l : List Departure). first_sent.items ++ l)
+              (ap (λ (l : List Departure). departures_of first.next (gone_in (slots_in c.records)) ++ l)
+              (sym (departures_one slot r.of_slot))
+              ∙ sym (departures_on (slots_in c.records) (r.of_slot ∷ []) first.next slot (omega arith))
+              ∙ ap (λ (l : List SlotRecord). departures_of first.next (gone_in l)) (sym one_more));
+          crossed =
+              done.crossed
+              ∙ ap (λ (l : List Transfer). l ++ transfers_in r.of_slot) c.went.crossed
+              ∙ append_assoc first_note.items (transfers_of_run (slots_in c.records)) (transfers_in r.of_slot)
+              ∙ ap (λ (l : List Transfer). first_note.items ++ l)
+              (ap (λ (l : List Transfer). transfers_of_run (slots_in c.records) ++ l) (sym (transfers_one r.of_slot))
+              ∙ sym (transfers_both (slots_in c.records) (r.of_slot ∷ []))
+              ∙ ap transfers_of_run (sym one_more));
+          counted =
+              done.counted
+              ∙ ap (λ (x : Figures). figures_after x r.of_slot) c.went.counted
+              ∙ sym (fold-append figures_after first.figures (slots_in c.records) (r.of_slot ∷ []))
+              ∙ ap (λ (l : List SlotRecord). fold figures_after first.figures l) (sym one_more);
+          refused =
+              done.refused
+              ∙ ap (with_refused r.admission.refused) c.went.refused
+              ∙ sym (all_counted_both (refused_in (admissions_in c.records)) r.admission.refused first.refused)
+              ∙ ap (λ (l : List Cell). with_refused l first.refused) (sym (refused_more c.records r));
+          limits = limits ∙ c.went.limits;
+          running = running;
+        };
         lists = λ i inside.
             let had = c.lists i inside in
             let from = from_here i came slot n in
@@ -413,6 +380,15 @@ module _ (ms : List Machine) (came : List Arrival) (first : EngineView) (first_s
             let to = for_here j came slot n in
             let kept = limited_outputs_kept first.limits ms slot cells f g r step j in
             omega arith;
+        spare =
+            let had : waiting ideal.state.lists + come_count (arriving_from came slot (suc n)) + p ≤ sent.spare =
+            c.spare in
+            let all : length (departures_in slot o.sent.gone) + waiting o.sent.after.lists ≤ waiting ideal.state.lists +
+            length (present admitted) = k.all in
+            let same : length gone ≡ length (departures_in slot o.sent.gone) =
+            ap (λ (l : List (Option Queued)). length (departures_in slot l)) o.gone in
+            let left : sent_new.spare + length gone ≡ sent.spare = done.departed_room in
+            omega arith;
         room =
             let had : at_inputs f.state p + come_count (arriving_from came slot (suc n)) + 2 * p ≤ note.spare =
             c.room in
@@ -420,65 +396,78 @@ module _ (ms : List Machine) (came : List Arrival) (first : EngineView) (first_s
             let left : note_new.spare + length (transfers_in r.of_slot) ≡ note.spare = done.crossed_room in
             omega arith;
         proposed =
-            let had : now.figures.proposals + 8192 * (waiting c.switch.state.lists + come_count
-            (arriving_from came slot (suc n))) ≤ 8192 * length came = c.proposed in
+            let had : now.figures.proposals + 8192 * (waiting ideal.state.lists + come_count
+            (arriving_from came slot (suc n))) ≤ first.figures.proposals + 8192 * length came = c.proposed in
             let more : after.figures.proposals ≡ now.figures.proposals + sum (proposals_in r.of_slot) =
             ap (λ (x : Figures). x.proposals) done.counted ∙ proposals_more now.figures r.of_slot in
-            let waits : waiting alike.next.state.lists ≡ waiting o.sent.after.lists =
-            ap (λ (s : IdealState). waiting s.lists) o.after in
-            let fewer : waiting o.sent.after.lists ≤ waiting c.switch.state.lists + length (present admitted) - 1 =
-            (counted ms slot admitted c.switch.state o.sent o.ran).fewer in
             let inputs : length now.fabric.inputs ≡ p = c.ports in
             let square = square_few (length now.fabric.inputs) (omega arith) in
-            let most = proposed_few ms slot admitted f.state g.state r.of_slot step.runs classes c.switch.state
+            let most = proposed_few ms slot admitted f.state g.state r.of_slot step.runs classes ideal.state
             c.agrees.states (subst (λ (a : Admission). AreForPorts (length now.fabric.inputs) classes a.cells)
             (sym step.admits) (admission_for_ports first.limits (fabric_held now.fabric) now.marks cells
             (length now.fabric.inputs) classes come)) in
             ⊎_elim
-            (λ (some : 0 < waiting c.switch.state.lists + length (present admitted)). omega arith)
-            (λ (none : waiting c.switch.state.lists + length (present admitted) ≤ 0).
+            (λ (some : 0 < waiting ideal.state.lists + length (present admitted)). omega arith)
+            (λ (none : waiting ideal.state.lists + length (present admitted) ≤ 0).
             let quiet = none_proposed ms slot admitted f.state g.state r.of_slot step.runs
             (none_at f.state (empty_beside slot f ideal c.agrees (omega arith))) (omega arith) in
             omega arith)
-            (cases_lt 0 (waiting c.switch.state.lists + length (present admitted)));
+            (cases_lt 0 (waiting ideal.state.lists + length (present admitted)));
+        many =
+            let had : length (refused_in (admissions_in c.records)) + come_count (arriving_from came slot (suc n)) ≤
+            length (to_come first.next came) = c.many in
+            let all = ap (λ (l : List Cell). length l) (refused_more c.records r)
+            ∙ length-append (refused_in (admissions_in c.records)) r.admission.refused in
+            omega arith;
+        few = λ is.
+            let had : waiting ideal.state.lists + come_count (arriving_from came slot (suc n)) + (end_of came - slot) ≤
+            suc n = c.few is in
+            fewer_left (waiting ideal.state.lists) (waiting alike.next.state.lists) (length (present cells))
+            (come_count (arriving_from came (slot + 1) n)) (end_of came) slot n (omega arith) (omega arith)
+            (λ le. none_after came slot le) (λ le. none_come came n (slot + 1) le);
+        going = λ is m h before run le empty.
+            let same : take m (c.records ++ r ∷ []) ≡ take m c.records =
+            take-append-le m c.records (r ∷ []) (omega arith) in
+            not_before slot (suc n) now sent note c is (more is) m h (omega arith)
+            (subst (λ (l : List LimitedRecord). Ran m l h) same run) le empty;
       }
 
   -- ## The end of the loop
 
   pub crossing_over : (slot n : ℕ) (now : EngineView) (sent : RoomView Departure) (note : RoomView Transfer) →
-      Crossing ms came first first_sent slot n now sent note → end_of came ≤ slot → IsEmptyFabric now.fabric →
-      HasRun ms came first now sent note
-  crossing_over slot n now sent note c le empty =
-      let many : length c.records ≡ slot = c.long in
+      Crossing whole ms came first first_sent first_note slot n now sent note → whole ≡ true → end_of came ≤ slot →
+      IsEmptyFabric now.fabric → HasRunOn ms came first now first_sent sent first_note note
+  crossing_over slot n now sent note c is late empty =
+      let long : first.next + length c.records ≡ slot = c.long in
       record {
         records = c.records;
-        end = marked_fabric now;
-        runs = record {
-          after =
-              subst (λ (k : ℕ). Ran k (take k c.records) (marked_fabric now)) (sym many)
-              (subst (λ (l : List LimitedRecord). Ran slot l (marked_fabric now))
-              (sym (take_all slot c.records (omega arith))) c.runs);
-          all_came = omega arith;
-          empty = empty;
-          first = λ m f run late none.
-              ⊎_elim (λ (before : m < slot). absurd (c.going m f before run late none)) (λ (ge : slot ≤ m).
-              omega arith) (cases_lt m slot);
-        };
-        departed = c.departed;
-        crossed = c.crossed;
-        counted = c.counts;
-        refused = c.refused;
+        went = c.went;
+        all_came = omega arith;
+        empty = empty;
+        first = λ m f run le none.
+            ⊎_elim (λ (before : m < length c.records). absurd (c.going is m f before run le none)) (λ ge. ge)
+            (cases_lt m (length c.records));
       }
 
-  -- the first fault of the ideal switch beside it
+  -- a tag fault at the next slot stops the run, whatever comes behind it
   pub crossing_fault : (slot n : ℕ) (now : EngineView) (sent : RoomView Departure) (note : RoomView Transfer)
-      (fault : TagFault) → Crossing ms came first first_sent slot (suc n) now sent note →
+      (fault : TagFault) (j count : ℕ) → Crossing whole ms came first first_sent first_note slot n now sent note →
+      slot + suc j ≡ first.next + count →
       IsLimitedFault first.limits ms slot (arriving came slot) (marked_fabric now) fault →
-      departures_limited (limited_run first.limits ms 0 (traffic_of came)
-      (empty_limited (ports_of first) first.fabric.ranks)) ≡ Err fault
-  unfolding switch_of
-  crossing_fault slot n now sent note fault c is =
-      whole_run first.limits ms came (empty_limited (ports_of first) first.fabric.ranks)
-      ∙ running_fault ms came (switch_of came first) first_sent slot n c.switch sent fault c.beside
-      ((same_limited_fault first.limits ms slot (arriving came slot) (marked_fabric now) (marked_state c.switch) fault
-      c.agrees).1 is)
+      StopsWithin ms came first count fault
+  crossing_fault slot n now sent note fault j count c long is =
+      let before = arriving_from came first.next (length c.records) in
+      let later = arriving_from came (slot + 1) j in
+      let so_far = arriving_length came first.next (length c.records) in
+      let had : first.next + length c.records ≡ slot = c.long in
+      let at : slot ≡ first.next + length before = omega arith in
+      record {
+        records = c.records ++ [];
+        stops =
+            subst (λ (l : List (List (Option Cell))).
+            LimitedFabricStops IsInputBest first.limits ms first.next l (marked_fabric first) (c.records ++ []) fault)
+            (slots_left came first.next (length c.records) slot j count had (omega arith))
+            ((all_go_on (LimitedFabricSlot IsInputBest first.limits ms) (IsLimitedFault first.limits ms)).stop first.next
+            before (arriving came slot ∷ later) (marked_fabric first) (marked_fabric now) c.records [] fault c.went.runs
+            (subst (λ (k : ℕ). IsLimitedFault first.limits ms k (arriving came slot) (marked_fabric now) fault) at is));
+      }

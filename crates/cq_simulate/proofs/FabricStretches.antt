@@ -1,6 +1,6 @@
 -- Stretches of slots that the fabric skips. What is known before the first of them is known after each, as after any slot:
 -- none sends a cell, moves or refuses one, or changes a figure.
-use Rattle.std.proofs.Common.{◌≡◌, ℕ, zero, suc, ◌+◌, ◌<◌, ◌≤◌, Bool, false, List, [], ◌++◌, length, replicate, Option, refl, sym, ap, ◌∙◌, subst, arith}
+use Rattle.std.proofs.Common.{◌≡◌, ℕ, zero, suc, ◌+◌, ◌<◌, ◌≤◌, Bool, true, false, List, [], ◌++◌, length, replicate, Option, refl, sym, ap, ◌∙◌, subst, arith}
 use Rattle.std.proofs.lemmas.List.{append-nil}
 use Rattle.cq_base.specs.Arrivals.{no_arrivals}
 use Rattle.cq_base.specs.Arriving.{Arrival, arriving, end_of}
@@ -9,15 +9,13 @@ use Rattle.cq_base.specs.declared.cell.Cell.{Cell}
 use Rattle.cq_base.specs.declared.cell.Departure.{Departure}
 use Rattle.cq_base.specs.declared.cell.Transfer.{Transfer}
 use Rattle.cq_engine.specs.Engine.{EngineView, SlotDone, marked_fabric, ports_of}
-use Rattle.cq_ideal.proofs.Refusals.{counts_more}
+use Rattle.cq_ideal.proofs.Counting.{none_counted}
 use Rattle.cq_ideal.specs.Admission.{Marked}
 use Rattle.cq_ideal.specs.IdealSlot.{departures_in}
 use Rattle.cq_ideal.specs.Ranking.{AreForPorts}
-use Rattle.cq_ideal.specs.Refused.{refused_counts, refused_in, with_refused}
-use Rattle.cq_ideal.specs.declared.refused.Refused.{Refused}
 use Rattle.cq_laws.proofs.QuietSlots.{quiet_figures, quiet_transfers}
 use Rattle.cq_laws.specs.Fabric.{Fabric}
-use Rattle.cq_laws.specs.LimitedFabric.{LimitedFabricRun, LimitedRecord, admissions_in}
+use Rattle.cq_laws.specs.LimitedFabric.{LimitedFabricRun, LimitedRecord}
 use Rattle.cq_laws.specs.LimitedQuiet.{quiet_limited_slot, quiet_limited_slots}
 use Rattle.cq_laws.specs.Quiet.{idled, quiet_slot}
 use Rattle.cq_laws.specs.Records.{transfers_in}
@@ -38,26 +36,19 @@ quiet_gone : (ms : List Machine) (slot ports : ℕ) (ranks : List (List ℕ)) �
 unfolding quiet_slot
 quiet_gone ms slot ports ranks = nobody_departs ports slot
 
--- where none is refused the counts stay
-nothing_counted : (limits : List (Option ℕ)) (lost : List Cell) (counts : List Refused) →
-    counts ≡ refused_counts limits lost → counts ≡ with_refused [] counts
-nothing_counted limits lost counts is =
-    is ∙ ap (refused_counts limits) (sym (append-nil lost)) ∙ counts_more limits lost []
-    ∙ ap (with_refused []) (sym is)
-
-pub crossing_rest : (ms : List Machine) (came : List Arrival) (first : EngineView)
+pub crossing_rest : (whole : Bool) (ms : List Machine) (came : List Arrival) (first : EngineView)
     (first_sent sent : RoomView Departure)
-    (note : RoomView Transfer) (ports classes : ℕ) → ports_of first ≤ 64 →
+    (first_note note : RoomView Transfer) (ports classes : ℕ) → ports_of first ≤ 64 →
     ((t : ℕ) → AreForPorts (ports_of first) classes (arriving came t)) →
     (k slot n m : ℕ) (ranks : List (List ℕ)) (marks : List Bool) (now after : EngineView) → m ≡ k + n →
-    Crossing ms came first first_sent slot m now sent note →
-    ((t : ℕ) → slot ≤ t → t < slot + k → arriving came t ≡ no_arrivals) → (0 < k → slot + k < end_of came) →
+    Crossing whole ms came first first_sent first_note slot m now sent note →
+    ((t : ℕ) → slot ≤ t → t < slot + k → arriving came t ≡ no_arrivals) → (whole ≡ true → 0 < k → slot + k < end_of came) →
     LimitedFabricRun IsInputBest now.limits ms slot (replicate k no_arrivals) (marked_fabric now)
     (quiet_limited_slots ms k slot ports ranks marks) (marked_fabric after) →
     after.figures ≡ now.figures → after.next ≡ slot + k → after.stopped ≡ false → after.fixed ≡ now.fixed →
     after.limits ≡ now.limits → after.refused ≡ now.refused → after.from_inputs ≡ now.from_inputs →
-    after.to_outputs ≡ now.to_outputs → Crossing ms came first first_sent (slot + k) n after sent note
-crossing_rest ms came first first_sent sent note ports classes few for_ports zero slot n m ranks marks now after left
+    after.to_outputs ≡ now.to_outputs → Crossing whole ms came first first_sent first_note (slot + k) n after sent note
+crossing_rest whole ms came first first_sent sent first_note note ports classes few for_ports zero slot n m ranks marks now after left
     c quiet
     more ran figures next running fixed limits refused from_inputs to_outputs =
     let at : slot ≡ slot + 0 = omega arith in
@@ -73,16 +64,16 @@ crossing_rest ms came first first_sent sent note ports classes few for_ports zer
       to_outputs = sym to_outputs e;
       figures = sym figures e;
       next = is_next e;
-      stopped = (c.running ∙ sym running) e;
+      stopped = (c.went.running ∙ sym running) e;
     } in
     let count : m ≡ n = omega arith in
-    subst (λ (s : ℕ). Crossing ms came first first_sent s n after sent note) at
-    (subst (λ (l : ℕ). Crossing ms came first first_sent slot l after sent note) count
-    (subst (λ (v : EngineView). Crossing ms came first first_sent slot m v sent note) same c))
-crossing_rest ms came first first_sent sent note ports classes few for_ports
+    subst (λ (s : ℕ). Crossing whole ms came first first_sent first_note s n after sent note) at
+    (subst (λ (l : ℕ). Crossing whole ms came first first_sent first_note slot l after sent note) count
+    (subst (λ (v : EngineView). Crossing whole ms came first first_sent first_note slot m v sent note) same c))
+crossing_rest whole ms came first first_sent sent first_note note ports classes few for_ports
     (suc k) slot n zero ranks marks now after left c
     quiet more ran figures next running fixed limits refused from_inputs to_outputs = absurd (omega arith)
-crossing_rest ms came first first_sent sent note ports classes few for_ports (suc k) slot n
+crossing_rest whole ms came first first_sent sent first_note note ports classes few for_ports (suc k) slot n
     (suc m) ranks marks now after left
     c quiet more ran figures next running fixed limits refused from_inputs to_outputs =
     let r : LimitedRecord = quiet_limited_slot ms slot ports ranks marks in
@@ -90,7 +81,6 @@ crossing_rest ms came first first_sent sent note ports classes few for_ports (su
     let cross : transfers_in r.of_slot ≡ [] = quiet_transfers ms slot ports ranks in
     let none_leave = ap (λ (l : List Departure). length l) leave in
     let none_cross = ap (λ (l : List Transfer). length l) cross in
-    let some = more (omega arith) in
     let quiet_here : arriving came slot ≡ no_arrivals = quiet slot (omega arith) (omega arith) in
     let middle : EngineView = record {
       fixed = now.fixed;
@@ -112,18 +102,19 @@ crossing_rest ms came first first_sent sent note ports classes few for_ports (su
       crossed = sym (append-nil note.items) ∙ ap (λ (l : List Transfer). note.items ++ l) (sym cross);
       crossed_room = omega arith;
       counted = sym (quiet_figures ms slot ports ranks now.figures);
-      refused = nothing_counted first.limits (refused_in (admissions_in c.records)) now.refused c.refused;
+      refused = sym (none_counted now.refused);
     } in
-    let after_one : Crossing ms came first first_sent (slot + 1) m middle sent note =
-    crossing_next ms came first first_sent slot m now sent note middle sent note classes c (λ le empty. omega arith) few
+    let after_one : Crossing whole ms came first first_sent first_note (slot + 1) m middle sent note =
+    crossing_next whole ms came first first_sent first_note slot m now sent note middle sent note classes c
+    (λ is le empty. let some = more is (omega arith) in omega arith) few
     (for_ports slot)
     (subst (λ (cells : List (Option Cell)). SlotDone ms slot cells now middle sent sent note note)
     (sym quiet_here) done)
     refl refl refl refl refl refl in
     let at : slot + 1 + k ≡ slot + suc k = omega arith in
-    subst (λ (s : ℕ). Crossing ms came first first_sent s n after sent note) at
-    (crossing_rest ms came first first_sent sent note ports classes few for_ports k (slot + 1) n m
+    subst (λ (s : ℕ). Crossing whole ms came first first_sent first_note s n after sent note) at
+    (crossing_rest whole ms came first first_sent sent first_note note ports classes few for_ports k (slot + 1) n m
     (idled ms ports ranks)
     marks middle after (omega arith) after_one (λ t from to. quiet t (omega arith) (omega arith))
-    (λ pos. omega arith) ran.2
+    (λ is pos. let some = more is (omega arith) in omega arith) ran.2
     figures (next ∙ sym at) running fixed limits refused from_inputs to_outputs)

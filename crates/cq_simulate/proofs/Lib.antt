@@ -22,3 +22,8 @@ pub mod RefusedCame
 pub mod LeftOrRefused
 pub mod EachPacket
 pub mod AllPacked
+pub mod ToCome
+pub mod Onward
+pub mod Parting
+pub mod Resuming
+pub mod TakenUp

@@ -173,7 +173,7 @@ pub record Running (ms : List Machine) (came : List Arrival) (first : IdealSwitc
   pub many : length lost + come_count (arriving_from came slot n) ≤ length came
   pub early : slots_of sent.items ≤ slot
 
-waiting-none : (n : ℕ) → waiting (replicate n []) ≡ 0
+pub waiting-none : (n : ℕ) → waiting (replicate n []) ≡ 0
 unfolding waiting
 waiting-none zero = refl
 waiting-none (suc n) = let rest = waiting-none n in omega arith
@@ -231,7 +231,7 @@ pub come_here : (came : List Arrival) (slot n : ℕ) →
 unfolding arriving_from come_count
 come_here came slot n = refl
 
-none_come : (came : List Arrival) (n slot : ℕ) → end_of came ≤ slot → come_count (arriving_from came slot n) ≡ 0
+pub none_come : (came : List Arrival) (n slot : ℕ) → end_of came ≤ slot → come_count (arriving_from came slot n) ≡ 0
 unfolding arriving_from come_count
 none_come came zero slot le = refl
 none_come came (suc n) slot le = let here = none_after came slot le in
@@ -261,6 +261,14 @@ can_count ms came first first_sent slot n now sent r ports short =
     subst (CanCount p) (sym (r.refused ∙ counts_more first.limits [] lost))
     (counts_fit lost p (length lost) (refused_counts first.limits [])
     (zero_fits (p + length lost) first.limits (omega arith)) (omega arith))
+
+-- what is left is no more than the slots that are left after one of them, in which a cell leaves where one waits
+pub fewer_left : (before after here rest end slot n : ℕ) → after ≤ before + here - 1 →
+    before + (here + rest) + (end - slot) ≤ suc n → (end ≤ slot → here ≡ 0) → (end ≤ slot + 1 → rest ≡ 0) →
+    after + rest + (end - (slot + 1)) ≤ n
+fewer_left before after here rest end slot n less few none over =
+    ⊎_elim (λ lt. omega arith) (λ ge. let z : here ≡ 0 = none ge in let r : rest ≡ 0 = over (omega arith) in
+    omega arith) (cases_lt slot end)
 
 pub running_next : (ms : List Machine) (came : List Arrival) (first : IdealSwitch) (first_sent : RoomView Departure)
     (slot n : ℕ) (now : IdealSwitch) (sent : RoomView Departure) (after : IdealSwitch) (sent_new : RoomView Departure)
@@ -340,13 +348,6 @@ running_next ms came first first_sent slot n now sent after sent_new of_slot r i
           let h : slots_of sent.items ≤ slot = r.early in
           omega arith;
     }
-  where
-    fewer_left : (before after here rest end slot n : ℕ) → after ≤ before + here - 1 →
-        before + (here + rest) + (end - slot) ≤ suc n → (end ≤ slot → here ≡ 0) → (end ≤ slot + 1 → rest ≡ 0) →
-        after + rest + (end - (slot + 1)) ≤ n
-    fewer_left before after here rest end slot n less few none over =
-        ⊎_elim (λ lt. omega arith) (λ ge. let z : here ≡ 0 = none ge in let r : rest ≡ 0 = over (omega arith) in
-        omega arith) (cases_lt slot end)
 
 -- ## The end of the loop
 

@@ -6,3 +6,5 @@ pub mod Packets
 pub mod Pieces
 pub mod Ready
 pub mod Stretch
+pub mod GoingOn
+pub mod PartedRuns

@@ -1,14 +1,12 @@
 //! The run of the fabric.
-ghost use Rattle.std.specs.Prelude.{◌≡◌, ◌↔◌, ◌≤◌, IsTrue, false, IfOk, IfErr, Ok, Err, OnOk, length, map};
-ghost use Rattle.cq_base.specs.Arriving.{end_of, traffic_of};
+ghost use Rattle.std.specs.Prelude.{◌≡◌, ◌↔◌, ◌≤◌, IsTrue, false, IfOk, IfErr, Ok, OnOk, map};
+ghost use Rattle.cq_base.specs.Arriving.{end_of};
 ghost use Rattle.cq_cells.specs.Traffic.{IsTraffic, IsShort};
-ghost use Rattle.cq_ideal.specs.LimitedEnding.{departures_limited};
-ghost use Rattle.cq_ideal.specs.LimitedIdeal.{empty_limited, limited_run};
 ghost use Rattle.cq_laws.specs.Fabric.{IsEmptyFabric};
 ghost use Rattle.cq_route.specs.Tables.{AreTables, classes_of, ports_of};
-ghost use Rattle.cq_simulate.specs.FabricReady.{HasRun, IsReadyFabric};
 ghost use Rattle.cq_simulate.specs.FabricRuns.{IsKeptOf};
 ghost use Rattle.cq_simulate.specs.IdealRuns.{ideal_departures, IsRefusalOf};
+ghost use Rattle.cq_simulate.specs.GoingOn.{HasRunOn, IsReadyOn, StopsOn};
 ghost use Rattle.cq_simulate.specs.Stretch.{FabricHasRested};
 ghost use Rattle.cq_traffic.specs.Stretch.{IsQuiet};
 
@@ -110,8 +108,8 @@ fn skip<R: Rank>(engine: &mut Engine<R>, schedule: &Schedule, slot: Slot) -> Slo
     next
 }
 
-// Runs a fabric over all cells that arrive. The error is the first tag fault of the ideal switch.
-fn run_slots<T: Threads + Sync, R: Rank, G: Gate>(
+// Runs a fabric on over all cells that are still to come. The error is its first tag fault.
+pub fn run_slots<T: Threads + Sync, R: Rank, G: Gate>(
     rt: &T,
     alloc: Global,
     engine: &mut Engine<R>,
@@ -120,14 +118,12 @@ fn run_slots<T: Threads + Sync, R: Rank, G: Gate>(
     sent: &mut Room<Departure>,
     note: &mut Room<Transfer>,
 ) -> Result<(), TagFault>
-    requires ready { IsReadyFabric (map R.machine engine.old.fixed) schedule.now.came engine.old sent.old note.old }
-    ensures run { OnOk result (HasRun (map R.machine engine.old.fixed) schedule.now.came engine.old engine.new sent.new note.new) }
-    ensures fault { IfErr result (λ fault. departures_limited (limited_run engine.old.limits (map R.machine
-        engine.old.fixed) 0 (traffic_of schedule.now.came) (empty_limited (length engine.old.fixed)
-        engine.old.fabric.ranks)) ≡ Err fault) }
+    requires ready { IsReadyOn (map R.machine engine.old.fixed) schedule.now.came engine.old sent.old note.old }
+    ensures run { OnOk result (HasRunOn (map R.machine engine.old.fixed) schedule.now.came engine.old engine.new sent.old sent.new note.old note.new) }
+    ensures fault { IfErr result (StopsOn (map R.machine engine.old.fixed) schedule.now.came engine.old) }
 {
     let mut near = Nearby::nowhere();
-    let mut slot = 0;
+    let mut slot = engine.next();
     'slots: while !is_over(engine, schedule, slot) {
         slot = skip(engine, schedule, slot);
         let arrivals = schedule.arrivals_near(slot, &mut near);

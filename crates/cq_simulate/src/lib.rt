@@ -7,6 +7,7 @@ mod idle;
 mod laws;
 mod packets;
 mod packing;
+mod parted_run;
 mod refusal;
 #[cfg(test)]
 mod tests;
@@ -20,4 +21,5 @@ pub use laws::{
 };
 pub use packets::packets_of;
 pub use packing::{Packing, packets_of_all};
+pub use parted_run::{Parted, part_fabric, resume_fabric};
 pub use refusal::RunRefusal;

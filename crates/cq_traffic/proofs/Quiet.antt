@@ -1,7 +1,7 @@
 -- Stretches of slots in which no cell arrives. No cell comes before the next arrival, so up to it there is nothing that
 -- comes at any input.
 use Rattle.std.proofs.Common.{◌≡◌, ℕ, zero, suc, ◌+◌, ◌<◌, ◌≤◌, ◌&&◌, eqb, Bool, false, List, [], ◌∷◌, map, replicate, Option, Some, None, refl, ap, ◌∙◌, inl, inr, arith}
-use Rattle.std.specs.Prelude.{unwrap_or}
+use Rattle.std.specs.Prelude.{min, unwrap_or}
 use Rattle.std.specs.List.{AllByRecursion, range_with_len}
 use Rattle.std.proofs.lemmas.Bool.{ne_eqb}
 use Rattle.cq_base.specs.Arrivals.{no_arrivals}
@@ -54,6 +54,30 @@ quiet_to_next came slot (Some next) is = record {
       (λ a had at. let later = had (omega arith) in omega arith) is.none_before);
   more = λ later. before_end came next is.arrives;
 }
+
+-- up to a slot that is no later than the next arrival none arrives
+pub none_up_to : (came : List Arrival) (slot n : ℕ) (next : Option ℕ) → IsNextArrival came slot next →
+    n ≤ unwrap_or next n → (t : ℕ) → slot ≤ t → t < n → arriving came t ≡ no_arrivals
+none_up_to came slot n None all le t from to =
+    none_arrive came t 64 refl
+    (all_each (λ (a : Arrival). a.slot < slot) (λ (a : Arrival). a.slot ≡ t → ⊥) came (λ a had at. omega arith) all)
+none_up_to came slot n (Some next) is le t from to =
+    none_arrive came t 64 refl
+    (all_each (λ (a : Arrival). slot ≤ a.slot → next ≤ a.slot) (λ (a : Arrival). a.slot ≡ t → ⊥) came
+    (λ a had at. let later = had (omega arith) in omega arith) is.none_before)
+
+-- the next arrival, but no later than the last slot
+pub record IsBeforeBoth (slot last n : ℕ) (next : Option ℕ) : Type 0 where
+  pub late : slot ≤ n
+  pub within : n ≤ last
+  pub no_later : n ≤ unwrap_or next n
+
+pub before_both : (came : List Arrival) (slot last n : ℕ) (next : Option ℕ) → IsNextArrival came slot next → slot ≤ last →
+    n ≡ min (unwrap_or next last) last → IsBeforeBoth slot last n next
+before_both came slot last n None all le is = record { late = omega arith; within = omega arith; no_later = omega arith }
+before_both came slot last n (Some next) at le is =
+    let late = at.late in
+    record { late = omega arith; within = omega arith; no_later = omega arith }
 
 -- ## What comes in a stretch
 

@@ -1,0 +1,114 @@
+-- What a run that goes on says of the tables that its fabric is made for: the resumed run to its end, or the tag fault at which it
+-- stops.
+use Rattle.std.proofs.Common.{◌≡◌, ℕ, ◌++◌, List, length, map, Option, sym, ap, ◌∙◌, subst, arith}
+use Rattle.std.specs.Prelude.{take}
+use Rattle.std.proofs.lemmas.List.{take_all}
+use Rattle.cq_base.specs.Room.{RoomView}
+use Rattle.cq_base.specs.declared.cell.Departure.{Departure}
+use Rattle.cq_base.specs.declared.cell.TagFault.{TagFault}
+use Rattle.cq_base.specs.declared.cell.Transfer.{Transfer}
+use Rattle.cq_cells.specs.Scheduled.{Scheduled}
+use Rattle.cq_engine.specs.Engine.{EngineView, frozen_of, marked_fabric}
+use Rattle.cq_ideal.specs.Admission.{Marked}
+use Rattle.cq_ideal.specs.Ending.{arriving_from}
+use Rattle.cq_ideal.specs.IdealRun.{departures_of}
+use Rattle.cq_laws.specs.Fabric.{Fabric}
+use Rattle.cq_laws.specs.Frozen.{marked_in}
+use Rattle.cq_laws.specs.LimitedFabric.{LimitedFabricRun, LimitedFabricStops, LimitedRecord, slots_in}
+use Rattle.cq_laws.specs.Records.{gone_in, transfers_of_run}
+use Rattle.cq_laws.specs.declared.frozen.Frozen.{Frozen}
+use Rattle.cq_prefs.specs.Pairing.{IsInputBest}
+use Rattle.cq_rank.specs.Machine.{Machine}
+use Rattle.cq_resume.specs.Resumed.{IsResumed, IsResumedFault, Kept, Runs, RunsOn, Stops, kept_on}
+use Rattle.cq_resume.specs.Switch.{switch_of}
+use Rattle.cq_resume.specs.declared.taken.Taken.{Taken}
+use Rattle.cq_route.specs.declared.tables.Tables.{Tables}
+use Rattle.cq_scfq.specs.Disciplines.{machines_of}
+use Rattle.cq_simulate.specs.GoingOn.{HasRunOn, StopsOn}
+
+module _ (M : List ℕ → Machine) (t : Tables) (s : Scheduled) (first : EngineView) (taken : Taken)
+    (machines : map M first.fixed ≡ machines_of t.setup) (limits : first.limits ≡ t.limits)
+    (stood : frozen_of first ≡ taken.frozen) where
+  -- a run of the engine is one of the switch
+  of_switch : (m : ℕ) (rs : List LimitedRecord) (f : Marked Fabric) →
+      LimitedFabricRun IsInputBest first.limits (map M first.fixed) first.next (arriving_from s.came first.next m)
+      (marked_fabric first) rs f →
+      Runs (switch_of t s) first.next (arriving_from s.came first.next m) (marked_fabric first) rs f
+  of_switch m rs f run =
+      subst (λ (ms : List Machine).
+      LimitedFabricRun IsInputBest t.limits ms first.next (arriving_from s.came first.next m) (marked_fabric first) rs f)
+      machines
+      (subst (λ (l : List (Option ℕ)).
+      LimitedFabricRun IsInputBest l (map M first.fixed) first.next (arriving_from s.came first.next m)
+      (marked_fabric first) rs f) limits run)
+
+  of_engine : (m : ℕ) (rs : List LimitedRecord) (f : Marked Fabric) →
+      Runs (switch_of t s) first.next (arriving_from s.came first.next m) (marked_fabric first) rs f →
+      LimitedFabricRun IsInputBest first.limits (map M first.fixed) first.next (arriving_from s.came first.next m)
+      (marked_fabric first) rs f
+  of_engine m rs f run =
+      subst (λ (l : List (Option ℕ)).
+      LimitedFabricRun IsInputBest l (map M first.fixed) first.next (arriving_from s.came first.next m)
+      (marked_fabric first) rs f) (sym limits)
+      (subst (λ (ms : List Machine).
+      LimitedFabricRun IsInputBest t.limits ms first.next (arriving_from s.came first.next m) (marked_fabric first) rs f)
+      (sym machines) run)
+
+  pub resumed_of : (last : EngineView) (first_sent sent : RoomView Departure) (first_note note : RoomView Transfer) →
+      HasRunOn (map M first.fixed) s.came first last first_sent sent first_note note → first_sent.items ≡ taken.sent →
+      first_note.items ≡ taken.note →
+      IsResumed (switch_of t s) taken
+      (record { sent = sent.items; note = note.items; figures = last.figures; refused = last.refused })
+  resumed_of last first_sent sent first_note note has sent_was note_was =
+      let rs = has.records in
+      let kept : Kept =
+      record { sent = sent.items; note = note.items; figures = last.figures; refused = last.refused } in
+      let sent_is =
+      has.went.departed
+      ∙ ap (λ (l : List Departure). l ++ departures_of first.next (gone_in (slots_in rs))) sent_was in
+      let note_is =
+      has.went.crossed ∙ ap (λ (l : List Transfer). l ++ transfers_of_run (slots_in rs)) note_was in
+      record {
+        records = rs;
+        end = marked_fabric last;
+        runs =
+            subst (λ (x : Frozen). RunsOn (switch_of t s) x.next (marked_in x) rs (marked_fabric last)) stood
+            (record {
+              after =
+                  of_switch (length rs) (take (length rs) rs) (marked_fabric last)
+                  (subst (λ (l : List LimitedRecord).
+                  LimitedFabricRun IsInputBest first.limits (map M first.fixed) first.next
+                  (arriving_from s.came first.next (length rs)) (marked_fabric first) l (marked_fabric last))
+                  (sym (take_all (length rs) rs (omega arith))) has.went.runs);
+              all_came = has.all_came;
+              empty = has.empty;
+              first = λ m f run le none. has.first m f (of_engine m (take m rs) f run) le none;
+            });
+        kept_is =
+            subst (λ (x : Frozen).
+            kept ≡ kept_on
+            (record { sent = taken.sent; note = taken.note; figures = x.figures; refused = x.refused }) x.next rs) stood
+            (λ k. record {
+              sent = sent_is k;
+              note = note_is k;
+              figures = has.went.counted k;
+              refused = has.went.refused k;
+            });
+      }
+
+  pub resumed_fault : (fault : TagFault) → StopsOn (map M first.fixed) s.came first fault →
+      IsResumedFault (switch_of t s) taken fault
+  resumed_fault fault at =
+      record {
+        count = at.count;
+        records = at.stops.records;
+        stops =
+            subst (λ (x : Frozen).
+            Stops (switch_of t s) x.next (arriving_from s.came x.next at.count) (marked_in x) at.stops.records fault) stood
+            (subst (λ (ms : List Machine).
+            LimitedFabricStops IsInputBest t.limits ms first.next (arriving_from s.came first.next at.count)
+            (marked_fabric first) at.stops.records fault) machines
+            (subst (λ (l : List (Option ℕ)).
+            LimitedFabricStops IsInputBest l (map M first.fixed) first.next (arriving_from s.came first.next at.count)
+            (marked_fabric first) at.stops.records fault) limits at.stops.stops));
+      }

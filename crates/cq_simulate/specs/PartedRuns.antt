@@ -1,0 +1,44 @@
+-- Runs of a configured switch in parts.
+use Rattle.std.specs.Prelude.{◌≡◌, ℕ, List, ⊤}
+use Rattle.cq_ideal.specs.Ending.{arriving_from}
+use Rattle.cq_laws.specs.LimitedFabric.{LimitedRecord}
+use Rattle.cq_resume.specs.Counted.{taken_of}
+use Rattle.cq_resume.specs.Parts.{opening}
+use Rattle.cq_resume.specs.Resumed.{IsResumedFault, Kept, Stops}
+use Rattle.cq_resume.specs.Sound.{IsSound}
+use Rattle.cq_resume.specs.Switch.{HasShape, Switch}
+use Rattle.cq_resume.specs.declared.taken.Taken.{Taken}
+use Rattle.cq_simulate.specs.declared.fabric_run.FabricRun.{FabricRun as Run}
+use Rattle.cq_simulate.specs.declared.parted_run.Parted.{Parted}
+use Rattle.cq_simulate.specs.declared.refusal.RunRefusal.{RunRefusal}
+use Rattle.cq_simulate.specs.declared.refusal.RunRefusal.TheVariants as refusal
+use Rattle.cq_state.specs.State.{IsInRange}
+use Rattle.cq_state.specs.declared.state.State.{State}
+
+-- a run that stands still, as one that can be taken up
+abbrev pub taken_at : Parted → Taken
+taken_at run = record { frozen = run.frozen; sent = run.sent.items; note = run.note.items }
+
+-- what a run kept
+abbrev pub kept_of : Run → Kept
+kept_of run =
+    record { sent = run.sent.items; note = run.note.items; figures = run.figures; refused = run.refused.items }
+
+-- the run meets this tag fault in one of the slots before the last; want of memory may come at any time
+abbrev pub IsPartFault : Switch → List (List ℕ) → ℕ → RunRefusal → Type 0
+IsPartFault w ranks slots (refusal.Tag fault) =
+    (records : List LimitedRecord) × Stops w 0 (arriving_from w.came 0 slots) (opening w ranks) records fault
+IsPartFault w ranks slots refusal.NoMemory = ⊤
+
+-- the resumed run meets it
+abbrev pub IsResumeFault : Switch → Taken → RunRefusal → Type 0
+IsResumeFault w taken (refusal.Tag fault) = IsResumedFault w taken fault
+IsResumeFault w taken refusal.NoMemory = ⊤
+
+-- it is what a sound state comes to
+pub record CanBeTakenUp (w : Switch) (taken : Taken) : Type 0 where
+  pub state : State
+  pub in_range : IsInRange state
+  pub shape : HasShape w state
+  pub sound : IsSound w state
+  pub told : taken ≡ taken_of w state

@@ -1,0 +1,210 @@
+//! The run of the fabric in parts: up to a slot, and on from there.
+ghost use Rattle.std.specs.Prelude.{◌≡◌, ◌-◌, ◌<◌, ◌≤◌, ◌^◌, IfErr, IfOk, OnOk, false, map};
+ghost use Rattle.cq_cells.specs.Traffic.{IsShort, IsTraffic};
+ghost use Rattle.cq_resume.specs.Parts.{IsParted};
+ghost use Rattle.cq_resume.specs.Resumed.{IsResumed};
+ghost use Rattle.cq_resume.specs.Switch.{switch_of};
+ghost use Rattle.cq_route.specs.Tables.{AreTables, classes_of, ports_of};
+ghost use Rattle.cq_scfq.specs.Disciplines.{openings_of};
+ghost use Rattle.cq_simulate.specs.GoingOn.{HasPartedTo, IsReadyPart, NoneCome, StopsWithin};
+ghost use Rattle.cq_simulate.specs.PartedRuns.{CanBeTakenUp, IsPartFault, IsResumeFault, kept_of, taken_at};
+ghost use Rattle.cq_simulate.specs.Stretch.{FabricHasRested};
+
+use crate::RunRefusal;
+use crate::fabric_run::{FabricRun, run_slots};
+use cq_base::{Departure, NoMemory, Room, Slot, TagFault, Transfer};
+use cq_cells::{Nearby, Schedule};
+use cq_crew::Gate;
+use cq_engine::Engine;
+use cq_rank::Rank;
+use cq_resume::{Frozen, Taken};
+use cq_route::Tables;
+use cq_scfq::Discipline;
+use cq_traffic::{rooms_from, rooms_to};
+use std::alloc::Global;
+use std::thread::Threads;
+
+/// A run that stands still between two slots.
+#[derive(Drop)]
+pub struct Parted {
+    /// The fabric, with what was counted.
+    pub frozen: Frozen,
+    /// The departures so far, in order of slot, then output.
+    pub sent: Room<Departure>,
+    /// The transfers so far, in order of slot, then phase, then input.
+    pub note: Room<Transfer>,
+}
+
+/// Runs the fabric over a schedule of the same ports and classes up to this slot, which it does not run, with or without
+/// arrivals. It takes time for the slots in which a cell waits or comes, and none for the others, also past the last.
+///
+/// - `Tag`: a rank of these slots does not fit 128 bits.
+/// - `NoMemory`: there was not the memory for the lists, the buffers, the departures and the transfers.
+pub fn part_fabric<R: Threads + Sync, G: Gate>(
+    rt: &R,
+    alloc: Global,
+    tables: &Tables,
+    schedule: &Schedule,
+    slots: Slot,
+    gate: &G,
+) -> Result<Parted, RunRefusal>
+    requires tables { AreTables tables.now }
+    requires ports { schedule.now.ports ≡ ports_of tables.now.setup }
+    requires traffic { IsTraffic (ports_of tables.now.setup) (classes_of tables.now.setup) schedule.now.came }
+    requires short { IsShort schedule.now.came }
+    requires slots { slots < 2 ^ 63 }
+    ensures parted { IfOk result (λ run. IsParted (switch_of tables.now schedule.now) (openings_of tables.now.setup) slots (taken_at run)) }
+    ensures refused { IfErr result (IsPartFault (switch_of tables.now schedule.now) (openings_of tables.now.setup) slots) }
+{
+    let ranks = Discipline::all(alloc, &tables.setup)?;
+    let ports = ranks.len() as u16;
+    let from_inputs = rooms_from(alloc, schedule, ports)?;
+    let to_outputs = rooms_to(alloc, schedule, ports)?;
+    let total = schedule.total();
+    let mut sent = Room::new(alloc, total + ports as u64)?;
+    let mut note = Room::new(alloc, total + 2 * ports as u64)?;
+    let mut engine = Engine::new(
+        alloc,
+        ranks,
+        from_inputs.as_slice(),
+        to_outputs.as_slice(),
+        tables.limits.as_slice(),
+        tables.workers,
+    )?;
+    run_before(
+        rt,
+        alloc,
+        &mut engine,
+        schedule,
+        slots,
+        gate,
+        &mut sent,
+        &mut note,
+    )?;
+    let frozen = engine.freeze(alloc)?;
+    Ok(Parted { frozen, sent, note })
+}
+
+/// Runs the fabric on from a state that was taken up, until no cell arrives any more and none waits. What was kept before
+/// stands ahead of what this run keeps.
+///
+/// - `Tag`: a rank of these slots does not fit 128 bits.
+/// - `NoMemory`: there was not the memory for the lists, the buffers, the departures and the transfers.
+pub fn resume_fabric<R: Threads + Sync, G: Gate>(
+    rt: &R,
+    alloc: Global,
+    tables: &Tables,
+    schedule: &Schedule,
+    taken: &Taken,
+    gate: &G,
+) -> Result<FabricRun, RunRefusal>
+    requires tables { AreTables tables.now }
+    requires ports { schedule.now.ports ≡ ports_of tables.now.setup }
+    requires traffic { IsTraffic (ports_of tables.now.setup) (classes_of tables.now.setup) schedule.now.came }
+    requires short { IsShort schedule.now.came }
+    requires sound { CanBeTakenUp (switch_of tables.now schedule.now) taken.now }
+    ensures run { IfOk result (λ run. IsResumed (switch_of tables.now schedule.now) taken.now (kept_of run)) }
+    ensures refused { IfErr result (IsResumeFault (switch_of tables.now schedule.now) taken.now) }
+{
+    let ranks = Discipline::all(alloc, &tables.setup)?;
+    let ports = ranks.len() as u16;
+    let from_inputs = rooms_from(alloc, schedule, ports)?;
+    let to_outputs = rooms_to(alloc, schedule, ports)?;
+    let total = schedule.total();
+    let mut sent = holding(alloc, taken.sent.as_slice(), total + ports as u64)?;
+    let mut note = holding(alloc, taken.note.as_slice(), total + 2 * ports as u64)?;
+    let mut engine = Engine::thaw(
+        alloc,
+        ranks,
+        from_inputs.as_slice(),
+        to_outputs.as_slice(),
+        tables.limits.as_slice(),
+        tables.workers,
+        &taken.frozen,
+    )?;
+    run_slots(rt, alloc, &mut engine, schedule, gate, &mut sent, &mut note)?;
+    let seen = engine.into_seen();
+    Ok(FabricRun {
+        sent,
+        note,
+        figures: seen.figures,
+        refused: seen.refused,
+    })
+}
+
+// These items, with room for so many more. The error is want of memory: no memory holds more than 64 bits count.
+fn holding<T: Copy>(alloc: Global, items: &[T], spare: u64) -> Result<Room<T>, NoMemory>
+    ensures items { IfOk result (λ room. room.items ≡ items.now) }
+    ensures spare { IfOk result (λ room. room.spare ≡ spare) }
+{
+    let held = items.len() as u64;
+    if spare > u64::MAX - held {
+        return Err(NoMemory);
+    }
+    let mut room = Room::new(alloc, held + spare)?;
+    'places: for at in 0..items.len() {
+        room.push(items[at]);
+    }
+    Ok(room)
+}
+
+// The slot up to which no cell arrives: that of the next arrival, but no later than the last.
+fn quiet_before(schedule: &Schedule, slot: Slot, last: Slot) -> Slot
+    requires { slot ≤ last }
+    ensures late { slot ≤ result }
+    ensures within { result ≤ last }
+    ensures none { NoneCome schedule.now.came slot result }
+{
+    schedule.next_arrival(slot).unwrap_or(last).min(last)
+}
+
+// Where no cell waits, the slots up to the next arrival are skipped, but none from the last one on: the fabric rests. The
+// answer is the slot that comes then.
+fn skip_before<R: Rank>(engine: &mut Engine<R>, schedule: &Schedule, slot: Slot, last: Slot) -> Slot
+    requires running { engine.old.stopped ≡ false }
+    requires next { engine.old.next ≡ slot }
+    requires before { slot ≤ last }
+    ensures late { slot ≤ result }
+    ensures within { result ≤ last }
+    ensures none { NoneCome schedule.now.came slot result }
+    ensures rested { FabricHasRested (map R.machine engine.old.fixed) slot result engine.old engine.new }
+{
+    if !engine.empty() {
+        return slot;
+    }
+    let next = quiet_before(schedule, slot, last);
+    if next == slot {
+        return slot;
+    }
+    engine.rest(next);
+    next
+}
+
+// Runs a fabric over the slots from the next one up to the last, which it does not run.
+fn run_before<T: Threads + Sync, R: Rank, G: Gate>(
+    rt: &T,
+    alloc: Global,
+    engine: &mut Engine<R>,
+    schedule: &Schedule,
+    last: Slot,
+    gate: &G,
+    sent: &mut Room<Departure>,
+    note: &mut Room<Transfer>,
+) -> Result<(), TagFault>
+    requires ready { IsReadyPart (map R.machine engine.old.fixed) schedule.now.came last engine.old sent.old note.old }
+    ensures run { OnOk result (HasPartedTo (map R.machine engine.old.fixed) schedule.now.came last engine.old engine.new sent.old sent.new note.old note.new) }
+    ensures fault { IfErr result (StopsWithin (map R.machine engine.old.fixed) schedule.now.came engine.old (last - engine.old.next)) }
+{
+    let mut near = Nearby::nowhere();
+    let mut slot = engine.next();
+    'slots: while slot < last {
+        slot = skip_before(engine, schedule, slot, last);
+        if slot >= last {
+            return Ok(());
+        }
+        let arrivals = schedule.arrivals_near(slot, &mut near);
+        engine.slot(rt, alloc, slot, &arrivals, gate, sent, note)?;
+        slot += 1;
+    }
+    Ok(())
+}
