@@ -41,6 +41,8 @@ pub enum Status {
     NoMemory = 7,
     /// An audit says no.
     AuditNo = 8,
+    /// The state of a stopped run is refused, or too long.
+    State = 9,
 }
 
 impl Status {

@@ -48,6 +48,7 @@ fn each_status_has_its_own_code(rt: HostRuntime) {
         (Status::ReadFault, 5),
         (Status::WriteFault, 6),
         (Status::NoMemory, 7),
+        (Status::State, 9),
     ];
     for (status, code) in codes {
         assert_eq!(rt; status.code(), code, "of {status:?}");

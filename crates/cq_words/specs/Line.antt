@@ -6,9 +6,9 @@ use Rattle.clap.specs.Simple.{App, app_of, new_app, new_rule, on_top, with_rule,
 use Rattle.clap.specs.declared.builder.command.Command.{Command as Parser}
 use Rattle.clap.specs.declared.builder.command.Command.TheViews.{out-Command}
 use Rattle.clap.specs.Walk.{Row, Rule, first_of}
-use Rattle.cq_words.specs.Words.{numbered, with_config}
+use Rattle.cq_words.specs.Words.{numbered, parted, with_config}
 use Rattle.cq_words.specs.declared.command.Command.{Command}
-use Rattle.cq_words.specs.declared.command.Command.TheVariants.{Pass}
+use Rattle.cq_words.specs.declared.command.Command.TheVariants.{Pass, Resume}
 
 -- a value that the words must give
 abbrev pub value_rule : List ℕ → Rule
@@ -35,6 +35,15 @@ abbrev pub soak_form : App
 soak_form =
     with_rule (with_rule (with_rule (new_app (codes "soak")) (value_rule (codes "SEED"))) (value_rule (codes "PORTS"))) (value_rule (codes "SLOTS"))
 
+-- `part CONFIG SLOTS STATE`
+abbrev pub part_form : App
+part_form =
+    with_rule (with_rule (with_rule (new_app (codes "part")) (value_rule (codes "CONFIG"))) (value_rule (codes "SLOTS"))) (value_rule (codes "STATE"))
+
+-- `resume CONFIG STATE`
+abbrev pub resume_form : App
+resume_form = with_rule (with_rule (new_app (codes "resume")) (value_rule (codes "CONFIG"))) (value_rule (codes "STATE"))
+
 -- a form is added as a subcommand
 abbrev pub with_form : App → App → App
 with_form line form = with_subcommand line form.top
@@ -42,8 +51,9 @@ with_form line form = with_subcommand line form.top
 -- the whole line: one subcommand a form
 abbrev pub line : App
 line =
-    with_form (with_form (with_form (with_form (with_form (with_form bare_line pass_form) (config_form (codes "check")))
-    (config_form (codes "ideal"))) (config_form (codes "run"))) soak_form) (config_form (codes "audit"))
+    with_form (with_form (with_form (with_form (with_form (with_form (with_form (with_form bare_line pass_form)
+    (config_form (codes "check"))) (config_form (codes "ideal"))) (config_form (codes "run"))) soak_form)
+    (config_form (codes "audit"))) part_form) resume_form
 
 -- the command of `clap` is this form, and no value of it stands for other forms
 abbrev pub IsForm : App → Parser → Type 0
@@ -59,11 +69,23 @@ abbrev pub numbers_in : Option (List ℕ) → Option (List ℕ) → Option (List
 numbers_in (Some seed) (Some ports) (Some slots) = numbered seed ports slots
 numbers_in _ _ _ = None
 
+-- the command of CONFIG, SLOTS and STATE, where there are all
+abbrev pub slots_in : Option (List ℕ) → Option (List ℕ) → Option (List ℕ) → Option Command
+slots_in (Some config) (Some slots) (Some state) = parted config slots state
+slots_in _ _ _ = None
+
+-- the command of CONFIG and STATE, where there are both
+abbrev pub state_in : Option (List ℕ) → Option (List ℕ) → Option Command
+state_in (Some config) (Some state) = Some (Resume config state)
+state_in _ _ = None
+
 -- the command of a subcommand's word, with the values that `clap` found under their names
 abbrev pub command_in : List ℕ → List Row → Option Command
 command_in word rows =
     if bytes_eq word (codes "pass") then captures_in (first_of (codes "IN") rows) (first_of (codes "OUT") rows)
     else if bytes_eq word (codes "soak") then numbers_in (first_of (codes "SEED") rows) (first_of (codes "PORTS") rows) (first_of (codes "SLOTS") rows)
+    else if bytes_eq word (codes "part") then slots_in (first_of (codes "CONFIG") rows) (first_of (codes "SLOTS") rows) (first_of (codes "STATE") rows)
+    else if bytes_eq word (codes "resume") then state_in (first_of (codes "CONFIG") rows) (first_of (codes "STATE") rows)
     else option_and_then (with_config word) (first_of (codes "CONFIG") rows)
 
 -- the command of what `clap` found

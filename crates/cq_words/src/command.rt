@@ -1,6 +1,7 @@
 // The commands, and the reading of the numbers of one.
 ghost use Rattle.std.specs.Prelude.{◌≡◌};
-ghost use Rattle.cq_words.specs.Words.{numbered};
+ghost use Rattle.cq_words.specs.Numbers.{number_from};
+ghost use Rattle.cq_words.specs.Words.{most_slots, numbered};
 
 use crate::number::number;
 use cq_base::Name;
@@ -9,17 +10,54 @@ use cq_base::Name;
 #[derive(Drop)]
 pub enum Command {
     /// Sends the capture `from` through a switch of one port, and writes what leaves it to `to`.
-    Pass { from: Name, to: Name },
+    Pass {
+        from: Name,
+        to: Name,
+    },
     /// Reads a configuration, and says what is in it.
-    Check { config: Name },
+    Check {
+        config: Name,
+    },
     /// Runs the ideal switch over the captures of a configuration, and writes what leaves it.
-    Ideal { config: Name },
+    Ideal {
+        config: Name,
+    },
     /// Runs the fabric over the captures of a configuration, and writes what leaves it.
-    Run { config: Name },
+    Run {
+        config: Name,
+    },
     /// Runs the fabric with made traffic from a seed: 1 to 64 ports, and 1 to 20,000 slots.
-    Soak { seed: u64, ports: u16, slots: u32 },
+    Soak {
+        seed: u64,
+        ports: u16,
+        slots: u32,
+    },
     /// Checks the trace and the log that a configuration names, whoever wrote them.
-    Audit { config: Name },
+    Audit {
+        config: Name,
+    },
+    /// Runs the fabric over the captures of a configuration for so many slots, fewer than 2^63, and writes the state in
+    /// which it stands then.
+    Part {
+        config: Name,
+        slots: u64,
+        state: Name,
+    },
+    /// Runs the fabric on from such a state, and writes what leaves it from the first slot on.
+    Resume {
+        config: Name,
+        state: Name,
+    },
+}
+
+// The greatest number of slots after which a run can stop: 2^63 - 1.
+const MOST_SLOTS: u64 = 9_223_372_036_854_775_807;
+
+// The number of slots after which a run is to stop.
+pub fn slots_of(slots: &str) -> Option<u64>
+    ensures { result ≡ number_from 0 most_slots slots.now }
+{
+    number(slots, 0, MOST_SLOTS)
 }
 
 // The command of the texts of three numbers, where each is in its range.

@@ -1,8 +1,8 @@
 // The grammar of the words.
-ghost use Rattle.std.specs.Prelude.{◌≡◌, ◌∷◌, [], is_some, map, string_bytes};
+ghost use Rattle.std.specs.Prelude.{◌≡◌, ◌∷◌, [], codes, is_some, map, string_bytes};
 ghost use Rattle.cq_words.specs.Words.{command_for, is_value as value_test};
 
-use crate::command::soak;
+use crate::command::{slots_of, soak};
 
 // The words are a command.
 pub fn is_command(words: &[String]) -> bool
@@ -10,9 +10,14 @@ pub fn is_command(words: &[String]) -> bool
 {
     match words {
         [word, config] => is_config_form(word.as_str(), config.as_str()),
-        [word, from, to] => is_pass_form(word.as_str(), from.as_str(), to.as_str()),
-        [word, seed, ports, slots] => {
-            is_soak_form(word.as_str(), seed.as_str(), ports.as_str(), slots.as_str())
+        [word, first, second] => is_pair_form(word.as_str(), first.as_str(), second.as_str()),
+        [word, first, second, third] => {
+            is_triple_form(
+                word.as_str(),
+                first.as_str(),
+                second.as_str(),
+                third.as_str(),
+            )
         }
         _ => false,
     }
@@ -24,20 +29,32 @@ fn is_config_form(word: &str, config: &str) -> bool
     is_value(config) && matches!(word, "check" | "ideal" | "run" | "audit")
 }
 
-fn is_pass_form(word: &str, from: &str, to: &str) -> bool
-    ensures { result ≡ is_some (command_for (word.now ∷ from.now ∷ to.now ∷ [])) }
+fn is_pair_form(word: &str, first: &str, second: &str) -> bool
+    ensures { result ≡ is_some (command_for (word.now ∷ first.now ∷ second.now ∷ [])) }
 {
-    word == "pass" && is_value(from) && is_value(to)
+    is_value(first) && is_value(second) && matches!(word, "pass" | "resume")
 }
 
-fn is_soak_form(word: &str, seed: &str, ports: &str, slots: &str) -> bool
-    ensures { result ≡ is_some (command_for (word.now ∷ seed.now ∷ ports.now ∷ slots.now ∷ [])) }
+fn is_triple_form(word: &str, first: &str, second: &str, third: &str) -> bool
+    ensures { result ≡ is_some (command_for (word.now ∷ first.now ∷ second.now ∷ third.now ∷ [])) }
 {
-    word == "soak"
-        && is_value(seed)
-        && is_value(ports)
-        && is_value(slots)
-        && soak(seed, ports, slots).is_some()
+    match word {
+        "soak" => is_soak_form(first, second, third),
+        "part" => is_part_form(first, second, third),
+        _ => false,
+    }
+}
+
+fn is_soak_form(seed: &str, ports: &str, slots: &str) -> bool
+    ensures { result ≡ is_some (command_for (codes "soak" ∷ seed.now ∷ ports.now ∷ slots.now ∷ [])) }
+{
+    is_value(seed) && is_value(ports) && is_value(slots) && soak(seed, ports, slots).is_some()
+}
+
+fn is_part_form(config: &str, slots: &str, state: &str) -> bool
+    ensures { result ≡ is_some (command_for (codes "part" ∷ config.now ∷ slots.now ∷ state.now ∷ [])) }
+{
+    is_value(config) && is_value(slots) && is_value(state) && slots_of(slots).is_some()
 }
 
 // The word may stand for a value.

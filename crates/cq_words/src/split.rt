@@ -16,7 +16,9 @@ ghost use Rattle.cq_words.specs.Line.{
   command_found,
   config_form,
   line as whole_line,
+  part_form,
   pass_form,
+  resume_form,
   soak_form,
   value_rule,
   with_form,
@@ -58,7 +60,9 @@ fn line<'a>(alloc: Global) -> Result<Command<'a>, AllocError>
     let line = with_subcommand(line, config(alloc, "ideal")?)?;
     let line = with_subcommand(line, config(alloc, "run")?)?;
     let line = with_subcommand(line, soak(alloc)?)?;
-    with_subcommand(line, config(alloc, "audit")?)
+    let line = with_subcommand(line, config(alloc, "audit")?)?;
+    let line = with_subcommand(line, part(alloc)?)?;
+    with_subcommand(line, resume(alloc)?)
 }
 
 fn pass<'a>(alloc: Global) -> Result<Command<'a>, AllocError>
@@ -83,6 +87,23 @@ fn soak<'a>(alloc: Global) -> Result<Command<'a>, AllocError>
     let soak = with_value(alloc, soak, "SEED")?;
     let soak = with_value(alloc, soak, "PORTS")?;
     with_value(alloc, soak, "SLOTS")
+}
+
+fn part<'a>(alloc: Global) -> Result<Command<'a>, AllocError>
+    ensures { IfOk result (IsForm part_form) }
+{
+    let part = Command::new(alloc, "part");
+    let part = with_value(alloc, part, "CONFIG")?;
+    let part = with_value(alloc, part, "SLOTS")?;
+    with_value(alloc, part, "STATE")
+}
+
+fn resume<'a>(alloc: Global) -> Result<Command<'a>, AllocError>
+    ensures { IfOk result (IsForm resume_form) }
+{
+    let resume = Command::new(alloc, "resume");
+    let resume = with_value(alloc, resume, "CONFIG")?;
+    with_value(alloc, resume, "STATE")
 }
 
 // The form with one more value, which the words must give.

@@ -35,12 +35,26 @@ fn said_of(alloc: Global, line: &str) -> Result<String, Fail> {
             let config = config.text();
             Ok(format!(in alloc; "audits {config}")?)
         }
+        Some(
+            Command::Part {
+                config,
+                slots,
+                state,
+            },
+        ) => {
+            let (config, state) = (config.text(), state.text());
+            Ok(format!(in alloc; "{slots} slots of {config} to {state}")?)
+        }
+        Some(Command::Resume { config, state }) => {
+            let (config, state) = (config.text(), state.text());
+            Ok(format!(in alloc; "{config} from {state}")?)
+        }
     }
 }
 
 #[test]
 fn words_of_a_form_are_its_command(rt: HostRuntime) -> Result<(), Fail> {
-    let cases: [(&str, &str); 12] = [
+    let cases: [(&str, &str); 15] = [
         ("pass a b", "from a to b"),
         ("pass a a", "from a to a"),
         ("check c.toml", "checks c.toml"),
@@ -49,6 +63,12 @@ fn words_of_a_form_are_its_command(rt: HostRuntime) -> Result<(), Fail> {
         ("run c.toml", "runs c.toml"),
         ("run help", "runs help"),
         ("run =", "runs ="),
+        ("part c 00 s", "0 slots of c to s"),
+        (
+            "part c 9223372036854775807 s",
+            "9223372036854775807 slots of c to s",
+        ),
+        ("resume c s", "c from s"),
         ("soak 1 8 2000", "seed 1, 8 ports, 2000 slots"),
         ("soak 0 64 20000", "seed 0, 64 ports, 20000 slots"),
         (
@@ -69,7 +89,7 @@ fn words_of_a_form_are_its_command(rt: HostRuntime) -> Result<(), Fail> {
 
 #[test]
 fn other_words_are_no_command(rt: HostRuntime) -> Result<(), Fail> {
-    let lines: [&str; 30] = [
+    let lines: [&str; 35] = [
         "",
         "run",
         "run a b",
@@ -92,6 +112,11 @@ fn other_words_are_no_command(rt: HostRuntime) -> Result<(), Fail> {
         "-h",
         "soak",
         "soak 1 8",
+        "part c 9223372036854775808 s",
+        "part c -1 s",
+        "part c 000000000000000000001 s",
+        "resume c",
+        "resume c 1 s",
         "soak 1 8 10 1",
         "soak 1 65 10",
         "soak 1 0 10",

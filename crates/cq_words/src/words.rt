@@ -2,9 +2,9 @@
 ghost use Rattle.std.specs.Prelude.{◌≡◌, IfErr, IfOk, codes, is_some, map, string_bytes, option_and_then, true};
 ghost use Rattle.clap.specs.Words.{first_of, found_of, rows_of, subcommand_rows_of};
 ghost use Rattle.cq_words.specs.Words.{command_for, with_config as config_command};
-ghost use Rattle.cq_words.specs.Line.{captures_in, command_found, numbers_in};
+ghost use Rattle.cq_words.specs.Line.{captures_in, command_found, numbers_in, slots_in, state_in};
 
-use crate::command::{Command, soak};
+use crate::command::{Command, slots_of, soak};
 use crate::judge::is_command;
 use crate::split::{split, value};
 use clap::ArgMatches;
@@ -36,6 +36,8 @@ fn found(alloc: Global, matches: &ArgMatches) -> Result<Option<Command>, NoMemor
     match word {
         "pass" => with_captures(alloc, values),
         "soak" => Ok(with_numbers(values)),
+        "part" => with_slots(alloc, values),
+        "resume" => with_state(alloc, values),
         _ => with_config(alloc, word, values),
     }
 }
@@ -72,6 +74,48 @@ fn with_captures(alloc: Global, values: &ArgMatches) -> Result<Option<Command>, 
     let from = Name::of(alloc, from)?;
     let to = Name::of(alloc, to)?;
     Ok(Some(Command::Pass { from, to }))
+}
+
+// The command of a configuration, a number of slots, and the name of a state.
+fn with_slots(alloc: Global, values: &ArgMatches) -> Result<Option<Command>, NoMemory>
+    ensures { IfOk result (λ command. let rows = rows_of (found_of values.now) in command ≡ slots_in
+        (first_of (codes "CONFIG") rows) (first_of (codes "SLOTS") rows) (first_of (codes "STATE") rows)) }
+{
+    let Some(config) = value(values, "CONFIG") else {
+        return Ok(None);
+    };
+    let Some(slots) = value(values, "SLOTS") else {
+        return Ok(None);
+    };
+    let Some(state) = value(values, "STATE") else {
+        return Ok(None);
+    };
+    let Some(slots) = slots_of(slots) else {
+        return Ok(None);
+    };
+    let config = Name::of(alloc, config)?;
+    let state = Name::of(alloc, state)?;
+    Ok(Some(Command::Part {
+        config,
+        slots,
+        state,
+    }))
+}
+
+// The command of a configuration and the name of a state.
+fn with_state(alloc: Global, values: &ArgMatches) -> Result<Option<Command>, NoMemory>
+    ensures { IfOk result (λ command. let rows = rows_of (found_of values.now) in
+        command ≡ state_in (first_of (codes "CONFIG") rows) (first_of (codes "STATE") rows)) }
+{
+    let Some(config) = value(values, "CONFIG") else {
+        return Ok(None);
+    };
+    let Some(state) = value(values, "STATE") else {
+        return Ok(None);
+    };
+    let config = Name::of(alloc, config)?;
+    let state = Name::of(alloc, state)?;
+    Ok(Some(Command::Resume { config, state }))
 }
 
 // The command of three numbers.

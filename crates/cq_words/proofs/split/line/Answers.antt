@@ -1,7 +1,7 @@
 use Rattle.std.proofs.Common.{◌≡◌, ◌∙◌, ap₂, codes}
 use Rattle.std.proofs.lemmas.Result.{IfOk-weaker}
 use Rattle.clap.specs.Words.{app_of}
-use Rattle.cq_words.specs.Line.{bare_line, config_form, pass_form, soak_form, with_form}
+use Rattle.cq_words.specs.Line.{bare_line, config_form, part_form, pass_form, soak_form, with_form}
 use Rattle.cq_words.proofs.Bare.{bare_is}
 use Rattle.cq_words.proofs.split.line.Goals as goal
 
@@ -20,4 +20,8 @@ returns c =
     c.in_ok-line-4.ensures ∙ ap₂ with_form three c.in_ok-config-3.ensures.0 in
     let five : app_of c.in_ok-line-5.line ≡ with_form (with_form (with_form (with_form (with_form bare_line pass_form) (config_form (codes "check"))) (config_form (codes "ideal"))) (config_form (codes "run"))) soak_form =
     c.in_ok-line-5.ensures ∙ ap₂ with_form four c.in_ok-soak.ensures.0 in
-    IfOk-weaker c.with_subcommand-6.result _ _ (λ r h. h ∙ ap₂ with_form five c.in_ok-config-4.ensures.0) c.with_subcommand-6.ensures
+    let six : app_of c.in_ok-line-6.line ≡ with_form (with_form (with_form (with_form (with_form (with_form bare_line pass_form) (config_form (codes "check"))) (config_form (codes "ideal"))) (config_form (codes "run"))) soak_form) (config_form (codes "audit")) =
+    c.in_ok-line-6.ensures ∙ ap₂ with_form five c.in_ok-config-4.ensures.0 in
+    let seven : app_of c.in_ok-line-7.line ≡ with_form (with_form (with_form (with_form (with_form (with_form (with_form bare_line pass_form) (config_form (codes "check"))) (config_form (codes "ideal"))) (config_form (codes "run"))) soak_form) (config_form (codes "audit"))) part_form =
+    c.in_ok-line-7.ensures ∙ ap₂ with_form six c.in_ok-part.ensures.0 in
+    IfOk-weaker c.with_subcommand-8.result _ _ (λ r h. h ∙ ap₂ with_form seven c.in_ok-resume.ensures.0) c.with_subcommand-8.ensures
