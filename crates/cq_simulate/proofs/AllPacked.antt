@@ -1,7 +1,7 @@
 -- Packets that are put together at all outputs in one pass. When so many departures were used up, those that are left
 -- are the others, and each output stands where a walk over its own departures would stand (`SoFar`). One departure more
 -- goes on with the walk at its output, and passes by those at all others.
-use Rattle.std.proofs.Common.{◌≡◌, ◌≢◌, ℕ, ◌+◌, ◌<◌, ◌≤◌, All, List, [], ◌∷◌, ◌++◌, length, drop, get_or, set, Option, Some, None, Ok, option_to_list, refl, sym, ap, ◌∙◌, subst, ⊎_elim, arith}
+use Rattle.std.proofs.Common.{◌≡◌, ◌≢◌, ℕ, ◌+◌, ◌<◌, ◌≤◌, All, List, [], ◌∷◌, ◌++◌, length, drop, get_or, set, Option, Some, None, option_to_list, refl, sym, ap, ◌∙◌, subst, ⊎_elim, arith}
 use Rattle.std.proofs.lemmas.Bool.{cases_eq}
 use Rattle.std.proofs.lemmas.List.{append-nil, drop_more, get_or-set_other, get_or-set_same, length-drop, length-set, take_all}
 use Rattle.cq_base.specs.declared.cell.Departure.{Departure}
@@ -10,8 +10,7 @@ use Rattle.cq_pcap.specs.Captured.{Captured}
 use Rattle.cq_pcap.specs.declared.write.OutPacket.{OutPacket}
 use Rattle.cq_route.specs.Tables.{AreTables, ports_of}
 use Rattle.cq_route.specs.declared.tables.Tables.{Tables}
-use Rattle.cq_simulate.specs.IdealRuns.{ideal_departures}
-use Rattle.cq_simulate.specs.Packets.{ArePacked, packets_out}
+use Rattle.cq_simulate.specs.Packets.{ArePacked, LeaveWhole, packets_out}
 use Rattle.cq_simulate.specs.Pieces.{CanTake, IsEmptied, Took, left_with}
 use Rattle.cq_simulate.specs.declared.packing.Packing.{Packing}
 use Rattle.cq_simulate.proofs.Departed.{departed_captured, departed_class, departed_output}
@@ -81,7 +80,7 @@ module _ (t : Tables) (captures : List (List Captured)) (sent left rest : List D
   others_left = sym (ap (λ (ds : List Departure). drop 1 ds) parts)
 
   module _ (are : AreTables t) (many : length captures ≡ ports_of t.setup)
-      (whole : ideal_departures t (arrivals t captures) ≡ Ok sent) where
+      (whole : LeaveWhole (arrivals t captures) sent) where
     pub at_port : d.output < length places
     at_port =
         let of_port : (get_or sent so_far.done d).output < ports_of t.setup =

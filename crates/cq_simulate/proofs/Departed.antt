@@ -28,6 +28,7 @@ use Rattle.cq_pcap.specs.Captured.{Captured}
 use Rattle.cq_route.specs.Tables.{AreTables, IsSetup, classes_of, ports_of}
 use Rattle.cq_route.specs.declared.tables.Tables.{Tables}
 use Rattle.cq_scfq.specs.Disciplines.{machines_of, openings_of}
+use Rattle.cq_simulate.specs.Packets.{LeaveWhole, LeftInPackets}
 use Rattle.cq_simulate.specs.Pieces.{IsCaptured}
 use Rattle.cq_simulate.specs.IdealRuns.{ideal_departures, ran_ideal, slots_ran}
 use Rattle.cq_simulate.proofs.OfPackets.{packets_come}
@@ -40,14 +41,10 @@ ran_ok : (P : List Departure → Type 0) (x : Result LimitedRan TagFault) (sent 
 ran_ok P (Ok ran) sent h f = let same : departures_of 0 ran.gone ≡ sent = cc in subst P same (f ran refl)
 ran_ok P (Err fault) sent h f = absurd (let P : ⊥ = cc in P)
 
--- the cells of these packets of an input left, of each flow in the order in which they came
-pub record LeftInPackets (came : List Arrival) (i : ℕ) (sent : List Departure) : Type 0 where
-  pub is_taken : ℕ → Bool
-  pub left : (c j : ℕ) → left_in_flow i c j sent ≡ filter (λ cell. is_taken cell.id.packet) (came_in_flow i c j came)
-
+-- what the ideal switch sends leaves in whole packets
 pub left_in_packets : (t : Tables) (captures : List (List Captured)) (sent : List Departure) → AreTables t →
-    length captures ≡ ports_of t.setup → ideal_departures t (arrivals t captures) ≡ Ok sent → (i : ℕ) →
-    LeftInPackets (arrivals t captures) i sent
+    length captures ≡ ports_of t.setup → ideal_departures t (arrivals t captures) ≡ Ok sent →
+    LeaveWhole (arrivals t captures) sent
 unfolding ideal_departures ran_ideal
 left_in_packets t captures sent are many h i =
     let came = arrivals t captures in
@@ -95,7 +92,7 @@ all_taken P p (x ∷ cells) all =
 
 -- what holds of all that came of its flow holds of a cell that departs
 module _ (t : Tables) (captures : List (List Captured)) (sent : List Departure) (are : AreTables t)
-    (many : length captures ≡ ports_of t.setup) (whole : ideal_departures t (arrivals t captures) ≡ Ok sent)
+    (many : length captures ≡ ports_of t.setup) (whole : LeaveWhole (arrivals t captures) sent)
     (k : ℕ) (e : Departure) (inside : k < length sent) where
   flow_departed : (P : Cell → Type 0) →
       AllByRecursion P (came_in_flow (get_or sent k e).queued.cell.id.input (get_or sent k e).queued.cell.class (get_or
@@ -104,7 +101,7 @@ module _ (t : Tables) (captures : List (List Captured)) (sent : List Departure) 
       let d : Departure = get_or sent k e in
       let i = d.queued.cell.id.input in
       let c = d.queued.cell.class in
-      let l = left_in_packets t captures sent are many whole i in
+      let l = whole i in
       let came = came_in_flow i c d.output (arrivals t captures) in
       let taken = all_taken P (λ cell. l.is_taken cell.id.packet) came all in
       one_left P i c d.output sent k e (subst (AllByRecursion P) (sym (l.left c d.output)) taken) inside (own_flow d)
@@ -153,7 +150,7 @@ module _ (ports i c j : ℕ) where
       (λ of. (for_port a of all.0, came_for_port came all.1)) (λ _. came_for_port came all.1)
 
 module _ (t : Tables) (captures : List (List Captured)) (sent : List Departure) (are : AreTables t)
-    (many : length captures ≡ ports_of t.setup) (whole : ideal_departures t (arrivals t captures) ≡ Ok sent)
+    (many : length captures ≡ ports_of t.setup) (whole : LeaveWhole (arrivals t captures) sent)
     (k : ℕ) (e : Departure) (inside : k < length sent) where
   pub departed_captured : IsCaptured captures (get_or sent k e).queued.cell
   departed_captured =

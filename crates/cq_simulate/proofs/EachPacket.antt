@@ -24,7 +24,7 @@ use Rattle.cq_pcap.specs.Captured.{Captured}
 use Rattle.cq_route.specs.Tables.{AreTables, ports_of}
 use Rattle.cq_route.specs.declared.tables.Tables.{Tables}
 use Rattle.cq_scfq.specs.Disciplines.{machines_of, openings_of}
-use Rattle.cq_simulate.proofs.Departed.{departed}
+use Rattle.cq_simulate.proofs.Departed.{departed, left_in_packets}
 use Rattle.cq_simulate.proofs.FabricLaws.{slot_by_slot}
 use Rattle.cq_simulate.proofs.LeftOrRefused.{all_once, each_once}
 use Rattle.cq_simulate.proofs.OfPackets.{packets_come}
@@ -69,7 +69,8 @@ module _ (t : Tables) (captures : List (List Captured)) (tables : AreTables t)
     left =
         recursion_from_All (λ d. IsOfPacket t captures d.queued.cell) sent
         (λ k d inside.
-        departed t captures sent tables many as_departed k d inside (IsOfPacket t captures) (all_of_packets t captures))
+        departed t captures sent tables many (left_in_packets t captures sent tables many as_departed) k d inside
+        (IsOfPacket t captures) (all_of_packets t captures))
 
     lost : AllByRecursion (IsOfPacket t captures) (refused_in ran.admissions)
     unfolding ran_ideal

@@ -1,6 +1,6 @@
 -- The walk over the departures. Of each input and class that is open which the cells taken so far leave open, and the
 -- packets made so far are those that left.
-use Rattle.std.proofs.Common.{◌≡◌, ◌≢◌, ℕ, suc, ◌+◌, ◌<◌, ◌≤◌, Bool, true, false, cond, List, [], ◌∷◌, ◌++◌, length, map, take, drop, get_or, Option, Some, None, Ok, refl, sym, ap, ◌∙◌, subst, ⊎_elim, inl, inr, arith}
+use Rattle.std.proofs.Common.{◌≡◌, ◌≢◌, ℕ, suc, ◌+◌, ◌<◌, ◌≤◌, Bool, true, false, cond, List, [], ◌∷◌, ◌++◌, length, map, take, drop, get_or, Option, Some, None, refl, sym, ap, ◌∙◌, subst, ⊎_elim, inl, inr, arith}
 use Rattle.std.specs.Prelude.{◌&&◌, ◌==◌, All}
 use Rattle.std.specs.List.{filter}
 use Rattle.std.proofs.lemmas.Bool.{cases_eq, cond-true, cond-false, eq-eqb, ne_eqb, and_from, and_left, and_right}
@@ -16,10 +16,9 @@ use Rattle.cq_reasm.specs.Joining.{JoinerView, IsOtherPair, open_after, open_at}
 use Rattle.cq_reasm.specs.Open.{Open}
 use Rattle.cq_route.specs.Tables.{AreTables, ports_of}
 use Rattle.cq_route.specs.declared.tables.Tables.{Tables}
-use Rattle.cq_simulate.specs.IdealRuns.{ideal_departures}
-use Rattle.cq_simulate.specs.Packets.{ends_packet_at, leaving, packets_out}
+use Rattle.cq_simulate.specs.Packets.{LeaveWhole, ends_packet_at, leaving, packets_out}
 use Rattle.cq_simulate.specs.Pieces.{Fits, left_with, opened, piece_at}
-use Rattle.cq_simulate.proofs.Departed.{departed_output, left_in_packets}
+use Rattle.cq_simulate.proofs.Departed.{departed_output}
 use Rattle.cq_simulate.proofs.Joining.{flow_fits, opened-append}
 use Rattle.cq_simulate.proofs.Packed.{none_packed, one_packed}
 
@@ -75,7 +74,7 @@ module _ (t : Tables) (captures : List (List Captured)) (sent : List Departure) 
         (and_from (c.id.input == c.id.input) (c.class == c.class) (eq-eqb c.id.input c.id.input refl) (eq-eqb c.class c.class refl))
 
     pub cell_fits : (joiner : JoinerView) (packets : List OutPacket) → SoFar t captures sent output k joiner packets →
-        AreTables t → length captures ≡ ports_of t.setup → ideal_departures t (arrivals t captures) ≡ Ok sent →
+        AreTables t → length captures ≡ ports_of t.setup → LeaveWhole (arrivals t captures) sent →
         (get_or sent k e).queued.cell.class < length t.setup.classes →
         Fits captures (open_at joiner (get_or sent k e).queued.cell.id.input (get_or sent k e).queued.cell.class)
         (get_or sent k e).queued.cell
@@ -84,7 +83,7 @@ module _ (t : Tables) (captures : List (List Captured)) (sent : List Departure) 
         let i = d.queued.cell.id.input in
         let c = d.queued.cell.class in
         let parts : take k sent ++ (d ∷ drop (k + 1) sent) ≡ sent = ap (λ (l : List Departure). take k sent ++ l) (sym (drop_more sent k e inside)) ∙ take-append-drop k sent in
-        let l = left_in_packets t captures sent are many whole i in
+        let l = whole i in
         subst (λ (o : Option Open). Fits captures o d.queued.cell) (sym (so_far.open_packets i c few))
         (flow_fits t captures i (let b = are.cell_bytes in omega arith) c output l.is_taken
         (left_in_flow i c output (take k sent)) d.queued.cell (left_in_flow i c output (drop (k + 1) sent))
@@ -177,7 +176,7 @@ none_of p (x ∷ xs) h = cond-false (p x) (x ∷ filter p xs) (filter p xs) (h 0
 
 -- at what is no port nothing departs
 pub nowhere : (t : Tables) (captures : List (List Captured)) (sent : List Departure) (output : ℕ) → AreTables t →
-    length captures ≡ ports_of t.setup → ideal_departures t (arrivals t captures) ≡ Ok sent →
+    length captures ≡ ports_of t.setup → LeaveWhole (arrivals t captures) sent →
     ports_of t.setup ≤ output → packets_out t captures sent output ≡ []
 unfolding packets_out
 nowhere t captures sent output are many whole none =

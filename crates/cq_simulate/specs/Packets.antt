@@ -1,12 +1,24 @@
 -- The packets that leave an output.
 use Rattle.std.specs.Prelude.{◌≡◌, ℕ, ◌+◌, ◌*◌, ◌<◌, ◌≤◌, ◌&&◌, ◌==◌, All, Bool, List, length, map, filter, slice_index_or}
+use Rattle.cq_base.specs.Arriving.{Arrival}
 use Rattle.cq_base.specs.declared.cell.Departure.{Departure}
 use Rattle.cq_cells.specs.Schedule.{first_stamp, packet_at}
+use Rattle.cq_ideal.specs.Flows.{came_in_flow, left_in_flow}
 use Rattle.cq_pcap.specs.Captured.{Captured}
 use Rattle.cq_pcap.specs.declared.write.OutPacket.{OutPacket}
 use Rattle.cq_route.specs.Tables.{ports_of}
 use Rattle.cq_route.specs.declared.tables.Tables.{Tables}
 use Rattle.cq_simulate.specs.declared.packing.Packing.{Packing}
+
+-- of each class and for each output, the cells of some packets of input i left, all cells of each, in the order in which they
+-- came
+pub record LeftInPackets (came : List Arrival) (i : ℕ) (sent : List Departure) : Type 0 where
+  pub is_taken : ℕ → Bool
+  pub left : (c j : ℕ) → left_in_flow i c j sent ≡ filter (λ cell. is_taken cell.id.packet) (came_in_flow i c j came)
+
+-- the cells that departed are those of whole packets, one packet after another of each input, class and output
+abbrev pub LeaveWhole : List Arrival → List Departure → Type 0
+LeaveWhole came sent = (i : ℕ) → LeftInPackets came i sent
 
 -- whether the last cell of a packet departs at this output
 abbrev pub ends_packet_at : ℕ → Departure → Bool

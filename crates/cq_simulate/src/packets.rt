@@ -1,10 +1,9 @@
 //! The packets that leave an output.
-ghost use Rattle.std.specs.Prelude.{◌≡◌, ◌+◌, ◌*◌, ◌<◌, ◌≤◌, ℕ, All, IfOk, IfSome, OnOk, Ok, [], length};
+ghost use Rattle.std.specs.Prelude.{◌≡◌, ◌+◌, ◌*◌, ◌<◌, ◌≤◌, ℕ, All, IfOk, IfSome, OnOk, [], length};
 ghost use Rattle.cq_cells.specs.Schedule.{arrivals, first_stamp, packet_at, packets_of as packets_at};
 ghost use Rattle.cq_route.specs.Tables.{AreTables, ports_of};
-ghost use Rattle.cq_simulate.specs.IdealRuns.{ideal_departures};
 ghost use Rattle.cq_reasm.specs.Joining.{IsOtherPair, open_after, open_at};
-ghost use Rattle.cq_simulate.specs.Packets.{packets_out};
+ghost use Rattle.cq_simulate.specs.Packets.{LeaveWhole, packets_out};
 ghost use Rattle.cq_simulate.specs.Pieces.{Fits, IsCaptured, left_with, piece_at};
 
 use cq_base::{Cell, Departure, NoMemory, Port, Slot};
@@ -14,10 +13,10 @@ use cq_route::Tables;
 use std::alloc::Global;
 
 /// The packets that leave an output, in the order in which their last cells depart: each with the stamp
-/// of that slot, its original length, and its captured bytes. `sent` is a whole run over the schedule of
-/// these captures, and `t0` the stamp from which its slots are counted, in nanoseconds. From an output that
-/// is no port nothing departs, so no packet leaves it; and a packet that is refused does not leave. The error is
-/// want of memory.
+/// of that slot, its original length, and its captured bytes. `sent` is what departs in a run over the schedule of
+/// these captures that comes to its end: of each input, class and output whole packets, one after another. `t0` is the
+/// stamp from which its slots are counted, in nanoseconds. From an output that is no port nothing departs, so no packet
+/// leaves it; and a packet that is refused does not leave. The error is want of memory.
 pub fn packets_of(
     alloc: Global,
     output: Port,
@@ -28,7 +27,7 @@ pub fn packets_of(
 ) -> Result<Vec<OutPacket>, NoMemory>
     requires tables { AreTables tables.now }
     requires captures { length captures.now ≡ ports_of tables.now.setup }
-    requires sent { ideal_departures tables.now (arrivals tables.now captures.now) ≡ Ok sent.now }
+    requires whole { LeaveWhole (arrivals tables.now captures.now) sent.now }
     requires t0 { t0 ≡ first_stamp captures.now }
     ensures packets { IfOk result (λ packets. packets.items ≡ packets_out tables.now captures.now sent.now output) }
     ensures nowhere { ports_of tables.now.setup ≤ output → IfOk result (λ packets. packets.items ≡ []) }

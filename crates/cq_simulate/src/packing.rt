@@ -1,9 +1,8 @@
 //! The packets that leave all outputs, put together in one pass over the departures.
-ghost use Rattle.std.specs.Prelude.{◌≡◌, ◌≤◌, All, IfOk, OnOk, Ok, length};
+ghost use Rattle.std.specs.Prelude.{◌≡◌, ◌≤◌, All, IfOk, OnOk, length};
 ghost use Rattle.cq_cells.specs.Schedule.{arrivals, first_stamp};
 ghost use Rattle.cq_route.specs.Tables.{AreTables, ports_of};
-ghost use Rattle.cq_simulate.specs.IdealRuns.{ideal_departures};
-ghost use Rattle.cq_simulate.specs.Packets.{ArePacked};
+ghost use Rattle.cq_simulate.specs.Packets.{ArePacked, LeaveWhole};
 ghost use Rattle.cq_simulate.specs.Pieces.{CanTake, IsEmptied, Took};
 
 use crate::packets::take;
@@ -32,7 +31,7 @@ pub fn packets_of_all(
 ) -> Result<Vec<Packing>, NoMemory>
     requires tables { AreTables tables.now }
     requires captures { length captures.now ≡ ports_of tables.now.setup }
-    requires sent { ideal_departures tables.now (arrivals tables.now captures.now) ≡ Ok sent.items }
+    requires whole { LeaveWhole (arrivals tables.now captures.now) sent.items }
     requires t0 { t0 ≡ first_stamp captures.now }
     ensures { IfOk result (λ places. ArePacked tables.now captures.now sent.items places.items) }
 {

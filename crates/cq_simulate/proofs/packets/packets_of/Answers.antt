@@ -19,22 +19,22 @@ departures-init c =
 pub take-requires-clause-input : goal.take-requires-clause-input
 take-requires-clause-input c =
     let same = c.departures.invariant.inputs in
-    let inside = (departed_captured c.args.tables.now c.args.captures.now c.args.sent.now c.requires.tables c.requires.captures c.requires.sent c.departures.departure-index _ c.departures-test.true).input in
+    let inside = (departed_captured c.args.tables.now c.args.captures.now c.args.sent.now c.requires.tables c.requires.captures c.requires.whole c.departures.departure-index _ c.departures-test.true).input in
     rw same inside
 
 pub take-requires-clause-class : goal.take-requires-clause-class
 take-requires-clause-class c =
     rw c.departures.invariant.classes
-    (departed_class c.args.tables.now c.args.captures.now c.args.sent.now c.requires.tables c.requires.captures c.requires.sent c.departures.departure-index _ c.departures-test.true)
+    (departed_class c.args.tables.now c.args.captures.now c.args.sent.now c.requires.tables c.requires.captures c.requires.whole c.departures.departure-index _ c.departures-test.true)
 
 pub take-requires-clause-captured : goal.take-requires-clause-captured
 take-requires-clause-captured c =
-    departed_captured c.args.tables.now c.args.captures.now c.args.sent.now c.requires.tables c.requires.captures c.requires.sent c.departures.departure-index _ c.departures-test.true
+    departed_captured c.args.tables.now c.args.captures.now c.args.sent.now c.requires.tables c.requires.captures c.requires.whole c.departures.departure-index _ c.departures-test.true
 
 pub take-requires-clause-fits : goal.take-requires-clause-fits
 take-requires-clause-fits c =
-    cell_fits c.args.tables.now c.args.captures.now c.args.sent.now c.args.output c.departures.departure-index _ c.departures-test.true c.if-departure-output.true c.departures.joiner c.departures.packets.items c.departures.invariant c.requires.tables c.requires.captures c.requires.sent
-    (departed_class c.args.tables.now c.args.captures.now c.args.sent.now c.requires.tables c.requires.captures c.requires.sent c.departures.departure-index _ c.departures-test.true)
+    cell_fits c.args.tables.now c.args.captures.now c.args.sent.now c.args.output c.departures.departure-index _ c.departures-test.true c.if-departure-output.true c.departures.joiner c.departures.packets.items c.departures.invariant c.requires.tables c.requires.captures c.requires.whole
+    (departed_class c.args.tables.now c.args.captures.now c.args.sent.now c.requires.tables c.requires.captures c.requires.whole c.departures.departure-index _ c.departures-test.true)
 
 pub departures-preserved : goal.departures-preserved
 departures-preserved c =
@@ -67,4 +67,4 @@ returns-clause-nowhere c none =
     let k = c.departures.departure-index in
     let end : length sent ≤ k = omega (arith, c.departures-test.false) in
     c.departures.invariant.made ∙ ap (λ (l : List Departure). packets_out t captures l c.args.output) (take_all k sent end)
-    ∙ nowhere t captures sent c.args.output c.requires.tables c.requires.captures c.requires.sent none
+    ∙ nowhere t captures sent c.args.output c.requires.tables c.requires.captures c.requires.whole none

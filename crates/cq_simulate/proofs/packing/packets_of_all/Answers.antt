@@ -18,14 +18,14 @@ index_mut-requires c =
     let inside : c.in-Some.departure.output < length c.departures.places.items =
     at_port c.args.tables.now c.args.captures.now c.args.sent.items c.departures.left c.pop_first.new.self
     c.departures.places.items c.in-Some.departure c.departures.invariant c.in-Some.ensures c.requires.tables
-    c.requires.captures c.requires.sent in
+    c.requires.captures c.requires.whole in
     omega (arith, c.departures.places.ok.0)
 
 pub take-requires-clause-can : goal.take-requires-clause-can
 take-requires-clause-can c =
     can_take c.args.tables.now c.args.captures.now c.args.sent.items c.departures.left c.pop_first.new.self
     c.departures.places.items c.in-Some.departure c.departures.invariant c.in-Some.ensures c.requires.tables
-    c.requires.captures c.requires.sent c.index_mut.result.now c.index_mut.ensures.value
+    c.requires.captures c.requires.whole c.index_mut.result.now c.index_mut.ensures.value
 
 pub departures-smaller : goal.departures-smaller
 departures-smaller c = let shorter = ap length c.in-Some.ensures in omega arith
@@ -34,7 +34,7 @@ pub departures-preserved : goal.departures-preserved
 departures-preserved c =
     one_more c.args.tables.now c.args.captures.now c.args.sent.items c.departures.left c.pop_first.new.self
     c.departures.places.items c.in-Some.departure c.departures.invariant c.in-Some.ensures c.requires.tables
-    c.requires.captures c.requires.sent c.index_mut.result.now c.index_mut.ensures.value c.take.new.self
+    c.requires.captures c.requires.whole c.index_mut.result.now c.index_mut.ensures.value c.take.new.self
     c.in_ok-take.ensures
 
 pub returns : goal.returns

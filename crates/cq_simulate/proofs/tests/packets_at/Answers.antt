@@ -1,0 +1,16 @@
+use Rattle.std.proofs.Common.{◌∙◌, List, ap, subst, sym}
+use Rattle.cq_base.specs.declared.cell.Departure.{Departure}
+use Rattle.cq_cells.specs.Schedule.{arrivals}
+use Rattle.cq_simulate.specs.IdealRuns.{ideal_departures}
+use Rattle.cq_simulate.specs.Packets.{LeaveWhole}
+use Rattle.cq_simulate.proofs.Departed.{left_in_packets}
+use Rattle.cq_simulate.proofs.tests.packets_at.Goals as goal
+
+pub packets_of-requires-clause-whole : goal.packets_of-requires-clause-whole
+packets_of-requires-clause-whole g c =
+    let t = c.args.tables.now in
+    let captures = c.args.captures.now in
+    let P : List Departure → Type 0 = λ sent. LeaveWhole (arrivals t captures) sent in
+    subst P (sym c.items.ensures)
+    (left_in_packets t captures c.in_ok-run.run'.sent.items c.requires.tables c.requires.captures
+    (ap (λ s. ideal_departures t s.came) (sym c.in_ok-schedule.ensures.schedule) ∙ c.in_ok-run.ensures.sent))
