@@ -10,14 +10,17 @@ use Rattle.cq_base.specs.declared.cell.Transfer.{Transfer}
 use Rattle.cq_cells.specs.Schedule.{arrivals}
 use Rattle.cq_pcap.specs.Captured.{Captured}
 use Rattle.cq_pcap.specs.Written.{written}
-use Rattle.cq_route.specs.Tables.{ports_of}
+use Rattle.cq_route.specs.Tables.{AreTables, ports_of}
 use Rattle.cq_route.specs.declared.tables.PortRow.{PortRow}
 use Rattle.cq_route.specs.declared.tables.Tables.{Tables}
 use Rattle.cq_run.specs.Plan.{Plan}
 use Rattle.cq_run.specs.Plans.{capture_out, captures_out, switched}
-use Rattle.cq_run.specs.Verdict.{ideally_sent, sent_or_tag}
+use Rattle.cq_run.specs.Switching.{IsSent, IsSwitched}
+use Rattle.cq_run.specs.Verdict.{sent_or_tag}
+use Rattle.cq_run.specs.declared.switching.Switched.{Switched}
+use Rattle.cq_simulate.proofs.Departed.{left_in_packets}
 use Rattle.cq_simulate.specs.IdealRuns.{ideal_departures}
-use Rattle.cq_simulate.specs.Packets.{ArePacked}
+use Rattle.cq_simulate.specs.Packets.{ArePacked, LeaveWhole}
 use Rattle.cq_simulate.specs.declared.packing.Packing.{Packing}
 
 -- a plan of these names and this text
@@ -31,13 +34,21 @@ pub sent_ok : (sent : List Departure) (x : Result (List Departure) TagFault) →
 sent_ok sent (Ok ds) h = let same : ds ≡ sent = cc h in ap Ok same
 sent_ok sent (Err fault) h = absurd (let P : ⊥ = cc h in P)
 
+-- what the ideal switch sends leaves in whole packets
+pub switched_whole : (t : Tables) (captures : List (List Captured)) (s : Switched) → AreTables t →
+    length captures ≡ ports_of t.setup → IsSwitched t captures s → IsSent t captures s
+switched_whole t captures s are many is = record {
+  whole = left_in_packets t captures s.sent.items are many
+      (sent_ok s.sent.items (ideal_departures t (arrivals t captures)) is.sent);
+  first_stamp = is.first_stamp;
+}
+
 module _ (t : Tables) (captures : List (List Captured)) (sent : List Departure) where
-  -- what the ideal switch sends of captures that were lent
-  pub sent_of_lent : (lent : List (List Captured)) → lent ≡ captures → ideally_sent t captures ≡ Ok sent →
-      ideal_departures t (arrivals t lent) ≡ Ok sent
-  sent_of_lent lent same h =
-      ap (λ (cs : List (List Captured)). ideal_departures t (arrivals t cs)) same
-      ∙ sent_ok sent (ideal_departures t (arrivals t captures)) h
+  -- what leaves in whole packets of captures that were lent
+  pub whole_of_lent : (lent : List (List Captured)) → lent ≡ captures → LeaveWhole (arrivals t captures) sent →
+      LeaveWhole (arrivals t lent) sent
+  whole_of_lent lent same h =
+      let P : List (List Captured) → Type 0 = λ cs. LeaveWhole (arrivals t cs) sent in subst P (sym same) h
 
   -- what was put together at an output
   module _ (lent : List (List Captured)) (left places : List Packing) (same_captures : lent ≡ captures) (same : places ≡ left)

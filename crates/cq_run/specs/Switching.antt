@@ -1,7 +1,7 @@
 -- What is kept of a run until its bytes are built.
 use Rattle.std.specs.Prelude.{◌≡◌, ℕ, List, Option, None, Some, Ok}
 use Rattle.cq_base.specs.declared.cell.Departure.{Departure}
-use Rattle.cq_cells.specs.Schedule.{first_stamp}
+use Rattle.cq_cells.specs.Schedule.{arrivals, first_stamp}
 use Rattle.cq_ideal.specs.Refused.{refused_counts}
 use Rattle.cq_laws.specs.LimitedFabric.{LimitedRecord, slots_in}
 use Rattle.cq_laws.specs.Measures.{figures_of}
@@ -10,6 +10,7 @@ use Rattle.cq_pcap.specs.Captured.{Captured}
 use Rattle.cq_route.specs.declared.tables.Tables.{Tables}
 use Rattle.cq_route.specs.Tables.{ports_of}
 use Rattle.cq_simulate.specs.FabricRuns.{departures_in_run, refused_in_run}
+use Rattle.cq_simulate.specs.Packets.{LeaveWhole}
 use Rattle.cq_simulate.specs.declared.refusal.RunRefusal.{RunRefusal}
 use Rattle.cq_simulate.specs.declared.refusal.RunRefusal.TheVariants as run
 use Rattle.cq_run.specs.declared.refusal.CaptureFault.{CaptureFault}
@@ -28,7 +29,12 @@ pub record IsSwitched (t : Tables) (captures : List (List Captured)) (s : Switch
   pub sent : ideally_sent t captures ≡ Ok s.sent.items
   pub first_stamp : s.first_stamp ≡ first_stamp captures
 
--- the same of the crossbar switch, which keeps up, with its transfers, its figures and what was refused
+-- these departures leave in whole packets, and their slots are counted from this stamp
+pub record IsSent (t : Tables) (captures : List (List Captured)) (s : Switched) : Type 0 where
+  pub whole : LeaveWhole (arrivals t captures) s.sent.items
+  pub first_stamp : s.first_stamp ≡ first_stamp captures
+
+-- they are the departures of the crossbar switch, which keeps up, with its transfers, its figures and what was refused
 pub record IsCrossed (t : Tables) (captures : List (List Captured)) (c : Crossed) : Type 0 where
   pub switched : IsSwitched t captures c.switched
   pub records : List LimitedRecord

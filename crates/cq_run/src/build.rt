@@ -5,7 +5,7 @@ ghost use Rattle.cq_route.specs.Tables.{AreTables, ports_of};
 ghost use Rattle.cq_run.specs.Plans.{audited, capture_out, captures_out, check_line, checked, counted, switched, yes_line};
 ghost use Rattle.cq_report.specs.Report.{report_with};
 ghost use Rattle.cq_base.specs.Texts.{log_of, trace_of};
-ghost use Rattle.cq_run.specs.Switching.{IsSwitched};
+ghost use Rattle.cq_run.specs.Switching.{IsSent, IsSwitched};
 
 use crate::plan::{Work, Write};
 use crate::switching::{Crossed, Switched};
@@ -137,7 +137,7 @@ pub fn build_crossed(
 ) -> Result<Work, NoMemory>
     requires tables { AreTables tables.now }
     requires captures { length captures ≡ ports_of tables.now.setup }
-    requires run { IsSwitched tables.now captures run.switched }
+    requires run { IsSent tables.now captures run.switched }
     requires reportable { All (λ x. x.cells ≤ run.figures.slots) run.figures.outputs }
     ensures writes { IfOk result (λ plan. plan.writes ≡ captures_out tables.now captures run.switched.sent.items 0 tables.now.ports
         ++ (tables.now.trace, trace_of run.switched.sent.items) ∷ (tables.now.log, log_of run.note.items) ∷ []) }
@@ -176,7 +176,7 @@ fn build_captures(
 ) -> Result<Vec<Write>, NoMemory>
     requires tables { AreTables tables.now }
     requires captures { length captures ≡ ports_of tables.now.setup }
-    requires run { IsSwitched tables.now captures run }
+    requires run { IsSent tables.now captures run }
     ensures { IfOk result (λ writes. writes.items ≡ captures_out tables.now captures run.sent.items 0 tables.now.ports) }
 {
     let Switched { sent, first_stamp } = run;

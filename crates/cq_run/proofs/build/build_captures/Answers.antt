@@ -4,17 +4,17 @@ use Rattle.cq_pcap.specs.Captured.{Captured}
 use Rattle.cq_route.specs.Tables.{ports_of}
 use Rattle.cq_route.specs.declared.tables.PortRow.{PortRow}
 use Rattle.cq_run.specs.Plans.{captures_out}
-use Rattle.cq_run.proofs.Captures.{can_be_written, file_is, in_places, made_all, made_more, sent_of_lent}
+use Rattle.cq_run.proofs.Captures.{can_be_written, file_is, in_places, made_all, made_more, whole_of_lent}
 use Rattle.cq_run.proofs.build.build_captures.Goals as goal
 
 pub packets_of_all-requires-clause-captures : goal.packets_of_all-requires-clause-captures
 packets_of_all-requires-clause-captures c =
     ap (λ (cs : List (List Captured)). length cs) c.as_slice.ensures ∙ c.requires.captures
 
-pub packets_of_all-requires-clause-sent : goal.packets_of_all-requires-clause-sent
-packets_of_all-requires-clause-sent c =
-    sent_of_lent c.args.tables.now c.args.captures c.args.run.sent.items c.as_slice.result.now c.as_slice.ensures
-    c.requires.run.sent
+pub packets_of_all-requires-clause-whole : goal.packets_of_all-requires-clause-whole
+packets_of_all-requires-clause-whole c =
+    whole_of_lent c.args.tables.now c.args.captures c.args.run.sent.items c.as_slice.result.now c.as_slice.ensures
+    c.requires.run.whole
 
 pub packets_of_all-requires-clause-t0 : goal.packets_of_all-requires-clause-t0
 packets_of_all-requires-clause-t0 c = c.requires.run.first_stamp ∙ ap first_stamp (sym c.as_slice.ensures)

@@ -2,17 +2,19 @@ use Rattle.std.proofs.Common.{◌∙◌, List, length, ap, sym, arith}
 use Rattle.std.proofs.lemmas.Result.{IfOk-weaker}
 use Rattle.cq_cells.specs.Schedule.{first_stamp}
 use Rattle.cq_pcap.specs.Captured.{Captured}
-use Rattle.cq_run.proofs.Captures.{can_be_written, file_is, in_places, sent_of_lent}
+use Rattle.cq_run.proofs.Captures.{can_be_written, file_is, in_places, switched_whole, whole_of_lent}
 use Rattle.cq_run.proofs.build.build_first.Goals as goal
 
 pub packets_of_all-requires-clause-captures : goal.packets_of_all-requires-clause-captures
 packets_of_all-requires-clause-captures c =
     ap (λ (cs : List (List Captured)). length cs) c.deref.ensures.value ∙ c.requires.captures
 
-pub packets_of_all-requires-clause-sent : goal.packets_of_all-requires-clause-sent
-packets_of_all-requires-clause-sent c =
-    sent_of_lent c.args.tables.now c.args.captures.items c.args.run.sent.items c.deref.result.now c.deref.ensures.value
-    c.requires.run.sent
+pub packets_of_all-requires-clause-whole : goal.packets_of_all-requires-clause-whole
+packets_of_all-requires-clause-whole c =
+    whole_of_lent c.args.tables.now c.args.captures.items c.args.run.sent.items c.deref.result.now
+    c.deref.ensures.value
+    (switched_whole c.args.tables.now c.args.captures.items c.args.run c.requires.tables c.requires.captures
+    c.requires.run).whole
 
 pub packets_of_all-requires-clause-t0 : goal.packets_of_all-requires-clause-t0
 packets_of_all-requires-clause-t0 c = c.requires.run.first_stamp ∙ ap first_stamp (sym c.deref.ensures.value)

@@ -1,7 +1,11 @@
 use Rattle.std.proofs.Common.{◌∙◌, ap}
 use Rattle.cq_base.specs.Texts.{trace_of}
-use Rattle.cq_run.proofs.Captures.{switched_is}
+use Rattle.cq_run.proofs.Captures.{switched_is, switched_whole}
 use Rattle.cq_run.proofs.build.build_switched.Goals as goal
+
+pub build_captures-requires-clause-run : goal.build_captures-requires-clause-run
+build_captures-requires-clause-run c =
+    switched_whole c.args.tables.now c.args.captures c.args.run c.requires.tables c.requires.captures c.requires.run
 
 pub returns : goal.returns
 returns c =

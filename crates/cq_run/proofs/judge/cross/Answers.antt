@@ -4,6 +4,7 @@ use Rattle.cq_pcap.specs.Captured.{Captured}
 use Rattle.cq_run.specs.Judging.{IsHaltOf}
 use Rattle.cq_run.specs.Switching.{IsCrossed, IsSwitched}
 use Rattle.cq_run.specs.Verdict.{ideally_sent}
+use Rattle.cq_run.proofs.Captures.{switched_whole}
 use Rattle.cq_run.proofs.Crossed.{crossing}
 use Rattle.cq_run.proofs.judge.cross.Goals as goal
 
@@ -14,7 +15,8 @@ switch_by_crossbar-requires-clause-captures g c κs within =
 pub build_crossed-requires-clause-run : goal.build_crossed-requires-clause-run
 build_crossed-requires-clause-run g c =
     let P : List (List Captured) → Type 0 = λ cs. IsSwitched c.args.tables.now cs c.in_ok-crossed.crossed.switched in
-    subst P c.as_slice.ensures c.in_ok-crossed.ensures.crossed.switched
+    switched_whole c.args.tables.now c.args.captures c.in_ok-crossed.crossed.switched c.requires.tables
+    c.requires.captures (subst P c.as_slice.ensures c.in_ok-crossed.ensures.crossed.switched)
 
 pub returns-clause-crossing : goal.returns-clause-crossing
 returns-clause-crossing g c =
