@@ -29,7 +29,8 @@ use Rattle.cq_run.specs.Plans.{audited}
 use Rattle.cq_run.specs.Reader.{Reader}
 use Rattle.cq_run.specs.Verdict.{◌>>=◌, captures_in, found_or_missing, ideally_sent, sent_or_tag, tables_in, text_in, text_or_long}
 use Rattle.cq_run.proofs.Chain.{judges_after, judges_both, judges_computed, judges_computed_err, judges_then}
-use Rattle.cq_run.proofs.Stays.{captures_from_stay, tables_stay, text_stays}
+use Rattle.cq_run.proofs.ReadOn.{aims_on, captures_end, ends_on, tables_end}
+use Rattle.cq_run.proofs.Stays.{text_stays}
 
 -- ## What is read
 
@@ -76,18 +77,13 @@ module _ (r : Reader) (config : List ℕ) where
   -- the configuration ends it
   pub audit_tables_halt : (R S : List ℕ → Type 0) (s0 s1 : Space) (halt : Halt) → ((name : List ℕ) → R name → S name) →
       Judges InTurn (tables_in config) R s0 s1 (Err halt) → Decides InTurn all_of S s0 s1 (Err halt)
-  audit_tables_halt R S s0 s1 halt i h =
-      inl (judges_then (tables_in config) (λ (x : Tables) (m : Contents). from_captures x m) R S s0 s1 halt i h)
+  audit_tables_halt R S s0 s1 halt i h = tables_end r config from_trace R S s0 s1 halt i h
 
   -- the captures end it
   pub audit_captures_halt : (Q R S : List ℕ → Type 0) (s0 s1 s2 : Space) (t : Tables) (halt : Halt) →
       ((name : List ℕ) → R name → S name) → Judges InTurn (tables_in config) Q s0 s1 (Ok t) →
       Judges InTurn (captures_in r t) R s1 s2 (Err halt) → Decides InTurn all_of S s0 s2 (Err halt)
-  audit_captures_halt Q R S s0 s1 s2 t halt i g h =
-      inl (judges_after (tables_in config) (λ (x : Tables) (m : Contents). from_captures x m) Q S S s0 s1 s2 t halt
-      (tables_stay config) (λ name u. u) g
-      (judges_then (captures_in r t) (λ (captures : List (List Captured)) (m : Contents). from_trace t captures m)
-      R S s1 s2 halt i h))
+  audit_captures_halt Q R S s0 s1 s2 t halt i g h = captures_end r config from_trace Q R S s0 s1 s2 t halt i g h
 
   module _ (Q1 Q2 S : List ℕ → Type 0) (s0 s1 s2 : Space) (t : Tables) (captures : List (List Captured))
       (g1 : Judges InTurn (tables_in config) Q1 s0 s1 (Ok t))
@@ -95,12 +91,7 @@ module _ (r : Reader) (config : List ℕ) where
     -- what ends judging once the captures are read ends it all
     read_on : (end : Space) (halt : Halt) → Judges InTurn (from_trace t captures) S s2 end (Err halt) →
         Judges InTurn all_of S s0 end (Err halt)
-    read_on end halt h =
-        judges_after (tables_in config) (λ (x : Tables) (m : Contents). from_captures x m) Q1 S S s0 s1 end t halt
-        (tables_stay config) (λ name u. u) g1
-        (judges_after (captures_in r t) (λ (cs : List (List Captured)) (m : Contents). from_trace t cs m) Q2 S S
-        s1 s2 end captures halt
-        (captures_from_stay r t.limit_bytes 0 t.ports) (λ name u. u) g2 h)
+    read_on end halt h = ends_on r config from_trace Q1 Q2 S s0 s1 s2 t captures g1 g2 end halt h
 
     -- the trace ends it
     pub trace_halts : (R : List ℕ → Type 0) (s3 : Space) (halt : Halt) → ((name : List ℕ) → R name → S name) →
@@ -154,15 +145,13 @@ module _ (r : Reader) (config : List ℕ) where
             Judges InTurn all_of S s0 s4 (Ok (Auditing t captures sent trace log))
         aims sent ideally =
             let aim : Aim = Auditing t captures sent trace log in
-            judges_both (tables_in config) (λ (x : Tables) (m : Contents). from_captures x m) Q1 S S s0 s1 s4 t aim g1
-            (judges_both (captures_in r t) (λ (cs : List (List Captured)) (m : Contents). from_trace t cs m) Q2 S S
-            s1 s2 s4 captures aim g2
+            aims_on r config from_trace Q1 Q2 S s0 s1 s2 t captures g1 g2 s4 aim
             (judges_both (text_in LongTrace t.trace) (λ (x : List ℕ) (m : Contents). from_log t captures x m) Q3 S S
             s2 s3 s4 trace aim g3
             (judges_both (text_in LongLog t.log) (λ (x : List ℕ) (m : Contents). last t captures trace x) Q4 S S
             s3 s4 s4 log aim g4
             (judges_computed (last t captures trace log) S s4 aim g4.closed
-            (ap aimed_at ideally)))))
+            (ap aimed_at ideally))))
 
         denied_at : (told : Option Contents) (sent : List Departure) (denial : Denial) →
             IsDenied t captures sent trace log denial →

@@ -7,14 +7,14 @@ use Rattle.cq_base.specs.declared.status.Status.{Status}
 use Rattle.cq_base.specs.declared.status.Status.TheVariants as status
 use Rattle.cq_words.specs.declared.command.Command.{Command}
 use Rattle.cq_run.specs.declared.refusal.Refusal.{Refusal}
-use Rattle.cq_run.specs.declared.refusal.Refusal.TheVariants.{Words, Missing, Configuration, Capture, Tag, Audit}
+use Rattle.cq_run.specs.declared.refusal.Refusal.TheVariants.{Words, Missing, Configuration, Capture, Tag, Audit, State}
 use Rattle.cq_run.specs.declared.stop.Halt.TheVariants.{Refused, Unread, NoMemory}
 use Rattle.cq_run.specs.declared.stop.Unwritten.TheVariants.{File, Output}
 use Rattle.cq_run.specs.declared.stop.Stop.{Stop}
 use Rattle.cq_run.specs.declared.stop.Stop.TheVariants.{Halted, Cut}
 use Rattle.cq_run.specs.Headline.{Emulates}
 use Rattle.cq_run.specs.Plan.{Plan}
-use Rattle.cq_run.specs.Aim.{Aim, Auditing, Crossing, Denies, Exactly, Meets, Reporting}
+use Rattle.cq_run.specs.Aim.{Aim, Auditing, Crossing, Denies, Exactly, Meets, Parting, Reporting, Resuming}
 use Rattle.cq_run.specs.Pace.{Pace, Uncounted, AnyName}
 use Rattle.cq_run.specs.Planning.{CommandHalts, IsDenial, known_to, known_by}
 use Rattle.cq_run.specs.Reader.{Reader}
@@ -39,6 +39,7 @@ not_done (Configuration code path) e = cc
 not_done (Capture input fault) e = cc
 not_done (Tag fault) e = cc
 not_done (Audit denial) e = cc
+not_done (State fault) e = cc
 
 not_cut : (r : Refusal) → (meaning_of r).status ≢ status.WriteFault
 not_cut Words e = cc
@@ -47,6 +48,7 @@ not_cut (Configuration code path) e = cc
 not_cut (Capture input fault) e = cc
 not_cut (Tag fault) e = cc
 not_cut (Audit denial) e = cc
+not_cut (State fault) e = cc
 
 missed_is_told : (r : Refusal) → (meaning_of r).status ≡ status.ReadFault → ¬ IsTrue (meaning_of r).untold
 missed_is_told Words e u = cc
@@ -55,6 +57,7 @@ missed_is_told (Configuration code path) e u = cc
 missed_is_told (Capture input fault) e u = cc
 missed_is_told (Tag fault) e u = cc
 missed_is_told (Audit denial) e u = cc
+missed_is_told (State fault) e u = cc
 
 -- only the refusal of an input's capture is told before a fault of a name that is read behind it
 outruns_is : (r : Refusal) → IsTrue (meaning_of r).outruns → (meaning_of r).status ≡ status.Capture
@@ -64,6 +67,7 @@ outruns_is (Configuration code path) h = absurd (let no : ⊥ = cc h in no)
 outruns_is (Capture input fault) h = refl
 outruns_is (Tag fault) h = absurd (let no : ⊥ = cc h in no)
 outruns_is (Audit denial) h = absurd (let no : ⊥ = cc h in no)
+outruns_is (State fault) h = absurd (let no : ⊥ = cc h in no)
 
 -- the statuses of answers that may come before such a fault
 abbrev Outruns : Status → Type 0
@@ -239,6 +243,7 @@ words_is (Configuration code path) e = cc
 words_is (Capture input fault) e = cc
 words_is (Tag fault) e = cc
 words_is (Audit denial) e = cc
+words_is (State fault) e = cc
 
 not_refused : (a : Reader) (command : Command) (told : Option Contents) → IsRefused (judged a command) told Words → ⊥
 not_refused a command None h = cc
@@ -250,6 +255,8 @@ never_denied (Exactly plan) h = h
 never_denied (Crossing tables captures sent) h = h
 never_denied (Reporting tables captures) h = h
 never_denied (Auditing tables captures sent trace log) h = h
+never_denied (Parting tables captures slots name) h = h
+never_denied (Resuming tables captures text) h = h
 
 never_denied_at : (v : Result Aim Refusal) → IsOkAnd v (λ aim. Denies aim Words) → ⊥
 never_denied_at (Ok aim) h = never_denied aim h

@@ -22,8 +22,12 @@ pub mod AllLeave
 pub mod Behind
 pub mod Streaming
 pub mod Decided
+pub mod ReadOn
 pub mod Denied
 pub mod Audited
+pub mod Stamped
+pub mod Stopped
+pub mod Parted
 pub mod TextRead
 pub mod NamesApart
 pub mod Left

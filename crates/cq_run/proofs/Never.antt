@@ -15,18 +15,19 @@ use Rattle.cq_simulate.specs.IdealRuns.{ideal_departures}
 use Rattle.cq_tables.specs.Check.{Refused}
 use Rattle.cq_tables.specs.Document.{read_or_refused}
 use Rattle.cq_words.specs.declared.command.Command.{Command}
-use Rattle.cq_words.specs.declared.command.Command.TheVariants.{Pass, Check, Ideal, Run, Soak, Audit}
+use Rattle.cq_words.specs.declared.command.Command.TheVariants.{Pass, Check, Ideal, Run, Soak, Audit, Part, Resume}
 use Rattle.cq_run.specs.declared.refusal.Refusal.{Refusal}
-use Rattle.cq_run.specs.declared.refusal.Refusal.TheVariants.{Words, Capture, Audit as Denied}
+use Rattle.cq_run.specs.declared.refusal.Refusal.TheVariants.{Words, Capture, Audit as Denied, State}
 use Rattle.cq_run.specs.declared.refusal.CaptureFault.TheVariants.{Long}
+use Rattle.cq_run.specs.declared.refusal.StateFault.TheVariants as stopped
 use Rattle.cq_gen.specs.Packets.{soak_captures}
 use Rattle.cq_gen.specs.Tables.{soak_tables}
-use Rattle.cq_run.specs.Aim.{Aim, Auditing, Exactly, Crossing, Reporting}
+use Rattle.cq_run.specs.Aim.{Aim, Auditing, Exactly, Crossing, Parting, Reporting, Resuming}
 use Rattle.cq_run.specs.declared.denial.Denial.{Denial}
 use Rattle.cq_run.specs.declared.denial.Denial.TheVariants.{LongLog, LongTrace}
 use Rattle.cq_run.specs.Plans.{checked, passed, switched}
 use Rattle.cq_run.specs.Reader.{Reader}
-use Rattle.cq_run.specs.Verdict.{◌>>=◌, named, found_or_missing, tables_in, read_or_refused_for, capture_in, capture_of, read_or_faulty, packets_at, captures_from, captures_in, sent_or_tag, ideally_sent, judged, text_in, text_or_long}
+use Rattle.cq_run.specs.Verdict.{◌>>=◌, named, found_or_missing, tables_in, read_or_refused_for, capture_in, capture_of, read_or_faulty, packets_at, captures_from, captures_in, sent_or_tag, ideally_sent, judged, short_in, short_or, state_in, text_in}
 
 -- the words are not refused
 abbrev pub IsOfContents : {A : Type 0} → Result A Refusal → Type 0
@@ -75,14 +76,20 @@ never_captures r limit input (row ∷ rows) m h =
     never_then (packets_at r input limit row.read m) (λ packets. captures_from r limit (input + 1) rows m >>= (λ others. Ok (packets ∷ others))) (never_packets r input limit row.read m)
     (λ packets. never_then (captures_from r limit (input + 1) rows m) (λ others. Ok (packets ∷ others)) (never_captures r limit (input + 1) rows m) (λ others e. cc)) h
 
-never_long_text : (long : Denial) (b : Bool) (r : Result (List ℕ) Refusal) → IsOfContents r → IsOfContents (cond b (Err (Denied long)) r)
-never_long_text long true r n h = cc
-never_long_text long false r n h = n h
+never_long_text : (long : Refusal) → (long ≡ Words → ⊥) → (b : Bool) (r : Result (List ℕ) Refusal) → IsOfContents r → IsOfContents (cond b (Err long) r)
+never_long_text long other true r n h = let is : long ≡ Words = cc h in other is
+never_long_text long other false r n h = n h
+
+never_short : (long : Refusal) → (long ≡ Words → ⊥) → (name : List ℕ) (m : Contents) → IsOfContents (short_in long name m)
+never_short long other name m =
+    never_then (named m name) (short_or long) (never_found name (get m name))
+    (λ bytes. never_long_text long other (nat_lt 268435456 (length bytes)) (Ok bytes) (λ e. cc))
 
 never_text : (long : Denial) (name : List ℕ) (m : Contents) → IsOfContents (text_in long name m)
-never_text long name m =
-    never_then (named m name) (text_or_long long) (never_found name (get m name))
-    (λ bytes. never_long_text long (nat_lt 268435456 (length bytes)) (Ok bytes) (λ e. cc))
+never_text long name m = never_short (Denied long) (λ e. cc) name m
+
+never_state : (name : List ℕ) (m : Contents) → IsOfContents (state_in name m)
+never_state name m = never_short (State stopped.Long) (λ e. cc) name m
 
 -- no command comes to that
 never_switched : (r : Reader) (config : List ℕ) (m : Contents) (aim : Tables → List (List Captured) → List Departure → Aim)
@@ -125,3 +132,13 @@ never_words r (Audit config) m =
     (never_text LongLog tables.log m)
     (λ log. never_then (ideally_sent tables captures) (λ sent. aim tables captures trace log sent)
     (never_tag (ideal_departures tables (arrivals tables captures))) (λ sent e. cc)))))
+never_words r (Part config slots state) m =
+    let aim : Tables → List (List Captured) → Result Aim Refusal = λ tables captures. Ok (Parting tables captures slots state) in
+    never_then (tables_in config m) (λ tables. captures_in r tables m >>= (λ captures. aim tables captures)) (never_tables config m)
+    (λ tables. never_then (captures_in r tables m) (λ captures. aim tables captures) (never_captures r tables.limit_bytes 0 tables.ports m)
+    (λ captures e. cc))
+never_words r (Resume config state) m =
+    let aim : Tables → List (List Captured) → List ℕ → Result Aim Refusal = λ tables captures text. Ok (Resuming tables captures text) in
+    never_then (tables_in config m) (λ tables. captures_in r tables m >>= (λ captures. state_in state m >>= (λ text. aim tables captures text))) (never_tables config m)
+    (λ tables. never_then (captures_in r tables m) (λ captures. state_in state m >>= (λ text. aim tables captures text)) (never_captures r tables.limit_bytes 0 tables.ports m)
+    (λ captures. never_then (state_in state m) (λ text. aim tables captures text) (never_state state m) (λ text e. cc)))

@@ -153,6 +153,7 @@ module _ (t : Tables) (captures : List (List Captured)) (rs : List LimitedRecord
     never (refused.Capture input fault) denied = denied
     never (refused.Tag fault) denied = denied
     never (refused.Audit denial) denied = never_denied denial denied
+    never (refused.State fault) denied = denied
 
     -- ## What is judged of what was left
 
@@ -199,10 +200,10 @@ module _ (t : Tables) (captures : List (List Captured)) (rs : List LimitedRecord
           all_of_two (λ w. length w.1 ≤ 268435456) outputs (t.trace, trace_of sent) (t.log, log_of note) short
 
       trace_left : text_in why.LongTrace t.trace left ≡ Ok (trace_of sent)
-      trace_left = text_is why.LongTrace t.trace (Some left) (trace_of sent) are_short.0 stand_last.0
+      trace_left = text_is (refused.Audit why.LongTrace) t.trace (Some left) (trace_of sent) are_short.0 stand_last.0
 
       log_left : text_in why.LongLog t.log left ≡ Ok (log_of note)
-      log_left = text_is why.LongLog t.log (Some left) (log_of note) are_short.1 stand_last.1
+      log_left = text_is (refused.Audit why.LongLog) t.log (Some left) (log_of note) are_short.1 stand_last.1
 
       ideally : ideally_sent t captures ≡ Ok sent
       ideally = ap sent_or_tag (sends_as_ideal t (arrivals t captures) rs traffic keeps.runs)

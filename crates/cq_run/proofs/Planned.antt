@@ -8,7 +8,7 @@ use Rattle.cq_route.specs.declared.tables.Tables.{Tables}
 use Rattle.cq_space.specs.Space.{Contents, Space, Closed}
 use Rattle.cq_space.specs.Causes.{Rose}
 use Rattle.cq_words.specs.declared.command.Command.{Command}
-use Rattle.cq_words.specs.declared.command.Command.TheVariants.{Pass, Check, Ideal, Run, Soak, Audit}
+use Rattle.cq_words.specs.declared.command.Command.TheVariants.{Pass, Check, Ideal, Run, Soak, Audit, Part, Resume}
 use Rattle.cq_run.specs.declared.refusal.Refusal.{Refusal}
 use Rattle.cq_run.specs.declared.stop.Halt.{Halt}
 use Rattle.cq_run.specs.declared.stop.Halt.TheVariants.{Refused, Unread, NoMemory}
@@ -34,6 +34,8 @@ known_faults (Ideal config) s = refl
 known_faults (Run config) s = refl
 known_faults (Soak seed ports slots) s = refl
 known_faults (Audit config) s = refl
+known_faults (Part config slots state) s = refl
+known_faults (Resume config state) s = refl
 
 pub same_faults : (command : Command) (old new : Space) → (known_to command new).faults ≡ (known_to command old).faults → new.faults ≡ old.faults
 same_faults command old new e = sym (known_faults command new) ∙ e ∙ known_faults command old

@@ -11,10 +11,10 @@ use Rattle.cq_pcap.specs.Captured.{Captured}
 use Rattle.cq_route.specs.declared.tables.PortRow.{PortRow}
 use Rattle.cq_tables.specs.Document.{read_or_refused}
 use Rattle.cq_run.specs.declared.refusal.Refusal.{Refusal}
-use Rattle.cq_run.specs.declared.refusal.Refusal.TheVariants.{Missing}
+use Rattle.cq_run.specs.declared.refusal.Refusal.TheVariants.{Audit, Missing}
 use Rattle.cq_run.specs.declared.denial.Denial.{Denial}
 use Rattle.cq_run.specs.Reader.{Reader}
-use Rattle.cq_run.specs.Verdict.{◌>>=◌, named, found_or_missing, tables_in, read_or_refused_for, capture_in, capture_of, packets_at, captures_from, text_in, text_or_long}
+use Rattle.cq_run.specs.Verdict.{◌>>=◌, named, found_or_missing, tables_in, read_or_refused_for, capture_in, capture_of, packets_at, captures_from, short_in, short_or, text_in}
 
 -- without a name the judgement comes to the same, or misses that name
 unfoldable pub Stays : {A : Type 0} → (Contents → Result A Refusal) → Type 0
@@ -56,8 +56,11 @@ tables_stay name = then_stays (λ (m : Contents). named m name) (λ (bytes : Lis
 pub capture_stays : (r : Reader) (name : List ℕ) (input limit : ℕ) → Stays (capture_in r name input limit)
 capture_stays r name input limit = then_stays (λ (m : Contents). named m name) (λ (bytes : List ℕ) (m : Contents). capture_of r input limit bytes) (named_stays name) (λ bytes. pure_stays _)
 
+pub short_stays : (long : Refusal) (name : List ℕ) → Stays (short_in long name)
+short_stays long name = then_stays (λ (m : Contents). named m name) (λ (bytes : List ℕ) (m : Contents). short_or long bytes) (named_stays name) (λ bytes. pure_stays _)
+
 pub text_stays : (long : Denial) (name : List ℕ) → Stays (text_in long name)
-text_stays long name = then_stays (λ (m : Contents). named m name) (λ (bytes : List ℕ) (m : Contents). text_or_long long bytes) (named_stays name) (λ bytes. pure_stays _)
+text_stays long name = short_stays (Audit long) name
 
 pub packets_stay : (r : Reader) (input limit : ℕ) (read : Option (List ℕ)) → Stays (packets_at r input limit read)
 packets_stay r input limit None = pure_stays _

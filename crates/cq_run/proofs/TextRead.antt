@@ -1,6 +1,6 @@
--- What is told of the trace or the log of an audit, from what was read under its name: its bytes, where they are not too many.
--- The name that was asked for is a copy of the one that is to be read.
-use Rattle.std.proofs.Common.{◌≡◌, ◌<◌, ◌≤◌, ◌⊎◌, ◌∙◌, ℕ, Bool, cond, List, [], length, refl, sym, ap, subst, inl, inr, arith}
+-- What is told of a text, as the trace or the log of an audit or the state of a stopped run, from what was read under its name:
+-- its bytes, where they are not too many. The name that was asked for is the one that is to be read, or a copy of it.
+use Rattle.std.proofs.Common.{◌≡◌, ◌<◌, ◌≤◌, ◌⊎◌, ◌∙◌, ℕ, Bool, IsTrue, cond, List, [], length, refl, sym, ap, subst, inl, inr, arith}
 use Rattle.std.specs.Prelude.{Option, None, Some, IfSome, Result, Ok, Err, IsErrOf, Vec, unwrap_or}
 use Rattle.std.specs.FinMap.{get, remove}
 use Rattle.std.specs.declared.alloc.Global.{Global}
@@ -9,63 +9,63 @@ use Rattle.cq_space.specs.Space.{Contents, bytes_of}
 use Rattle.cq_space.specs.Whole.{Lacks}
 use Rattle.cq_space.specs.declared.whole.ReadRefusal.{ReadRefusal}
 use Rattle.cq_space.specs.declared.whole.ReadRefusal.TheVariants as whole
-use Rattle.cq_run.specs.declared.denial.Denial.{Denial}
 use Rattle.cq_run.specs.declared.refusal.Refusal.{Refusal}
-use Rattle.cq_run.specs.declared.refusal.Refusal.TheVariants.{Audit, Missing}
+use Rattle.cq_run.specs.declared.refusal.Refusal.TheVariants.{Missing}
 use Rattle.cq_run.specs.Judging.{IsRefused, IsToRead}
-use Rattle.cq_run.specs.Verdict.{◌>>=◌, found_or_missing, text_in, text_or_long}
+use Rattle.cq_run.specs.Refusals.{meaning_of}
+use Rattle.cq_run.specs.Verdict.{◌>>=◌, found_or_missing, short_in, short_or}
 use Rattle.cq_run.proofs.Removed.{get-remove_same}
 
-module _ (long : Denial) (name : List ℕ) where
+module _ (long : Refusal) (name : List ℕ) where
   -- a text of at most this length is looked at
   text_at : (m : Contents) (bytes : List ℕ) → length bytes ≤ 268435456 → get m name ≡ Some bytes →
-      text_in long name m ≡ Ok bytes
+      short_in long name m ≡ Ok bytes
   text_at m bytes short at =
-      ap (λ (o : Option (List ℕ)). found_or_missing name o >>= text_or_long long) at
-      ∙ ap (λ (b : Bool). let over : Result (List ℕ) Refusal = Err (Audit long) in cond b over (Ok bytes))
+      ap (λ (o : Option (List ℕ)). found_or_missing name o >>= short_or long) at
+      ∙ ap (λ (b : Bool). let over : Result (List ℕ) Refusal = Err long in cond b over (Ok bytes))
       (le-ltb 268435456 (length bytes) short)
 
   pub text_is : (told : Option Contents) (bytes : List ℕ) → length bytes ≤ 268435456 →
       IfSome told (λ m. get m name ≡ Some bytes)
-      → IfSome told (λ m. text_in long name m ≡ Ok bytes)
+      → IfSome told (λ m. short_in long name m ≡ Ok bytes)
   text_is None bytes short at = tt
   text_is (Some m) bytes short at = text_at m bytes short at
 
   -- and a longer one is not
   long_at : (m : Contents) (o : Option (List ℕ)) → get m name ≡ o → 268435456 < length (unwrap_or o []) →
-      text_in long name m ≡ Err (Audit long)
+      short_in long name m ≡ Err long
   long_at m None e h = absurd (omega arith)
   long_at m (Some bytes) e h =
-      ap (λ (o : Option (List ℕ)). found_or_missing name o >>= text_or_long long) e
-      ∙ ap (λ (b : Bool). let over : Result (List ℕ) Refusal = Err (Audit long) in cond b over (Ok bytes))
+      ap (λ (o : Option (List ℕ)). found_or_missing name o >>= short_or long) e
+      ∙ ap (λ (b : Bool). let over : Result (List ℕ) Refusal = Err long in cond b over (Ok bytes))
       (lt-ltb 268435456 (length bytes) h)
 
-  pub text_long : (told : Option Contents) (asked : List ℕ) → asked ≡ name →
+  pub text_long : (told : Option Contents) (asked : List ℕ) → IsTrue (meaning_of long).untold → asked ≡ name →
       IfSome told (λ m. 268435456 < length (bytes_of m asked))
-      → IsRefused (text_in long name) told (Audit long)
-  text_long None asked a h = refl
-  text_long (Some m) asked a h =
+      → IsRefused (short_in long name) told long
+  text_long None asked untold a h = untold
+  text_long (Some m) asked untold a h =
       let P : List ℕ → Type 0 = λ n. 268435456 < length (bytes_of m n) in long_at m _ refl (subst P a h)
 
-  missing_at : (m : Contents) → get m name ≡ None → text_in long name m ≡ Err (Missing name)
-  missing_at m at = ap (λ (o : Option (List ℕ)). found_or_missing name o >>= text_or_long long) at
+  missing_at : (m : Contents) → get m name ≡ None → short_in long name m ≡ Err (Missing name)
+  missing_at m at = ap (λ (o : Option (List ℕ)). found_or_missing name o >>= short_or long) at
 
   -- it is missed under the name that was asked for
   missing_as : (m : Contents) (asked : List ℕ) → asked ≡ name → get m name ≡ None →
-      text_in long name m ≡ Err (Missing asked)
+      short_in long name m ≡ Err (Missing asked)
   missing_as m asked a at =
       missing_at m at ∙ ap (λ (n : List ℕ). let r : Result (List ℕ) Refusal = Err (Missing n) in r) (sym a)
 
   pub text_missed : (told : Option Contents) (asked : List ℕ) → asked ≡ name → Lacks told asked →
-      IsRefused (text_in long name) told (Missing asked)
+      IsRefused (short_in long name) told (Missing asked)
   text_missed None asked a h = absurd h
   text_missed (Some m) asked a h = let P : List ℕ → Type 0 = λ n. get m n ≡ None in missing_as m asked a (subst P a h)
 
   pub text_is_to_read : (told : Option Contents) (asked : List ℕ) → asked ≡ name →
-      IsToRead (text_in long name) told asked
+      IsToRead (short_in long name) told asked
   text_is_to_read None asked a = tt
   text_is_to_read (Some m) asked a =
-      ap (λ (n : List ℕ). text_in long name (remove m n)) a ∙ missing_as (remove m name) asked a
+      ap (λ (n : List ℕ). short_in long name (remove m n)) a ∙ missing_as (remove m name) asked a
       (get-remove_same m name)
 
 -- a name that is missing was read with no fault

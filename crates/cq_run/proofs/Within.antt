@@ -1,14 +1,14 @@
 -- The numbers of a command that words are are in their ranges.
-use Rattle.std.proofs.Common.{◌≡◌, ℕ, Bool, true, false, cond, List, [], ◌∷◌, refl, subst}
-use Rattle.std.specs.Prelude.{◌&&◌, nat_le, Option, None, Some, codes}
+use Rattle.std.proofs.Common.{◌≡◌, ◌<◌, ◌≤◌, ◌^◌, ℕ, Bool, true, false, cond, List, [], ◌∷◌, refl, subst, arith}
+use Rattle.std.specs.Prelude.{◌&&◌, nat_le, Option, None, Some, codes, option_map}
 use Rattle.std.specs.Int.{IsInRange}
 use Rattle.std.specs.List.{list_all}
 use Rattle.std.specs.Str.{bytes_eq}
 use Rattle.std.proofs.lemmas.Bool.{leb-true}
 use Rattle.cq_words.specs.Numbers.{is_numeral, number_from, value_of}
-use Rattle.cq_words.specs.Words.{command_for, form_of, is_value, soak_of, with_captures, with_config, with_numbers}
+use Rattle.cq_words.specs.Words.{command_for, form_of, is_value, most_slots, soak_of, with_config, with_three, with_two}
 use Rattle.cq_words.specs.declared.command.Command.{Command}
-use Rattle.cq_words.specs.declared.command.Command.TheVariants.{Pass, Check, Ideal, Run, Soak, Audit}
+use Rattle.cq_words.specs.declared.command.Command.TheVariants.{Pass, Check, Ideal, Run, Soak, Audit, Part, Resume}
 use Rattle.cq_run.specs.Planning.{IsWithinRange}
 
 -- a command that there may be
@@ -51,19 +51,31 @@ config_within word config =
     (either_within (bytes_eq word (codes "run")) _ _ (some_within (Run config) tt)
     (either_within (bytes_eq word (codes "audit")) _ _ (some_within (Audit config) tt) none_within)))
 
-captures_within : (word from to : List ℕ) → IsWithin (with_captures word from to)
-captures_within word from to = either_within (bytes_eq word (codes "pass")) _ _ (some_within (Pass from to) tt) none_within
+two_within : (word first second : List ℕ) → IsWithin (with_two word first second)
+two_within word first second =
+    either_within (bytes_eq word (codes "pass")) _ _ (some_within (Pass first second) tt)
+    (either_within (bytes_eq word (codes "resume")) _ _ (some_within (Resume first second) tt) none_within)
 
-numbers_within : (word seed ports slots : List ℕ) → IsWithin (with_numbers word seed ports slots)
-numbers_within word seed ports slots =
+parted_within : (config state : List ℕ) (slots : Option ℕ) → ((n : ℕ) → slots ≡ Some n → n < 2 ^ 63)
+    → IsWithin (option_map (λ n. Part config n state) slots)
+parted_within config state None h = none_within
+parted_within config state (Some n) h = some_within (Part config n state) (h n refl)
+
+slots_within : (text : List ℕ) (n : ℕ) → number_from 0 most_slots text ≡ Some n → n < 2 ^ 63
+slots_within text n e = let most : n ≤ 9223372036854775807 = (in_range 0 most_slots text n e).1 in omega arith
+
+three_within : (word first second third : List ℕ) → IsWithin (with_three word first second third)
+three_within word first second third =
     either_within (bytes_eq word (codes "soak")) _ _
-    (soak_within (number_from 0 18446744073709551615 seed) (number_from 1 64 ports) (number_from 1 20000 slots) (in_range 1 64 ports) (in_range 1 20000 slots)) none_within
+    (soak_within (number_from 0 18446744073709551615 first) (number_from 1 64 second) (number_from 1 20000 third) (in_range 1 64 second) (in_range 1 20000 third))
+    (either_within (bytes_eq word (codes "part")) _ _
+    (parted_within first third (number_from 0 most_slots second) (slots_within second)) none_within)
 
 form_within : (word : List ℕ) (values : List (List ℕ)) → IsWithin (form_of word values)
 form_within word [] = none_within
 form_within word (config ∷ []) = config_within word config
-form_within word (from ∷ to ∷ []) = captures_within word from to
-form_within word (seed ∷ ports ∷ slots ∷ []) = numbers_within word seed ports slots
+form_within word (first ∷ second ∷ []) = two_within word first second
+form_within word (first ∷ second ∷ third ∷ []) = three_within word first second third
 form_within word (a ∷ b ∷ c ∷ d ∷ rest) = none_within
 
 pub words_within : (words : List (List ℕ)) (command : Command) → command_for words ≡ Some command → IsWithinRange command

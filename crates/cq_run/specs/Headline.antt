@@ -16,7 +16,7 @@ use Rattle.cq_simulate.specs.IdealRuns.{ideal_departures}
 use Rattle.cq_simulate.specs.FabricRuns.{AlwaysHasSlack, AreInputBest, IsFabricRun, SendsSlotBySlot, departures_in_run, refused_in_run}
 use Rattle.cq_space.specs.Space.{Contents}
 use Rattle.cq_words.specs.declared.command.Command.{Command}
-use Rattle.cq_words.specs.declared.command.Command.TheVariants.{Pass, Check, Ideal, Run, Soak, Audit}
+use Rattle.cq_words.specs.declared.command.Command.TheVariants.{Pass, Check, Ideal, Run, Soak, Audit, Part, Resume}
 use Rattle.cq_run.specs.Passing.{capture_of_all}
 use Rattle.cq_run.specs.Plan.{Plan}
 use Rattle.cq_run.specs.Plans.{audited, crossed, passed}
@@ -94,3 +94,5 @@ Emulates r (Ideal config) m plan = Unit {0}
 Emulates r (Run config) m plan = IsEmulation r config m plan
 Emulates r (Soak seed ports slots) m plan = Unit {0}
 Emulates r (Audit config) m plan = IsAudited r config m plan
+Emulates r (Part config slots state) m plan = Unit {0}
+Emulates r (Resume config state) m plan = Unit {0}

@@ -2,6 +2,7 @@ pub mod Plan
 pub mod Plans
 pub mod Passing
 pub mod Auditing
+pub mod Parting
 pub mod Aim
 pub mod Refusals
 pub mod Reader
@@ -10,6 +11,7 @@ pub mod Verdict
 pub mod Judging
 pub mod Switching
 pub mod AuditEnds
+pub mod PartEnds
 pub mod Input
 pub mod Running
 pub mod Decoding

@@ -1,10 +1,10 @@
 -- What judging a command comes to: a plan that meets what is aimed at, or why there is none.
-use Rattle.std.specs.Prelude.{◌≡◌, ◌⊎◌, ℕ, List, IsTrue, Option, None, Some, MatchOption, Result, Ok, Err, IsOkAnd}
+use Rattle.std.specs.Prelude.{◌≡◌, ◌<◌, ◌^◌, ◌⊎◌, ℕ, List, IsTrue, Option, None, Some, MatchOption, Result, Ok, Err, IsOkAnd}
 use Rattle.std.specs.FinMap.{empty}
 use Rattle.std.specs.Int.{IsInRange}
 use Rattle.cq_space.specs.Space.{Closed, Contents, Space}
 use Rattle.cq_words.specs.declared.command.Command.{Command}
-use Rattle.cq_words.specs.declared.command.Command.TheVariants.{Pass, Check, Ideal, Run, Soak, Audit}
+use Rattle.cq_words.specs.declared.command.Command.TheVariants.{Pass, Check, Ideal, Run, Soak, Audit, Part, Resume}
 use Rattle.cq_run.specs.declared.refusal.Refusal.{Refusal}
 use Rattle.cq_run.specs.declared.stop.Halt.{Halt}
 use Rattle.cq_run.specs.declared.stop.Halt.TheVariants.{Refused, Unread, NoMemory}
@@ -20,7 +20,7 @@ abbrev pub Plans : Pace → (Contents → Result Aim Refusal) → (List ℕ → 
 Plans pace judge unread old new (Ok plan) = (aim : Aim) × Meets aim plan × Judges pace judge unread old new (Ok aim)
 Plans pace judge unread old new (Err halt) = Judges pace judge unread old new (Err halt)
 
--- ## An audit that says no
+-- ## An aim that is denied
 
 -- the contents come to an aim that is denied so
 abbrev pub IsDenial : (Contents → Result Aim Refusal) → Option Contents → Refusal → Type 0
@@ -33,7 +33,7 @@ DenialHalts judge old new (Refused refusal) = IsDenial judge old.told refusal ×
 DenialHalts judge old new (Unread name) = ⊥
 DenialHalts judge old new NoMemory = ⊥
 
--- what a call that says no answers and leaves
+-- what a call that denies answers and leaves
 pub record EndsDenied (judge : Contents → Result Aim Refusal) (old new : Space) (halt : Halt) : Type 0 where
   pub halts : DenialHalts judge old new halt
   pub closed : new.mode ≡ Closed
@@ -59,6 +59,8 @@ known_to (Check config) s = s
 known_to (Ideal config) s = s
 known_to (Run config) s = s
 known_to (Audit config) s = s
+known_to (Part config slots state) s = s
+known_to (Resume config state) s = s
 known_to (Soak seed ports slots) s = record { mode = s.mode; told = Some empty; faults = s.faults }
 
 -- the contents on which the words are judged
@@ -73,4 +75,6 @@ IsWithinRange (Check config) = Unit {0}
 IsWithinRange (Ideal config) = Unit {0}
 IsWithinRange (Run config) = Unit {0}
 IsWithinRange (Audit config) = Unit {0}
+IsWithinRange (Part config slots state) = slots < 2 ^ 63
+IsWithinRange (Resume config state) = Unit {0}
 IsWithinRange (Soak seed ports slots) = IsInRange 1 64 ports × IsInRange 1 20000 slots

@@ -16,6 +16,7 @@ use Rattle.cq_route.specs.Plain.{plain_tables}
 use Rattle.cq_route.specs.Tables.{classes_of, ports_of}
 use Rattle.cq_simulate.specs.FabricRuns.{refused_in_run}
 use Rattle.cq_simulate.specs.Packets.{packets_out}
+use Rattle.cq_resume.specs.Resumed.{Kept}
 use Rattle.cq_run.specs.Plan.{Plan}
 
 -- a name and a number
@@ -56,6 +57,15 @@ report_on t rs =
 unfoldable pub crossed : Tables → List (List Captured) → List Departure → List LimitedRecord → Plan
 crossed t captures sent rs =
     record { writes = captures_out t captures sent 0 t.ports ++ (t.trace, trace_of sent) ∷ (t.log, log_of (transfers_of_run (slots_in rs))) ∷ []; text = report_on t rs }
+
+-- the text of a stopped run under its name, and nothing else
+abbrev pub state_written : List ℕ → List ℕ → Plan
+state_written name text = record { writes = (name, text) ∷ []; text = [] }
+
+-- what leaves each output, the trace and the log, and the report, of a run that kept this
+unfoldable pub resumed : Tables → List (List Captured) → Kept → Plan
+resumed t captures kept =
+    record { writes = captures_out t captures kept.sent 0 t.ports ++ (t.trace, trace_of kept.sent) ∷ (t.log, log_of kept.note) ∷ []; text = report_with kept.figures kept.refused }
 
 -- the line of an audit that says yes
 unfoldable pub yes_line : List ℕ

@@ -9,7 +9,9 @@ use Rattle.cq_run.specs.declared.denial.Denial.TheVariants as audit
 use Rattle.cq_run.specs.declared.refusal.CaptureFault.{CaptureFault}
 use Rattle.cq_run.specs.declared.refusal.CaptureFault.TheVariants.{NoHeader, Magic, Version, LinkType, CutHeader, CutBody, LongRecord, Long}
 use Rattle.cq_run.specs.declared.refusal.Refusal.{Refusal}
-use Rattle.cq_run.specs.declared.refusal.Refusal.TheVariants.{Words, Missing, Configuration, Capture, Tag, Audit}
+use Rattle.cq_run.specs.declared.refusal.Refusal.TheVariants.{Words, Missing, Configuration, Capture, Tag, Audit, State}
+use Rattle.cq_run.specs.declared.refusal.StateFault.{StateFault}
+use Rattle.cq_run.specs.declared.refusal.StateFault.TheVariants as stopped
 
 -- what a refusal comes to
 pub record Meaning : Type 0 where
@@ -61,9 +63,16 @@ denial_text (audit.Blocking slot phase input output) =
 denial_text (audit.Left n) = codes "audit: A4 at line " ++ decimal n
 denial_text (audit.Trace n) = codes "audit: A5 at line " ++ decimal n
 
+-- what is wrong with the state of a stopped run, with its figure
+abbrev pub state_fault_text : StateFault → List ℕ
+state_fault_text stopped.Long = codes "state: S4"
+state_fault_text (stopped.Line n) = codes "state: S1 at line " ++ decimal n
+state_fault_text stopped.Shape = codes "state: S2"
+state_fault_text (stopped.Unsound clause) = codes "state: S3 clause " ++ decimal clause
+
 -- the forms of the commands
 abbrev pub usage : List ℕ
-usage = codes "usage: cq_switch pass IN OUT | check CONFIG | ideal CONFIG | run CONFIG | soak SEED PORTS SLOTS | audit CONFIG | stream CONFIG"
+usage = codes "usage: cq_switch pass IN OUT | check CONFIG | ideal CONFIG | run CONFIG | soak SEED PORTS SLOTS | audit CONFIG | part CONFIG SLOTS STATE | resume CONFIG STATE | stream CONFIG"
 
 -- words are judged before any file is asked for, and a name is missed only where contents are told
 abbrev pub meaning_of : Refusal → Meaning
@@ -96,6 +105,12 @@ meaning_of (Tag fault) = record {
 meaning_of (Audit denial) = record {
   status = status.AuditNo;
   text = denial_text denial;
+  untold = true;
+  outruns = false;
+}
+meaning_of (State fault) = record {
+  status = status.State;
+  text = state_fault_text fault;
   untold = true;
   outruns = false;
 }

@@ -17,14 +17,15 @@ use Rattle.cq_simulate.specs.IdealRuns.{ideal_departures}
 use Rattle.cq_tables.specs.Check.{Refused}
 use Rattle.cq_tables.specs.Document.{read_or_refused}
 use Rattle.cq_words.specs.declared.command.Command.{Command}
-use Rattle.cq_words.specs.declared.command.Command.TheVariants.{Pass, Check, Ideal, Run, Soak, Audit}
+use Rattle.cq_words.specs.declared.command.Command.TheVariants.{Pass, Check, Ideal, Run, Soak, Audit, Part, Resume}
 use Rattle.cq_run.specs.declared.refusal.Refusal.{Refusal}
-use Rattle.cq_run.specs.declared.refusal.Refusal.TheVariants.{Words, Missing, Configuration, Capture, Tag, Audit as Denied}
+use Rattle.cq_run.specs.declared.refusal.Refusal.TheVariants.{Words, Missing, Configuration, Capture, Tag, Audit as Denied, State}
 use Rattle.cq_run.specs.declared.denial.Denial.{Denial}
 use Rattle.cq_run.specs.declared.denial.Denial.TheVariants.{LongTrace, LongLog}
 use Rattle.cq_run.specs.declared.refusal.CaptureFault.TheVariants.{Long}
+use Rattle.cq_run.specs.declared.refusal.StateFault.TheVariants as stopped
 use Rattle.cq_words.specs.Words.{command_for}
-use Rattle.cq_run.specs.Aim.{Aim, Exactly, Crossing, Reporting, Auditing}
+use Rattle.cq_run.specs.Aim.{Aim, Exactly, Crossing, Reporting, Auditing, Parting, Resuming}
 use Rattle.cq_run.specs.Reader.{Reader}
 use Rattle.cq_run.specs.Refusals.{capture_fault}
 use Rattle.cq_run.specs.Plans.{checked, passed, switched}
@@ -86,13 +87,24 @@ captures_from r limit input (row ∷ rows) m = do
 abbrev pub captures_in : Reader → Tables → Contents → Result (List (List Captured)) Refusal
 captures_in r tables m = captures_from r tables.limit_bytes 0 tables.ports m
 
--- the bytes of a trace or a log; a file that is too long is refused before it is looked at
-abbrev pub text_or_long : Denial → List ℕ → Result (List ℕ) Refusal
-text_or_long long bytes = if nat_lt 268435456 (length bytes) then Err (Denied long) else Ok bytes
+-- the bytes of a text; a file that is too long is refused so before it is looked at
+abbrev pub short_or : Refusal → List ℕ → Result (List ℕ) Refusal
+short_or long bytes = if nat_lt 268435456 (length bytes) then Err long else Ok bytes
+
+-- the text of this name
+abbrev pub short_in : Refusal → List ℕ → Contents → Result (List ℕ) Refusal
+short_in long name m = named m name >>= short_or long
 
 -- the trace or the log of this name
+abbrev pub text_or_long : Denial → List ℕ → Result (List ℕ) Refusal
+text_or_long long bytes = short_or (Denied long) bytes
+
 abbrev pub text_in : Denial → List ℕ → Contents → Result (List ℕ) Refusal
 text_in long name m = named m name >>= text_or_long long
+
+-- the text of a state of this name
+abbrev pub state_in : List ℕ → Contents → Result (List ℕ) Refusal
+state_in name m = short_in (State stopped.Long) name m
 
 -- the departures of a run, or its tag fault
 abbrev pub sent_or_tag : Result (List Departure) TagFault → Result (List Departure) Refusal
@@ -132,6 +144,15 @@ judged r (Audit config) m = do
   log ← text_in LongLog tables.log m
   sent ← ideally_sent tables captures
   Ok (Auditing tables captures sent trace log)
+judged r (Part config slots state) m = do
+  tables ← tables_in config m
+  captures ← captures_in r tables m
+  Ok (Parting tables captures slots state)
+judged r (Resume config state) m = do
+  tables ← tables_in config m
+  captures ← captures_in r tables m
+  text ← state_in state m
+  Ok (Resuming tables captures text)
 
 -- words that are no command are refused before anything is read
 abbrev pub judged_or_words : Reader → Option Command → Contents → Result Aim Refusal
@@ -150,6 +171,8 @@ MayRead (Ideal config) name = Unit {0}
 MayRead (Run config) name = Unit {0}
 MayRead (Soak seed ports slots) name = ⊥
 MayRead (Audit config) name = Unit {0}
+MayRead (Part config slots state) name = Unit {0}
+MayRead (Resume config state) name = Unit {0}
 
 -- the names that a command's plan may write, whatever the contents: where a configuration says what is written, any
 abbrev pub MayWrite : Command → List ℕ → Type 0
@@ -159,3 +182,5 @@ MayWrite (Ideal config) name = Unit {0}
 MayWrite (Run config) name = Unit {0}
 MayWrite (Soak seed ports slots) name = ⊥
 MayWrite (Audit config) name = ⊥
+MayWrite (Part config slots state) name = name ≡ state
+MayWrite (Resume config state) name = Unit {0}

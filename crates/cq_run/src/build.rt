@@ -2,7 +2,7 @@
 ghost use Rattle.std.specs.Prelude.{◌≡◌, ◌∷◌, ◌++◌, ◌≤◌, [], All, IfOk, OnOk, length};
 ghost use Rattle.cq_pcap.specs.Written.{written};
 ghost use Rattle.cq_route.specs.Tables.{AreTables, ports_of};
-ghost use Rattle.cq_run.specs.Plans.{audited, capture_out, captures_out, check_line, checked, counted, switched, yes_line};
+ghost use Rattle.cq_run.specs.Plans.{audited, capture_out, captures_out, check_line, checked, counted, state_written, switched, yes_line};
 ghost use Rattle.cq_report.specs.Report.{report_with};
 ghost use Rattle.cq_base.specs.Texts.{log_of, trace_of};
 ghost use Rattle.cq_run.specs.Switching.{IsSent, IsSwitched};
@@ -155,6 +155,14 @@ pub fn build_crossed(
     put_write(alloc, &mut writes, &tables.trace, trace)?;
     put_write(alloc, &mut writes, &tables.log, log)?;
     Ok(Work::of(writes, report_text(alloc, &figures, &refused)?))
+}
+
+/// The text of a stopped run, under this name, and nothing else.
+pub fn build_state(alloc: Global, name: Name, text: Vec<u8>) -> Result<Work, NoMemory>
+    ensures { IfOk result (λ plan. plan ≡ state_written name text.items) }
+{
+    let writes = Vec::from_array(alloc, [Write::of(name, text)])?;
+    Ok(Work::of(writes, Vec::new(alloc)))
 }
 
 /// The report of a run, where nothing else is written.

@@ -1,5 +1,5 @@
 //! Judging what the words name. Nothing is written here.
-ghost use Rattle.std.specs.Prelude.{◌≡◌, [], IfErr, IfOk, IfSome, IsOk, length};
+ghost use Rattle.std.specs.Prelude.{◌≡◌, ◌<◌, ◌^◌, [], IfErr, IfOk, IfSome, IsOk, length};
 ghost use Rattle.std.specs.Int.{IsInRange};
 ghost use Rattle.std.specs.List.{AllByRecursion};
 ghost use Rattle.cq_space.specs.Failing.{Fails, Reads};
@@ -18,10 +18,13 @@ ghost use Rattle.cq_run.specs.Verdict.{ideally_sent, judged, MayRead, MayWrite};
 
 use crate::ahead::stream_inputs;
 use crate::build::{
-    build_check, build_crossed, build_passed, build_report, build_switched, build_yes,
+    build_check, build_crossed, build_passed, build_report, build_state, build_switched, build_yes,
 };
+use crate::parting::{part_by_crossbar, resume_by_crossbar};
 use crate::plan::Work;
-use crate::reading::{put_capture, read_configuration, read_input, read_inputs, read_text};
+use crate::reading::{
+    put_capture, read_configuration, read_input, read_inputs, read_stopped, read_text,
+};
 use crate::switching::{audit_texts, switch_by_crossbar, switch_ideally};
 use crate::{Command, Denial, Halt};
 use cq_base::{Name, Sequence};
@@ -63,6 +66,12 @@ pub fn judge<R: Threads + Sync, F: Files, G: Gate>(
         Command::Run { config } => run(rt, alloc, files, config, gate),
         Command::Soak { seed, ports, slots } => soak(rt, alloc, seed, ports, slots, gate),
         Command::Audit { config } => audit(rt, alloc, files, config),
+        Command::Part {
+            config,
+            slots,
+            state,
+        } => part(rt, alloc, files, config, slots, state, gate),
+        Command::Resume { config, state } => resume(rt, alloc, files, config, state, gate),
     }
 }
 
@@ -250,4 +259,60 @@ fn audit<R: Threads + Sync, F: Files>(
         log.as_slice(),
     )?;
     Ok(build_yes(alloc)?)
+}
+
+fn part<R: Threads + Sync, F: Files, G: Gate>(
+    rt: &R,
+    alloc: Global,
+    files: &mut F,
+    config: Name,
+    slots: u64,
+    state: Name,
+    gate: &G,
+) -> Result<Work, Halt>
+    requires closed { (F.space files.old).mode ≡ Closed }
+    requires slots { slots < 2 ^ 63 }
+    ensures judges { let command = Command.Part config slots state in
+        (r : Reader) → Decides InTurn (judged r command)
+        (λ name. MayRead command name × Fails F.space F.may_fail F.keeps (Reads name) files.old files.new)
+        (F.space files.old) (F.space files.new) result }
+    ensures kept { F.keeps files.old files.new }
+    ensures names { let command = Command.Part config slots state in
+        IfOk result (λ plan. AllByRecursion (λ write. MayWrite command write.0) plan.writes) }
+{
+    let tables = read_configuration(alloc, files, config)?;
+    let captures = read_inputs(alloc, files, &tables)?;
+    let text = part_by_crossbar(rt, alloc, &tables, captures.as_slice(), slots, gate)?;
+    Ok(build_state(alloc, state, text)?)
+}
+
+fn resume<R: Threads + Sync, F: Files, G: Gate>(
+    rt: &R,
+    alloc: Global,
+    files: &mut F,
+    config: Name,
+    state: Name,
+    gate: &G,
+) -> Result<Work, Halt>
+    requires { (F.space files.old).mode ≡ Closed }
+    ensures judges { let command = Command.Resume config state in
+        (r : Reader) → Decides InTurn (judged r command)
+        (λ name. MayRead command name × Fails F.space F.may_fail F.keeps (Reads name) files.old files.new)
+        (F.space files.old) (F.space files.new) result }
+    ensures kept { F.keeps files.old files.new }
+    ensures names { let command = Command.Resume config state in
+        IfOk result (λ plan. AllByRecursion (λ write. MayWrite command write.0) plan.writes) }
+{
+    let tables = read_configuration(alloc, files, config)?;
+    let captures = read_inputs(alloc, files, &tables)?;
+    let text = read_stopped(alloc, files, state)?;
+    let crossed = resume_by_crossbar(
+        rt,
+        alloc,
+        &tables,
+        captures.as_slice(),
+        text.as_slice(),
+        gate,
+    )?;
+    Ok(build_crossed(alloc, &tables, captures, crossed)?)
 }

@@ -13,6 +13,7 @@ mod decoding;
 mod denial;
 mod judge;
 mod laws;
+mod parting;
 mod perform;
 mod plan;
 mod reading;
@@ -30,7 +31,7 @@ pub use cq_simulate::{
 pub use cq_words::{Command, command_of};
 pub use denial::Denial;
 pub use laws::{captures_are_read_in_one_way, runs_are_audited};
-pub use refusal::{CaptureFault, Refusal};
+pub use refusal::{CaptureFault, Refusal, StateFault};
 pub use stop::{Halt, Stop, Unwritten};
 pub use stream::stream_top;
 pub use top::switch_top;

@@ -11,9 +11,9 @@ ghost use Rattle.cq_run.specs.Pace.{InTurn};
 ghost use Rattle.cq_run.specs.Reader.{Reader};
 ghost use Rattle.cq_run.specs.Refusals.{capture_fault};
 ghost use Rattle.cq_run.specs.Switching.{halt_for};
-ghost use Rattle.cq_run.specs.Verdict.{capture_in, captures_in, packets_at, tables_in, text_in};
+ghost use Rattle.cq_run.specs.Verdict.{capture_in, captures_in, packets_at, state_in, tables_in, text_in};
 
-use crate::{CaptureFault, Denial, Halt, Refusal};
+use crate::{CaptureFault, Denial, Halt, Refusal, StateFault};
 use cq_base::{Name, NoMemory, Sequence};
 use cq_pcap::{Capture, PcapRefusal, read_capture};
 use cq_route::{PortRow, Tables};
@@ -24,7 +24,7 @@ use std::alloc::Global;
 // The greatest length of a configuration, in bytes.
 const LONGEST_CONFIGURATION: u64 = 1_048_576;
 
-// The greatest length of a trace and of a log that are audited, in bytes.
+// The greatest length of a trace and of a log that are audited, and of the text of a state, in bytes.
 const LONGEST_TEXT: u64 = 268_435_456;
 
 // The code of a configuration that is too long. It is a fault of the whole text, whose path is `-`.
@@ -91,6 +91,37 @@ pub fn read_text<F: Files>(
         Err(ReadRefusal::Fault) => Err(Halt::Unread { name: asked }),
         Err(ReadRefusal::Long { .. }) => Err(Halt::Refused {
             refusal: Refusal::Audit { denial: long },
+        }),
+        Err(ReadRefusal::NoMemory) => Err(Halt::NoMemory),
+    }
+}
+
+/// The text of the state of a stopped run, from the file of this name, if that has at most 268,435,456 bytes. It is not
+/// looked at.
+pub fn read_stopped<F: Files>(
+    alloc: Global,
+    files: &mut F,
+    name: Name,
+) -> Result<Sequence<u8>, Halt>
+    requires { (F.space files.old).mode ≡ Closed }
+    ensures judges { Judges InTurn (state_in name)
+        (λ asked. (asked ≡ name) × Fails F.space F.may_fail F.keeps (Reads asked) files.old files.new)
+        (F.space files.old) (F.space files.new) result }
+    ensures kept { F.keeps files.old files.new }
+{
+    match read_whole(alloc, files, name.text(), LONGEST_TEXT) {
+        Ok(bytes) => {
+            let text = Sequence::of(bytes);
+            Ok(text)
+        }
+        Err(ReadRefusal::Missing) => Err(Halt::Refused {
+            refusal: Refusal::Missing { name },
+        }),
+        Err(ReadRefusal::Fault) => Err(Halt::Unread { name }),
+        Err(ReadRefusal::Long { .. }) => Err(Halt::Refused {
+            refusal: Refusal::State {
+                fault: StateFault::Long,
+            },
         }),
         Err(ReadRefusal::NoMemory) => Err(Halt::NoMemory),
     }

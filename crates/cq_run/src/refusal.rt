@@ -49,6 +49,19 @@ impl CaptureFault {
     }
 }
 
+/// What is wrong with the state of a stopped run: the first of these that applies.
+#[derive(Clone, Copy, Debug, PartialEq, Eq)]
+pub enum StateFault {
+    /// S4: its text has more than 268,435,456 bytes, as it is read or would be written.
+    Long,
+    /// S1: this line of its text, from 1, is the first that is not allowed there, or is missing.
+    Line { line: u64 },
+    /// S2: it is of a switch of another shape, or over other captures.
+    Shape,
+    /// S3: this clause, from 1, is the first that does not hold of it.
+    Unsound { clause: u8 },
+}
+
 /// What words and files are refused for.
 #[derive(Drop)]
 pub enum Refusal {
@@ -64,6 +77,8 @@ pub enum Refusal {
     Tag { fault: TagFault },
     /// An audit says no.
     Audit { denial: Denial },
+    /// The state of a stopped run is refused, or too long.
+    State { fault: StateFault },
 }
 
 impl Refusal {
@@ -78,6 +93,7 @@ impl Refusal {
             Refusal::Capture { .. } => Status::Capture,
             Refusal::Tag { .. } => Status::Tag,
             Refusal::Audit { .. } => Status::AuditNo,
+            Refusal::State { .. } => Status::State,
         }
     }
 }

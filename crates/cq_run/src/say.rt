@@ -3,15 +3,15 @@ ghost use Rattle.std.specs.Prelude.{◌++◌};
 ghost use Rattle.std.specs.List.{flat_map};
 ghost use Rattle.cq_base.specs.Decimal.{decimal};
 ghost use Rattle.cq_run.specs.World.{taken_by};
-ghost use Rattle.cq_run.specs.Refusals.{denial_text, fault_text, in_phase_text, meaning_of};
+ghost use Rattle.cq_run.specs.Refusals.{denial_text, fault_text, in_phase_text, meaning_of, state_fault_text};
 ghost use Rattle.cq_run.specs.Line.{Puts, line, halt_text, unwritten_text, stop_text};
 
-use crate::{CaptureFault, Denial, Halt, Refusal, Stop, Unwritten};
+use crate::{CaptureFault, Denial, Halt, Refusal, StateFault, Stop, Unwritten};
 use cq_base::{MOST_DIGITS, Name, Port, Slot, TagFault, digits};
 use cq_space::{Sink, WriteFault, put_all};
 
-const USAGE: &[u8; 126] =
-    b"usage: cq_switch pass IN OUT | check CONFIG | ideal CONFIG | run CONFIG | soak SEED PORTS SLOTS | audit CONFIG | stream CONFIG";
+const USAGE: &[u8; 174] =
+    b"usage: cq_switch pass IN OUT | check CONFIG | ideal CONFIG | run CONFIG | soak SEED PORTS SLOTS | audit CONFIG | part CONFIG SLOTS STATE | resume CONFIG STATE | stream CONFIG";
 
 const READ_FAULT: &[u8; 12] = b"read fault: ";
 
@@ -61,6 +61,7 @@ fn say_refusal<S: Sink>(sink: &mut S, refusal: &Refusal) -> Result<(), WriteFaul
         Refusal::Capture { input, fault } => say_capture(sink, *input, *fault),
         Refusal::Tag { fault } => say_tag(sink, *fault),
         Refusal::Audit { denial } => say_denial(sink, *denial),
+        Refusal::State { fault } => say_state(sink, *fault),
     }
 }
 
@@ -205,6 +206,18 @@ fn say_blocking<S: Sink>(
             b"\n",
         ],
     )
+}
+
+fn say_state<S: Sink>(sink: &mut S, fault: StateFault) -> Result<(), WriteFault>
+    ensures { Puts (line (state_fault_text fault)) (taken_by S.taken S.faults sink.old)
+        (taken_by S.taken S.faults sink.new) result }
+{
+    match fault {
+        StateFault::Long => say_line(sink, b"state: S4"),
+        StateFault::Line { line } => say_number(sink, b"state: S1 at line ", line),
+        StateFault::Shape => say_line(sink, b"state: S2"),
+        StateFault::Unsound { clause } => say_number(sink, b"state: S3 clause ", clause as u64),
+    }
 }
 
 // Puts a text, and behind it in which phase of which slot.

@@ -2,7 +2,7 @@ use Rattle.std.proofs.Common.{ℕ, List}
 use Rattle.cq_gen.specs.Packets.{soak_captures}
 use Rattle.cq_gen.specs.Tables.{soak_tables}
 use Rattle.cq_space.specs.Failing.{Fails, Reads}
-use Rattle.cq_words.specs.declared.command.Command.TheVariants.{Pass, Check, Ideal, Run, Soak, Audit}
+use Rattle.cq_words.specs.declared.command.Command.TheVariants.{Pass, Check, Ideal, Run, Soak, Audit, Part, Resume}
 use Rattle.cq_run.specs.Pace.{InTurn}
 use Rattle.cq_run.specs.Planning.{known_to}
 use Rattle.cq_run.specs.Verdict.{judged, MayRead}
@@ -131,3 +131,39 @@ returns-in-Audit-clause-told g c =
     let command = Audit c.in-Audit.config in
     let R : List ℕ → Type 0 = λ name. MayRead command name × Fails g.F.Files.space g.F.Files.may_fail g.F.Files.keeps (Reads name) c.args.files.now c.audit.new.files in
     decides_told InTurn (judged from_front command) R (g.F.Files.space c.args.files.now) (g.F.Files.space c.audit.new.files) c.audit.result (c.audit.ensures.judges from_front)
+
+pub returns-in-Part-clause-judges : goal.returns-in-Part-clause-judges
+returns-in-Part-clause-judges g c = rw c.in-Part.is c.part.ensures.judges
+
+pub returns-in-Part-clause-names : goal.returns-in-Part-clause-names
+returns-in-Part-clause-names g c = rw c.in-Part.is c.part.ensures.names
+
+pub returns-in-Part-clause-closed : goal.returns-in-Part-clause-closed
+returns-in-Part-clause-closed g c =
+    let command = Part c.in-Part.config c.in-Part.slots c.in-Part.state in
+    let R : List ℕ → Type 0 = λ name. MayRead command name × Fails g.F.Files.space g.F.Files.may_fail g.F.Files.keeps (Reads name) c.args.files.now c.part.new.files in
+    decides_closed InTurn (judged from_front command) R (g.F.Files.space c.args.files.now) (g.F.Files.space c.part.new.files) c.part.result (c.part.ensures.judges from_front)
+
+pub returns-in-Part-clause-told : goal.returns-in-Part-clause-told
+returns-in-Part-clause-told g c =
+    let command = Part c.in-Part.config c.in-Part.slots c.in-Part.state in
+    let R : List ℕ → Type 0 = λ name. MayRead command name × Fails g.F.Files.space g.F.Files.may_fail g.F.Files.keeps (Reads name) c.args.files.now c.part.new.files in
+    decides_told InTurn (judged from_front command) R (g.F.Files.space c.args.files.now) (g.F.Files.space c.part.new.files) c.part.result (c.part.ensures.judges from_front)
+
+pub returns-in-Resume-clause-judges : goal.returns-in-Resume-clause-judges
+returns-in-Resume-clause-judges g c = rw c.in-Resume.is c.resume.ensures.judges
+
+pub returns-in-Resume-clause-names : goal.returns-in-Resume-clause-names
+returns-in-Resume-clause-names g c = rw c.in-Resume.is c.resume.ensures.names
+
+pub returns-in-Resume-clause-closed : goal.returns-in-Resume-clause-closed
+returns-in-Resume-clause-closed g c =
+    let command = Resume c.in-Resume.config c.in-Resume.state in
+    let R : List ℕ → Type 0 = λ name. MayRead command name × Fails g.F.Files.space g.F.Files.may_fail g.F.Files.keeps (Reads name) c.args.files.now c.resume.new.files in
+    decides_closed InTurn (judged from_front command) R (g.F.Files.space c.args.files.now) (g.F.Files.space c.resume.new.files) c.resume.result (c.resume.ensures.judges from_front)
+
+pub returns-in-Resume-clause-told : goal.returns-in-Resume-clause-told
+returns-in-Resume-clause-told g c =
+    let command = Resume c.in-Resume.config c.in-Resume.state in
+    let R : List ℕ → Type 0 = λ name. MayRead command name × Fails g.F.Files.space g.F.Files.may_fail g.F.Files.keeps (Reads name) c.args.files.now c.resume.new.files in
+    decides_told InTurn (judged from_front command) R (g.F.Files.space c.args.files.now) (g.F.Files.space c.resume.new.files) c.resume.result (c.resume.ensures.judges from_front)

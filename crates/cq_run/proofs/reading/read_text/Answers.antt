@@ -1,8 +1,9 @@
-use Rattle.std.proofs.Common.{◌∙◌, ℕ, List, ap, arith, subst}
+use Rattle.std.proofs.Common.{◌∙◌, ℕ, List, ap, arith, refl, subst}
 use Rattle.std.specs.Prelude.{◌≡◌, Err, IfSome, Some}
 use Rattle.std.specs.FinMap.{get}
 use Rattle.cq_space.specs.Failing.{Fails, Reads}
 use Rattle.cq_space.specs.Whole.{Lacks}
+use Rattle.cq_run.specs.declared.refusal.Refusal.TheVariants.{Audit}
 use Rattle.cq_run.proofs.Configured.{long_is_no_fault}
 use Rattle.cq_run.proofs.OneReading.{read_is_no_fault}
 use Rattle.cq_run.proofs.TextRead.{missing_is_no_fault, text_is, text_is_to_read, text_long, text_missed}
@@ -18,7 +19,7 @@ returns-in-Ok-clause-judges g c =
     rw c.of-text.ensures
     record {
       ok =
-          text_is c.args.long c.args.name.now (g.F.Files.space c.args.files.now).told c.in-Ok.bytes.items
+          text_is (Audit c.args.long) c.args.name.now (g.F.Files.space c.args.files.now).told c.in-Ok.bytes.items
           (omega (arith, whole.short, c.in-Ok.bytes.ok))
           (subst P (c.text-2.ensures ∙ c.in_ok-asked.ensures ∙ c.text.ensures) whole.whole);
       halt = tt;
@@ -34,7 +35,7 @@ returns-in-Err-Missing-clause-judges g c =
     record {
       ok = tt;
       halt = (
-        text_missed c.args.long c.args.name.now (g.F.Files.space c.args.files.now).told c.in_ok-asked.asked
+        text_missed (Audit c.args.long) c.args.name.now (g.F.Files.space c.args.files.now).told c.in_ok-asked.asked
             (c.in_ok-asked.ensures ∙ c.text.ensures)
             (subst P c.text-2.ensures (whole.missing (ap Err c.in-Err-Missing.field-0-is))),
         missing_is_no_fault _ _ c.in-Err-Missing.field-0-is whole.uncounted,
@@ -54,7 +55,7 @@ returns-in-Err-Fault-clause-judges g c =
       halt = (
         c.in-Err-Fault.ensures.whole.fault (ap Err c.in-Err-Fault.field-0-is),
         (asked, subst P c.text-2.ensures (c.in-Err-Fault.ensures.why (ap Err c.in-Err-Fault.field-0-is))),
-        text_is_to_read c.args.long c.args.name.now (g.F.Files.space c.args.files.now).told c.in_ok-asked.asked asked,
+        text_is_to_read (Audit c.args.long) c.args.name.now (g.F.Files.space c.args.files.now).told c.in_ok-asked.asked asked,
       );
       closed = c.read_whole.ensures.whole.closed;
       told = c.read_whole.ensures.whole.told;
@@ -68,7 +69,7 @@ returns-in-Err-Long-clause-judges g c =
     record {
       ok = tt;
       halt = (
-        text_long c.args.long c.args.name.now (g.F.Files.space c.args.files.now).told _
+        text_long (Audit c.args.long) c.args.name.now (g.F.Files.space c.args.files.now).told _ refl
             (c.text-2.ensures ∙ c.in_ok-asked.ensures ∙ c.text.ensures) long.1,
         long_is_no_fault _ _ _ c.in-Err-Long.field-0-is whole.uncounted,
       );

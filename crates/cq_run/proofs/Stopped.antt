@@ -1,0 +1,161 @@
+-- What stopping a run and taking one up come to, from what is known of the schedule of the captures: the text of the
+-- state in which the run stands, what the run keeps that goes on, and why there is none.
+use Rattle.std.proofs.Common.{◌≡◌, ◌<◌, ◌≤◌, ◌^◌, ◌∙◌, ℕ, All, List, length, ap, sym, subst}
+use Rattle.cq_base.specs.declared.cell.Departure.{Departure}
+use Rattle.cq_base.specs.declared.cell.Transfer.{Transfer}
+use Rattle.cq_cells.specs.Scheduled.{Scheduled, schedule_of}
+use Rattle.cq_laws.specs.declared.frozen.Frozen.{Frozen}
+use Rattle.cq_pcap.specs.Captured.{Captured}
+use Rattle.cq_resume.specs.Parts.{IsParted}
+use Rattle.cq_resume.specs.Reading.{IsRead, IsRefusal, state_of}
+use Rattle.cq_resume.specs.Resumed.{IsResumed}
+use Rattle.cq_resume.specs.Switch.{switch_of}
+use Rattle.cq_resume.specs.declared.refusal.StateRefusal.{StateRefusal}
+use Rattle.cq_resume.specs.declared.refusal.StateRefusal.TheVariants as of_state
+use Rattle.cq_resume.specs.declared.taken.Taken.{Taken}
+use Rattle.cq_route.specs.Tables.{AreTables, classes_of, ports_of}
+use Rattle.cq_route.specs.declared.tables.Tables.{Tables}
+use Rattle.cq_scfq.specs.Disciplines.{openings_of}
+use Rattle.cq_simulate.proofs.ResumedLaws.{resumed_counts, resumed_whole}
+use Rattle.cq_simulate.specs.PartedRuns.{CanBeTakenUp, IsPartFault, IsResumeFault, kept_of}
+use Rattle.cq_simulate.specs.declared.fabric_run.FabricRun.{FabricRun}
+use Rattle.cq_simulate.specs.declared.refusal.RunRefusal.{RunRefusal}
+use Rattle.cq_simulate.specs.declared.refusal.RunRefusal.TheVariants as of_run
+use Rattle.cq_state.specs.Refusals.{IsTooLong}
+use Rattle.cq_state.specs.State.{IsInRange, state_text}
+use Rattle.cq_state.specs.declared.state.State.{State}
+use Rattle.cq_state.specs.declared.write.StateLong.{StateLong}
+use Rattle.cq_state.specs.declared.write.StateLong.TheVariants as of_text
+use Rattle.cq_run.specs.PartEnds.{IsPartHalt, IsResumeHalt, IsResumedBy, halt_for_state, halt_for_text}
+use Rattle.cq_run.specs.Parting.{IsPartText, text_at}
+use Rattle.cq_run.specs.Switching.{halt_of}
+
+-- ## The state that is written
+
+-- the same departures, transfers, stamp, classes and total tell the same state
+pub same_state : (x : Frozen) (sent sent' : List Departure) (note note' : List Transfer) (a a' b b' n n' : ℕ) →
+    sent ≡ sent' → note ≡ note' → a ≡ a' → b ≡ b' → n ≡ n' →
+    state_of x sent note a b n ≡ state_of x sent' note' a' b' n'
+same_state x sent sent' note note' a a' b b' n n' e f g h i =
+    ap (λ (ds : List Departure). state_of x ds note a b n) e
+    ∙ ap (λ (ts : List Transfer). state_of x sent' ts a b n) f
+    ∙ ap (λ (k : ℕ). state_of x sent' note' k b n) g
+    ∙ ap (λ (k : ℕ). state_of x sent' note' a' k n) h
+    ∙ ap (λ (k : ℕ). state_of x sent' note' a' b' k) i
+
+-- what is in range of one is in range of the other
+pub in_range_as : (s s' : State) → s ≡ s' → IsInRange s' → IsInRange s
+in_range_as s s' e h = subst IsInRange (sym e) h
+
+module _ (t : Tables) (captures : List (List Captured)) (s : Scheduled) (is : s ≡ schedule_of t captures) where
+  -- ## Stopping
+
+  module _ (slots : ℕ) where
+    part_halt_at : (refusal : RunRefusal) →
+        IsPartFault (switch_of t (schedule_of t captures)) (openings_of t.setup) slots refusal →
+        IsPartHalt t captures slots (halt_of refusal)
+    part_halt_at (of_run.Tag fault) h = h
+    part_halt_at of_run.NoMemory h = tt
+
+    -- a slot before meets a tag fault, or memory ran out
+    pub part_halt : (refusal : RunRefusal) → IsPartFault (switch_of t s) (openings_of t.setup) slots refusal →
+        IsPartHalt t captures slots (halt_of refusal)
+    part_halt refusal h =
+        let P : Scheduled → Type 0 = λ x. IsPartFault (switch_of t x) (openings_of t.setup) slots refusal in
+        part_halt_at refusal (subst P is h)
+
+    module _ (at : Taken) (parted : IsParted (switch_of t s) (openings_of t.setup) slots at) (told : State)
+        (tells : told ≡ state_of at.frozen at.sent at.note s.first_stamp (classes_of t.setup) (length s.came)) where
+      parted_at : IsParted (switch_of t (schedule_of t captures)) (openings_of t.setup) slots at
+      parted_at =
+          let P : Scheduled → Type 0 = λ x. IsParted (switch_of t x) (openings_of t.setup) slots at in subst P is parted
+
+      told_at : state_text told ≡ text_at t captures at
+      told_at =
+          ap (λ (x : State). state_text x) tells
+          ∙ ap (λ (x : Scheduled). state_text (state_of at.frozen at.sent at.note x.first_stamp (classes_of t.setup)
+          (length x.came))) is
+
+      -- the text of its state
+      pub part_text : (text : List ℕ) → text ≡ state_text told → length text ≤ 2 ^ 28 → IsPartText t captures slots text
+      part_text text e short = record { at = at; parted = parted_at; told = e ∙ told_at; short = short }
+
+      -- which is too long, or memory ran out
+      pub part_long : (refusal : StateLong) → IsTooLong (state_text told) refusal →
+          IsPartHalt t captures slots (halt_for_text refusal)
+      part_long of_text.Long h =
+          let P : List ℕ → Type 0 = λ text. 2 ^ 28 < length text in
+          record { at = at; parted = parted_at; long = subst P told_at h }
+      part_long of_text.NoMemory h = tt
+
+  -- ## Going on
+
+  module _ (text : List ℕ) where
+    resume_refused_at : (refusal : StateRefusal) → IsRefusal (switch_of t (schedule_of t captures)) text refusal →
+        IsResumeHalt t captures text (halt_for_state refusal)
+    resume_refused_at (of_state.Text line) h = h
+    resume_refused_at of_state.Shape h = h
+    resume_refused_at (of_state.Unsound clause) h = h
+    resume_refused_at of_state.NoMemory h = tt
+
+    -- the text is none of a sound state, or memory ran out
+    pub resume_refused : (refusal : StateRefusal) → IsRefusal (switch_of t s) text refusal →
+        IsResumeHalt t captures text (halt_for_state refusal)
+    resume_refused refusal h =
+        let P : Scheduled → Type 0 = λ x. IsRefusal (switch_of t x) text refusal in
+        resume_refused_at refusal (subst P is h)
+
+    module _ (from : Taken) (read : IsRead (switch_of t s) text from) where
+      -- it can be taken up
+      pub taken_up : CanBeTakenUp (switch_of t s) from
+      taken_up = record {
+        state = read.state;
+        in_range = read.in_range;
+        shape = read.shape;
+        sound = read.sound;
+        told = read.told;
+      }
+
+      read_at : IsRead (switch_of t (schedule_of t captures)) text from
+      read_at = let P : Scheduled → Type 0 = λ x. IsRead (switch_of t x) text from in subst P is read
+
+      resume_halt_at : (refusal : RunRefusal) → IsResumeFault (switch_of t (schedule_of t captures)) from refusal →
+          IsResumeHalt t captures text (halt_of refusal)
+      resume_halt_at (of_run.Tag fault) h = record { from = from; read = read_at; stops = h }
+      resume_halt_at of_run.NoMemory h = tt
+
+      -- a slot from there on meets a tag fault, or memory ran out
+      pub resume_halt : (refusal : RunRefusal) → IsResumeFault (switch_of t s) from refusal →
+          IsResumeHalt t captures text (halt_of refusal)
+      resume_halt refusal h =
+          let P : Scheduled → Type 0 = λ x. IsResumeFault (switch_of t x) from refusal in
+          resume_halt_at refusal (subst P is h)
+
+      module _ (run : FabricRun) (resumed : IsResumed (switch_of t s) from (kept_of run)) where
+        pub resumed_at : IsResumed (switch_of t (schedule_of t captures)) from (kept_of run)
+        resumed_at =
+            let P : Scheduled → Type 0 = λ x. IsResumed (switch_of t x) from (kept_of run) in subst P is resumed
+
+        taken_up_at : CanBeTakenUp (switch_of t (schedule_of t captures)) from
+        taken_up_at = let P : Scheduled → Type 0 = λ x. CanBeTakenUp (switch_of t x) from in subst P is taken_up
+
+        -- what it keeps is that of the run that goes on, and leaves in whole packets
+        pub resumed_by : (stamp : ℕ) → stamp ≡ s.first_stamp → AreTables t → length captures ≡ ports_of t.setup →
+            IsResumedBy t captures text (record {
+              switched = record { sent = run.sent; first_stamp = stamp };
+              note = run.note;
+              figures = run.figures;
+              refused = run.refused;
+            })
+        resumed_by stamp e are many = record {
+          resumed = record { from = from; read = read_at; resumed = resumed_at };
+          sent = record {
+            whole = resumed_whole t captures from (kept_of run) are many taken_up_at resumed_at;
+            first_stamp = e ∙ ap (λ (x : Scheduled). x.first_stamp) is;
+          };
+        }
+
+        -- no output sent more cells than there were slots
+        pub reportable : AreTables t → length captures ≡ ports_of t.setup →
+            All (λ x. x.cells ≤ run.figures.slots) run.figures.outputs
+        reportable are many = resumed_counts t captures from (kept_of run) are many taken_up_at resumed_at
