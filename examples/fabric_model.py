@@ -24,7 +24,7 @@ class Fabric:
         self.switch, self.ranks, self.limits = switch, switch.ranks(), Limits(switch.limits)
         self.ports = range(len(self.ranks))
         self.lists, self.buffers = [[] for _ in self.ports], [[] for _ in self.ports]
-        self.sent, self.crossed, self.proposals = [], [], []
+        self.sent, self.crossed, self.proposals, self.most = [], [], 0, 0
         self.cells, self.longest, self.slack = ([0] * len(self.ports), [0] * len(self.ports), [None] * len(self.ports))
 
     def cushion(self, queued):
@@ -77,7 +77,7 @@ class Fabric:
             held[output] = winner
             if loser != winner:
                 free.append(loser.input)
-        self.proposals.append(sum(places))
+        self.proposals, self.most = self.proposals + sum(places), max(self.most, sum(places))
         return held
 
     def transfer(self, slot, phase):
@@ -94,19 +94,26 @@ class Fabric:
                 self.sent.append((slot, output, first))
             self.ranks[output].tell(first)
 
+    def step(self, slot, cells):
+        self.arrive(slot, cells)
+        self.transfer(slot, 1)
+        self.depart(slot)
+        self.transfer(slot, 2)
+
+    def waits(self):
+        """Whether a cell waits."""
+        return any(self.lists) or any(self.buffers)
+
     def run(self):
         arrivals, slot = self.switch.arrivals(), 0
-        while arrivals or any(self.lists) or any(self.buffers):
-            self.arrive(slot, arrivals.pop(slot, []))
-            self.transfer(slot, 1)
-            self.depart(slot)
-            self.transfer(slot, 2)
+        while arrivals or self.waits():
+            self.step(slot, arrivals.pop(slot, []))
             slot += 1
         return self
 
     def report(self):
         slots = max((slot + 1 for slot, _, _ in self.sent), default=0)
-        lines = ["slots %d" % slots, "proposals %d" % sum(self.proposals), "most %d" % max(self.proposals, default=0)]
+        lines = ["slots %d" % slots, "proposals %d" % self.proposals, "most %d" % self.most]
         for i in self.ports:
             slack = "-" if self.slack[i] is None else self.slack[i]
             lines.append("input %d cells %d longest %d slack %s" % (i, self.cells[i], self.longest[i], slack))
