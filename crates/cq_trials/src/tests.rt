@@ -4,6 +4,7 @@ mod configured;
 mod damaged;
 mod failing;
 mod faults;
+mod parted;
 mod read_ahead;
 mod refused;
 mod words;

@@ -101,6 +101,21 @@ impl Run {
         Ok(ended.is_done("audit yes\n") && self.is_sent(alloc, disk)?)
     }
 
+    /// Whether a run that stops after so many slots writes its state alone, and what goes on from there does all of the
+    /// run.
+    pub fn goes_on<R: Threads + Sync>(
+        &self,
+        rt: &R,
+        alloc: Global,
+        slots: &str,
+    ) -> Result<bool, NoMemory> {
+        let mut disk = self.disk(alloc, 1)?;
+        let stopped = answer(rt, alloc, &["part", "c.toml", slots, "s.txt"], &mut disk)?;
+        let is_stopped = stopped.is_done("") && disk.lacks(&["trace.txt", "log.txt", "out0.pcap"]);
+        let ended = answer(rt, alloc, &["resume", "c.toml", "s.txt"], &mut disk)?;
+        Ok(is_stopped && self.is_crossed(alloc, &ended, &disk)?)
+    }
+
     /// Whether the ideal switch sends what the run sends, and touches no log.
     pub fn is_ideal<R: Threads + Sync>(&self, rt: &R, alloc: Global) -> Result<bool, NoMemory> {
         let mut disk = self.disk(alloc, 1)?;

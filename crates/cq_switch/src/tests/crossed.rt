@@ -239,6 +239,20 @@ fn both_switches_write_worked_runs_whatever_the_workers_and_audits_say_yes(
     Ok(())
 }
 
+#[test]
+fn worked_runs_go_on_after_a_stop(rt: HostRuntime) -> Result<(), Fail> {
+    for run in RUNS.iter().chain(RUNS_WITH_A_LIMIT).chain(RUNS_BY_KEYS) {
+        for slots in ["0", "1", "2"] {
+            assert!(rt;
+                run.goes_on(&rt, rt.alloc(), slots)?,
+                "{} after {slots}",
+                run.shows
+            );
+        }
+    }
+    Ok(())
+}
+
 /// Whether the same run is made of the configuration with another number for its version.
 fn is_crossed_in_version_two<R: Threads + Sync>(
     rt: &R,

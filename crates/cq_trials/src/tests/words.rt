@@ -7,7 +7,7 @@ use std::test::Fail;
 use std::thread::Threads;
 
 const USAGE: &str =
-    "usage: cq_switch pass IN OUT | check CONFIG | ideal CONFIG | run CONFIG | soak SEED PORTS SLOTS | audit CONFIG | stream CONFIG\n";
+    "usage: cq_switch pass IN OUT | check CONFIG | ideal CONFIG | run CONFIG | soak SEED PORTS SLOTS | audit CONFIG | part CONFIG SLOTS STATE | resume CONFIG STATE | stream CONFIG\n";
 
 /// Words, the code of their status, and the line.
 type Refusal = (&'static [&'static str], u8, &'static str);
@@ -16,6 +16,7 @@ const REFUSALS: &[Refusal] = &[
     (&[], 1, USAGE),
     (&["pass", "a", "b", "c"], 1, USAGE),
     (&["soak", "1", "65", "10"], 1, USAGE),
+    (&["part", "a", "9223372036854775808", "b"], 1, USAGE),
     (&["pass", "c", "b"], 3, "capture of input 0: 1\n"),
     (&["pass", "d", "b"], 5, "read fault: d\n"),
 ];
@@ -23,7 +24,7 @@ const REFUSALS: &[Refusal] = &[
 /// What `b` holds before, and how much of the line standard error takes.
 type Place = (Option<&'static [u8]>, u64);
 
-const PLACES: &[Place] = &[(None, 140), (Some(b"kept"), 7), (None, 0)];
+const PLACES: &[Place] = &[(None, 180), (Some(b"kept"), 7), (None, 0)];
 
 fn is_refused<R: Threads + Sync>(
     rt: &R,
