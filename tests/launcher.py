@@ -112,7 +112,11 @@ class Launcher(unittest.TestCase):
                 ("audit: A1 at line 3", 8, "this is the first thing wrong with the log"),
                 ("audit: A3 at slot 0 phase 2 input 1 output 0", 8, "this is the first thing wrong with the log"),
                 ("audit: A5 at line 2", 8, "the log is sound; the trace is not"),
-                ("audit: A6 trace", 8, "the trace has more than 268435456 bytes")):
+                ("audit: A6 trace", 8, "the trace has more than 268435456 bytes"),
+                ("state: S1 at line 13", 9, "the state has a line there that no state has, or lacks one"),
+                ("state: S2", 9, "the state is of another switch, or of other captures"),
+                ("state: S3 clause 4", 9, "the state is none in which this switch can be"),
+                ("state: S4", 9, "the state has more than 268435456 bytes")):
             with self.subTest(line):
                 code, said = self.call(line, "run", "c.toml", status=status)
                 self.assertEqual(code, status)

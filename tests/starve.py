@@ -47,7 +47,7 @@ NEVER = 2**64 - 1  # the number of no growth
 QUIET = 16  # so many numbers in turn that refuse nothing end a round
 NO_WORDS = 10  # the status of a call whose words could not be kept
 USAGE = (1, b"usage: cq_switch pass IN OUT | check CONFIG | ideal CONFIG | run CONFIG | soak SEED PORTS SLOTS"
-         b" | audit CONFIG | stream CONFIG\n")
+         b" | audit CONFIG | part CONFIG SLOTS STATE | resume CONFIG STATE | stream CONFIG\n")
 BEFORE = b"what stood here before\n"
 
 # What is asked for is told through a file in memory, since the program may end in any way.
@@ -203,6 +203,21 @@ TWO_PORTS = {
     "trace.txt": b"0 0 0 0 0\n1 0 1 0 0\n",
     "log.txt": b"0 1 0 0 0 0\n0 2 1 0 0 0\n",
 }
+# How their run stands after its first slot.
+STATE = b"""cq-state 1
+next 1
+shape 2 1 0 2
+sum 3 2
+input 0 1 0
+input 1 1 0
+rank 0
+rank 1
+buffer 0 0 0 1
+sent 0 0 0 0 0
+moved 0 1 0 0 0 0
+moved 0 2 1 0 0 0
+end
+"""
 TWO_PORTS_REPORT = b"""slots 2
 proposals 3
 most 2
@@ -244,6 +259,9 @@ def cases():
     early = {**left, "log.txt": b"0 1 0 0 0 0\n"}
     late = {**left, "trace.txt": b"0 0 0 0 0\n"}
     audit = ["audit", "switch.toml"]
+    asks = two_ports("out0.pcap", "out1.pcap")
+    stopped = {**asks, "s.txt": STATE}
+    resume = ["resume", "switch.toml", "s.txt"]
     return (
         Case("pass", ["pass", "in.pcap", "out.pcap"], shipped("one-port", "in.pcap"), shipped("one-port", "out.pcap")),
         Case("check", ["check", "switch.toml"], shipped("three-ports", "switch.toml"), {},
@@ -255,6 +273,10 @@ def cases():
         Case("two workers", run, two_ports("out0.pcap", "out1.pcap"), TWO_PORTS, TWO_PORTS_REPORT),
         Case("soak", ["soak", "1", "4", "20"], {}, {}, drawn),
         Case("audit", audit, left, {}, b"audit yes\n"),
+        Case("part", ["part", "switch.toml", "1", "s.txt"], asks, {"s.txt": STATE}),
+        Case("resume", resume, stopped, TWO_PORTS, TWO_PORTS_REPORT),
+        Case("cut state", resume, {**stopped, "s.txt": STATE[:-4]}, {}, refusal=(9, b"state: S1 at line 13\n")),
+        Case("other state", resume, {**stopped, "s.txt": STATE.replace(b"shape 2 1 0 2", b"shape 2 1 0 3")}, {}, refusal=(9, b"state: S2\n")),
         Case("short log", audit, early, {}, refusal=(8, b"audit: A3 at slot 0 phase 2 input 1 output 0\n")),
         Case("short trace", audit, late, {}, refusal=(8, b"audit: A5 at line 2\n")),
         Case("no command", ["help"], {}, {}, refusal=USAGE),

@@ -10,11 +10,12 @@ _cq_switch() {
     local word=${COMP_WORDS[COMP_CWORD]}
     COMPREPLY=()
     if ((COMP_CWORD == 1)); then
-        mapfile -t COMPREPLY < <(compgen -W 'audit check ideal pass run soak stream' -- "$word")
+        mapfile -t COMPREPLY < <(compgen -W 'audit check ideal part pass resume run soak stream' -- "$word")
         return
     fi
     case ${COMP_WORDS[1]}-$COMP_CWORD in
-        audit-2 | check-2 | ideal-2 | run-2 | stream-2) _cq_switch_files toml "$word" ;;
+        audit-2 | check-2 | ideal-2 | part-2 | resume-2 | run-2 | stream-2) _cq_switch_files toml "$word" ;;
+        part-4 | resume-3) mapfile -t COMPREPLY < <(compgen -f -- "$word"); compopt -o filenames 2>/dev/null ;;
         pass-2 | pass-3) _cq_switch_files pcap "$word" ;;
     esac
 }

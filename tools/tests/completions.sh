@@ -28,8 +28,8 @@ offers() {
     fi
 }
 
-offers '[audit][check][ideal][pass][run][soak][stream]' ''
-offers '[run]' r
+offers '[audit][check][ideal][part][pass][resume][run][soak][stream]' ''
+offers '[run]' ru
 offers '[a b.toml][more]' run ''
 offers '[in.pcap][more]' pass ''
 offers '[in.pcap]' pass in.pcap i
