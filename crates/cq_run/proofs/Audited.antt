@@ -1,8 +1,7 @@
 -- Judging an audit: the configuration, its captures, the trace, the log, and then the ideal run. Where all of them are there it
 -- aims at a yes, which the log and the trace meet or deny.
-use Rattle.std.proofs.Common.{◌≡◌, ◌∙◌, ℕ, Bool, true, false, cond, List, refl, sym, ap, subst, inl, inr}
-use Rattle.std.specs.Prelude.{nat_lt, length, Option, None, Some, IfSome, Result, Ok, Err, IsOkAnd}
-use Rattle.std.specs.FinMap.{get}
+use Rattle.std.proofs.Common.{◌≡◌, ◌∙◌, ℕ, List, refl, sym, ap, subst, inl, inr}
+use Rattle.std.specs.Prelude.{Option, None, Some, IfSome, Result, Ok, Err, IsOkAnd}
 use Rattle.cq_base.specs.Texts.{trace_of}
 use Rattle.cq_base.specs.declared.cell.Departure.{Departure}
 use Rattle.cq_base.specs.declared.cell.TagFault.{TagFault}
@@ -27,31 +26,13 @@ use Rattle.cq_run.specs.Plan.{Plan}
 use Rattle.cq_run.specs.Planning.{Decides, DenialHalts, IsDenial}
 use Rattle.cq_run.specs.Plans.{audited}
 use Rattle.cq_run.specs.Reader.{Reader}
-use Rattle.cq_run.specs.Verdict.{◌>>=◌, captures_in, found_or_missing, ideally_sent, sent_or_tag, tables_in, text_in, text_or_long}
+use Rattle.cq_run.specs.Verdict.{◌>>=◌, captures_in, ideally_sent, sent_or_tag, tables_in, text_in}
 use Rattle.cq_run.proofs.Chain.{judges_after, judges_both, judges_computed, judges_computed_err, judges_then}
 use Rattle.cq_run.proofs.ReadOn.{aims_on, captures_end, ends_on, tables_end}
 use Rattle.cq_run.proofs.Stays.{text_stays}
+use Rattle.cq_run.proofs.TextRead.{text_stands}
 
 -- ## What is read
-
--- a text that was accepted stands under its name
-accepted : (long : Refusal) (over : Bool) (whole : Result (List ℕ) Refusal) (bytes : List ℕ) →
-    cond over (Err long) whole ≡ Ok bytes → whole ≡ Ok bytes
-accepted long true whole bytes h = absurd (let P : ⊥ = cc h in P)
-accepted long false whole bytes h = h
-
-same_text : (a b : List ℕ) → ◌≡◌ {A = Result (List ℕ) Refusal} (Ok a) (Ok b) → a ≡ b
-same_text a b h = let same : a ≡ b = cc h in same
-
-stands_at : (long : Denial) (name : List ℕ) (o : Option (List ℕ)) (bytes : List ℕ) →
-    (found_or_missing name o >>= text_or_long long) ≡ Ok bytes → o ≡ Some bytes
-stands_at long name None bytes h = absurd (let P : ⊥ = cc h in P)
-stands_at long name (Some text) bytes h =
-    ap Some (same_text text bytes (accepted (Audit long) (nat_lt 268435456 (length text)) (Ok text) bytes h))
-
-text_stands : (long : Denial) (name : List ℕ) (m : Contents) (bytes : List ℕ) → text_in long name m ≡ Ok bytes →
-    get m name ≡ Some bytes
-text_stands long name m bytes h = stands_at long name (get m name) bytes h
 
 sent_ok : (x : Result (List Departure) TagFault) (sent : List Departure) → sent_or_tag x ≡ Ok sent → x ≡ Ok sent
 sent_ok (Ok ds) sent h = let same : ds ≡ sent = cc h in ap Ok same
@@ -198,9 +179,9 @@ module _ (r : Reader) (config : List ℕ) where
           captures = captures;
           captured = captured;
           trace = trace;
-          traced = text_stands LongTrace t.trace m trace traced;
+          traced = text_stands (Audit LongTrace) t.trace m trace traced;
           log = log;
-          logged = text_stands LongLog t.log m log logged;
+          logged = text_stands (Audit LongLog) t.log m log logged;
           audit = passed.meets.log_is;
           same = sent_ok (ideal_departures t (arrivals t captures)) passed.sent passed.ideally ∙ ap Ok passed.departed;
           sent = passed.meets.trace_is ∙ ap trace_of passed.departed;

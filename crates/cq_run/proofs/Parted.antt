@@ -1,8 +1,9 @@
 -- Judging the words of stopping a run and of taking one up: the configuration, its captures, and then the text of a
--- state. Where all of them are there, they aim at the text of the state, or at what the run keeps that goes on, which is
+-- state. Where all of them are there, they aim at the text of the state, or at what the run keeps that goes on, which
+-- is
 -- met or denied.
 use Rattle.std.proofs.Common.{◌≡◌, ◌∙◌, ◌++◌, ◌∷◌, [], ℕ, IsTrue, List, refl, subst, inl}
-use Rattle.std.specs.Prelude.{Result, Ok, Err}
+use Rattle.std.specs.Prelude.{IfSome, Option, None, Some, Result, Ok, Err}
 use Rattle.cq_base.specs.Texts.{log_of, trace_of}
 use Rattle.cq_pcap.specs.Captured.{Captured}
 use Rattle.cq_report.specs.Report.{report_with}
@@ -10,10 +11,12 @@ use Rattle.cq_route.specs.declared.tables.Tables.{Tables}
 use Rattle.cq_space.specs.Space.{Contents, Space}
 use Rattle.cq_run.specs.declared.refusal.Refusal.{Refusal}
 use Rattle.cq_run.specs.declared.refusal.Refusal.TheVariants.{Audit, Capture, Configuration, Missing, State, Tag, Words}
+use Rattle.cq_run.specs.declared.refusal.StateFault.TheVariants as stopped
 use Rattle.cq_run.specs.declared.stop.Halt.{Halt}
 use Rattle.cq_run.specs.declared.stop.Halt.TheVariants.{NoMemory, Refused, Unread}
 use Rattle.cq_run.specs.declared.switching.Crossed.{Crossed}
 use Rattle.cq_run.specs.Aim.{Aim, Parting, Resuming}
+use Rattle.cq_run.specs.Headline.{IsStopped, IsTakenUp}
 use Rattle.cq_run.specs.Judging.{Judges}
 use Rattle.cq_run.specs.Pace.{InTurn}
 use Rattle.cq_run.specs.PartEnds.{IsPartHalt, IsResumeHalt, IsResumedBy, kept_by}
@@ -28,6 +31,7 @@ use Rattle.cq_run.proofs.Captures.{plan_is}
 use Rattle.cq_run.proofs.Chain.{judges_both, judges_computed, judges_then}
 use Rattle.cq_run.proofs.Decided.{denial_decides}
 use Rattle.cq_run.proofs.ReadOn.{aims_on, ends_on, judged_whole}
+use Rattle.cq_run.proofs.TextRead.{text_stands}
 
 -- ## Untold contents
 
@@ -91,6 +95,28 @@ module _ (r : Reader) (config : List ℕ) (slots : ℕ) (name : List ℕ) where
         Decides InTurn (judged_whole r config parting) S s0 s2 (Ok plan)
     part_plans text plan is written = (Parting t captures slots name, (text, is, written), part_aims)
 
+    -- ## What is written of it
+
+    stops_told : (told : Option Contents) (text : List ℕ) (plan : Plan) → IsPartText t captures slots text →
+        plan ≡ state_written name text → IfSome told (λ m. tables_in config m ≡ Ok t) →
+        IfSome told (λ m. captures_in r t m ≡ Ok captures) → IfSome told (λ m. IsStopped r config slots name m plan)
+    stops_told None text plan is written a b = tt
+    stops_told (Some m) text plan is written a b = record {
+      tables = t;
+      configured = a;
+      captures = captures;
+      captured = b;
+      text = text;
+      stopped = is;
+      written = written;
+    }
+
+    pub part_emulates : (text : List ℕ) (plan : Plan) → IsPartText t captures slots text →
+        plan ≡ state_written name text → IfSome s0.told (λ m. IsStopped r config slots name m plan)
+    part_emulates text plan is written =
+        let P : Option Contents → Type 0 = λ o. IfSome o (λ m. captures_in r t m ≡ Ok captures) in
+        stops_told s0.told text plan is written g1.ok (subst P g1.told g2.ok)
+
 -- ## Going on
 
 module _ (r : Reader) (config : List ℕ) (name : List ℕ) where
@@ -143,14 +169,38 @@ module _ (r : Reader) (config : List ℕ) (name : List ℕ) where
       resume_halts NoMemory h = resume_no_memory
 
       -- what was kept of it is built
-      pub resume_plans : (c : Crossed) (plan : Plan) → IsResumedText t captures text (kept_by c) →
-          plan.writes ≡ captures_out t captures c.switched.sent.items 0 t.ports ++
-          (t.trace, trace_of c.switched.sent.items) ∷ (t.log, log_of c.note.items) ∷ [] →
-          plan.text ≡ report_with c.figures c.refused.items →
-          Decides InTurn (judged_whole r config resuming) S s0 s3 (Ok plan)
-      unfolding resumed
-      resume_plans c plan is writes report =
-          (Resuming t captures text, (kept_by c, is, plan_is plan _ _ writes report), resume_aims)
+      module _ (c : Crossed) (plan : Plan) (is : IsResumedText t captures text (kept_by c))
+          (writes : plan.writes ≡ captures_out t captures c.switched.sent.items 0 t.ports ++
+          (t.trace, trace_of c.switched.sent.items) ∷ (t.log, log_of c.note.items) ∷ [])
+          (report : plan.text ≡ report_with c.figures c.refused.items) where
+        kept_written : plan ≡ resumed t captures (kept_by c)
+        unfolding resumed
+        kept_written = plan_is plan _ _ writes report
+
+        pub resume_plans : Decides InTurn (judged_whole r config resuming) S s0 s3 (Ok plan)
+        resume_plans = (Resuming t captures text, (kept_by c, is, kept_written), resume_aims)
+
+        goes_on_told : (told : Option Contents) → IfSome told (λ m. tables_in config m ≡ Ok t) →
+            IfSome told (λ m. captures_in r t m ≡ Ok captures) → IfSome told (λ m. state_in name m ≡ Ok text) →
+            IfSome told (λ m. IsTakenUp r config name m plan)
+        goes_on_told None a b d = tt
+        goes_on_told (Some m) a b d = record {
+          tables = t;
+          configured = a;
+          captures = captures;
+          captured = b;
+          text = text;
+          found = text_stands (State stopped.Long) name m text d;
+          kept = kept_by c;
+          goes_on = is;
+          written = kept_written;
+        }
+
+        pub resume_emulates : IfSome s0.told (λ m. IsTakenUp r config name m plan)
+        resume_emulates =
+            let P : Option Contents → Type 0 = λ o. IfSome o (λ m. captures_in r t m ≡ Ok captures) in
+            let Q : Option Contents → Type 0 = λ o. IfSome o (λ m. state_in name m ≡ Ok text) in
+            goes_on_told s0.told g1.ok (subst P g1.told g2.ok) (subst Q (g2.told ∙ g1.told) g3.ok)
 
 -- ## The same captures and text
 

@@ -1,7 +1,7 @@
 -- What is told of a text, as the trace or the log of an audit or the state of a stopped run, from what was read under its name:
 -- its bytes, where they are not too many. The name that was asked for is the one that is to be read, or a copy of it.
-use Rattle.std.proofs.Common.{◌≡◌, ◌<◌, ◌≤◌, ◌⊎◌, ◌∙◌, ℕ, Bool, IsTrue, cond, List, [], length, refl, sym, ap, subst, inl, inr, arith}
-use Rattle.std.specs.Prelude.{Option, None, Some, IfSome, Result, Ok, Err, IsErrOf, Vec, unwrap_or}
+use Rattle.std.proofs.Common.{◌≡◌, ◌<◌, ◌≤◌, ◌⊎◌, ◌∙◌, ℕ, Bool, IsTrue, true, false, cond, List, [], length, refl, sym, ap, subst, inl, inr, arith}
+use Rattle.std.specs.Prelude.{nat_lt, Option, None, Some, IfSome, Result, Ok, Err, IsErrOf, Vec, unwrap_or}
 use Rattle.std.specs.FinMap.{get, remove}
 use Rattle.std.specs.declared.alloc.Global.{Global}
 use Rattle.std.proofs.lemmas.Bool.{le-ltb, lt-ltb}
@@ -67,6 +67,27 @@ module _ (long : Refusal) (name : List ℕ) where
   text_is_to_read (Some m) asked a =
       ap (λ (n : List ℕ). short_in long name (remove m n)) a ∙ missing_as (remove m name) asked a
       (get-remove_same m name)
+
+-- ## What was accepted
+
+-- a text that was accepted stands under its name
+accepted : (long : Refusal) (over : Bool) (whole : Result (List ℕ) Refusal) (bytes : List ℕ) →
+    cond over (Err long) whole ≡ Ok bytes → whole ≡ Ok bytes
+accepted long true whole bytes h = absurd (let P : ⊥ = cc h in P)
+accepted long false whole bytes h = h
+
+same_text : (a b : List ℕ) → ◌≡◌ {A = Result (List ℕ) Refusal} (Ok a) (Ok b) → a ≡ b
+same_text a b h = let same : a ≡ b = cc h in same
+
+stands_at : (long : Refusal) (name : List ℕ) (o : Option (List ℕ)) (bytes : List ℕ) →
+    (found_or_missing name o >>= short_or long) ≡ Ok bytes → o ≡ Some bytes
+stands_at long name None bytes h = absurd (let P : ⊥ = cc h in P)
+stands_at long name (Some text) bytes h =
+    ap Some (same_text text bytes (accepted long (nat_lt 268435456 (length text)) (Ok text) bytes h))
+
+pub text_stands : (long : Refusal) (name : List ℕ) (m : Contents) (bytes : List ℕ) → short_in long name m ≡ Ok bytes →
+    get m name ≡ Some bytes
+text_stands long name m bytes h = stands_at long name (get m name) bytes h
 
 -- a name that is missing was read with no fault
 pub missing_is_no_fault : (r : ReadRefusal) (P : Type 0) → r ≡ whole.Missing →

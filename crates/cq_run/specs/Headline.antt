@@ -1,4 +1,4 @@
--- What the program claims of `run CONFIG`, of `pass IN OUT` and of `audit CONFIG`, in one place.
+-- What the program claims of `run CONFIG`, of `pass IN OUT`, of `audit CONFIG`, and of runs in parts, in one place.
 use Rattle.std.specs.Prelude.{◌≡◌, ℕ, ◌<◌, List, [], ◌∷◌, length, Some, Ok}
 use Rattle.std.specs.FinMap.{get}
 use Rattle.cq_audit.specs.Audit.{IsYes}
@@ -8,6 +8,7 @@ use Rattle.cq_cells.specs.Traffic.{IsRecorded}
 use Rattle.cq_laws.specs.Fabric.{IsEmptyFabric}
 use Rattle.cq_laws.specs.LimitedFabric.{LimitedRecord}
 use Rattle.cq_pcap.specs.Captured.{Captured}
+use Rattle.cq_resume.specs.Resumed.{Kept}
 use Rattle.cq_route.specs.Plain.{plain_tables}
 use Rattle.cq_route.specs.Tables.{AreTables, ports_of}
 use Rattle.cq_route.specs.declared.tables.Tables.{Tables}
@@ -17,9 +18,10 @@ use Rattle.cq_simulate.specs.FabricRuns.{AlwaysHasSlack, AreInputBest, IsFabricR
 use Rattle.cq_space.specs.Space.{Contents}
 use Rattle.cq_words.specs.declared.command.Command.{Command}
 use Rattle.cq_words.specs.declared.command.Command.TheVariants.{Pass, Check, Ideal, Run, Soak, Audit, Part, Resume}
+use Rattle.cq_run.specs.Parting.{IsPartText, IsResumedText}
 use Rattle.cq_run.specs.Passing.{capture_of_all}
 use Rattle.cq_run.specs.Plan.{Plan}
-use Rattle.cq_run.specs.Plans.{audited, crossed, passed}
+use Rattle.cq_run.specs.Plans.{audited, crossed, passed, resumed, state_written}
 use Rattle.cq_run.specs.Reader.{Reader}
 use Rattle.cq_run.specs.Verdict.{tables_in, capture_in, captures_in}
 
@@ -86,7 +88,33 @@ pub record IsAudited (r : Reader) (config : List ℕ) (m : Contents) (plan : Pla
   pub sent : trace ≡ trace_of (departures_in_run audit.run.records)
   pub written : plan ≡ audited
 
--- the same of a command that crosses a switch and writes what left it, and of an audit; of the others nothing is said here
+-- What is written for a run that stops after so many slots over these contents: the text of the state in which it stands
+-- then, and nothing else.
+pub record IsStopped (r : Reader) (config : List ℕ) (slots : ℕ) (state : List ℕ) (m : Contents) (plan : Plan) : Type 0
+  where
+    pub tables : Tables
+    pub configured : tables_in config m ≡ Ok tables
+    pub captures : List (List Captured)
+    pub captured : captures_in r tables m ≡ Ok captures
+    pub text : List ℕ
+    pub stopped : IsPartText tables captures slots text
+    pub written : plan ≡ state_written state text
+
+-- What is written for a run that goes on from a state over these contents: what it keeps to its end, behind what the state
+-- tells of what was kept before.
+pub record IsTakenUp (r : Reader) (config state : List ℕ) (m : Contents) (plan : Plan) : Type 0 where
+  pub tables : Tables
+  pub configured : tables_in config m ≡ Ok tables
+  pub captures : List (List Captured)
+  pub captured : captures_in r tables m ≡ Ok captures
+  pub text : List ℕ
+  pub found : get m state ≡ Some text
+  pub kept : Kept
+  pub goes_on : IsResumedText tables captures text kept
+  pub written : plan ≡ resumed tables captures kept
+
+-- the same of each command that crosses a switch and writes what left it, of an audit, and of runs in parts; of the others
+-- nothing is said here
 abbrev pub Emulates : Reader → Command → Contents → Plan → Type 0
 Emulates r (Pass from to) m plan = IsPassage r from to m plan
 Emulates r (Check config) m plan = Unit {0}
@@ -94,5 +122,5 @@ Emulates r (Ideal config) m plan = Unit {0}
 Emulates r (Run config) m plan = IsEmulation r config m plan
 Emulates r (Soak seed ports slots) m plan = Unit {0}
 Emulates r (Audit config) m plan = IsAudited r config m plan
-Emulates r (Part config slots state) m plan = Unit {0}
-Emulates r (Resume config state) m plan = Unit {0}
+Emulates r (Part config slots state) m plan = IsStopped r config slots state m plan
+Emulates r (Resume config state) m plan = IsTakenUp r config state m plan

@@ -9,7 +9,7 @@ ghost use Rattle.cq_gen.specs.Packets.{soak_captures};
 ghost use Rattle.cq_gen.specs.Tables.{soak_tables};
 ghost use Rattle.cq_run.specs.Aim.{Meets, Reporting};
 ghost use Rattle.cq_run.specs.Judging.{IsHaltOf};
-ghost use Rattle.cq_run.specs.Headline.{Emulates, IsAudited, IsEmulation, IsPassage};
+ghost use Rattle.cq_run.specs.Headline.{Emulates, IsAudited, IsEmulation, IsPassage, IsStopped, IsTakenUp};
 ghost use Rattle.cq_run.specs.Pace.{Ahead, InTurn};
 ghost use Rattle.cq_run.specs.Planning.{Decides, Plans, known_to, IsWithinRange};
 ghost use Rattle.cq_run.specs.Reader.{Reader};
@@ -279,6 +279,8 @@ fn part<R: Threads + Sync, F: Files, G: Gate>(
     ensures kept { F.keeps files.old files.new }
     ensures names { let command = Command.Part config slots state in
         IfOk result (λ plan. AllByRecursion (λ write. MayWrite command write.0) plan.writes) }
+    ensures emulates { (r : Reader) → IfOk result (λ plan. IfSome (F.space files.old).told
+        (λ m. IsStopped r config slots state m plan)) }
 {
     let tables = read_configuration(alloc, files, config)?;
     let captures = read_inputs(alloc, files, &tables)?;
@@ -302,6 +304,8 @@ fn resume<R: Threads + Sync, F: Files, G: Gate>(
     ensures kept { F.keeps files.old files.new }
     ensures names { let command = Command.Resume config state in
         IfOk result (λ plan. AllByRecursion (λ write. MayWrite command write.0) plan.writes) }
+    ensures emulates { (r : Reader) → IfOk result (λ plan. IfSome (F.space files.old).told
+        (λ m. IsTakenUp r config state m plan)) }
 {
     let tables = read_configuration(alloc, files, config)?;
     let captures = read_inputs(alloc, files, &tables)?;

@@ -70,7 +70,7 @@ pub fn switch_top<R: Threads + Sync, F: Files, O: Sink, E: Sink, G: Gate>(
         (world F.space O.taken O.faults files.old out.old)
         (world F.space O.taken O.faults files.new out.new) result }
 
-    // The headline, of `run CONFIG`, of `pass IN OUT` and of `audit CONFIG`.
+    // The headline, of `run CONFIG`, of `pass IN OUT`, of `audit CONFIG`, and of runs in parts.
     ensures headline { (r : Reader) (command : Command) → command_for (map string_bytes words.now) ≡ Some command →
         result ≡ Status.Done → IfSome (F.space files.old).told (λ m. (plan : Plan) × Emulates r command m plan
         × IsDone plan (world F.space O.taken O.faults files.old out.old) (world F.space O.taken O.faults files.new out.new)) }

@@ -138,6 +138,9 @@ returns-in-Part-clause-judges g c = rw c.in-Part.is c.part.ensures.judges
 pub returns-in-Part-clause-names : goal.returns-in-Part-clause-names
 returns-in-Part-clause-names g c = rw c.in-Part.is c.part.ensures.names
 
+pub returns-in-Part-clause-emulates : goal.returns-in-Part-clause-emulates
+returns-in-Part-clause-emulates g c = rw c.in-Part.is c.part.ensures.emulates
+
 pub returns-in-Part-clause-closed : goal.returns-in-Part-clause-closed
 returns-in-Part-clause-closed g c =
     let command = Part c.in-Part.config c.in-Part.slots c.in-Part.state in
@@ -155,6 +158,9 @@ returns-in-Resume-clause-judges g c = rw c.in-Resume.is c.resume.ensures.judges
 
 pub returns-in-Resume-clause-names : goal.returns-in-Resume-clause-names
 returns-in-Resume-clause-names g c = rw c.in-Resume.is c.resume.ensures.names
+
+pub returns-in-Resume-clause-emulates : goal.returns-in-Resume-clause-emulates
+returns-in-Resume-clause-emulates g c = rw c.in-Resume.is c.resume.ensures.emulates
 
 pub returns-in-Resume-clause-closed : goal.returns-in-Resume-clause-closed
 returns-in-Resume-clause-closed g c =

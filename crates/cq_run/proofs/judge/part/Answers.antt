@@ -6,7 +6,7 @@ use Rattle.cq_words.specs.declared.command.Command.TheVariants.{Part}
 use Rattle.cq_run.specs.Plan.{Plan}
 use Rattle.cq_run.specs.Verdict.{MayWrite}
 use Rattle.cq_run.proofs.Failed.{fails_after}
-use Rattle.cq_run.proofs.Parted.{part_halt_over, part_halts, part_no_memory, part_plans, parted_over, parting}
+use Rattle.cq_run.proofs.Parted.{part_emulates, part_halt_over, part_halts, part_no_memory, part_plans, parted_over, parting}
 use Rattle.cq_run.proofs.ReadOn.{captures_end, tables_end}
 use Rattle.cq_run.proofs.judge.part.Goals as goal
 
@@ -69,6 +69,16 @@ returns-clause-judges g c = λ r.
     c.in_ok-build_state.ensures
 
 -- ## What is written
+
+pub returns-clause-emulates : goal.returns-clause-emulates
+returns-clause-emulates g c = λ r.
+    part_emulates r c.args.config c.args.slots c.args.state _ _ (λ _. Unit {0}) (g.F.Files.space c.args.files.now)
+    (g.F.Files.space c.read_configuration.new.files) (g.F.Files.space c.read_inputs.new.files) c.in_ok-tables.tables
+    c.in_ok-captures.captures c.in_ok-tables.ensures.judges (c.in_ok-captures.ensures.judges r)
+    c.in_ok-text.text.items c.in_ok-build_state.field-0
+    (parted_over c.in_ok-tables.tables c.as_slice.result.now c.in_ok-captures.captures c.as_slice.ensures c.args.slots
+    c.in_ok-text.text.items c.in_ok-text.ensures.text)
+    c.in_ok-build_state.ensures
 
 pub returns-clause-names : goal.returns-clause-names
 returns-clause-names g c =

@@ -3,7 +3,7 @@ use Rattle.std.proofs.lemmas.Result.{err_from_is_err_and}
 use Rattle.cq_space.specs.Failing.{Reads}
 use Rattle.cq_run.proofs.Failed.{fails_after}
 use Rattle.cq_run.proofs.OneReading.{from_front}
-use Rattle.cq_run.proofs.Parted.{resume_halt_over, resume_halts, resume_no_memory, resume_plans, resumed_over, resuming, text_halts}
+use Rattle.cq_run.proofs.Parted.{resume_emulates, resume_halt_over, resume_halts, resume_no_memory, resume_plans, resumed_over, resuming, text_halts}
 use Rattle.cq_run.proofs.Planned.{all_any}
 use Rattle.cq_run.proofs.ReadOn.{captures_end, tables_end}
 use Rattle.cq_run.proofs.judge.resume.Goals as goal
@@ -84,6 +84,18 @@ returns-in_err-build_crossed-clause-judges g c = λ r.
 pub returns-clause-judges : goal.returns-clause-judges
 returns-clause-judges g c = λ r.
     resume_plans r c.args.config c.args.state _ _ _ (g.F.Files.space c.args.files.now)
+    (g.F.Files.space c.read_configuration.new.files) (g.F.Files.space c.read_inputs.new.files) c.in_ok-tables.tables
+    c.in_ok-captures.captures c.in_ok-tables.ensures.judges (c.in_ok-captures.ensures.judges r) _
+    (g.F.Files.space c.read_stopped.new.files) c.in_ok-text.text c.in_ok-text.ensures.judges c.in_ok-crossed.crossed
+    c.in_ok-build_crossed.field-0
+    (resumed_over c.in_ok-tables.tables c.as_slice.result.now c.in_ok-captures.captures c.as_slice-2.result.now
+    c.in_ok-text.text c.as_slice.ensures c.as_slice-2.ensures c.in_ok-crossed.crossed
+    c.in_ok-crossed.ensures.resumed).resumed
+    c.in_ok-build_crossed.ensures.writes c.in_ok-build_crossed.ensures.text
+
+pub returns-clause-emulates : goal.returns-clause-emulates
+returns-clause-emulates g c = λ r.
+    resume_emulates r c.args.config c.args.state _ _ (λ _. Unit {0}) (g.F.Files.space c.args.files.now)
     (g.F.Files.space c.read_configuration.new.files) (g.F.Files.space c.read_inputs.new.files) c.in_ok-tables.tables
     c.in_ok-captures.captures c.in_ok-tables.ensures.judges (c.in_ok-captures.ensures.judges r) _
     (g.F.Files.space c.read_stopped.new.files) c.in_ok-text.text c.in_ok-text.ensures.judges c.in_ok-crossed.crossed
