@@ -16,7 +16,8 @@ use Rattle.cq_resume.specs.declared.taken.Taken.{Taken}
 use Rattle.cq_route.specs.Tables.{AreTables, classes_of, ports_of}
 use Rattle.cq_route.specs.declared.tables.Tables.{Tables}
 use Rattle.cq_scfq.specs.Disciplines.{openings_of}
-use Rattle.cq_simulate.proofs.ResumedLaws.{resumed_counts, resumed_whole}
+use Rattle.cq_simulate.proofs.ResumedCounts.{resumed_counts}
+use Rattle.cq_simulate.proofs.ResumedWhole.{resumed_whole}
 use Rattle.cq_simulate.specs.PartedRuns.{CanBeTakenUp, IsPartFault, IsResumeFault, kept_of}
 use Rattle.cq_simulate.specs.declared.fabric_run.FabricRun.{FabricRun}
 use Rattle.cq_simulate.specs.declared.refusal.RunRefusal.{RunRefusal}

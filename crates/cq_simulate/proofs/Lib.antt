@@ -27,3 +27,4 @@ pub mod Onward
 pub mod Parting
 pub mod Resuming
 pub mod TakenUp
+pub mod ResumedCounts

@@ -1,19 +1,23 @@
 -- An output sends one cell a slot at most, and the records of a run are numbered slot by slot. So before each slot an output has
 -- sent no more cells than the number of that slot, and no more than the slots so far: a slot in which it sends adds one cell, and
--- then the slots are one more than the number of that slot.
-use Rattle.std.proofs.Common.{◌≡◌, ℕ, zero, suc, ◌+◌, ◌≤◌, Bool, true, false, cond, List, [], ◌∷◌, map, Option, Some, None, refl, ap, arith}
+-- then the slots are one more than the number of that slot. What was counted before goes on so.
+use Rattle.std.proofs.Common.{◌≡◌, ℕ, zero, suc, ◌+◌, ◌≤◌, Bool, true, false, cond, List, [], ◌∷◌, map, Option, Some, None, refl, sym, subst, ap, arith}
 use Rattle.std.specs.Prelude.{All, max, filter, fold, is_some, slice_index_or}
-use Rattle.std.specs.List.{range_with_len, list_any}
+use Rattle.std.specs.List.{AllByRecursion, enumerate_from, range_with_len, list_any}
 use Rattle.std.proofs.lemmas.Bool.{cond_both}
 use Rattle.std.proofs.lemmas.List.Elements.{All-map}
 use Rattle.cq_base.specs.declared.cell.Cell.{Cell}
 use Rattle.cq_base.specs.declared.cell.Queued.{Queued}
+use Rattle.cq_base.specs.declared.figures.Figures.{Figures}
+use Rattle.cq_base.specs.declared.figures.OutputFigures.{OutputFigures}
+use Rattle.cq_ideal.specs.Admission.{Marked}
 use Rattle.cq_rank.specs.Machine.{Machine}
 use Rattle.cq_prefs.specs.Pairing.{IsInputBest}
 use Rattle.cq_laws.specs.Fabric.{Fabric}
 use Rattle.cq_laws.specs.FabricSlot.{SlotRecord}
 use Rattle.cq_laws.specs.FabricRun.{FabricRun}
-use Rattle.cq_laws.specs.Measures.{sent_by, sends, output_figures, figures_of}
+use Rattle.cq_laws.specs.LimitedFabric.{LimitedFabricRun, LimitedRecord, slots_in}
+use Rattle.cq_laws.specs.Measures.{sent_by, sends, output_after, output_figures, figures_after, figures_of}
 
 -- ## Things that are numbered in turn
 
@@ -64,3 +68,60 @@ once_a_slot ms traffic f g rs ports run =
     let at_most : (j : ℕ) → (output_figures rs j).cells ≤ (figures_of ports rs).slots =
     λ j. count_most (λ r. r.slot) (λ r. is_some (sent_by r j)) sends (λ r none. none_sent r.gone j none) 0 0 0 rs numbered (omega arith) (omega arith) in
     All-map (λ x. x.cells ≤ (figures_of ports rs).slots) (output_figures rs) (range_with_len 0 ports) (λ k d lt. at_most (slice_index_or (range_with_len 0 ports) k d))
+
+-- ## What was counted before
+
+-- no output sent more cells than there were slots, of which there are no more than the number of the slot that comes
+pub record CountsBefore (slot : ℕ) (x : Figures) : Type 0 where
+  pub slots : x.slots ≤ slot
+  pub each : AllByRecursion (λ y. y.cells ≤ x.slots) x.outputs
+
+-- the slots so far, with this one
+abbrev slots_with : SlotRecord → ℕ → ℕ
+slots_with r slots = cond (sends r) (max slots (r.slot + 1)) slots
+
+slots_low : (r : SlotRecord) (slots : ℕ) → slots ≤ r.slot → slots_with r slots ≤ r.slot + 1
+slots_low r slots low =
+    cond_both (sends r) (max slots (r.slot + 1)) slots (λ n. n ≤ r.slot + 1) (λ _. omega arith) (λ _. omega arith)
+
+one_more : (r : SlotRecord) (slots j cells : ℕ) → slots ≤ r.slot → cells ≤ slots →
+    cells + cond (is_some (sent_by r j)) 1 0 ≤ slots_with r slots
+one_more r slots j cells low few =
+    let one = one_at_most (is_some (sent_by r j)) in
+    cond_both (sends r) (max slots (r.slot + 1)) slots (λ n. cells + bit (is_some (sent_by r j)) ≤ n)
+    (λ _. omega arith)
+    (λ e. let none : bit (is_some (sent_by r j)) ≡ 0 = ap bit (none_sent r.gone j e) in omega arith)
+
+outputs_after : (r : SlotRecord) (slots j : ℕ) (ys : List OutputFigures) → slots ≤ r.slot →
+    AllByRecursion (λ y. y.cells ≤ slots) ys →
+    AllByRecursion (λ y. y.cells ≤ slots_with r slots) (map (λ at. output_after r at.0 at.1) (enumerate_from j ys))
+unfolding output_after
+outputs_after r slots j [] low each = tt
+outputs_after r slots j (y ∷ ys) low each =
+    (one_more r slots j y.cells low each.0, outputs_after r slots (j + 1) ys low each.1)
+
+counts_after : (r : SlotRecord) (x : Figures) → CountsBefore r.slot x → CountsBefore (r.slot + 1) (figures_after x r)
+unfolding figures_after
+counts_after r x before = record {
+  slots = slots_low r x.slots before.slots;
+  each = outputs_after r x.slots 0 x.outputs before.slots before.each;
+}
+
+pub counts_on : (slot : ℕ) (rs : List SlotRecord) (x : Figures) → AreNumbered (λ r. r.slot) slot rs →
+    CountsBefore slot x →
+    AllByRecursion (λ y. y.cells ≤ (fold figures_after x rs).slots) (fold figures_after x rs).outputs
+counts_on slot [] x numbered before = before.each
+counts_on slot (r ∷ rs) x numbered before =
+    let here : r.slot ≡ slot = numbered.0 in
+    let P : ℕ → Type 0 = λ n. CountsBefore n x in
+    let Q : ℕ → Type 0 = λ n. CountsBefore (n + 1) (figures_after x r) in
+    counts_on (slot + 1) rs (figures_after x r) numbered.1 (subst Q here (counts_after r x (subst P (sym here) before)))
+
+pub limited_numbered : (limits : List (Option ℕ)) (ms : List Machine) (slot : ℕ) (traffic : List (List (Option Cell)))
+    (f g : Marked Fabric) (rs : List LimitedRecord) → LimitedFabricRun IsInputBest limits ms slot traffic f rs g →
+    AreNumbered (λ r. r.slot) slot (slots_in rs)
+limited_numbered limits ms slot [] f g [] run = tt
+limited_numbered limits ms slot [] f g (r ∷ rs) run = absurd run
+limited_numbered limits ms slot (cells ∷ traffic) f g [] run = absurd run
+limited_numbered limits ms slot (cells ∷ traffic) f g (r ∷ rs) run =
+    (run.1.runs.numbered, limited_numbered limits ms (slot + 1) traffic run.0 g rs run.2)
