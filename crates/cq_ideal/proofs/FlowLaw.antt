@@ -53,7 +53,7 @@ none_came ms ports i c j (a ∷ came) all le =
 -- ## Any traffic
 
 -- a list that is empty, by its place
-empty_at : (lists : List (List Queued)) (j : ℕ) → All (λ cells. cells ≡ []) lists → slice_index_or lists j [] ≡ []
+pub empty_at : (lists : List (List Queued)) (j : ℕ) → All (λ cells. cells ≡ []) lists → slice_index_or lists j [] ≡ []
 empty_at lists j over = ⊎_elim (λ inside. over j [] inside) (λ beyond. get_or_past lists j [] beyond) (cases_lt j (length lists))
 
 -- what a port sent of a flow is what came of it, where the run leaves nothing

@@ -35,7 +35,7 @@ use Rattle.cq_ideal.proofs.Standing.{StandAt, all_stand, of_input, refused_are, 
 
 -- ## What holds of the arrivals of each slot holds of the admitted ones
 
-each_slot : (Q : List (Option Cell) → Type 0) →
+pub each_slot : (Q : List (Option Cell) → Type 0) →
     ((marks : List Bool) (cells : List (Option Cell)) → Q cells → Q (admitted marks cells)) →
     (limits : List (Option ℕ)) (marks : List Bool) (traffic : List (List (Option Cell)))
     (admissions : List Admission) → AreJudged limits marks traffic admissions → AllByRecursion Q traffic →
@@ -47,7 +47,7 @@ each_slot Q keeps limits marks (cells ∷ traffic) [] judged all = absurd judged
 each_slot Q keeps limits marks (cells ∷ traffic) (a ∷ admissions) judged all =
     (subst (λ (x : Admission). Q x.cells) (sym judged.0.1) (keeps (marks_after limits judged.0.0 marks cells) cells all.0), each_slot Q keeps limits a.marks traffic admissions judged.1 all.1)
 
-all_kept : (P : Cell → Type 0) (marks : List Bool) (cells : List (Option Cell)) → AllByRecursion P (present cells) →
+pub all_kept : (P : Cell → Type 0) (marks : List Bool) (cells : List (Option Cell)) → AllByRecursion P (present cells) →
     AllByRecursion P (present (admitted marks cells))
 all_kept P [] cells all = all
 all_kept P (mark ∷ marks) [] all = tt
@@ -90,7 +90,7 @@ module _ (i c j : ℕ) where
   joins None cells = refl
   joins (Some cell) cells = of_flow-cons i c j cell cells
 
-  comes_at_input : (traffic : List (List (Option Cell))) → AllByRecursion (StandAt 0) traffic →
+  pub comes_at_input : (traffic : List (List (Option Cell))) → AllByRecursion (StandAt 0) traffic →
       flow_came i c j traffic ≡ of_flow i c j (cells_at i traffic)
   unfolding flow_came of_flow joins
   comes_at_input [] at = refl
@@ -100,7 +100,7 @@ module _ (i c j : ℕ) where
       ∙ joins (arrival_at cells i) (cells_at i traffic)
 
 -- two tests, in either order
-filter_both : (p q : Cell → Bool) (cells : List Cell) → filter p (filter q cells) ≡ filter q (filter p cells)
+pub filter_both : (p q : Cell → Bool) (cells : List Cell) → filter p (filter q cells) ≡ filter q (filter p cells)
 filter_both p q [] = refl
 filter_both p q (cell ∷ cells) = go (p cell) (q cell) refl refl (filter_both p q cells)
   where

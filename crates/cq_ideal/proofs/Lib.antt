@@ -38,3 +38,4 @@ pub mod LimitedParts
 pub mod LimitedEnds
 pub mod LimitedLast
 pub mod EachLeaves
+pub mod FlowOn
