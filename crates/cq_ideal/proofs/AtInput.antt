@@ -27,7 +27,7 @@ module _ (i : ℕ) (inside : i < 64) where
       unwrap_or-slice_get (arriving came t) i none
       ∙ get_or-map-range_with_len (arriving_at came t) 0 64 i i none inside (omega arith)
 
-  cells_from : (came : List Arrival) (a n : ℕ) →
+  pub cells_from : (came : List Arrival) (a n : ℕ) →
       cells_at i (map (arriving came) (range_with_len a n)) ≡ joined (λ t. found came t i) a n
   unfolding joined found
   cells_from came a zero = refl
@@ -38,7 +38,7 @@ module _ (i : ℕ) (inside : i < 64) where
       ∙ ap (λ (l : List Cell). cell_listed (arriving_at came a i) ++ l) (cells_from came (a + 1) n)
 
   -- where all that is still to come at the input is later, nothing is found earlier
-  no_earlier : (a : Arrival) (came : List Arrival) (t : ℕ) →
+  pub no_earlier : (a : Arrival) (came : List Arrival) (t : ℕ) →
       AllByRecursion (λ b. b.cell.id.input ≡ i → a.slot < b.slot) came → t < a.slot + 1 → found came t i ≡ []
   no_earlier a came t later l =
       found_none came t i

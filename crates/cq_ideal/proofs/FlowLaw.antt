@@ -28,7 +28,7 @@ pub all_in_range : (P : List (Option Cell) → Type 0) (came : List Arrival) (a 
 all_in_range P came a zero f = tt
 all_in_range P came a (suc n) f = (f a, all_in_range P came (a + 1) n f)
 
-class_in_slot : (ms : List Machine) (ports j : ℕ) (came : List Arrival) (inputs : ℕ) → inputs ≡ 64 → AllByRecursion (IsForSwitch ms ports) came → (t : ℕ) → AreOfClasses (machine_at ms j) j (present (arriving came t))
+pub class_in_slot : (ms : List Machine) (ports j : ℕ) (came : List Arrival) (inputs : ℕ) → inputs ≡ 64 → AllByRecursion (IsForSwitch ms ports) came → (t : ℕ) → AreOfClasses (machine_at ms j) j (present (arriving came t))
 class_in_slot ms ports j came inputs e all t =
     let P = λ (cell : Cell). cell.output ≡ j → cell.class < (machine_at ms j).classes in
     subst (λ (cells : List (Option Cell)). AreOfClasses (machine_at ms j) j (present cells)) (sym (arriving_is came t inputs e))

@@ -39,3 +39,4 @@ pub mod LimitedEnds
 pub mod LimitedLast
 pub mod EachLeaves
 pub mod FlowOn
+pub mod RestAtInput

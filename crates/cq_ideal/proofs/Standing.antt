@@ -49,7 +49,7 @@ stand_arriving came t a (suc n) =
     go None cells is at = at
     go (Some cell) cells is at = (is.0, at)
 
-stand_in : (came : List Arrival) (a n : ℕ) → AllByRecursion (StandAt 0) (map (arriving came) (range_with_len a n))
+pub stand_in : (came : List Arrival) (a n : ℕ) → AllByRecursion (StandAt 0) (map (arriving came) (range_with_len a n))
 unfolding arriving
 stand_in came a zero = tt
 stand_in came a (suc n) = (stand_arriving came a 0 64, stand_in came (a + 1) n)

@@ -28,3 +28,8 @@ pub mod Parting
 pub mod Resuming
 pub mod TakenUp
 pub mod ResumedCounts
+pub mod OfOnePacket
+pub mod NamedPackets
+pub mod NamedFlow
+pub mod StandingOn
+pub mod ResumedWhole

@@ -90,7 +90,7 @@ one_none i cells traffic none rest = go (arrival_at cells i) refl
 
 module _ (ports classes : ℕ) (came : List Arrival) (traffic : IsTraffic ports classes came) (i : ℕ)
     (le : ports ≤ i) where
-  none_from : (a n : ℕ) → cells_at i (map (arriving came) (range_with_len a n)) ≡ []
+  pub none_from : (a n : ℕ) → cells_at i (map (arriving came) (range_with_len a n)) ≡ []
   none_from a zero = refl
   none_from a (suc n) =
       one_none i (arriving came a) (map (arriving came) (range_with_len (a + 1) n))

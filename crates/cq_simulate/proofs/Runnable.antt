@@ -55,7 +55,7 @@ module _ (setup : Setup) (j : ℕ) (inside : j < length setup.kinds) where
       ap (λ (l : List ℕ). length l) opening_is ∙ opening_size kind setup.classes
       ∙ ap (λ (m : Machine). m.size) (sym machine_is)
 
-  right_classes : (machine_at (machines_of setup) j).classes ≡ length setup.classes
+  pub right_classes : (machine_at (machines_of setup) j).classes ≡ length setup.classes
   right_classes = ap (λ (m : Machine). m.classes) machine_is ∙ machine_classes kind setup.classes
 
 within : (came : List Arrival) (t : ℕ) (b : Arrival) → slice_get came t ≡ Some b → t < length came
