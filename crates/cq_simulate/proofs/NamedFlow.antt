@@ -60,10 +60,14 @@ same_rising (x ∷ xs) (y ∷ ys) up rising to from =
     same_rising xs ys up.1 rising.1
     (λ z has.
     let low : x.slot < z.slot = all_of_has (IsEarlier x) xs z up.0 has in
-    ⊎_elim (λ same. let e = ap (λ (a : Arrival). a.slot) same in absurd (omega arith)) (λ more. more) (to z (inr has)))
+    ⊎_elim
+    (λ (same : y ≡ z). let e : y.slot ≡ z.slot = ap (λ (a : Arrival). a.slot) same in absurd (omega arith))
+    (λ more. more) (to z (inr has)))
     (λ z has.
     let low : y.slot < z.slot = all_of_has (IsEarlier y) ys z rising.0 has in
-    ⊎_elim (λ same. let e = ap (λ (a : Arrival). a.slot) same in absurd (omega arith)) (λ more. more) (from z (inr has))) in
+    ⊎_elim
+    (λ (same : x ≡ z). let e : x.slot ≡ z.slot = ap (λ (a : Arrival). a.slot) same in absurd (omega arith))
+    (λ more. more) (from z (inr has))) in
     ap (λ (a : Arrival). a ∷ xs) first ∙ ap (λ (l : List Arrival). y ∷ l) rest
 
 arrival_is : (a b : Arrival) → a.slot ≡ b.slot → a.cell ≡ b.cell → a ≡ b
@@ -148,7 +152,7 @@ departs d (Some q) x is =
 -- ## One flow
 
 -- the arrival of a queued cell
-abbrev as_arrival : Queued → Arrival
+abbrev pub as_arrival : Queued → Arrival
 as_arrival q = record { slot = q.key.slot; cell = q.cell }
 
 waiting_cells : (ys : List Queued) → map (λ (q : Queued). q.cell) ys ≡ cells_of (map as_arrival ys)
@@ -167,22 +171,22 @@ module _ (w : Switch) (s : State) (in_range : IsInRange s) (shape : HasShape w s
   abbrev t : Named → Option Queued
   t n = queued_of w.came n
 
-  abbrev f : Fabric
+  abbrev pub f : Fabric
   f = fabric_told w.came s
 
-  abbrev next : ℕ
+  abbrev pub next : ℕ
   next = s.head.next
 
-  abbrev names : List Named
+  abbrev pub names : List Named
   names = named_in s
 
-  abbrev named : Arrival → Bool
+  abbrev pub named : Arrival → Bool
   named a = is_named names a
 
   abbrev leaves : Departure → Bool
   leaves d = leaves_in_flow i c j d
 
-  abbrev there : List Queued
+  abbrev pub there : List Queued
   there = list_of (ideal_of f).lists j
 
   -- the cells of the flow that were sent, and those that wait
@@ -296,8 +300,8 @@ module _ (w : Switch) (s : State) (in_range : IsInRange s) (shape : HasShape w s
       let a = sent_in_flow d x one first in
       let b = sent_in_flow e y two second in
       let less : d.cell.slot < e.cell.slot = turn (one_flow d.cell e.cell x.queued y.queued a b) in
-      let low = slot_is d.cell x.queued a in
-      let high = slot_is e.cell y.queued b in
+      let low : x.queued.key.slot ≡ d.cell.slot = slot_is d.cell x.queued a in
+      let high : y.queued.key.slot ≡ e.cell.slot = slot_is e.cell y.queued b in
       omega arith) s.sent (each_pair InTurn s.sent sound.flows.sent))))
 
   -- of two that wait the first arrived first
@@ -328,10 +332,10 @@ module _ (w : Switch) (s : State) (in_range : IsInRange s) (shape : HasShape w s
       let b = waits r second in
       let m = a.name in
       let n = b.name in
-      let low = slot_is m q a.of in
-      let high = slot_is n r b.of in
+      let low : q.key.slot ≡ m.slot = slot_is m q a.of in
+      let high : r.key.slot ≡ n.slot = slot_is n r b.of in
       ⊎_elim (λ less. less)
-      (λ no_less.
+      (λ (no_less : r.key.slot ≤ q.key.slot).
       ⊎_elim
       (λ (more : r.key.slot < q.key.slot).
       let turned : n.slot < m.slot = omega arith in
@@ -339,7 +343,7 @@ module _ (w : Switch) (s : State) (in_range : IsInRange s) (shape : HasShape w s
       in_order w s in_range shape sound traffic n m r q b.of.is a.of.is
       (ahead n m b.has a.has (one_flow n m r q b.of a.of) turned) in
       absurd (true≢false (sym back ∙ key_laws.one_way q.key r.key before)))
-      (λ no_more.
+      (λ (no_more : q.key.slot ≤ r.key.slot).
       let slots : m.slot ≡ n.slot = omega arith in
       let inputs : m.input ≡ n.input = (name_in_flow m q a.of).input ∙ sym (name_in_flow n r b.of).input in
       let same : m ≡ n = one_name m n a.has b.has slots inputs in
@@ -371,8 +375,8 @@ module _ (w : Switch) (s : State) (in_range : IsInRange s) (shape : HasShape w s
       let after = all_of_has (After a.sent.cell) (queued_in s) b.name
       (recursion_from_All (After a.sent.cell) (queued_in s) all) b.has in
       let less : a.sent.cell.slot < b.name.slot = after (one_flow a.sent.cell b.name q r a.of b.of) in
-      let low = slot_is a.sent.cell q a.of in
-      let high = slot_is b.name r b.of in
+      let low : q.key.slot ≡ a.sent.cell.slot = slot_is a.sent.cell q a.of in
+      let high : r.key.slot ≡ b.name.slot = slot_is b.name r b.of in
       omega arith
 
   told_rise : EachPair IsEarlier (map as_arrival (gone ++ waiting))
@@ -406,10 +410,11 @@ module _ (w : Switch) (s : State) (in_range : IsInRange s) (shape : HasShape w s
       let slot : q.key.slot ≡ n.slot = slot_is n q of in
       let input : q.cell.id.input ≡ n.input = (of_traffic w s in_range shape sound traffic n q of.is).input in
       let same : it.arrival ≡ x = arrival_is it.arrival x (it.slot ∙ sym slot) it.own in
-      let early = (comes w s in_range shape sound traffic n has).0 in
+      let before : n.slot < next = (comes w s in_range shape sound traffic n has).0 in
+      let early : q.key.slot < next = omega arith in
       record {
         came = subst (λ (a : Arrival). Has w.came a) same it.has;
-        early = let low : n.slot < next = early in omega arith;
+        early = early;
         flow = and_from (q.cell.output == j) (is_kind i c q) (eq-eqb q.cell.output j of.output) of.kind;
         own =
             any_has (is_name_of x) names n has
@@ -488,8 +493,8 @@ module _ (w : Switch) (s : State) (in_range : IsInRange s) (shape : HasShape w s
 
   among_listed : (n : Named) (q : Queued) → InFlow n q → Has s.listed n → Has waiting q
   among_listed n q of has =
-      let ports = ports_are w s in_range shape sound traffic in
-      let low = (of_traffic w s in_range shape sound traffic n q of.is).within in
+      let ports : s.head.ports ≡ length w.machines = ports_are w s in_range shape sound traffic in
+      let low : n.input < length w.machines = (of_traffic w s in_range shape sound traffic n q of.is).within in
       let at : Named → Bool = λ m. m.input == n.input in
       let told_there : Has (list_told w.came s n.input) q =
       has_looked_up t (filter at s.listed) n q (has_kept at s.listed n has (eq-eqb n.input n.input refl)) of.is in
@@ -500,7 +505,7 @@ module _ (w : Switch) (s : State) (in_range : IsInRange s) (shape : HasShape w s
 
   among_buffered : (n : Named) (q : Queued) → InFlow n q → Has s.buffered n → Has waiting q
   among_buffered n q of has =
-      let ports = ports_are w s in_range shape sound traffic in
+      let ports : s.head.ports ≡ length w.machines = ports_are w s in_range shape sound traffic in
       let low : q.cell.output < length w.machines = (of_traffic w s in_range shape sound traffic n q of.is).output in
       let own : q.cell.output ≡ j = of.output in
       let inside : j < s.head.ports = omega arith in

@@ -148,10 +148,10 @@ any_alike named false xs x has alike = none xs alike
 
 module _ (w : Switch) (s : State) (i : ℕ) (whole : AreWholePackets w s)
     (rising : EachPair IsEarlier (line_at i w.came)) (packets : AreOfPackets 0 (cells_of (line_at i w.came))) where
-  abbrev line : List Arrival
+  abbrev pub line : List Arrival
   line = line_at i w.came
 
-  abbrev next : ℕ
+  abbrev pub next : ℕ
   next = s.head.next
 
   abbrev pub before : List Arrival
@@ -227,12 +227,12 @@ module _ (w : Switch) (s : State) (i : ℕ) (whole : AreWholePackets w s)
       ⊎ (NoneNamed s (packet_before w.came next a) × HasLimit w.limits a.cell.output)) w.came whole)
       first.came begins first.early in
       ⊎_elim
-      (λ yes a among.
-      let each = recursion_from_All (λ (b : Arrival). named b ≡ true) all yes in
+      (λ each_is a among.
+      let each = recursion_from_All (λ (b : Arrival). named b ≡ true) all each_is in
       all_of_has (λ (b : Arrival). named b ≡ true) all a each among
       ∙ sym (all_of_has (λ (b : Arrival). named b ≡ true) all f each own))
-      (λ no a among.
-      let each = recursion_from_All (λ (b : Arrival). named b ≡ false) all no.0 in
+      (λ none_is a among.
+      let each = recursion_from_All (λ (b : Arrival). named b ≡ false) all none_is.0 in
       all_of_has (λ (b : Arrival). named b ≡ false) all a each among
       ∙ sym (all_of_has (λ (b : Arrival). named b ≡ false) all f each own))
       said
@@ -282,9 +282,10 @@ module _ (w : Switch) (s : State) (i : ℕ) (whole : AreWholePackets w s)
       let low : packet f ≤ packet g =
       ⊎_elim
       (λ ways.
-      ⊎_elim (λ up. up.1) (λ (down : (g.slot < f.slot) × (packet g ≤ packet f)). let less = down.0 in absurd (omega arith))
+      ⊎_elim (λ up. up.1) (λ (down : (g.slot < f.slot) × (packet g ≤ packet f)).
+      let less : g.slot < f.slot = down.0 in absurd (omega arith))
       ways)
-      (λ same. let e = ap packet same in omega arith)
+      (λ (same : f ≡ g). let e : packet f ≡ packet g = ap packet same in omega arith)
       (pair_of_has Rises before f g
       both_rise it.has g_has) in
       let same : packet g ≡ packet a = omega arith in

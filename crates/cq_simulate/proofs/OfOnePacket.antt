@@ -36,7 +36,8 @@ pub at_least : (m n : ℕ) (xs : List Arrival) → m ≤ n → AreOfPackets n (c
 at_least m n [] le are = tt
 at_least m n (x ∷ xs) le are =
     let here : m ≤ packet x + 1 =
-    ⊎_elim (λ on. let same = on.0 in omega arith) (λ new. let from = new.0 in omega arith) are.0 in
+    ⊎_elim (λ on. let same : packet x + 1 ≡ n = on.0 in omega arith)
+    (λ new. let from : n ≤ packet x = new.0 in omega arith) are.0 in
     (here, at_least m (packet x + 1) xs here are.1)
 
 grows : (n : ℕ) (xs : List Arrival) → AreOfPackets n (cells_of xs) → n ≤ next_after n xs
@@ -44,7 +45,8 @@ unfolding next_after
 grows n [] are = omega arith
 grows n (x ∷ xs) are =
     let here : n ≤ packet x + 1 =
-    ⊎_elim (λ on. let same = on.0 in omega arith) (λ new. let from = new.0 in omega arith) are.0 in
+    ⊎_elim (λ on. let same : packet x + 1 ≡ n = on.0 in omega arith)
+    (λ new. let from : n ≤ packet x = new.0 in omega arith) are.0 in
     let rest : packet x + 1 ≤ next_after (packet x + 1) xs = grows (packet x + 1) xs are.1 in
     omega arith
 
@@ -87,11 +89,11 @@ begun_or_on n (x ∷ xs) are a has =
     ⊎_elim (λ same. here (ap packet same))
     (λ more.
     ⊎_elim (λ it. inl (record { first = it.first; has = inr it.has; begins = it.begins; own = it.own }))
-    (λ on. let own : packet x ≡ packet a = omega arith in here own)
+    (λ (on : packet a + 1 ≡ packet x + 1). let own : packet x ≡ packet a = omega arith in here own)
     (begun_or_on (packet x + 1) xs are.1 a more)) has
 
 pub begun : (xs : List Arrival) → AreOfPackets 0 (cells_of xs) → (a : Arrival) → Has xs a → Begins xs a
-begun xs are a has = ⊎_elim (λ it. it) (λ none. absurd (omega arith)) (begun_or_on 0 xs are a has)
+begun xs are a has = ⊎_elim (λ it. it) (λ (none : packet a + 1 ≡ 0). absurd (omega arith)) (begun_or_on 0 xs are a has)
 
 -- ## The last by slot
 
@@ -106,32 +108,35 @@ latest_on : (x : Arrival) (xs : List Arrival) → IsLatest (x ∷ xs) (fold late
 latest_on x [] =
     record {
       has = inl refl;
-      after = λ y has. ⊎_elim (λ same. let e = ap (λ (a : Arrival). a.slot) same in omega arith) (λ none. absurd none) has;
+      after = λ y has. ⊎_elim (λ (same : x ≡ y). let e : x.slot ≡ y.slot = ap (λ (a : Arrival). a.slot) same in omega arith)
+          (λ none. absurd none) has;
     }
 latest_on x (z ∷ zs) =
     let result : Arrival → Type 0 = λ v. IsLatest (x ∷ z ∷ zs) (fold later_one v zs) in
     ⊎_elim
     (λ lt.
     let is : later_one x z ≡ z = ap (λ (b : Bool). cond b z x) (lt-ltb x.slot z.slot lt) in
-    let it = latest_on z zs in
-    let first = it.after z (inl refl) in
+    let it : IsLatest (z ∷ zs) (fold later_one z zs) = latest_on z zs in
+    let first : z.slot ≤ (fold later_one z zs).slot = it.after z (inl refl) in
     subst result (sym is)
     (record {
       has = inr it.has;
       after = λ y has.
-          ⊎_elim (λ same. let e = ap (λ (a : Arrival). a.slot) same in omega arith) (λ more. it.after y more) has;
+          ⊎_elim (λ (same : x ≡ y). let e : x.slot ≡ y.slot = ap (λ (a : Arrival). a.slot) same in omega arith)
+          (λ more. it.after y more) has;
     }))
     (λ ge.
     let is : later_one x z ≡ x = ap (λ (b : Bool). cond b z x) (le-ltb x.slot z.slot ge) in
-    let it = latest_on x zs in
-    let first = it.after x (inl refl) in
+    let it : IsLatest (x ∷ zs) (fold later_one x zs) = latest_on x zs in
+    let first : x.slot ≤ (fold later_one x zs).slot = it.after x (inl refl) in
     subst result (sym is)
     (record {
       has = ⊎_elim (λ same. inl same) (λ more. inr (inr more)) it.has;
       after = λ y has.
           ⊎_elim (λ same. it.after y (inl same))
           (λ more.
-          ⊎_elim (λ same. let e = ap (λ (a : Arrival). a.slot) same in omega arith) (λ last. it.after y (inr last)) more)
+          ⊎_elim (λ (same : z ≡ y). let e : z.slot ≡ y.slot = ap (λ (a : Arrival). a.slot) same in omega arith)
+          (λ last. it.after y (inr last)) more)
           has;
     }))
     (cases_lt x.slot z.slot)

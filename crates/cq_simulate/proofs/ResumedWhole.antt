@@ -81,14 +81,14 @@ cells_kept p q [] same = refl
 cells_kept p q (a ∷ xs) same =
     let rest : filter p (cells_of xs) ≡ cells_of (filter q xs) = cells_kept p q xs same.1 in
     ⊎_elim
-    (λ yes.
-    cond-true (p a.cell) (a.cell ∷ filter p (cells_of xs)) (filter p (cells_of xs)) (same.0 ∙ yes)
+    (λ holds.
+    cond-true (p a.cell) (a.cell ∷ filter p (cells_of xs)) (filter p (cells_of xs)) (same.0 ∙ holds)
     ∙ ap (λ (l : List Cell). a.cell ∷ l) rest
-    ∙ sym (ap cells_of (cond-true (q a) (a ∷ filter q xs) (filter q xs) yes)))
-    (λ no.
-    cond-false (p a.cell) (a.cell ∷ filter p (cells_of xs)) (filter p (cells_of xs)) (same.0 ∙ no)
+    ∙ sym (ap cells_of (cond-true (q a) (a ∷ filter q xs) (filter q xs) holds)))
+    (λ fails.
+    cond-false (p a.cell) (a.cell ∷ filter p (cells_of xs)) (filter p (cells_of xs)) (same.0 ∙ fails)
     ∙ rest
-    ∙ sym (ap cells_of (cond-false (q a) (a ∷ filter q xs) (filter q xs) no)))
+    ∙ sym (ap cells_of (cond-false (q a) (a ∷ filter q xs) (filter q xs) fails)))
     (cases_Bool (q a))
 
 everywhere : (p : Cell → Bool) (xs : List Arrival) → AllByRecursion (λ a. p a.cell ≡ p a.cell) xs
@@ -133,7 +133,7 @@ none_at : (ports classes i : ℕ) (came : List Arrival) → AllByRecursion (IsOf
     line_at i came ≡ []
 none_at ports classes i [] all past = refl
 none_at ports classes i (a ∷ came) all past =
-    let low = all.0.input in
+    let low : a.cell.id.input < ports = all.0.input in
     cond-false (a.cell.id.input == i) (a ∷ line_at i came) (line_at i came)
     (ne_eqb a.cell.id.input i (λ same. omega arith))
     ∙ none_at ports classes i came all.1 past
@@ -148,19 +148,19 @@ module _ (t : Tables) (captures : List (List Captured)) (are : AreTables t) (man
     (s : State) (in_range : IsInRange s) (shape : HasShape (switch_of t (schedule_of t captures)) s)
     (sound : IsSound (switch_of t (schedule_of t captures)) s) (kept : Kept)
     (resumed : IsResumed (switch_of t (schedule_of t captures)) (taken_of (switch_of t (schedule_of t captures)) s) kept) where
-  abbrev w : Switch
+  abbrev pub w : Switch
   w = switch_of t (schedule_of t captures)
 
-  abbrev came : List Arrival
+  abbrev pub came : List Arrival
   came = arrivals t captures
 
-  abbrev ports : ℕ
+  abbrev pub ports : ℕ
   ports = ports_of t.setup
 
-  abbrev next : ℕ
+  abbrev pub next : ℕ
   next = s.head.next
 
-  abbrev f : Fabric
+  abbrev pub f : Fabric
   f = fabric_told came s
 
   comes_as : IsTraffic ports (classes_of t.setup) came
@@ -323,7 +323,7 @@ module _ (t : Tables) (captures : List (List Captured)) (are : AreTables t) (man
         ∙ ap not
         (get_or-map-range_with_len (λ (k : ℕ). is_refused came s (latest (firsts_at came s k))) 0 s.head.ports i i false low
         (omega arith)))
-        (λ (past : ports ≤ i). let none = no_packets past in absurd (omega arith))
+        (λ (past : ports ≤ i). let none : begin ≡ 0 = no_packets past in absurd (omega arith))
         (cases_lt i ports)
 
     -- and of all packets

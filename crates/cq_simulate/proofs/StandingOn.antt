@@ -36,13 +36,13 @@ module _ (w : Switch) (s : State) (in_range : IsInRange s) (shape : HasShape w s
     (traffic : IsTraffic (length w.machines) w.classes w.came)
     (agrees : Agrees s.head.next (fabric_told w.came s) (ideal_of (fabric_told w.came s))) (j : ℕ)
     (inside : j < length w.machines) (classes : (machine_at w.machines j).classes ≡ w.classes) where
-  abbrev f : Fabric
+  abbrev pub f : Fabric
   f = fabric_told w.came s
 
-  abbrev m : Machine
+  abbrev pub m : Machine
   m = machine_at w.machines j
 
-  abbrev there : List Queued
+  abbrev pub there : List Queued
   there = list_of (ideal_of f).lists j
 
   record WaitsThere (q : Queued) : Type 0 where
@@ -110,7 +110,7 @@ module _ (w : Switch) (s : State) (in_range : IsInRange s) (shape : HasShape w s
   pub stands_there : Stands m (slice_index_or (ideal_of f).ranks j []) s.head.next 0 there
   stands_there =
       let many : length s.ranks ≡ s.head.ports = in_range.outputs_told in
-      let ports = ports_are w s in_range shape sound traffic in
+      let ports : s.head.ports ≡ length w.machines = ports_are w s in_range shape sound traffic in
       let known : Stands m (slice_index_or s.ranks j []) s.head.next 0 there =
       record {
         size = shape.ranks j (let low : j < length s.ranks = omega arith in low);
