@@ -8,6 +8,12 @@ pub mod FabricSteps
 pub mod Joining
 pub mod OnceASlot
 pub mod Opening
+pub mod ResumedCounts
+pub mod OfOnePacket
+pub mod NamedPackets
+pub mod NamedFlow
+pub mod StandingOn
+pub mod ResumedWhole
 pub mod Packed
 pub mod Running
 pub mod Steps
