@@ -65,14 +65,14 @@ pub record GoesOn (w : Switch) (x : Frozen) : Type 0 where
 -- ## A name and its arrival
 
 -- the arrival that gives a cell its place
-record FoundAt (came : List Arrival) (t i : ℕ) (cell : Cell) : Type 0 where
+pub record FoundAt (came : List Arrival) (t i : ℕ) (cell : Cell) : Type 0 where
   pub arrival : Arrival
   pub has : Has came arrival
   pub slot : arrival.slot ≡ t
   pub input : arrival.cell.id.input ≡ i
   pub own : arrival.cell ≡ cell
 
-found_at : (came : List Arrival) (t i : ℕ) (cell : Cell) → arriving_at came t i ≡ Some cell → FoundAt came t i cell
+pub found_at : (came : List Arrival) (t i : ℕ) (cell : Cell) → arriving_at came t i ≡ Some cell → FoundAt came t i cell
 found_at [] t i cell is = absurd (let P : ⊥ = cc in P)
 found_at (a ∷ came) t i cell is =
     ⊎_elim
@@ -94,17 +94,17 @@ found_at (a ∷ came) t i cell is =
     record { arrival = it.arrival; has = inr it.has; slot = it.slot; input = it.input; own = it.own })
     (cases_Bool (is_at t i a))
 
-some_cell : (o : Option Cell) → IsSome o → (cell : Cell) × (o ≡ Some cell)
+pub some_cell : (o : Option Cell) → IsSome o → (cell : Cell) × (o ≡ Some cell)
 some_cell None some = absurd (let P : ⊥ = cc in P)
 some_cell (Some cell) some = (cell, refl)
 
 -- what the cell of a name is
-record IsCellOf (came : List Arrival) (c : Named) (q : Queued) : Type 0 where
+pub record IsCellOf (came : List Arrival) (c : Named) (q : Queued) : Type 0 where
   pub arrives : arriving_cell came c ≡ Some q.cell
   pub key : q.key ≡ key_of c
 
 -- a cell with the key of a name
-abbrev cell_with : Named → Cell → Queued
+abbrev pub cell_with : Named → Cell → Queued
 cell_with c cell = record { cell = cell; key = key_of c }
 
 its_cell : (c : Named) (o : Option Cell) (q : Queued) →
@@ -114,12 +114,12 @@ its_cell c (Some cell) q is =
     let same : cell_with c cell ≡ q = cc in
     (ap (λ (x : Queued). Some x.cell) same, sym (ap (λ (x : Queued). x.key) same))
 
-is_cell_of : (came : List Arrival) (c : Named) (q : Queued) → queued_of came c ≡ Some q → IsCellOf came c q
+pub is_cell_of : (came : List Arrival) (c : Named) (q : Queued) → queued_of came c ≡ Some q → IsCellOf came c q
 is_cell_of came c q is =
     let both = its_cell c (arriving_cell came c) q is in record { arrives = both.0; key = both.1 }
 
 -- two names are of different arrivals
-abbrev Differ : Named → Named → Type 0
+abbrev pub Differ : Named → Named → Type 0
 Differ a b = (a.slot ≡ b.slot) → a.input ≢ b.input
 
 -- a name is of an arrival
@@ -156,7 +156,7 @@ names_few test next came names pairs arrive passes =
 
 -- ## Lists as other modules say them
 
-has_of_among : (xs : List Queued) (c : Queued) → IsAmong c xs → Has xs c
+pub has_of_among : (xs : List Queued) (c : Queued) → IsAmong c xs → Has xs c
 has_of_among [] c among = absurd among
 has_of_among (x ∷ xs) c (inl same) = inl same
 has_of_among (x ∷ xs) c (inr rest) = inr (has_of_among xs c rest)
@@ -215,33 +215,33 @@ all_few limits cells n le = counts_few limits cells 0 n le
 
 module _ (w : Switch) (s : State) (in_range : IsInRange s) (shape : HasShape w s) (sound : IsSound w s)
     (traffic : IsTraffic (length w.machines) w.classes w.came) where
-  abbrev t : Named → Option Queued
+  abbrev pub t : Named → Option Queued
   t c = queued_of w.came c
 
-  abbrev f : Fabric
+  abbrev pub f : Fabric
   f = fabric_told w.came s
 
   abbrev at_input : ℕ → Named → Bool
   at_input i c = c.input == i
 
-  ports_are : s.head.ports ≡ length w.machines
+  pub ports_are : s.head.ports ≡ length w.machines
   ports_are = shape.head.ports
 
   -- the names
   abbrev sent_names : List Named
   sent_names = map (λ (d : Sent). d.cell) s.sent
 
-  abbrev Comes : Named → Type 0
+  abbrev pub Comes : Named → Type 0
   Comes c = (c.slot < s.head.next) × IsSome (arriving_cell w.came c)
 
-  comes : (c : Named) → Has (named_in s) c → Comes c
+  pub comes : (c : Named) → Has (named_in s) c → Comes c
   comes c has =
       all_of_has Comes (named_in s) c (recursion_from_All Comes (named_in s) sound.arrivals.arrive) has
 
   differ : EachPair Differ (named_in s)
   differ = each_pair Differ (named_in s) sound.arrivals.once
 
-  queued_differ : EachPair Differ (queued_in s)
+  pub queued_differ : EachPair Differ (queued_in s)
   queued_differ = pairs_left Differ (queued_in s) sent_names differ
 
   listed_differ : EachPair Differ s.listed
@@ -250,7 +250,7 @@ module _ (w : Switch) (s : State) (in_range : IsInRange s) (shape : HasShape w s
   buffered_differ : EachPair Differ s.buffered
   buffered_differ = pairs_right Differ s.listed s.buffered queued_differ
 
-  queued_named : (c : Named) → Has (queued_in s) c → Has (named_in s) c
+  pub queued_named : (c : Named) → Has (queued_in s) c → Has (named_in s) c
   queued_named c has = has_left (queued_in s) sent_names c has
 
   listed_named : (c : Named) → Has s.listed c → Has (named_in s) c
@@ -260,13 +260,13 @@ module _ (w : Switch) (s : State) (in_range : IsInRange s) (shape : HasShape w s
   buffered_named c has = queued_named c (has_right s.listed s.buffered c has)
 
   -- what the traffic says of a cell
-  record OfTraffic (c : Named) (q : Queued) : Type 0 where
+  pub record OfTraffic (c : Named) (q : Queued) : Type 0 where
     pub input : q.cell.id.input ≡ c.input
     pub within : c.input < length w.machines
     pub output : q.cell.output < length w.machines
     pub class : q.cell.class < w.classes
 
-  of_traffic : (c : Named) (q : Queued) → t c ≡ Some q → OfTraffic c q
+  pub of_traffic : (c : Named) (q : Queued) → t c ≡ Some q → OfTraffic c q
   of_traffic c q is =
       let cell = is_cell_of w.came c q is in
       let it = found_at w.came c.slot c.input q.cell cell.arrives in
@@ -278,10 +278,10 @@ module _ (w : Switch) (s : State) (in_range : IsInRange s) (shape : HasShape w s
         class = subst (λ (x : Cell). x.class < w.classes) it.own range.class;
       }
 
-  its_output : (c : Named) (q : Queued) → t c ≡ Some q → output_of w.came c ≡ q.cell.output
+  pub its_output : (c : Named) (q : Queued) → t c ≡ Some q → output_of w.came c ≡ q.cell.output
   its_output c q is = ap output_in (is_cell_of w.came c q is).arrives
 
-  its_slot : (c : Named) (q : Queued) → t c ≡ Some q → q.key.slot ≡ c.slot
+  pub its_slot : (c : Named) (q : Queued) → t c ≡ Some q → q.key.slot ≡ c.slot
   its_slot c q is = ap (λ (k : Key). k.slot) (is_cell_of w.came c q is).key
 
   its_input : (c : Named) (q : Queued) → t c ≡ Some q → q.key.input ≡ c.input
@@ -293,14 +293,14 @@ module _ (w : Switch) (s : State) (in_range : IsInRange s) (shape : HasShape w s
       differ (sym (its_slot c q first) ∙ ap (λ (k : Key). k.slot) same ∙ its_slot d r second)
       (sym (its_input c q first) ∙ ap (λ (k : Key). k.input) same ∙ its_input d r second)
 
-  in_order : (c d : Named) (q r : Queued) → t c ≡ Some q → t d ≡ Some r → is_ahead c d ≡ true → IsBefore q r
+  pub in_order : (c d : Named) (q r : Queued) → t c ≡ Some q → t d ≡ Some r → is_ahead c d ≡ true → IsBefore q r
   in_order c d q r first second ahead =
       ap (λ (k : Key). is_before k r.key) (is_cell_of w.came c q first).key
       ∙ ap (λ (k : Key). is_before (key_of c) k) (is_cell_of w.came d r second).key
       ∙ ahead
 
   -- the list of an input and the buffer of an output
-  list_is : (i : ℕ) → i < s.head.ports → input f i ≡ list_told w.came s i
+  pub list_is : (i : ℕ) → i < s.head.ports → input f i ≡ list_told w.came s i
   unfolding fabric_told
   list_is i inside = get_or-map-range_with_len (list_told w.came s) 0 s.head.ports i i [] inside (omega arith)
 
@@ -310,7 +310,7 @@ module _ (w : Switch) (s : State) (in_range : IsInRange s) (shape : HasShape w s
       let long = length-map-range_with_len (list_told w.came s) 0 s.head.ports in
       get_or_past (map (list_told w.came s) (range_with_len 0 s.head.ports)) i [] (omega arith)
 
-  buffer_is : (j : ℕ) → j < s.head.ports → buffer f j ≡ buffer_told w.came s j
+  pub buffer_is : (j : ℕ) → j < s.head.ports → buffer f j ≡ buffer_told w.came s j
   unfolding fabric_told
   buffer_is j inside = get_or-map-range_with_len (buffer_told w.came s) 0 s.head.ports j j [] inside (omega arith)
 
@@ -332,19 +332,19 @@ module _ (w : Switch) (s : State) (in_range : IsInRange s) (shape : HasShape w s
       (cases_lt j s.head.ports)
 
   -- a cell of a list, and one of a buffer
-  record InList (i : ℕ) (q : Queued) : Type 0 where
+  pub record InList (i : ℕ) (q : Queued) : Type 0 where
     pub name : Named
     pub has : Has s.listed name
     pub here : name.input ≡ i
     pub is : t name ≡ Some q
 
-  record InBuffer (j : ℕ) (q : Queued) : Type 0 where
+  pub record InBuffer (j : ℕ) (q : Queued) : Type 0 where
     pub name : Named
     pub has : Has s.buffered name
     pub is : t name ≡ Some q
     pub here : q.cell.output ≡ j
 
-  in_list : (i : ℕ) (q : Queued) → Has (input f i) q → InList i q
+  pub in_list : (i : ℕ) (q : Queued) → Has (input f i) q → InList i q
   in_list i q =
       of_list (λ (l : List Queued). Has l q → InList i q) (λ none. absurd none) i
       (λ has.
@@ -352,7 +352,7 @@ module _ (w : Switch) (s : State) (in_range : IsInRange s) (shape : HasShape w s
       let kept = kept_has (at_input i) s.listed it.origin it.has in
       record { name = it.origin; has = kept.0; here = eqb-true it.origin.input i kept.1; is = it.is })
 
-  in_buffer : (j : ℕ) (q : Queued) → Has (buffer f j) q → InBuffer j q
+  pub in_buffer : (j : ℕ) (q : Queued) → Has (buffer f j) q → InBuffer j q
   in_buffer j q =
       of_buffer (λ (l : List Queued). Has l q → InBuffer j q) (λ none. absurd none) j
       (λ has.

@@ -33,9 +33,3 @@ pub mod Onward
 pub mod Parting
 pub mod Resuming
 pub mod TakenUp
-pub mod ResumedCounts
-pub mod OfOnePacket
-pub mod NamedPackets
-pub mod NamedFlow
-pub mod StandingOn
-pub mod ResumedWhole
