@@ -25,7 +25,6 @@ pub mod Decided
 pub mod ReadOn
 pub mod Denied
 pub mod Audited
-pub mod Stamped
 pub mod Stopped
 pub mod Parted
 pub mod TextRead

@@ -1,6 +1,6 @@
 -- What stopping a run and taking one up come to, from what is known of the schedule of the captures: the text of the
 -- state in which the run stands, what the run keeps that goes on, and why there is none.
-use Rattle.std.proofs.Common.{◌≡◌, ◌<◌, ◌≤◌, ◌^◌, ◌∙◌, ℕ, All, List, length, ap, sym, subst}
+use Rattle.std.proofs.Common.{◌≡◌, ◌<◌, ◌≤◌, ◌^◌, ◌∙◌, ℕ, All, List, length, ap, subst}
 use Rattle.cq_base.specs.declared.cell.Departure.{Departure}
 use Rattle.cq_base.specs.declared.cell.Transfer.{Transfer}
 use Rattle.cq_cells.specs.Scheduled.{Scheduled, schedule_of}
@@ -23,7 +23,7 @@ use Rattle.cq_simulate.specs.declared.fabric_run.FabricRun.{FabricRun}
 use Rattle.cq_simulate.specs.declared.refusal.RunRefusal.{RunRefusal}
 use Rattle.cq_simulate.specs.declared.refusal.RunRefusal.TheVariants as of_run
 use Rattle.cq_state.specs.Refusals.{IsTooLong}
-use Rattle.cq_state.specs.State.{IsInRange, state_text}
+use Rattle.cq_state.specs.State.{state_text}
 use Rattle.cq_state.specs.declared.state.State.{State}
 use Rattle.cq_state.specs.declared.write.StateLong.{StateLong}
 use Rattle.cq_state.specs.declared.write.StateLong.TheVariants as of_text
@@ -43,10 +43,6 @@ same_state x sent sent' note note' a a' b b' n n' e f g h i =
     ∙ ap (λ (k : ℕ). state_of x sent' note' k b n) g
     ∙ ap (λ (k : ℕ). state_of x sent' note' a' k n) h
     ∙ ap (λ (k : ℕ). state_of x sent' note' a' b' k) i
-
--- what is in range of one is in range of the other
-pub in_range_as : (s s' : State) → s ≡ s' → IsInRange s' → IsInRange s
-in_range_as s s' e h = subst IsInRange (sym e) h
 
 module _ (t : Tables) (captures : List (List Captured)) (s : Scheduled) (is : s ≡ schedule_of t captures) where
   -- ## Stopping

@@ -1,27 +1,11 @@
-use Rattle.std.proofs.Common.{◌<◌, ◌^◌, List, ap, length, subst, sym}
+use Rattle.std.proofs.Common.{List, ap, length}
 use Rattle.std.proofs.lemmas.Result.{err_from_is_err_and}
 use Rattle.cq_base.specs.declared.setup.ClassRow.{ClassRow}
-use Rattle.cq_cells.specs.Scheduled.{Scheduled}
 use Rattle.cq_simulate.specs.PartedRuns.{taken_at}
-use Rattle.cq_run.proofs.Stamped.{first_stamp_early}
-use Rattle.cq_run.proofs.Stopped.{in_range_as, part_halt, part_long, part_text, same_state}
+use Rattle.cq_run.proofs.Stopped.{part_halt, part_long, part_text, same_state}
 use Rattle.cq_run.proofs.parting.part_by_crossbar.Goals as goal
 
 -- the state is told by what was lent of the run
-pub state_bytes-requires : goal.state_bytes-requires
-state_bytes-requires g c =
-    let run = c.in_ok-parted.parted in
-    let schedule = c.in_ok-schedule.schedule in
-    let P : Scheduled → Type 0 = λ s. s.first_stamp < 2 ^ 63 in
-    let early = subst P (sym c.in_ok-schedule.ensures.schedule)
-    (first_stamp_early c.args.captures.now c.in_ok-schedule.ensures.recorded) in
-    in_range_as _ _
-    (same_state run.frozen c.items.result.now run.sent.items c.items-2.result.now run.note.items _ schedule.first_stamp
-    _ _ _ _
-    c.items.ensures c.items-2.ensures c.t0.ensures (ap (λ (rows : List ClassRow). length rows) c.as_slice.ensures)
-    c.total.ensures.cells)
-    (c.in_ok-parted.ensures.ranged schedule.first_stamp early)
-
 pub returns-clause-text : goal.returns-clause-text
 returns-clause-text g c =
     let run = c.in_ok-parted.parted in
