@@ -1,21 +1,13 @@
--- The order of keys is a strict total order. Numbers are totally ordered, a comparison by one part and then by another
--- is total where both are, and so the comparison of four parts is. Where it says equal, all four parts are equal, so
--- the keys are the same. The laws then read this comparison through "is less", by its three cases.
+-- The order of keys is a strict total order. Their comparison is total (`keys_total`). Where it says equal, all four
+-- parts are equal, so the keys are the same. The laws then read this comparison through "is less", by its three cases.
 use Rattle.std.proofs.Common.{◌≡◌, ℕ, true, false, refl, ap}
 use Rattle.std.specs.declared.cmp.Ordering.{Ordering}
 use Rattle.std.specs.declared.cmp.Ordering.TheVariants.{Less, Equal, Greater}
 use Rattle.std.specs.Ordering.{nat_cmp, is_lt, ordering_reverse}
-use Rattle.std.specs.Cmp.{IsTotalOrder}
-use Rattle.std.proofs.lemmas.Cmp.{nat_cmp_total, on_total, then_total, tied_itself}
+use Rattle.std.proofs.lemmas.Cmp.{tied_itself}
 use Rattle.std.proofs.lemmas.Map.Lookups.{exact_pairs, exact_unsigned}
 use Rattle.cq_base.specs.declared.key.Key.{Key}
-use Rattle.cq_base.specs.Key.{key_cmp, is_before, KeyLaws}
-
-keys_total : IsTotalOrder key_cmp
-keys_total =
-    then_total (on_total (λ k. k.level) nat_cmp_total)
-    (then_total (on_total (λ k. k.rank) nat_cmp_total)
-    (then_total (on_total (λ k. k.slot) nat_cmp_total) (on_total (λ k. k.input) nat_cmp_total)))
+use Rattle.cq_base.specs.Key.{key_cmp, keys_total, is_before, KeyLaws}
 
 -- keys that compare alike are one
 exact_keys : (a b : Key) → key_cmp a b ≡ Equal → a ≡ b

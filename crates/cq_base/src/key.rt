@@ -3,24 +3,58 @@
 //! Every list of the switch is kept in this order or searched by it, and two runs agree where they
 //! agree on it. So it is shown once, here, that it is an order.
 ghost use Rattle.std.specs.Prelude.{◌≡◌};
-ghost use Rattle.cq_base.specs.Key.{KeyLaws, key_cmp};
+ghost use Rattle.std.proofs.Common.{rules};
+ghost use Rattle.std.specs.Cmp.{partial_order_from_own_ties, partial_order_from_total};
+ghost use Rattle.std.specs.Cmp.Rules.{comparing};
+ghost use Rattle.std.specs.Ordering.{as_partial_cmp};
+ghost use Rattle.cq_base.specs.Key.{KeyLaws, key_cmp, keys_total};
 
 use crate::{Port, Slot};
+use std::cmp::Ordering;
 
 /// How urgent a cell is: by its level, then by its rank, then by the slot of its arrival, then by its
 /// input. The lesser key is the more urgent.
 ///
-/// One cell at most arrives at an input in a slot, so the keys of different cells differ.
-#[derive(Clone, Copy, Debug, PartialEq, Eq, PartialOrd, Ord)]
+/// One cell at most arrives at an input in a slot, so the keys of different cells differ. The widest
+/// number stands first, so that a key takes 32 bytes and no gap; it is not the first that is compared.
+#[derive(Clone, Copy, Debug, PartialEq, Eq)]
 pub struct Key {
-    /// The level of its class.
-    pub level: u8,
     /// The rank that the cell's output gave it.
     pub rank: u128,
     /// The slot in which it arrived.
     pub slot: Slot,
     /// The input that it came to.
     pub input: Port,
+    /// The level of its class.
+    pub level: u8,
+}
+
+impl Ord for Key {
+    ghost cmp = { key_cmp };
+
+    ghost total = { keys_total };
+
+    ghost matches_partial_cmp = { Prim.search (comparing, rules) };
+
+    ghost matches_eq = { Prim.search (comparing, rules) };
+
+    fn cmp(&self, other: &Key) -> Ordering {
+        self.level
+            .cmp(&other.level)
+            .then(self.rank.cmp(&other.rank))
+            .then(self.slot.cmp(&other.slot))
+            .then(self.input.cmp(&other.input))
+    }
+}
+
+impl PartialOrd for Key {
+    ghost partial_cmp = { as_partial_cmp key_cmp };
+
+    ghost laws = { partial_order_from_own_ties (partial_order_from_total keys_total) (Prim.search (comparing, rules)) };
+
+    fn partial_cmp(&self, other: &Key) -> Option<Ordering> {
+        Some(self.cmp(other))
+    }
 }
 
 /// Keys are compared by level, then rank, then slot, then input, and this is a strict total order. It
