@@ -1,9 +1,11 @@
 -- Where a key belongs among blocks of rising cells. The cells of a block come before those of the blocks behind it. So
 -- where a block begins with a lesser key, all cells ahead of it have lesser keys; and where the next block begins with
 -- none, no cell from there on has one. The cells of lesser key are thus those ahead of the block and those of its own.
+-- Where the last cell of all has a lesser key, so have all cells of its block, and the spot is its end.
 --
 -- A full block that is split keeps each place: in its front half, or in its back half behind 32 cells more.
-use Rattle.std.proofs.Common.{◌≡◌, ℕ, zero, suc, ◌+◌, ◌<◌, ◌≤◌, true, false, List, [], ◌∷◌, ◌++◌, length, set, take, drop, sym, ap, ◌∙◌, ⊎_elim, length-append, length-set, length-take, length-drop, get_or-set_same, arith}
+use Rattle.std.proofs.Common.{◌≡◌, ℕ, zero, suc, ◌+◌, ◌<◌, ◌≤◌, true, false, List, [], ◌∷◌, ◌++◌, length, set, take, drop, Some, sym, ap, ◌∙◌, subst, ⊎_elim, length-append, length-set, length-take, length-drop, get_or-set_same, arith}
+use Rattle.std.specs.Prelude.{slice_get}
 use Rattle.std.specs.List.{AllByRecursion}
 use Rattle.std.proofs.lemmas.Bool.{cases_Bool}
 use Rattle.std.proofs.lemmas.List.{take-append-le, take-take, take-set}
@@ -14,6 +16,7 @@ use Rattle.cq_base.specs.declared.cell.Queued.{Queued}
 use Rattle.cq_base.specs.Key.{is_before}
 use Rattle.cq_base.specs.Cells.{IsBefore, IsRising, cushion}
 use Rattle.cq_base.proofs.Keys.{key_laws}
+use Rattle.cq_base.proofs.Lists.{all_at}
 use Rattle.cq_urgency.specs.Blocks.{flattened, block_at, cells_in_all, halved}
 use Rattle.cq_urgency.specs.OutputBuffer.{AreFilled, AreBegun, IsSpot, starts_before}
 use Rattle.cq_urgency.proofs.Flattened.{length-flattened}
@@ -107,6 +110,41 @@ cushion_in key (b ∷ bs) (suc i) r some inside e behind =
     (λ l. ap (λ n. starts_before key (block_at (b ∷ bs) n)) (sym next) ∙ behind (omega arith)) in
     let size = length-append b (flattened (take i bs)) in omega arith
 
+-- no block is empty, wherever it stands
+some_of : (blocks : List (List Queued)) (i : ℕ) → AreSome blocks → i < length blocks → 0 < length (block_at blocks i)
+some_of [] i some inside = absurd (omega arith)
+some_of (b ∷ bs) zero some inside = some.0
+some_of (b ∷ bs) (suc i) some inside = some_of bs i some.1 (omega arith)
+
+pub some_at : (blocks : List (List Queued)) (i : ℕ) (block : List Queued) → AreFilled blocks → i < length blocks →
+    block ≡ block_at blocks i → 0 < length block
+some_at blocks i block f inside is =
+    subst (λ (b : List Queued). 0 < length b) (sym is) (some_of blocks i (filled_some blocks f) inside)
+
+-- ## A last cell of lesser key
+
+all_of_none : (P : Queued → Type 0) (xs : List Queued) → length xs ≡ 0 → AllByRecursion P xs
+all_of_none P [] none = tt
+all_of_none P (x ∷ xs) none = absurd (omega arith)
+
+-- where the last cell of a rising list has a lesser key, all cells have one
+all_lesser : (key : Key) (xs : List Queued) (k : ℕ) (x : Queued) → IsRising xs → slice_get xs k ≡ Some x →
+    k + 1 ≡ length xs → is_before x.key key ≡ true → AllByRecursion (λ y. is_before y.key key ≡ true) xs
+all_lesser key [] k x r at end e = tt
+all_lesser key (y ∷ ys) zero x r at end e =
+    let same : y ≡ x = cc in
+    let P : Queued → Type 0 = λ z. is_before z.key key ≡ true in
+    (subst P (sym same) e, all_of_none P ys (omega arith))
+all_lesser key (y ∷ ys) (suc k) x r at end e = (
+  key_laws.on y.key x.key key (all_at (IsBefore y) ys k x r.0 at) e,
+  all_lesser key ys k x r.1 at (omega arith) e,
+)
+
+starts_lesser : (key : Key) (xs : List Queued) → 0 < length xs →
+    AllByRecursion (λ y. is_before y.key key ≡ true) xs → starts_before key xs ≡ true
+starts_lesser key [] some a = absurd (omega arith)
+starts_lesser key (x ∷ xs) some a = a.0
+
 -- ## The spot of a key
 
 module _ (key : Key) (blocks : List (List Queued)) (r : IsRising (flattened blocks)) (f : AreFilled blocks) where
@@ -133,6 +171,27 @@ module _ (key : Key) (blocks : List (List Queued)) (r : IsRising (flattened bloc
             let all = cushion_in key blocks block r (filled_some blocks f) (omega arith) (begun.before block next)
             (λ l. ap (λ n. starts_before key (block_at blocks n)) next ∙ begun.behind (omega arith)) in
             let size = length-flattened (take block blocks) in omega arith;
+      }
+
+  -- behind the last cell of all
+  pub spot_end : (last within place : ℕ) (block : List Queued) (x : Queued) → last + 1 ≡ length blocks →
+      block ≡ block_at blocks last → within ≡ length block → place + 1 ≡ within → slice_get block place ≡ Some x →
+      is_before x.key key ≡ true → IsSpot blocks (cushion key (flattened blocks)) last within
+  spot_end last within place block x end is long whole at e =
+      let lesser = all_lesser key block place x (subst IsRising (sym is) (rising_block blocks last r)) at
+      (let all : place + 1 ≡ length block = omega arith in all) e in
+      let starts : starts_before key (block_at blocks last) ≡ true =
+      subst (λ (b : List Queued). starts_before key b ≡ true) is
+      (starts_lesser key block (let some : 0 < length block = omega arith in some) lesser) in
+      let own : cushion key (block_at blocks last) ≡ length block =
+      ap (cushion key) (sym is) ∙ cushion_all key block lesser in
+      record {
+        inside = omega arith;
+        short = let size = ap length is in omega arith;
+        at =
+            let all = cushion_in key blocks last r (filled_some blocks f) (omega arith) starts
+            (λ l. absurd (omega arith)) in
+            let size = length-flattened (take last blocks) in omega arith;
       }
 
 -- ## The spot where a block was split

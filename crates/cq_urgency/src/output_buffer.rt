@@ -1,5 +1,5 @@
 //! The buffer of cells that wait at one output.
-ghost use Rattle.std.specs.Prelude.{◌≡◌, ◌+◌, ◌<◌, ◌≤◌, ◌/◌, ◌^◌, [], Some, IfOk, length, drop, slice_get, is_some, if◌then◌else◌};
+ghost use Rattle.std.specs.Prelude.{◌≡◌, ◌+◌, ◌<◌, ◌≤◌, ◌/◌, ◌^◌, [], Some, IfOk, IfSome, length, drop, slice_get, is_some, if◌then◌else◌};
 ghost use Rattle.cq_base.specs.Key.{is_before};
 ghost use Rattle.cq_base.specs.Cells.{HasOtherKey, IsRising, cushion, put};
 ghost use Rattle.cq_urgency.specs.Blocks.{flattened, block_at};
@@ -14,9 +14,10 @@ use std::marker::Model;
 /// for.
 ///
 /// The cells stand in the order of their keys, so no two of them have the same key. They stand in blocks of at most 64.
-/// The block of a key is found by halving, on the first cells of the blocks, and its place there by halving in the
-/// block. A cushion adds the counts of the blocks ahead, or takes those of the blocks behind off the whole, whichever
-/// are fewer: one addition a block, and at most one for 64 cells.
+/// Most cells that come are less urgent than all that wait, so the last cell is looked at first. Else the block of a
+/// key is found by halving, on the first cells of the blocks, and its place there by halving in the block. A cushion
+/// adds the counts of the blocks ahead, or takes those of the blocks behind off the whole, whichever are fewer: one
+/// addition a block, and at most one for 64 cells.
 ///
 /// A full block is split in half where a cell comes in, and only the first block loses cells. So each other block has
 /// 32 cells at least, and a 32nd of the room and one more is enough blocks.
@@ -81,6 +82,26 @@ struct Spot {
     within: usize,
 }
 
+// Behind all cells, where the last one has a lesser key.
+fn spot_at_end(blocks: &Blocks, key: Key) -> Option<Spot>
+    requires rising { IsRising (flattened blocks.now.blocks) }
+    requires filled { AreFilled blocks.now.blocks }
+    requires some { 0 < length blocks.now.blocks }
+    ensures { IfSome result (λ spot. IsSpot blocks.now.blocks (cushion key (flattened blocks.now.blocks)) spot.block spot.within) }
+{
+    let last = blocks.len() - 1;
+    let end = blocks.block(last);
+    let within = end.len();
+    let place = within - 1;
+    if precedes(end.at(place).key, key) {
+        return Some(Spot {
+            block: last,
+            within,
+        });
+    }
+    None
+}
+
 // Where the cells of lesser key end: in the last block that begins with one, or ahead of all.
 fn spot_of(blocks: &Blocks, key: Key) -> Spot
     requires rising { IsRising (flattened blocks.now.blocks) }
@@ -88,6 +109,9 @@ fn spot_of(blocks: &Blocks, key: Key) -> Spot
     requires some { 0 < length blocks.now.blocks }
     ensures { IsSpot blocks.now.blocks (cushion key (flattened blocks.now.blocks)) result.block result.within }
 {
+    if let Some(spot) = spot_at_end(blocks, key) {
+        return spot;
+    }
     let place = begun(blocks, key);
     if place == 0 {
         return Spot {
