@@ -1,6 +1,6 @@
 -- Pieces of an array. The piece of n items from h on is take n (drop h xs). A part of the array that is written anew
 -- leaves what stands ahead of it and behind it.
-use Rattle.std.proofs.Common.{◌≡◌, ℕ, ◌+◌, ◌-◌, ◌<◌, ◌≤◌, List, [], ◌∷◌, ◌++◌, length, set, get_or, take, drop, sym, ap, ◌∙◌, append_assoc, length-append, length-take, length-drop, arith}
+use Rattle.std.proofs.Common.{◌≡◌, ℕ, ◌+◌, ◌-◌, ◌<◌, ◌≤◌, List, [], ◌∷◌, ◌++◌, length, set, get_or, take, drop, refl, sym, ap, ◌∙◌, append_assoc, length-append, length-take, length-drop, arith}
 use Rattle.std.specs.Prelude.{insert}
 use Rattle.std.proofs.lemmas.List.{take_all, take-take, take_at, drop-drop, drop_at, drop-append-le, drop_more, drop_all, drop-take, set_at}
 
@@ -13,6 +13,12 @@ popped xs h n m one = ap (take m) (sym (drop-drop 1 h xs)) ∙ sym (drop-take 1 
     ∙ ap (λ k. drop 1 (take k (drop h xs))) (sym one)
 
 -- ## Items turned by one place, and one of them written
+
+-- an item alone
+pub put_alone : {X : Type 0} (xs : List X) (y : X) → length xs ≡ 1 → set xs 0 y ≡ y ∷ take (length xs - 1) xs
+put_alone [] y one = absurd (omega arith)
+put_alone (x ∷ []) y one = refl
+put_alone (x ∷ z ∷ xs) y one = absurd (omega arith)
 
 pub turned_on : {X : Type 0} (xs : List X) (y : X) → 0 < length xs →
     set (drop (length xs - 1) xs ++ take (length xs - 1) xs) 0 y ≡ y ∷ take (length xs - 1) xs
