@@ -1,11 +1,12 @@
 -- Where a cell goes in: before the first less urgent one is where the order of keys puts it. A list in order stays so when
 -- a cell is put in, and is parted by each key into those that it does not go ahead of and the others, so the place can be
--- searched by halves.
-use Rattle.std.proofs.Common.{◌≡◌, ℕ, zero, suc, ◌≤◌, Bool, true, false, not, cond, List, [], ◌∷◌, length, get_or, drop, Result, Ok, Err, refl, sym, ap, ◌∙◌, subst, arith, inl, inr}
+-- searched by halves, and the last cell alone tells whether it is the end.
+use Rattle.std.proofs.Common.{◌≡◌, ℕ, zero, suc, ◌+◌, ◌<◌, ◌≤◌, Bool, true, false, not, cond, List, [], ◌∷◌, length, get_or, drop, Result, Ok, Err, refl, sym, ap, ◌∙◌, subst, arith, inl, inr}
 use Rattle.std.specs.Prelude.{OnOk, insert}
 use Rattle.std.specs.List.{AllByRecursion, position_or_len}
 use Rattle.std.specs.List.Sorted.{IsPartitionPoint, IsPartitionedBy}
 use Rattle.std.proofs.lemmas.Bool.{cases_Bool, cases_lt, cond_both}
+use Rattle.std.proofs.lemmas.List.{get_or_default}
 use Rattle.std.proofs.lemmas.Option.{slice_get-get_or}
 use Rattle.cq_base.specs.declared.cell.Queued.{Queued}
 use Rattle.cq_base.specs.Key.{is_before}
@@ -104,3 +105,17 @@ point_is p (x ∷ xs) (suc i) inside point =
     let later = first_later p x xs (of_not (p x) here) in
     let rest = point_is p xs i (omega arith) (λ k d low high. point.0 (suc k) d (omega arith) (omega arith), λ k d low high. point.1 (suc k) d (omega arith) (omega arith)) in
     omega arith
+
+-- where a cell does not go ahead of the last one, it goes behind all
+pub last_place : (c : Queued) (xs : List Queued) (n : ℕ) (x : Queued) → AreInOrder xs → n + 1 ≡ length xs →
+    x ≡ get_or xs n x → is_before c.key x.key ≡ false →
+    position_or_len (λ y. is_before c.key y.key) xs ≡ length xs
+last_place c xs n x order end at behind =
+    let p : Queued → Bool = λ y. is_before c.key y.key in
+    let inside : n < length xs = omega arith in
+    let passes : (d : Queued) → not (p (get_or xs n d)) ≡ true =
+    λ d. ap not (ap p (sym (at ∙ get_or_default xs n x d inside)) ∙ behind) in
+    sym (point_is p xs (length xs) (omega arith) (
+      λ k d from to. parted c xs order k n d (omega arith) inside (passes d),
+      λ k d from to. absurd (omega arith),
+    ))

@@ -1,5 +1,5 @@
 //! The list of one output.
-ghost use Rattle.std.specs.Prelude.{◌≡◌, ◌<◌, ◌≤◌, ◌==◌, ◌^◌, IfOk, [], drop, length, slice_get};
+ghost use Rattle.std.specs.Prelude.{◌≡◌, ◌<◌, ◌≤◌, ◌==◌, ◌^◌, IfOk, IsTrue, [], drop, length, slice_get};
 ghost use Rattle.std.specs.List.{position_or_len};
 ghost use Rattle.cq_base.specs.Key.{is_before};
 ghost use Rattle.cq_base.specs.Cells.{put};
@@ -70,12 +70,32 @@ impl Queue {
     }
 }
 
-// The place of the first less urgent cell, or the end.
+// Whether a cell waits and none is less urgent, which the last one shows.
+fn is_last(cells: &VecDeque<Queued>, queued: &Queued) -> bool
+    requires { AreInOrder cells.now.items }
+    ensures { IsTrue result → position_or_len (λ x. is_before queued.now.key x.key) cells.now.items ≡ length cells.now.items }
+{
+    let len = cells.len();
+    if len == 0 {
+        return false;
+    }
+    let last = len - 1;
+    if goes_before(queued, &cells[last]) {
+        return false;
+    }
+    true
+}
+
+// The place of the first less urgent cell, or the end. Most cells are the last ones, and the others are searched by
+// halves.
 fn place_of(cells: &VecDeque<Queued>, queued: &Queued) -> usize
     requires { AreInOrder cells.now.items }
     ensures inside { result ≤ length cells.now.items }
     ensures place { result ≡ position_or_len (λ x. is_before queued.now.key x.key) cells.now.items }
 {
+    if is_last(cells, queued) {
+        return cells.len();
+    }
     cells.partition_point(|waiting| !goes_before(queued, waiting))
 }
 
