@@ -2,7 +2,7 @@
 use Rattle.std.proofs.Common.{◌≡◌, ℕ, zero, suc, ◌+◌, ◌-◌, ◌<◌, ◌≤◌, List, [], ◌∷◌, ◌++◌, length, get_or, set, take, drop, Some, refl, sym, ap, ◌∙◌, arith, length-append, length-set, length-take, get_or-set_same, take-append-drop, append_assoc}
 use Rattle.std.specs.Prelude.{insert, remove, slice_get}
 use Rattle.std.specs.List.{concat}
-use Rattle.std.proofs.lemmas.List.{take_more, drop_more, take_all, take-set, take-set-le, take-take, take-append-le, drop-set-lt, nil_from_length, get_or_read}
+use Rattle.std.proofs.lemmas.List.{take_more, drop_more, take_all, take-set, take-set-le, take-take, take-append-le, get_or_read}
 use Rattle.std.proofs.lemmas.List.Folds.{concat-append}
 use Rattle.std.proofs.lemmas.List.Edits.{length-insert, length-remove, get_or-insert_below, get_or-insert_at, insert_end, insert-append_left, insert-append_right, remove-append_left, remove-append_right}
 use Rattle.cq_list.specs.Places.{IsSpot, joined, pulled}
@@ -79,7 +79,7 @@ remove_in (b ∷ bs) (suc i) o inside lt =
     ∙ sym (remove-append_right b (concat bs) (length b) at refl
     (let len = length-append b (concat (take i bs)) in omega arith) ∙ ap (λ n. b ++ remove (concat bs) n) place)
 
--- ## Blocks split and freed
+-- ## Blocks split, and a place at the end
 
 pub split_in : (blocks : List (List ℕ)) (i : ℕ) (front back : List ℕ) → i < length blocks →
     get_or blocks i [] ≡ front ++ back → concat (insert (set blocks i front) (i + 1) back) ≡ concat blocks
@@ -90,30 +90,6 @@ split_in (b ∷ bs) (suc i) front back inside parts =
     let next : suc i + 1 ≡ suc (i + 1) = omega arith in
     ap (λ n. concat (insert (b ∷ set bs i front) n back)) next
     ∙ ap (λ l. b ++ l) (split_in bs i front back (omega arith) parts)
-
-pub freed_in : (blocks : List (List ℕ)) (i : ℕ) → i < length blocks → get_or blocks i [] ≡ [] →
-    concat (remove blocks i) ≡ concat blocks
-freed_in [] i inside none = absurd (omega arith)
-freed_in (b ∷ bs) zero inside none = ap (λ l. l ++ concat bs) (sym none)
-freed_in (b ∷ bs) (suc i) inside none = ap (λ l. b ++ l) (freed_in bs i (omega arith) none)
-
-remove-set : (blocks : List (List ℕ)) (i : ℕ) (block : List ℕ) → remove (set blocks i block) i ≡ remove blocks i
-remove-set blocks i block =
-    ap (λ l. l ++ drop (suc i) (set blocks i block)) (take-set blocks i block)
-    ∙ ap (λ l. take i blocks ++ l) (drop-set-lt (suc i) blocks i block (omega arith))
-
--- the last place of a block taken out, with the block
-pub removed_in : (blocks : List (List ℕ)) (i o : ℕ) → i < length blocks → length (get_or blocks i []) ≡ 1 → o < 1 →
-    concat (remove blocks i) ≡ remove (concat blocks) (length (concat (take i blocks)) + o)
-removed_in blocks i o inside one lt =
-    let block : List ℕ = get_or blocks i [] in
-    let empty : remove block o ≡ [] = nil_from_length (remove block o)
-    (let len = length-remove block o (omega arith) in omega arith) in
-    let gone : get_or (set blocks i (remove block o)) i [] ≡ [] = get_or-set_same blocks i (remove block o) [] inside
-    ∙ empty in
-    sym (ap concat (remove-set blocks i (remove block o)))
-    ∙ freed_in (set blocks i (remove block o)) i (let len = length-set blocks i (remove block o) in omega arith) gone
-    ∙ remove_in blocks i o inside (omega arith)
 
 -- a place at the end of the last block, or in a block of its own
 pub append_in : (blocks : List (List ℕ)) (i y : ℕ) (block : List ℕ) → i + 1 ≡ length blocks →
@@ -289,12 +265,4 @@ module _ (blocks : List (List ℕ)) (place i o : ℕ) (read : List ℕ) (spot : 
   removed_at new is =
       ap (λ b. concat (set blocks i b)) (is ∙ ap (λ b. remove b o) block_is)
       ∙ remove_in blocks i o spot.inside spot.short
-      ∙ ap (remove (concat blocks)) spot.at
-
-  pub freed_at : (new : List (List ℕ)) → length read ≡ 1 → new ≡ remove (set blocks i read) i →
-      concat new ≡ remove (concat blocks) place
-  freed_at new one is =
-      let same = ap length block_is in
-      let short = spot.short in
-      ap concat (is ∙ remove-set blocks i read) ∙ removed_in blocks i o spot.inside (omega arith) (omega arith)
       ∙ ap (remove (concat blocks)) spot.at

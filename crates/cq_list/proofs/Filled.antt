@@ -1,15 +1,16 @@
--- Blocks that are filled: each but the last has 16 places at least, and the last has one. This is told of each block by
--- its own length, so it stays where a block gets no shorter, where one of 16 places or more comes in, and where any
--- block goes. There are never many more blocks than a sixteenth of the places.
+-- Blocks that are filled: each but the last has 16 places at least. This is told of each block by its own length, so it
+-- stays where a block gets no shorter, where one of 16 places or more comes in, and where any block goes. There are never
+-- many more blocks than a sixteenth of the places.
 use Rattle.std.proofs.Common.{◌≡◌, ℕ, zero, suc, ◌+◌, ◌*◌, ◌<◌, ◌≤◌, List, [], ◌∷◌, ◌++◌, length, get_or, set, drop, take, ap, ◌∙◌, subst, arith, length-append, length-set, length-take, length-drop}
 use Rattle.std.specs.Prelude.{insert, remove}
 use Rattle.std.specs.List.{concat}
+use Rattle.std.proofs.lemmas.List.Edits.{length-remove}
 use Rattle.cq_list.specs.Places.{AreFilled, HaveMemory, joined, pulled}
 use Rattle.cq_list.proofs.Blocks.{joined_at, pulled_at}
 
-pub few_blocks : (blocks : List (List ℕ)) → AreFilled blocks → 16 * length blocks ≤ length (concat blocks) + 15
+pub few_blocks : (blocks : List (List ℕ)) → AreFilled blocks → 16 * length blocks ≤ length (concat blocks) + 16
 few_blocks [] filled = omega arith
-few_blocks (b ∷ []) filled = let len = length-append b [] in let some : 0 < length b = filled in omega arith
+few_blocks (b ∷ []) filled = omega arith
 few_blocks (b ∷ c ∷ bs) filled =
     let rest = few_blocks (c ∷ bs) filled.1 in
     let len = length-append b (concat (c ∷ bs)) in
@@ -21,13 +22,6 @@ pub room_for_block :
     (blocks : List (List ℕ)) (capacity : ℕ) → AreFilled blocks → HaveMemory (length (concat blocks)) capacity →
     length blocks < capacity
 room_for_block blocks capacity filled memory = let few = few_blocks blocks filled in omega arith
-
-pub some_in : (blocks : List (List ℕ)) (i : ℕ) → AreFilled blocks → i < length blocks → 0 < length (get_or blocks i [])
-some_in [] i filled inside = absurd (omega arith)
-some_in (b ∷ []) zero filled inside = filled
-some_in (b ∷ []) (suc i) filled inside = absurd (omega arith)
-some_in (b ∷ c ∷ bs) zero filled inside = let long : 16 ≤ length b = filled.0 in omega arith
-some_in (b ∷ c ∷ bs) (suc i) filled inside = some_in (c ∷ bs) i filled.1 (omega arith)
 
 pub many_in :
     (blocks : List (List ℕ)) (i : ℕ) → AreFilled blocks → i + 1 < length blocks → 16 ≤ length (get_or blocks i [])
@@ -43,45 +37,42 @@ filled_rest b [] filled = tt
 filled_rest b (c ∷ bs) filled = filled.1
 
 filled_first :
-    (b : List ℕ) (bs : List (List ℕ)) → 0 < length b → (0 < length bs → 16 ≤ length b) → AreFilled bs →
-    AreFilled (b ∷ bs)
-filled_first b [] some many filled = some
-filled_first b (c ∷ bs) some many filled = (many (omega arith), filled)
+    (b : List ℕ) (bs : List (List ℕ)) → (0 < length bs → 16 ≤ length b) → AreFilled bs → AreFilled (b ∷ bs)
+filled_first b [] many filled = tt
+filled_first b (c ∷ bs) many filled = (many (omega arith), filled)
 
 -- others behind the same first block, where there were some
 filled_behind :
     (b : List ℕ) (bs cs : List (List ℕ)) → AreFilled (b ∷ bs) → (0 < length cs → 0 < length bs) → AreFilled cs →
     AreFilled (b ∷ cs)
 filled_behind b bs cs filled as_many new =
-    filled_first b cs (some_in (b ∷ bs) 0 filled (omega arith))
-    (λ l. many_in (b ∷ bs) 0 filled (let some = as_many l in omega arith)) new
+    filled_first b cs (λ l. many_in (b ∷ bs) 0 filled (let some = as_many l in omega arith)) new
 
 -- ## A block in another one's place, one more, and one less
 
 pub filled_set :
-    (blocks : List (List ℕ)) (i : ℕ) (block : List ℕ) → AreFilled blocks → 0 < length block →
+    (blocks : List (List ℕ)) (i : ℕ) (block : List ℕ) → AreFilled blocks →
     (i + 1 < length blocks → 16 ≤ length block) → AreFilled (set blocks i block)
-filled_set [] i block filled some many = tt
-filled_set (b ∷ bs) zero block filled some many =
-    filled_first block bs some (λ l. many (omega arith)) (filled_rest b bs filled)
-filled_set (b ∷ bs) (suc i) block filled some many =
+filled_set [] i block filled many = tt
+filled_set (b ∷ bs) zero block filled many =
+    filled_first block bs (λ l. many (omega arith)) (filled_rest b bs filled)
+filled_set (b ∷ bs) (suc i) block filled many =
     filled_behind b bs (set bs i block) filled (λ l. let same = length-set bs i block in omega arith)
-    (filled_set bs i block (filled_rest b bs filled) some (λ l. many (omega arith)))
+    (filled_set bs i block (filled_rest b bs filled) (λ l. many (omega arith)))
 
 pub filled_longer :
-    (blocks : List (List ℕ)) (i : ℕ) (block : List ℕ) → AreFilled blocks → i < length blocks →
-    length (get_or blocks i []) ≤ length block → AreFilled (set blocks i block)
-filled_longer blocks i block filled inside longer =
-    let some = some_in blocks i filled inside in
-    filled_set blocks i block filled (omega arith) (λ l. let many = many_in blocks i filled l in omega arith)
+    (blocks : List (List ℕ)) (i : ℕ) (block : List ℕ) → AreFilled blocks → length (get_or blocks i []) ≤ length block →
+    AreFilled (set blocks i block)
+filled_longer blocks i block filled longer =
+    filled_set blocks i block filled (λ l. let many = many_in blocks i filled l in omega arith)
 
 pub filled_pushed :
-    (blocks : List (List ℕ)) (block : List ℕ) → AreFilled blocks → 0 < length block →
+    (blocks : List (List ℕ)) (block : List ℕ) → AreFilled blocks →
     ((i : ℕ) → i + 1 ≡ length blocks → 16 ≤ length (get_or blocks i [])) → AreFilled (blocks ++ block ∷ [])
-filled_pushed [] block filled some many = some
-filled_pushed (b ∷ []) block filled some many = (many 0 (omega arith), some)
-filled_pushed (b ∷ c ∷ bs) block filled some many =
-    (filled.0, filled_pushed (c ∷ bs) block filled.1 some (λ i last. many (suc i) (omega arith)))
+filled_pushed [] block filled many = tt
+filled_pushed (b ∷ []) block filled many = (many 0 (omega arith), tt)
+filled_pushed (b ∷ c ∷ bs) block filled many =
+    (filled.0, filled_pushed (c ∷ bs) block filled.1 (λ i last. many (suc i) (omega arith)))
 
 -- the last block is one
 pub full_last :
@@ -95,7 +86,7 @@ pub filled_split :
     16 ≤ length front → 16 ≤ length back → AreFilled (insert (set blocks i front) (i + 1) back)
 filled_split [] i front back filled inside long longer = absurd (omega arith)
 filled_split (b ∷ bs) zero front back filled inside long longer =
-    (long, filled_first back bs (omega arith) (λ l. longer) (filled_rest b bs filled))
+    (long, filled_first back bs (λ l. longer) (filled_rest b bs filled))
 filled_split (b ∷ bs) (suc i) front back filled inside long longer =
     let next : suc (i + 1) ≡ suc i + 1 = omega arith in
     let inside_rest : i < length bs = omega arith in
@@ -124,8 +115,7 @@ filled_joined blocks i filled inside =
     let next : List ℕ = get_or blocks (i + 1) [] in
     let long = many_in blocks i filled inside in
     let len = length-append block next in
-    filled_set (remove blocks (i + 1)) i (block ++ next) (filled_without blocks (i + 1) filled) (omega arith)
-    (λ l. omega arith)
+    filled_set (remove blocks (i + 1)) i (block ++ next) (filled_without blocks (i + 1) filled) (λ l. omega arith)
 
 pub filled_pulled :
     (blocks : List (List ℕ)) (i : ℕ) → AreFilled blocks → i + 1 < length blocks →
@@ -137,25 +127,29 @@ filled_pulled blocks i filled inside many =
     let len = length-append block (take 1 next) in
     let left = length-drop 1 next in
     filled_set (set blocks (i + 1) (drop 1 next)) i (block ++ take 1 next)
-    (filled_set blocks (i + 1) (drop 1 next) filled (omega arith) (λ l. omega arith)) (omega arith) (λ l. omega arith)
+    (filled_set blocks (i + 1) (drop 1 next) filled (λ l. omega arith)) (λ l. omega arith)
 
--- then it has more than the least
+-- then it has more than the least, unless it is the last one now
 pub longer_joined :
-    (blocks : List (List ℕ)) (i : ℕ) → AreFilled blocks → i + 1 < length blocks → 16 < length
-    (get_or (joined blocks i) i [])
-longer_joined blocks i filled inside =
+    (blocks : List (List ℕ)) (i : ℕ) → AreFilled blocks → i + 1 < length blocks → i + 1 < length (joined blocks i) →
+    16 < length (get_or (joined blocks i) i [])
+longer_joined blocks i filled inside later =
+    let block : List ℕ = get_or blocks i [] in
+    let next : List ℕ = get_or blocks (i + 1) [] in
+    let size = length-set (remove blocks (i + 1)) i (block ++ next) in
+    let less = length-remove blocks (i + 1) inside in
+    let more : i + 1 + 1 < length blocks = omega arith in
     let long = many_in blocks i filled inside in
-    let some = some_in blocks (i + 1) filled inside in
-    let len = ap length (joined_at blocks i inside) ∙ length-append (get_or blocks i []) (get_or blocks (i + 1) []) in
+    let longer = many_in blocks (i + 1) filled more in
+    let len = ap length (joined_at blocks i inside) ∙ length-append block next in
     omega arith
 
 pub longer_pulled :
-    (blocks : List (List ℕ)) (i : ℕ) → AreFilled blocks → i + 1 < length blocks → 16 < length
-    (get_or (pulled blocks i) i [])
-longer_pulled blocks i filled inside =
+    (blocks : List (List ℕ)) (i : ℕ) → AreFilled blocks → i + 1 < length blocks →
+    32 < length (get_or blocks (i + 1) []) → 16 < length (get_or (pulled blocks i) i [])
+longer_pulled blocks i filled inside many =
     let next : List ℕ = get_or blocks (i + 1) [] in
     let long = many_in blocks i filled inside in
-    let some = some_in blocks (i + 1) filled inside in
     let one = length-take 1 next in
     let len = ap length (pulled_at blocks i inside) ∙ length-append (get_or blocks i []) (take 1 next) in
     omega arith

@@ -8,10 +8,10 @@ pub record PlacesView : Type 0 where
   pub outputs : List ℕ
   pub spare : ℕ
 
--- each block but the last has at least 16 places, and the last has one at least
+-- each block but the last has at least 16 places
 abbrev pub AreFilled : List (List ℕ) → Type 0
 AreFilled [] = Unit {0}
-AreFilled (block ∷ []) = 0 < length block
+AreFilled (block ∷ []) = Unit {0}
 AreFilled (block ∷ next ∷ blocks) = (16 ≤ length block) × AreFilled (next ∷ blocks)
 
 -- there is memory for the blocks of so many places and for one block more, each block but the last with 16 places

@@ -13,9 +13,10 @@ use std::marker::Model;
 ///
 /// The places stand in blocks of at most 64, and each block but the last has at least 16, so that memory for a block in
 /// 16 places is enough. A full block is split into two of 32, which 16 places or more have to leave before they are
-/// joined again. A place is found by the blocks' lengths and an output's by their counts, from the nearer end: a call
-/// reads two numbers of each block that it passes, and searches one block. So what stands near the start or the end is
-/// found at once, and what stands in the middle of 50,000 places behind some 400 blocks.
+/// joined again. The last block stays where it runs empty, so that a list that is often empty makes no block anew. A
+/// place is found by the blocks' lengths and an output's by their counts, from the nearer end: a call reads two numbers
+/// of each block that it passes, and searches one block. So what stands near the start or the end is found at once, and
+/// what stands in the middle of 50,000 places behind some 400 blocks.
 #[derive(Drop)]
 pub struct Places {
     blocks: Vec<Block>,
@@ -359,7 +360,7 @@ fn fill_up(blocks: &mut Vec<Block>, at: usize)
     }
 }
 
-// A place taken out, with its block where it was the last one of all.
+// A place taken out. The last block stays where it runs empty.
 fn remove_at(blocks: &mut Vec<Block>, place: usize, spot: Spot)
     requires filled { AreFilled blocks.old.items }
     requires spot { IsSpot blocks.old.items place spot.block spot.within }
@@ -369,11 +370,7 @@ fn remove_at(blocks: &mut Vec<Block>, place: usize, spot: Spot)
 {
     fill_up(blocks, spot.block);
     let block = &mut blocks[spot.block];
-    if block.len() == 1 {
-        blocks.remove(spot.block);
-    } else {
-        block.remove(spot.within);
-    }
+    block.remove(spot.within);
 }
 
 impl Places {

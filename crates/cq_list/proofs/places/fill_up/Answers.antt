@@ -31,7 +31,7 @@ returns-then-many-le32-clause-longer c =
     let inside : c.args.at + 1 < length c.args.blocks.now.items =
     let count = c.len-count.ensures in let other = c.if-next-count.false in let inside = c.requires.inside in
     omega arith in
-    rw c.join_next.ensures.joined (λ l. longer_joined c.args.blocks.now.items c.args.at c.requires.filled inside)
+    rw c.join_next.ensures.joined (λ l. longer_joined c.args.blocks.now.items c.args.at c.requires.filled inside l)
 
 pub returns-then-many-le32-clause-spot : goal.returns-then-many-le32-clause-spot
 returns-then-many-le32-clause-spot c =
@@ -63,7 +63,11 @@ returns-else-many-le32-clause-longer c =
     let inside : c.args.at + 1 < length c.args.blocks.now.items =
     let count = c.len-count.ensures in let other = c.if-next-count.false in let inside = c.requires.inside in
     omega arith in
-    rw c.pull_next.ensures.pulled (λ l. longer_pulled c.args.blocks.now.items c.args.at c.requires.filled inside)
+    let read = ap length (get_or_read c.args.blocks.now.items _ _ inside c.index-behind.ensures []) in
+    let len = c.len-many.ensures.len in
+    let many = c.if-many-le32.false in
+    rw c.pull_next.ensures.pulled (λ l. longer_pulled c.args.blocks.now.items c.args.at c.requires.filled inside
+    (omega arith))
 
 pub returns-else-many-le32-clause-spot : goal.returns-else-many-le32-clause-spot
 returns-else-many-le32-clause-spot c =

@@ -18,4 +18,5 @@ returns-clause-filled c =
     let short = spot.short in
     let longer = ap length c.insert.ensures ∙ length-insert c.index_mut-block.result.now _ c.args.output
     (omega arith) in
-    filled_longer _ _ _ c.spot_with_room-spot.ensures.filled spot.inside (omega arith)
+    filled_longer c.spot_with_room-spot.new.blocks.items c.spot_with_room-spot.result.block _
+    c.spot_with_room-spot.ensures.filled (omega arith)

@@ -1,4 +1,4 @@
-use Rattle.std.proofs.Common.{◌∙◌, ap, length, arith}
+use Rattle.std.proofs.Common.{◌∙◌, ap, arith}
 use Rattle.std.specs.Prelude.{insert}
 use Rattle.std.specs.List.{concat}
 use Rattle.cq_list.proofs.Blocks.{push_in}
@@ -17,7 +17,6 @@ returns-clause-places c =
 
 pub returns-clause-filled : goal.returns-clause-filled
 returns-clause-filled c =
-    let some = ap length (c.insert.ensures ∙ ap (λ l. insert l 0 c.args.output) c.new-block.ensures) in
     rw c.push_reserved.ensures.items
-    (filled_pushed c.args.blocks.now.items _ c.requires.filled (omega arith)
+    (filled_pushed c.args.blocks.now.items _ c.requires.filled
     (λ i last. let full = c.requires.full i last in omega arith))
