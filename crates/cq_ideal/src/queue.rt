@@ -1,6 +1,7 @@
 //! The list of one output.
 ghost use Rattle.std.specs.Prelude.{◌≡◌, ◌<◌, ◌≤◌, ◌==◌, ◌^◌, IfOk, IsTrue, [], drop, length, slice_get};
 ghost use Rattle.std.specs.List.{position_or_len};
+ghost use Rattle.std.specs.VecDeque.{deque_capacity, deque_len};
 ghost use Rattle.cq_base.specs.Key.{is_before};
 ghost use Rattle.cq_base.specs.Cells.{put};
 ghost use Rattle.cq_ideal.specs.Parts.{AreInOrder};
@@ -9,9 +10,13 @@ use cq_base::{NoMemory, Queued};
 use std::alloc::Global;
 use std::collections::VecDeque;
 use std::marker::Model;
+use std::mem;
 
 /// The cells that wait for an output, in the order of their keys. Contracts see them, and how many there
 /// is room for.
+///
+/// The room is reserved at the start. A cell that comes where none waits stands at the start of the memory again, so no
+/// more of that is touched than is used from one such time to the next.
 #[derive(Drop)]
 pub struct Queue {
     cells: VecDeque<Queued>,
@@ -49,6 +54,7 @@ impl Queue {
         ensures cells { self.new.cells ≡ put queued self.old.cells }
         ensures room { self.new.room ≡ self.old.room }
     {
+        begin_again(&mut self.cells);
         let place = place_of(&self.cells, &queued);
         self.cells.insert(place, queued).unwrap();
     }
@@ -105,4 +111,18 @@ fn goes_before(queued: &Queued, other: &Queued) -> bool
     ensures { result ≡ is_before queued.now.key other.now.key }
 {
     queued.key < other.key
+}
+
+// Where no cell waits, the next one stands at the start of the memory.
+fn begin_again(cells: &mut VecDeque<Queued>)
+    ensures items { cells.new.items ≡ cells.old.items }
+    ensures len { deque_len cells.new ≡ deque_len cells.old }
+    ensures capacity { deque_capacity cells.new ≡ deque_capacity cells.old }
+{
+    if !cells.is_empty() {
+        return;
+    }
+    let none = VecDeque::new(*cells.allocator());
+    let emptied = mem::replace(cells, none);
+    *cells = VecDeque::from_vec(emptied.into_vec());
 }
