@@ -11,6 +11,7 @@ pub mod OneRow
 pub mod Placed
 pub mod Fill
 pub mod Renewing
+pub mod RenewingOne
 pub mod Changes
 pub mod Followed
 pub mod Pairs

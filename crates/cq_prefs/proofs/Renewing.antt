@@ -4,7 +4,7 @@
 use Rattle.std.proofs.Common.{◌≡◌, ◌≢◌, ℕ, ◌+◌, ◌<◌, ◌≤◌, eqb, not, cond, Bool, true, false, List, [], ◌∷◌, length, get_or, set, Option, Some, None, refl, sym, ap, ◌∙◌, subst, ⊎_elim, arith}
 use Rattle.std.specs.Prelude.{filter}
 use Rattle.std.specs.List.{IsDistinct}
-use Rattle.std.proofs.lemmas.Bool.{cond-true, cases_Bool, cases_eq, eq-eqb, ne_eqb, eqb-true}
+use Rattle.std.proofs.lemmas.Bool.{cond-true, cases_Bool, cases_eq, cases_lt, eq-eqb, ne_eqb, eqb-true}
 use Rattle.std.proofs.lemmas.Option.{same_Some}
 use Rattle.std.proofs.lemmas.List.FromFn.{length-map-range_with_len}
 use Rattle.std.proofs.lemmas.List.{length-map, length-set, get_or_past, get_or_default, get_or-set_same, get_or-set_other, ext_get_or}
@@ -173,6 +173,24 @@ all_renewed m n o t r end =
     (ext_get_or [] o.inputs t.inputs r.ports.1
     (λ j _. r.inputs_done j (λ i l h. let no : None ≡ Some j = sym (nobody i l) ∙ h in let P : ⊥ = cc in P)))
 
+-- where no input of a range has a partner, the range is renewed as it stands
+pub none_between : (m : Partners) (a b : ℕ) (o t : Orders) → Renewing m a o t → a ≤ b →
+    ((i : ℕ) → a ≤ i → i < b → partner_of m i ≡ None) → Renewing m b o t
+none_between m a b o t r le none =
+    record {
+      ports = r.ports;
+      outputs_differ = r.outputs_differ;
+      inputs_differ = r.inputs_differ;
+      outputs_done = λ i f.
+          r.outputs_done i (λ l. ⊎_elim (λ below. none i l below) (λ past. f past) (cases_lt i b));
+      outputs_wait = λ i j l e. r.outputs_wait i j (omega arith) e;
+      inputs_done = λ j free. r.inputs_done j (λ i l h. ⊎_elim
+          (λ below. let no : None ≡ Some j = sym (none i l below) ∙ h in let P : ⊥ = cc in P)
+          (λ past. free i past h)
+          (cases_lt i b));
+      inputs_wait = λ i j l e. r.inputs_wait i j (omega arith) e;
+    }
+
 -- ## Ports in range
 
 -- each cell of the lists is for an output: one that the offers before showed, or one of a pair
@@ -268,6 +286,10 @@ module _ (m : Partners) (n j : ℕ) (outputs inputs : List (List ℕ)) (lists : 
   pub row_renewed : Next → (row : List ℕ) (list : Waiting) → list ≡ get_or lists n list →
       row ≡ output_order list.cells → row ≡ outputs_of (orders_of (cells_of lists)) n
   row_renewed x row list at e = e ∙ sym (row_is x list at)
+
+  pub row_differs : Next → (row : List ℕ) → row ≡ get_or outputs n row → IsDistinct eqb row
+  row_differs x row e =
+      subst (IsDistinct eqb) (sym (e ∙ get_or_default outputs n row [] (has_row x))) (x.renewing.outputs_differ n)
 
   -- the order that its partner is to have
   pub column_is : Next → inputs_of (orders_of (cells_of lists)) j ≡ input_order (cells_of lists) j

@@ -1,9 +1,10 @@
 //! Who offers a cell to whom, and whom each port prefers.
-ghost use Rattle.std.specs.Prelude.{◌≡◌, ◌<◌, ◌≤◌, ◌↔◌, [], All, IsSome, IfSome, IfOk, length, replicate};
+ghost use Rattle.std.specs.Prelude.{◌≡◌, ◌<◌, ◌≤◌, ◌↔◌, [], All, IsSome, IfSome, IfOk, None, length, replicate};
 ghost use Rattle.cq_list.specs.InputList.{cells_of};
 ghost use Rattle.cq_prefs.specs.FirstCells.{AreOrdersOf, FirstKeysDiffer, orders_of};
 ghost use Rattle.cq_prefs.specs.Renewal.{AreSameWithout};
 ghost use Rattle.cq_prefs.specs.Orders.{AreOffers, IsOffered, no_offers, ports, outputs_of, inputs_of, place_of, position_of};
+ghost use Rattle.cq_prefs.specs.Pairing.{with_pair};
 
 use crate::Matching;
 use crate::by_key::inputs_by_key;
@@ -105,6 +106,22 @@ impl Offers {
                 renew_inputs(&mut self.by_output[output as usize], lists, output, input);
             }
         }
+    }
+
+    /// The same where only the cells of one input for one output have changed. Their two orders are all that is looked at,
+    /// however many ports there are.
+    pub fn renew_pair(&mut self, lists: &[InputList], input: Port, output: Port)
+        requires lists { length lists.now ≡ ports self.old }
+        requires keys { FirstKeysDiffer (cells_of lists.now) }
+        requires input { input < length lists.now }
+        requires output { output < length lists.now }
+        requires others { AreSameWithout (with_pair (replicate (length lists.now) None) input output) self.old (orders_of (cells_of lists.now)) }
+        ensures orders { self.new ≡ orders_of (cells_of lists.now) }
+        ensures first_cells { AreOrdersOf (cells_of lists.now) self.new }
+    {
+        let at = input as usize;
+        renew_outputs(&mut self.by_input[at], &lists[at], output);
+        renew_inputs(&mut self.by_output[output as usize], lists, output, input);
     }
 
     /// The number of inputs, and of outputs.
