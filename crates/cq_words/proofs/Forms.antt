@@ -1,7 +1,10 @@
--- More than four words are no command.
-use Rattle.std.proofs.Common.{◌≡◌, ℕ, ◌≤◌, Bool, true, false, List, [], ◌∷◌, length, map, if◌then◌else◌, Option, None, refl, arith}
+-- More than four words are no command, and neither are four whose first begins no form of four.
+use Rattle.std.proofs.Common.{◌≡◌, ℕ, ◌≤◌, Bool, true, false, List, [], ◌∷◌, length, map, if◌then◌else◌, Option, None, refl, ap, sym, ◌∙◌, arith}
+use Rattle.std.specs.Prelude.{codes, is_some}
 use Rattle.std.specs.List.{list_all}
-use Rattle.cq_words.specs.Words.{command_for, is_value}
+use Rattle.std.specs.Str.{bytes_eq}
+use Rattle.std.proofs.lemmas.Slice.Eq.{bytes_eq-Decides}
+use Rattle.cq_words.specs.Words.{command_for, is_value, numbered, parted}
 use Rattle.cq_words.specs.declared.command.Command.{Command}
 
 none_both_ways : (b : Bool) → ◌≡◌ {A = Option Command} None (if b then None else None)
@@ -17,3 +20,23 @@ too_many_words bytes (word ∷ a ∷ b ∷ []) many = absurd (omega arith)
 too_many_words bytes (word ∷ a ∷ b ∷ c ∷ []) many = absurd (omega arith)
 too_many_words bytes (word ∷ a ∷ b ∷ c ∷ d ∷ rest) many =
     none_both_ways (list_all is_value (map bytes (a ∷ b ∷ c ∷ d ∷ rest)))
+
+-- a first word that is neither `soak` nor `part` begins no command of four words
+no_word : (a d e : Bool) (x y : Option Command) → d ≡ false → e ≡ false
+    → false ≡ is_some (if a then (if d then x else if e then y else None) else None)
+no_word true d e x y f g =
+    sym (ap (λ (b : Bool). is_some (if b then x else if e then y else None)) f
+    ∙ ap (λ (b : Bool). is_some (if b then y else None)) g)
+no_word false d e x y f g = refl
+
+-- a text that is another one
+other_text : (word text : List ℕ) → (word ≡ text → ⊥) → (b : Bool) → bytes_eq word text ≡ b → b ≡ false
+other_text word text other true e = absurd (other ((bytes_eq-Decides word text).0 e))
+other_text word text other false e = refl
+
+pub no_three : (word first second third : List ℕ) → (word ≡ codes "soak" → ⊥) → (word ≡ codes "part" → ⊥)
+    → false ≡ is_some (command_for (word ∷ first ∷ second ∷ third ∷ []))
+no_three word first second third f g =
+    no_word (list_all is_value (first ∷ second ∷ third ∷ [])) (bytes_eq word (codes "soak"))
+    (bytes_eq word (codes "part")) (numbered first second third) (parted first second third)
+    (other_text word (codes "soak") f _ refl) (other_text word (codes "part") g _ refl)
