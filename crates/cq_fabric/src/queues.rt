@@ -8,7 +8,7 @@ ghost use Rattle.cq_list.specs.InputList.{cells_of};
 ghost use Rattle.cq_urgency.specs.OutputBuffer.{cells_in};
 ghost use Rattle.cq_prefs.specs.FirstCells.{list_of, orders_of};
 ghost use Rattle.cq_prefs.specs.Moves.{Moves, transfers_of};
-ghost use Rattle.cq_prefs.specs.Pairing.{IsMatching, with_pair};
+ghost use Rattle.cq_prefs.specs.Pairing.{IsMatching};
 ghost use Rattle.cq_xbar.specs.Crossbar.{HaveCells, HaveRoom, KeysAreNew, MovesRoom};
 ghost use Rattle.cq_laws.specs.Phases.{came_to, list_arrived};
 ghost use Rattle.cq_fabric.specs.Holding.{CanHold};
@@ -51,18 +51,6 @@ impl Model for Queues {
     ghost invariant = { λ a. AreOffered a.lists.items a.buffers.items a.offers };
 }
 
-// The one pair of an input and an output.
-fn one_pair(ports: u16, input: Port, output: Port) -> Matching
-    requires few { ports ≤ 64 }
-    requires input { input < ports }
-    requires output { output < ports }
-    ensures { result ≡ with_pair (replicate ports None) input output }
-{
-    let mut pair = Matching::none(ports);
-    pair.join(input, output);
-    pair
-}
-
 // A cell that came goes into the list of its input, with the cushion that it has in the buffer of its output. The
 // offers follow.
 fn insert_one(
@@ -82,8 +70,7 @@ fn insert_one(
     let output = queued.cell.output;
     let cushion = buffers[output as usize].cushion(queued.key);
     lists[input].insert(queued, cushion);
-    let pair = one_pair(lists.len() as u16, input as Port, output);
-    offers.renew(lists, &pair);
+    offers.renew_pair(lists, input as Port, output);
 }
 
 // Each cell that came goes into the list of its input.
