@@ -32,4 +32,4 @@ pub use limits::{
     whole_packets_are_admitted, worked_discard,
 };
 pub use ranks::Ranks;
-pub use refused::Refused;
+pub use refused::{Refused, count_refused, none_refused};

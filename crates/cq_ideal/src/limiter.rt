@@ -8,9 +8,10 @@ ghost use Rattle.cq_base.specs.Arrivals.{arrival_at};
 ghost use Rattle.cq_ideal.specs.Admission.{admitted, held_after, is_full, mark_after, mark_at, marks_after, marks_down, refused};
 ghost use Rattle.cq_ideal.specs.Ideal.{count_for};
 ghost use Rattle.cq_ideal.specs.Limiter.{CanCount, ComeToPorts, HasPorts, held_without, where_up};
-ghost use Rattle.cq_ideal.specs.Refused.{refused_counts, with_cells, with_refused};
+ghost use Rattle.cq_ideal.specs.Refused.{refused_counts, with_refused};
 
 use crate::Refused;
+use crate::refused::{count_refused, none_refused};
 use cq_base::{Arrivals, Cell, NoMemory, Port, Queued};
 use std::alloc::Global;
 use std::marker::Model;
@@ -54,54 +55,6 @@ fn full(limit: Option<u64>, held: u64) -> bool
     match limit {
         None => false,
         Some(limit) => limit <= held,
-    }
-}
-
-// Nothing was refused yet at the outputs that have a limit.
-fn none_refused(alloc: Global, limits: &[Option<u64>]) -> Result<Vec<Refused>, NoMemory>
-    requires { length limits.now ≤ 64 }
-    ensures { IfOk result (λ refused. refused.items ≡ refused_counts limits.now []) }
-{
-    let mut refused = Vec::new(alloc);
-    'outputs: for output in 0..limits.len() {
-        match limits[output] {
-            None => {}
-            Some(limit) => refused.push(Refused {
-                output: output as Port,
-                limit,
-                packets: 0,
-                cells: 0,
-            })?,
-        }
-    }
-    Ok(refused)
-}
-
-// The count of an output, with a refused cell added if it is for that output.
-fn with_cell(count: Refused, cell: Cell) -> Refused
-    requires packets { count.packets + 1 < 2 ^ 64 }
-    requires cells { count.cells + 1 < 2 ^ 64 }
-    ensures { result ≡ with_cells (cell ∷ []) count }
-{
-    if count.output != cell.output {
-        return count;
-    }
-    let first = if cell.id.index == 0 { 1 } else { 0 };
-    Refused {
-        output: count.output,
-        limit: count.limit,
-        packets: count.packets + first,
-        cells: count.cells + 1,
-    }
-}
-
-// A refused cell is added to the count of its output.
-fn tally(refused: &mut [Refused], cell: Cell)
-    requires { CanCount 1 refused.old }
-    ensures { refused.new ≡ with_refused (cell ∷ []) refused.old }
-{
-    'outputs: for place in 0..refused.len() {
-        refused[place] = with_cell(refused[place], cell);
     }
 }
 
@@ -249,7 +202,7 @@ impl Limiter {
         ensures held { self.new.held ≡ self.old.held }
         ensures limits { self.new.limits ≡ self.old.limits }
     {
-        tally(&mut self.refused, cell);
+        count_refused(&mut self.refused, cell);
     }
 
     // The cell that arrives at an input, if it is refused.

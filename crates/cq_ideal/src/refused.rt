@@ -1,5 +1,10 @@
 //! What is refused at an output.
-use cq_base::Port;
+ghost use Rattle.std.specs.Prelude.{◌≡◌, ◌+◌, ◌<◌, ◌≤◌, ◌^◌, ◌∷◌, IfOk, [], length};
+ghost use Rattle.cq_ideal.specs.Limiter.{CanCount};
+ghost use Rattle.cq_ideal.specs.Refused.{refused_counts, with_cells, with_refused};
+
+use cq_base::{Cell, NoMemory, Port};
+use std::alloc::Global;
 
 /// How many packets and cells were refused at an output that has a limit.
 #[derive(Clone, Copy, Debug, PartialEq, Eq)]
@@ -13,4 +18,53 @@ pub struct Refused {
     pub packets: u64,
     /// How many cells they had.
     pub cells: u64,
+}
+
+/// The counts of the outputs that have a limit, in order, while nothing was refused yet. The error is want of memory.
+pub fn none_refused(alloc: Global, limits: &[Option<u64>]) -> Result<Vec<Refused>, NoMemory>
+    requires { length limits.now ≤ 64 }
+    ensures { IfOk result (λ refused. refused.items ≡ refused_counts limits.now []) }
+{
+    let mut refused = Vec::new(alloc);
+    'outputs: for output in 0..limits.len() {
+        match limits[output] {
+            None => {}
+            Some(limit) => refused.push(Refused {
+                output: output as Port,
+                limit,
+                packets: 0,
+                cells: 0,
+            })?,
+        }
+    }
+    Ok(refused)
+}
+
+// The count of an output, with a refused cell added if it is for that output.
+fn with_cell(count: Refused, cell: Cell) -> Refused
+    requires packets { count.packets + 1 < 2 ^ 64 }
+    requires cells { count.cells + 1 < 2 ^ 64 }
+    ensures { result ≡ with_cells (cell ∷ []) count }
+{
+    if count.output != cell.output {
+        return count;
+    }
+    let first = if cell.id.index == 0 { 1 } else { 0 };
+    Refused {
+        output: count.output,
+        limit: count.limit,
+        packets: count.packets + first,
+        cells: count.cells + 1,
+    }
+}
+
+/// A refused cell is added to the count of its output, where that has one: it is a cell more, and a packet more where it is a
+/// first cell.
+pub fn count_refused(refused: &mut [Refused], cell: Cell)
+    requires { CanCount 1 refused.old }
+    ensures { refused.new ≡ with_refused (cell ∷ []) refused.old }
+{
+    'outputs: for place in 0..refused.len() {
+        refused[place] = with_cell(refused[place], cell);
+    }
 }

@@ -7,6 +7,7 @@ ghost use Rattle.cq_resume.specs.Finding.{ArePackets, IsNameBefore, PacketsStand
 use crate::found::{Name, is_named};
 use cq_base::{Cell, NoMemory, Port, Sequence, Slot};
 use cq_cells::Schedule;
+use cq_ideal::{count_refused, none_refused};
 use cq_laws::Refused;
 use std::alloc::Global;
 
@@ -17,54 +18,6 @@ pub struct Tally {
     pub marks: Sequence<bool>,
     /// What was refused at each output that has a limit, in order.
     pub refused: Sequence<Refused>,
-}
-
-// Nothing was refused yet at the outputs that have a limit.
-fn none_refused(alloc: Global, limits: &[Option<u64>]) -> Result<Vec<Refused>, NoMemory>
-    requires { length limits.now ≤ 64 }
-    ensures { IfOk result (λ refused. refused.items ≡ refused_counts limits.now []) }
-{
-    let mut refused = Vec::new(alloc);
-    'outputs: for output in 0..limits.len() {
-        match limits[output] {
-            None => {}
-            Some(limit) => refused.push(Refused {
-                output: output as Port,
-                limit,
-                packets: 0,
-                cells: 0,
-            })?,
-        }
-    }
-    Ok(refused)
-}
-
-// The count of an output, with a refused cell added if it is for that output.
-fn with_cell(count: Refused, cell: Cell) -> Refused
-    requires packets { count.packets + 1 < 2 ^ 64 }
-    requires cells { count.cells + 1 < 2 ^ 64 }
-    ensures { result ≡ with_cells (cell ∷ []) count }
-{
-    if count.output != cell.output {
-        return count;
-    }
-    let first = if cell.id.index == 0 { 1 } else { 0 };
-    Refused {
-        output: count.output,
-        limit: count.limit,
-        packets: count.packets + first,
-        cells: count.cells + 1,
-    }
-}
-
-// A refused cell is added to the count of its output.
-fn count_refused(refused: &mut [Refused], cell: Cell)
-    requires { CanCount 1 refused.old }
-    ensures { refused.new ≡ with_refused (cell ∷ []) refused.old }
-{
-    'outputs: for place in 0..refused.len() {
-        refused[place] = with_cell(refused[place], cell);
-    }
 }
 
 // The cell that arrives at an input next, from this slot on and before the next one of the run, with its slot.

@@ -1,6 +1,6 @@
 use Rattle.std.proofs.Common.{arith}
 use Rattle.cq_ideal.proofs.Counting.{can_count_here, tallied_next}
-use Rattle.cq_resume.proofs.packets.count_refused.Goals as goal
+use Rattle.cq_ideal.proofs.refused.count_refused.Goals as goal
 
 pub with_cell-requires-clause-packets : goal.with_cell-requires-clause-packets
 with_cell-requires-clause-packets c =

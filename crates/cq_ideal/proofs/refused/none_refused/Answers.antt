@@ -3,8 +3,8 @@ use Rattle.std.specs.Prelude.{Option}
 use Rattle.std.proofs.lemmas.List.{append-nil, append_assoc, drop_all, drop_more}
 use Rattle.cq_ideal.specs.declared.refused.Refused.{Refused}
 use Rattle.cq_ideal.proofs.Refusals.{counts_at_end, counts_from, counts_from_first, none_from, zero_counted}
-use Rattle.cq_ideal.proofs.limiter.none_refused.Goals as goal
-use Rattle.cq_ideal.proofs.limiter.none_refused.Goals.{in-Some+in_ok-push-in-Some, in-None}
+use Rattle.cq_ideal.proofs.refused.none_refused.Goals as goal
+use Rattle.cq_ideal.proofs.refused.none_refused.Goals.{in-Some+in_ok-push-in-Some, in-None}
 
 pub outputs-init : goal.outputs-init
 outputs-init c =

@@ -1,8 +1,8 @@
 use Rattle.std.proofs.Common.{sym, ap, ◌∙◌, arith}
 use Rattle.std.proofs.lemmas.Bool.{eq-eqb, ne_eqb}
 use Rattle.cq_ideal.proofs.Counting.{one_if, other_output, this_output}
-use Rattle.cq_resume.proofs.packets.with_cell.Goals as goal
-use Rattle.cq_resume.proofs.packets.with_cell.Goals.{then-cell-eq0, else-cell-eq0}
+use Rattle.cq_ideal.proofs.refused.with_cell.Goals as goal
+use Rattle.cq_ideal.proofs.refused.with_cell.Goals.{then-cell-eq0, else-cell-eq0}
 
 pub returns-then-count-cell : goal.returns-then-count-cell
 returns-then-count-cell c =

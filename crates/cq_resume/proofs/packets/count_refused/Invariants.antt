@@ -1,8 +1,0 @@
-use Rattle.std.proofs.Common.{◌≡◌, ◌∷◌, []}
-use Rattle.cq_ideal.specs.Refused.{with_refused}
-use Rattle.cq_ideal.proofs.Sending.{changed_to}
-use Rattle.cq_resume.proofs.packets.count_refused.Given as goal
-
--- the counts before this place have the cell
-abbrev pub invariant-outputs : goal.invariant-outputs
-invariant-outputs l = l.refused ≡ changed_to (with_refused (l.cell ∷ []) l.initial.refused) l.initial.refused l.place
