@@ -1,8 +1,18 @@
 use Rattle.std.proofs.Common.{arith}
 use Rattle.cq_resume.specs.Finding.{IsSentBefore}
-use Rattle.cq_resume.proofs.Chained.{pairs_more}
+use Rattle.cq_resume.proofs.Chained.{pairs_fail, pairs_first, pairs_hold, pairs_more}
 use Rattle.cq_resume.proofs.Orders.{sent_on}
 use Rattle.cq_resume.proofs.order.sent_in_order.Goals as goal
+
+pub places-init : goal.places-init
+places-init c = pairs_first IsSentBefore c.args.sent.now
+
+pub returns-then-not-is_sent_before : goal.returns-then-not-is_sent_before
+returns-then-not-is_sent_before c =
+    let inside = c.places-test.true in
+    let least = c.places.auto.at in
+    pairs_fail IsSentBefore c.args.sent.now c.places.at _ c.is_sent_before.result (omega arith) (omega arith) c.is_sent_before.ensures
+    c.if-not-is_sent_before.true
 
 pub places-preserved : goal.places-preserved
 places-preserved c =
@@ -10,3 +20,8 @@ places-preserved c =
     let least = c.places.auto.at in
     pairs_more IsSentBefore c.args.sent.now sent_on c.places.at _ (omega arith) (omega arith) c.places.invariant
     (c.is_sent_before.ensures.0 c.if-not-is_sent_before.false)
+
+pub returns : goal.returns
+returns c =
+    let past = c.places-test.false in
+    pairs_hold IsSentBefore c.args.sent.now c.places.at (omega arith) c.places.invariant
