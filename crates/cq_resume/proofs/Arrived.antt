@@ -59,7 +59,7 @@ module _ (came : List Arrival) (next : ℕ) (c d : Named) (m n : Name) (first : 
 
 -- ## All names
 
-images_held : {A B : Type 0} (f : A → B) (P : B → Type 0) (xs : List A) → AllByRecursion P (map f xs) →
+pub images_held : {A B : Type 0} (f : A → B) (P : B → Type 0) (xs : List A) → AllByRecursion P (map f xs) →
     AllByRecursion (λ x. P (f x)) xs
 images_held f P [] all = tt
 images_held f P (x ∷ xs) all = (all.0, images_held f P xs all.1)
