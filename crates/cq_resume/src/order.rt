@@ -84,6 +84,14 @@ fn keys_in_order(listed: &[Queued]) -> bool
     true
 }
 
+// Whether the lists stand by input, and the cells of each for one output by their keys.
+fn lists_in_order(listed: &[Queued]) -> bool
+    requires { AllByRecursion (λ q. q.cell.output < 64) listed.now }
+    ensures { IsTrue result ↔ ListsStand listed.now }
+{
+    inputs_in_order(listed) && keys_in_order(listed)
+}
+
 // Whether a buffered cell stands before another: by output, then by key.
 fn is_buffered_before(queued: &Queued, other: &Queued) -> bool
     ensures { IsTrue result ↔ IsBufferedBefore queued.now other.now }
@@ -143,6 +151,13 @@ fn are_timely(sent: &[Gone], next: Slot) -> bool
     true
 }
 
+// Whether the departures stand by slot and then by output, and each has its time.
+fn departures_in_order(sent: &[Gone], next: Slot) -> bool
+    ensures { IsTrue result ↔ SentStand next sent.now }
+{
+    sent_in_order(sent) && are_timely(sent, next)
+}
+
 // Whether a transfer is before another: by slot, then by phase, then by input.
 fn is_moved_before(transfer: &Transfer, other: &Transfer) -> bool
     ensures { IsTrue result ↔ IsMovedBefore transfer.now other.now }
@@ -184,6 +199,13 @@ fn are_before(moved: &[Transfer], next: Slot) -> bool
     true
 }
 
+// Whether the transfers stand by slot, then by phase, then by input, and each is before the next slot.
+fn transfers_in_order(moved: &[Transfer], next: Slot) -> bool
+    ensures { IsTrue result ↔ (AllPairs IsMovedBefore moved.now × AllByRecursion (λ t. t.slot < next) moved.now) }
+{
+    moved_in_order(moved) && are_before(moved, next)
+}
+
 /// Whether all lines stand in order, the cells of a list for one output by their keys, and each departure and each
 /// transfer has its time.
 pub fn in_order(found: &Found, moved: &[Transfer], next: Slot) -> bool
@@ -192,11 +214,8 @@ pub fn in_order(found: &Found, moved: &[Transfer], next: Slot) -> bool
         × SentStand next found.now.sent.items × AllPairs IsMovedBefore moved.now
         × AllByRecursion (λ t. t.slot < next) moved.now) }
 {
-    inputs_in_order(&found.listed)
-        && keys_in_order(&found.listed)
+    lists_in_order(&found.listed)
         && buffers_in_order(&found.buffered)
-        && sent_in_order(&found.sent)
-        && are_timely(&found.sent, next)
-        && moved_in_order(moved)
-        && are_before(moved, next)
+        && departures_in_order(&found.sent, next)
+        && transfers_in_order(moved, next)
 }

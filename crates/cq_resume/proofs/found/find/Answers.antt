@@ -51,17 +51,21 @@ gone_all-requires c =
 pub returns-in_default-buffered-clause-refused : goal.returns-in_default-buffered-clause-refused
 returns-in_default-buffered-clause-refused c =
     let came = c.args.schedule.now.came in
-    let s = c.args.state.now in
-    (refl, buffered_missed came s (subst (λ (l : List Named). SomeMissed came s.head.next l) c.as_slice-2.ensures
-    (none_is _ _ c.in_default-buffered.is c.in_ok-buffered.ensures.none)))
+    let s = c.args.state.now in (
+      refl,
+      buffered_missed came s (subst (λ (l : List Named). SomeMissed came s.head.next l) c.as_slice-2.ensures
+          (none_is _ _ c.in_default-buffered.is c.in_ok-buffered.ensures.none)),
+    )
 
 pub returns-in_default-sent-clause-refused : goal.returns-in_default-sent-clause-refused
 returns-in_default-sent-clause-refused c =
     let came = c.args.schedule.now.came in
-    let s = c.args.state.now in
-    (refl, sent_missed came s
-    (subst (λ (l : List Sent). AllByRecursion (λ d. told_of came s.head.next d.cell ≡ None → ⊥) l → ⊥) c.as_slice-3.ensures
-    (none_is _ _ c.in_default-sent.is c.in_ok-sent.ensures.none)))
+    let s = c.args.state.now in (
+      refl,
+      sent_missed came s
+          (subst (λ (l : List Sent). AllByRecursion (λ d. told_of came s.head.next d.cell ≡ None → ⊥) l → ⊥) c.as_slice-3.ensures
+          (none_is _ _ c.in_default-sent.is c.in_ok-sent.ensures.none)),
+    )
 
 pub returns-then-not-differ-clause-refused : goal.returns-then-not-differ-clause-refused
 returns-then-not-differ-clause-refused c = (

@@ -19,7 +19,7 @@ places-preserved c =
     lanes_next (λ (q : Queued). q.key.input) (λ (q : Queued). q.cell.output) IsBefore c.args.listed.now 64 c.places.at
     c.places.last c.places.invariant _ (omega arith) c.requires.inputs c.begins.result c.begins.ensures c.if-begins.last
     (elim c.if-begins.branch [
-      | then-begins w ↦ inl (w.if-begins.true, w.last-is ∙ w.none_seen.ensures)
+      | then-begins w ↦ inl (w.if-begins.true, w.last-is ∙ w.none_seen-last-then-begins.ensures)
       | else-begins w ↦ inr (w.if-begins.false, w.last-is)
     ])
     (all_at (λ (q : Queued). q.cell.output < 64) c.args.listed.now c.places.at _ (omega arith) c.requires.outputs)
@@ -31,7 +31,7 @@ returns-then-not-may_follow c =
     lanes_stop (λ (q : Queued). q.key.input) (λ (q : Queued). q.cell.output) IsBefore c.args.listed.now 64 c.places.at
     c.places.last c.places.invariant _ (omega arith) c.requires.inputs c.begins.result c.begins.ensures c.if-begins.last
     (elim c.if-begins.branch [
-      | then-begins w ↦ inl (w.if-begins.true, w.last-is ∙ w.none_seen.ensures)
+      | then-begins w ↦ inl (w.if-begins.true, w.last-is ∙ w.none_seen-last-then-begins.ensures)
       | else-begins w ↦ inr (w.if-begins.false, w.last-is)
     ])
     (all_at (λ (q : Queued). q.cell.output < 64) c.args.listed.now c.places.at _ (omega arith) c.requires.outputs)
@@ -40,9 +40,7 @@ returns-then-not-may_follow c =
 pub bounds-last-output : goal.bounds-last-output
 bounds-last-output c =
     let inside = c.places-test.true in
-    let low = all_at (λ (q : Queued). q.cell.output < 64) c.args.listed.now c.places.at _ (omega arith)
-    c.requires.outputs in
-    omega arith
+    all_at (λ (q : Queued). q.cell.output < 64) c.args.listed.now c.places.at _ (omega arith) c.requires.outputs
 
 pub returns : goal.returns
 returns c =
