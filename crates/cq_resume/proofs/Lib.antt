@@ -14,6 +14,7 @@ pub mod Marked
 pub mod Telling
 pub mod Arrived
 pub mod Orders
+pub mod Leaving
 pub mod Ordered
 pub mod Names
 pub mod Flowing

@@ -1,10 +1,8 @@
-use Rattle.std.proofs.Common.{◌*◌, ◌<◌, ◌≤◌, List, Option, inl, inr, sym, ap, ◌∙◌, subst, arith}
-use Rattle.cq_resume.specs.Finding.{IsNameBefore}
+use Rattle.std.proofs.Common.{◌*◌, List, Option, inl, inr, sym, ap, ◌∙◌, subst, arith}
 use Rattle.cq_resume.specs.declared.found.Name.{Name}
-use Rattle.cq_resume.proofs.Chained.{weaker_pairs}
-use Rattle.cq_resume.proofs.Each.{all_at}
-use Rattle.cq_resume.proofs.Lanes.{Lanes, lanes_first, lanes_hold, lanes_next, lanes_stop}
-use Rattle.cq_resume.proofs.Orders.{LeavesFirst, flow_of, flows_as_lanes, input_of, leaves_on, name_inputs, through}
+use Rattle.cq_resume.proofs.Lanes.{Lanes, lanes_first, lanes_hold}
+use Rattle.cq_resume.proofs.Leaving.{flow_next, flow_stops}
+use Rattle.cq_resume.proofs.Orders.{LeavesFirst, flow_of, flows_as_lanes, input_of, through}
 use Rattle.cq_resume.proofs.flows.keep_arrival_order.Goals.{then-begins+in_ok-last-2, else-begins}
 use Rattle.cq_resume.proofs.flows.keep_arrival_order.Goals as goal
 
@@ -17,38 +15,24 @@ places-init c =
 pub places-preserved : goal.places-preserved
 places-preserved c =
     let inside = c.places-test.true in
-    let output = all_at (λ (n : Name). n.queued.cell.output < c.args.ports) c.args.names.now c.places.at _ (omega arith)
-    c.requires.outputs in
-    let class = all_at (λ (n : Name). n.queued.cell.class < 16) c.args.names.now c.places.at _ (omega arith)
-    c.requires.of_classes in
-    lanes_next input_of flow_of LeavesFirst c.args.names.now (c.args.ports * 16) c.places.at c.places.last.items
-    c.places.invariant _ (omega arith)
-    (weaker_pairs IsNameBefore (λ (a b : Name). input_of a ≤ input_of b) name_inputs c.args.names.now c.requires.ordered)
-    c.begins.result c.begins.ensures c.if-begins.last.items
+    flow_next c.args.names.now c.args.ports c.places.at c.places.last.items c.places.invariant _ (omega arith)
+    c.requires.ordered c.requires.outputs c.requires.of_classes c.begins.result c.begins.ensures c.if-begins.last.items
     (elim c.if-begins.branch [
       | then-begins+in_ok-last-2 w ↦ inl (w.if-begins.true, ap (λ v. v.items) w.last-is ∙ w.in_ok-last-2.ensures)
       | else-begins w ↦ inr (w.if-begins.false, ap (λ v. v.items) w.last-is)
     ])
-    (omega arith) c.may_leave.result c.may_leave.ensures leaves_on c.if-not-may_leave.false
+    c.index.result.now c.index.ensures c.may_leave.result c.may_leave.ensures c.if-not-may_leave.false
 
 pub returns-then-not-may_leave : goal.returns-then-not-may_leave
 returns-then-not-may_leave c =
     let inside = c.places-test.true in
-    let output = all_at (λ (n : Name). n.queued.cell.output < c.args.ports) c.args.names.now c.places.at _ (omega arith)
-    c.requires.outputs in
-    let class = all_at (λ (n : Name). n.queued.cell.class < 16) c.args.names.now c.places.at _ (omega arith)
-    c.requires.of_classes in
-    through
-    (lanes_stop input_of flow_of LeavesFirst c.args.names.now (c.args.ports * 16) c.places.at c.places.last.items
-    c.places.invariant _ (omega arith)
-    (weaker_pairs IsNameBefore (λ (a b : Name). input_of a ≤ input_of b) name_inputs c.args.names.now c.requires.ordered)
-    c.begins.result c.begins.ensures c.if-begins.last.items
+    flow_stops c.args.names.now c.args.ports c.places.at c.places.last.items c.places.invariant _ (omega arith)
+    c.requires.ordered c.requires.outputs c.requires.of_classes c.begins.result c.begins.ensures c.if-begins.last.items
     (elim c.if-begins.branch [
       | then-begins+in_ok-last-2 w ↦ inl (w.if-begins.true, ap (λ v. v.items) w.last-is ∙ w.in_ok-last-2.ensures)
       | else-begins w ↦ inr (w.if-begins.false, ap (λ v. v.items) w.last-is)
     ])
-    (omega arith) c.may_leave.result c.may_leave.ensures c.if-not-may_leave.true)
-    (flows_as_lanes c.args.names.now c.requires.of_classes)
+    c.index.result.now c.index.ensures c.may_leave.result c.may_leave.ensures c.if-not-may_leave.true
 
 pub returns : goal.returns
 returns c =
