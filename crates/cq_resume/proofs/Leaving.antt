@@ -1,5 +1,5 @@
--- One name more of those that stand by input and then by slot. It is compared with the last one of its flow; its flow has
--- a number below those that are kept.
+-- One name more of those that stand by input and then by slot. It is compared with the last one of its flow, for which
+-- a place is kept.
 use Rattle.std.proofs.Common.{◌≡◌, ℕ, ◌+◌, ◌*◌, ◌<◌, ◌≤◌, ◌⊎◌, ◌↔◌, Bool, true, false, List, length, map, get_or, set, Option, None, Some, subst, arith}
 use Rattle.std.specs.Prelude.{IfSome}
 use Rattle.std.specs.List.{AllByRecursion, AllPairs}
@@ -13,11 +13,12 @@ use Rattle.cq_resume.proofs.Orders.{LeavesFirst, flow_of, flows_as_lanes, input_
 
 module _ (names : List Name) (ports n : ℕ) (last : List (Option Name))
     (known : Lanes input_of flow_of LeavesFirst names (ports * 16) n last) (e : Name) (inside : n < length names)
-    (ordered : AllPairs IsNameBefore names) (outputs : AllByRecursion (λ (m : Name). m.queued.cell.output < ports) names)
+    (ordered : AllPairs IsNameBefore names)
+    (outputs : AllByRecursion (λ (m : Name). m.queued.cell.output < ports) names)
     (classes : AllByRecursion (λ (m : Name). m.queued.cell.class < 16) names) (begun : Bool)
     (is : begun ≡ begins_at (map input_of names) n) (now : List (Option Name))
     (ways : ((begun ≡ true) × (now ≡ none_seen input_of flow_of LeavesFirst (ports * 16))) ⊎
-        ((begun ≡ false) × (now ≡ last))) where
+    ((begun ≡ false) × (now ≡ last))) where
   abbrev here : Name
   here = get_or names n e
 
@@ -28,10 +29,11 @@ module _ (names : List Name) (ports n : ℕ) (last : List (Option Name))
   fits =
       let output : here.queued.cell.output < ports =
       all_at (λ (m : Name). m.queued.cell.output < ports) names n e inside outputs in
-      let class : here.queued.cell.class < 16 = all_at (λ (m : Name). m.queued.cell.class < 16) names n e inside classes in
+      let class : here.queued.cell.class < 16 =
+      all_at (λ (m : Name). m.queued.cell.class < 16) names n e inside classes in
       omega arith
 
-  pub flow_fits : flow_of here < length now
+  flow_fits : flow_of here < length now
   flow_fits =
       let long : length now ≡ ports * 16 =
       long_now input_of flow_of LeavesFirst names (ports * 16) n last known e inside rising begun is now ways in
@@ -54,5 +56,5 @@ module _ (names : List Name) (ports n : ℕ) (last : List (Option Name))
     pub flow_stops : r ≡ false → (false ≡ true) ↔ FlowsStand names
     flow_stops fails =
         through
-        (lanes_stop input_of flow_of LeavesFirst names (ports * 16) n last known e inside rising begun is now ways fits r
-        test_there fails) (flows_as_lanes names classes)
+        (lanes_stop input_of flow_of LeavesFirst names (ports * 16) n last known e inside rising begun is now ways fits
+        r test_there fails) (flows_as_lanes names classes)

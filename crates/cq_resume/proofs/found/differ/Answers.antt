@@ -11,8 +11,8 @@ pub returns-then-not-is_before : goal.returns-then-not-is_before
 returns-then-not-is_before c =
     let inside = c.places-test.true in
     let least = c.places.auto.at in
-    pairs_fail IsNameBefore c.args.names.now c.places.at _ c.is_before.result (omega arith) (omega arith) c.is_before.ensures
-    c.if-not-is_before.true
+    pairs_fail IsNameBefore c.args.names.now c.places.at _ c.is_before.result (omega arith)
+    (omega arith) c.is_before.ensures c.if-not-is_before.true
 
 pub places-preserved : goal.places-preserved
 places-preserved c =

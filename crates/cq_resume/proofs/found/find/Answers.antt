@@ -43,7 +43,8 @@ told_all-requires-2 c =
 pub gone_all-requires : goal.gone_all-requires
 gone_all-requires c =
     let s = c.args.state.now in
-    subst (λ (l : List Sent). AllByRecursion (λ d. d.cell.input < c.args.schedule.now.ports) l) (sym c.as_slice-3.ensures)
+    subst (λ (l : List Sent). AllByRecursion (λ d. d.cell.input < c.args.schedule.now.ports) l)
+    (sym c.as_slice-3.ensures)
     (images_held (λ (d : Sent). d.cell) (λ (n : Named). n.input < c.args.schedule.now.ports) s.sent
     (all_right (λ (n : Named). n.input < c.args.schedule.now.ports) (s.listed ++ s.buffered)
     (map (λ (d : Sent). d.cell) s.sent) c.requires))
@@ -63,8 +64,8 @@ returns-in_default-sent-clause-refused c =
     let s = c.args.state.now in (
       refl,
       sent_missed came s
-          (subst (λ (l : List Sent). AllByRecursion (λ d. told_of came s.head.next d.cell ≡ None → ⊥) l → ⊥) c.as_slice-3.ensures
-          (none_is _ _ c.in_default-sent.is c.in_ok-sent.ensures.none)),
+          (subst (λ (l : List Sent). AllByRecursion (λ d. told_of came s.head.next d.cell ≡ None → ⊥) l → ⊥)
+          c.as_slice-3.ensures (none_is _ _ c.in_default-sent.is c.in_ok-sent.ensures.none)),
     )
 
 pub returns-then-not-differ-clause-refused : goal.returns-then-not-differ-clause-refused

@@ -11,8 +11,8 @@ pub returns-then-not-is_no_later : goal.returns-then-not-is_no_later
 returns-then-not-is_no_later c =
     let inside = c.places-test.true in
     let least = c.places.auto.at in
-    pairs_fail IsNoLaterInput c.args.listed.now c.places.at _ c.is_no_later.result (omega arith) (omega arith) c.is_no_later.ensures
-    c.if-not-is_no_later.true
+    pairs_fail IsNoLaterInput c.args.listed.now c.places.at _ c.is_no_later.result (omega arith)
+    (omega arith) c.is_no_later.ensures c.if-not-is_no_later.true
 
 pub places-preserved : goal.places-preserved
 places-preserved c =

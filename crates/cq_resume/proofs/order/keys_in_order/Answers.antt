@@ -9,8 +9,8 @@ use Rattle.cq_resume.proofs.order.keys_in_order.Goals as goal
 
 pub places-init : goal.places-init
 places-init c =
-    subst (λ (l : List (Option Queued)). Lanes (λ q. q.key.input) (λ q. q.cell.output) IsBefore c.args.listed.now 64 0 l)
-    (sym c.none_seen-last.ensures)
+    subst (λ (l : List (Option Queued)). Lanes (λ q. q.key.input) (λ q. q.cell.output) IsBefore c.args.listed.now 64 0
+    l) (sym c.none_seen-last.ensures)
     (lanes_first (λ (q : Queued). q.key.input) (λ (q : Queued). q.cell.output) IsBefore c.args.listed.now 64)
 
 pub places-preserved : goal.places-preserved

@@ -11,8 +11,8 @@ pub returns-then-not-is_moved_before : goal.returns-then-not-is_moved_before
 returns-then-not-is_moved_before c =
     let inside = c.places-test.true in
     let least = c.places.auto.at in
-    pairs_fail IsMovedBefore c.args.moved.now c.places.at _ c.is_moved_before.result (omega arith) (omega arith) c.is_moved_before.ensures
-    c.if-not-is_moved_before.true
+    pairs_fail IsMovedBefore c.args.moved.now c.places.at _ c.is_moved_before.result (omega arith)
+    (omega arith) c.is_moved_before.ensures c.if-not-is_moved_before.true
 
 pub places-preserved : goal.places-preserved
 places-preserved c =

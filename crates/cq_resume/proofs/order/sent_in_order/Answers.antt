@@ -11,8 +11,8 @@ pub returns-then-not-is_sent_before : goal.returns-then-not-is_sent_before
 returns-then-not-is_sent_before c =
     let inside = c.places-test.true in
     let least = c.places.auto.at in
-    pairs_fail IsSentBefore c.args.sent.now c.places.at _ c.is_sent_before.result (omega arith) (omega arith) c.is_sent_before.ensures
-    c.if-not-is_sent_before.true
+    pairs_fail IsSentBefore c.args.sent.now c.places.at _ c.is_sent_before.result (omega arith)
+    (omega arith) c.is_sent_before.ensures c.if-not-is_sent_before.true
 
 pub places-preserved : goal.places-preserved
 places-preserved c =
