@@ -8,6 +8,7 @@ pub mod Halved
 pub mod Lanes
 pub mod Threads
 pub mod Copied
+pub mod Placed
 pub mod Coming
 pub mod Walking
 pub mod Marked
@@ -27,6 +28,7 @@ pub mod Scheduling
 pub mod Ranged
 pub mod Verdict
 pub mod Departed
+pub mod Departing
 pub mod Continued
 pub mod Joining
 pub mod Judged
