@@ -30,7 +30,9 @@ pub mod Verdict
 pub mod Departed
 pub mod Departing
 pub mod Continued
+pub mod Written
 pub mod Joining
 pub mod Judged
+pub mod Stepped
 pub mod Pooled
 pub mod GoesOn

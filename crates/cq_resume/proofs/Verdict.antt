@@ -1,8 +1,10 @@
 -- Which clause is the first that fails: those before it hold. And a state of which all hold is sound. Each clause is
 -- said of found cells, and so of the names.
-use Rattle.std.proofs.Common.{ℕ, zero, suc, ◌<◌, arith}
-use Rattle.cq_resume.specs.Sound.{AreArrivals, AreBelowFloors, AreWholePackets, Clause, HaveSlack, IsFirstUnsound, IsSound, KeepArrivalOrder, StandInOrder}
+use Rattle.std.proofs.Common.{◌≡◌, ℕ, zero, suc, ◌<◌, sym, subst, arith}
+use Rattle.cq_resume.specs.Sound.{AreArrivals, AreBelowFloors, AreWholePackets, Clause, HaveSlack, IsFirstOf, IsFirstUnsound, IsSound, KeepArrivalOrder, StandInOrder}
 use Rattle.cq_resume.specs.Switch.{Switch}
+use Rattle.cq_resume.specs.declared.refusal.StateRefusal.{StateRefusal}
+use Rattle.cq_resume.specs.declared.refusal.StateRefusal.TheVariants as refusal
 use Rattle.cq_state.specs.declared.state.State.{State}
 
 module _ (w : Switch) (s : State) where
@@ -12,6 +14,10 @@ module _ (w : Switch) (s : State) where
       before : (n : ℕ) → n < 1 → Clause w s n
       before zero lt = tt
       before (suc n) lt = absurd (omega arith)
+
+  -- a refusal that names the first clause that fails
+  pub refused_for : (k : ℕ) (r : StateRefusal) → r ≡ refusal.Unsound k → IsFirstUnsound w s k → IsFirstOf w s r
+  refused_for k r is first = subst (IsFirstOf w s) (sym is) first
 
   module _ (arrivals : AreArrivals w.came s) where
     pub first_two : (StandInOrder w s → ⊥) → IsFirstUnsound w s 2

@@ -1,9 +1,9 @@
 //! Writes a stopped run as the text of its state.
-ghost use Rattle.std.specs.Prelude.{◌≡◌, ◌≤◌, ◌^◌, ◌++◌, IfErr, IfOk, OnOk, length, map};
+ghost use Rattle.std.specs.Prelude.{◌≡◌, ◌<◌, ◌≤◌, ◌^◌, ◌++◌, IfErr, IfOk, OnOk, length, map};
 ghost use Rattle.std.specs.List.{flat_map};
 ghost use Rattle.cq_resume.specs.Reading.{named_as, seen_as, sent_as, state_of};
 ghost use Rattle.cq_state.specs.Refusals.{IsTooLong};
-ghost use Rattle.cq_state.specs.State.{IsInRange, state_text};
+ghost use Rattle.cq_state.specs.State.{state_text};
 
 use crate::Frozen;
 use cq_base::{Departure, InputFigures, NoMemory, Port, Queued, Sequence, Transfer};
@@ -115,7 +115,7 @@ fn all_moved(alloc: Global, note: &[Transfer]) -> Result<Sequence<Transfer>, NoM
 }
 
 /// The text of a stopped run: its frozen state, its departures and its transfers so far, the stamp from which slots are
-/// counted, how many classes there are, and how many cells the schedule has.
+/// counted, how many classes there are, and how many cells the schedule has. There is a list for each port.
 ///
 /// - `Long`: the text would have more than 268,435,456 bytes.
 /// - `NoMemory`: there was not the memory for it.
@@ -128,13 +128,15 @@ pub fn state_bytes(
     classes: u16,
     total: u64,
 ) -> Result<Vec<u8>, StateLong>
+    requires ports { length frozen.now.lists < 2 ^ 16 }
     ensures text { IfOk result (λ text. text.items ≡ state_text (state_of frozen.now sent.now note.now t0 classes total)) }
     ensures short { IfOk result (λ text. length text.items ≤ 2 ^ 28) }
     ensures long { IfErr result (IsTooLong (state_text (state_of frozen.now sent.now note.now t0 classes total))) }
 {
+    let ports = frozen.lists.as_slice().len() as Port;
     let head = Head {
         next: frozen.next,
-        ports: frozen.lists.as_slice().len() as Port,
+        ports,
         classes,
         t0,
         total,
