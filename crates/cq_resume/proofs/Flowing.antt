@@ -2,7 +2,7 @@
 -- names by input and slot, each and each later one; or of any two that stand among the lines. Of departures it says
 -- that they were sent in the order of arrival, since those of one output stand by the slots in which they were sent.
 use Rattle.std.proofs.Common.{◌≡◌, ℕ, ◌<◌, ◌≤◌, ◌⊎◌, eqb, true, false, List, [], ◌∷◌, ◌++◌, length, map, get_or, sym, ap, ◌∙◌, subst, inl, inr, ⊎_elim, arith}
-use Rattle.std.specs.Prelude.{All, Contains, IsPermutation}
+use Rattle.std.specs.Prelude.{All, IsPermutation}
 use Rattle.std.specs.List.{AllByRecursion, AllPairs, AllZip}
 use Rattle.std.proofs.lemmas.Bool.{and_from, cases_eq, cases_lt, cases_order, eq-eqb}
 use Rattle.std.proofs.lemmas.List.{get_or_default}

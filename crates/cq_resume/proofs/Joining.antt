@@ -2,7 +2,7 @@
 -- ones of the run, and the others go on from there to the same end. Where it is stopped later, nothing waits any more
 -- and nothing comes, and the slots behind the end add nothing. A tag fault of the run comes behind the slots that were
 -- done, for these had none.
-use Rattle.std.proofs.Common.{◌≡◌, ℕ, zero, suc, ◌+◌, ◌-◌, ◌<◌, ◌≤◌, Bool, List, [], ◌∷◌, ◌++◌, length, map, take, drop, fold, flat_map, replicate, Option, refl, sym, ap, ◌∙◌, subst, ⊎_elim, append_assoc, length-drop, arith}
+use Rattle.std.proofs.Common.{◌≡◌, ℕ, zero, suc, ◌+◌, ◌-◌, ◌<◌, ◌≤◌, Bool, List, [], ◌∷◌, ◌++◌, length, take, drop, fold, replicate, Option, refl, sym, ap, ◌∙◌, subst, ⊎_elim, append_assoc, length-drop, arith}
 use Rattle.std.proofs.lemmas.Bool.{cases_lt}
 use Rattle.std.proofs.lemmas.List.{append-nil, length-map, map-append, take-append-drop, take_all}
 use Rattle.std.proofs.lemmas.List.Concat.{flat_map-append}

@@ -1,7 +1,7 @@
 -- The fourth clause, of the names that were found, input by input. At each input the cells that arrive before the next
 -- slot are those of packets one after another, so that each packet is named whole, or not at all, says it of any two of
 -- them; and the packet that began last is that of the last cell.
-use Rattle.std.proofs.Common.{◌≡◌, ℕ, ◌<◌, ◌≤◌, ◌⊎◌, eqb, leb, ltb, Bool, true, false, cond, List, [], ◌∷◌, fold, Option, None, Some, refl, sym, ap, ◌∙◌, subst, inl, inr, ⊎_elim, arith}
+use Rattle.std.proofs.Common.{◌≡◌, ℕ, ◌<◌, ◌≤◌, eqb, leb, ltb, Bool, true, false, cond, List, [], ◌∷◌, fold, Option, None, Some, refl, sym, ap, ◌∙◌, subst, inl, inr, ⊎_elim, arith}
 use Rattle.std.specs.Prelude.{◌&&◌, ◌==◌, filter, is_some, nat_lt, not, slice_index_or}
 use Rattle.std.specs.List.{list_any}
 use Rattle.std.proofs.lemmas.Bool.{and_from, and_parts, and_right, cases_Bool, cases_lt, eq-eqb, eqb-true, le-leb, le-ltb, lt-ltb, ltb-true, ne_eqb, or_from, or_left, or_right}

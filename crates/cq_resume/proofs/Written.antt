@@ -7,7 +7,6 @@ use Rattle.cq_resume.specs.Reading.{named_as, seen_as, sent_as, state_of}
 use Rattle.cq_state.specs.declared.state.Named.{Named}
 use Rattle.cq_state.specs.declared.state.Seen.{Seen}
 use Rattle.cq_state.specs.declared.state.Sent.{Sent}
-use Rattle.cq_state.specs.declared.state.State.{State}
 
 pub told_is : (x : Frozen) (sent : List Departure) (note : List Transfer) (t0 ports classes total : ℕ)
     (inputs : List Seen) (ranks : List (List ℕ)) (listed buffered : List Named) (lines : List Sent)
