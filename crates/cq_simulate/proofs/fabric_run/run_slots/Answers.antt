@@ -1,4 +1,4 @@
-use Rattle.std.proofs.Common.{◌≡◌, ◌≤◌, true, zero, refl, ap, sym, ◌∙◌, arith, ◌+◌, ◌-◌}
+use Rattle.std.proofs.Common.{◌≡◌, ◌+◌, ◌-◌, ◌<◌, ◌≤◌, ◌^◌, true, zero, refl, ap, sym, ◌∙◌, arith}
 use Rattle.std.specs.Result.{is_err}
 use Rattle.std.proofs.lemmas.Result.{err_from_is_err_and}
 use Rattle.cq_base.specs.Arriving.{end_of}
@@ -262,6 +262,34 @@ returns-in_err-slot-clause-fault g c =
           c.arrivals_near-arrivals.result c.in_err-slot.field-0.0 zero count (omega arith)
           c.arrivals_near-arrivals.ensures (sym c.in_err-slot.was ∙ c.slot.ensures.answer);
     })
+
+pub overflow_add-slot : goal.overflow_add-slot
+overflow_add-slot g c =
+    let came = c.args.schedule.now.came in
+    let more : true ≡ true → end_of came ≤ c.slots.slot → IsEmptyFabric c.slots.engine.fabric → ⊥ = λ _.
+    goes_on c.is_over.result (end_of came) c.slots.slot (IsEmptyFabric c.slots.engine.fabric) c.slots-test.true
+    c.is_over.ensures in
+    let first = c.args.engine.now in
+    let end = over_by came first.next in
+    let few = over_few came first.next c.requires.ready.early c.requires.ready.short c.requires.ready.few in
+    let some = a_slot_left true end g.R.Rank.machine came first c.args.sent.now c.args.note.now c.requires.ready few
+    c.slots.slot c.slots.engine c.slots.sent c.slots.note c.slots.invariant refl (more refl) in
+    let ends = ends_in came first.next in
+    let late = c.skip-slot.ensures.quiet.late in
+    let within = skipped_within came c.slots.slot c.skip-slot.result end c.skip-slot.ensures.quiet ends (omega arith) in
+    let now = at_rest true end g.R.Rank.machine came first c.args.sent.now c.args.note.now c.requires.ready few
+    c.slots.slot c.skip-slot.result c.slots.engine c.skip-slot.new.engine c.slots.sent c.slots.note c.slots.invariant
+    late within c.skip-slot.ensures.quiet.none (λ _ lt. c.skip-slot.ensures.quiet.more lt) c.skip-slot.ensures.rested in
+    let going = more_at_rest true end g.R.Rank.machine came first c.args.sent.now c.args.note.now c.requires.ready few
+    c.slots.slot c.skip-slot.result c.slots.engine c.skip-slot.new.engine c.slots.sent c.slots.note c.slots.invariant
+    late within c.skip-slot.ensures.quiet.none (λ _ lt. c.skip-slot.ensures.quiet.more lt) c.skip-slot.ensures.rested
+    more in
+    let left = a_slot_left true end g.R.Rank.machine came first c.args.sent.now c.args.note.now c.requires.ready few
+    c.skip-slot.result c.skip-slot.new.engine c.slots.sent c.slots.note now refl (going refl) in
+    let fits : c.skip-slot.result < 2 ^ 64 - 1 =
+    early true end g.R.Rank.machine came first c.args.sent.now c.args.note.now c.requires.ready few
+    c.skip-slot.result c.skip-slot.new.engine c.slots.sent c.slots.note now going left in
+    omega arith
 
 pub slots-smaller : goal.slots-smaller
 slots-smaller g c =
