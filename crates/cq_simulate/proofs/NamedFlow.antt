@@ -1,7 +1,7 @@
 -- Of each flow the cells that a sound state names, those that were sent and then those that wait, are the arrivals that it names
 -- before its next slot, in their order. Both lists rise by the slots in which their cells arrived, and have the same cells: of a
 -- flow there arrives one cell in a slot at most.
-use Rattle.std.proofs.Common.{◌≡◌, ◌≢◌, ◌⊎◌, ℕ, ◌<◌, ◌≤◌, Bool, true, false, List, [], ◌∷◌, ◌++◌, length, map, filter, Option, Some, None, refl, sym, ap, ◌∙◌, subst, inl, inr, ⊎_elim, arith}
+use Rattle.std.proofs.Common.{◌≡◌, ◌≢◌, ℕ, ◌<◌, ◌≤◌, Bool, true, false, List, [], ◌∷◌, ◌++◌, length, map, filter, Option, Some, None, refl, sym, ap, ◌∙◌, subst, inl, inr, ⊎_elim, arith}
 use Rattle.std.specs.Prelude.{◌&&◌, ◌==◌, ◌||◌, All, option_map}
 use Rattle.std.specs.List.{AllByRecursion, AllPairs, cons_option, filter_map, list_any}
 use Rattle.std.proofs.lemmas.Bool.{and_from, and_parts, cases_Bool, cases_lt, eq-eqb, eqb-true, lt-ltb, ltb-true, or_left, or_right, true≢false}

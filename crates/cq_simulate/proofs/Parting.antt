@@ -1,6 +1,6 @@
 -- What a run up to a slot of a fabric that is made for tables says of the tables: the state in which it stands still, with what was
 -- kept, or the tag fault at which it stops.
-use Rattle.std.proofs.Common.{◌≡◌, ℕ, ◌+◌, ◌-◌, List, [], ◌++◌, length, map, Option, sym, ap, ◌∙◌, subst, arith}
+use Rattle.std.proofs.Common.{◌≡◌, ℕ, ◌-◌, List, [], ◌++◌, length, map, Option, sym, ap, ◌∙◌, subst, arith}
 use Rattle.std.specs.Prelude.{fold}
 use Rattle.std.proofs.lemmas.List.{length-map}
 use Rattle.cq_base.specs.Room.{RoomView}

@@ -156,7 +156,8 @@ returns-clause-run g c =
           seen.refused;
     })
     c.in_ok-ranks.ensures.states
-    (has_run (map machine_from engine.fixed) came engine c.in_ok-sent.sent c.in_ok-note.note ready c.run_slots.new.engine
+    (has_run (map machine_from engine.fixed) came engine c.in_ok-sent.sent c.in_ok-note.note ready
+    c.run_slots.new.engine
     c.run_slots.new.sent c.run_slots.new.note c.in_ok-run_slots.ensures.run) refl refl c.into_seen-seen.ensures.figures
     c.into_seen-seen.ensures.refused
 

@@ -13,7 +13,8 @@ slots-init g c =
     let first = c.args.engine.now in
     let few = over_few came first.next c.requires.ready.early c.requires.ready.short c.requires.ready.few in
     rw c.next-slot.ensures
-    (at_first true (over_by came first.next) g.R.Rank.machine came first c.args.sent.now c.args.note.now c.requires.ready
+    (at_first true (over_by came first.next) g.R.Rank.machine came first c.args.sent.now c.args.note.now
+    c.requires.ready
     few (starts_in came first.next) (λ _. refl))
 
 pub slot-requires-clause-early : goal.slot-requires-clause-early
@@ -358,5 +359,6 @@ returns-clause-run g c =
     let came = c.args.schedule.now.came in
     let first = c.args.engine.now in
     let few = over_few came first.next c.requires.ready.early c.requires.ready.short c.requires.ready.few in
-    at_end true (over_by came first.next) g.R.Rank.machine came first c.args.sent.now c.args.note.now c.requires.ready few
+    at_end true (over_by came first.next) g.R.Rank.machine came first c.args.sent.now c.args.note.now c.requires.ready
+    few
     c.slots.slot c.slots.engine c.slots.sent c.slots.note c.slots.invariant refl over.0 over.1

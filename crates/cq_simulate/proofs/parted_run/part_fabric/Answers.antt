@@ -108,13 +108,15 @@ returns-in_err-run_before-clause-refused g c =
     (c.in_ok-sent.ensures.spare ∙ omega (arith, len, c.total-total.ensures.cells))
     c.in_ok-note.ensures.items
     (c.in_ok-note.ensures.spare ∙ omega (arith, len, c.total-total.ensures.cells)) in
-    let built = built_for machine_from t (map fixed_of items) (map state_of items) _ engine c.in_ok-ranks.ensures.machines
+    let built = built_for machine_from t (map fixed_of items) (map state_of items) _ engine
+    c.in_ok-ranks.ensures.machines
     c.as_slice-3.ensures c.in_ok-engine.ensures.fixed c.in_ok-engine.ensures.limits c.in_ok-engine.ensures.fabric
     c.in_ok-engine.ensures.marks (length-map items fixed_of) in
     let p = err_from_is_err_and c.from_residual-in_err-run_before.result c.from_residual-in_err-run_before.ensures.1 in
     rw (p.1, p.2)
     (part_fault machine_from t c.args.schedule.now (length items) (map state_of items) engine built
-    c.in_ok-ranks.ensures.states c.in_ok-sent.sent c.in_ok-note.note ready c.args.slots _ c.in_err-run_before.ensures.fault)
+    c.in_ok-ranks.ensures.states c.in_ok-sent.sent c.in_ok-note.note ready c.args.slots _
+    c.in_err-run_before.ensures.fault)
 
 pub returns-clause-parted : goal.returns-clause-parted
 returns-clause-parted g c =
@@ -147,9 +149,11 @@ returns-clause-parted g c =
     (c.in_ok-sent.ensures.spare ∙ omega (arith, len, c.total-total.ensures.cells))
     c.in_ok-note.ensures.items
     (c.in_ok-note.ensures.spare ∙ omega (arith, len, c.total-total.ensures.cells)) in
-    let built = built_for machine_from t (map fixed_of items) (map state_of items) _ engine c.in_ok-ranks.ensures.machines
+    let built = built_for machine_from t (map fixed_of items) (map state_of items) _ engine
+    c.in_ok-ranks.ensures.machines
     c.as_slice-3.ensures c.in_ok-engine.ensures.fixed c.in_ok-engine.ensures.limits c.in_ok-engine.ensures.fabric
     c.in_ok-engine.ensures.marks (length-map items fixed_of) in
     parted_of machine_from t c.args.schedule.now (length items) (map state_of items) engine built
     c.in_ok-ranks.ensures.states c.in_ok-sent.sent c.in_ok-note.note ready c.args.slots c.run_before.new.engine
-    c.run_before.new.sent c.run_before.new.note c.in_ok-frozen.frozen c.in_ok-run_before.ensures.run c.in_ok-frozen.ensures
+    c.run_before.new.sent c.run_before.new.note c.in_ok-frozen.frozen c.in_ok-run_before.ensures.run
+    c.in_ok-frozen.ensures

@@ -5,16 +5,19 @@ use Rattle.cq_simulate.proofs.parted_run.quiet_before.Goals as goal
 
 pub returns-clause-late : goal.returns-clause-late
 returns-clause-late c =
-    (before_both c.args.schedule.now.came c.args.slot c.args.last _ c.next_arrival.result c.next_arrival.ensures c.requires
+    (before_both c.args.schedule.now.came c.args.slot c.args.last _ c.next_arrival.result c.next_arrival.ensures
+    c.requires
     (c.min.ensures ∙ ap (λ (n : ℕ). min n c.args.last) c.unwrap_or.ensures)).late
 
 pub returns-clause-within : goal.returns-clause-within
 returns-clause-within c =
-    (before_both c.args.schedule.now.came c.args.slot c.args.last _ c.next_arrival.result c.next_arrival.ensures c.requires
+    (before_both c.args.schedule.now.came c.args.slot c.args.last _ c.next_arrival.result c.next_arrival.ensures
+    c.requires
     (c.min.ensures ∙ ap (λ (n : ℕ). min n c.args.last) c.unwrap_or.ensures)).within
 
 pub returns-clause-none : goal.returns-clause-none
 returns-clause-none c =
     none_up_to c.args.schedule.now.came c.args.slot c.min.result c.next_arrival.result c.next_arrival.ensures
-    (before_both c.args.schedule.now.came c.args.slot c.args.last _ c.next_arrival.result c.next_arrival.ensures c.requires
+    (before_both c.args.schedule.now.came c.args.slot c.args.last _ c.next_arrival.result c.next_arrival.ensures
+    c.requires
     (c.min.ensures ∙ ap (λ (n : ℕ). min n c.args.last) c.unwrap_or.ensures)).no_later

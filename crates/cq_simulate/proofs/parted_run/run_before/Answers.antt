@@ -14,7 +14,8 @@ slots-init g c =
     let few : last ≤ 2 ^ 63 + 2 ^ 36 = omega arith in
     rw c.next-slot.ensures
     (record {
-      crossing = at_first false last g.R.Rank.machine came first c.args.sent.now c.args.note.now ready few c.requires.ready.next (λ is. never is);
+      crossing = at_first false last g.R.Rank.machine came first c.args.sent.now c.args.note.now ready few
+          c.requires.ready.next (λ is. never is);
       before = c.requires.ready.next;
     })
 
@@ -37,7 +38,8 @@ slot-requires-clause-early g c =
     let few : last ≤ 2 ^ 63 + 2 ^ 36 = omega arith in
     let now = at_rest false last g.R.Rank.machine came first c.args.sent.now c.args.note.now ready few
     c.slots.slot c.skip_before-slot.result c.slots.engine c.skip_before-slot.new.engine c.slots.sent c.slots.note
-    c.slots.invariant.crossing c.skip_before-slot.ensures.late c.skip_before-slot.ensures.within c.skip_before-slot.ensures.none
+    c.slots.invariant.crossing c.skip_before-slot.ensures.late c.skip_before-slot.ensures.within
+    c.skip_before-slot.ensures.none
     (λ is lt. never is) c.skip_before-slot.ensures.rested in
     λ _ _. is_early false last g.R.Rank.machine came first c.args.sent.now c.args.note.now ready few
     c.skip_before-slot.result c.skip_before-slot.new.engine c.slots.sent c.slots.note now (λ is late empty. never is)
@@ -53,7 +55,8 @@ slot-requires-clause-arrivals g c =
     let few : last ≤ 2 ^ 63 + 2 ^ 36 = omega arith in
     let now = at_rest false last g.R.Rank.machine came first c.args.sent.now c.args.note.now ready few
     c.slots.slot c.skip_before-slot.result c.slots.engine c.skip_before-slot.new.engine c.slots.sent c.slots.note
-    c.slots.invariant.crossing c.skip_before-slot.ensures.late c.skip_before-slot.ensures.within c.skip_before-slot.ensures.none
+    c.slots.invariant.crossing c.skip_before-slot.ensures.late c.skip_before-slot.ensures.within
+    c.skip_before-slot.ensures.none
     (λ is lt. never is) c.skip_before-slot.ensures.rested in
     λ _ _. arrivals_fit false last g.R.Rank.machine came first c.args.sent.now c.args.note.now ready few
     c.skip_before-slot.result c.skip_before-slot.new.engine c.slots.sent c.slots.note now (λ is late empty. never is)
@@ -70,7 +73,8 @@ slot-requires-clause-list_room g c =
     let few : last ≤ 2 ^ 63 + 2 ^ 36 = omega arith in
     let now = at_rest false last g.R.Rank.machine came first c.args.sent.now c.args.note.now ready few
     c.slots.slot c.skip_before-slot.result c.slots.engine c.skip_before-slot.new.engine c.slots.sent c.slots.note
-    c.slots.invariant.crossing c.skip_before-slot.ensures.late c.skip_before-slot.ensures.within c.skip_before-slot.ensures.none
+    c.slots.invariant.crossing c.skip_before-slot.ensures.late c.skip_before-slot.ensures.within
+    c.skip_before-slot.ensures.none
     (λ is lt. never is) c.skip_before-slot.ensures.rested in
     λ _ _. list_room false last g.R.Rank.machine came first c.args.sent.now c.args.note.now ready few
     c.skip_before-slot.result c.skip_before-slot.new.engine c.slots.sent c.slots.note now (λ is late empty. never is)
@@ -87,7 +91,8 @@ slot-requires-clause-buffer_room g c =
     let few : last ≤ 2 ^ 63 + 2 ^ 36 = omega arith in
     let now = at_rest false last g.R.Rank.machine came first c.args.sent.now c.args.note.now ready few
     c.slots.slot c.skip_before-slot.result c.slots.engine c.skip_before-slot.new.engine c.slots.sent c.slots.note
-    c.slots.invariant.crossing c.skip_before-slot.ensures.late c.skip_before-slot.ensures.within c.skip_before-slot.ensures.none
+    c.slots.invariant.crossing c.skip_before-slot.ensures.late c.skip_before-slot.ensures.within
+    c.skip_before-slot.ensures.none
     (λ is lt. never is) c.skip_before-slot.ensures.rested in
     λ _ _. buffer_room false last g.R.Rank.machine came first c.args.sent.now c.args.note.now ready few
     c.skip_before-slot.result c.skip_before-slot.new.engine c.slots.sent c.slots.note now (λ is late empty. never is)
@@ -104,7 +109,8 @@ slot-requires-clause-refused g c =
     let few : last ≤ 2 ^ 63 + 2 ^ 36 = omega arith in
     let now = at_rest false last g.R.Rank.machine came first c.args.sent.now c.args.note.now ready few
     c.slots.slot c.skip_before-slot.result c.slots.engine c.skip_before-slot.new.engine c.slots.sent c.slots.note
-    c.slots.invariant.crossing c.skip_before-slot.ensures.late c.skip_before-slot.ensures.within c.skip_before-slot.ensures.none
+    c.slots.invariant.crossing c.skip_before-slot.ensures.late c.skip_before-slot.ensures.within
+    c.skip_before-slot.ensures.none
     (λ is lt. never is) c.skip_before-slot.ensures.rested in
     λ _ _. can_refuse false last g.R.Rank.machine came first c.args.sent.now c.args.note.now ready few
     c.skip_before-slot.result c.skip_before-slot.new.engine c.slots.sent c.slots.note now (λ is late empty. never is)
@@ -120,7 +126,8 @@ slot-requires-clause-sent g c =
     let few : last ≤ 2 ^ 63 + 2 ^ 36 = omega arith in
     let now = at_rest false last g.R.Rank.machine came first c.args.sent.now c.args.note.now ready few
     c.slots.slot c.skip_before-slot.result c.slots.engine c.skip_before-slot.new.engine c.slots.sent c.slots.note
-    c.slots.invariant.crossing c.skip_before-slot.ensures.late c.skip_before-slot.ensures.within c.skip_before-slot.ensures.none
+    c.slots.invariant.crossing c.skip_before-slot.ensures.late c.skip_before-slot.ensures.within
+    c.skip_before-slot.ensures.none
     (λ is lt. never is) c.skip_before-slot.ensures.rested in
     λ _ _. sent_room false last g.R.Rank.machine came first c.args.sent.now c.args.note.now ready few
     c.skip_before-slot.result c.skip_before-slot.new.engine c.slots.sent c.slots.note now (λ is late empty. never is)
@@ -136,7 +143,8 @@ slot-requires-clause-note g c =
     let few : last ≤ 2 ^ 63 + 2 ^ 36 = omega arith in
     let now = at_rest false last g.R.Rank.machine came first c.args.sent.now c.args.note.now ready few
     c.slots.slot c.skip_before-slot.result c.slots.engine c.skip_before-slot.new.engine c.slots.sent c.slots.note
-    c.slots.invariant.crossing c.skip_before-slot.ensures.late c.skip_before-slot.ensures.within c.skip_before-slot.ensures.none
+    c.slots.invariant.crossing c.skip_before-slot.ensures.late c.skip_before-slot.ensures.within
+    c.skip_before-slot.ensures.none
     (λ is lt. never is) c.skip_before-slot.ensures.rested in
     λ _ _. note_room false last g.R.Rank.machine came first c.args.sent.now c.args.note.now ready few
     c.skip_before-slot.result c.skip_before-slot.new.engine c.slots.sent c.slots.note now (λ is late empty. never is)
@@ -152,7 +160,8 @@ slot-requires-clause-proposals g c =
     let few : last ≤ 2 ^ 63 + 2 ^ 36 = omega arith in
     let now = at_rest false last g.R.Rank.machine came first c.args.sent.now c.args.note.now ready few
     c.slots.slot c.skip_before-slot.result c.slots.engine c.skip_before-slot.new.engine c.slots.sent c.slots.note
-    c.slots.invariant.crossing c.skip_before-slot.ensures.late c.skip_before-slot.ensures.within c.skip_before-slot.ensures.none
+    c.slots.invariant.crossing c.skip_before-slot.ensures.late c.skip_before-slot.ensures.within
+    c.skip_before-slot.ensures.none
     (λ is lt. never is) c.skip_before-slot.ensures.rested in
     λ _ _. proposals_fit false last g.R.Rank.machine came first c.args.sent.now c.args.note.now ready few
     c.skip_before-slot.result c.skip_before-slot.new.engine c.slots.sent c.slots.note now (λ is late empty. never is)
@@ -169,14 +178,17 @@ returns-in_err-slot-clause-fault g c =
     let few : last ≤ 2 ^ 63 + 2 ^ 36 = omega arith in
     let now = at_rest false last g.R.Rank.machine came first c.args.sent.now c.args.note.now ready few
     c.slots.slot c.skip_before-slot.result c.slots.engine c.skip_before-slot.new.engine c.slots.sent c.slots.note
-    c.slots.invariant.crossing c.skip_before-slot.ensures.late c.skip_before-slot.ensures.within c.skip_before-slot.ensures.none
+    c.slots.invariant.crossing c.skip_before-slot.ensures.late c.skip_before-slot.ensures.within
+    c.skip_before-slot.ensures.none
     (λ is lt. never is) c.skip_before-slot.ensures.rested in
     let starts = c.requires.ready.next in
     let left = c.if-slot-last.false in
     rw (p.1, p.2)
     (at_fault false last g.R.Rank.machine came first c.args.sent.now c.args.note.now ready few
-    c.skip_before-slot.result c.skip_before-slot.new.engine c.slots.sent c.slots.note now (λ is late empty. never is) left
-    c.arrivals_near-arrivals.result c.in_err-slot.field-0.0 (last - (c.skip_before-slot.result + 1)) (last - first.next) (omega arith)
+    c.skip_before-slot.result c.skip_before-slot.new.engine c.slots.sent c.slots.note now (λ is late empty. never is)
+    left
+    c.arrivals_near-arrivals.result c.in_err-slot.field-0.0 (last - (c.skip_before-slot.result + 1))
+    (last - first.next) (omega arith)
     c.arrivals_near-arrivals.ensures (sym c.in_err-slot.was ∙ c.slot.ensures.answer))
 
 pub slots-smaller : goal.slots-smaller
@@ -195,14 +207,17 @@ slots-preserved g c =
     let few : last ≤ 2 ^ 63 + 2 ^ 36 = omega arith in
     let now = at_rest false last g.R.Rank.machine came first c.args.sent.now c.args.note.now ready few
     c.slots.slot c.skip_before-slot.result c.slots.engine c.skip_before-slot.new.engine c.slots.sent c.slots.note
-    c.slots.invariant.crossing c.skip_before-slot.ensures.late c.skip_before-slot.ensures.within c.skip_before-slot.ensures.none
+    c.slots.invariant.crossing c.skip_before-slot.ensures.late c.skip_before-slot.ensures.within
+    c.skip_before-slot.ensures.none
     (λ is lt. never is) c.skip_before-slot.ensures.rested in
     let left = c.if-slot-last.false in
     record {
       crossing =
           at_next false last g.R.Rank.machine came first c.args.sent.now c.args.note.now ready few
-          c.skip_before-slot.result c.skip_before-slot.new.engine c.slots.sent c.slots.note now (λ is late empty. never is) left
-          c.arrivals_near-arrivals.result c.slot.new.self c.slot.new.sent c.slot.new.note c.arrivals_near-arrivals.ensures
+          c.skip_before-slot.result c.skip_before-slot.new.engine c.slots.sent c.slots.note now
+          (λ is late empty. never is) left
+          c.arrivals_near-arrivals.result c.slot.new.self c.slot.new.sent c.slot.new.note
+          c.arrivals_near-arrivals.ensures
           (record {
             done = c.in_ok-slot.ensures.slot;
             running = c.slot.ensures.stopped ∙ ap is_err c.in_ok-slot.was;
@@ -225,7 +240,8 @@ returns-then-slot-last-clause-run g c =
     let few : last ≤ 2 ^ 63 + 2 ^ 36 = omega arith in
     let now = at_rest false last g.R.Rank.machine came first c.args.sent.now c.args.note.now ready few
     c.slots.slot c.skip_before-slot.result c.slots.engine c.skip_before-slot.new.engine c.slots.sent c.slots.note
-    c.slots.invariant.crossing c.skip_before-slot.ensures.late c.skip_before-slot.ensures.within c.skip_before-slot.ensures.none
+    c.slots.invariant.crossing c.skip_before-slot.ensures.late c.skip_before-slot.ensures.within
+    c.skip_before-slot.ensures.none
     (λ is lt. never is) c.skip_before-slot.ensures.rested in
     let over = c.if-slot-last.true in
     let within = c.skip_before-slot.ensures.within in

@@ -4,7 +4,8 @@ use Rattle.cq_simulate.proofs.parted_run.run_before.Given as goal
 
 abbrev pub invariant-slots : goal.invariant-slots
 invariant-slots g l = record {
-  crossing : Crossing false (map g.R.Rank.machine l.initial.engine.fixed) l.schedule.came l.initial.engine l.initial.sent
+  crossing : Crossing false (map g.R.Rank.machine l.initial.engine.fixed) l.schedule.came l.initial.engine
+      l.initial.sent
       l.initial.note l.slot (l.last - l.slot) l.engine l.sent l.note;
   before : l.slot ≤ l.last;
 }
