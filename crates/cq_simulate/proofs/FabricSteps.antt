@@ -262,4 +262,4 @@ module _ (whole : Bool) (end : ℕ) (M : List ℕ → Machine) (came : List Arri
       Before slot now sent note → slot ≡ end →
       HasPartedTo (map M first.fixed) came end first now first_sent sent first_note note
   at_last slot now sent note b is =
-      record { records = b.records; went = b.went; reached = b.long ∙ is; next = b.next ∙ is }
+      record { records = b.records; went = b.went; reached = b.long ∙ is; next = b.next ∙ is; ports = b.ports }

@@ -97,6 +97,7 @@ pub record HasPartedTo (ms : List Machine) (came : List Arrival) (last : ℕ) (o
   pub went : WentOn ms came old new sent sent' note note' records
   pub reached : old.next + length records ≡ last
   pub next : new.next ≡ last
+  pub ports : length new.fabric.inputs ≡ ports_of old
 
 -- no cell arrives from this slot on up to the other
 abbrev pub NoneCome : List Arrival → ℕ → ℕ → Type 0

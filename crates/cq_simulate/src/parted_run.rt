@@ -1,5 +1,5 @@
 //! The run of the fabric in parts: up to a slot, and on from there.
-ghost use Rattle.std.specs.Prelude.{◌≡◌, ◌-◌, ◌<◌, ◌≤◌, ◌^◌, IfErr, IfOk, OnOk, false, map};
+ghost use Rattle.std.specs.Prelude.{◌≡◌, ◌-◌, ◌<◌, ◌≤◌, ◌^◌, IfErr, IfOk, OnOk, false, length, map};
 ghost use Rattle.cq_cells.specs.Traffic.{IsShort, IsTraffic};
 ghost use Rattle.cq_resume.specs.Parts.{IsParted};
 ghost use Rattle.cq_resume.specs.Resumed.{IsResumed};
@@ -54,6 +54,7 @@ pub fn part_fabric<R: Threads + Sync, G: Gate>(
     requires short { IsShort schedule.now.came }
     requires slots { slots < 2 ^ 63 }
     ensures parted { IfOk result (λ run. IsParted (switch_of tables.now schedule.now) (openings_of tables.now.setup) slots (taken_at run)) }
+    ensures ports { IfOk result (λ run. length run.frozen.lists ≡ ports_of tables.now.setup) }
     ensures refused { IfErr result (IsPartFault (switch_of tables.now schedule.now) (openings_of tables.now.setup) slots) }
 {
     let ranks = Discipline::all(alloc, &tables.setup)?;

@@ -5,6 +5,7 @@ use Rattle.std.proofs.lemmas.List.FromFn.{length-map-range_with_len}
 use Rattle.std.proofs.lemmas.Result.{err_from_is_err_and}
 use Rattle.cq_cells.specs.Traffic.{is_from, is_to, number_of}
 use Rattle.cq_ideal.specs.Refused.{refused_counts}
+use Rattle.cq_laws.specs.declared.frozen.Frozen.{Frozen}
 use Rattle.cq_scfq.specs.Discipline.{fixed_of, machine_from, state_of}
 use Rattle.cq_simulate.proofs.FabricOpening.{built_for, ready_fabric}
 use Rattle.cq_simulate.proofs.Opening.{machine_count}
@@ -157,3 +158,12 @@ returns-clause-parted g c =
     c.in_ok-ranks.ensures.states c.in_ok-sent.sent c.in_ok-note.note ready c.args.slots c.run_before.new.engine
     c.run_before.new.sent c.run_before.new.note c.in_ok-frozen.frozen c.in_ok-run_before.ensures.run
     c.in_ok-frozen.ensures
+
+-- the fabric that stands still has a list for each port
+pub returns-clause-ports : goal.returns-clause-ports
+returns-clause-ports g c =
+    ap (λ (x : Frozen). length x.lists) c.in_ok-frozen.ensures
+    ∙ c.in_ok-run_before.ensures.run.ports
+    ∙ ap length c.in_ok-engine.ensures.fixed
+    ∙ machine_count machine_from (map fixed_of c.in_ok-ranks.ranks.items) c.args.tables.now.setup
+    c.in_ok-ranks.ensures.machines
