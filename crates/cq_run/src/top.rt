@@ -33,7 +33,7 @@ use std::thread::Threads;
 /// - `Words`: the words are no command.
 /// - `Configuration`: the configuration is refused, for the first check that does not hold.
 /// - `Capture`: the capture of an input is at fault, that of the lowest input.
-/// - `Tag`: a rank of the ideal run does not fit 128 bits.
+/// - `Tag`: a rank of the ideal run does not fit 128 bits, or one of a run that stops or goes on.
 /// - `ReadFault`: the name of the line is the first to be read that is not there, or whose reading failed:
 ///   up to a call that reads it the count of faults of the file space was as before, and in that call it rose.
 /// - `WriteFault`: the count of faults of the file space rose in a call that writes the name of the line, once
@@ -41,6 +41,8 @@ use std::thread::Threads;
 ///   before or has a front of its bytes, and those after it are as before.
 /// - `NoMemory`: there was not the memory to keep the words of a command, or to build all that is to be written.
 /// - `AuditNo`: the trace or the log that is audited is wrong, and the line says what is wrong first.
+/// - `State`: the state from which a run is to go on is refused, and the line says what is wrong first; or the state of a
+///   run that stops would be too long.
 ///
 /// All bytes are ready before the first is written, so with every status but `Done` and `WriteFault` no
 /// file is started and `out` is as before. The file space has to be closed, and is closed again. A
