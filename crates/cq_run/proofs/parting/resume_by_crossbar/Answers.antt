@@ -10,7 +10,7 @@ read_state-requires-clause-schedule g c = record {
 }
 
 pub resume_fabric-requires-clause-sound : goal.resume_fabric-requires-clause-sound
-resume_fabric-requires-clause-sound g c =
+resume_fabric-requires-clause-sound g c κs within =
     taken_up c.args.tables.now c.args.captures.now c.in_ok-schedule.schedule c.in_ok-schedule.ensures.schedule
     c.args.text.now c.in_ok-taken.taken c.in_ok-taken.ensures.read
 
