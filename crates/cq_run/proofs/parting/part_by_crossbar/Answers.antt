@@ -1,9 +1,14 @@
-use Rattle.std.proofs.Common.{List, ap, length}
+use Rattle.std.proofs.Common.{List, ap, length, arith}
 use Rattle.std.proofs.lemmas.Result.{err_from_is_err_and}
 use Rattle.cq_base.specs.declared.setup.ClassRow.{ClassRow}
 use Rattle.cq_simulate.specs.PartedRuns.{taken_at}
 use Rattle.cq_run.proofs.Stopped.{part_halt, part_long, part_text, same_state}
 use Rattle.cq_run.proofs.parting.part_by_crossbar.Goals as goal
+
+-- there are few ports, and as many lists
+pub state_bytes-requires : goal.state_bytes-requires
+state_bytes-requires g c =
+    let few = c.requires.tables.setup.ports in let many = c.in_ok-parted.ensures.ports in omega arith
 
 -- the state is told by what was lent of the run
 pub returns-clause-text : goal.returns-clause-text
