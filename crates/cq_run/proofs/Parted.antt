@@ -1,7 +1,6 @@
 -- Judging the words of stopping a run and of taking one up: the configuration, its captures, and then the text of a
 -- state. Where all of them are there, they aim at the text of the state, or at what the run keeps that goes on, which
--- is
--- met or denied.
+-- is met or denied.
 use Rattle.std.proofs.Common.{◌≡◌, ◌∙◌, ◌++◌, ◌∷◌, [], ℕ, IsTrue, List, refl, subst, inl}
 use Rattle.std.specs.Prelude.{IfSome, Option, None, Some, Result, Ok, Err}
 use Rattle.cq_base.specs.Texts.{log_of, trace_of}

@@ -41,8 +41,8 @@ use std::thread::Threads;
 ///   before or has a front of its bytes, and those after it are as before.
 /// - `NoMemory`: there was not the memory to keep the words of a command, or to build all that is to be written.
 /// - `AuditNo`: the trace or the log that is audited is wrong, and the line says what is wrong first.
-/// - `State`: the state from which a run is to go on is refused, and the line says what is wrong first; or the state of a
-///   run that stops would be too long.
+/// - `State`: the state from which a run is to go on is refused, and the line says what is wrong first, or that of a run
+///   that stops would be too long.
 ///
 /// All bytes are ready before the first is written, so with every status but `Done` and `WriteFault` no
 /// file is started and `out` is as before. The file space has to be closed, and is closed again. A
