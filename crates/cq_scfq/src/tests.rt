@@ -112,8 +112,10 @@ fn each_port_ranks_by_its_own_discipline(rt: HostRuntime) -> Result<(), Fail> {
 
 // The numbers of a machine's state are put into another, one after the other.
 fn copied<R: Rank, S: Rank>(from: &R, to: &mut S) {
-    for at in 0..from.width().min(to.width()) {
-        to.put(at, from.number(at));
+    for at in 0..from.width() {
+        if at < to.width() {
+            to.put(at, from.number(at));
+        }
     }
 }
 
