@@ -14,23 +14,25 @@ use std::test::Fail;
 
 const NO_LIMITS: [Option<u64>; 3] = [None, None, None];
 
-// Ranks the cells of class 0 by 0, and refuses those of class 1.
+// Ranks the cells of class 0 by 0, and refuses those of class 1. It has no state, as first come, first served.
 #[derive(Drop)]
-struct RefusesClassOne;
+struct RefusesClassOne {
+    others: FirstCome,
+}
 
 impl Rank for RefusesClassOne {
-    ghost use Rattle.std.specs.Prelude.{[]};
     ghost use Rattle.cq_ideal.specs.Refusing.{refuses_class_one, refuses_class_one_laws};
 
-    ghost fixed = { λ _. [] };
+    ghost fixed = { λ r. r.others.fixed };
 
-    ghost state = { λ _. [] };
+    ghost state = { λ r. r.others.state };
 
     ghost machine = { λ _. refuses_class_one };
 
     ghost laws = { λ _. refuses_class_one_laws };
 
     fn classes(&self) -> u16 {
+        let _ = self.others.classes();
         2
     }
 
@@ -47,14 +49,16 @@ impl Rank for RefusesClassOne {
     fn idle(&mut self) {}
 
     fn width(&self) -> u16 {
-        0
+        self.others.width()
     }
 
-    fn number(&self, _at: u16) -> u128 {
-        0
+    fn number(&self, at: u16) -> u128 {
+        self.others.number(at)
     }
 
-    fn put(&mut self, _at: u16, _number: u128) {}
+    fn put(&mut self, at: u16, number: u128) {
+        self.others.put(at, number);
+    }
 }
 
 // The arrivals, and a packet of one cell that comes to the input.
@@ -202,6 +206,13 @@ fn first_come(alloc: Global) -> Result<FirstCome, NoMemory>
     FirstCome::new(alloc, &[class, class])
 }
 
+// The machine that refuses class 1.
+fn refusing(alloc: Global) -> Result<RefusesClassOne, NoMemory> {
+    Ok(RefusesClassOne {
+        others: first_come(alloc)?,
+    })
+}
+
 #[test]
 fn cells_for_one_output_leave_in_the_order_of_their_inputs(rt: HostRuntime) -> Result<(), Fail> {
     let alloc = rt.alloc();
@@ -227,7 +238,8 @@ fn a_cell_does_not_wait_for_another_output(rt: HostRuntime) -> Result<(), Fail> 
 
 #[test]
 fn the_first_input_whose_rank_does_not_fit_stops_the_switch(rt: HostRuntime) -> Result<(), Fail> {
-    let ranks = vec![in rt.alloc(); RefusesClassOne, RefusesClassOne, RefusesClassOne]?;
+    let alloc = rt.alloc();
+    let ranks = vec![in alloc; refusing(alloc)?, refusing(alloc)?, refusing(alloc)?]?;
     let first = and(and(nothing(), 0, 0, 2, 0), 1, 0, 1, 0);
     let second = and(and(and(nothing(), 0, 1, 0, 0), 1, 1, 2, 1), 2, 0, 1, 1);
     let ran = departures(rt.alloc(), ranks, NO_LIMITS, [first, second, nothing()])?;
