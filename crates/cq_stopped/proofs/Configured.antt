@@ -1,0 +1,300 @@
+-- What is known of a switch that tables configure, with what arrives at it: its ports and classes, its machines, that
+-- keep the laws of machines and begin in a state of their size, and its arrivals, of which there are not many. They
+-- come packet after packet at each input. A capture is a file of 2^28 bytes at most, and each packet and each cell of
+-- it takes a byte there, so that no packet's number and no cell's place in its packet comes near 2^32.
+use Rattle.std.proofs.Common.{◌≡◌, ℕ, zero, suc, ◌+◌, ◌*◌, ◌<◌, ◌≤◌, ◌^◌, min, List, [], ◌∷◌, length, map, flat_map, get_or, refl, sym, ap, ◌∙◌, subst, arith, length-append}
+use Rattle.std.specs.Prelude.{fold, replicate, slice_index_or, slice_set, sum_by}
+use Rattle.std.specs.List.{AllByRecursion, range_with_len}
+use Rattle.std.proofs.lemmas.List.{get_or-map, length-map, length-replicate}
+use Rattle.std.proofs.lemmas.List.Sums.{sum_by-cons}
+use Rattle.cq_base.specs.Arriving.{Arrival}
+use Rattle.cq_base.specs.declared.setup.ClassRow.{ClassRow}
+use Rattle.cq_base.specs.declared.setup.Kind.{Kind}
+use Rattle.cq_base.specs.declared.setup.Kind.TheVariants.{FirstCome, Priority, Fair}
+use Rattle.cq_base.specs.declared.setup.Setup.{Setup}
+use Rattle.cq_cells.proofs.Looked.{piece}
+use Rattle.cq_cells.proofs.Packets.{came_by, came_more, few_by, length_packet}
+use Rattle.cq_cells.proofs.Rising.{all_flat}
+use Rattle.cq_cells.specs.Schedule.{arrivals, arrivals_at, arrivals_of, cell_of, cells, first_stamp, least, packets_of, start}
+use Rattle.cq_cells.specs.Scheduled.{Scheduled}
+use Rattle.cq_cells.specs.Traffic.{IsRecorded, IsTraffic}
+use Rattle.cq_pcap.specs.Captured.{Captured}
+use Rattle.cq_rank.specs.Classes.{level_count, row_at}
+use Rattle.cq_rank.specs.Machine.{KeepsLaws, Machine, first_come, machine_at}
+use Rattle.cq_rank.specs.MachineLaws.{first_come_laws, priority_laws}
+use Rattle.cq_resume.proofs.Each.{all_both}
+use Rattle.cq_resume.proofs.Scheduling.{schedule_known}
+use Rattle.cq_resume.specs.Finding.{ArePackets}
+use Rattle.cq_resume.specs.Switch.{IsScheduleOf, Switch, switch_of}
+use Rattle.cq_route.specs.Tables.{AreTables, IsSetup}
+use Rattle.cq_route.specs.declared.tables.Tables.{Tables}
+use Rattle.cq_scfq.specs.Disciplines.{machine_of, machines_of, opening_of, openings_of}
+use Rattle.cq_scfq.specs.Fair.{fair_rank}
+use Rattle.cq_scfq.specs.FairLaws.{fair_laws}
+use Rattle.cq_stopped.proofs.Joined.{all_of_images}
+use Rattle.cq_stopped.specs.Stopped.{AreRecorded}
+
+-- the numbers of a cell's packet and of its place there are small
+abbrev pub HasSmallName : Arrival → Type 0
+HasSmallName a = (a.cell.id.packet < 2 ^ 32) × (a.cell.id.index < 2 ^ 32)
+
+-- all numbers of a rank state fit 128 bits
+abbrev pub AreLow : List ℕ → Type 0
+AreLow ns = AllByRecursion (λ n. n < 2 ^ 128) ns
+
+-- and they do so after each step of a machine, where the rank that is given or sent fits
+pub record KeepsLow (m : Machine) : Type 0 where
+  pub given : (s : List ℕ) (c : ℕ) → AreLow s → m.ranked s c < 2 ^ 128 → AreLow (m.given s c)
+  pub sent : (s : List ℕ) (level rank : ℕ) → AreLow s → rank < 2 ^ 128 → AreLow (m.sent s level rank)
+  pub idle : (s : List ℕ) → AreLow s → AreLow (m.idle s)
+
+pub record IsConfigured (w : Switch) (ranks : List (List ℕ)) : Type 0 where
+  pub some : 1 ≤ length w.machines
+  pub few : length w.machines ≤ 64
+  pub some_classes : 1 ≤ w.classes
+  pub few_classes : w.classes ≤ 16
+  pub first_stamp : w.first_stamp < 2 ^ 63
+  pub traffic : IsTraffic (length w.machines) w.classes w.came
+  pub packets : ArePackets (length w.machines) w.came
+  pub names : AllByRecursion HasSmallName w.came
+  pub few_cells : length w.came ≤ 2 ^ 34
+  pub laws : (j : ℕ) → j < length w.machines → KeepsLaws (machine_at w.machines j)
+  pub same : (j : ℕ) → j < length w.machines → (machine_at w.machines j).classes ≡ w.classes
+  pub level : (j c : ℕ) → j < length w.machines → c < w.classes → (machine_at w.machines j).level c ≤ 15
+  pub low : (j : ℕ) → KeepsLow (machine_at w.machines j)
+  pub small : (j : ℕ) → j < length w.machines → (machine_at w.machines j).size ≤ 32
+  pub openings : length ranks ≡ length w.machines
+  pub openings_low : AllByRecursion AreLow ranks
+  pub sizes : (j : ℕ) → j < length w.machines → length (slice_index_or ranks j []) ≡ (machine_at w.machines j).size
+
+-- ## The machines of a setup
+
+machine_laws : (kind : Kind) (rows : List ClassRow) → KeepsLaws (machine_of kind rows)
+machine_laws FirstCome rows = first_come_laws rows
+machine_laws Priority rows = priority_laws rows
+machine_laws Fair rows = fair_laws rows
+
+opening_size : (kind : Kind) (rows : List ClassRow) → length (opening_of kind rows) ≡ (machine_of kind rows).size
+opening_size FirstCome rows = refl
+opening_size Priority rows = refl
+opening_size Fair rows = length-replicate (length rows + level_count) 0
+
+machine_classes : (kind : Kind) (rows : List ClassRow) → (machine_of kind rows).classes ≡ length rows
+machine_classes FirstCome rows = refl
+machine_classes Priority rows = refl
+machine_classes Fair rows = refl
+
+machine_level : (kind : Kind) (rows : List ClassRow) (c : ℕ) → (machine_of kind rows).level c ≡ (row_at rows c).level
+machine_level FirstCome rows c = refl
+machine_level Priority rows c = refl
+machine_level Fair rows c = refl
+
+machine_size : (kind : Kind) (rows : List ClassRow) → (machine_of kind rows).size ≤ length rows + level_count
+machine_size FirstCome rows = omega arith
+machine_size Priority rows = omega arith
+machine_size Fair rows = omega arith
+
+set_low : (s : List ℕ) (i v : ℕ) → AreLow s → v < 2 ^ 128 → AreLow (slice_set s i v)
+set_low [] i v all low = tt
+set_low (n ∷ s) zero v all low = (low, all.1)
+set_low (n ∷ s) (suc i) v all low = (all.0, set_low s i v all.1 low)
+
+zeros_low : (n : ℕ) → AreLow (replicate n 0)
+zeros_low zero = tt
+zeros_low (suc n) = ((let P : 0 < 2 ^ 128 = omega arith in P), zeros_low n)
+
+machine_low : (kind : Kind) (rows : List ClassRow) → KeepsLow (machine_of kind rows)
+machine_low FirstCome rows = record { given = λ s c all low. all; sent = λ s l r all low. all; idle = λ s all. all }
+machine_low Priority rows = record { given = λ s c all low. all; sent = λ s l r all low. all; idle = λ s all. all }
+machine_low Fair rows =
+    record {
+      given = λ s c all low. set_low s c (fair_rank rows s c) all low;
+      sent = λ s l r all low. set_low s (length rows + l) r all low;
+      idle = λ s all. zeros_low (length rows + level_count);
+    }
+
+opening_low : (kind : Kind) (rows : List ClassRow) → AreLow (opening_of kind rows)
+opening_low FirstCome rows = tt
+opening_low Priority rows = tt
+opening_low Fair rows = zeros_low (length rows + level_count)
+
+openings_all : (kinds : List Kind) (rows : List ClassRow) →
+    AllByRecursion AreLow (map (λ (k : Kind). opening_of k rows) kinds)
+openings_all [] rows = tt
+openings_all (k ∷ kinds) rows = (opening_low k rows, openings_all kinds rows)
+
+machines_low : (kinds : List Kind) (rows : List ClassRow) (j : ℕ) →
+    KeepsLow (machine_at (map (λ (k : Kind). machine_of k rows) kinds) j)
+machines_low [] rows j = machine_low FirstCome []
+machines_low (k ∷ kinds) rows zero = machine_low k rows
+machines_low (k ∷ kinds) rows (suc j) = machines_low kinds rows j
+
+module _ (setup : Setup) (j : ℕ) (inside : j < length setup.kinds) where
+  abbrev kind : Kind
+  kind = get_or setup.kinds j FirstCome
+
+  machine_is : machine_at (machines_of setup) j ≡ machine_of kind setup.classes
+  machine_is = get_or-map (λ (k : Kind). machine_of k setup.classes) setup.kinds j FirstCome (first_come []) inside
+
+  opening_is : slice_index_or (openings_of setup) j [] ≡ opening_of kind setup.classes
+  opening_is = get_or-map (λ (k : Kind). opening_of k setup.classes) setup.kinds j FirstCome [] inside
+
+  keeps_laws : KeepsLaws (machine_at (machines_of setup) j)
+  keeps_laws = subst KeepsLaws (sym machine_is) (machine_laws kind setup.classes)
+
+  right_size : length (slice_index_or (openings_of setup) j []) ≡ (machine_at (machines_of setup) j).size
+  right_size =
+      ap (λ (l : List ℕ). length l) opening_is ∙ opening_size kind setup.classes
+      ∙ ap (λ (m : Machine). m.size) (sym machine_is)
+
+  right_classes : (machine_at (machines_of setup) j).classes ≡ length setup.classes
+  right_classes = ap (λ (m : Machine). m.classes) machine_is ∙ machine_classes kind setup.classes
+
+  small_size : length setup.classes ≤ 16 → (machine_at (machines_of setup) j).size ≤ 32
+  small_size few =
+      let same : (machine_at (machines_of setup) j).size ≡ (machine_of kind setup.classes).size =
+      ap (λ (m : Machine). m.size) machine_is in
+      let most = machine_size kind setup.classes in
+      omega arith
+
+  low_level : (c : ℕ) → c < length setup.classes → IsSetup setup → (machine_at (machines_of setup) j).level c ≤ 15
+  low_level c known is =
+      let same : (machine_at (machines_of setup) j).level c ≡ (row_at setup.classes c).level =
+      ap (λ (m : Machine). m.level c) machine_is ∙ machine_level kind setup.classes c in
+      let none : ClassRow = record { level = 0; priority = 0; cost = 0 } in
+      let low : (row_at setup.classes c).level < 16 = is.levels c none known in
+      omega arith
+
+-- ## The captures
+
+module _ (t : Tables) (captures : List (List Captured)) where
+  lines_short : (a n : ℕ) → 1 ≤ t.cell_bytes → ((i : ℕ) → i < a + n → IsRecorded (packets_of captures i)) →
+      length (flat_map (arrivals_at t captures) (range_with_len a n)) ≤ n * 2 ^ 28
+  unfolding arrivals_at
+  lines_short a zero some each = omega arith
+  lines_short a (suc n) some each =
+      let first : length (arrivals_at t captures a) ≤ 2 ^ 28 =
+      few_by t captures a (length (packets_of captures a)) some (each a (omega arith)) (omega arith) in
+      let rest : length (flat_map (arrivals_at t captures) (range_with_len (a + 1) n)) ≤ n * 2 ^ 28 =
+      lines_short (a + 1) n some (λ i lt. each i (omega arith)) in
+      let both =
+      length-append (arrivals_at t captures a) (flat_map (arrivals_at t captures) (range_with_len (a + 1) n)) in
+      omega arith
+
+  all_short : AreTables t → length captures ≤ 64 → ((i : ℕ) → i < length captures →
+      IsRecorded (packets_of captures i)) →
+      length (arrivals t captures) ≤ 2 ^ 34
+  unfolding arrivals
+  all_short tables few each =
+      let most = lines_short 0 (length captures) tables.cell_bytes.0 (λ i lt. each i (omega arith)) in
+      omega arith
+
+  -- the cells of a packet with a number below a bound, up to a number of its cells
+  all_pieces : (P : Arrival → Type 0) (input k a n : ℕ) →
+      ((i : ℕ) → i < a + n → P (piece (start t captures input k) (cell_of t captures input k) i)) →
+      AllByRecursion P (map (piece (start t captures input k) (cell_of t captures input k)) (range_with_len a n))
+  all_pieces P input k a zero each = tt
+  all_pieces P input k a (suc n) each =
+      (each a (omega arith), all_pieces P input k (a + 1) n (λ i lt. each i (omega arith)))
+
+  few_packets : (ps : List Captured) → length ps ≤ sum_by (λ (p : Captured). 16 + length p.body) ps
+  few_packets [] = omega arith
+  few_packets (p ∷ ps) =
+      let rest = few_packets ps in
+      let more = sum_by-cons (λ (q : Captured). 16 + length q.body) p ps in
+      omega arith
+
+  small_here : (input : ℕ) → 1 ≤ t.cell_bytes → IsRecorded (packets_of captures input) →
+      AllByRecursion HasSmallName (arrivals_at t captures input)
+  unfolding arrivals_at cell_of
+  small_here input some is =
+      let ps = packets_of captures input in
+      let small = is.small in
+      let many = few_packets ps in
+      all_flat HasSmallName (arrivals_of t captures input) 0 (length ps)
+      (λ k from lt.
+      let all : length (came_by t captures input (k + 1)) ≤ 2 ^ 28 = few_by t captures input (k + 1) some is (omega
+      arith) in
+      let more : length (came_by t captures input (k + 1)) ≡
+      length (came_by t captures input k) + length (arrivals_of t captures input k) =
+      ap (λ (l : List Arrival). length l) (came_more t captures input k)
+      ∙ length-append (came_by t captures input k) (arrivals_of t captures input k) in
+      let size : length (arrivals_of t captures input k) ≡ cells t captures input k = length_packet t captures input
+      k in
+      all_pieces HasSmallName input k 0 (cells t captures input k)
+      (λ i below. ((let P : k < 2 ^ 32 = omega arith in P), (let P : i < 2 ^ 32 = omega arith in P))))
+
+  small_names : 1 ≤ t.cell_bytes → ((i : ℕ) → i < length captures → IsRecorded (packets_of captures i)) →
+      AllByRecursion HasSmallName (arrivals t captures)
+  unfolding arrivals
+  small_names some each =
+      all_flat HasSmallName (arrivals_at t captures) 0 (length captures)
+      (λ k from lt. small_here k some (each k (omega arith)))
+
+-- ## The first stamp
+
+abbrev IsStamp : ℕ → Type 0
+IsStamp n = n < 2 ^ 63
+
+least_of : (a : ℕ) (ns : List ℕ) → fold min a ns ≤ a
+least_of a [] = omega arith
+least_of a (n ∷ ns) = let rest = least_of (min a n) ns in omega arith
+
+least_low : (ns : List ℕ) → AllByRecursion IsStamp ns → least ns < 2 ^ 63
+least_low [] all = omega arith
+least_low (n ∷ ns) all = let low = all.0 in let le = least_of n ns in omega arith
+
+stamps_low : (captures : List (List Captured)) →
+    ((i : ℕ) → i < length captures → IsRecorded (packets_of captures i)) →
+    AllByRecursion IsStamp (flat_map (λ (ps : List Captured). map (λ (p : Captured). p.stamp) ps) captures)
+stamps_low [] each = tt
+stamps_low (ps ∷ captures) each =
+    all_both IsStamp (map (λ (p : Captured). p.stamp) ps)
+    (flat_map (λ (ps : List Captured). map (λ (p : Captured). p.stamp) ps) captures)
+    (all_of_images (λ (p : Captured). p.stamp) IsStamp ps (each zero (omega arith)).stamps) (stamps_low captures (λ
+    i lt. each (suc i) (omega arith)))
+
+first_low : (captures : List (List Captured)) → ((i : ℕ) → i < length captures → IsRecorded (packets_of captures i)) →
+    first_stamp captures < 2 ^ 63
+unfolding first_stamp
+first_low captures each =
+    least_low (flat_map (λ (ps : List Captured). map (λ (p : Captured). p.stamp) ps) captures) (stamps_low captures
+    each)
+
+-- ## Together
+
+pub configured : (t : Tables) (s : Scheduled) (made : IsScheduleOf t s) → AreTables t → AreRecorded t s made →
+    IsConfigured (switch_of t s) (openings_of t.setup)
+configured t s made tables recorded =
+    let setup = t.setup in
+    let many : length (machines_of setup) ≡ length setup.kinds =
+    length-map setup.kinds (λ (k : Kind). machine_of k setup.classes) in
+    let range = tables.setup.ports in
+    let classes = tables.setup.classes in
+    let known = schedule_known t s tables made in
+    let stamp : s.first_stamp ≡ first_stamp made.captures = ap (λ (x : Scheduled). x.first_stamp) made.schedule in
+    let came : s.came ≡ arrivals t made.captures = ap (λ (x : Scheduled). x.came) made.schedule in
+    let captures : length made.captures ≡ length setup.kinds = made.ports in
+    let low = first_low made.captures recorded in
+    let size : length s.came ≡ length (arrivals t made.captures) = ap (λ (l : List Arrival). length l) came in
+    let short = all_short t made.captures tables (omega arith) recorded in
+    record {
+      some = omega arith;
+      few = omega arith;
+      some_classes = classes.0;
+      few_classes = classes.1;
+      first_stamp = omega arith;
+      traffic = subst (λ (n : ℕ). IsTraffic n (length setup.classes) s.came) (sym many) known.traffic;
+      packets = subst (λ (n : ℕ). ArePackets n s.came) (known.ports ∙ sym many) known.packets;
+      names = subst (λ (l : List Arrival). AllByRecursion HasSmallName l) (sym came)
+          (small_names t made.captures tables.cell_bytes.0 recorded);
+      few_cells = omega arith;
+      laws = λ j inside. keeps_laws setup j (omega arith);
+      same = λ j inside. right_classes setup j (omega arith);
+      level = λ j c inside below. low_level setup j (omega arith) c below tables.setup;
+      low = λ j. machines_low setup.kinds setup.classes j;
+      small = λ j inside. small_size setup j (omega arith) classes.1;
+      openings_low = openings_all setup.kinds setup.classes;
+      openings = length-map setup.kinds (λ (k : Kind). opening_of k setup.classes) ∙ sym many;
+      sizes = λ j inside. right_size setup j (omega arith);
+    }

@@ -1,0 +1,221 @@
+-- The departures and the transfers of a run stand in order: slot by slot, those of a slot by output, and by phase and
+-- input.
+use Rattle.std.proofs.Common.{◌≡◌, ℕ, zero, suc, ◌+◌, ◌<◌, ◌≤◌, ◌⊎◌, List, [], ◌∷◌, length, map, Option, Some, None, refl, sym, ap, ◌∙◌, subst, inl, inr, arith}
+use Rattle.std.specs.List.{AllByRecursion, filter_map, flat_map, range_with_len}
+use Rattle.std.specs.Option.{option_map}
+use Rattle.cq_base.specs.Arriving.{arriving}
+use Rattle.cq_base.specs.Cells.{first_for}
+use Rattle.cq_base.specs.declared.cell.Departure.{Departure}
+use Rattle.cq_base.specs.declared.cell.Queued.{Queued}
+use Rattle.cq_base.specs.declared.cell.Transfer.{Transfer}
+use Rattle.cq_ideal.specs.Admission.{Marked}
+use Rattle.cq_ideal.specs.Ending.{arriving_from}
+use Rattle.cq_ideal.specs.IdealRun.{departures_of}
+use Rattle.cq_ideal.specs.IdealSlot.{departures_from, departures_in}
+use Rattle.cq_laws.specs.Fabric.{Fabric}
+use Rattle.cq_laws.specs.FabricSlot.{SlotRecord}
+use Rattle.cq_laws.specs.LimitedFabric.{LimitedRecord, slots_in}
+use Rattle.cq_laws.specs.Records.{transfers_in, transfers_of_run}
+use Rattle.cq_prefs.specs.FirstCells.{list_of}
+use Rattle.cq_prefs.specs.Moves.{noted, transfers_of}
+use Rattle.cq_prefs.specs.Pairing.{Partners, partner_of}
+use Rattle.cq_resume.proofs.Chained.{EachPair}
+use Rattle.cq_resume.proofs.Each.{all_both, all_weaker}
+use Rattle.cq_resume.proofs.Having.{all_from_has, all_of_has}
+use Rattle.cq_resume.proofs.Pooled.{looked_up, pairs_looked_up}
+use Rattle.cq_resume.specs.Resumed.{Runs}
+use Rattle.cq_resume.specs.Sound.{IsMovedBefore}
+use Rattle.cq_resume.specs.Switch.{Switch}
+use Rattle.cq_stopped.proofs.Departing.{each_departs}
+use Rattle.cq_stopped.proofs.Joined.{pairs_join}
+
+-- ## Departures
+
+-- one departs before another: in an earlier slot, or in one slot at an earlier output
+abbrev pub DepartsBefore : Departure → Departure → Type 0
+DepartsBefore d e = (d.slot < e.slot) ⊎ ((d.slot ≡ e.slot) × (d.output < e.output))
+
+of_slot : (slot : ℕ) (gone : List (Option Queued)) →
+    AllByRecursion (λ (d : Departure). d.slot ≡ slot) (departures_in slot gone)
+unfolding departures_in
+of_slot slot gone = each_departs slot (λ (d : Departure). d.slot ≡ slot) gone 0 (λ k j q is at. refl)
+
+no_earlier : (slot : ℕ) (slots : List (List (Option Queued))) →
+    AllByRecursion (λ (d : Departure). slot ≤ d.slot) (departures_of slot slots)
+unfolding departures_of
+no_earlier slot [] = tt
+no_earlier slot (gone ∷ slots) =
+    all_both (λ (d : Departure). slot ≤ d.slot) (departures_in slot gone) (departures_of (slot + 1) slots)
+    (all_weaker (λ (d : Departure). d.slot ≡ slot) (λ (d : Departure). slot ≤ d.slot) (λ d same. omega arith)
+    (departures_in slot gone) (of_slot slot gone))
+    (all_weaker (λ (d : Departure). slot + 1 ≤ d.slot) (λ (d : Departure). slot ≤ d.slot) (λ d late. omega arith)
+    (departures_of (slot + 1) slots) (no_earlier (slot + 1) slots))
+
+slot_in_order : (slot a : ℕ) (gone : List (Option Queued)) → EachPair DepartsBefore (departures_from slot a gone)
+slot_in_order slot a [] = tt
+slot_in_order slot a (None ∷ gone) = slot_in_order slot (a + 1) gone
+slot_in_order slot a (Some q ∷ gone) =
+    let one : Departure = record { slot = slot; output = a; queued = q } in (
+      each_departs slot (λ (e : Departure). DepartsBefore one e) gone (a + 1)
+          (λ k j p is at. inr (refl, (let lt : a < j = omega arith in lt))),
+      slot_in_order slot (a + 1) gone,
+    )
+
+pub departures_in_order : (slot : ℕ) (slots : List (List (Option Queued))) →
+    EachPair DepartsBefore (departures_of slot slots)
+unfolding departures_of departures_in
+departures_in_order slot [] = tt
+departures_in_order slot (gone ∷ slots) =
+    pairs_join DepartsBefore (departures_in slot gone) (departures_of (slot + 1) slots) (slot_in_order slot 0 gone)
+    (departures_in_order (slot + 1) slots)
+    (λ d e first second.
+    let now = all_of_has (λ (x : Departure). x.slot ≡ slot) (departures_in slot gone) d (of_slot slot gone) first in
+    let late =
+    all_of_has (λ (x : Departure). slot + 1 ≤ x.slot) (departures_of (slot + 1) slots) e (no_earlier (slot + 1) slots)
+    second in
+    inl (let lt : d.slot < e.slot = omega arith in lt))
+
+-- ## Transfers
+
+-- what a transfer tells of its slot, its phase and its input
+record IsOfInput (slot phase i : ℕ) (t : Transfer) : Type 0 where
+  pub slot_is : t.slot ≡ slot
+  pub phase_is : t.phase ≡ phase
+  pub input_is : t.input ≡ i
+
+noted_is : (slot phase i : ℕ) (cells : List Queued) (o : Option ℕ) (t : Transfer) →
+    noted slot phase i cells o ≡ Some t → IsOfInput slot phase i t
+noted_is slot phase i cells None t is = absurd (let P : ⊥ = cc in P)
+noted_is slot phase i cells (Some output) t is = by (first_for output cells) is
+  where
+    made : Queued → Transfer
+    made c = record { slot = slot; phase = phase; input = i; output = output; id = c.cell.id }
+
+    by : (o : Option Queued) → option_map made o ≡ Some t → IsOfInput slot phase i t
+    by None is = absurd (let P : ⊥ = cc in P)
+    by (Some c) is =
+        let same : made c ≡ t = cc in
+        record {
+          slot_is = ap (λ (x : Transfer). x.slot) (sym same);
+          phase_is = ap (λ (x : Transfer). x.phase) (sym same);
+          input_is = ap (λ (x : Transfer). x.input) (sym same);
+        }
+
+range_from : (b a n : ℕ) → b ≤ a → AllByRecursion (λ (k : ℕ). b ≤ k) (range_with_len a n)
+range_from b a zero le = tt
+range_from b a (suc n) le = (le, range_from b (a + 1) n (omega arith))
+
+range_rises : (a n : ℕ) → EachPair (λ (i k : ℕ). i < k) (range_with_len a n)
+range_rises a zero = tt
+range_rises a (suc n) = (
+  all_weaker (λ (k : ℕ). a + 1 ≤ k) (λ (k : ℕ). a < k) (λ k le. omega arith) (range_with_len (a + 1) n)
+      (range_from (a + 1) (a + 1) n (omega arith)),
+  range_rises (a + 1) n,
+)
+
+module _ (m : Partners) (lists : List (List Queued)) (slot phase : ℕ) where
+  abbrev of_input : ℕ → Option Transfer
+  of_input i = noted slot phase i (list_of lists i) (partner_of m i)
+
+  -- it is of the slot and the phase
+  pub record IsOfPhase (t : Transfer) : Type 0 where
+    pub slot_is : t.slot ≡ slot
+    pub phase_is : t.phase ≡ phase
+
+  pub phase_transfers : AllByRecursion IsOfPhase (transfers_of m lists slot phase)
+  unfolding transfers_of
+  phase_transfers =
+      all_from_has IsOfPhase (filter_map of_input (range_with_len 0 (length m)))
+      (λ t has.
+      let it = looked_up of_input (range_with_len 0 (length m)) t has in
+      let own = noted_is slot phase it.origin (list_of lists it.origin) (partner_of m it.origin) t it.is in
+      record { slot_is = own.slot_is; phase_is = own.phase_is })
+
+  pub phase_in_order : EachPair IsMovedBefore (transfers_of m lists slot phase)
+  unfolding transfers_of
+  phase_in_order =
+      pairs_looked_up of_input (λ (i k : ℕ). i < k) IsMovedBefore
+      (λ i k a b lt first second.
+      let x = noted_is slot phase i (list_of lists i) (partner_of m i) a first in
+      let y = noted_is slot phase k (list_of lists k) (partner_of m k) b second in
+      let one = x.input_is in
+      let two = y.input_is in
+      let less : a.input < b.input = omega arith in
+      inr (x.slot_is ∙ sym y.slot_is, inr (x.phase_is ∙ sym y.phase_is, less)))
+      (range_with_len 0 (length m)) (range_rises 0 (length m))
+
+slot_transfers : (r : SlotRecord) → AllByRecursion (λ (t : Transfer). t.slot ≡ r.slot) (transfers_in r)
+unfolding transfers_in
+slot_transfers r =
+    all_both (λ (t : Transfer). t.slot ≡ r.slot) (transfers_of r.first r.arrived.inputs r.slot 1)
+    (transfers_of r.second r.sent.inputs r.slot 2)
+    (all_weaker (IsOfPhase r.first r.arrived.inputs r.slot 1) (λ (t : Transfer). t.slot ≡ r.slot) (λ t is. is.slot_is)
+    (transfers_of r.first r.arrived.inputs r.slot 1) (phase_transfers r.first r.arrived.inputs r.slot 1))
+    (all_weaker (IsOfPhase r.second r.sent.inputs r.slot 2) (λ (t : Transfer). t.slot ≡ r.slot) (λ t is. is.slot_is)
+    (transfers_of r.second r.sent.inputs r.slot 2) (phase_transfers r.second r.sent.inputs r.slot 2))
+
+slot_moved : (r : SlotRecord) → EachPair IsMovedBefore (transfers_in r)
+unfolding transfers_in
+slot_moved r =
+    let first = transfers_of r.first r.arrived.inputs r.slot 1 in
+    let second = transfers_of r.second r.sent.inputs r.slot 2 in
+    pairs_join IsMovedBefore first second (phase_in_order r.first r.arrived.inputs r.slot 1)
+    (phase_in_order r.second r.sent.inputs r.slot 2)
+    (λ a b one two.
+    let x =
+    all_of_has (IsOfPhase r.first r.arrived.inputs r.slot 1) first a (phase_transfers r.first r.arrived.inputs r.slot 1)
+    one in
+    let y =
+    all_of_has (IsOfPhase r.second r.sent.inputs r.slot 2) second b (phase_transfers r.second r.sent.inputs r.slot 2)
+    two in
+    let p = x.phase_is in
+    let q = y.phase_is in
+    inr (x.slot_is ∙ sym y.slot_is, inl (let lt : a.phase < b.phase = omega arith in lt)))
+
+-- the transfers of some slots
+pub record AreMoved (from to : ℕ) (ts : List Transfer) : Type 0 where
+  pub pairs : EachPair IsMovedBefore ts
+  pub late : AllByRecursion (λ (t : Transfer). from ≤ t.slot) ts
+  pub early : AllByRecursion (λ (t : Transfer). t.slot < to) ts
+
+module _ (w : Switch) where
+  moved_from : (m a : ℕ) (f g : Marked Fabric) (rs : List LimitedRecord) →
+      Runs w a (map (arriving w.came) (range_with_len a m)) f rs g → AreMoved a (a + m) (transfers_of_run (slots_in rs))
+  unfolding transfers_of_run
+  moved_from zero a f g [] run = record { pairs = tt; late = tt; early = tt }
+  moved_from zero a f g (r ∷ rs) run = absurd run
+  moved_from (suc m) a f g [] run = absurd run
+  moved_from (suc m) a f g (r ∷ rs) run =
+      let here = transfers_in r.of_slot in
+      let later = flat_map transfers_in (slots_in rs) in
+      let number : r.of_slot.slot ≡ a = run.1.runs.numbered in
+      let of = slot_transfers r.of_slot in
+      let rest = moved_from m (a + 1) run.0 g rs run.2 in
+      record {
+        pairs =
+            pairs_join IsMovedBefore here later (slot_moved r.of_slot) rest.pairs
+            (λ s t first second.
+            let now = all_of_has (λ (x : Transfer). x.slot ≡ r.of_slot.slot) here s of first in
+            let late = all_of_has (λ (x : Transfer). a + 1 ≤ x.slot) later t rest.late second in
+            inl (let lt : s.slot < t.slot = omega arith in lt));
+        late =
+            all_both (λ (t : Transfer). a ≤ t.slot) here later
+            (all_weaker (λ (t : Transfer). t.slot ≡ r.of_slot.slot) (λ (t : Transfer). a ≤ t.slot)
+            (λ t same. omega arith) here of)
+            (all_weaker (λ (t : Transfer). a + 1 ≤ t.slot) (λ (t : Transfer). a ≤ t.slot) (λ t le. omega arith) later
+            rest.late);
+        early =
+            all_both (λ (t : Transfer). t.slot < a + suc m) here later
+            (all_weaker (λ (t : Transfer). t.slot ≡ r.of_slot.slot) (λ (t : Transfer). t.slot < a + suc m)
+            (λ t same. omega arith) here of)
+            (all_weaker (λ (t : Transfer). t.slot < a + 1 + m) (λ (t : Transfer). t.slot < a + suc m)
+            (λ t lt. omega arith) later rest.early);
+      }
+
+  pub moved_in_order : (n : ℕ) (f g : Marked Fabric) (rs : List LimitedRecord) →
+      Runs w 0 (arriving_from w.came 0 n) f rs g → AreMoved 0 n (transfers_of_run (slots_in rs))
+  unfolding arriving_from
+  moved_in_order n f g rs run =
+      let it = moved_from n 0 f g rs run in
+      let e : 0 + n ≡ n = omega arith in
+      subst (λ (k : ℕ). AreMoved 0 k (transfers_of_run (slots_in rs))) e it

@@ -1,0 +1,301 @@
+-- How many proposals a run makes. A phase has no more than the number of ports squared, and none where no cell waits
+-- at an input. And in each slot in which a cell waits or comes one leaves, so there are no more such slots than cells
+-- that came.
+use Rattle.std.proofs.Common.{◌≡◌, ℕ, zero, suc, ◌+◌, ◌*◌, ◌-◌, ◌<◌, ◌≤◌, Bool, true, false, List, [], ◌∷◌, ◌++◌, length, map, get_or, fold, max, replicate, Option, Some, None, refl, sym, ap, ◌∙◌, subst, inl, ⊎_elim, arith, mul-le-mul}
+use Rattle.std.specs.Prelude.{is_some, sum}
+use Rattle.std.specs.List.{flat_map, range_with_len}
+use Rattle.std.proofs.lemmas.Bool.{cases_lt, eqb-true}
+use Rattle.std.proofs.lemmas.List.{length-map, nil_from_length}
+use Rattle.std.proofs.lemmas.List.FromFn.{get_or-map-range_with_len, length-map-range_with_len}
+use Rattle.std.proofs.lemmas.List.Sums.{sum_by-append, sum_by-cons, sum_by-le}
+use Rattle.cq_base.specs.Arrivals.{arrival_at}
+use Rattle.cq_base.specs.Arriving.{arriving}
+use Rattle.cq_base.specs.Cells.{is_for}
+use Rattle.cq_base.specs.declared.cell.Cell.{Cell}
+use Rattle.cq_base.specs.declared.cell.Queued.{Queued}
+use Rattle.cq_ideal.proofs.FlowCount.{come_count-first}
+use Rattle.cq_ideal.proofs.FlowRank.{present}
+use Rattle.cq_ideal.proofs.FlowRun.{come_count}
+use Rattle.cq_ideal.proofs.Waiting.{counted, waiting}
+use Rattle.cq_ideal.specs.Admission.{Admission, Marked, admission, admitted, marks_after}
+use Rattle.cq_ideal.specs.Ending.{arriving_from}
+use Rattle.cq_ideal.specs.IdealRun.{empty_ideal}
+use Rattle.cq_ideal.specs.IdealSlot.{IdealState, Sent}
+use Rattle.cq_laws.proofs.Held.{hold_as_many}
+use Rattle.cq_laws.proofs.LimitedWhole.{limited_empty_agree}
+use Rattle.cq_laws.proofs.Members.{among_at, first_at}
+use Rattle.cq_laws.proofs.OneRun.{outputs_at}
+use Rattle.cq_laws.proofs.OneSlot.{same_slot}
+use Rattle.cq_laws.specs.Agreement.{Agrees, SendsAlike}
+use Rattle.cq_laws.specs.Fabric.{Fabric, IsAmong, IsFabric, input}
+use Rattle.cq_laws.specs.Holding.{fabric_held}
+use Rattle.cq_laws.specs.LimitedFabric.{LimitedRecord, slots_in}
+use Rattle.cq_laws.specs.Measures.{proposals_in}
+use Rattle.cq_laws.specs.Phases.{came_to, list_arrived}
+use Rattle.cq_prefs.proofs.InputOrder.{OutputsInRange, are_offers}
+use Rattle.cq_prefs.proofs.Places.{outputs_at_most}
+use Rattle.cq_prefs.specs.FirstCells.{list_of, orders_of, output_order}
+use Rattle.cq_prefs.specs.Orders.{Orders, outputs_of, place_in, ports}
+use Rattle.cq_prefs.specs.Pairing.{IsMatching, Partners, partner_of, proposals, spent}
+use Rattle.cq_resume.specs.Parts.{opening}
+use Rattle.cq_resume.specs.Switch.{Switch}
+use Rattle.cq_stopped.proofs.Beside.{KnownRun, KnownSlot, admitted_come, arrived_is, sent_is}
+use Rattle.cq_stopped.proofs.Walk.{came_where}
+use Rattle.cq_stopped.proofs.Within.{shorter}
+
+-- ## In a phase
+
+module _ (o : Orders) (m : Partners) (is : IsMatching o m) where
+  spent_few : (i : ℕ) (p : Option ℕ) → partner_of m i ≡ p → spent (outputs_of o i) p ≤ length (outputs_of o i)
+  spent_few i None e = omega arith
+  spent_few i (Some j) e = let l : place_in (outputs_of o i) j < length (outputs_of o i) = is.offered i j e in omega
+      arith
+
+  -- where no order is longer than this
+  proposals_within : (b : ℕ) → ((i : ℕ) → length (outputs_of o i) ≤ b) → proposals o m ≤ ports o * b
+  proposals_within b few =
+      let f : ℕ → ℕ = λ i. spent (outputs_of o i) (partner_of m i) in
+      let n = ports o in
+      let long = length-map-range_with_len f 0 n in
+      let all : sum (map f (range_with_len 0 n)) ≤ length (map f (range_with_len 0 n)) * b =
+      sum_by-le (λ (x : ℕ). x) b (map f (range_with_len 0 n))
+      (λ k d inside.
+      let here : get_or (map f (range_with_len 0 n)) k d ≡ f k =
+      get_or-map-range_with_len f 0 n k k d (omega arith) (omega arith) in
+      let one : f k ≤ length (outputs_of o k) = spent_few k (partner_of m k) refl in
+      let most = few k in
+      omega arith) in
+      subst (λ (k : ℕ). sum (map f (range_with_len 0 n)) ≤ k * b) long all
+
+in_range : (f : Fabric) → IsFabric f → OutputsInRange f.inputs
+in_range f is i j c first =
+    let at = first_at (is_for j) (input f i) c first in
+    let same : c.cell.output ≡ j = eqb-true c.cell.output j at.passes in
+    let inside = is.outputs i c (among_at (input f i) at.place c at.at) in
+    omega arith
+
+module _ (f : Fabric) (m : Partners) (is : IsMatching (orders_of f.inputs) m) where
+  proposals_few : IsFabric f → proposals (orders_of f.inputs) m ≤ length f.inputs * length f.inputs
+  proposals_few fabric =
+      let o = orders_of f.inputs in
+      let n : ports o ≡ length f.inputs = length-map f.inputs output_order in
+      subst (λ (k : ℕ). proposals o m ≤ k * k) n
+      (proposals_within o m is (ports o) (outputs_at_most o (are_offers f.inputs (in_range f fabric))))
+
+  proposals_none : ((i : ℕ) → length (input f i) ≡ 0) → proposals (orders_of f.inputs) m ≡ 0
+  proposals_none none =
+      let o = orders_of f.inputs in
+      let within : proposals o m ≤ ports o * 0 =
+      proposals_within o m is 0
+      (λ i.
+      let e : length (outputs_of o i) ≡ 0 =
+      ap length (outputs_at f.inputs i ∙ ap output_order (nil_from_length (input f i) (none i))) in
+      omega arith) in
+      omega arith
+
+-- ## What waits
+
+added : List ℕ → ℕ
+added [] = 0
+added (n ∷ ns) = n + added ns
+
+-- how many cells wait in a fabric
+waits : Fabric → ℕ
+waits f = added (fabric_held f)
+
+added_is : (lists : List (List Queued)) → waiting lists ≡ added (map length lists)
+unfolding waiting added
+added_is [] = refl
+added_is (xs ∷ lists) = ap (λ (n : ℕ). length xs + n) (added_is lists)
+
+waits_is : (slot : ℕ) (f : Fabric) (ideal : IdealState) → Agrees slot f ideal → waiting ideal.lists ≡ waits f
+unfolding waits
+waits_is slot f ideal agrees = added_is ideal.lists ∙ ap added (sym (hold_as_many slot f ideal agrees))
+
+-- where none waits none is in a list
+none_among : (lists : List (List Queued)) (j : ℕ) (q : Queued) → waiting lists ≡ 0 → IsAmong q (list_of lists j) → ⊥
+unfolding waiting
+none_among [] j q none has = has
+none_among ([] ∷ lists) zero q none has = has
+none_among ((x ∷ xs) ∷ lists) zero q none has = (let P : ⊥ = omega arith in P)
+none_among (xs ∷ lists) (suc j) q none has =
+    let rest : waiting lists ≡ 0 = omega arith in none_among lists j q rest has
+
+empty_waits : (n : ℕ) → waiting (replicate n []) ≡ 0
+unfolding waiting
+empty_waits zero = refl
+empty_waits (suc n) = let rest = empty_waits n in omega arith
+
+-- what is admitted is no more than what arrives
+fewer_admitted : (marks : List Bool) (cells : List (Option Cell)) →
+    length (present (admitted marks cells)) ≤ length (present cells)
+fewer_admitted [] cells = omega arith
+fewer_admitted (mark ∷ marks) [] = omega arith
+fewer_admitted (true ∷ marks) (None ∷ cells) = fewer_admitted marks cells
+fewer_admitted (false ∷ marks) (None ∷ cells) = fewer_admitted marks cells
+fewer_admitted (true ∷ marks) (Some cell ∷ cells) = let rest = fewer_admitted marks cells in omega arith
+fewer_admitted (false ∷ marks) (Some cell ∷ cells) = let rest = fewer_admitted marks cells in omega arith
+
+arrival_present : (cells : List (Option Cell)) (i : ℕ) → is_some (arrival_at cells i) ≡ true →
+    1 ≤ length (present cells)
+arrival_present [] i some = absurd (let P : ⊥ = cc in P)
+arrival_present (None ∷ cells) zero some = absurd (let P : ⊥ = cc in P)
+arrival_present (None ∷ cells) (suc i) some = arrival_present cells i some
+arrival_present (Some cell ∷ cells) i some = omega arith
+
+square_few : (n : ℕ) → n ≤ 64 → n * n ≤ 4096
+square_few n few = let square : n * n ≤ 64 * 64 = mul-le-mul few few in omega arith
+
+-- ## In a slot
+
+module _ (w : Switch) (few : length w.machines ≤ 64) where
+  module _ (slot : ℕ) (f g : Marked Fabric) (r : LimitedRecord) (k : KnownSlot w slot (arriving w.came slot) f r g)
+    where
+      abbrev came : ℕ
+      came = length (present r.admission.cells)
+
+      came_few : came ≤ length (present (arriving w.came slot))
+      unfolding admission
+      came_few =
+          let after = marks_after w.limits (fabric_held f.state) f.marks (arriving w.came slot) in
+          let same : came ≡ length (present (admitted after (arriving w.came slot))) =
+          ap (λ (a : Admission). length (present a.cells)) k.step.admits in
+          let less = fewer_admitted after (arriving w.came slot) in
+          omega arith
+
+      -- the ideal switch beside it
+      beside : SendsAlike w.machines slot r.admission.cells k.ideal.state r.of_slot.gone g.state
+      beside =
+          same_slot w.machines slot w.classes r.admission.cells f.state g.state k.ideal.state r.of_slot k.agrees.states
+          (admitted_come w slot (arriving w.came slot) f g r k) k.step.runs
+
+      fewer_wait : waits g.state ≤ waits f.state + came - 1
+      fewer_wait =
+          let before = waits_is slot f.state k.ideal.state k.agrees.states in
+          let after = waits_is (slot + 1) g.state beside.next beside.agrees in
+          let sent : Sent = record { gone = r.of_slot.gone; after = beside.next } in
+          let less = (counted w.machines slot r.admission.cells k.ideal.state sent beside.sent).fewer in
+          omega arith
+
+      proposed_few : sum (proposals_in r.of_slot) ≤ 8192
+      unfolding proposals_in
+      proposed_few =
+          let arrived_many : length r.of_slot.arrived.inputs ≡ length w.machines =
+          k.step.runs.arrive.ports ∙ k.ports_are in
+          let sent_many : length r.of_slot.sent.inputs ≡ length w.machines =
+          ap (λ (l : List (List Queued)). length l) k.step.runs.depart.inputs ∙ k.step.runs.fill.moves.ports.0
+          ∙ arrived_many in
+          let square = square_few (length w.machines) few in
+          let first : proposals (orders_of r.of_slot.arrived.inputs) r.of_slot.first
+          ≤ length w.machines * length w.machines =
+          subst (λ (n : ℕ). proposals (orders_of r.of_slot.arrived.inputs) r.of_slot.first ≤ n * n) arrived_many
+          (proposals_few r.of_slot.arrived r.of_slot.first k.step.runs.first_chosen.matching
+          (arrived_is w slot (arriving w.came slot) f g r k).fabric) in
+          let second : proposals (orders_of r.of_slot.sent.inputs) r.of_slot.second
+          ≤ length w.machines * length w.machines =
+          subst (λ (n : ℕ). proposals (orders_of r.of_slot.sent.inputs) r.of_slot.second ≤ n * n) sent_many
+          (proposals_few r.of_slot.sent r.of_slot.second k.step.runs.second_chosen.matching
+          (sent_is w slot (arriving w.came slot) f g r k).fabric) in
+          omega arith
+
+      -- nothing is proposed where nothing waits and nothing comes
+      no_lists : waits f.state ≡ 0 → (i : ℕ) → length (input f.state i) ≡ 0
+      no_lists none i = by (input f.state i) refl
+        where
+          by : (xs : List Queued) → input f.state i ≡ xs → length (input f.state i) ≡ 0
+          by [] is = ap (λ (l : List Queued). length l) is
+          by (x ∷ xs) is =
+              let among : IsAmong x (input f.state i) = subst (λ (l : List Queued). IsAmong x l) (sym is) (inl refl) in
+              let before = waits_is slot f.state k.ideal.state k.agrees.states in
+              absurd (none_among k.ideal.state.lists x.cell.output x (before ∙ none)
+              ((k.agrees.states.same x.cell.output x).1 (inl (i, among, refl))))
+
+      none_proposed : waits f.state ≡ 0 → came ≡ 0 → sum (proposals_in r.of_slot) ≡ 0
+      unfolding proposals_in
+      none_proposed none quiet =
+          let before = no_lists none in
+          let arrived : (i : ℕ) → length (input r.of_slot.arrived i) ≡ 0 = λ i. no_arrival i in
+          let after : (i : ℕ) → length (input r.of_slot.sent i) ≡ 0 =
+          λ i.
+          let a = arrived i in
+          let b = shorter r.of_slot.first r.of_slot.arrived r.of_slot.filled k.step.runs.fill i in
+          let c : length (input r.of_slot.sent i) ≡ length (input r.of_slot.filled i) =
+          ap (λ (l : List (List Queued)). length (list_of l i)) k.step.runs.depart.inputs in
+          omega arith in
+          let first = proposals_none r.of_slot.arrived r.of_slot.first k.step.runs.first_chosen.matching arrived in
+          let second = proposals_none r.of_slot.sent r.of_slot.second k.step.runs.second_chosen.matching after in
+          omega arith
+        where
+          comes_none : (i : ℕ) (o : Option Queued) → came_to r.of_slot.came i ≡ o → length (input f.state i) ≡ 0 →
+              length (list_arrived f.state (came_to r.of_slot.came i) (input f.state i)) ≡ 0
+          comes_none i None is none =
+              ap (λ (o : Option Queued). length (list_arrived f.state o (input f.state i))) is ∙ none
+          comes_none i (Some q) is none =
+              let some : is_some (arrival_at r.admission.cells i) ≡ true =
+              sym (came_where w.machines slot 0 r.admission.cells f.state.ranks (record {
+                came = r.of_slot.came;
+                ranks =
+                    r.of_slot.arrived.ranks;
+              }) k.step.runs.arrive.ranked i)
+              ∙ ap (λ (o : Option Queued). is_some o) is in
+              let one = arrival_present r.admission.cells i some in
+              absurd (omega arith)
+
+          no_arrival : (i : ℕ) → length (input r.of_slot.arrived i) ≡ 0
+          no_arrival i =
+              ap (λ (l : List Queued). length l) (k.step.runs.arrive.lists i)
+              ∙ comes_none i (came_to r.of_slot.came i) refl (no_lists none i)
+
+      slot_proposed : sum (proposals_in r.of_slot) + 8192 * waits g.state ≤ 8192 * (waits f.state + came)
+      slot_proposed =
+          let less = fewer_wait in
+          let most = proposed_few in
+          ⊎_elim
+          (λ (lt : 0 < waits f.state + came).
+          let le : sum (proposals_in r.of_slot) + 8192 * waits g.state ≤ 8192 * (waits f.state + came) = omega arith
+          in le)
+          (λ (ge : waits f.state + came ≤ 0).
+          let none = none_proposed (omega arith) (omega arith) in
+          let le : sum (proposals_in r.of_slot) + 8192 * waits g.state ≤ 8192 * (waits f.state + came) = omega arith
+          in le)
+          (cases_lt 0 (waits f.state + came))
+
+  -- ## In a run
+
+  run_proposed : (slot n : ℕ) (f g : Marked Fabric) (rs : List LimitedRecord) → KnownRun w slot n f rs g →
+      sum (flat_map proposals_in (slots_in rs)) + 8192 * waits g.state
+      ≤ 8192 * (waits f.state + come_count (arriving_from w.came slot n))
+  unfolding arriving_from come_count
+  run_proposed slot zero f g [] run =
+      let same : waits g.state ≡ waits f.state = ap (λ (h : Marked Fabric). waits h.state) run in omega arith
+  run_proposed slot zero f g (r ∷ rs) run = absurd run
+  run_proposed slot (suc n) f g [] run = absurd run
+  run_proposed slot (suc n) f g (r ∷ rs) run =
+      let here = slot_proposed slot f run.0 r run.1 in
+      let few = came_few slot f run.0 r run.1 in
+      let rest = run_proposed (slot + 1) n run.0 g rs run.2 in
+      let both : sum (proposals_in r.of_slot ++ flat_map proposals_in (slots_in rs))
+      ≡ sum (proposals_in r.of_slot) + sum (flat_map proposals_in (slots_in rs)) =
+      sum_by-append (λ (n : ℕ). n) (proposals_in r.of_slot) (flat_map proposals_in (slots_in rs)) in
+      omega arith
+
+  pub all_proposed : (slots : ℕ) (ranks : List (List ℕ)) (g : Marked Fabric) (rs : List LimitedRecord) →
+      KnownRun w 0 slots (opening w ranks) rs g →
+      sum (flat_map proposals_in (slots_in rs)) ≤ 8192 * length w.came
+  unfolding arriving_from
+  all_proposed slots ranks g rs run =
+      let most = run_proposed 0 slots (opening w ranks) g rs run in
+      let start =
+      waits_is 0 (opening w ranks).state (empty_ideal (length w.machines) ranks)
+      (limited_empty_agree (length w.machines) ranks).states in
+      let none = empty_waits (length w.machines) in
+      let come = come_count-first w.came slots in
+      omega arith
+
+-- the greatest is no more than all together
+pub most_of_all : (a : ℕ) (xs : List ℕ) → fold max a xs ≤ a + sum xs
+most_of_all a [] = omega arith
+most_of_all a (x ∷ xs) =
+    let rest = most_of_all (max a x) xs in
+    let all = sum_by-cons (λ (n : ℕ). n) x xs in
+    omega arith

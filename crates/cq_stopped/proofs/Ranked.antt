@@ -1,0 +1,172 @@
+-- What the cells of a slot are ranked: each has the level of its class, a rank that fits, and one that is no less than
+-- the floor that its class had before the slot, since no rank that is given lowers a floor.
+use Rattle.std.proofs.Common.{◌≡◌, ℕ, zero, suc, ◌+◌, ◌<◌, ◌≤◌, ◌^◌, Bool, true, false, cond, List, [], ◌∷◌, length, Option, Some, None, Result, Ok, Err, refl, sym, ap, ◌∙◌, subst, ⊎_elim, arith}
+use Rattle.std.specs.Prelude.{nat_lt, slice_index_or, slice_set}
+use Rattle.std.proofs.lemmas.Bool.{cases_eq, ltb-true}
+use Rattle.std.proofs.lemmas.List.{get_or-set_other, get_or-set_same, length-set}
+use Rattle.std.proofs.lemmas.Option.{same_Some}
+use Rattle.cq_base.specs.Arrivals.{arrival_at}
+use Rattle.cq_base.specs.declared.cell.Cell.{Cell}
+use Rattle.cq_base.specs.declared.cell.Queued.{Queued}
+use Rattle.cq_base.specs.declared.cell.TagFault.{TagFault}
+use Rattle.cq_ideal.proofs.Came.{came_from}
+use Rattle.cq_ideal.specs.Ranking.{Ranking, after_input, keyed, ranking}
+use Rattle.cq_laws.specs.Phases.{came_to}
+use Rattle.cq_laws.specs.Quiet.{KeepLaws}
+use Rattle.cq_rank.specs.Machine.{KeepsLaws, Machine, machine_at}
+
+-- what came of the inputs from one on, where no rank was too great
+pub record Behind (o : Option Queued) (x : Result Ranking TagFault) (r : Ranking) : Type 0 where
+  pub rest : Ranking
+  pub is : x ≡ Ok rest
+  pub came : r.came ≡ o ∷ rest.came
+  pub states : r.ranks ≡ rest.ranks
+
+pub behind : (o : Option Queued) (x : Result Ranking TagFault) (r : Ranking) → after_input o x ≡ Ok r → Behind o x r
+behind o (Ok rest) r h =
+    let made : Ranking = record { came = o ∷ rest.came; ranks = rest.ranks } in
+    let same : made ≡ r = cc in
+    record {
+      rest = rest;
+      is = refl;
+      came = ap (λ (y : Ranking). y.came) (sym same);
+      states = ap (λ (y : Ranking). y.ranks) (sym same);
+    }
+behind o (Err fault) r h = absurd (let P : ⊥ = cc in P)
+
+pub fits : (b : Bool) (x : Result Ranking TagFault) (fault : TagFault) (r : Ranking) → cond b x (Err fault) ≡ Ok r →
+    (b ≡ true) × (x ≡ Ok r)
+fits true x fault r h = (refl, h)
+fits false x fault r h = absurd (let P : ⊥ = cc in P)
+
+-- no floor falls where a rank is given
+no_lower : (m : Machine) (laws : KeepsLaws m) (s : List ℕ) (c d : ℕ) → length s ≡ m.size → c < m.classes →
+    d < m.classes → m.floor s d ≤ m.floor (m.given s c) d
+no_lower m laws s c d sized known other =
+    ⊎_elim
+    (λ (same : c ≡ d).
+    let is : m.floor (m.given s c) d ≡ m.ranked s d =
+    subst (λ (e : ℕ). m.floor (m.given s c) e ≡ m.ranked s e) same (laws.given_floor s c sized known) in
+    let above : m.floor s d ≤ m.ranked s d = laws.above s d sized other in
+    let le : m.floor s d ≤ m.floor (m.given s c) d = omega arith in le)
+    (λ ne. laws.other_floor s c d sized known other ne)
+    (cases_eq c d)
+
+module _ (ms : List Machine) (slot : ℕ) where
+  -- the rank states after a cell got its rank
+  abbrev given : List (List ℕ) → Cell → List ℕ
+  given ranks cell = (machine_at ms cell.output).given (slice_index_or ranks cell.output []) cell.class
+
+  abbrev after : List (List ℕ) → Cell → List (List ℕ)
+  after ranks cell = slice_set ranks cell.output (given ranks cell)
+
+  -- the cell is for an output that there is, and of one of its classes
+  pub record IsKnown (many : ℕ) (cell : Cell) : Type 0 where
+    pub inside : cell.output < many
+    pub class : cell.class < (machine_at ms cell.output).classes
+
+  -- what a cell that came got
+  pub record IsRanked (ranks : List (List ℕ)) (q : Queued) : Type 0 where
+    pub level : q.key.level ≡ (machine_at ms q.cell.output).level q.cell.class
+    pub rank : q.key.rank < 2 ^ 128
+    pub above : (machine_at ms q.cell.output).floor (slice_index_or ranks q.cell.output []) q.cell.class ≤ q.key.rank
+
+  module _ (ranks : List (List ℕ)) (keep : KeepLaws ms ranks) (cell : Cell) (known : IsKnown (length ranks) cell) where
+    many : length (after ranks cell) ≡ length ranks
+    many = length-set ranks cell.output (given ranks cell)
+
+    sized : length (slice_index_or ranks cell.output []) ≡ (machine_at ms cell.output).size
+    sized = keep.sized cell.output known.inside
+
+    still_keep : KeepLaws ms (after ranks cell)
+    still_keep =
+        record {
+          laws = λ j inside. let same = many in keep.laws j (let l : j < length ranks = omega arith in l);
+          sized = λ j inside.
+              ⊎_elim
+              (λ (same : cell.output ≡ j).
+              subst (λ (o : ℕ). length (slice_index_or (after ranks cell) o []) ≡ (machine_at ms o).size) same
+              (ap (λ (s : List ℕ). length s) (get_or-set_same ranks cell.output (given ranks cell) [] known.inside)
+              ∙ (keep.laws cell.output known.inside).given_length (slice_index_or ranks cell.output []) cell.class sized
+              known.class))
+              (λ ne.
+              ap (λ (s : List ℕ). length s)
+              (get_or-set_other ranks cell.output j (given ranks cell) [] (λ e. ne (sym e)))
+              ∙ (let same = many in keep.sized j (let l : j < length ranks = omega arith in l)))
+              (cases_eq cell.output j);
+        }
+
+    rises : (j d : ℕ) → j < length ranks → d < (machine_at ms j).classes →
+        (machine_at ms j).floor (slice_index_or ranks j []) d
+        ≤ (machine_at ms j).floor (slice_index_or (after ranks cell) j []) d
+    rises j d inside class =
+        ⊎_elim
+        (λ (same : cell.output ≡ j).
+        subst (λ (o : ℕ).
+        d < (machine_at ms o).classes →
+        (machine_at ms o).floor (slice_index_or ranks o []) d
+        ≤ (machine_at ms o).floor (slice_index_or (after ranks cell) o []) d) same
+        (λ here.
+        subst (λ (s : List ℕ).
+        (machine_at ms cell.output).floor (slice_index_or ranks cell.output []) d
+        ≤ (machine_at ms cell.output).floor s d)
+        (sym (get_or-set_same ranks cell.output (given ranks cell) [] known.inside))
+        (no_lower (machine_at ms cell.output) (keep.laws cell.output known.inside)
+        (slice_index_or ranks cell.output []) cell.class d sized known.class here)) class)
+        (λ ne.
+        let kept : slice_index_or (after ranks cell) j [] ≡ slice_index_or ranks j [] =
+        get_or-set_other ranks cell.output j (given ranks cell) [] (λ e. ne (sym e)) in
+        let same = ap (λ (s : List ℕ). (machine_at ms j).floor s d) kept in
+        let le : (machine_at ms j).floor (slice_index_or ranks j []) d
+        ≤ (machine_at ms j).floor (slice_index_or (after ranks cell) j []) d = omega arith in le)
+        (cases_eq cell.output j)
+
+  pub ranked_from : (i : ℕ) (cells : List (Option Cell)) (ranks : List (List ℕ)) (r : Ranking) → KeepLaws ms ranks →
+      ((k : ℕ) (cell : Cell) → arrival_at cells k ≡ Some cell → IsKnown (length ranks) cell) →
+      ranking ms slot i cells ranks ≡ Ok r → (k : ℕ) (q : Queued) → came_to r.came k ≡ Some q → IsRanked ranks q
+  ranked_from i [] ranks r keep known h k q at =
+      let made : Ranking = record { came = []; ranks = ranks } in
+      let same : made ≡ r = cc in
+      let clash : None ≡ Some q = ap (λ (x : Ranking). came_to x.came k) same ∙ at in
+      absurd (let P : ⊥ = cc in P)
+  ranked_from i (None ∷ cells) ranks r keep known h zero q at =
+      let b = behind None (ranking ms slot (i + 1) cells ranks) r h in
+      let clash : None ≡ Some q = ap (λ (l : List (Option Queued)). came_to l 0) (sym b.came) ∙ at in
+      absurd (let P : ⊥ = cc in P)
+  ranked_from i (None ∷ cells) ranks r keep known h (suc k) q at =
+      let b = behind None (ranking ms slot (i + 1) cells ranks) r h in
+      ranked_from (i + 1) cells ranks b.rest keep (λ l cell is. known (suc l) cell is) b.is k q
+      (ap (λ (l : List (Option Queued)). came_to l (suc k)) (sym b.came) ∙ at)
+  ranked_from i (Some cell ∷ cells) ranks r keep known h zero q at =
+      let here = known zero cell refl in
+      let m = machine_at ms cell.output in
+      let state = slice_index_or ranks cell.output [] in
+      let one : Queued = keyed cell (m.level cell.class) (m.ranked state cell.class) slot i in
+      let f = fits (nat_lt (m.ranked state cell.class) (2 ^ 128)) _ _ r h in
+      let b = behind (Some one) (ranking ms slot (i + 1) cells (after ranks cell)) r f.1 in
+      let is : one ≡ q =
+      same_Some one q (ap (λ (l : List (Option Queued)). came_to l 0) (sym b.came) ∙ at) in
+      subst (λ (x : Queued). IsRanked ranks x) is
+      (record {
+        level = refl;
+        rank = ltb-true (m.ranked state cell.class) (2 ^ 128) f.0;
+        above = (keep.laws cell.output here.inside).above state cell.class (keep.sized cell.output here.inside)
+            here.class;
+      })
+  ranked_from i (Some cell ∷ cells) ranks r keep known h (suc k) q at =
+      let here = known zero cell refl in
+      let m = machine_at ms cell.output in
+      let state = slice_index_or ranks cell.output [] in
+      let one : Queued = keyed cell (m.level cell.class) (m.ranked state cell.class) slot i in
+      let f = fits (nat_lt (m.ranked state cell.class) (2 ^ 128)) _ _ r h in
+      let b = behind (Some one) (ranking ms slot (i + 1) cells (after ranks cell)) r f.1 in
+      let at' : came_to b.rest.came k ≡ Some q =
+      ap (λ (l : List (Option Queued)). came_to l (suc k)) (sym b.came) ∙ at in
+      let same : length (after ranks cell) ≡ length ranks = many ranks keep cell here in
+      let it =
+      ranked_from (i + 1) cells (after ranks cell) b.rest (still_keep ranks keep cell here)
+      (λ l other is. subst (λ (n : ℕ). IsKnown n other) (sym same) (known (suc l) other is)) b.is k q at' in
+      let own = known (suc k) q.cell (came_from ms slot (i + 1) cells (after ranks cell) b.rest b.is k q at').cell_is in
+      let up = rises ranks keep cell here q.cell.output q.cell.class own.inside own.class in
+      let above = it.above in
+      record { level = it.level; rank = it.rank; above = omega arith }

@@ -1,0 +1,154 @@
+-- Where the cells of a stopped run stand: each one that waits at an input or at an output waits for its output in the
+-- ideal switch, and each one that left is among those that left its output. So of two that wait under one name both
+-- are one, and of all others the names differ.
+use Rattle.std.proofs.Common.{◌≡◌, ℕ, ◌<◌, ◌≤◌, ◌⊎◌, List, [], ◌∷◌, length, Option, Some, refl, sym, ap, ◌∙◌, subst, inl, inr, ⊎_elim, arith}
+use Rattle.std.proofs.lemmas.Bool.{cases_lt}
+use Rattle.std.proofs.lemmas.List.{get_or_past}
+use Rattle.cq_base.specs.Arriving.{arriving_at}
+use Rattle.cq_base.specs.Cells.{EachPair as EachCell}
+use Rattle.cq_base.specs.declared.cell.Cell.{Cell}
+use Rattle.cq_base.specs.declared.cell.Departure.{Departure}
+use Rattle.cq_base.specs.declared.cell.Queued.{Queued}
+use Rattle.cq_ideal.specs.IdealSlot.{IdealState}
+use Rattle.cq_laws.specs.Fabric.{Fabric, IsAmong, buffer, input}
+use Rattle.cq_laws.specs.Places.{HasFor}
+use Rattle.cq_prefs.specs.FirstCells.{list_of}
+use Rattle.cq_resume.proofs.Chained.{EachPair}
+use Rattle.cq_resume.proofs.GoesOn.{has_of_among}
+use Rattle.cq_resume.proofs.Having.{Has, all_of_has, has_left, has_right, pair_of_has}
+use Rattle.cq_resume.proofs.Pooled.{pairs_cross, pairs_left, pairs_right}
+use Rattle.cq_resume.specs.Switch.{Switch}
+use Rattle.cq_stopped.proofs.Joined.{has_number}
+use Rattle.cq_stopped.proofs.Ran.{Follows, IsOwn, IsSentRight, Known, left_at, pool_at}
+use Rattle.cq_stopped.proofs.Stepping.{among_of_has}
+
+pub each_pair_of : (R : Queued → Queued → Type 0) (xs : List Queued) → EachCell R xs → EachPair R xs
+each_pair_of R [] pairs = tt
+each_pair_of R (x ∷ xs) pairs = (pairs.0, each_pair_of R xs pairs.1)
+
+-- two cells have one name
+abbrev pub SameName : Queued → Queued → Type 0
+SameName a b = (a.key.slot ≡ b.key.slot) × (a.key.input ≡ b.key.input)
+
+module _ (w : Switch) (n : ℕ) (f : Fabric) (ideal : IdealState) (cs : List (List (Option Queued)))
+    (sent : List Departure) (known : Known w n f ideal cs sent) where
+  -- a cell that the run keeps: it left its output or waits for it
+  pub record IsKept (q : Queued) : Type 0 where
+    pub inside : q.cell.output < length w.machines
+    pub own : IsOwn w n q.cell.output q
+    pub pool : Has (pool_at q.cell.output sent ideal) q
+
+  -- one that waits
+  pub record Waits (q : Queued) : Type 0 where
+    pub kept : IsKept q
+    pub there : Has (list_of ideal.lists q.cell.output) q
+
+  -- one that left
+  pub record Left (d : Departure) : Type 0 where
+    pub kept : IsKept d.queued
+    pub there : Has (left_at d.queued.cell.output sent) d.queued
+
+  kept_at : (q : Queued) → q.cell.output < length w.machines → Has (pool_at q.cell.output sent ideal) q → IsKept q
+  kept_at q inside has =
+      record {
+        inside = inside;
+        own = all_of_has (IsOwn w n q.cell.output) (pool_at q.cell.output sent ideal) q
+            (known.lanes q.cell.output inside).own has;
+        pool = has;
+      }
+
+  waits_for : (j : ℕ) (q : Queued) → q.cell.output ≡ j → HasFor f j q → Waits q
+  waits_for j q same has =
+      let among : IsAmong q (list_of ideal.lists j) = (known.agrees.same j q).1 has in
+      let there : Has (list_of ideal.lists q.cell.output) q =
+      subst (λ (o : ℕ). Has (list_of ideal.lists o) q) (sym same) (has_of_among (list_of ideal.lists j) q among) in
+      let many : length ideal.lists ≡ length w.machines = known.agrees.ports ∙ known.ports in
+      let inside : q.cell.output < length w.machines =
+      ⊎_elim (λ (lt : q.cell.output < length w.machines). lt)
+      (λ (ge : length w.machines ≤ q.cell.output).
+      absurd (subst (λ (l : List Queued). Has l q)
+      (get_or_past ideal.lists q.cell.output []
+      (let le : length ideal.lists ≤ q.cell.output = omega arith in le)) there))
+      (cases_lt q.cell.output (length w.machines)) in
+      record {
+        kept =
+            kept_at q inside (has_right (left_at q.cell.output sent) (list_of ideal.lists q.cell.output) q there);
+        there = there;
+      }
+
+  pub waits_at : (i : ℕ) (q : Queued) → Has (input f i) q → Waits q
+  waits_at i q has = waits_for q.cell.output q refl (inl (i, among_of_has (input f i) q has, refl))
+
+  pub waits_behind : (j : ℕ) (q : Queued) → Has (buffer f j) q → Waits q
+  waits_behind j q has =
+      let among = among_of_has (buffer f j) q has in
+      waits_for j q (known.agrees.fabric.own j q among) (inr among)
+
+  pub has_left_it : (d : Departure) → Has sent d → Left d
+  has_left_it d has =
+      let right = all_of_has (IsSentRight w n) sent d known.departed has in
+      let there : Has (left_at d.queued.cell.output sent) d.queued =
+      has_number (λ (e : Departure). e.output) (λ (e : Departure). e.queued) sent d d.queued.cell.output right.own
+      has in
+      let inside : d.queued.cell.output < length w.machines =
+      subst (λ (o : ℕ). o < length w.machines) right.own right.inside in
+      record {
+        kept =
+            kept_at d.queued inside
+            (has_left (left_at d.queued.cell.output sent) (list_of ideal.lists d.queued.cell.output) d.queued there);
+        there = there;
+      }
+
+  -- ## One name
+
+  -- cells of one name are one cell of the schedule
+  pub same_cell : (a b : Queued) → IsKept a → IsKept b → SameName a b → a.cell ≡ b.cell
+  same_cell a b one two name =
+      let both : Some a.cell ≡ Some b.cell =
+      sym one.own.keyed.arrives
+      ∙ ap (λ (t : ℕ). arriving_at w.came t a.key.input) name.0
+      ∙ ap (λ (i : ℕ). arriving_at w.came b.key.slot i) name.1
+      ∙ two.own.keyed.arrives in
+      let same : a.cell ≡ b.cell = cc in same
+
+  pairs_at : (j : ℕ) → j < length w.machines → EachPair Follows (pool_at j sent ideal)
+  pairs_at j inside = (known.lanes j inside).pairs
+
+  -- two that wait under one name are one
+  pub same_waiting : (a b : Queued) → Waits a → Waits b → SameName a b → a ≡ b
+  same_waiting a b one two name =
+      let o = a.cell.output in
+      let outputs : a.cell.output ≡ b.cell.output =
+      ap (λ (c : Cell). c.output) (same_cell a b one.kept two.kept name) in
+      let there : Has (list_of ideal.lists a.cell.output) b =
+      subst (λ (j : ℕ). Has (list_of ideal.lists j) b) (sym outputs) two.there in
+      ⊎_elim
+      (λ (either : Follows a b ⊎ Follows b a).
+      ⊎_elim (λ (before : Follows a b). absurd (before.differ name.0 name.1))
+      (λ (before : Follows b a). absurd (before.differ (sym name.0) (sym name.1))) either)
+      (λ (same : a ≡ b). same)
+      (pair_of_has Follows (list_of ideal.lists o) a b
+      (pairs_right Follows (left_at o sent) (list_of ideal.lists o) (pairs_at o one.kept.inside)) one.there there)
+
+  -- of what left an output, what waits for it follows
+  pub follows_left : (d : Departure) (q : Queued) → Has sent d → Waits q → d.queued.cell.output ≡ q.cell.output →
+      Follows d.queued q
+  follows_left d q has waits outputs =
+      let gone = has_left_it d has in
+      let j = q.cell.output in
+      pairs_cross Follows (left_at j sent) (list_of ideal.lists j) d.queued q (pairs_at j waits.kept.inside)
+      (subst (λ (o : ℕ). Has (left_at o sent) d.queued) outputs gone.there) waits.there
+
+  -- what waits has another name than what left
+  pub differ_left : (d : Departure) (q : Queued) → Has sent d → Waits q → SameName q d.queued → ⊥
+  differ_left d q has waits name =
+      let gone = has_left_it d has in
+      let outputs : d.queued.cell.output ≡ q.cell.output =
+      ap (λ (c : Cell). c.output) (sym (same_cell q d.queued waits.kept gone.kept name)) in
+      (follows_left d q has waits outputs).differ (sym name.0) (sym name.1)
+
+  pub left_pairs : (j : ℕ) → j < length w.machines → EachPair Follows (left_at j sent)
+  left_pairs j inside = pairs_left Follows (left_at j sent) (list_of ideal.lists j) (pairs_at j inside)
+
+  pub waiting_pairs : (j : ℕ) → j < length w.machines → EachPair Follows (list_of ideal.lists j)
+  waiting_pairs j inside = pairs_right Follows (left_at j sent) (list_of ideal.lists j) (pairs_at j inside)
