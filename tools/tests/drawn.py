@@ -231,7 +231,7 @@ def compare(draw: random.Random) -> list[str]:
     fabric.write()
     slots = max((slot + 1 for slot, _, _ in fabric.sent), default=0)
     wanted = {
-        "run": {"slots": slots, "proposals": sum(fabric.proposals), "proposals_most": max(fabric.proposals, default=0)},
+        "run": {"slots": slots, "proposals": fabric.proposals, "proposals_most": fabric.most},
         "flows": flows_of(fabric),
         "outputs": outputs_of(fabric, slots),
         "inputs": inputs_of(fabric, slots),
