@@ -26,4 +26,5 @@ pub mod Proposed
 pub mod InRange
 pub mod Told
 pub mod ReadAs
+pub mod RunWhole
 pub mod Together

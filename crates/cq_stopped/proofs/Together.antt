@@ -24,11 +24,12 @@ use Rattle.cq_stopped.proofs.Lined.{AreMoved, DepartsBefore, departures_in_order
 use Rattle.cq_stopped.proofs.Order.{stand_in_order}
 use Rattle.cq_stopped.proofs.Ran.{Known, came_of}
 use Rattle.cq_stopped.proofs.ReadAs.{read_as}
+use Rattle.cq_stopped.proofs.RunWhole.{whole_is}
 use Rattle.cq_stopped.proofs.Shape.{has_shape}
 use Rattle.cq_stopped.proofs.Slack.{slack_kept}
 use Rattle.cq_stopped.proofs.Told.{packets_whole, taken_same}
 use Rattle.cq_stopped.proofs.Whole.{Ended, stopped_is}
-use Rattle.cq_stopped.specs.Read.{GoesOnAsRun, ReadRunsGoOn, StoppedRunsAreRead}
+use Rattle.cq_stopped.specs.Read.{GoesOnAsRun, ReadRunsGoOn, StoppedRunsAreRead, kept_in_run}
 use Rattle.cq_stopped.specs.Stopped.{CanBeTakenUp, StoppedRunsAreSound}
 
 module _ (w : Switch) (ranks : List (List ℕ)) (made : IsConfigured w ranks) (slots : ℕ) (early : slots < 2 ^ 63)
@@ -88,16 +89,17 @@ pub stopped_runs_are_read : StoppedRunsAreRead
 stopped_runs_are_read t s slots at made tables recorded early parted =
     read_as (switch_of t s) at (stopped_runs_are_sound t s slots at made tables recorded early parted)
 
--- what is read is what was left, and parts join
+-- what is read is what was left, parts join, and the run is the whole one
 pub read_runs_go_on : ReadRunsGoOn
 read_runs_go_on t s slots at x made tables recorded early parted read =
     let w = switch_of t s in
     let ranks = openings_of t.setup in
     let told = stopped_runs_are_read t s slots at made tables recorded early parted in
-    subst (λ (y : Taken). GoesOnAsRun w ranks y) (sym (told.alone x read))
+    subst (λ (y : Taken). GoesOnAsRun t s y) (sym (told.alone x read))
     (record {
-      run = λ kept whole resumed is. parts_join.run w ranks slots at kept whole early parted resumed is;
-      resumes = λ whole is. parts_join.resumes w ranks slots at whole early parted is;
+      run = λ rs kept is resumed.
+          parts_join.run w ranks slots at kept (kept_in_run t rs) early parted resumed (whole_is t s rs is);
+      resumes = λ rs is. parts_join.resumes w ranks slots at (kept_in_run t rs) early parted (whole_is t s rs is);
       fault = λ fault is. parts_join.fault w ranks slots at fault early parted is;
       whole_fault = λ fault is. parts_join.whole_fault w ranks slots at fault early parted is;
     })

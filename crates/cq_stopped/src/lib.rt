@@ -1,7 +1,8 @@
 //! Why a run that was stopped can be taken up again.
 //!
 //! What a run leaves after any number of slots is told by a state, and that state is a sound one of its switch: it
-//! tells of the arrivals that were admitted, in order, and comes to what was left. Nothing here runs.
+//! tells of the arrivals that were admitted, in order, and comes to what was left. All laws speak of captures such as
+//! files of at most 2^28 bytes hold. Nothing here runs.
 #![tactic(auto)]
 
 ghost use Rattle.cq_stopped.specs.Read.{ReadRunsGoOn, StoppedRunsAreRead};
@@ -20,8 +21,8 @@ pub fn stopped_runs_are_read()
     ensures { StoppedRunsAreRead }
 {}
 
-/// So a run that is stopped after any number of slots, written, read and continued is the run: it keeps the same, or both
-/// meet the same tag fault. It does nothing: its contract is the claim.
+/// So a run that is stopped after any number of slots below 2^63, written, read and continued is the run, over captures
+/// such as files hold: it keeps the same, or both meet the same tag fault. It does nothing: its contract is the claim.
 pub fn read_runs_go_on()
     ensures { ReadRunsGoOn }
 {}
