@@ -8,6 +8,7 @@ The expected files come from the models beside it, and so from no run of the pro
 
 import os
 
+import state_model
 from fabric_model import Fabric
 from model import SECOND_NS, Packet, captured, cells_of, passed, slots, written
 from switch_model import Switch
@@ -89,6 +90,8 @@ def office():
             file.write(captured(Packet(BEGIN + micros * 1000, length, bytes.fromhex(to + "0200000000aa" + rest).ljust(length, b"\0"))
                                 for micros, length, to, rest in packets))
     write_crossed("office.toml")
+    with open("state.txt", "wb") as file:
+        file.write(state_model.part("office.toml", 3))
 
 
 def to_the_uplink(folder, captures):
