@@ -3,8 +3,8 @@
 
     tests/parted.py --bin PROGRAM [--seed N] [--switches N] [--changes N] [--plain]
 
-Each drawn switch (1 to 4 ports of all disciplines, with limits and levels but for `--plain`) is run whole, and in two and
-three parts that are stopped after drawn numbers of slots. The files and the report must be the same bytes, and each state
+Each drawn switch (1 to 4 ports of all disciplines, with limits and levels but for `--plain`) is run whole, and is stopped
+after drawn numbers of slots and taken up from each. The files and the report must be the same bytes, and each state
 the one that `examples/state_model.py` writes. Then states that were written are changed in one place, a number, a word
 or a line, and taken up: the program must answer with the line that the model tells, or leave what the model leaves.
 
