@@ -35,6 +35,11 @@ offers '[in.pcap][more]' pass ''
 offers '[in.pcap]' pass in.pcap i
 offers '' soak ''
 offers '' run 'a b.toml' ''
+offers '[a b.toml][more]' part ''
+offers '' part 'a b.toml' ''
+offers '[in.pcap]' part 'a b.toml' 3 i
+offers '[a b.toml][more]' resume ''
+offers '[in.pcap]' resume 'a b.toml' i
 
 if command -v zsh >/dev/null; then
     found=$(zsh -f "$tools/tests/completions.zsh" "$tools/completions" 2>&1)
