@@ -11,8 +11,6 @@ mod nearby;
 mod routes;
 mod schedule;
 mod segments;
-#[cfg(test)]
-mod tests;
 
 pub use laws::{arrivals_end_early, one_cell_arrives_a_slot, packets_arrive_in_order};
 pub use nearby::Nearby;

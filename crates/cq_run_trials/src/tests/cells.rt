@@ -1,48 +1,9 @@
-// Captures, and the slots in which their cells arrive.
-ghost use Rattle.std.specs.Prelude.{◌≡◌, IfOk, length};
-ghost use Rattle.cq_route.specs.Tables.{AreTables};
-
-use crate::{Nearby, Schedule, cells_of};
-use cq_base::{Kind, Name, NoMemory, Sequence};
-use cq_pcap::{Capture, PcapRefusal, read_capture};
-use cq_route::{AddressRow, PortRow, Tables};
+//! Captures, and the slots in which their cells arrive.
+use super::given::{capture_of, one_port, three_ports};
+use cq_cells::{Nearby, Schedule, cells_of};
 use std::alloc::Global;
 use std::test::Fail;
 use std::thread::Threads;
-
-// Little-endian with nanoseconds.
-const HEADER: [u8; 24] = [
-    0x4d, 0x3c, 0xb2, 0xa1, 2, 0, 4, 0, 0, 0, 0, 0, 0, 0, 0, 0, 0, 0, 4, 0, 1, 0, 0, 0,
-];
-
-// More than a capture here has.
-const MANY: usize = 1_048_576;
-
-// A capture of packets, each with its stamp in nanoseconds, its length, and the last byte of the address to which
-// it goes.
-fn capture_of(alloc: Global, packets: &[(u32, u8, u8)]) -> Result<Capture, PcapRefusal> {
-    let mut bytes = Vec::from_slice(alloc, &HEADER).map_err(NoMemory::from)?;
-    for (stamp, length, to) in packets {
-        put_packet(&mut bytes, *stamp, *length, *to)?;
-    }
-    bytes.truncate(MANY);
-    read_capture(alloc, bytes)
-}
-
-fn put_packet(bytes: &mut Vec<u8>, stamp: u32, length: u8, to: u8) -> Result<(), NoMemory> {
-    bytes.extend_from_slice(&[0; 4])?;
-    bytes.extend_from_slice(&stamp.to_le_bytes())?;
-    bytes.extend_from_slice(&u32::from(length).to_le_bytes())?;
-    bytes.extend_from_slice(&u32::from(length).to_le_bytes())?;
-    for place in 0..length {
-        bytes.push(match place {
-            0 => 0x02,
-            5 => to,
-            _ => 0,
-        })?;
-    }
-    Ok(())
-}
 
 #[test]
 fn a_packet_has_as_many_cells_as_it_needs(rt: HostRuntime) -> Result<(), Fail> {
@@ -53,15 +14,6 @@ fn a_packet_has_as_many_cells_as_it_needs(rt: HostRuntime) -> Result<(), Fail> {
     assert_eq!(rt; cells_of(262_144, 64), 4096);
     assert_eq!(rt; cells_of(60, 65_535), 1);
     Ok(())
-}
-
-// One port.
-#[tactic(auto, unfolding(cq_route::specs::Plain::plain_tables))]
-fn one_port(alloc: Global) -> Result<Tables, NoMemory>
-    ensures in_range { IfOk result (λ tables. AreTables tables) }
-    ensures ports { IfOk result (λ tables. length tables.setup.kinds ≡ 1) }
-{
-    Tables::plain(alloc, "in", "out")
 }
 
 // What is seen of the cell that arrives in a slot: its packet, its number, where its piece begins, how long it is,
@@ -109,44 +61,6 @@ fn cells_arrive_one_a_slot_from_the_slot_of_their_stamp_on(rt: HostRuntime) -> R
         );
     }
     Ok(())
-}
-
-// The files of three ports.
-fn three_files(alloc: Global) -> Result<Vec<PortRow>, NoMemory>
-    ensures { IfOk result (λ files. length files.items ≡ 3) }
-{
-    let mut files = Vec::new(alloc);
-    files.push(PortRow {
-        read: None,
-        write: Name::of(alloc, "out0")?,
-    })?;
-    files.push(PortRow {
-        read: None,
-        write: Name::of(alloc, "out1")?,
-    })?;
-    files.push(PortRow {
-        read: None,
-        write: Name::of(alloc, "out2")?,
-    })?;
-    Ok(files)
-}
-
-// Three ports. Frames to address one go to output one, all others to output zero.
-#[tactic(auto, unfolding(cq_route::specs::Plain::plain_tables))]
-fn three_ports(alloc: Global) -> Result<Tables, NoMemory>
-    ensures in_range { IfOk result (λ tables. AreTables tables) }
-    ensures ports { IfOk result (λ tables. length tables.setup.kinds ≡ 3) }
-{
-    let one = AddressRow {
-        mac: [0x02, 0, 0, 0, 0, 1],
-        output: 1,
-    };
-    let mut tables = Tables::plain(alloc, "in", "out")?;
-    tables.setup.kinds = Sequence::of(Vec::from_array(alloc, [Kind::FirstCome; 3])?);
-    tables.ports = Sequence::of(three_files(alloc)?);
-    tables.limits = Sequence::of(Vec::from_array(alloc, [None; 3])?);
-    tables.addresses = Sequence::of(Vec::from_array(alloc, [one])?);
-    Ok(tables)
 }
 
 #[test]

@@ -1,0 +1,9 @@
+//! Trials of whole runs: arrivals, runs, packets, audits.
+//!
+//! The crate has nothing but tests, those of `cq_cells`. A crate with tests is
+//! proved twice, once without them. Here that proof is empty, and the crates under test have no second one. Nothing stands
+//! on this crate.
+#![tactic(auto)]
+
+#[cfg(test)]
+mod tests;

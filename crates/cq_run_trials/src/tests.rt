@@ -1,0 +1,3 @@
+//! What no clause says of arrivals, runs, packets and audits.
+mod cells;
+mod given;

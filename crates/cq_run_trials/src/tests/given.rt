@@ -1,0 +1,91 @@
+//! What trials begin with: small captures, and switches of one and three ports.
+ghost use Rattle.std.specs.Prelude.{◌≡◌, IfOk, length};
+ghost use Rattle.cq_route.specs.Tables.{AreTables, ports_of};
+
+use cq_base::{Kind, Name, NoMemory, Sequence};
+use cq_pcap::{Capture, PcapRefusal, read_capture};
+use cq_route::{AddressRow, PortRow, Tables};
+use std::alloc::Global;
+
+// Little-endian with nanoseconds.
+const HEADER: [u8; 24] = [
+    0x4d, 0x3c, 0xb2, 0xa1, 2, 0, 4, 0, 0, 0, 0, 0, 0, 0, 0, 0, 0, 0, 4, 0, 1, 0, 0, 0,
+];
+
+// More than a capture here has.
+const MANY: usize = 1_048_576;
+
+/// A capture of packets, each with its stamp in nanoseconds, its captured length, and the last byte of the address to
+/// which it goes. On the wire each has four bytes more.
+pub fn capture_of(alloc: Global, packets: &[(u32, u8, u8)]) -> Result<Capture, PcapRefusal> {
+    let mut bytes = Vec::from_slice(alloc, &HEADER).map_err(NoMemory::from)?;
+    for (stamp, length, to) in packets {
+        put_packet(&mut bytes, *stamp, *length, *to)?;
+    }
+    bytes.truncate(MANY);
+    read_capture(alloc, bytes)
+}
+
+fn put_packet(bytes: &mut Vec<u8>, stamp: u32, length: u8, to: u8) -> Result<(), NoMemory> {
+    bytes.extend_from_slice(&[0; 4])?;
+    bytes.extend_from_slice(&stamp.to_le_bytes())?;
+    bytes.extend_from_slice(&u32::from(length).to_le_bytes())?;
+    bytes.extend_from_slice(&(u32::from(length) + 4).to_le_bytes())?;
+    for place in 0..length {
+        bytes.push(match place {
+            0 => 0x02,
+            5 => to,
+            1..5 => 0,
+            _ => place,
+        })?;
+    }
+    Ok(())
+}
+
+/// One port that sends in the order of arrival.
+#[tactic(auto, unfolding(cq_route::specs::Plain::plain_tables))]
+pub fn one_port(alloc: Global) -> Result<Tables, NoMemory>
+    ensures in_range { IfOk result (λ tables. AreTables tables) }
+    ensures ports { IfOk result (λ tables. ports_of tables.setup ≡ 1) }
+{
+    Tables::plain(alloc, "in", "out")
+}
+
+// The file of a port.
+fn file(alloc: Global) -> Result<PortRow, NoMemory> {
+    Ok(PortRow {
+        read: None,
+        write: Name::of(alloc, "out")?,
+    })
+}
+
+// The files of three ports.
+fn three_files(alloc: Global) -> Result<Vec<PortRow>, NoMemory>
+    ensures { IfOk result (λ files. length files.items ≡ 3) }
+{
+    let mut files = Vec::new(alloc);
+    files.push(file(alloc)?)?;
+    files.push(file(alloc)?)?;
+    files.push(file(alloc)?)?;
+    Ok(files)
+}
+
+/// Three ports that send in the order of arrival, and two workers. Frames to address one go to output one, all others
+/// to output zero.
+#[tactic(auto, unfolding(cq_route::specs::Plain::plain_tables))]
+pub fn three_ports(alloc: Global) -> Result<Tables, NoMemory>
+    ensures in_range { IfOk result (λ tables. AreTables tables) }
+    ensures ports { IfOk result (λ tables. ports_of tables.setup ≡ 3) }
+{
+    let one = AddressRow {
+        mac: [0x02, 0, 0, 0, 0, 1],
+        output: 1,
+    };
+    let mut tables = Tables::plain(alloc, "in", "out")?;
+    tables.setup.kinds = Sequence::of(Vec::from_array(alloc, [Kind::FirstCome; 3])?);
+    tables.ports = Sequence::of(three_files(alloc)?);
+    tables.limits = Sequence::of(Vec::from_array(alloc, [None; 3])?);
+    tables.addresses = Sequence::of(Vec::from_array(alloc, [one])?);
+    tables.workers = 2;
+    Ok(tables)
+}
