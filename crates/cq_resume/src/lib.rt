@@ -16,8 +16,6 @@ mod shape;
 mod slack;
 mod sound;
 mod taken;
-#[cfg(test)]
-mod tests;
 mod write;
 
 pub use cq_laws::Frozen;

@@ -1,5 +1,5 @@
-//! Shows what no clause says.
-use crate::StateRefusal;
+//! Why a state is refused.
+use cq_resume::StateRefusal;
 use std::test::Fail;
 
 #[test]
