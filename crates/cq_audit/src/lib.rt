@@ -14,8 +14,6 @@ mod parted;
 mod phase;
 mod refusal;
 mod replay;
-#[cfg(test)]
-mod tests;
 mod told;
 mod trace;
 mod transfer;

@@ -1,4 +1,5 @@
 //! What no clause says of arrivals, runs, packets and audits.
+mod audit;
 mod cells;
 mod given;
 mod resume;

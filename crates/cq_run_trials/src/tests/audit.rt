@@ -4,7 +4,7 @@ ghost use Rattle.cq_list.specs.InputList.{cells_of};
 ghost use Rattle.cq_prefs.specs.FirstCells.{orders_of};
 ghost use Rattle.cq_audit.specs.Phase.{AreOfPhase};
 
-use crate::{LogRefusal, PhaseFault, audit_trace, part, read_log, stable_told};
+use cq_audit::{LogRefusal, PhaseFault, audit_trace, part, read_log, stable_told};
 use cq_base::{Cell, CellId, Key, Port, Queued, Transfer};
 use cq_list::InputList;
 use cq_prefs::Offers;
