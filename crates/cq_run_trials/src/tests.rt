@@ -3,3 +3,4 @@ mod audit;
 mod cells;
 mod given;
 mod resume;
+mod simulate;

@@ -9,8 +9,6 @@ mod packets;
 mod packing;
 mod parted_run;
 mod refusal;
-#[cfg(test)]
-mod tests;
 
 pub use cq_engine::Refused;
 pub use fabric_run::{FabricRun, run_fabric};

@@ -1,7 +1,7 @@
 use Rattle.std.proofs.Common.{◌∙◌, ap, sym}
 use Rattle.cq_simulate.specs.IdealRuns.{ideal_departures}
 use Rattle.cq_simulate.proofs.Departed.{left_in_packets}
-use Rattle.cq_simulate.proofs.tests.packets_in_one_pass.Goals as goal
+use Rattle.cq_run_trials.proofs.tests.simulate.packets_in_one_pass.Goals as goal
 
 pub packets_of_all-requires-clause-whole : goal.packets_of_all-requires-clause-whole
 packets_of_all-requires-clause-whole g c =

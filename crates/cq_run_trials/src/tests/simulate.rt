@@ -1,92 +1,21 @@
-// Small captures through switches of one and three ports.
+//! Small captures through switches of one and three ports.
 ghost use Rattle.std.specs.Prelude.{◌≡◌, ◌<◌, IfOk, length};
 ghost use Rattle.cq_route.specs.Tables.{AreTables, ports_of};
 
-use crate::{FabricRun, Refused, RunRefusal, packets_of, packets_of_all, run_fabric, run_ideal};
-use cq_base::{ClassRow, Departure, Kind, Name, NoMemory, Port, Sequence, TagFault};
+use super::given::{capture_of, one_port, three_ports};
+use cq_base::{ClassRow, Departure, Kind, NoMemory, Port, Sequence, TagFault};
 use cq_cells::Schedule;
 use cq_crew::OpenGate;
-use cq_pcap::{Capture, OutPacket, PcapRefusal, read_capture};
-use cq_route::{AddressRow, PortRow, Tables};
+use cq_pcap::{Capture, OutPacket};
+use cq_route::Tables;
+use cq_simulate::{
+    FabricRun, Refused, RunRefusal, packets_of, packets_of_all, run_fabric, run_ideal,
+};
 use std::alloc::Global;
 use std::test::Fail;
 use std::thread::Threads;
 
-// Little-endian with nanoseconds.
-const HEADER: [u8; 24] = [
-    0x4d, 0x3c, 0xb2, 0xa1, 2, 0, 4, 0, 0, 0, 0, 0, 0, 0, 0, 0, 0, 0, 4, 0, 1, 0, 0, 0,
-];
-
-// More than a small capture has.
-const MANY: usize = 65536;
-
-// A capture of packets, each with its stamp in nanoseconds, its captured length, and the last byte of the address to
-// which it goes. On the wire each has four bytes more.
-fn capture_of(alloc: Global, packets: &[(u32, u8, u8)]) -> Result<Capture, PcapRefusal> {
-    let mut bytes = Vec::from_slice(alloc, &HEADER).map_err(NoMemory::from)?;
-    for (stamp, length, to) in packets {
-        put_packet(&mut bytes, *stamp, *length, *to)?;
-    }
-    bytes.truncate(MANY);
-    read_capture(alloc, bytes)
-}
-
-fn put_packet(bytes: &mut Vec<u8>, stamp: u32, length: u8, to: u8) -> Result<(), NoMemory> {
-    bytes.extend_from_slice(&[0; 4])?;
-    bytes.extend_from_slice(&stamp.to_le_bytes())?;
-    bytes.extend_from_slice(&u32::from(length).to_le_bytes())?;
-    bytes.extend_from_slice(&(u32::from(length) + 4).to_le_bytes())?;
-    for place in 0..length {
-        bytes.push(match place {
-            0 => 0x02,
-            5 => to,
-            1..5 => 0,
-            _ => place,
-        })?;
-    }
-    Ok(())
-}
-
-// The file of a port.
-fn file(alloc: Global) -> Result<PortRow, NoMemory> {
-    Ok(PortRow {
-        read: None,
-        write: Name::of(alloc, "out")?,
-    })
-}
-
-// The files of three ports.
-fn three_files(alloc: Global) -> Result<Vec<PortRow>, NoMemory>
-    ensures { IfOk result (λ files. length files.items ≡ 3) }
-{
-    let mut files = Vec::new(alloc);
-    files.push(file(alloc)?)?;
-    files.push(file(alloc)?)?;
-    files.push(file(alloc)?)?;
-    Ok(files)
-}
-
-// Three ports that send in the order of arrival, and two workers. Frames to address one go to output one, all others to
-// output zero.
-#[tactic(auto, unfolding(cq_route::specs::Plain::plain_tables))]
-fn three_ports(alloc: Global) -> Result<Tables, NoMemory>
-    ensures in_range { IfOk result (λ tables. AreTables tables) }
-    ensures ports { IfOk result (λ tables. ports_of tables.setup ≡ 3) }
-{
-    let one = AddressRow {
-        mac: [0x02, 0, 0, 0, 0, 1],
-        output: 1,
-    };
-    let mut tables = Tables::plain(alloc, "in", "out")?;
-    tables.setup.kinds = Sequence::of(Vec::from_array(alloc, [Kind::FirstCome; 3])?);
-    tables.ports = Sequence::of(three_files(alloc)?);
-    tables.limits = Sequence::of(Vec::from_array(alloc, [None; 3])?);
-    tables.addresses = Sequence::of(Vec::from_array(alloc, [one])?);
-    tables.workers = 2;
-    Ok(tables)
-}
-
-// The same, and one cell fills output zero.
+// The three ports, where one cell fills output zero.
 #[tactic(auto, unfolding(cq_route::specs::Plain::plain_tables))]
 fn three_limited_ports(alloc: Global) -> Result<Tables, NoMemory>
     ensures in_range { IfOk result (λ tables. AreTables tables) }
@@ -95,15 +24,6 @@ fn three_limited_ports(alloc: Global) -> Result<Tables, NoMemory>
     let mut tables = three_ports(alloc)?;
     tables.limits = Sequence::of(Vec::from_array(alloc, [Some(1), None, None])?);
     Ok(tables)
-}
-
-// One port that sends in the order of arrival.
-#[tactic(auto, unfolding(cq_route::specs::Plain::plain_tables))]
-fn one_port(alloc: Global) -> Result<Tables, NoMemory>
-    ensures in_range { IfOk result (λ tables. AreTables tables) }
-    ensures ports { IfOk result (λ tables. ports_of tables.setup ≡ 1) }
-{
-    Tables::plain(alloc, "in", "out")
 }
 
 // One fair port, where each cell costs all that a rank can hold.
