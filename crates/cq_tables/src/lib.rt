@@ -17,8 +17,6 @@ mod place;
 mod read;
 mod refusal;
 mod rows;
-#[cfg(test)]
-mod tests;
 mod top;
 mod value;
 mod version;

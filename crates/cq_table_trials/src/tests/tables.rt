@@ -1,6 +1,6 @@
 //! Configurations from outside, each with the tables or the refusal that it gives.
-use crate::{TableRefusal, Tables, read_tables};
 use cq_base::{Kind, NoMemory};
+use cq_tables::{TableRefusal, Tables, read_tables};
 use std::alloc::Global;
 use std::test::Fail;
 

@@ -1,0 +1,2 @@
+//! What no clause says of configurations.
+mod tables;
