@@ -3,7 +3,6 @@ pub mod Slot
 pub mod Shown
 pub mod Begin
 pub mod Kept
-pub mod Worked
 mod Rested
 mod Looking
 mod Counted

@@ -12,8 +12,6 @@ mod engine;
 mod laws;
 mod measure;
 mod settle;
-#[cfg(test)]
-mod tests;
 
 pub use cq_base::{Figures, InputFigures, OutputFigures};
 pub use cq_crew::{Gate, OpenGate};

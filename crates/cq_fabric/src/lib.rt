@@ -8,8 +8,6 @@
 mod queues;
 mod sent;
 mod standing;
-#[cfg(test)]
-mod tests;
 
 pub use queues::{Queues, nobody};
 pub use sent::{release, tell};

@@ -8,9 +8,7 @@ use Rattle.std.proofs.lemmas.List.{drop_all, drop_more, get_or-map, length-map}
 use Rattle.cq_base.specs.declared.cell.Cell.{Cell}
 use Rattle.cq_base.specs.Arrivals.{arrival_at}
 use Rattle.cq_ideal.specs.declared.refused.Refused.{Refused}
-use Rattle.cq_ideal.specs.Admission.{Marked, admission, is_first, mark_at, marks_after, refused}
-use Rattle.cq_ideal.specs.IdealSlot.{IdealState}
-use Rattle.cq_ideal.specs.LimitedIdeal.{ideal_admission, ideal_held}
+use Rattle.cq_ideal.specs.Admission.{is_first, mark_at, refused}
 use Rattle.cq_ideal.specs.Limiter.{CanCount, HasPorts, LimiterView, where_up}
 use Rattle.cq_ideal.specs.Refused.{AreAllZero, cells_refused, packets_refused, refused_counts, with_cells, with_refused}
 use Rattle.cq_ideal.proofs.Refusals.{all_zero, cells_both, packets_both}
@@ -172,19 +170,6 @@ zero_fits n limits few =
         let packets = none.0.0 in
         let cells = none.0.1 in
         ((omega arith, omega arith), each counts none.1)
-
--- no more are refused in a slot than arrive
-refused_few : (marks : List Bool) (cells : List (Option Cell)) → length (refused marks cells) ≤ length cells
-refused_few [] cells = omega arith
-refused_few (mark ∷ marks) [] = omega arith
-refused_few (true ∷ marks) (None ∷ cells) = let rest = refused_few marks cells in omega arith
-refused_few (true ∷ marks) (Some cell ∷ cells) = let rest = refused_few marks cells in omega arith
-refused_few (false ∷ marks) (cell ∷ cells) = let rest = refused_few marks cells in omega arith
-
-pub refusals_few : (limits : List (Option ℕ)) (cells : List (Option Cell)) (old : Marked IdealState) →
-    length (ideal_admission limits cells old).refused ≤ length cells
-unfolding admission
-refusals_few limits cells old = refused_few (marks_after limits (ideal_held old.state) old.marks cells) cells
 
 -- ## The walk over the inputs
 

@@ -21,7 +21,6 @@ pub mod FlowTraffic
 pub mod AtInput
 pub mod Listed
 pub mod Placed
-pub mod Ports
 pub mod Ranked
 pub mod Refusals
 pub mod Sending

@@ -13,5 +13,4 @@ pub mod Limiter
 pub mod Parts
 pub mod Ranking
 pub mod Refused
-pub mod Refusing
 pub mod WholePackets

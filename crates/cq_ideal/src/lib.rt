@@ -17,8 +17,6 @@ mod queues;
 mod ranks;
 mod refused;
 mod send;
-#[cfg(test)]
-mod tests;
 
 pub use ending::{ideal_run_ends, last_slot_departs, more_slots_send_nothing};
 pub use flows::flows_leave_as_they_came;

@@ -1,0 +1,3 @@
+mod Arriving
+mod IdealSlots
+mod EngineSlots

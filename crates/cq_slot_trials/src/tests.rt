@@ -1,0 +1,8 @@
+//! The trials, by the crate that they try, and what they share.
+mod coming;
+mod draws;
+mod engine;
+mod fabric;
+mod ideal;
+mod outputs;
+mod slow;

@@ -1,0 +1,428 @@
+//! Worked slots, drawn slots against a plain slow fabric, and the call that wants memory, with ample memory.
+ghost use Rattle.std.specs.Prelude.{◌≡◌, ◌+◌, ◌*◌, ◌^◌, ◌<◌, ◌≤◌, ℕ, [], ◌∷◌, IfOk, OnOk, false, is_err, length, map};
+ghost use Rattle.cq_rank.specs.Classes.{rows_of};
+ghost use Rattle.cq_rank.specs.Switch.{class_count};
+ghost use Rattle.cq_ideal.specs.Limiter.{CanCount};
+ghost use Rattle.cq_laws.specs.Fabric.{input};
+ghost use Rattle.cq_laws.specs.Holding.{held_for};
+ghost use Rattle.cq_engine.specs.Engine.{ports_of};
+
+use super::coming::Coming;
+use super::draws::Draws;
+use super::outputs::{first_come, note_departures};
+use super::slow::{LEVELS, PRIORITIES, Slow};
+use cq_base::{
+    CellId, ClassRow, Departure, InputFigures, NoMemory, OutputFigures, Queued, Room, Sequence,
+    TagFault, Transfer,
+};
+use cq_engine::{Engine, Gate, OpenGate, Refused};
+use cq_rank::{FirstCome, Priority, Rank};
+use std::alloc::Global;
+use std::test::Fail;
+use std::thread::Threads;
+
+// The next of 40 slots of an engine with four ports.
+fn step<R: Rank, T: Threads + Sync, G: Gate>(
+    engine: &mut Engine<R>,
+    rt: &T,
+    alloc: Global,
+    coming: &Coming<4>,
+    gate: &G,
+    sent: &mut Room<Departure>,
+    note: &mut Room<Transfer>,
+) -> Result<(), TagFault>
+    requires running { engine.old.stopped ≡ false }
+    requires early { engine.old.next < 40 }
+    requires ports { ports_of engine.old ≡ 4 }
+    requires classes { class_count (map R.machine engine.old.fixed) ≡ 2 }
+    requires from_inputs { engine.old.from_inputs ≡ 40 ∷ 40 ∷ 40 ∷ 40 ∷ [] }
+    requires to_outputs { engine.old.to_outputs ≡ 2560 ∷ 2560 ∷ 2560 ∷ 2560 ∷ [] }
+    requires lists { (i : ℕ) → length (input engine.old.fabric i) ≤ engine.old.next }
+    requires held { (j : ℕ) → held_for j engine.old.fabric ≤ 64 * engine.old.next }
+    requires proposals { engine.old.figures.proposals ≤ 32 * engine.old.next }
+    requires counts { CanCount 4 engine.old.refused }
+    requires sent { 4 ≤ sent.old.spare }
+    requires note { 8 ≤ note.old.spare }
+    ensures fixed { engine.new.fixed ≡ engine.old.fixed }
+    ensures from_inputs { engine.new.from_inputs ≡ engine.old.from_inputs }
+    ensures to_outputs { engine.new.to_outputs ≡ engine.old.to_outputs }
+    ensures stopped { engine.new.stopped ≡ is_err result }
+    ensures next { OnOk result (engine.new.next ≡ engine.old.next + 1) }
+    ensures lists { OnOk result ((i : ℕ) → length (input engine.new.fabric i) ≤ engine.old.next + 1) }
+    ensures held { OnOk result ((j : ℕ) → held_for j engine.new.fabric ≤ 64 * (engine.old.next + 1)) }
+    ensures proposals { OnOk result (engine.new.figures.proposals ≤ 32 * (engine.old.next + 1)) }
+    ensures counts { OnOk result ((n : ℕ) → CanCount (n + 64) engine.old.refused → CanCount n engine.new.refused) }
+{
+    // Its contract tells that there are 64 places.
+    let _places = coming.arrivals.at(0);
+    engine.slot(rt, alloc, engine.next(), &coming.arrivals, gate, sent, note)
+}
+
+// What is told of a run: of each departure its slot, its output, and the input and the packet of the cell, and of
+// each transfer its slot, its phase, its input, its output and the packet.
+#[derive(Drop)]
+pub(super) struct Told {
+    pub(super) sent: Vec<[u64; 4]>,
+    pub(super) crossed: Vec<[u64; 5]>,
+    fault: Option<TagFault>,
+}
+
+impl Told {
+    pub(super) fn nothing(alloc: Global) -> Told {
+        Told {
+            sent: Vec::new(alloc),
+            crossed: Vec::new(alloc),
+            fault: None,
+        }
+    }
+
+    // The departures and the transfers of a slot.
+    fn tell(&mut self, sent: &Room<Departure>, note: &Room<Transfer>) -> Result<(), NoMemory> {
+        note_departures(&mut self.sent, sent)?;
+        for transfer in note.items() {
+            self.crossed.push([
+                transfer.slot,
+                transfer.phase as u64,
+                transfer.input as u64,
+                transfer.output as u64,
+                transfer.id.packet as u64,
+            ])?;
+        }
+        Ok(())
+    }
+}
+
+// A run of these slots, up to the first tag fault.
+fn run<R: Rank, T: Threads + Sync>(
+    rt: &T,
+    alloc: Global,
+    engine: &mut Engine<R>,
+    slots: &[Coming<4>],
+) -> Result<Told, NoMemory>
+    requires running { engine.old.stopped ≡ false }
+    requires next { engine.old.next ≡ 0 }
+    requires ports { ports_of engine.old ≡ 4 }
+    requires classes { class_count (map R.machine engine.old.fixed) ≡ 2 }
+    requires from_inputs { engine.old.from_inputs ≡ 40 ∷ 40 ∷ 40 ∷ 40 ∷ [] }
+    requires to_outputs { engine.old.to_outputs ≡ 2560 ∷ 2560 ∷ 2560 ∷ 2560 ∷ [] }
+    requires lists { (i : ℕ) → length (input engine.old.fabric i) ≤ 0 }
+    requires held { (j : ℕ) → held_for j engine.old.fabric ≤ 0 }
+    requires proposals { engine.old.figures.proposals ≤ 0 }
+    requires counts { (n : ℕ) → n < 2 ^ 64 → CanCount n engine.old.refused }
+    requires few { length slots.now ≤ 40 }
+{
+    let mut told = Told::nothing(alloc);
+    'slots: for coming in slots {
+        let mut sent = Room::new(alloc, 4)?;
+        let mut note = Room::new(alloc, 8)?;
+        if let Err(fault) = step(engine, rt, alloc, coming, &OpenGate, &mut sent, &mut note) {
+            told.fault = Some(fault);
+            return Ok(told);
+        }
+        told.tell(&sent, &note)?;
+    }
+    Ok(told)
+}
+
+// Cells of three inputs come for output 0, and one slot later a cell of input 2 for output 1.
+fn worked_slots() -> [Coming<4>; 3] {
+    let later = Coming::nothing().with_packet(2, 1, 1, 0);
+    [Coming::three(), later, Coming::nothing()]
+}
+
+const NO_LIMITS: [Option<u64>; 4] = [None, None, None, None];
+
+// An engine of four first-come outputs on these slots.
+#[tactic(auto, using(crate::proofs::EngineSlots::lists_first, crate::proofs::EngineSlots::held_first))]
+fn worked<T: Threads + Sync>(
+    rt: &T,
+    alloc: Global,
+    limits: [Option<u64>; 4],
+    slots: [Coming<4>; 3],
+    workers: u16,
+) -> Result<(Engine<FirstCome>, Told), NoMemory>
+    requires some { 1 ≤ workers }
+    requires few { workers ≤ 64 }
+{
+    let ranks = vec![in alloc;
+        first_come(alloc)?,
+        first_come(alloc)?,
+        first_come(alloc)?,
+        first_come(alloc)?,
+    ]?;
+    let mut engine = Engine::new(alloc, ranks, &[40; 4], &[2560; 4], &limits, workers)?;
+    let told = run(rt, alloc, &mut engine, &slots)?;
+    Ok((engine, told))
+}
+
+// What was seen of an input.
+pub(super) fn of_input(cells: u64, longest: u64, slack: Option<u64>) -> InputFigures {
+    InputFigures {
+        cells,
+        longest,
+        slack,
+    }
+}
+
+// What was seen of an output.
+pub(super) fn of_output(cells: u64, wait: Option<u64>) -> OutputFigures {
+    OutputFigures { cells, wait }
+}
+
+#[test]
+fn a_new_cell_goes_ahead_of_an_older_one_for_a_busy_output(rt: HostRuntime) -> Result<(), Fail> {
+    let sent = [[0, 0, 0, 0], [1, 0, 1, 0], [1, 1, 2, 1], [2, 0, 2, 0]];
+    let crossed = [
+        [0, 1, 0, 0, 0],
+        [0, 2, 1, 0, 0],
+        [1, 1, 2, 1, 1],
+        [1, 2, 2, 0, 0],
+    ];
+    for workers in 1..3 {
+        let (engine, told) = worked(&rt, rt.alloc(), NO_LIMITS, worked_slots(), workers)?;
+        assert_eq!(rt; told.sent.as_slice(), &sent[..]);
+        assert_eq!(rt; told.crossed.as_slice(), &crossed[..]);
+        assert!(rt; told.fault.is_none());
+        assert!(rt; engine.empty());
+        assert!(rt; !engine.stopped());
+        assert_eq!(rt; engine.next(), 3);
+    }
+    Ok(())
+}
+
+#[test]
+fn figures_count_cells_proposals_slack_and_waits(rt: HostRuntime) -> Result<(), Fail> {
+    let (engine, _) = worked(&rt, rt.alloc(), NO_LIMITS, worked_slots(), 2)?;
+    let figures = engine.into_seen().figures;
+    let inputs = [
+        of_input(1, 1, Some(0)),
+        of_input(1, 1, Some(0)),
+        of_input(2, 2, Some(0)),
+        of_input(0, 0, None),
+    ];
+    let outputs = [
+        of_output(3, Some(2)),
+        of_output(1, Some(0)),
+        of_output(0, None),
+        of_output(0, None),
+    ];
+    assert_eq!(rt; [figures.slots, figures.proposals, figures.most], [3, 7, 3]);
+    assert_eq!(rt; figures.inputs.as_slice(), &inputs[..]);
+    assert_eq!(rt; figures.outputs.as_slice(), &outputs[..]);
+    Ok(())
+}
+
+// How many cells each of these has.
+fn lengths(alloc: Global, queues: &[Sequence<Queued>]) -> Result<Vec<usize>, NoMemory> {
+    let mut lengths = Vec::new(alloc);
+    for cells in queues {
+        lengths.push(cells.as_slice().len())?;
+    }
+    Ok(lengths)
+}
+
+// What an engine tells of itself where it stands still.
+#[derive(Drop)]
+struct Standing {
+    next: u64,
+    lists: Vec<usize>,
+    buffers: Vec<usize>,
+    marks: Vec<bool>,
+}
+
+// The slot that comes next, how many cells wait at each input and in each buffer, and the marks.
+fn what_waits(alloc: Global, engine: &Engine<FirstCome>) -> Result<Standing, NoMemory>
+    requires { engine.now.stopped ≡ false }
+{
+    let frozen = engine.freeze(alloc)?;
+    Ok(Standing {
+        next: frozen.next,
+        lists: lengths(alloc, frozen.lists.as_slice())?,
+        buffers: lengths(alloc, frozen.buffers.as_slice())?,
+        marks: frozen.marks.as_slice().to_vec(alloc)?,
+    })
+}
+
+// Cells of three inputs come for output 0 in the last of three slots.
+fn late_slots() -> [Coming<4>; 3] {
+    [Coming::nothing(), Coming::nothing(), Coming::three()]
+}
+
+#[test]
+fn an_engine_that_stands_still_tells_what_waits(rt: HostRuntime) -> Result<(), Fail> {
+    let (engine, _) = worked(&rt, rt.alloc(), NO_LIMITS, late_slots(), 2)?;
+    assert!(rt; !engine.stopped());
+    let tells = what_waits(rt.alloc(), &engine)?;
+    assert_eq!(rt; tells.next, 3);
+    assert_eq!(rt; tells.lists.as_slice(), &[0, 0, 1, 0][..]);
+    assert_eq!(rt; tells.buffers.as_slice(), &[1, 0, 0, 0][..]);
+    assert_eq!(rt; tells.marks.as_slice(), &[false; 4][..]);
+    Ok(())
+}
+
+// Cells of three inputs come for output 0, then the second cell of input 2's packet, and then another packet there.
+fn crowded_slots() -> [Coming<4>; 3] {
+    let second = CellId {
+        input: 2,
+        packet: 0,
+        index: 1,
+    };
+    let rest = Coming::nothing().with_cell(second, 0, 0);
+    let next = Coming::nothing().with_packet(2, 1, 0, 0);
+    [Coming::three(), rest, next]
+}
+
+#[test]
+fn an_output_is_full_of_what_waits_for_it_at_inputs(rt: HostRuntime) -> Result<(), Fail> {
+    // Two cells fill output 0, one of which waits at input 1 for a slot. So the packet of input 2 that comes with
+    // them is refused, though nothing is in the buffer, and its second cell with it, though one cell has left.
+    let limits = [Some(2), None, Some(1), None];
+    let (engine, told) = worked(&rt, rt.alloc(), limits, crowded_slots(), 2)?;
+    let sent = [[0, 0, 0, 0], [1, 0, 1, 0], [2, 0, 2, 1]];
+    assert_eq!(rt; told.sent.as_slice(), &sent[..]);
+    let at_zero = Refused {
+        output: 0,
+        limit: 2,
+        packets: 1,
+        cells: 2,
+    };
+    let at_two = Refused {
+        output: 2,
+        limit: 1,
+        packets: 0,
+        cells: 0,
+    };
+    assert_eq!(rt; engine.refused(), &[at_zero, at_two][..]);
+    Ok(())
+}
+
+// What comes in a slot at some of the first ports, for them. The packets are numbered by the slot, and a third of the
+// cells come as if they were not the first of their packet.
+fn drawn_arrivals(draws: &mut Draws, slot: u32, ports: u16) -> Coming<4>
+    requires some { 0 < ports }
+    requires few { ports ≤ 4 }
+{
+    let mut coming = Coming::nothing();
+    for input in 0..ports {
+        if draws.below(8) < 7 {
+            let id = CellId {
+                input,
+                packet: slot,
+                index: u32::from(draws.below(3) == 0),
+            };
+            let output = draws.below(ports);
+            coming = coming.with_cell(id, output, draws.below(2));
+        }
+    }
+    coming
+}
+
+// 30 slots with arrivals at two to four ports, and 10 without.
+fn drawn_slots(alloc: Global, seed: u64) -> Result<Vec<Coming<4>>, NoMemory>
+    ensures { IfOk result (λ slots. length slots.items ≡ 40) }
+{
+    let mut draws = Draws { state: seed };
+    let ports = 2 + draws.below(3);
+    let mut slots = Vec::new(alloc);
+    'slots: for slot in 0..40 {
+        let coming = if slot < 30 {
+            drawn_arrivals(&mut draws, slot, ports)
+        } else {
+            Coming::nothing()
+        };
+        slots.push(coming)?;
+    }
+    Ok(slots)
+}
+
+// Of each output the limit, from 1 to 6 cells, or none.
+fn drawn_limits(seed: u64) -> [Option<u64>; 4] {
+    let mut draws = Draws { state: seed };
+    let mut limits = NO_LIMITS;
+    for limit in &mut limits {
+        let drawn = draws.below(9);
+        if drawn > 2 {
+            *limit = Some(u64::from(drawn - 2));
+        }
+    }
+    limits
+}
+
+// A discipline of two classes with these levels, each below 16, and these priorities.
+fn by_priority(alloc: Global, levels: [u8; 2], priorities: [u128; 2]) -> Result<Priority, NoMemory>
+    ensures { IfOk result (λ rank. length (rows_of rank.fixed) ≡ 2) }
+{
+    let classes = [
+        ClassRow {
+            level: levels[0] % 16,
+            priority: priorities[0],
+            cost: 1,
+        },
+        ClassRow {
+            level: levels[1] % 16,
+            priority: priorities[1],
+            cost: 1,
+        },
+    ];
+    Priority::new(alloc, &classes)
+}
+
+// An engine of four outputs by priority on these slots.
+#[tactic(auto, using(crate::proofs::EngineSlots::lists_first, crate::proofs::EngineSlots::held_first))]
+fn prioritized<T: Threads + Sync>(
+    rt: &T,
+    alloc: Global,
+    limits: [Option<u64>; 4],
+    slots: &[Coming<4>],
+    workers: u16,
+) -> Result<(Engine<Priority>, Told), NoMemory>
+    requires length { length slots.now ≤ 40 }
+    requires some { 1 ≤ workers }
+    requires few { workers ≤ 64 }
+{
+    let ranks = vec![in alloc;
+        by_priority(alloc, LEVELS[0], PRIORITIES[0])?,
+        by_priority(alloc, LEVELS[1], PRIORITIES[1])?,
+        by_priority(alloc, LEVELS[2], PRIORITIES[2])?,
+        by_priority(alloc, LEVELS[3], PRIORITIES[3])?,
+    ]?;
+    let mut engine = Engine::new(alloc, ranks, &[40; 4], &[2560; 4], &limits, workers)?;
+    let told = run(rt, alloc, &mut engine, slots)?;
+    Ok((engine, told))
+}
+
+#[test]
+fn drawn_slots_are_as_in_the_plain_slow_fabric(rt: HostRuntime) -> Result<(), Fail> {
+    for seed in 1..17 {
+        let slots = drawn_slots(rt.alloc(), seed)?;
+        let limits = drawn_limits(seed);
+        let plain = Slow::run(rt.alloc(), limits, &slots)?;
+        for workers in 1..3 {
+            let (engine, told) = prioritized(&rt, rt.alloc(), limits, &slots, workers)?;
+            let figures = engine.figures();
+            assert_eq!(rt;
+                told.sent.as_slice(),
+                plain.told.sent.as_slice(),
+                "seed {seed}"
+            );
+            assert_eq!(rt;
+                told.crossed.as_slice(),
+                plain.told.crossed.as_slice(),
+                "seed {seed}"
+            );
+            assert_eq!(rt; figures.inputs.as_slice(), &plain.inputs[..], "seed {seed}");
+            assert_eq!(rt;
+                figures.outputs.as_slice(),
+                &plain.outputs[..],
+                "seed {seed}"
+            );
+            assert_eq!(rt;
+                [figures.slots, figures.proposals, figures.most],
+                [plain.slots, plain.proposals, plain.most],
+                "seed {seed}"
+            );
+            assert_eq!(rt; engine.refused(), plain.refused.as_slice(), "seed {seed}");
+        }
+    }
+    Ok(())
+}

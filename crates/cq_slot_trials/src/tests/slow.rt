@@ -1,0 +1,266 @@
+//! A plain slow fabric, written for these tests alone, that takes the rules at their word.
+//!
+//! It shares no line with the crates: it counts cushions and threads cell by cell, sorts a buffer whenever it
+//! sends, and finds a matching in rounds, in which all inputs ask at once.
+
+use super::coming::Coming;
+use super::engine::{Told, of_input, of_output};
+use cq_base::{Arrivals, Cell, InputFigures, OutputFigures};
+use cq_engine::Refused;
+use std::alloc::Global;
+use std::test::Fail;
+
+/// Per output the ranks of the two classes: outputs 0 and 2 send those of one level in the order of arrival.
+pub(super) const PRIORITIES: [[u128; 2]; 4] = [[0, 0], [3, 1], [7, 7], [0, 9]];
+
+/// Per output the levels of the two classes.
+pub(super) const LEVELS: [[u8; 2]; 4] = [[0, 0], [0, 0], [1, 0], [1, 0]];
+
+/// Its level, its rank, the slot of its arrival, its input, and its output. So cells compare as their keys do.
+type Waiting = (u8, u128, u64, u16, u16);
+
+/// The lists, the buffers, and what is told and seen of a run.
+#[derive(Drop)]
+pub(super) struct Slow {
+    lists: Vec<Vec<Waiting>>,
+    buffers: Vec<Vec<Waiting>>,
+    limits: [Option<u64>; 4],
+    marks: [bool; 4],
+    pub(super) refused: Vec<Refused>,
+    pub(super) told: Told,
+    pub(super) slots: u64,
+    pub(super) proposals: u64,
+    pub(super) most: u64,
+    pub(super) inputs: [InputFigures; 4],
+    pub(super) outputs: [OutputFigures; 4],
+}
+
+/// Four empty queues.
+fn empty(alloc: Global) -> Result<Vec<Vec<Waiting>>, Fail> {
+    let mut queues = Vec::new(alloc);
+    for _ in 0..4 {
+        queues.push(Vec::new(alloc))?;
+    }
+    Ok(queues)
+}
+
+/// Nothing was refused yet at the outputs with limits.
+fn none_refused(alloc: Global, limits: &[Option<u64>; 4]) -> Result<Vec<Refused>, Fail> {
+    let mut refused = Vec::new(alloc);
+    for (output, limit) in limits.iter().enumerate() {
+        if let Some(limit) = limit {
+            refused.push(Refused {
+                output: output as u16,
+                limit: *limit,
+                packets: 0,
+                cells: 0,
+            })?;
+        }
+    }
+    Ok(refused)
+}
+
+/// How many cells of the output's buffer are more urgent.
+fn cushion(buffers: &[Vec<Waiting>], cell: Waiting) -> usize {
+    match buffers.get(cell.4 as usize) {
+        None => 0,
+        Some(buffer) => buffer.iter().filter(|other| **other < cell).count(),
+    }
+}
+
+/// The cell goes in at the least of its cushion, the place of the first less urgent cell for its output, and the
+/// end.
+fn insert(list: &mut Vec<Waiting>, cell: Waiting, cushion: usize) -> Result<(), Fail> {
+    let later = list
+        .iter()
+        .position(|other| other.4 == cell.4 && cell < *other);
+    let place = cushion.min(later.unwrap_or(cushion)).min(list.len());
+    list.insert(place, cell)?;
+    Ok(())
+}
+
+/// What each input asks for: its first cell for an output that has not refused it.
+fn asks(lists: &[Vec<Waiting>], refused: &[(usize, u16)]) -> [Option<Waiting>; 4] {
+    let mut asks = [None; 4];
+    for input in 0..4usize {
+        if let Some(list) = lists.get(input) {
+            asks[input] = list
+                .iter()
+                .find(|cell| !refused.contains(&(input, cell.4)))
+                .copied();
+        }
+    }
+    asks
+}
+
+/// Each output that is asked by several inputs refuses all but the one with the most urgent cell.
+fn refuse(asks: &[Option<Waiting>; 4], refused: &mut Vec<(usize, u16)>) -> Result<(), Fail> {
+    for (input, ask) in asks.iter().enumerate() {
+        if let Some(cell) = ask
+            && asks.iter().any(|other| other.is_some_and(|other| other.4 == cell.4
+                && other < *cell))
+        {
+            refused.push((input, cell.4))?;
+        }
+    }
+    Ok(())
+}
+
+/// Who asks when nobody is refused any more, and how many were refused (Gale and Shapley 1962). There are 16 pairs
+/// at most.
+fn matched(alloc: Global, lists: &[Vec<Waiting>]) -> Result<([Option<Waiting>; 4], usize), Fail> {
+    let mut refused = Vec::new(alloc);
+    for _ in 0..16 {
+        refuse(&asks(lists, &refused), &mut refused)?;
+    }
+    Ok((asks(lists, &refused), refused.len()))
+}
+
+/// The lesser of the slack so far and that of the cell at this place.
+fn lesser(so_far: Option<u64>, cushion: usize, place: usize) -> Option<u64> {
+    let slack = (cushion as u64).wrapping_sub(place as u64);
+    Some(so_far.map_or(slack, |least| least.min(slack)))
+}
+
+impl Slow {
+    /// A run of these slots. The packet of each cell has the number of the slot of its arrival.
+    pub(super) fn run(
+        alloc: Global,
+        limits: [Option<u64>; 4],
+        slots: &[Coming<4>],
+    ) -> Result<Slow, Fail> {
+        let mut slow = Slow {
+            lists: empty(alloc)?,
+            buffers: empty(alloc)?,
+            limits,
+            marks: [false; 4],
+            refused: none_refused(alloc, &limits)?,
+            told: Told::nothing(alloc),
+            slots: 0,
+            proposals: 0,
+            most: 0,
+            inputs: [of_input(0, 0, None); 4],
+            outputs: [of_output(0, None); 4],
+        };
+        for (slot, coming) in slots.iter().enumerate() {
+            slow.arrive(slot as u64, &coming.arrivals)?;
+            slow.look();
+            slow.transfer(alloc, slot as u64, 1)?;
+            slow.send(slot as u64)?;
+            slow.transfer(alloc, slot as u64, 2)?;
+        }
+        Ok(slow)
+    }
+
+    /// How many cells for the output wait at any input or in its buffer.
+    fn held(&self, output: u16) -> u64 {
+        let waiting = |queue: &Vec<Waiting>| queue.iter().filter(|cell| cell.4 == output).count();
+        let mut held = 0usize;
+        for queue in self.lists.iter() {
+            held = held.wrapping_add(waiting(queue));
+        }
+        for queue in self.buffers.iter() {
+            held = held.wrapping_add(waiting(queue));
+        }
+        held as u64
+    }
+
+    /// Whether the cell is of a packet that is refused: its first cell finds that its output holds as many cells as the
+    /// limit says, or more.
+    fn refuses(&mut self, input: u16, cell: Cell) -> bool {
+        if cell.id.index == 0 {
+            let held = self.held(cell.output);
+            let limit = self.limits.get(cell.output as usize).copied().flatten();
+            if let Some(mark) = self.marks.get_mut(input as usize) {
+                *mark = limit.is_some_and(|limit| held >= limit);
+            }
+        }
+        self.marks.get(input as usize).copied().unwrap_or(false)
+    }
+
+    fn count_refused(&mut self, cell: Cell) {
+        for count in self.refused.iter_mut() {
+            if count.output == cell.output {
+                count.cells = count.cells.wrapping_add(1);
+                count.packets = count.packets.wrapping_add(u64::from(cell.id.index == 0));
+            }
+        }
+    }
+
+    fn arrive(&mut self, slot: u64, arrivals: &Arrivals) -> Result<(), Fail> {
+        for input in 0..4u16 {
+            if let Some(cell) = arrivals.at(input) {
+                if self.refuses(input, cell) {
+                    self.count_refused(cell);
+                } else {
+                    self.admit(slot, input, cell)?;
+                }
+            }
+        }
+        Ok(())
+    }
+
+    fn admit(&mut self, slot: u64, input: u16, cell: Cell) -> Result<(), Fail> {
+        if let Some(ranks) = PRIORITIES.get(cell.output as usize)
+            && let Some(rank) = ranks.get(cell.class as usize)
+            && let Some(levels) = LEVELS.get(cell.output as usize)
+            && let Some(level) = levels.get(cell.class as usize)
+            && let Some(list) = self.lists.get_mut(input as usize)
+            && let Some(figures) = self.inputs.get_mut(input as usize)
+        {
+            let waiting = (*level, *rank, slot, input, cell.output);
+            insert(list, waiting, cushion(&self.buffers, waiting))?;
+            figures.cells = figures.cells.wrapping_add(1);
+        }
+        Ok(())
+    }
+
+    /// Looks at the lists, after the arrivals of a slot.
+    fn look(&mut self) {
+        for (list, figures) in self.lists.iter().zip(self.inputs.iter_mut()) {
+            figures.longest = figures.longest.max(list.len() as u64);
+            for (place, cell) in list.iter().enumerate() {
+                figures.slack = lesser(figures.slack, cushion(&self.buffers, *cell), place);
+            }
+        }
+    }
+
+    fn transfer(&mut self, alloc: Global, slot: u64, phase: u64) -> Result<(), Fail> {
+        let (asks, refused) = matched(alloc, &self.lists)?;
+        let mut proposals = refused as u64;
+        for (input, ask) in asks.iter().enumerate() {
+            if let Some(cell) = ask
+                && let Some(list) = self.lists.get_mut(input)
+                && let Some(buffer) = self.buffers.get_mut(cell.4 as usize)
+            {
+                list.retain(|other| *other != *cell);
+                buffer.push(*cell)?;
+                let line = [slot, phase, input as u64, cell.4 as u64, cell.2];
+                self.told.crossed.push(line)?;
+                proposals = proposals.wrapping_add(1);
+            }
+        }
+        self.proposals = self.proposals.wrapping_add(proposals);
+        self.most = self.most.max(proposals);
+        Ok(())
+    }
+
+    fn send(&mut self, slot: u64) -> Result<(), Fail> {
+        for (output, buffer) in self.buffers.iter_mut().enumerate() {
+            buffer.sort()?;
+            if !buffer.is_empty()
+                && let Some(figures) = self.outputs.get_mut(output)
+            {
+                let (_, _, came, input, _) = buffer.remove(0);
+                self.told
+                    .sent
+                    .push([slot, output as u64, input as u64, came])?;
+                self.slots = slot.wrapping_add(1);
+                let wait = slot.wrapping_sub(came);
+                figures.cells = figures.cells.wrapping_add(1);
+                figures.wait = Some(figures.wait.map_or(wait, |most| most.max(wait)));
+            }
+        }
+        Ok(())
+    }
+}
