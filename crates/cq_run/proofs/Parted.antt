@@ -15,7 +15,7 @@ use Rattle.cq_run.specs.declared.stop.Halt.{Halt}
 use Rattle.cq_run.specs.declared.stop.Halt.TheVariants.{NoMemory, Refused, Unread}
 use Rattle.cq_run.specs.declared.switching.Crossed.{Crossed}
 use Rattle.cq_run.specs.Aim.{Aim, Parting, Resuming}
-use Rattle.cq_run.specs.Headline.{IsStopped, IsTakenUp}
+use Rattle.cq_run.specs.Headline.{AreGiven, IsStopped, IsTakenUp}
 use Rattle.cq_run.specs.Judging.{Judges}
 use Rattle.cq_run.specs.Pace.{InTurn}
 use Rattle.cq_run.specs.PartEnds.{IsPartHalt, IsResumeHalt, IsResumedBy, kept_by}
@@ -96,25 +96,26 @@ module _ (r : Reader) (config : List ℕ) (slots : ℕ) (name : List ℕ) where
 
     -- ## What is written of it
 
-    stops_told : (told : Option Contents) (text : List ℕ) (plan : Plan) → IsPartText t captures slots text →
-        plan ≡ state_written name text → IfSome told (λ m. tables_in config m ≡ Ok t) →
+    stops_told : (told : Option Contents) (text : List ℕ) (plan : Plan) → AreGiven t captures →
+        IsPartText t captures slots text → plan ≡ state_written name text → IfSome told (λ m. tables_in config m ≡ Ok t) →
         IfSome told (λ m. captures_in r t m ≡ Ok captures) → IfSome told (λ m. IsStopped r config slots name m plan)
-    stops_told None text plan is written a b = tt
-    stops_told (Some m) text plan is written a b = record {
+    stops_told None text plan given is written a b = tt
+    stops_told (Some m) text plan given is written a b = record {
       tables = t;
       configured = a;
       captures = captures;
       captured = b;
+      given = given;
       text = text;
       stopped = is;
       written = written;
     }
 
-    pub part_emulates : (text : List ℕ) (plan : Plan) → IsPartText t captures slots text →
+    pub part_emulates : (text : List ℕ) (plan : Plan) → AreGiven t captures → IsPartText t captures slots text →
         plan ≡ state_written name text → IfSome s0.told (λ m. IsStopped r config slots name m plan)
-    part_emulates text plan is written =
+    part_emulates text plan given is written =
         let P : Option Contents → Type 0 = λ o. IfSome o (λ m. captures_in r t m ≡ Ok captures) in
-        stops_told s0.told text plan is written g1.ok (subst P g1.told g2.ok)
+        stops_told s0.told text plan given is written g1.ok (subst P g1.told g2.ok)
 
 -- ## Going on
 
@@ -179,15 +180,16 @@ module _ (r : Reader) (config : List ℕ) (name : List ℕ) where
         pub resume_plans : Decides InTurn (judged_whole r config resuming) S s0 s3 (Ok plan)
         resume_plans = (Resuming t captures text, (kept_by c, is, kept_written), resume_aims)
 
-        goes_on_told : (told : Option Contents) → IfSome told (λ m. tables_in config m ≡ Ok t) →
+        goes_on_told : (told : Option Contents) → AreGiven t captures → IfSome told (λ m. tables_in config m ≡ Ok t) →
             IfSome told (λ m. captures_in r t m ≡ Ok captures) → IfSome told (λ m. state_in name m ≡ Ok text) →
             IfSome told (λ m. IsTakenUp r config name m plan)
-        goes_on_told None a b d = tt
-        goes_on_told (Some m) a b d = record {
+        goes_on_told None given a b d = tt
+        goes_on_told (Some m) given a b d = record {
           tables = t;
           configured = a;
           captures = captures;
           captured = b;
+          given = given;
           text = text;
           found = text_stands (State stopped.Long) name m text d;
           kept = kept_by c;
@@ -195,15 +197,18 @@ module _ (r : Reader) (config : List ℕ) (name : List ℕ) where
           written = kept_written;
         }
 
-        pub resume_emulates : IfSome s0.told (λ m. IsTakenUp r config name m plan)
-        resume_emulates =
+        pub resume_emulates : AreGiven t captures → IfSome s0.told (λ m. IsTakenUp r config name m plan)
+        resume_emulates given =
             let P : Option Contents → Type 0 = λ o. IfSome o (λ m. captures_in r t m ≡ Ok captures) in
             let Q : Option Contents → Type 0 = λ o. IfSome o (λ m. state_in name m ≡ Ok text) in
-            goes_on_told s0.told g1.ok (subst P g1.told g2.ok) (subst Q (g2.told ∙ g1.told) g3.ok)
+            goes_on_told s0.told given g1.ok (subst P g1.told g2.ok) (subst Q (g2.told ∙ g1.told) g3.ok)
 
 -- ## The same captures and text
 
 module _ (t : Tables) (cs ds : List (List Captured)) (e : cs ≡ ds) where
+  pub given_over : AreGiven t cs → AreGiven t ds
+  given_over h = let P : List (List Captured) → Type 0 = λ x. AreGiven t x in subst P e h
+
   pub parted_over : (slots : ℕ) (text : List ℕ) → IsPartText t cs slots text → IsPartText t ds slots text
   parted_over slots text h = let P : List (List Captured) → Type 0 = λ x. IsPartText t x slots text in subst P e h
 

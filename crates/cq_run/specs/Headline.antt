@@ -96,6 +96,7 @@ pub record IsStopped (r : Reader) (config : List ℕ) (slots : ℕ) (state : Lis
     pub configured : tables_in config m ≡ Ok tables
     pub captures : List (List Captured)
     pub captured : captures_in r tables m ≡ Ok captures
+    pub given : AreGiven tables captures
     pub text : List ℕ
     pub stopped : IsPartText tables captures slots text
     pub written : plan ≡ state_written state text
@@ -107,6 +108,7 @@ pub record IsTakenUp (r : Reader) (config state : List ℕ) (m : Contents) (plan
   pub configured : tables_in config m ≡ Ok tables
   pub captures : List (List Captured)
   pub captured : captures_in r tables m ≡ Ok captures
+  pub given : AreGiven tables captures
   pub text : List ℕ
   pub found : get m state ≡ Some text
   pub kept : Kept

@@ -1,6 +1,7 @@
 //! Stopping a run over the captures that were read, and taking one up.
-ghost use Rattle.std.specs.Prelude.{◌≡◌, ◌<◌, ◌≤◌, ◌^◌, All, IfErr, IfOk, length};
+ghost use Rattle.std.specs.Prelude.{◌≡◌, ◌<◌, ◌≤◌, ◌^◌, All, IfErr, IfOk, OnOk, length};
 ghost use Rattle.cq_route.specs.Tables.{AreTables, ports_of};
+ghost use Rattle.cq_run.specs.Headline.{AreGiven};
 ghost use Rattle.cq_run.specs.PartEnds.{IsPartHalt, IsResumeHalt, IsResumedBy};
 ghost use Rattle.cq_run.specs.Parting.{IsPartText};
 
@@ -27,6 +28,7 @@ pub fn part_by_crossbar<R: Threads + Sync, G: Gate>(
     requires tables { AreTables tables.now }
     requires captures { length captures.now ≡ ports_of tables.now.setup }
     requires slots { slots < 2 ^ 63 }
+    ensures given { OnOk result (AreGiven tables.now captures.now) }
     ensures text { IfOk result (λ text. IsPartText tables.now captures.now slots text.items) }
     ensures refused { IfErr result (IsPartHalt tables.now captures.now slots) }
 {
@@ -56,6 +58,7 @@ pub fn resume_by_crossbar<R: Threads + Sync, G: Gate>(
 ) -> Result<Crossed, Halt>
     requires tables { AreTables tables.now }
     requires captures { length captures.now ≡ ports_of tables.now.setup }
+    ensures given { OnOk result (AreGiven tables.now captures.now) }
     ensures resumed { IfOk result (IsResumedBy tables.now captures.now text.now) }
     ensures reportable { IfOk result (λ crossed. All (λ x. x.cells ≤ crossed.figures.slots) crossed.figures.outputs) }
     ensures refused { IfErr result (IsResumeHalt tables.now captures.now text.now) }

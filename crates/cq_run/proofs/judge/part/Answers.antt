@@ -6,7 +6,7 @@ use Rattle.cq_words.specs.declared.command.Command.TheVariants.{Part}
 use Rattle.cq_run.specs.Plan.{Plan}
 use Rattle.cq_run.specs.Verdict.{MayWrite}
 use Rattle.cq_run.proofs.Failed.{fails_after}
-use Rattle.cq_run.proofs.Parted.{part_emulates, part_halt_over, part_halts, part_no_memory, part_plans, parted_over, parting}
+use Rattle.cq_run.proofs.Parted.{given_over, part_emulates, part_halt_over, part_halts, part_no_memory, part_plans, parted_over, parting}
 use Rattle.cq_run.proofs.ReadOn.{captures_end, tables_end}
 use Rattle.cq_run.proofs.judge.part.Goals as goal
 
@@ -76,6 +76,8 @@ returns-clause-emulates g c = λ r.
     (g.F.Files.space c.read_configuration.new.files) (g.F.Files.space c.read_inputs.new.files) c.in_ok-tables.tables
     c.in_ok-captures.captures c.in_ok-tables.ensures.judges (c.in_ok-captures.ensures.judges r)
     c.in_ok-text.text.items c.in_ok-build_state.field-0
+    (given_over c.in_ok-tables.tables c.as_slice.result.now c.in_ok-captures.captures c.as_slice.ensures
+    c.in_ok-text.ensures.given)
     (parted_over c.in_ok-tables.tables c.as_slice.result.now c.in_ok-captures.captures c.as_slice.ensures c.args.slots
     c.in_ok-text.text.items c.in_ok-text.ensures.text)
     c.in_ok-build_state.ensures

@@ -3,7 +3,7 @@ use Rattle.std.proofs.lemmas.Result.{err_from_is_err_and}
 use Rattle.cq_space.specs.Failing.{Reads}
 use Rattle.cq_run.proofs.Failed.{fails_after}
 use Rattle.cq_run.proofs.OneReading.{from_front}
-use Rattle.cq_run.proofs.Parted.{resume_emulates, resume_halt_over, resume_halts, resume_no_memory, resume_plans, resumed_over, resuming, text_halts}
+use Rattle.cq_run.proofs.Parted.{given_over, resume_emulates, resume_halt_over, resume_halts, resume_no_memory, resume_plans, resumed_over, resuming, text_halts}
 use Rattle.cq_run.proofs.Planned.{all_any}
 use Rattle.cq_run.proofs.ReadOn.{captures_end, tables_end}
 use Rattle.cq_run.proofs.judge.resume.Goals as goal
@@ -104,6 +104,8 @@ returns-clause-emulates g c = λ r.
     c.in_ok-text.text c.as_slice.ensures c.as_slice-2.ensures c.in_ok-crossed.crossed
     c.in_ok-crossed.ensures.resumed).resumed
     c.in_ok-build_crossed.ensures.writes c.in_ok-build_crossed.ensures.text
+    (given_over c.in_ok-tables.tables c.as_slice.result.now c.in_ok-captures.captures c.as_slice.ensures
+    c.in_ok-crossed.ensures.given)
 
 pub returns-clause-names : goal.returns-clause-names
 returns-clause-names g c = all_any c.in_ok-build_crossed.field-0.writes

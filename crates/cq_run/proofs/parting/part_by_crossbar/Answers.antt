@@ -10,6 +10,14 @@ pub state_bytes-requires : goal.state_bytes-requires
 state_bytes-requires g c =
     let few = c.requires.tables.setup.ports in let many = c.in_ok-parted.ensures.ports in omega arith
 
+-- the schedule is one of captures that can be read
+pub returns-clause-given : goal.returns-clause-given
+returns-clause-given g c = record {
+  tables = c.requires.tables;
+  each = c.requires.captures;
+  recorded = c.in_ok-schedule.ensures.recorded;
+}
+
 -- the state is told by what was lent of the run
 pub returns-clause-text : goal.returns-clause-text
 returns-clause-text g c =

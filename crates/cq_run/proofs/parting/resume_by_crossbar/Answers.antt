@@ -14,6 +14,13 @@ resume_fabric-requires-clause-sound g c κs within =
     taken_up c.args.tables.now c.args.captures.now c.in_ok-schedule.schedule c.in_ok-schedule.ensures.schedule
     c.args.text.now c.in_ok-taken.taken c.in_ok-taken.ensures.read
 
+pub returns-clause-given : goal.returns-clause-given
+returns-clause-given g c = record {
+  tables = c.requires.tables;
+  each = c.requires.captures;
+  recorded = c.in_ok-schedule.ensures.recorded;
+}
+
 pub returns-clause-resumed : goal.returns-clause-resumed
 returns-clause-resumed g c =
     resumed_by c.args.tables.now c.args.captures.now c.in_ok-schedule.schedule c.in_ok-schedule.ensures.schedule
