@@ -1,0 +1,55 @@
+-- A tag fault of the crossbar run from its opening state on is that of the ideal switch, in whatever slot it comes: both
+-- act alike in every slot, and a fault of the ideal switch ends its whole run.
+use Rattle.std.proofs.Common.{◌≡◌, ◌∙◌, ℕ, List, length, Err, ap, sym, subst}
+use Rattle.std.proofs.lemmas.List.{length-map}
+use Rattle.cq_base.specs.Arriving.{Arrival}
+use Rattle.cq_base.specs.declared.cell.TagFault.{TagFault}
+use Rattle.cq_cells.proofs.Rising.{traffic_is}
+use Rattle.cq_cells.specs.Schedule.{arrivals}
+use Rattle.cq_cells.specs.Scheduled.{schedule_of}
+use Rattle.cq_cells.specs.Traffic.{IsTraffic}
+use Rattle.cq_ideal.proofs.LimitedEnds.{limited_whole_fault}
+use Rattle.cq_ideal.specs.Admission.{Marked}
+use Rattle.cq_ideal.specs.Ending.{first_slots}
+use Rattle.cq_ideal.specs.LimitedEnding.{departures_limited}
+use Rattle.cq_ideal.specs.LimitedIdeal.{empty_limited}
+use Rattle.cq_laws.proofs.InputBest.{stable_limited_stop}
+use Rattle.cq_laws.proofs.LimitedWhole.{begin, same_limited_stop}
+use Rattle.cq_laws.specs.Fabric.{Fabric}
+use Rattle.cq_laws.specs.LimitedFabric.{LimitedFabricStops, empty_limited_fabric}
+use Rattle.cq_pcap.specs.Captured.{Captured}
+use Rattle.cq_prefs.specs.Pairing.{IsInputBest}
+use Rattle.cq_resume.specs.Parts.{IsWholeFault}
+use Rattle.cq_resume.specs.Switch.{switch_of}
+use Rattle.cq_route.specs.Tables.{AreTables, classes_of, ports_of}
+use Rattle.cq_route.specs.declared.tables.Tables.{Tables}
+use Rattle.cq_scfq.specs.Disciplines.{machine_of, machines_of, openings_of}
+use Rattle.cq_simulate.specs.IdealRuns.{ideal_departures, ran_ideal}
+use Rattle.cq_traffic.proofs.ForPorts.{slots_fit}
+
+pub whole_fault : (t : Tables) (captures : List (List Captured)) (fault : TagFault) → AreTables t →
+    length captures ≡ ports_of t.setup →
+    IsWholeFault (switch_of t (schedule_of t captures)) (openings_of t.setup) fault →
+    ideal_departures t (arrivals t captures) ≡ Err fault
+unfolding ideal_departures ran_ideal
+whole_fault t captures fault are each is =
+    let came : List Arrival = arrivals t captures in
+    let ms = machines_of t.setup in
+    let ranks = openings_of t.setup in
+    let p = ports_of t.setup in
+    let classes = classes_of t.setup in
+    let traffic : IsTraffic p classes came = traffic_is t captures are each in
+    let ports : length (machines_of t.setup) ≡ ports_of t.setup =
+    length-map t.setup.kinds (λ kind. machine_of kind t.setup.classes) in
+    let stops : LimitedFabricStops IsInputBest t.limits ms 0 (first_slots came is.count) (empty_limited_fabric p ranks)
+    is.records fault =
+    subst (λ (n : ℕ).
+    LimitedFabricStops IsInputBest t.limits ms 0 (first_slots came is.count) (empty_limited_fabric n ranks) is.records
+    fault) ports is.stops in
+    ap departures_limited
+    (limited_whole_fault t.limits ms p ranks came is.count fault
+    (same_limited_stop t.limits ms classes 0 (first_slots came is.count) (empty_limited_fabric p ranks)
+    (empty_limited p ranks) is.records fault
+    (begin t.limits ms classes p ranks (first_slots came is.count) (slots_fit p classes came 0 is.count traffic))
+    (stable_limited_stop ms t.limits 0 (first_slots came is.count) (empty_limited_fabric p ranks) is.records fault
+    stops)))

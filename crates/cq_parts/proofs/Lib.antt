@@ -1,0 +1,3 @@
+mod Faulty
+mod Left
+mod Whole

@@ -1,0 +1,173 @@
+-- What `part` left is read as what was left and as nothing else, and is refused for nothing (`stopped_runs_are_read`). What
+-- goes on from there keeps what the run keeps (`read_runs_go_on`), and both write the same of it. A tag fault that is met
+-- from there is one of the whole run, and so that of the ideal switch, for which `run` is refused.
+use Rattle.std.proofs.Common.{◌≡◌, ◌∙◌, ◌<◌, ◌^◌, ℕ, List, [], ◌∷◌, refl, ap, sym, subst}
+use Rattle.std.specs.Prelude.{IsOkAnd, Option, Some, Result, Ok, Err}
+use Rattle.cq_base.specs.declared.cell.Departure.{Departure}
+use Rattle.cq_base.specs.declared.cell.TagFault.{TagFault}
+use Rattle.cq_cells.specs.Schedule.{arrivals}
+use Rattle.cq_cells.specs.Scheduled.{Scheduled, schedule_of}
+use Rattle.cq_laws.specs.LimitedFabric.{LimitedRecord}
+use Rattle.cq_pcap.specs.Captured.{Captured}
+use Rattle.cq_resume.specs.Reading.{IsRead, IsRefusal}
+use Rattle.cq_resume.specs.Resumed.{Kept}
+use Rattle.cq_resume.specs.Switch.{IsScheduleOf, Switch, switch_of}
+use Rattle.cq_resume.specs.declared.refusal.StateRefusal.{StateRefusal}
+use Rattle.cq_resume.specs.declared.refusal.StateRefusal.TheVariants as of_state
+use Rattle.cq_resume.specs.declared.taken.Taken.{Taken}
+use Rattle.cq_route.specs.declared.tables.Tables.{Tables}
+use Rattle.cq_simulate.specs.FabricRuns.{departures_in_run}
+use Rattle.cq_space.specs.Space.{Contents}
+use Rattle.cq_stopped.proofs.Together.{read_runs_go_on, stopped_runs_are_read}
+use Rattle.cq_stopped.specs.Read.{GoesOnAsRun, IsReadAs, kept_in_run}
+use Rattle.cq_words.specs.declared.command.Command.TheVariants.{Run}
+use Rattle.cq_run.specs.Aim.{Aim, Crossing, Denies, Meets, Resuming}
+use Rattle.cq_run.specs.Headline.{AreGiven, IsEmulation, KeepsUp}
+use Rattle.cq_run.specs.Parting.{IsPartText, IsResumeRefusal}
+use Rattle.cq_run.specs.Plan.{Plan}
+use Rattle.cq_run.specs.Plans.{crossed, resumed}
+use Rattle.cq_run.specs.Reader.{Reader}
+use Rattle.cq_run.specs.Verdict.{◌>>=◌, captures_in, ideally_sent, judged, sent_or_tag, tables_in}
+use Rattle.cq_run.specs.Writing.{all_replaced}
+use Rattle.cq_run.specs.declared.refusal.Refusal.{Refusal}
+use Rattle.cq_run.specs.declared.refusal.Refusal.TheVariants as refused
+use Rattle.cq_run.specs.declared.refusal.StateFault.TheVariants as stopped
+use Rattle.cq_parts.proofs.Faulty.{whole_fault}
+use Rattle.cq_parts.proofs.Left.{aimed}
+use Rattle.cq_parts.specs.Parts.{IsAimOfRun, PartsAreTheRun}
+
+-- what is written of a run is what is written of what it keeps
+same_plan : (t : Tables) (captures : List (List Captured)) (rs : List LimitedRecord) →
+    crossed t captures (departures_in_run rs) rs ≡ resumed t captures (kept_in_run t rs)
+unfolding crossed resumed
+same_plan t captures rs = refl
+
+module _ (r : Reader) (config : List ℕ) (m : Contents) (t : Tables) (captures : List (List Captured))
+    (configured : tables_in config m ≡ Ok t) (captured : captures_in r t m ≡ Ok captures) (given : AreGiven t captures)
+  where
+    -- ## What `run` writes
+
+    -- it is what is written of a run over these tables and captures
+    record Ran (whole : Plan) : Type 0 where
+      records : List LimitedRecord
+      keeps_up : KeepsUp t captures records
+      written : whole ≡ resumed t captures (kept_in_run t records)
+
+    ran : (whole : Plan) → IsEmulation r config m whole → Ran whole
+    ran whole e =
+        let tables : e.tables ≡ t = cc (e.configured, configured) in
+        let over : captures_in r t m ≡ Ok e.captures =
+        subst (λ (u : Tables). captures_in r u m ≡ Ok e.captures) tables e.captured in
+        let same : e.captures ≡ captures = cc (over, captured) in
+        let keeps : KeepsUp t captures e.records =
+        subst (λ (cs : List (List Captured)). KeepsUp t cs e.records) same
+        (subst (λ (u : Tables). KeepsUp u e.captures e.records) tables e.keeps_up) in
+        let sent : List Departure = departures_in_run e.records in
+        let written : whole ≡ crossed t captures sent e.records =
+        e.written
+        ∙ ap (λ (u : Tables). crossed u e.captures sent e.records) tables
+        ∙ ap (λ (cs : List (List Captured)). crossed t cs sent e.records) same in
+        record { records = e.records; keeps_up = keeps; written = written ∙ same_plan t captures e.records }
+
+    -- ## What `run` is refused for
+
+    -- what is judged once the tables, and once the captures too are read
+    abbrev from_tables : Tables → Result Aim Refusal
+    from_tables u = do
+      cs ← captures_in r u m
+      sent ← ideally_sent u cs
+      Ok (Crossing u cs sent)
+
+    abbrev from_captures : List (List Captured) → Result Aim Refusal
+    from_captures cs = do
+      sent ← ideally_sent t cs
+      Ok (Crossing t cs sent)
+
+    abbrev from_sent : List Departure → Result Aim Refusal
+    from_sent sent = Ok (Crossing t captures sent)
+
+    run_refused : (fault : TagFault) → ideally_sent t captures ≡ Err (refused.Tag fault) →
+        judged r (Run config) m ≡ Err (refused.Tag fault)
+    run_refused fault faulty =
+        ap (λ (x : Result Tables Refusal). x >>= from_tables) configured
+        ∙ ap (λ (x : Result (List (List Captured)) Refusal). x >>= from_captures) captured
+        ∙ ap (λ (x : Result (List Departure) Refusal). x >>= from_sent) faulty
+
+    -- ## What was left
+
+    module _ (slots : ℕ) (early : slots < 2 ^ 63) (text : List ℕ) (part : IsPartText t captures slots text) where
+      abbrev s : Scheduled
+      s = schedule_of t captures
+
+      abbrev w : Switch
+      w = switch_of t s
+
+      abbrev made : IsScheduleOf t s
+      made = record { captures = captures; ports = given.each; schedule = refl }
+
+      -- the text is read as what was left
+      read_as : IsReadAs w text part.at
+      read_as =
+          subst (λ (bytes : List ℕ). IsReadAs w bytes part.at) (sym part.told)
+          (stopped_runs_are_read t s slots part.at made given.tables given.recorded early part.parted)
+
+      -- and what is read of it goes on as the run
+      goes : (x : Taken) → IsRead w text x → GoesOnAsRun t s x
+      goes x read =
+          read_runs_go_on t s slots part.at x made given.tables given.recorded early part.parted
+          (subst (λ (bytes : List ℕ). IsRead w bytes x) part.told read)
+
+      abbrev aim : Aim
+      aim = Resuming t captures text
+
+      met : (whole : Plan) → IsEmulation r config m whole → Meets aim whole
+      met whole e =
+          let it = ran whole e in (
+            kept_in_run t it.records,
+            record {
+              from = part.at;
+              read = read_as.read;
+              resumed = (goes part.at read_as.read).resumes it.records it.keeps_up.runs;
+            },
+            it.written,
+          )
+
+      only : (whole plan : Plan) → IsEmulation r config m whole → Meets aim plan → plan ≡ whole
+      only whole plan e (kept, is, written) =
+          let it = ran whole e in
+          let same : kept ≡ kept_in_run t it.records =
+          (goes is.from is.read).run it.records kept it.keeps_up.runs is.resumed in
+          written ∙ ap (λ (k : Kept). resumed t captures k) same ∙ sym it.written
+
+      -- the text itself is refused for nothing
+      never : (why : StateRefusal) → (why ≡ of_state.NoMemory → ⊥) → IsRefusal w text why → ⊥
+      never why other is = other (read_as.never_refused why is)
+
+      denied : (refusal : Refusal) → Denies aim refusal → judged r (Run config) m ≡ Err refusal
+      denied refused.Words is = absurd is
+      denied (refused.Missing name) is = absurd is
+      denied (refused.Configuration code path) is = absurd is
+      denied (refused.Capture input fault) is = absurd is
+      denied (refused.Audit denial) is = absurd is
+      denied (refused.Tag fault) is =
+          run_refused fault
+          (ap sent_or_tag
+          (whole_fault t captures fault given.tables given.each ((goes is.from is.read).whole_fault fault is.stops)))
+      denied (refused.State stopped.Long) is = absurd is
+      denied (refused.State (stopped.Line n)) is = absurd (never (of_state.Text n) (λ e. cc) is)
+      denied (refused.State stopped.Shape) is = absurd (never of_state.Shape (λ e. cc) is)
+      denied (refused.State (stopped.Unsound clause)) is = absurd (never (of_state.Unsound clause) (λ e. cc) is)
+
+      pub aim_of_run : IsAimOfRun r config m aim
+      aim_of_run = record { met = met; only = only; refused = denied }
+
+pub parts_are_the_run : (r : Reader) → PartsAreTheRun r
+parts_are_the_run r config state slots m left is =
+    let stops = is.stops in
+    let written : all_replaced ((state, stops.text) ∷ []) (Some m) ≡ Some left =
+    subst (λ (plan : Plan). all_replaced plan.writes (Some m) ≡ Some left) stops.written is.written in
+    let aims = aimed r config state m left stops.tables stops.captures stops.text stops.configured stops.captured written
+    is.configuration_stays is.captures_stay stops.stopped.short in
+    subst (λ (v : Result Aim Refusal). IsOkAnd v (IsAimOfRun r config m)) (sym aims)
+    (aim_of_run r config m stops.tables stops.captures stops.configured stops.captured stops.given slots is.early
+    stops.text stops.stopped)
