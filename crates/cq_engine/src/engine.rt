@@ -130,8 +130,8 @@ fn count_proposals(figures: &mut Figures, first: u64, second: u64)
 impl<R: Rank> Engine<R> {
     /// An engine with an input and an output for each rank, which is not stopped. No cell waits, list i has
     /// room for `from_inputs[i]` cells and buffer j for `to_outputs[j]`, output j has the limit `limits[j]`, or none,
-    /// no packet is refused, nothing was refused or counted, and the next slot is 0. In a slot so many workers at most propose at once. All memory that a slot needs is taken here.
-    /// The error is want of memory.
+    /// no packet is refused, nothing was refused or counted, and the next slot is 0. In a slot so many workers at most
+    /// propose at once. All memory that a slot needs is taken here. The error is want of memory.
     pub fn new(
         alloc: Global,
         ranks: Vec<R>,
@@ -243,10 +243,12 @@ impl<R: Rank> Engine<R> {
         })
     }
 
-    /// One slot: the cells arrive and are admitted or refused, the input-best matching is transferred, each output sends or is idle, and
-    /// the input-best matching is transferred again. The departures are put at the end of `sent`, in order
-    /// of output, and the transfers at the end of `note`, phase by phase and in order of input. The slot is
-    /// added to the figures, and the cells that are refused are counted. `gate` is told of the steps of the workers, and changes nothing of what is found.
+    /// One slot: the cells arrive and are admitted or refused, the input-best matching is transferred, each output
+    /// sends or is idle, and the input-best matching is transferred again. The departures are put at the end of
+    /// `sent`, in order of output, and the transfers at the end of `note`, phase by phase and in order of input. The
+    /// slot is added to the figures, and the cells that are refused are counted. `gate` is told of the steps of the
+    /// workers, and changes nothing of what is found.
+    ///
     /// No memory is needed for a slot to succeed: a phase of two workers or more takes a ledger, and is settled
     /// by one thread where there is none.
     ///
