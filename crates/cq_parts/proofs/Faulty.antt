@@ -1,6 +1,6 @@
--- A tag fault of the crossbar run from its opening state on is that of the ideal switch, in whatever slot it comes: both
--- act alike in every slot, and a fault of the ideal switch ends its whole run.
-use Rattle.std.proofs.Common.{◌≡◌, ◌∙◌, ℕ, List, length, Err, ap, sym, subst}
+-- A tag fault of the crossbar run from its opening state on is that of the ideal switch, in whatever slot it comes:
+-- both act alike in every slot, and a fault of the ideal switch ends its whole run.
+use Rattle.std.proofs.Common.{◌≡◌, ℕ, List, length, Err, ap, subst}
 use Rattle.std.proofs.lemmas.List.{length-map}
 use Rattle.cq_base.specs.Arriving.{Arrival}
 use Rattle.cq_base.specs.declared.cell.TagFault.{TagFault}
@@ -9,13 +9,11 @@ use Rattle.cq_cells.specs.Schedule.{arrivals}
 use Rattle.cq_cells.specs.Scheduled.{schedule_of}
 use Rattle.cq_cells.specs.Traffic.{IsTraffic}
 use Rattle.cq_ideal.proofs.LimitedEnds.{limited_whole_fault}
-use Rattle.cq_ideal.specs.Admission.{Marked}
 use Rattle.cq_ideal.specs.Ending.{first_slots}
 use Rattle.cq_ideal.specs.LimitedEnding.{departures_limited}
 use Rattle.cq_ideal.specs.LimitedIdeal.{empty_limited}
 use Rattle.cq_laws.proofs.InputBest.{stable_limited_stop}
 use Rattle.cq_laws.proofs.LimitedWhole.{begin, same_limited_stop}
-use Rattle.cq_laws.specs.Fabric.{Fabric}
 use Rattle.cq_laws.specs.LimitedFabric.{LimitedFabricStops, empty_limited_fabric}
 use Rattle.cq_pcap.specs.Captured.{Captured}
 use Rattle.cq_prefs.specs.Pairing.{IsInputBest}

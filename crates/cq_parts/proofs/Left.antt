@@ -1,4 +1,5 @@
--- What `resume` reads of what `part` left: the configuration and the captures that `part` read, and the text that it wrote.
+-- What `resume` reads of what `part` left: the configuration and the captures that `part` read, and the text that it
+-- wrote.
 use Rattle.std.proofs.Common.{◌≡◌, ◌≢◌, ◌∙◌, ℕ, List, [], ◌∷◌, length, ◌≤◌, ◌^◌, Option, None, Some, ap, arith, subst}
 use Rattle.std.specs.Prelude.{IfSome, Result, Ok}
 use Rattle.std.specs.FinMap.{get, insert}

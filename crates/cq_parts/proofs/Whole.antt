@@ -1,11 +1,10 @@
--- What `part` left is read as what was left and as nothing else, and is refused for nothing (`stopped_runs_are_read`). What
--- goes on from there keeps what the run keeps (`read_runs_go_on`), and both write the same of it. A tag fault that is met
--- from there is one of the whole run, and so that of the ideal switch, for which `run` is refused.
+-- What `part` left is read as what was left and as nothing else, and is refused for nothing (`stopped_runs_are_read`).
+-- What goes on from there keeps what the run keeps (`read_runs_go_on`), and both write the same of it. A tag fault that
+-- is met from there is one of the whole run, and so that of the ideal switch, for which `run` is refused.
 use Rattle.std.proofs.Common.{◌≡◌, ◌∙◌, ◌<◌, ◌^◌, ℕ, List, [], ◌∷◌, refl, ap, sym, subst}
-use Rattle.std.specs.Prelude.{IsOkAnd, Option, Some, Result, Ok, Err}
+use Rattle.std.specs.Prelude.{IsOkAnd, Some, Result, Ok, Err}
 use Rattle.cq_base.specs.declared.cell.Departure.{Departure}
 use Rattle.cq_base.specs.declared.cell.TagFault.{TagFault}
-use Rattle.cq_cells.specs.Schedule.{arrivals}
 use Rattle.cq_cells.specs.Scheduled.{Scheduled, schedule_of}
 use Rattle.cq_laws.specs.LimitedFabric.{LimitedRecord}
 use Rattle.cq_pcap.specs.Captured.{Captured}
@@ -23,7 +22,7 @@ use Rattle.cq_stopped.specs.Read.{GoesOnAsRun, IsReadAs, kept_in_run}
 use Rattle.cq_words.specs.declared.command.Command.TheVariants.{Run}
 use Rattle.cq_run.specs.Aim.{Aim, Crossing, Denies, Meets, Resuming}
 use Rattle.cq_run.specs.Headline.{AreGiven, IsEmulation, KeepsUp}
-use Rattle.cq_run.specs.Parting.{IsPartText, IsResumeRefusal}
+use Rattle.cq_run.specs.Parting.{IsPartText}
 use Rattle.cq_run.specs.Plan.{Plan}
 use Rattle.cq_run.specs.Plans.{crossed, resumed}
 use Rattle.cq_run.specs.Reader.{Reader}
@@ -166,8 +165,8 @@ parts_are_the_run r config state slots m left is =
     let stops = is.stops in
     let written : all_replaced ((state, stops.text) ∷ []) (Some m) ≡ Some left =
     subst (λ (plan : Plan). all_replaced plan.writes (Some m) ≡ Some left) stops.written is.written in
-    let aims = aimed r config state m left stops.tables stops.captures stops.text stops.configured stops.captured written
-    is.configuration_stays is.captures_stay stops.stopped.short in
+    let aims = aimed r config state m left stops.tables stops.captures stops.text stops.configured stops.captured
+    written is.configuration_stays is.captures_stay stops.stopped.short in
     subst (λ (v : Result Aim Refusal). IsOkAnd v (IsAimOfRun r config m)) (sym aims)
     (aim_of_run r config m stops.tables stops.captures stops.configured stops.captured stops.given slots is.early
     stops.text stops.stopped)

@@ -11,8 +11,8 @@ use Rattle.cq_run.specs.Verdict.{judged}
 use Rattle.cq_run.specs.Writing.{all_replaced}
 use Rattle.cq_run.specs.declared.refusal.Refusal.{Refusal}
 
--- what a run over the contents m leaves that is stopped after so many slots, where the name of its state is neither that of
--- the configuration nor one under which a capture is read
+-- what a run over the contents m leaves that is stopped after so many slots, where the name of its state is neither
+-- that of the configuration nor one under which a capture is read
 pub record IsLeftByPart (r : Reader) (config state : List ℕ) (slots : ℕ) (m left : Contents) : Type 0 where
   pub early : slots < 2 ^ 63
   pub plan : Plan
@@ -21,8 +21,8 @@ pub record IsLeftByPart (r : Reader) (config state : List ℕ) (slots : ℕ) (m 
   pub configuration_stays : state ≢ config
   pub captures_stay : AllByRecursion (λ row. IfSome row.read (λ name. state ≢ name)) stops.tables.ports
 
--- the aim is that of the run over the contents m: what `run` writes meets it, and nothing else where `run` writes anything;
--- and what denies it is what `run` is refused for
+-- the aim is that of the run over the contents m: what `run` writes meets it, and nothing else where `run` writes
+-- anything; and what denies it is what `run` is refused for
 pub record IsAimOfRun (r : Reader) (config : List ℕ) (m : Contents) (aim : Aim) : Type 0 where
   pub met : (whole : Plan) → IsEmulation r config m whole → Meets aim whole
   pub only : (whole plan : Plan) → IsEmulation r config m whole → Meets aim plan → plan ≡ whole
