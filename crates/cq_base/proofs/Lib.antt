@@ -3,3 +3,4 @@ pub mod Keys
 pub mod Lists
 pub mod Places
 pub mod Supplies
+pub mod Packings

@@ -1,15 +1,16 @@
 -- What stands at the places of arrivals. Where no cell came every place answers none, inside the list and beyond it,
--- so there is no cell of which anything is asked. And what is read at a place, if it is a cell, stands at its own input.
-use Rattle.std.proofs.Common.{◌≡◌, ℕ, List, get_or, Option, None, Some, Bor, refl, sym, ap, ◌∙◌, ⊎_elim}
+-- so there is no cell of which anything is asked. And what is read at a place, if it is a cell, stands at its own input,
+-- also where it was put there in place of another.
+use Rattle.std.proofs.Common.{◌≡◌, ◌≢◌, ◌<◌, ℕ, List, get_or, set, Option, None, Some, Bor, refl, sym, ap, ◌∙◌, subst, ⊎_elim, length-set, get_or-set_same, get_or-set_other, arith}
 use Rattle.std.specs.Prelude.{IfSome, unwrap_or}
 use Rattle.std.specs.Option.{option_copied, option_flatten, option_map}
-use Rattle.std.proofs.lemmas.Bool.{cases_lt}
+use Rattle.std.proofs.lemmas.Bool.{cases_eq, cases_lt}
 use Rattle.std.proofs.lemmas.List.{length-replicate, get_or-replicate}
 use Rattle.std.proofs.lemmas.Option.{slice_get_past, unwrap_or-slice_get}
 use Rattle.cq_base.specs.declared.cell.Cell.{Cell}
 use Rattle.cq_base.specs.Arrivals.{AreArrivals, arrival_at, no_arrivals}
 
-arrival_at-no_arrivals : (input : ℕ) → arrival_at no_arrivals input ≡ None
+pub arrival_at-no_arrivals : (input : ℕ) → arrival_at no_arrivals input ≡ None
 arrival_at-no_arrivals input =
     let none : Option Cell = None in
     ⊎_elim
@@ -39,3 +40,34 @@ pub own_read : (input : ℕ) (cells : List (Option Cell)) (found : Option (Bor (
 own_read input cells found o are read is =
     let none : Option Cell = None in
     own_at input cells o are (is ∙ option_flatten-copied found ∙ read none ∙ sym (unwrap_or-slice_get cells input none))
+
+-- ## One place
+
+own_of : (o : Option Cell) (cell : Cell) (input : ℕ) → o ≡ Some cell → IfSome o (λ c. c.id.input ≡ input) →
+    cell.id.input ≡ input
+own_of None cell input is own = absurd (let clash : ⊥ = cc in clash)
+own_of (Some c) cell input is own =
+    let same : c ≡ cell = cc in subst (λ (x : Cell). x.id.input ≡ input) same own
+
+-- what is put to an input is its own, and the other places keep theirs
+pub put_are : (cells : List (Option Cell)) (input : ℕ) (o : Option Cell) → AreArrivals cells → input < 64 →
+    IfSome o (λ cell. cell.id.input ≡ input) → AreArrivals (set cells input o)
+put_are cells input o are place own =
+    let none : Option Cell = None in
+    let places = are.places in
+    record {
+      places = length-set cells input o ∙ are.places;
+      own_input = λ i cell at.
+          let read : get_or (set cells input o) i none ≡ Some cell =
+          sym (unwrap_or-slice_get (set cells input o) i none) ∙ at in
+          ⊎_elim
+          (λ (here : i ≡ input).
+          let is : o ≡ Some cell =
+          sym (get_or-set_same cells input o none (omega arith))
+          ∙ ap (λ k. get_or (set cells input o) k none) (sym here) ∙ read in
+          own_of o cell input is own ∙ sym here)
+          (λ (other : i ≢ input).
+          are.own_input i cell
+          (unwrap_or-slice_get cells i none ∙ sym (get_or-set_other cells input i o none other) ∙ read))
+          (cases_eq i input);
+    }

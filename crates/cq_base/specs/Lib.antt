@@ -6,3 +6,4 @@ pub mod Cells
 pub mod Arrivals
 pub mod Arriving
 pub mod Texts
+pub mod Packed

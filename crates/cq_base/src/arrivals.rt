@@ -2,7 +2,7 @@
 //!
 //! A line carries one cell a slot, so at most one cell arrives at each input. `Arrivals` hands them
 //! from the schedule to a switch, with a place for each input that a switch may have.
-ghost use Rattle.std.specs.Prelude.{◌≡◌, ◌<◌, IfSome};
+ghost use Rattle.std.specs.Prelude.{◌≡◌, ◌<◌, IfSome, slice_set};
 ghost use Rattle.cq_base.specs.Arrivals.{AreArrivals, arrival_at, no_arrivals, with_arrival};
 
 use crate::{Cell, Port};
@@ -44,6 +44,16 @@ impl Arrivals {
         ensures { self.new ≡ with_arrival self.old input cell }
     {
         self.cells[input as usize] = Some(cell);
+    }
+
+    /// A cell comes to its input or none does, in place of what was there before. The other inputs keep theirs. So the
+    /// places are filled anew slot after slot, and no other arrivals are made.
+    pub fn put(&mut self, input: Port, cell: Option<Cell>)
+        requires place { input < 64 }
+        requires own { IfSome cell (λ cell. cell.id.input ≡ input) }
+        ensures { self.new ≡ slice_set self.old input cell }
+    {
+        self.cells[input as usize] = cell;
     }
 
     /// The cell that came to the input, or None where none did, as at 64 and above.

@@ -2,15 +2,17 @@
 //!
 //! Ports, slots, cells and keys are plain data. The other types own memory or hide how they are kept,
 //! and contracts see what they mean: `Name` is its bytes, `Sequence` its items, `Supply` those that are left,
-//! `Room` its items and the room that is left, and `Arrivals` a map from inputs to cells.
+//! `Room` its items and the room that is left, `Departures` those of a run, and `Arrivals` a map from inputs to cells.
 #![tactic(auto)]
 
 mod arrivals;
 mod cell;
+mod departures;
 mod figures;
 mod key;
 mod name;
 mod number;
+mod packed;
 mod room;
 mod sequence;
 mod setup;
@@ -21,10 +23,12 @@ mod tests;
 
 pub use arrivals::Arrivals;
 pub use cell::{Cell, CellId, Class, Departure, Port, Queued, Slot, TagFault, Transfer};
+pub use departures::Departures;
 pub use figures::{Figures, InputFigures, OutputFigures};
 pub use key::{Key, keys_are_ordered};
 pub use name::Name;
 pub use number::{MOST_DIGITS, digits};
+pub use packed::PackedDeparture;
 pub use room::Room;
 pub use sequence::Sequence;
 pub use setup::{ClassRow, Kind, Setup};

@@ -2,7 +2,7 @@
 //!
 //! A slot must not ask for memory. So whoever starts a run takes room for all that it can hold, and
 //! a list says how much of that room is left.
-ghost use Rattle.std.specs.Prelude.{◌≡◌, ◌+◌, ◌<◌, ◌∷◌, ◌++◌, [], IfOk};
+ghost use Rattle.std.specs.Prelude.{◌≡◌, ◌+◌, ◌<◌, ◌∷◌, ◌++◌, [], IfOk, length};
 
 use crate::NoMemory;
 use std::alloc::Global;
@@ -46,6 +46,15 @@ impl<T: Copy> Room<T> {
     {
         self.spare -= 1;
         self.list.push_reserved(item);
+    }
+
+    /// Takes all items out, and has their room again.
+    pub fn clear(&mut self)
+        ensures items { self.new.items ≡ [] }
+        ensures spare { self.new.spare ≡ self.old.spare + length self.old.items }
+    {
+        self.spare += self.list.len() as u64;
+        self.list.clear();
     }
 
     /// How many more items there is room for.

@@ -1,5 +1,8 @@
 //! Values from outside, and the calls that want memory, with ample memory.
-use crate::{Key, MOST_DIGITS, Name, Room, Sequence, Status, Supply, digits};
+use crate::{
+    Cell, CellId, Departure, Departures, Key, MOST_DIGITS, Name, Queued, Room, Sequence, Status,
+    Supply, digits,
+};
 use std::test::Fail;
 
 #[test]
@@ -71,6 +74,60 @@ fn names_and_rooms_are_granted_with_ample_memory(rt: HostRuntime) -> Result<(), 
     assert_eq!(rt; sequence.as_slice(), room.items());
     assert_eq!(rt; sequence.into_vec().as_slice(), [8, 5].as_slice());
     assert_eq!(rt; room.into_vec().as_slice(), [8, 5].as_slice());
+
+    let mut emptied = Room::new(rt.alloc(), 1)?;
+    emptied.push(8u64);
+    emptied.clear();
+    assert_eq!(rt; emptied.spare(), 1);
+    emptied.push(5);
+    assert_eq!(rt; emptied.items(), [5].as_slice());
+    Ok(())
+}
+
+// A departure in which no two numbers are the same.
+fn departure(slot: u64) -> Departure {
+    let id = CellId {
+        input: 1,
+        packet: 2,
+        index: 3,
+    };
+    let cell = Cell {
+        id,
+        output: 4,
+        class: 5,
+        last: true,
+        at: 6,
+        len: 7,
+    };
+    let key = Key {
+        level: 8,
+        rank: u128::MAX,
+        slot: 9,
+        input: 10,
+    };
+    Departure {
+        slot,
+        output: 11,
+        queued: Queued { cell, key },
+    }
+}
+
+#[test]
+fn departures_of_a_run_are_what_its_slots_sent(rt: HostRuntime) -> Result<(), Fail> {
+    let mut sent = Room::new(rt.alloc(), 1)?;
+    let mut departures = Departures::new(rt.alloc(), 2)?;
+    sent.push(departure(12));
+    departures.take_all(&mut sent);
+    sent.push(departure(13));
+    departures.take_all(&mut sent);
+    let last = departures
+        .as_slice()
+        .get(1)
+        .map(|packed| packed.departure());
+    assert_eq!(rt; last, Some(departure(13)));
+    let room = departures.into_room(rt.alloc())?;
+    let wanted = [departure(12), departure(13)];
+    assert_eq!(rt; room.items(), wanted.as_slice());
     Ok(())
 }
 
