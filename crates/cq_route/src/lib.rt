@@ -4,9 +4,11 @@
 //! what it means that they are in range, and the route of a packet.
 #![tactic(auto)]
 
+mod directory;
 mod route;
 mod tables;
 #[cfg(test)]
 mod tests;
 
+pub use directory::Directory;
 pub use tables::{AddressRow, PortRow, RuleRow, Tables};

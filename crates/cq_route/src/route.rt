@@ -34,7 +34,7 @@ impl Tables {
         }
     }
 
-    fn class_for(&self, input: Port, fields: &FrameParts) -> Class
+    pub(crate) fn class_for(&self, input: Port, fields: &FrameParts) -> Class
         ensures { result ≡ class_for self.now input fields.now }
     {
         let rules = self.rules.as_slice();
