@@ -9,3 +9,4 @@ pub mod Packets
 pub mod Laid
 pub mod Rising
 mod Upcoming
+pub mod Filling

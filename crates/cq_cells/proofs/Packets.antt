@@ -42,6 +42,21 @@ came_more t captures input k =
     ∙ flat_map-append (arrivals_of t captures input) (range_with_len 0 k) ((0 + k) ∷ [])
     ∙ ap (λ (came : List Arrival). came_by t captures input k ++ came) (append-nil (arrivals_of t captures input (0 + k)) ∙ ap (arrivals_of t captures input) (omega arith))
 
+-- so there are more of them, and they end when the later ones do
+pub longer_by : (t : Tables) (captures : List (List Captured)) (input k : ℕ) →
+    length (came_by t captures input (k + 1))
+    ≡ length (came_by t captures input k) + length (arrivals_of t captures input k)
+longer_by t captures input k =
+    ap (λ (came : List Arrival). length came) (came_more t captures input k)
+    ∙ length-append (came_by t captures input k) (arrivals_of t captures input k)
+
+pub ends_by : (t : Tables) (captures : List (List Captured)) (input k : ℕ) →
+    end_of (came_by t captures input (k + 1))
+    ≡ max (end_of (came_by t captures input k)) (end_of (arrivals_of t captures input k))
+ends_by t captures input k =
+    ap end_of (came_more t captures input k)
+    ∙ end_of-append (came_by t captures input k) (arrivals_of t captures input k)
+
 pub length_packet : (t : Tables) (captures : List (List Captured)) (input k : ℕ) → length (arrivals_of t captures input k) ≡ cells t captures input k
 length_packet t captures input k = length-map-range_with_len (piece (start t captures input k) (cell_of t captures input k)) 0 (cells t captures input k)
 
@@ -73,7 +88,7 @@ start_is t captures input (suc k) = refl
 end_by : (t : Tables) (captures : List (List Captured)) (input k : ℕ) → end_of (came_by t captures input k) ≡ free_at t captures input k
 end_by t captures input zero = refl
 end_by t captures input (suc k) =
-    let more : end_of (came_by t captures input (k + 1)) ≡ max (end_of (came_by t captures input k)) (end_of (arrivals_of t captures input k)) = ap end_of (came_more t captures input k) ∙ end_of-append (came_by t captures input k) (arrivals_of t captures input k) in
+    let more = ends_by t captures input k in
     let place : suc k ≡ k + 1 = omega arith in
     ap (λ (j : ℕ). end_of (came_by t captures input j)) place ∙ omega (arith, more, end_by t captures input k, end_packet t captures input k, start_is t captures input k)
 
@@ -142,8 +157,8 @@ pub so_far_more : (t : Tables) (captures : List (List Captured)) (input k : ℕ)
 so_far_more t captures input k rows free all old counts row v s is new =
     let starts : row.start ≡ start t captures input k = ap (λ (r : Row). r.start) is in
     let cut : row.cells ≡ cells t captures input k = ap (λ (r : Row). r.cells) is in
-    let ends : end_of (came_by t captures input (k + 1)) ≡ max (end_of (came_by t captures input k)) (end_of (arrivals_of t captures input k)) = ap end_of (came_more t captures input k) ∙ end_of-append (came_by t captures input k) (arrivals_of t captures input k) in
-    let longer : length (came_by t captures input (k + 1)) ≡ length (came_by t captures input k) + length (arrivals_of t captures input k) = ap (λ (came : List Arrival). length came) (came_more t captures input k) ∙ length-append (came_by t captures input k) (arrivals_of t captures input k) in
+    let ends = ends_by t captures input k in
+    let longer = longer_by t captures input k in
     record {
       kept = ap (λ (rs : List Row). rs ++ row ∷ []) s.kept ∙ ap (λ (r : Row). map (row_of t captures input) (range_with_len 0 k) ++ r ∷ []) is ∙ sym (map-range_with_len_more (row_of t captures input) 0 k k (omega arith));
       ended = omega (arith, ends, end_packet t captures input k, start_by t captures input k);
@@ -159,7 +174,7 @@ cells_by t captures input zero some h = omega arith
 cells_by t captures input (suc k) some h =
     let ps : List Captured = packets_of captures input in
     let place : suc k ≡ k + 1 = omega arith in
-    let longer : length (came_by t captures input (k + 1)) ≡ length (came_by t captures input k) + length (arrivals_of t captures input k) = ap (λ (came : List Arrival). length came) (came_more t captures input k) ∙ length-append (came_by t captures input k) (arrivals_of t captures input k) in
+    let longer = longer_by t captures input k in
     let more : sum_by (λ (p : Captured). 16 + length p.body) (take (k + 1) ps) ≡ sum_by (λ (p : Captured). 16 + length p.body) (take k ps) + (16 + length (packet_at captures input k).body) = sum_by_more (λ (p : Captured). 16 + length p.body) ps k (record { stamp = 0; original = 0; body = [] }) (omega arith) in
     let few : cells t captures input k ≤ length (packet_at captures input k).body + 1 = cells_few (length (packet_at captures input k).body) t.cell_bytes some in
     let so_far = cells_by t captures input k some (omega arith) in
@@ -183,8 +198,8 @@ unfolding stamp_slot
 early_by t captures input zero r h = omega arith
 early_by t captures input (suc k) r h =
     let place : suc k ≡ k + 1 = omega arith in
-    let longer : length (came_by t captures input (k + 1)) ≡ length (came_by t captures input k) + length (arrivals_of t captures input k) = ap (λ (came : List Arrival). length came) (came_more t captures input k) ∙ length-append (came_by t captures input k) (arrivals_of t captures input k) in
-    let ends : end_of (came_by t captures input (k + 1)) ≡ max (end_of (came_by t captures input k)) (end_of (arrivals_of t captures input k)) = ap end_of (came_more t captures input k) ∙ end_of-append (came_by t captures input k) (arrivals_of t captures input k) in
+    let longer = longer_by t captures input k in
+    let ends = ends_by t captures input k in
     let early : (packet_at captures input k).stamp < 2 ^ 63 = stamp_at (packets_of captures input) k (record { stamp = 0; original = 0; body = [] }) r.stamps (omega arith) in
     let slot : stamp_slot t captures input k ≤ (packet_at captures input k).stamp - first_stamp captures = div-le_self ((packet_at captures input k).stamp - first_stamp captures) t.slot_ns in
     let so_far = early_by t captures input k r (omega arith) in
@@ -240,7 +255,7 @@ rows_are t captures input some r =
       few = omega (arith, file_long ps);
       small = λ k h.
           let inside : k < length ps = omega arith in
-          let longer : length (came_by t captures input (k + 1)) ≡ length (came_by t captures input k) + length (arrivals_of t captures input k) = ap (λ (came : List Arrival). length came) (came_more t captures input k) ∙ length-append (came_by t captures input k) (arrivals_of t captures input k) in
+          let longer = longer_by t captures input k in
           omega (arith, ap (λ (row : Row). row.cells) (row_at_is t captures input (length ps) k inside), few_by t captures input (k + 1) some r (omega arith), length_packet t captures input k);
       cut = λ k h.
           let is : row_at rows k ≡ row_of t captures input k = row_at_is t captures input (length ps) k (omega arith) in

@@ -21,13 +21,6 @@ flat_same f g a (suc n) h =
     let rest = flat_same f g (a + 1) n (λ j b e. h j (omega arith) (omega arith)) in
     cc
 
-pub map_same : {X : Type 0} (f g : ℕ → X) (a n : ℕ) → ((j : ℕ) → a ≤ j → j < a + n → f j ≡ g j) → map f (range_with_len a n) ≡ map g (range_with_len a n)
-map_same f g a zero h = refl
-map_same f g a (suc n) h =
-    let here : f a ≡ g a = h a (omega arith) (omega arith) in
-    let rest = map_same f g (a + 1) n (λ j b e. h j (omega arith) (omega arith)) in
-    cc
-
 -- what is found, or else nothing
 pub or_none : {X : Type 0} (o : Option X) → option_or o None ≡ o
 or_none None = refl

@@ -3,3 +3,4 @@ pub mod Traffic
 pub mod Scheduled
 pub mod Lines
 pub mod NextArrival
+pub mod Coming

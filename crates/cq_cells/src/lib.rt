@@ -4,6 +4,7 @@
 //! a later one where the packet before it still arrives. A `Schedule` answers what arrives in a slot.
 #![tactic(auto)]
 
+mod coming;
 mod first_stamp;
 mod laws;
 mod line;
@@ -12,7 +13,7 @@ mod routes;
 mod schedule;
 mod segments;
 
+pub use coming::Coming;
 pub use laws::{arrivals_end_early, one_cell_arrives_a_slot, packets_arrive_in_order};
-pub use nearby::Nearby;
 pub use schedule::Schedule;
 pub use segments::cells_of;

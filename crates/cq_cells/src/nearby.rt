@@ -1,16 +1,16 @@
 // Where the cells of a slot are looked for first.
-use cq_base::CellId;
+use cq_base::{Cell, CellId};
 
 /// How many packets of each input had begun when a cell of it was found last. It says where to look first and nothing of
 /// what is found there, so any value will do.
 #[derive(Clone, Copy)]
-pub struct Nearby {
+pub(crate) struct Nearby {
     packets: [u32; 64],
 }
 
 impl Nearby {
     /// No cell was found yet.
-    pub fn nowhere() -> Nearby {
+    pub(crate) fn nowhere() -> Nearby {
         Nearby { packets: [0; 64] }
     }
 
@@ -19,6 +19,13 @@ impl Nearby {
         match self.packets.get(input) {
             Some(packets) => *packets as usize,
             None => 0,
+        }
+    }
+
+    // A cell was looked for, and this was found.
+    pub(crate) fn looked(&mut self, cell: Option<Cell>) {
+        if let Some(cell) = cell {
+            self.found(cell.id);
         }
     }
 

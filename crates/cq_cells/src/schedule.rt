@@ -2,20 +2,21 @@
 ghost use Rattle.std.specs.Prelude.{◌≡◌, ℕ, ◌^◌, ◌<◌, ◌≤◌, filter, length, map, replicate, IfOk};
 ghost use Rattle.std.specs.List.{range_with_len};
 ghost use Rattle.cq_base.specs.Arriving.{arriving, arriving_at, end_of};
-ghost use Rattle.cq_cells.specs.Lines.{AreAdded, AreOwn, all_of};
+ghost use Rattle.cq_cells.specs.Lines.{AreAdded, all_of};
 ghost use Rattle.cq_cells.specs.NextArrival.{IsNextArrival};
 ghost use Rattle.cq_cells.specs.Schedule.{arrivals_at, first_stamp as first_stamp_of, packets_of};
 ghost use Rattle.cq_cells.specs.Scheduled.{schedule_of};
 ghost use Rattle.cq_cells.specs.Traffic.{IsRecorded, IsShort, IsTraffic, is_from, is_to, number_of};
+ghost use Rattle.cq_route.specs.Directory.{IsDirectoryOf};
 ghost use Rattle.cq_route.specs.Tables.{AreTables, classes_of, ports_of};
 
+use crate::coming::Coming;
 use crate::first_stamp::{earlier, first_stamp};
 use crate::line::Line;
-use crate::nearby::Nearby;
 use crate::routes::routes_of;
 use cq_base::{Arrivals, Cell, NoMemory, Port, Slot};
 use cq_pcap::Capture;
-use cq_route::Tables;
+use cq_route::{Directory, Tables};
 use std::alloc::Global;
 use std::marker::Model;
 use std::thread::Threads;
@@ -62,8 +63,17 @@ impl Schedule {
         ensures recorded { IfOk result (λ _. (i : ℕ) → i < length captures.now → IsRecorded (packets_of captures.now i)) }
     {
         let first_stamp = first_stamp(captures);
+        let directory = Directory::of(alloc, tables)?;
         let mut to_output = no_cells(alloc, captures.len())?;
-        let lines = lines_of(rt, alloc, captures, tables, first_stamp, &mut to_output)?;
+        let lines = lines_of(
+            rt,
+            alloc,
+            captures,
+            tables,
+            &directory,
+            first_stamp,
+            &mut to_output,
+        )?;
         let total = total_of(&lines);
         let end = end_of(&lines);
         Ok(Schedule {
@@ -88,15 +98,17 @@ impl Schedule {
     pub fn arrivals_at(&self, slot: Slot) -> Arrivals
         ensures { result ≡ arriving self.now.came slot }
     {
-        let mut near = Nearby::nowhere();
-        self.arrivals_near(slot, &mut near)
+        let mut coming = Coming::none();
+        self.arrive(slot, &mut coming);
+        *coming.arrivals()
     }
 
-    /// The same. They are looked for near those that were found last, so that slots one after another cost no search.
-    pub fn arrivals_near(&self, slot: Slot, near: &mut Nearby) -> Arrivals
-        ensures { result ≡ arriving self.now.came slot }
+    /// The cells that arrive in the slot come in place of those that stand there. They are looked for near those that
+    /// were found last, so that slots one after another cost no search.
+    pub fn arrive(&self, slot: Slot, coming: &mut Coming)
+        ensures { coming.new ≡ arriving self.now.came slot }
     {
-        arrivals_of(&self.lines, slot, near)
+        coming.fill(&self.lines, slot);
     }
 
     /// The least slot from this one on in which a cell arrives, or None where none arrives any more. It is looked
@@ -172,10 +184,12 @@ fn lines_of<R: Threads + Sync>(
     alloc: Global,
     captures: &[Capture],
     tables: &Tables,
+    directory: &Directory,
     first_stamp: u64,
     to_output: &mut [u64],
 ) -> Result<Vec<Line>, NoMemory>
     requires tables { AreTables tables.now }
+    requires directory { IsDirectoryOf tables.now directory.now }
     requires captures { length captures.now ≡ ports_of tables.now.setup }
     requires first_stamp { first_stamp ≡ first_stamp_of captures.now }
     requires outputs { to_output.old ≡ replicate (ports_of tables.now.setup) 0 }
@@ -187,7 +201,7 @@ fn lines_of<R: Threads + Sync>(
     let mut lines = Vec::with_capacity(alloc, captures.len())?;
     'inputs: for input in 0..captures.len() {
         let at = input as Port;
-        let routes = routes_of(rt, alloc, at, &captures[input], tables)?;
+        let routes = routes_of(rt, alloc, at, &captures[input], tables, directory)?;
         let line = Line::of(alloc, at, captures, tables, first_stamp, &routes, to_output)?;
         lines.push_reserved(line);
     }
@@ -216,22 +230,6 @@ fn end_of(lines: &[Line]) -> Slot
         end = line.end().max(end);
     }
     end
-}
-
-// What arrives in the slot at the inputs of these lines.
-fn arrivals_of(lines: &[Line], slot: Slot, near: &mut Nearby) -> Arrivals
-    requires few { length lines.now ≤ 64 }
-    requires own { AreOwn 0 lines.now }
-    ensures { result ≡ arriving (all_of lines.now) slot }
-{
-    let mut arrivals = Arrivals::none();
-    'lines: for (input, line) in lines.iter().enumerate() {
-        if let Some(cell) = line.cell_near(slot, near.of_input(input)) {
-            near.found(cell.id);
-            arrivals.set(input as Port, cell);
-        }
-    }
-    arrivals
 }
 
 // The least slot from this one on in which a cell arrives at the inputs of these lines, or None where there is

@@ -1,90 +1,99 @@
-use Rattle.std.proofs.Common.{◌≡◌, ℕ, ◌+◌, ◌<◌, List, [], length, slice_index_or, ap, ◌∙◌, arith}
+use Rattle.std.proofs.Common.{ℕ, ◌+◌, ◌<◌, [], length, slice_index_or, ap, ◌∙◌, arith}
 use Rattle.std.proofs.lemmas.List.{get_or_read}
-use Rattle.cq_pcap.specs.Captured.{Captured}
-use Rattle.cq_pcap.specs.declared.capture.PacketRow.{PacketRow}
-use Rattle.cq_cells.specs.Schedule.{packets_of}
-use Rattle.cq_cells.specs.Traffic.{IsRecorded}
-use Rattle.cq_cells.proofs.Laid.{AreSmall, IsWhole, recorded_is, next_row, still_small, at_end}
-use Rattle.cq_cells.proofs.Packets.{row_of, so_far_more}
-use Rattle.cq_cells.proofs.Routed.{many_ways, way_to_port}
-use Rattle.cq_cells.proofs.Stamps.{length-rows_from}
+use Rattle.cq_cells.proofs.Laid.{AreRead, AreSmall, IsMade, IsWhole, are_read, at_end, next_row, still_small}
+use Rattle.cq_cells.proofs.Packets.{so_far_more}
+use Rattle.cq_cells.proofs.Routed.{many_ways}
 use Rattle.cq_cells.proofs.line.Line.of.Goals as goal
+use Rattle.cq_cells.proofs.line.Line.of.Goals.{After-packets, After-row_of-row, After-rows-packets}
+
+-- ## What is known, step by step
+
+-- the packets are those of the input
+read : (c : After-rows-packets) →
+    AreRead c.args.captures.now c.args.input c.index-captures-input.result c.rows-packets.result.now
+read c =
+    let packets = c.rows-packets.ensures in
+    are_read c.args.captures.now c.args.input c.index-captures-input.result c.rows-packets.result.now
+    (get_or_read c.args.captures.now c.args.input c.index-captures-input.result c.requires.place
+    c.index-captures-input.is [])
+    packets.rows packets.stamps packets.small
+
+-- the row is that of the packet at which the loop stands
+made : (c : After-row_of-row) →
+    AreRead c.args.captures.now c.args.input c.index-captures-input.result c.rows-packets.result.now →
+    IsMade c.args.tables.now c.args.captures.now c.args.input c.packets.k c.row_of-row.result
+made c known =
+    let row = c.row_of-row.ensures in
+    next_row c.args.tables.now c.args.captures.now c.args.input c.packets.k c.index-captures-input.result
+    c.rows-packets.result.now c.args.routes.now c.row_of-row.result c.args.first_stamp c.packets.free
+    c.requires.tables known c.packets-test.true c.requires.routes c.requires.first_stamp
+    c.packets.invariant.so_far.ended row.start row.cells row.route row.len
+
+-- and with its cells the counts stay small
+small : (c : After-row_of-row) →
+    AreRead c.args.captures.now c.args.input c.index-captures-input.result c.rows-packets.result.now →
+    AreSmall c.row_of-row.result c.packets.cells c.args.to_output.now c.packets.to_output
+small c known =
+    still_small c.args.tables.now c.args.captures.now c.args.input c.packets.k c.packets.rows.items c.packets.free
+    c.packets.cells c.args.to_output.now c.packets.to_output c.row_of-row.result c.requires.tables.cell_bytes.0
+    known.recorded (made c known) c.packets.invariant.so_far
+
+-- in the end the line stands whole
+whole : (c : After-packets) →
+    AreRead c.args.captures.now c.args.input c.index-captures-input.result c.rows-packets.result.now →
+    IsWhole c.args.tables.now c.args.captures.now c.args.input c.packets.rows.items c.packets.free c.packets.cells
+    c.args.to_output.now c.packets.to_output
+whole c known =
+    let many = known.many in
+    at_end c.args.tables.now c.args.captures.now c.args.input c.packets.k c.packets.rows.items c.packets.free
+    c.packets.cells c.args.to_output.now c.packets.to_output c.requires.tables.cell_bytes.0 known.recorded
+    (omega (arith, c.packets-test.false, c.packets.auto.k-end)) c.packets.invariant.so_far
+
+-- ## What is asked
 
 pub bounds-routes-k : goal.bounds-routes-k
 bounds-routes-k c =
-    let captures = c.args.captures.now in
-    let ps = c.index-captures-input.result in
-    let same : ps ≡ packets_of captures c.args.input = get_or_read captures c.args.input ps c.requires.place c.index-captures-input.is [] in
-    let inside : c.packets.k < length ps = omega (arith, length-rows_from 24 ps, ap (λ (rows : List PacketRow). length rows) c.rows-packets.ensures.rows, c.packets-test.true) in
-    omega (arith, ap (λ (qs : List Captured). length qs) same, many_ways c.args.tables.now captures c.args.input c.args.routes.now c.requires.routes)
+    let many = (read (goal.at.bounds-routes-k c).After-rows-packets).many in
+    let ways = many_ways c.args.tables.now c.args.captures.now c.args.input c.args.routes.now c.requires.routes in
+    let inside = c.packets-test.true in
+    omega arith
 
 pub bounds-to_output-row : goal.bounds-to_output-row
 bounds-to_output-row c =
-    let captures = c.args.captures.now in
-    let ps = c.index-captures-input.result in
-    let same : ps ≡ packets_of captures c.args.input = get_or_read captures c.args.input ps c.requires.place c.index-captures-input.is [] in
-    let inside : c.packets.k < length ps = omega (arith, length-rows_from 24 ps, ap (λ (rows : List PacketRow). length rows) c.rows-packets.ensures.rows, c.packets-test.true) in
-    let within : c.packets.k < length (packets_of captures c.args.input) = omega (arith, ap (λ (qs : List Captured). length qs) same) in
+    let at = goal.at.bounds-to_output-row c in
+    let to_port = (made at.After-row_of-row (read at.After-rows-packets)).to_port in
+    let outputs = c.requires.outputs in
     let ports = c.packets.invariant.so_far.ports in
-    omega (arith, c.requires.outputs, way_to_port c.args.tables.now captures c.args.input c.packets.k c.args.routes.now c.row_of-row.result.output c.row_of-row.result.class c.requires.tables within c.requires.routes c.row_of-row.ensures.route)
+    omega arith
 
 pub bounds-to_output-row-in-packets : goal.bounds-to_output-row-in-packets
 bounds-to_output-row-in-packets c =
-    let captures = c.args.captures.now in
-    let ps = c.index-captures-input.result in
-    let same : ps ≡ packets_of captures c.args.input = get_or_read captures c.args.input ps c.requires.place c.index-captures-input.is [] in
-    let inside : c.packets.k < length ps = omega (arith, length-rows_from 24 ps, ap (λ (rows : List PacketRow). length rows) c.rows-packets.ensures.rows, c.packets-test.true) in
-    let within : c.packets.k < length (packets_of captures c.args.input) = omega (arith, ap (λ (qs : List Captured). length qs) same) in
+    let at = goal.at.bounds-to_output-row-in-packets c in
+    let to_port = (made at.After-row_of-row (read at.After-rows-packets)).to_port in
+    let outputs = c.requires.outputs in
     let ports = c.packets.invariant.so_far.ports in
-    omega (arith, c.requires.outputs, way_to_port c.args.tables.now captures c.args.input c.packets.k c.args.routes.now c.row_of-row.result.output c.row_of-row.result.class c.requires.tables within c.requires.routes c.row_of-row.ensures.route)
+    omega arith
 
 pub overflow_add-free : goal.overflow_add-free
 overflow_add-free c =
-    let captures = c.args.captures.now in
-    let ps = c.index-captures-input.result in
-    let same : ps ≡ packets_of captures c.args.input = get_or_read captures c.args.input ps c.requires.place c.index-captures-input.is [] in
-    let r : IsRecorded (packets_of captures c.args.input) = recorded_is captures c.args.input ps same c.rows-packets.ensures.stamps c.rows-packets.ensures.small in
-    let inside : c.packets.k < length ps = omega (arith, length-rows_from 24 ps, ap (λ (rows : List PacketRow). length rows) c.rows-packets.ensures.rows, c.packets-test.true) in
-    let within : c.packets.k < length (packets_of captures c.args.input) = omega (arith, ap (λ (qs : List Captured). length qs) same) in
-    let row = c.row_of-row.ensures in
-    let is : c.row_of-row.result ≡ row_of c.args.tables.now captures c.args.input c.packets.k =
-    next_row c.args.tables.now captures c.args.input c.packets.k ps c.rows-packets.result.now c.args.routes.now c.row_of-row.result c.args.first_stamp c.packets.free same c.rows-packets.ensures.rows inside c.requires.routes c.requires.first_stamp c.packets.invariant.so_far.ended row.start row.cells row.route row.len in
-    let small : AreSmall c.row_of-row.result c.packets.cells c.args.to_output.now c.packets.to_output =
-    still_small c.args.tables.now captures c.args.input c.packets.k c.packets.rows.items c.packets.free c.packets.cells c.args.to_output.now c.packets.to_output c.row_of-row.result c.requires.tables.cell_bytes.0 r within c.packets.invariant.so_far is in
-    let ends = small.ends in
+    let at = goal.at.overflow_add-free c in
+    let ends = (small at.After-row_of-row (read at.After-rows-packets)).ends in
     omega (arith, c.from.ensures)
 
 pub overflow_add-cells : goal.overflow_add-cells
 overflow_add-cells c =
-    let captures = c.args.captures.now in
-    let ps = c.index-captures-input.result in
-    let same : ps ≡ packets_of captures c.args.input = get_or_read captures c.args.input ps c.requires.place c.index-captures-input.is [] in
-    let r : IsRecorded (packets_of captures c.args.input) = recorded_is captures c.args.input ps same c.rows-packets.ensures.stamps c.rows-packets.ensures.small in
-    let inside : c.packets.k < length ps = omega (arith, length-rows_from 24 ps, ap (λ (rows : List PacketRow). length rows) c.rows-packets.ensures.rows, c.packets-test.true) in
-    let within : c.packets.k < length (packets_of captures c.args.input) = omega (arith, ap (λ (qs : List Captured). length qs) same) in
-    let row = c.row_of-row.ensures in
-    let is : c.row_of-row.result ≡ row_of c.args.tables.now captures c.args.input c.packets.k =
-    next_row c.args.tables.now captures c.args.input c.packets.k ps c.rows-packets.result.now c.args.routes.now c.row_of-row.result c.args.first_stamp c.packets.free same c.rows-packets.ensures.rows inside c.requires.routes c.requires.first_stamp c.packets.invariant.so_far.ended row.start row.cells row.route row.len in
-    let small : AreSmall c.row_of-row.result c.packets.cells c.args.to_output.now c.packets.to_output =
-    still_small c.args.tables.now captures c.args.input c.packets.k c.packets.rows.items c.packets.free c.packets.cells c.args.to_output.now c.packets.to_output c.row_of-row.result c.requires.tables.cell_bytes.0 r within c.packets.invariant.so_far is in
-    let all = small.all in
+    let at = goal.at.overflow_add-cells c in
+    let all = (small at.After-row_of-row (read at.After-rows-packets)).all in
     omega (arith, c.from-cells.ensures)
 
 pub overflow_add-to_output : goal.overflow_add-to_output
 overflow_add-to_output c =
-    let captures = c.args.captures.now in
-    let ps = c.index-captures-input.result in
-    let same : ps ≡ packets_of captures c.args.input = get_or_read captures c.args.input ps c.requires.place c.index-captures-input.is [] in
-    let r : IsRecorded (packets_of captures c.args.input) = recorded_is captures c.args.input ps same c.rows-packets.ensures.stamps c.rows-packets.ensures.small in
-    let inside : c.packets.k < length ps = omega (arith, length-rows_from 24 ps, ap (λ (rows : List PacketRow). length rows) c.rows-packets.ensures.rows, c.packets-test.true) in
-    let within : c.packets.k < length (packets_of captures c.args.input) = omega (arith, ap (λ (qs : List Captured). length qs) same) in
-    let row = c.row_of-row.ensures in
-    let is : c.row_of-row.result ≡ row_of c.args.tables.now captures c.args.input c.packets.k =
-    next_row c.args.tables.now captures c.args.input c.packets.k ps c.rows-packets.result.now c.args.routes.now c.row_of-row.result c.args.first_stamp c.packets.free same c.rows-packets.ensures.rows inside c.requires.routes c.requires.first_stamp c.packets.invariant.so_far.ended row.start row.cells row.route row.len in
-    let small : AreSmall c.row_of-row.result c.packets.cells c.args.to_output.now c.packets.to_output =
-    still_small c.args.tables.now captures c.args.input c.packets.k c.packets.rows.items c.packets.free c.packets.cells c.args.to_output.now c.packets.to_output c.row_of-row.result c.requires.tables.cell_bytes.0 r within c.packets.invariant.so_far is in
-    let own : c.row_of-row.result.output < length c.args.to_output.now = omega (arith, c.requires.outputs, way_to_port c.args.tables.now captures c.args.input c.packets.k c.args.routes.now c.row_of-row.result.output c.row_of-row.result.class c.requires.tables within c.requires.routes row.route) in
-    let each = small.each own in
+    let at = goal.at.overflow_add-to_output c in
+    let known = read at.After-rows-packets in
+    let to_port = (made at.After-row_of-row known).to_port in
+    let outputs = c.requires.outputs in
+    let own : c.row_of-row.result.output < length c.args.to_output.now = omega arith in
+    let each = (small at.After-row_of-row known).each own in
     let room = c.requires.room c.row_of-row.result.output own in
     omega (arith, c.from-in-packets.ensures)
 
@@ -96,64 +105,43 @@ push_reserved-requires c =
 
 pub packets-preserved : goal.packets-preserved
 packets-preserved c =
-    let captures = c.args.captures.now in
-    let ps = c.index-captures-input.result in
-    let same : ps ≡ packets_of captures c.args.input = get_or_read captures c.args.input ps c.requires.place c.index-captures-input.is [] in
-    let r : IsRecorded (packets_of captures c.args.input) = recorded_is captures c.args.input ps same c.rows-packets.ensures.stamps c.rows-packets.ensures.small in
-    let inside : c.packets.k < length ps = omega (arith, length-rows_from 24 ps, ap (λ (rows : List PacketRow). length rows) c.rows-packets.ensures.rows, c.packets-test.true) in
-    let within : c.packets.k < length (packets_of captures c.args.input) = omega (arith, ap (λ (qs : List Captured). length qs) same) in
-    let row = c.row_of-row.ensures in
-    let is : c.row_of-row.result ≡ row_of c.args.tables.now captures c.args.input c.packets.k =
-    next_row c.args.tables.now captures c.args.input c.packets.k ps c.rows-packets.result.now c.args.routes.now c.row_of-row.result c.args.first_stamp c.packets.free same c.rows-packets.ensures.rows inside c.requires.routes c.requires.first_stamp c.packets.invariant.so_far.ended row.start row.cells row.route row.len in
-    let more = so_far_more c.args.tables.now captures c.args.input c.packets.k c.packets.rows.items c.packets.free c.packets.cells c.args.to_output.now c.packets.to_output c.row_of-row.result (slice_index_or c.packets.to_output c.row_of-row.result.output 0 + c.from-in-packets.result) c.packets.invariant.so_far is (ap (λ (n : ℕ). slice_index_or c.packets.to_output c.row_of-row.result.output 0 + n) c.from-in-packets.ensures) in
+    let at = goal.at.packets-preserved c in
+    let is = (made at.After-row_of-row (read at.After-rows-packets)).is in
+    let counts = c.packets.to_output in
+    let output = c.row_of-row.result.output in
+    let more =
+    so_far_more c.args.tables.now c.args.captures.now c.args.input c.packets.k c.packets.rows.items c.packets.free
+    c.packets.cells c.args.to_output.now counts c.row_of-row.result
+    (slice_index_or counts output 0 + c.from-in-packets.result) c.packets.invariant.so_far is
+    (ap (λ (n : ℕ). slice_index_or counts output 0 + n) c.from-in-packets.ensures) in
     record {
       so_far = rw (c.push_reserved.ensures.items, c.from.ensures, c.from-cells.ensures) more;
       filled = c.push_reserved.ensures.len ∙ ap (λ (n : ℕ). n + 1) c.packets.invariant.filled;
       room = c.push_reserved.ensures.capacity ∙ c.packets.invariant.room;
     }
 
+-- ## What the line is
+
 pub invariant_of-result : goal.invariant_of-result
 invariant_of-result c =
-    let captures = c.args.captures.now in
-    let ps = c.index-captures-input.result in
-    let same : ps ≡ packets_of captures c.args.input = get_or_read captures c.args.input ps c.requires.place c.index-captures-input.is [] in
-    let r : IsRecorded (packets_of captures c.args.input) = recorded_is captures c.args.input ps same c.rows-packets.ensures.stamps c.rows-packets.ensures.small in
-    let whole : IsWhole c.args.tables.now captures c.args.input c.packets.rows.items c.packets.free c.packets.cells c.args.to_output.now c.packets.to_output =
-    at_end c.args.tables.now captures c.args.input c.packets.k c.packets.rows.items c.packets.free c.packets.cells c.args.to_output.now c.packets.to_output c.requires.tables.cell_bytes.0 r
-    (omega (arith, length-rows_from 24 ps, ap (λ (rows : List PacketRow). length rows) c.rows-packets.ensures.rows, c.packets-test.false, c.packets.auto.k-end, ap (λ (qs : List Captured). length qs) same)) c.packets.invariant.so_far in
-    (whole.kept, whole.all, whole.few, whole.ended)
+    let at = goal.at.invariant_of-result c in
+    let line = whole at.After-packets (read at.After-rows-packets) in
+    (line.kept, line.all, line.few, line.ended)
 
 pub returns-clause-line : goal.returns-clause-line
 returns-clause-line c =
-    let captures = c.args.captures.now in
-    let ps = c.index-captures-input.result in
-    let same : ps ≡ packets_of captures c.args.input = get_or_read captures c.args.input ps c.requires.place c.index-captures-input.is [] in
-    let r : IsRecorded (packets_of captures c.args.input) = recorded_is captures c.args.input ps same c.rows-packets.ensures.stamps c.rows-packets.ensures.small in
-    let whole : IsWhole c.args.tables.now captures c.args.input c.packets.rows.items c.packets.free c.packets.cells c.args.to_output.now c.packets.to_output =
-    at_end c.args.tables.now captures c.args.input c.packets.k c.packets.rows.items c.packets.free c.packets.cells c.args.to_output.now c.packets.to_output c.requires.tables.cell_bytes.0 r
-    (omega (arith, length-rows_from 24 ps, ap (λ (rows : List PacketRow). length rows) c.rows-packets.ensures.rows, c.packets-test.false, c.packets.auto.k-end, ap (λ (qs : List Captured). length qs) same)) c.packets.invariant.so_far in
-    whole.line
+    let at = goal.at.returns-clause-line c in
+    (whole at.After-packets (read at.After-rows-packets)).line
 
 pub returns-clause-few : goal.returns-clause-few
 returns-clause-few c =
-    let captures = c.args.captures.now in
-    let ps = c.index-captures-input.result in
-    let same : ps ≡ packets_of captures c.args.input = get_or_read captures c.args.input ps c.requires.place c.index-captures-input.is [] in
-    let r : IsRecorded (packets_of captures c.args.input) = recorded_is captures c.args.input ps same c.rows-packets.ensures.stamps c.rows-packets.ensures.small in
-    let whole : IsWhole c.args.tables.now captures c.args.input c.packets.rows.items c.packets.free c.packets.cells c.args.to_output.now c.packets.to_output =
-    at_end c.args.tables.now captures c.args.input c.packets.k c.packets.rows.items c.packets.free c.packets.cells c.args.to_output.now c.packets.to_output c.requires.tables.cell_bytes.0 r
-    (omega (arith, length-rows_from 24 ps, ap (λ (rows : List PacketRow). length rows) c.rows-packets.ensures.rows, c.packets-test.false, c.packets.auto.k-end, ap (λ (qs : List Captured). length qs) same)) c.packets.invariant.so_far in
-    let all = whole.all in
-    let few = whole.few in
+    let at = goal.at.returns-clause-few c in
+    let line = whole at.After-packets (read at.After-rows-packets) in
+    let all = line.all in
+    let few = line.few in
     omega arith
 
 pub returns-clause-counts : goal.returns-clause-counts
 returns-clause-counts c =
-    let captures = c.args.captures.now in
-    let ps = c.index-captures-input.result in
-    let same : ps ≡ packets_of captures c.args.input = get_or_read captures c.args.input ps c.requires.place c.index-captures-input.is [] in
-    let r : IsRecorded (packets_of captures c.args.input) = recorded_is captures c.args.input ps same c.rows-packets.ensures.stamps c.rows-packets.ensures.small in
-    let whole : IsWhole c.args.tables.now captures c.args.input c.packets.rows.items c.packets.free c.packets.cells c.args.to_output.now c.packets.to_output =
-    at_end c.args.tables.now captures c.args.input c.packets.k c.packets.rows.items c.packets.free c.packets.cells c.args.to_output.now c.packets.to_output c.requires.tables.cell_bytes.0 r
-    (omega (arith, length-rows_from 24 ps, ap (λ (rows : List PacketRow). length rows) c.rows-packets.ensures.rows, c.packets-test.false, c.packets.auto.k-end, ap (λ (qs : List Captured). length qs) same)) c.packets.invariant.so_far in
-    whole.each
+    let at = goal.at.returns-clause-counts c in
+    (whole at.After-packets (read at.After-rows-packets)).each

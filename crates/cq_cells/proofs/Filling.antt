@@ -1,0 +1,89 @@
+-- The places of a slot's arrivals are filled input by input. Those before the next input have what arrives there, and
+-- the others have what stood there before. No cell stood behind the last line, and none arrives there. So in the end
+-- each place has what arrives.
+use Rattle.std.proofs.Common.{◌≡◌, ◌≢◌, ℕ, ◌+◌, ◌<◌, ◌≤◌, List, length, get_or, set, Option, None, Some, option_map, refl, sym, ap, ◌∙◌, ⊎_elim, length-set, get_or-set_same, get_or-set_other, arith}
+use Rattle.std.specs.Prelude.{IfSome}
+use Rattle.std.proofs.lemmas.Bool.{cases_eq, cases_lt}
+use Rattle.std.proofs.lemmas.List.{length-replicate}
+use Rattle.std.proofs.lemmas.List.FromFn.{fill_by_all}
+use Rattle.std.proofs.lemmas.Option.{unwrap_or-slice_get}
+use Rattle.cq_base.specs.Arrivals.{no_arrivals}
+use Rattle.cq_base.specs.Arriving.{Arrival, arriving_at, arriving}
+use Rattle.cq_base.specs.declared.cell.Cell.{Cell}
+use Rattle.cq_base.proofs.Places.{arrival_at-no_arrivals}
+use Rattle.cq_cells.specs.Coming.{StandBelow}
+use Rattle.cq_cells.specs.Lines.{AreOwn, all_of}
+use Rattle.cq_cells.proofs.Owned.{ahead}
+
+-- no cell stands anywhere
+pub none_stand : (ports : ℕ) → StandBelow ports no_arrivals
+none_stand ports =
+    let none : Option Cell = None in
+    record { places = length-replicate 64 none; beyond = λ input _. arrival_at-no_arrivals input }
+
+-- what is asked of a cell, where there is one
+pub own_if : (o : Option Cell) (input : ℕ) → ((cell : Cell) → o ≡ Some cell → cell.id.input ≡ input) →
+    IfSome o (λ cell. cell.id.input ≡ input)
+own_if None input own = tt
+own_if (Some cell) input own = own cell refl
+
+-- the places of the inputs before n are filled
+pub record Filling (came : List Arrival) (slot n : ℕ) (old now : List (Option Cell)) : Type 0 where
+  pub places : length now ≡ length old
+  pub done : (i : ℕ) → i < n → get_or now i None ≡ arriving_at came slot i
+  pub left : (i : ℕ) → n ≤ i → get_or now i None ≡ get_or old i None
+
+pub filling_first : (came : List Arrival) (slot : ℕ) (old : List (Option Cell)) → Filling came slot 0 old old
+filling_first came slot old =
+    record { places = refl; done = λ i before. absurd (omega arith); left = λ i _. refl }
+
+pub filling_next : (came : List Arrival) (slot n : ℕ) (old now : List (Option Cell)) (cell : Option Cell) →
+    Filling came slot n old now → n < length now → cell ≡ arriving_at came slot n →
+    Filling came slot (n + 1) old (set now n cell)
+filling_next came slot n old now cell f inside is =
+    let none : Option Cell = None in
+    record {
+      places = length-set now n cell ∙ f.places;
+      done = λ i before.
+          ⊎_elim
+          (λ (here : i ≡ n).
+          ap (λ k. get_or (set now n cell) k none) here ∙ get_or-set_same now n cell none inside ∙ is
+          ∙ ap (arriving_at came slot) (sym here))
+          (λ (other : i ≢ n). get_or-set_other now n i cell none other ∙ f.done i (omega arith))
+          (cases_eq i n);
+      left = λ i from.
+          let other : i ≢ n = λ e. (let P : ⊥ = omega arith in P) in
+          get_or-set_other now n i cell none other ∙ f.left i (omega arith);
+    }
+
+-- ## All inputs
+
+module _ (lines : List (List Arrival)) (slot n : ℕ) (old now : List (Option Cell)) (own : AreOwn 0 lines)
+    (past : length lines ≤ n) (stand : StandBelow (length lines) old) (f : Filling (all_of lines) slot n old now) where
+  none_arrives : (i : ℕ) → length lines ≤ i → arriving_at (all_of lines) slot i ≡ None
+  none_arrives i beyond =
+      ap (λ (o : Option Arrival). option_map (λ a. a.cell) o) (ahead slot i 0 lines own (omega arith))
+
+  each_place : (i : ℕ) → get_or now i None ≡ arriving_at (all_of lines) slot i
+  each_place i =
+      let none : Option Cell = None in
+      ⊎_elim
+      (λ (before : i < n). f.done i before)
+      (λ (from : n ≤ i).
+      f.left i from ∙ sym (unwrap_or-slice_get old i none) ∙ stand.beyond i (omega arith)
+      ∙ sym (none_arrives i (omega arith)))
+      (cases_lt i n)
+
+  pub all_filled : now ≡ arriving (all_of lines) slot
+  unfolding arriving
+  all_filled =
+      let none : Option Cell = None in
+      fill_by_all (arriving_at (all_of lines) slot) now 64 none (f.places ∙ stand.places) (λ i _. each_place i)
+
+  pub still_stand : StandBelow (length lines) now
+  still_stand =
+      let none : Option Cell = None in
+      record {
+        places = f.places ∙ stand.places;
+        beyond = λ i from. unwrap_or-slice_get now i none ∙ each_place i ∙ none_arrives i from;
+      }
