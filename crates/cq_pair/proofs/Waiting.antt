@@ -2,7 +2,7 @@
 -- the list, and one that is parted goes back in by its number if it has an output left. The others stay as they were.
 use Rattle.std.proofs.Common.{ℕ, zero, suc, ◌≡◌, ◌≢◌, ◌+◌, ◌<◌, ◌≤◌, ◌&&◌, Bool, true, false, not, is_none, eqb, ltb, ⊎_elim, List, [], ◌∷◌, ◌++◌, length, set, get_or, replicate, Option, Some, None, refl, sym, ◌∙◌, ap, arith}
 use Rattle.std.specs.Prelude.{filter}
-use Rattle.std.specs.List.{range_with_len}
+use Rattle.std.specs.List.{IsDistinct, range_with_len}
 use Rattle.std.proofs.lemmas.Bool.{cases_eq, cases_lt, cond_both, cond-true, cond-false, eq-eqb, ne_eqb, lt-ltb, le-ltb, eqb-true, and_left, true≢false}
 use Rattle.std.proofs.lemmas.List.{get_or-set_same, get_or-set_other, append-nil}
 use Rattle.std.proofs.lemmas.List.Elements.{filter_agree, filter-append}
@@ -11,6 +11,7 @@ use Rattle.cq_prefs.specs.Orders.{Orders, AreOffers, ports, outputs_of}
 use Rattle.cq_prefs.specs.Pairing.{Partners, partner_of}
 use Rattle.cq_prefs.specs.Proposals.{State, next_place, start, is_free, matching_of, free_inputs}
 use Rattle.cq_prefs.proofs.ByKey.{length-put, length-filter-le}
+use Rattle.cq_prefs.proofs.Members.{apart_filter, apart_range, distinct}
 use Rattle.cq_prefs.proofs.Steps.{next_place-start}
 use Rattle.cq_prefs.proofs.Pairs.{nobody}
 use Rattle.cq_prefs.proofs.Holding.{partner-is}
@@ -82,6 +83,11 @@ put_back p q i out back same a (suc n) l u =
     rest = range_with_len (a + 1) n
 
 -- ## Who waits
+
+-- no input waits twice
+pub waiting_differ : (o : Orders) (places : List ℕ) (m : Partners) → IsDistinct eqb (waiting_inputs o places m)
+waiting_differ o places m =
+    distinct (waiting_inputs o places m) (apart_filter (is_waiting o places m) (range_with_len 0 (ports o)) (apart_range 0 (ports o)))
 
 waits-yes : (o : Orders) (places : List ℕ) (m : Partners) (i : ℕ) → get_or places i 0 < length (outputs_of o i) → partner_of m i ≡ None → is_waiting o places m i ≡ true
 waits-yes o places m i left e = rw (lt-ltb _ _ left, e) refl

@@ -1,7 +1,7 @@
 //! The free inputs in order of number.
-ghost use Rattle.std.specs.Prelude.{◌≡◌, ◌<◌, ◌≤◌, length, nat_lt, position};
-ghost use Rattle.std.specs.List.{position_or_len};
-ghost use Rattle.cq_prefs.specs.Orders.{ports};
+ghost use Rattle.std.specs.Prelude.{◌≡◌, ◌==◌, ◌<◌, ◌≤◌, length, nat_eq, nat_lt, position};
+ghost use Rattle.std.specs.List.{IsDistinct, position_or_len};
+ghost use Rattle.cq_prefs.specs.Orders.{place_in, ports};
 ghost use Rattle.cq_pair.specs.FreeInputs.{with_input, without_input, inputs_with_offers};
 
 use arrayvec::ArrayVec;
@@ -39,6 +39,22 @@ fn place_of(inputs: &[Port], input: Port) -> usize
     greater(inputs, input).unwrap_or(inputs.len())
 }
 
+// The first place of an input.
+fn found(inputs: &[Port], input: Port) -> Option<usize>
+    ensures { result ≡ position (λ other. other == input) inputs.now }
+{
+    inputs.iter().position(|other| *other == input)
+}
+
+// The same, or the end.
+#[tactic(auto, using(cq_base::proofs::Lists::place_found, cq_base::proofs::Lists::first_inside), unfolding(cq_prefs::specs::Orders::place_in))]
+fn place_or_end(inputs: &[Port], input: Port) -> usize
+    ensures inside { result ≤ length inputs.now }
+    ensures place { result ≡ place_in inputs.now input }
+{
+    found(inputs, input).unwrap_or(inputs.len())
+}
+
 impl FreeInputs {
     /// The inputs that have an offer.
     pub fn with_offers(offers: &Offers) -> FreeInputs
@@ -62,11 +78,15 @@ impl FreeInputs {
         self.inputs.insert(place, input);
     }
 
-    /// Takes an input out. It may be out already.
+    /// Takes an input out. It may be out already. Of the others only those behind it move.
     pub fn remove(&mut self, input: Port)
+        requires { IsDistinct nat_eq self.old }
         ensures { self.new ≡ without_input input self.old }
     {
-        self.inputs.retain(|other| *other != input);
+        let place = place_or_end(self.inputs.as_slice(), input);
+        if place < self.inputs.len() {
+            self.inputs.remove(place);
+        }
     }
 
     /// The inputs.

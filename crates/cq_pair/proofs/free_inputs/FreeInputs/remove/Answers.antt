@@ -1,7 +1,29 @@
-use Rattle.std.proofs.Common.{◌∙◌, ap, rules}
-use Rattle.arrayvec.proofs.ArrayVecLemmas.{filter-from_retain}
+use Rattle.std.proofs.Common.{◌≡◌, ◌<◌, ◌∙◌, length, eqb, ap, sym, subst, arith}
+use Rattle.std.specs.List.{IsDistinct}
+use Rattle.cq_prefs.specs.Orders.{place_in}
+use Rattle.cq_prefs.proofs.PutBack.{left_by, not_there}
 use Rattle.cq_pair.specs.FreeInputs.{without_input}
 use Rattle.cq_pair.proofs.free_inputs.FreeInputs.remove.Goals as goal
 
-pub returns : goal.returns
-returns c = filter-from_retain _ _ _ (λ x b f' y called. search rules) _ _ c.retain.ensures.filtered ∙ ap (without_input c.args.input) c.self.view_is
+pub returns-then-place-len : goal.returns-then-place-len
+returns-then-place-len c =
+    let inputs = c.self.inside.inputs.items in
+    let input = c.args.input in
+    let differ : IsDistinct eqb inputs = subst (IsDistinct eqb) (sym c.self.view_is) c.requires in
+    let place : c.place_or_end-place.result ≡ place_in inputs input =
+    c.place_or_end-place.ensures.place ∙ ap (λ l. place_in l input) c.as_slice.ensures.value in
+    let inside : c.place_or_end-place.result < length inputs =
+    let test = c.if-place-len.true in let len = c.len.ensures in omega arith in
+    c.remove.ensures.items ∙ left_by input c.place_or_end-place.result inputs differ place inside
+    ∙ ap (without_input input) c.self.view_is
+
+pub returns-else-place-len : goal.returns-else-place-len
+returns-else-place-len c =
+    let inputs = c.args.self.now in
+    let input = c.args.input in
+    let same : length c.self.inside.inputs.items ≡ length inputs = ap length c.self.view_is in
+    let place : c.place_or_end-place.result ≡ place_in inputs input =
+    c.place_or_end-place.ensures.place ∙ ap (λ l. place_in l input) (c.as_slice.ensures.value ∙ c.self.view_is) in
+    not_there input inputs
+    (λ (listed : place_in inputs input < length inputs).
+    let test = c.if-place-len.false in let len = c.len.ensures in omega arith)

@@ -1,8 +1,9 @@
-use Rattle.std.proofs.Common.{◌≡◌, ◌∙◌, ◌+◌, get_or, length, set, ap, sym, subst, arith}
+use Rattle.std.proofs.Common.{◌≡◌, ◌∙◌, ◌+◌, get_or, eqb, length, set, ap, sym, subst, arith}
+use Rattle.std.specs.List.{IsDistinct}
 use Rattle.cq_prefs.specs.Proposals.{next_place}
 use Rattle.cq_pair.specs.FreeInputs.{without_input}
 use Rattle.cq_pair.specs.Progress.{ShowsWaiting, waiting_inputs}
-use Rattle.cq_pair.proofs.Waiting.{moved_still, moved_out}
+use Rattle.cq_pair.proofs.Waiting.{moved_still, moved_out, waiting_differ}
 use Rattle.cq_pair.proofs.proposal_core.Core.move_on.Goals as goal
 
 pub overflow_add-next : goal.overflow_add-next
@@ -49,3 +50,10 @@ returns-else-next-outputs_of c =
           (let l = c.requires.left in let t = c.if-next-outputs_of.false in let e = c.at-next.ensures in let g = ap length c.outputs_of.ensures in omega arith)
           ∙ ap (λ l. waiting_inputs o l a.matching) (sym c.set.ensures);
     }
+
+pub remove-requires : goal.remove-requires
+remove-requires c =
+    let o = c.args.offers.now in
+    let a = c.self.inside in
+    let waiting : a.free ≡ waiting_inputs o a.places a.matching = subst (ShowsWaiting o) (sym c.self.view_is) c.requires.waiting in
+    subst (IsDistinct eqb) (sym waiting) (waiting_differ o a.places a.matching)

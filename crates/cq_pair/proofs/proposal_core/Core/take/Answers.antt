@@ -1,7 +1,8 @@
-use Rattle.std.proofs.Common.{◌≡◌, ◌∙◌, Some, length, set, ap, sym, subst, arith}
+use Rattle.std.proofs.Common.{◌≡◌, ◌∙◌, Some, eqb, length, set, ap, sym, subst, arith}
+use Rattle.std.specs.List.{IsDistinct}
 use Rattle.cq_pair.specs.FreeInputs.{without_input}
 use Rattle.cq_pair.specs.Progress.{ShowsWaiting, waiting_inputs}
-use Rattle.cq_pair.proofs.Waiting.{joined_out}
+use Rattle.cq_pair.proofs.Waiting.{joined_out, waiting_differ}
 use Rattle.cq_pair.proofs.proposal_core.Core.take.Goals as goal
 
 pub returns : goal.returns
@@ -21,3 +22,10 @@ returns c =
           ∙ joined_out o a.places a.matching c.args.input c.args.output (let l = c.requires.input in omega arith)
           ∙ ap (waiting_inputs o a.places) (sym c.join.ensures);
     }
+
+pub remove-requires : goal.remove-requires
+remove-requires c =
+    let o = c.args.offers.now in
+    let a = c.self.inside in
+    let waiting : a.free ≡ waiting_inputs o a.places a.matching = subst (ShowsWaiting o) (sym c.self.view_is) c.requires.waiting in
+    subst (IsDistinct eqb) (sym waiting) (waiting_differ o a.places a.matching)
