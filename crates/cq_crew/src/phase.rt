@@ -33,10 +33,12 @@ pub fn pair_phase<R: Threads + Sync, G: Gate>(
     ensures phase { IsBestPhase offers.now (phase_of result) }
     ensures shared { IsShared result → 2 ≤ workers_used offers.now workers }
 {
-    let used = workers.min(count_offering(offers));
-    if used >= 2 {
-        if let Some(closed) = settle_shared(rt, alloc, offers, used, gate) {
-            return Settled::Shared(closed);
+    if workers >= 2 {
+        let used = workers.min(count_offering(offers));
+        if used >= 2 {
+            if let Some(closed) = settle_shared(rt, alloc, offers, used, gate) {
+                return Settled::Shared(closed);
+            }
         }
     }
     Settled::Alone(settle_alone(offers))
@@ -56,8 +58,9 @@ fn count_offering(offers: &Offers) -> u16
     count
 }
 
-// The phase by one thread, in which the least free input proposes.
-fn settle_alone(offers: &Offers) -> Phase
+/// The phase by one thread, in which the least free input proposes. It is the one that `pair_phase` finds, for a caller
+/// that has no second worker.
+pub fn settle_alone(offers: &Offers) -> Phase
     ensures { IsBestPhase offers.now result }
 {
     // Its contract tells that the orders of both sides fit together.
