@@ -15,6 +15,12 @@ use Rattle.cq_ideal.proofs.Refusals.{all_zero, cells_both, packets_both}
 use Rattle.cq_ideal.proofs.Sending.{at_end, at_place, changed_to, next_place}
 use Rattle.cq_ideal.proofs.TakenIn.{from_input}
 
+-- where there are no counts there is nothing to add to
+pub nothing_to_count : (cells : List Cell) (counts : List Refused) → length counts ≡ 0 →
+    counts ≡ with_refused cells counts
+nothing_to_count cells [] none = refl
+nothing_to_count cells (r ∷ rs) none = absurd (omega arith)
+
 -- ## One cell
 
 abbrev pub one_if : Bool → ℕ

@@ -23,9 +23,9 @@ pub all_put : (P : Queued → Type 0) (n : Queued) (xs : List Queued) → P n �
 all_put P n [] p a = (p, tt)
 all_put P n (x ∷ xs) p a = cond_both (is_before n.key x.key) (n ∷ x ∷ xs) (x ∷ put n xs) (AllByRecursion P) (λ _. (p, a)) (λ _. (a.0, all_put P n xs p a.1))
 
-pub length-put : (n : Queued) (xs : List Queued) → length (put n xs) ≡ length xs + 1
-length-put n [] = refl
-length-put n (x ∷ xs) = cond_both (is_before n.key x.key) (n ∷ x ∷ xs) (x ∷ put n xs) (λ l. length l ≡ length (x ∷ xs) + 1) (λ _. omega arith) (λ _. let rest = length-put n xs in omega arith)
+pub length_put : (n : Queued) (xs : List Queued) → length (put n xs) ≡ length xs + 1
+length_put n [] = refl
+length_put n (x ∷ xs) = cond_both (is_before n.key x.key) (n ∷ x ∷ xs) (x ∷ put n xs) (λ l. length l ≡ length (x ∷ xs) + 1) (λ _. omega arith) (λ _. let rest = length_put n xs in omega arith)
 
 -- what is before a cell is before each that is not more urgent than that one
 before_later : (n x y : Key) → is_before n x ≡ true → is_before y x ≡ false → is_before n y ≡ true

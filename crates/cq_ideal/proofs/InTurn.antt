@@ -1,5 +1,5 @@
--- Cells that are ranked one after another. What came so far stands in front of the ranking of the others, and nobody came to the
--- inputs behind.
+-- Cells that are ranked one after another. What came so far stands in front of the ranking of the others, and no cell
+-- stands behind the last port.
 use Rattle.std.proofs.Common.{◌≡◌, ◌≢◌, ℕ, zero, suc, ◌+◌, ◌<◌, ◌≤◌, List, [], ◌∷◌, ◌++◌, length, map, get_or, set, take, drop, replicate, Option, Some, None, Result, Ok, Err, refl, sym, ap, ◌∙◌, subst, arith, length-set, get_or-set_other}
 use Rattle.std.proofs.lemmas.List.{ext_get_or, get_or-drop, length-drop, length-replicate, take-append-drop, take_more_set}
 use Rattle.std.proofs.lemmas.Option.{unwrap_or-slice_get}
@@ -52,7 +52,7 @@ pub record InTurn (M : List ℕ → Machine) (slot : ℕ) (cells : List (Option 
   pub many : length ranks.states ≡ length first.states
   pub places : 0 < input → length cells ≡ 64
   pub long : length came ≡ 64
-  pub later : (k : ℕ) → input ≤ k → get_or came k None ≡ None
+  pub later : (k : ℕ) → length first.fixed ≤ k → get_or came k None ≡ None
   pub ranked :
       after_inputs (take input came) (ranking (map M first.fixed) slot input (drop input cells) ranks.states)
       ≡ ranking (map M first.fixed) slot 0 cells first.states
@@ -63,28 +63,28 @@ none_in (suc n) zero = refl
 none_in (suc n) (suc k) = none_in n k
 
 pub in_turn_first : (M : List ℕ → Machine) (slot : ℕ) (cells : List (Option Cell)) (ranks : RanksView)
-    (came : List (Option Queued)) → came ≡ replicate 64 None → InTurn M slot cells ranks 0 ranks came
-in_turn_first M slot cells ranks came nobody =
-    let none : Option Queued = None in
+    (came : List (Option Queued)) → length came ≡ 64 →
+    ((k : ℕ) → length ranks.fixed ≤ k → get_or came k None ≡ None) → InTurn M slot cells ranks 0 ranks came
+in_turn_first M slot cells ranks came long later =
     record {
       fixed = refl;
       many = refl;
       places = λ lt. absurd (omega arith);
-      long = ap length nobody ∙ length-replicate 64 none;
-      later = λ k _. ap (λ (l : List (Option Queued)). get_or l k none) nobody ∙ none_in 64 k;
+      long = long;
+      later = later;
       ranked = refl;
     }
 
 -- one input more
 pub in_turn_next : (M : List ℕ → Machine) (slot : ℕ) (cells : List (Option Cell)) (first : RanksView) (input : ℕ)
     (ranks ranks_new : RanksView) (came : List (Option Queued)) (cell : Option Cell) (q : Option Queued) →
-    InTurn M slot cells first input ranks came → length cells ≡ 64 → input < 64 →
+    InTurn M slot cells first input ranks came → length cells ≡ 64 → input < 64 → input < length first.fixed →
     drop input cells ≡ cell ∷ drop (input + 1) cells → ranks_new.fixed ≡ ranks.fixed →
     length ranks_new.states ≡ length ranks.states →
     ((rest : List (Option Cell)) → ranking (map M ranks.fixed) slot input (cell ∷ rest) ranks.states
     ≡ after_input q (ranking (map M ranks.fixed) slot (input + 1) rest ranks_new.states)) →
     InTurn M slot cells first (input + 1) ranks_new (set came input q)
-in_turn_next M slot cells first input ranks ranks_new came cell q so_far places inside next fixed many one =
+in_turn_next M slot cells first input ranks ranks_new came cell q so_far places inside port next fixed many one =
     let none : Option Queued = None in
     let ms = map M first.fixed in
     let long = so_far.long in

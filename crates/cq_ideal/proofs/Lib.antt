@@ -20,7 +20,6 @@ pub mod FlowStands
 pub mod FlowTraffic
 pub mod AtInput
 pub mod Listed
-pub mod Placed
 pub mod Ranked
 pub mod Refusals
 pub mod Sending
@@ -39,3 +38,5 @@ pub mod LimitedLast
 pub mod EachLeaves
 pub mod FlowOn
 pub mod RestAtInput
+pub mod UsedPlaces
+pub mod OwnKeys

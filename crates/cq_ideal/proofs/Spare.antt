@@ -39,7 +39,7 @@ came_for ms slot cells ranks r ok j =
     let P : Result Ranking TagFault → Type 0 = λ x. IfOk x (λ r. count_to j r.came ≡ count_for j cells) in
     subst P ok (ranked_for ms slot 0 cells ranks j)
 
-filled_at : (came : List (Option Queued)) (lists : List (List Queued)) (j : ℕ) → j < length lists → get_or (filled came lists) j [] ≡ put_all j came (get_or lists j [])
+pub filled_at : (came : List (Option Queued)) (lists : List (List Queued)) (j : ℕ) → j < length lists → get_or (filled came lists) j [] ≡ put_all j came (get_or lists j [])
 unfolding filled
 filled_at came lists j inside = get_or-map-range_with_len (λ j. put_all j came (get_or lists j [])) 0 (length lists) j j [] inside (omega arith)
 

@@ -1,6 +1,6 @@
 -- How the cells of a slot are taken in. The definition puts them all into the lists; the code puts one after another. Putting the
 -- first cell, and then the others, is putting them all, and where a list has room for all of them it has for each in turn.
-use Rattle.std.proofs.Common.{◌≡◌, ℕ, zero, suc, ◌+◌, ◌<◌, ◌≤◌, eqb, Bool, true, false, cond, List, [], ◌∷◌, length, map, get_or, drop, Option, Some, None, refl, sym, ap, ◌∙◌, subst, inl, inr, arith, length-set, get_or-set_same, get_or-set_other}
+use Rattle.std.proofs.Common.{◌≡◌, ◌≢◌, ℕ, zero, suc, ◌+◌, ◌<◌, ◌≤◌, eqb, Bool, true, false, cond, List, [], ◌∷◌, length, map, get_or, drop, Option, Some, None, refl, sym, ap, ◌∙◌, subst, inl, inr, arith, length-set, get_or-set_same, get_or-set_other}
 use Rattle.std.specs.Prelude.{IfSome}
 use Rattle.std.specs.List.{range_with_len}
 use Rattle.std.proofs.lemmas.Bool.{cases_Bool, cond_both, eqb-true, eq-eqb}
@@ -10,13 +10,13 @@ use Rattle.std.proofs.lemmas.Option.{unwrap_or-slice_get}
 use Rattle.cq_base.specs.declared.cell.Cell.{Cell}
 use Rattle.cq_base.specs.declared.cell.Queued.{Queued}
 use Rattle.cq_base.specs.Arrivals.{arrival_at}
-use Rattle.cq_base.specs.Key.{is_before}
-use Rattle.cq_base.specs.Cells.{put, is_for}
+use Rattle.cq_base.specs.Cells.{HasOtherKey, put, is_for}
 use Rattle.cq_rank.specs.Machine.{Machine}
 use Rattle.cq_rank.specs.Switch.{AreForOneSwitch}
 use Rattle.cq_ideal.specs.IdealSlot.{filled, put_all}
 use Rattle.cq_ideal.specs.Limiter.{HoldsLists, LimiterView}
-use Rattle.cq_ideal.specs.Parts.{AreParts, RanksView, QueuesView, CameToPorts, FitTogether, HaveRoomFor, list_at, with_came, with_cell}
+use Rattle.cq_ideal.specs.Parts.{AreParts, RanksView, QueuesView, CameToPorts, FitTogether, HaveArrived, HaveOwnKeys, HaveRoomFor, list_at, with_came, with_cell}
+use Rattle.cq_ideal.proofs.FlowPut.{all_put, length_put}
 
 -- ## Putting cells into the lists
 
@@ -78,12 +78,6 @@ nobody_left (Some q ∷ came) lists h = absurd (h zero q refl)
 
 -- ## Room
 
-pub length-put : (c : Queued) (xs : List Queued) → length (put c xs) ≡ length xs + 1
-length-put c [] = refl
-length-put c (x ∷ xs) =
-    cond_both (is_before c.key x.key) (c ∷ x ∷ xs) (x ∷ put c xs) (λ l. length l ≡ length (x ∷ xs) + 1)
-    (λ _. omega arith) (λ _. omega (arith, length-put c xs))
-
 -- how many cells the list of output j then has
 length-with_cell : (q : Queued) (lists : List (List Queued)) (j : ℕ) → q.cell.output < length lists →
     length (list_at (with_cell q lists) j) ≡ length (list_at lists j) + cond (eqb q.cell.output j) 1 0
@@ -93,7 +87,7 @@ length-with_cell q lists j inside =
   where
     pick : (b : Bool) →
         length (cond b (put q (list_at lists j)) (list_at lists j)) ≡ length (list_at lists j) + cond b 1 0
-    pick true = length-put q (list_at lists j)
+    pick true = length_put q (list_at lists j)
     pick false = omega arith
 
 -- one for true
@@ -127,6 +121,32 @@ room_for_rest (Some q) came old new room inside lists rooms j l =
     let had = room j (omega arith) in
     omega arith
 
+-- ## Keys
+
+-- where two keys differ, the one cell can be put in and the other still has its own key
+own_stays : (p q : Queued) (lists : List (List Queued)) (j : ℕ) → p.cell.output < length lists → p.key ≢ q.key →
+    HasOtherKey q (list_at lists j) → HasOtherKey q (list_at (with_cell p lists) j)
+own_stays p q lists j inside apart own =
+    subst (HasOtherKey q) (one_put p lists j inside)
+    (cond_both (is_for j p) (put p (list_at lists j)) (list_at lists j) (HasOtherKey q)
+    (λ _. all_put (λ x. x.key ≢ q.key) p (list_at lists j) apart own) (λ _. own))
+
+-- once a cell is put in, if one came, the others still have their own keys
+own_keys_rest : (o : Option Queued) (came : List (Option Queued)) (lists : List (List Queued)) →
+    HaveOwnKeys (o ∷ came) lists → ((q : Queued) → o ≡ Some q → q.cell.output < length lists) →
+    HaveOwnKeys came (with_came o lists)
+own_keys_rest None came lists own inside =
+    record {
+      waiting = λ k q at j. own.waiting (suc k) q at j;
+      others = λ k n q r lt a b. own.others (suc k) (suc n) q r (omega arith) a b;
+    }
+own_keys_rest (Some p) came lists own inside =
+    record {
+      waiting = λ k q at j. own_stays p q lists j (inside p refl) (own.others zero (suc k) p q (omega arith) refl at)
+          (own.waiting (suc k) q at j);
+      others = λ k n q r lt a b. own.others (suc k) (suc n) q r (omega arith) a b;
+    }
+
 pub if_some : (o : Option Queued) (P : Queued → Type 0) → ((q : Queued) → o ≡ Some q → P q) → IfSome o P
 if_some None P f = tt
 if_some (Some q) P f = f q refl
@@ -142,11 +162,12 @@ from_input cells input o places inside is =
     (sym (is ∙ unwrap_or-slice_get cells input none))
 
 -- What was put in so far, and then the cells of the inputs from this one on, is all that is put in; and there is room for the
--- cells of these.
+-- cells of these, and each has its own key.
 pub record Putting (came : List (Option Queued)) (first : QueuesView) (input : ℕ) (queues : QueuesView) : Type 0 where
   pub rooms : queues.rooms ≡ first.rooms
   pub long : length queues.lists ≡ length first.lists
   pub room : HaveRoomFor (drop input came) queues
+  pub keys : HaveOwnKeys (drop input came) queues.lists
   pub filled : filled (drop input came) queues.lists ≡ filled came first.lists
 
 -- what stands at an input
@@ -166,12 +187,13 @@ at_input came first input queues few ports inside so_far =
       inside = λ q at. let out = ports.outputs input q at in omega arith;
     }
 
--- the list of the cell that came to an input has room for it
+-- the list of the cell that came to an input has room for it, and no cell of its key
 pub putting_room : (came : List (Option Queued)) (first : QueuesView) (input : ℕ) (queues : QueuesView) →
     length first.lists ≤ 64 → length first.rooms ≡ length first.lists → CameToPorts (length first.lists) came →
     input < length first.lists → Putting came first input queues → (q : Queued) → get_or came input None ≡ Some q →
     (q.cell.output < length queues.lists) ×
-    (length (list_at queues.lists q.cell.output) < get_or queues.rooms q.cell.output 0)
+    (length (list_at queues.lists q.cell.output) < get_or queues.rooms q.cell.output 0) ×
+    HasOtherKey q (list_at queues.lists q.cell.output)
 putting_room came first input queues few as_many ports inside so_far q at =
     let here = at_input came first input queues few ports inside so_far in
     let out = here.inside q at in
@@ -179,7 +201,11 @@ putting_room came first input queues few as_many ports inside so_far q at =
     let rooms = ap (λ (r : List ℕ). length r) so_far.rooms in
     let room = subst (λ o. HaveRoomFor (o ∷ drop (input + 1) came) queues) at
     (subst (λ l. HaveRoomFor l queues) here.next so_far.room) in
-    (out, room_for_one q (drop (input + 1) came) queues room (omega arith))
+    let first = ap (λ (l : List (Option Queued)). get_or l 0 None) here.next ∙ at in (
+      out,
+      room_for_one q (drop (input + 1) came) queues room (omega arith),
+      so_far.keys.waiting 0 q first q.cell.output,
+    )
 
 pub putting_next : (came : List (Option Queued)) (first : QueuesView) (input : ℕ) (old new : QueuesView) →
     length first.lists ≤ 64 → CameToPorts (length first.lists) came → input < length first.lists →
@@ -194,6 +220,9 @@ putting_next came first input old new few ports inside so_far lists rooms =
       long = ap length lists ∙ length-with_came o old.lists ∙ so_far.long;
       room = room_for_rest o rest old new
           (subst (λ l. HaveRoomFor l old) here.next so_far.room) here.inside lists rooms;
+      keys =
+          subst (HaveOwnKeys rest) (sym lists)
+          (own_keys_rest o rest old.lists (subst (λ l. HaveOwnKeys l old.lists) here.next so_far.keys) here.inside);
       filled =
           ap (filled rest) lists ∙ sym (filled_next o rest old.lists here.inside)
           ∙ ap (λ l. filled l old.lists) (sym here.next) ∙ so_far.filled;
@@ -227,18 +256,20 @@ fit_same M ranks ranks_new queues queues_new fit fixed states lists rooms =
 
 -- with a limiter of as many ports
 pub parts_same : (M : List ℕ → Machine) (ranks ranks_new : RanksView) (queues queues_new : QueuesView)
-    (limiter limiter_new : LimiterView) (stopped stopped_new : Bool) →
-    AreParts (map M ranks.fixed) ranks queues limiter stopped → ranks_new.fixed ≡ ranks.fixed →
+    (limiter limiter_new : LimiterView) (next next_new : ℕ) (stopped stopped_new : Bool) →
+    AreParts (map M ranks.fixed) ranks queues limiter next stopped → ranks_new.fixed ≡ ranks.fixed →
     length ranks_new.states ≡ length ranks.states → length queues_new.lists ≡ length queues.lists →
     queues_new.rooms ≡ queues.rooms → length limiter_new.limits ≡ length limiter.limits →
-    length limiter_new.marks ≡ length limiter.marks → (stopped_new ≡ false → HoldsLists queues_new.lists limiter_new) →
-    AreParts (map M ranks_new.fixed) ranks_new queues_new limiter_new stopped_new
-parts_same M ranks ranks_new queues queues_new limiter limiter_new stopped stopped_new parts fixed states lists rooms
-    limits marks holds =
+    length limiter_new.marks ≡ length limiter.marks → HaveArrived next_new queues_new.lists →
+    (stopped_new ≡ false → HoldsLists queues_new.lists limiter_new) →
+    AreParts (map M ranks_new.fixed) ranks_new queues_new limiter_new next_new stopped_new
+parts_same M ranks ranks_new queues queues_new limiter limiter_new next next_new stopped stopped_new parts fixed states
+    lists rooms limits marks arrived holds =
     let long = ap length (sym (ap (map M) fixed)) in
     record {
       fit = fit_same M ranks ranks_new queues queues_new parts.fit fixed states lists rooms;
       limits = limits ∙ parts.limits ∙ long;
       marks = marks ∙ parts.marks ∙ long;
+      arrived = arrived;
       holds = holds;
     }

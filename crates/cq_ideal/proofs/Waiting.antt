@@ -16,7 +16,7 @@ use Rattle.cq_rank.specs.Machine.{Machine, machine_at}
 use Rattle.cq_ideal.specs.Ideal.{count_for}
 use Rattle.cq_ideal.specs.Ranking.{Ranking, ranking, after_input, keyed}
 use Rattle.cq_ideal.specs.IdealSlot.{IdealState, Sent, put_all, filled, fronts, rests, all_told, ideal_sends, ideal_slot, departures_from, departures_in}
-use Rattle.cq_ideal.proofs.FlowPut.{length-put}
+use Rattle.cq_ideal.proofs.FlowPut.{length_put}
 use Rattle.cq_ideal.proofs.FlowRank.{present}
 
 -- ## Numbers that are added over a range
@@ -76,7 +76,7 @@ total_put (Some q ∷ came) f a n =
     let more : total (λ j. length (g j)) a n ≤ total (λ j. length (f j)) a n + 1 =
     total_more (λ j. length (g j)) (λ j. length (f j)) q.cell.output 1 a n
     (λ t ne. ap length (cond-false (is_for t q) (put q (f t)) (f t) (ne_eqb q.cell.output t (λ e. ne (sym e)))))
-    (cond_both (is_for q.cell.output q) (put q (f q.cell.output)) (f q.cell.output) (λ xs. length xs ≤ length (f q.cell.output) + 1) (λ _. let l = length-put q (f q.cell.output) in omega arith) (λ _. omega arith)) in
+    (cond_both (is_for q.cell.output q) (put q (f q.cell.output)) (f q.cell.output) (λ xs. length xs ≤ length (f q.cell.output) + 1) (λ _. let l = length_put q (f q.cell.output) in omega arith) (λ _. omega arith)) in
     omega arith
 
 filled_none : (lists : List (List Queued)) → filled [] lists ≡ lists
@@ -144,7 +144,7 @@ length-put_all j (Some q ∷ came) xs =
     length-put_all j came (cond (is_for j q) (put q xs) xs) ∙ one (is_for j q) (count_for j (map cell_here came))
   where
     one : (b : Bool) (n : ℕ) → length (cond b (put q xs) xs) + n ≡ length xs + (cond b 1 0 + n)
-    one true n = let l = length-put q xs in omega arith
+    one true n = let l = length_put q xs in omega arith
     one false n = omega arith
 
 -- ## The ranking keeps the cells

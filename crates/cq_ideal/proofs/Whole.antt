@@ -25,7 +25,7 @@ use Rattle.cq_ideal.specs.Ranking.{Ranking, ranking, after_input, keyed}
 use Rattle.cq_ideal.proofs.FlowCount.{come_count-traffic_of, length-traffic_of, quiet_at_end}
 use Rattle.cq_ideal.proofs.FlowRank.{present}
 use Rattle.cq_ideal.proofs.FlowRun.{come_count, QuietAfter, drained}
-use Rattle.cq_ideal.proofs.TakenIn.{length-put}
+use Rattle.cq_ideal.proofs.FlowPut.{length_put}
 
 -- ## Sums over a range
 
@@ -156,7 +156,7 @@ length-put_all j (None ∷ came) xs = length-put_all j came xs
 length-put_all j (Some q ∷ came) xs = go (is_for j q) (λ ys. length-put_all j came ys)
   where
     go : (b : Bool) → ((ys : List Queued) → length (put_all j came ys) ≡ length ys + count_to j came) → length (put_all j came (cond b (put q xs) xs)) ≡ length xs + (bit b + count_to j came)
-    go true rest = let r = rest (put q xs) in let l = length-put q xs in omega arith
+    go true rest = let r = rest (put q xs) in let l = length_put q xs in omega arith
     go false rest = let r = rest xs in omega arith
 
 counted_most : (came : List (Option Queued)) (n : ℕ) → sum_of (λ j. count_to j came) (range_with_len 0 n) ≤ cells_in came

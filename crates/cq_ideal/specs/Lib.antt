@@ -14,3 +14,4 @@ pub mod Parts
 pub mod Ranking
 pub mod Refused
 pub mod WholePackets
+pub mod Newcomers

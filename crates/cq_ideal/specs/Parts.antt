@@ -1,9 +1,8 @@
 -- What clauses see of the parts of an ideal switch, and of the cells of a slot that go through them.
-use Rattle.std.specs.Prelude.{◌≡◌, ℕ, ◌+◌, ◌-◌, ◌<◌, ◌≤◌, ◌^◌, length, slice_index, Bool, false, if◌then◌else◌, List, [], ◌∷◌, Option, Some, None, Result, replicate, slice_set, slice_index_or}
+use Rattle.std.specs.Prelude.{◌≡◌, ◌≢◌, ℕ, ◌+◌, ◌-◌, ◌<◌, ◌≤◌, ◌^◌, length, slice_index, Bool, false, if◌then◌else◌, List, [], ◌∷◌, Option, Some, None, Result, replicate, slice_set, slice_index_or}
 use Rattle.cq_base.specs.declared.cell.Queued.{Queued}
 use Rattle.cq_base.specs.declared.cell.TagFault.{TagFault}
-use Rattle.cq_base.specs.Cells.{EachPair, is_for, put}
-use Rattle.cq_base.specs.Key.{is_before}
+use Rattle.cq_base.specs.Cells.{ArrivedBefore, HasOtherKey, is_for, put}
 use Rattle.cq_rank.specs.Machine.{Machine, machine_at}
 use Rattle.cq_rank.specs.Switch.{AreForOneSwitch}
 use Rattle.cq_ideal.specs.IdealSlot.{IdealState, all_told}
@@ -14,10 +13,6 @@ use Rattle.cq_ideal.specs.Ranking.{Ranking, after_input}
 pub record RanksView : Type 0 where
   pub fixed : List (List ℕ)
   pub states : List (List ℕ)
-
--- no cell is more urgent than one that stands ahead of it
-abbrev pub AreInOrder : List Queued → Type 0
-AreInOrder cells = EachPair (λ a b. is_before b.key a.key ≡ false) cells
 
 -- a list of cells, and how many it can hold
 pub record QueueView : Type 0 where
@@ -69,12 +64,18 @@ pub record FitTogether (ms : List Machine) (ranks : RanksView) (queues : QueuesV
   pub lists : length queues.lists ≡ length ms
   pub rooms : length queues.rooms ≡ length ms
 
--- the parts fit, and while the switch runs its outputs hold the cells of its lists
-pub record AreParts (ms : List Machine) (ranks : RanksView) (queues : QueuesView) (limiter : LimiterView) (stopped :
-    Bool) : Type 0 where
+-- each cell of the lists arrived before this slot
+abbrev pub HaveArrived : ℕ → List (List Queued) → Type 0
+HaveArrived slot lists = (j : ℕ) → ArrivedBefore slot (list_at lists j)
+
+-- the parts fit, each cell that waits arrived before the next slot, and while the switch runs its outputs hold the cells
+-- of its lists
+pub record AreParts (ms : List Machine) (ranks : RanksView) (queues : QueuesView) (limiter : LimiterView) (next : ℕ)
+    (stopped : Bool) : Type 0 where
   pub fit : FitTogether ms ranks queues
   pub limits : length limiter.limits ≡ length ms
   pub marks : length limiter.marks ≡ length ms
+  pub arrived : HaveArrived next queues.lists
   pub holds : stopped ≡ false → HoldsLists queues.lists limiter
 
 -- no list has more cells than it can hold
@@ -109,3 +110,10 @@ pub record CameToPorts (ports : ℕ) (came : List (Option Queued)) : Type 0 wher
 abbrev pub HaveRoomFor : List (Option Queued) → QueuesView → Type 0
 HaveRoomFor came queues =
     (j : ℕ) → j < length queues.rooms → count_to j came ≤ slice_index queues.rooms j - length (list_at queues.lists j)
+
+-- no cell that came has the key of one that waits, nor that of another that came
+pub record HaveOwnKeys (came : List (Option Queued)) (lists : List (List Queued)) : Type 0 where
+  pub waiting : (k : ℕ) (q : Queued) → slice_index_or came k None ≡ Some q → (j : ℕ) → HasOtherKey q (list_at lists j)
+  pub others :
+      (k n : ℕ) (q r : Queued) → k < n → slice_index_or came k None ≡ Some q → slice_index_or came n None ≡ Some r →
+      q.key ≢ r.key

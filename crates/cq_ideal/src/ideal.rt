@@ -12,7 +12,8 @@ ghost use Rattle.cq_ideal.specs.Refused.{refused_counts, with_refused};
 
 use crate::Refused;
 use crate::limiter::Limiter;
-use crate::queues::{Queues, nobody};
+use crate::newcomers::Newcomers;
+use crate::queues::Queues;
 use crate::ranks::Ranks;
 use crate::send::send;
 use cq_base::{Arrivals, Departure, NoMemory, Room, Slot, TagFault};
@@ -33,6 +34,7 @@ pub struct Ideal<R: Rank> {
     ranks: Ranks<R>,
     queues: Queues,
     limiter: Limiter,
+    came: Newcomers,
     next: Slot,
     stopped: bool,
 }
@@ -55,7 +57,7 @@ impl<R: Rank> Model for Ideal<R> {
       stopped = a.stopped;
     } };
 
-    ghost invariant = { λ a. AreParts (map R.machine a.ranks.fixed) a.ranks a.queues a.limiter a.stopped };
+    ghost invariant = { λ a. AreParts (map R.machine a.ranks.fixed) a.ranks a.queues a.limiter a.next a.stopped };
 }
 
 impl<R: Rank> Ideal<R> {
@@ -85,6 +87,7 @@ impl<R: Rank> Ideal<R> {
             queues: Queues::new(alloc, rooms)?,
             limiter: Limiter::new(alloc, limits)?,
             ranks: Ranks::of(ranks),
+            came: Newcomers::none(),
             next: 0,
             stopped: false,
         })
@@ -128,15 +131,17 @@ impl<R: Rank> Ideal<R> {
         ensures counts_stay { OnErr result (self.new.refused ≡ self.old.refused) }
         ensures next_stays { OnErr result (self.new.next ≡ self.old.next) }
     {
-        let mut came = nobody();
         self.queues.len();
         self.limiter.judge(arrivals);
-        if let Err(fault) = self.ranks.take(slot, arrivals, &self.limiter, &mut came) {
+        if let Err(fault) = self
+            .ranks
+            .take(slot, arrivals, &self.limiter, &mut self.came)
+        {
             self.stopped = true;
             return Err(fault);
         }
         self.limiter.count(arrivals);
-        self.queues.arrive(&came);
+        self.queues.arrive(&self.came);
         send(
             &mut self.ranks,
             &mut self.queues,

@@ -12,6 +12,7 @@ mod laws;
 mod limited_ending;
 mod limiter;
 mod limits;
+mod newcomers;
 mod queue;
 mod queues;
 mod ranks;
@@ -29,5 +30,6 @@ pub use limits::{
     limited_run_is_whole, nothing_is_refused_without_limits, refused_counts_add_up,
     whole_packets_are_admitted, worked_discard,
 };
+pub use newcomers::Newcomers;
 pub use ranks::Ranks;
 pub use refused::{Refused, count_refused, none_refused};

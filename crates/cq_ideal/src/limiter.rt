@@ -216,7 +216,8 @@ impl Limiter {
         if up { cell } else { None }
     }
 
-    /// The cells of a slot that were refused as it was judged are counted.
+    /// The cells of a slot that were refused as it was judged are counted. Where no output has a limit there is nothing to
+    /// count, and no arrival is looked at.
     pub fn count(&mut self, arrivals: &Arrivals)
         requires few { length self.old.limits ≤ 64 }
         requires refused { CanCount (length self.old.limits) self.old.refused }
@@ -225,6 +226,10 @@ impl Limiter {
         ensures held { self.new.held ≡ self.old.held }
         ensures limits { self.new.limits ≡ self.old.limits }
     {
+        let counts = self.refused();
+        if counts.len() == 0 {
+            return;
+        }
         let ports = self.len();
         'inputs: for input in 0..ports {
             match self.refused_at(arrivals, input) {

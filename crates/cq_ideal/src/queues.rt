@@ -1,9 +1,11 @@
 //! The lists of all outputs.
-ghost use Rattle.std.specs.Prelude.{◌≡◌, ◌<◌, ◌≤◌, ◌==◌, ◌^◌, ◌↔◌, ℕ, IsTrue, All, IfOk, IfSome, None, [], drop, length, replicate, slice_get, slice_index, slice_set};
+ghost use Rattle.std.specs.Prelude.{◌≡◌, ◌<◌, ◌≤◌, ◌==◌, ◌^◌, ◌↔◌, ℕ, IsTrue, All, IfOk, IfSome, [], drop, length, replicate, slice_get, slice_index, slice_set};
 ghost use Rattle.std.specs.List.{list_all};
+ghost use Rattle.cq_base.specs.Cells.{HasOtherKey};
 ghost use Rattle.cq_ideal.specs.IdealSlot.{filled};
-ghost use Rattle.cq_ideal.specs.Parts.{AreWithinRooms, CameToPorts, HaveRoomFor, list_at, with_came, with_cell};
+ghost use Rattle.cq_ideal.specs.Parts.{AreWithinRooms, CameToPorts, HaveOwnKeys, HaveRoomFor, list_at, with_came, with_cell};
 
+use crate::newcomers::Newcomers;
 use crate::queue::Queue;
 use cq_base::{NoMemory, Port, Queued};
 use std::alloc::Global;
@@ -33,13 +35,6 @@ fn none_wait(queues: &[Queue]) -> bool
     queues.iter().all(|queue| queue.is_empty())
 }
 
-/// No cell in any of 64 places.
-pub fn nobody() -> [Option<Queued>; 64]
-    ensures { result ≡ replicate 64 None }
-{
-    [None; 64]
-}
-
 impl Queues {
     /// No cell waits, and the list of each output can hold so many.
     pub fn new(alloc: Global, rooms: &[u64]) -> Result<Queues, NoMemory>
@@ -67,6 +62,7 @@ impl Queues {
     pub fn put(&mut self, queued: Queued)
         requires output { queued.cell.output < length self.old.lists }
         requires room { length (list_at self.old.lists queued.cell.output) < slice_index self.old.rooms queued.cell.output }
+        requires other_key { HasOtherKey queued (list_at self.old.lists queued.cell.output) }
         ensures lists { self.new.lists ≡ with_cell queued self.old.lists }
         ensures rooms { self.new.rooms ≡ self.old.rooms }
     {
@@ -77,6 +73,7 @@ impl Queues {
     fn put_if(&mut self, came: Option<Queued>)
         requires output { IfSome came (λ q. q.cell.output < length self.old.lists) }
         requires room { IfSome came (λ q. length (list_at self.old.lists q.cell.output) < slice_index self.old.rooms q.cell.output) }
+        requires other_key { IfSome came (λ q. HasOtherKey q (list_at self.old.lists q.cell.output)) }
         ensures lists { self.new.lists ≡ with_came came self.old.lists }
         ensures rooms { self.new.rooms ≡ self.old.rooms }
     {
@@ -86,18 +83,19 @@ impl Queues {
     }
 
     /// The cells that came go into the lists of their outputs, each at its place in the order of keys.
-    pub fn arrive(&mut self, came: &[Option<Queued>; 64])
+    pub fn arrive(&mut self, came: &Newcomers)
         requires few { length self.old.lists ≤ 64 }
         requires as_many { length self.old.rooms ≡ length self.old.lists }
         requires ports { CameToPorts (length self.old.lists) came.now }
         requires room { HaveRoomFor came.now self.old }
+        requires keys { HaveOwnKeys came.now self.old.lists }
         ensures lists { self.new.lists ≡ filled came.now self.old.lists }
         ensures rooms { self.new.rooms ≡ self.old.rooms }
         ensures within { AreWithinRooms self.old }
     {
         let ports = self.len();
         'inputs: for input in 0..ports {
-            self.put_if(came[input as usize]);
+            self.put_if(came.at(input as usize));
         }
     }
 

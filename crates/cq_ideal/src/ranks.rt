@@ -1,5 +1,5 @@
 //! The rank machines of all outputs.
-ghost use Rattle.std.specs.Prelude.{◌≡◌, ◌↔◌, ◌+◌, ◌<◌, ◌≤◌, ◌^◌, ◌∷◌, List, Option, Ok, Err, IfErr, IfOk, IsErr, None, OnErr, OnOk, Some, length, map, replicate, slice_index_or, slice_set, []};
+ghost use Rattle.std.specs.Prelude.{◌≡◌, ◌↔◌, ◌+◌, ◌<◌, ◌≤◌, ◌^◌, ◌∷◌, List, Option, Ok, Err, IfErr, IfOk, IsErr, None, OnErr, OnOk, Some, length, map, slice_index_or, slice_set, []};
 ghost use Rattle.cq_base.specs.declared.cell.Cell.{Cell};
 ghost use Rattle.cq_rank.specs.Machine.{machine_at, told};
 ghost use Rattle.cq_rank.specs.Switch.{AreForOneSwitch, AreSized, class_count};
@@ -8,6 +8,7 @@ ghost use Rattle.cq_ideal.specs.Parts.{all_idle, given_at, level_at, rank_at};
 ghost use Rattle.cq_ideal.specs.Ranking.{AreForPorts, after_input, keyed, ranking};
 
 use crate::limiter::Limiter;
+use crate::newcomers::Newcomers;
 use cq_base::{Arrivals, Cell, Class, Key, NoMemory, Port, Queued, Sequence, Slot, TagFault};
 use cq_rank::{Rank, TagOverflow};
 use std::alloc::Global;
@@ -212,20 +213,20 @@ impl<R: Rank> Ranks<R> {
     }
 
     /// The cells that are admitted in a slot are ranked in order of input, each by its output's machine, and put into
-    /// `came` at the places of their inputs. The error is the first rank that does not fit 128 bits.
+    /// `came` at the places of their inputs, in place of those that stood there. The error is the first rank that does
+    /// not fit 128 bits.
     pub fn take(
         &mut self,
         slot: Slot,
         arrivals: &Arrivals,
         limiter: &Limiter,
-        came: &mut [Option<Queued>; 64],
+        came: &mut Newcomers,
     ) -> Result<(), TagFault>
         requires machines { AreForOneSwitch (map R.machine self.old.fixed) }
         requires some { 0 < length self.old.fixed }
         requires few { length self.old.fixed ≤ 64 }
         requires arrivals { AreForPorts (length self.old.fixed) (class_count (map R.machine self.old.fixed)) arrivals.now }
         requires marks { length limiter.now.marks ≡ length self.old.fixed }
-        requires nobody { came.old ≡ replicate 64 None }
         ensures fixed { self.new.fixed ≡ self.old.fixed }
         ensures came { OnOk result (ranking (map R.machine self.old.fixed) slot 0 (admitted limiter.now.marks
             arrivals.now) self.old.states ≡ Ok (record { came = came.new; ranks = self.new.states })) }
@@ -235,9 +236,11 @@ impl<R: Rank> Ranks<R> {
             limiter.now.marks arrivals.now) self.old.states ≡ Err fault) }
     {
         let ports = self.len();
+        came.begin(ports);
         'inputs: for input in 0..ports {
             let cell = limiter.admitted(arrivals, input);
-            came[input as usize] = self.came(slot, input, cell)?;
+            let queued = self.came(slot, input, cell)?;
+            came.put(input, queued);
         }
         Ok(())
     }

@@ -1,8 +1,9 @@
-use Rattle.std.proofs.Common.{◌-◌, Ok, length, map, refl, sym, ap, ◌∙◌}
+use Rattle.std.proofs.Common.{◌-◌, Ok, length, map, refl, sym, ap, ◌∙◌, arith}
 use Rattle.cq_ideal.specs.Admission.{marked}
 use Rattle.cq_ideal.specs.Ideal.{IdealSwitch}
 use Rattle.cq_ideal.specs.LimitedIdeal.{nothing_came}
 use Rattle.cq_ideal.specs.Parts.{state_of}
+use Rattle.cq_ideal.proofs.OwnKeys.{arrived_later}
 use Rattle.cq_ideal.proofs.LimitedRuns.{rest_refuses_none}
 use Rattle.cq_ideal.proofs.Resting.{length-idle, rested}
 use Rattle.cq_ideal.proofs.TakenIn.{parts_same}
@@ -10,11 +11,15 @@ use Rattle.cq_ideal.proofs.ideal.Ideal.rest.Goals as goal
 
 pub invariant_of-self : goal.invariant_of-self
 invariant_of-self g c =
+    let at = ap (λ (v : IdealSwitch). v.next) c.self.view_is in
+    let later = c.requires.later in
     parts_same g.R.Rank.machine c.self.inside.ranks c.rest.new.self c.self.inside.queues c.self.inside.queues
-    c.self.inside.limiter c.self.inside.limiter c.self.inside.stopped c.self.inside.stopped c.self.invariant
-    c.rest.ensures.fixed
+    c.self.inside.limiter c.self.inside.limiter c.self.inside.next c.args.to c.self.inside.stopped
+    c.self.inside.stopped c.self.invariant c.rest.ensures.fixed
     (ap length c.rest.ensures.states ∙ length-idle (map g.R.Rank.machine c.self.inside.ranks.fixed) (length c.self.inside.ranks.fixed) c.self.inside.ranks.states) refl refl
-    refl refl c.self.invariant.holds
+    refl refl
+    (arrived_later c.self.inside.next c.args.to c.self.inside.queues.lists (omega arith) c.self.invariant.arrived)
+    c.self.invariant.holds
 
 pub returns-clause-slots : goal.returns-clause-slots
 returns-clause-slots g c =

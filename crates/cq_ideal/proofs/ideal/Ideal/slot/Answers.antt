@@ -1,16 +1,18 @@
-use Rattle.std.proofs.Common.{ℕ, ◌+◌, ◌≤◌, List, [], length, get_or, map, sym, ap, ◌∙◌, subst, arith}
+use Rattle.std.proofs.Common.{◌≡◌, ℕ, ◌+◌, ◌≤◌, List, [], length, get_or, map, sym, ap, ◌∙◌, subst, arith}
 use Rattle.std.specs.Prelude.{Bool}
 use Rattle.cq_rank.specs.Switch.{class_count}
 use Rattle.cq_ideal.specs.Admission.{admitted, marked, refused}
 use Rattle.cq_ideal.specs.Ideal.{IdealSwitch, answer_to}
-use Rattle.cq_ideal.specs.IdealSlot.{IdealState}
+use Rattle.cq_ideal.specs.IdealSlot.{IdealState, rests}
+use Rattle.cq_ideal.specs.Parts.{HaveArrived}
 use Rattle.cq_ideal.specs.Ranking.{AreForPorts, Ranking}
 use Rattle.cq_ideal.specs.Refused.{with_refused}
 use Rattle.cq_ideal.proofs.Admitted.{admitted_for_ports}
 use Rattle.cq_ideal.proofs.Came.{came_to_ports}
 use Rattle.cq_ideal.proofs.Holding.{holds_filled}
 use Rattle.cq_ideal.proofs.Spare.{came_for, length-filled, spare_follows}
-use Rattle.cq_ideal.proofs.Slot.{admitted_ok, admitted_room, can_count, come_to_ports, done, fixed_is, holds, limited_fault, limited_ok, lists_are, nothing_done, numbers_fit, ports_are, ports_few, room_for_came, rooms_are, same_state}
+use Rattle.cq_ideal.proofs.OwnKeys.{arrived_next, own_keys}
+use Rattle.cq_ideal.proofs.Slot.{admitted_ok, admitted_room, arrived_are, can_count, come_to_ports, done, fixed_is, holds, limited_fault, limited_ok, lists_are, nothing_done, numbers_fit, ports_are, ports_few, room_for_came, rooms_are, same_state}
 use Rattle.cq_ideal.proofs.TakenIn.{fit_same}
 use Rattle.cq_ideal.proofs.ideal.Ideal.slot.Goals as goal
 
@@ -83,6 +85,16 @@ arrive-requires-clause-room g c =
     c.self.inside.ranks c.self.inside.queues c.self.inside.limiter c.self.inside.next c.self.inside.stopped
     c.self.view_is c.self.invariant c.requires.running c.judge.new.self.marks c.requires.spare)
 
+pub arrive-requires-clause-keys : goal.arrive-requires-clause-keys
+arrive-requires-clause-keys g c =
+    let came : Ranking = record { came = c.take.new.came; ranks = c.take.new.self.states } in
+    let cells = admitted c.judge.new.self.marks c.args.arrivals.now in
+    own_keys (map g.R.Rank.machine c.self.inside.ranks.fixed) c.args.slot cells c.self.inside.ranks.states came
+    c.in_default.ensures.came c.self.inside.queues.lists
+    (arrived_are g.R.Rank.machine c.args.arrivals.now c.args.self.now c.self.inside.ranks c.self.inside.queues
+    c.self.inside.limiter c.self.inside.next c.self.inside.stopped c.self.view_is c.self.invariant
+    c.requires.running c.args.slot c.requires.next)
+
 pub send-requires-clause-fit : goal.send-requires-clause-fit
 send-requires-clause-fit g c =
     fit_same g.R.Rank.machine c.self.inside.ranks c.take.new.self c.self.inside.queues c.arrive.new.self
@@ -105,6 +117,32 @@ send-requires-clause-holds g c =
     (λ j inside. ap (λ (l : List ℕ). get_or l j 0) held ∙ c.judge.ensures.held j inside)
     (came_for (map g.R.Rank.machine c.self.inside.ranks.fixed) c.args.slot cells c.self.inside.ranks.states came
     c.in_default.ensures.came)
+
+pub invariant_of-self-2 : goal.invariant_of-self-2
+invariant_of-self-2 g c =
+    let came : Ranking = record { came = c.take.new.came; ranks = c.take.new.self.states } in
+    let cells = admitted c.judge.new.self.marks c.args.arrivals.now in
+    let ms = map g.R.Rank.machine c.self.inside.ranks.fixed in
+    let ports : length (map g.R.Rank.machine c.send.new.ranks.fixed) ≡ length ms =
+    ap (λ (f : List (List ℕ)). length (map g.R.Rank.machine f)) (c.send.ensures.fixed ∙ c.take.ensures.fixed) in
+    let judged = ap length c.judge.ensures.limits in
+    let limits = ap length (c.send.ensures.limits ∙ c.count.ensures.limits) in
+    let marks = ap length (c.send.ensures.marks ∙ c.count.ensures.marks) in
+    let each = c.judge.ensures.ports.marks in
+    let had = c.self.invariant.limits in
+    record {
+      fit = c.send.ensures.fit;
+      limits = omega arith;
+      marks = omega arith;
+      arrived =
+          subst (HaveArrived (c.args.slot + 1)) (sym (c.send.ensures.lists ∙ ap rests c.arrive.ensures.lists))
+          (arrived_next ms c.args.slot cells c.self.inside.ranks.states came c.in_default.ensures.came
+          c.self.inside.queues.lists
+          (arrived_are g.R.Rank.machine c.args.arrivals.now c.args.self.now c.self.inside.ranks c.self.inside.queues
+          c.self.inside.limiter c.self.inside.next c.self.inside.stopped c.self.view_is c.self.invariant
+          c.requires.running c.args.slot c.requires.next));
+      holds = λ _. c.send.ensures.holds;
+    }
 
 pub returns-in-Err-clause-answer : goal.returns-in-Err-clause-answer
 returns-in-Err-clause-answer g c = sym (ap answer_to (limited_fault g.R.Rank.machine c.args.arrivals.now

@@ -1,11 +1,19 @@
-use Rattle.std.proofs.Common.{◌+◌, List, length, sym, ap, ◌∙◌, subst, arith}
+use Rattle.std.proofs.Common.{◌≡◌, ◌+◌, List, length, sym, ap, ◌∙◌, subst, arith}
 use Rattle.std.specs.Prelude.{Bool}
 use Rattle.cq_base.specs.Arrivals.{arrival_at}
-use Rattle.cq_ideal.specs.Admission.{mark_at}
+use Rattle.cq_ideal.specs.Admission.{mark_at, refused}
 use Rattle.cq_ideal.specs.Limiter.{where_up}
-use Rattle.cq_ideal.proofs.Counting.{Counting, can_count_one, counting_first, counting_last, counting_none, counting_some}
+use Rattle.cq_ideal.specs.declared.refused.Refused.{Refused}
+use Rattle.cq_ideal.proofs.Counting.{Counting, can_count_one, counting_first, counting_last, counting_none, counting_some, nothing_to_count}
 use Rattle.cq_ideal.proofs.limiter.Limiter.count.Goals as goal
 use Rattle.cq_ideal.proofs.limiter.Limiter.count.Goals.{in-Some, in-None}
+
+pub returns-then-counts-eq0-clause-refused : goal.returns-then-counts-eq0-clause-refused
+returns-then-counts-eq0-clause-refused c =
+    let same = ap (λ (counts : List Refused). length counts) c.refused-counts.ensures in
+    let is = c.if-counts-eq0.true in
+    let none : length c.args.self.now.refused ≡ 0 = omega arith in
+    nothing_to_count (refused c.args.self.now.marks c.args.arrivals.now) c.args.self.now.refused none
 
 pub inputs-init : goal.inputs-init
 inputs-init c = counting_first c.args.arrivals.now c.args.self.now c.requires.refused

@@ -1,0 +1,5 @@
+use Rattle.cq_ideal.proofs.UsedPlaces.{none_used}
+use Rattle.cq_ideal.proofs.newcomers.Newcomers.none.Goals as goal
+
+pub invariant_of-result : goal.invariant_of-result
+invariant_of-result c = none_used 0 c.nobody.result c.nobody.ensures

@@ -1,0 +1,84 @@
+//! What came to the inputs in a slot.
+ghost use Rattle.std.specs.Prelude.{◌≡◌, ◌<◌, ◌≤◌, ℕ, None, length, replicate, slice_index_or, slice_set};
+
+use cq_base::{Port, Queued};
+use std::marker::Model;
+
+/// The cell that came to each input in a slot, with its key, if one came: in places that are filled anew for the next
+/// slot, so that no array is made or copied in a slot. Contracts see the 64 places.
+///
+/// It keeps below which input cells may stand.
+#[derive(Drop)]
+pub struct Newcomers {
+    places: [Option<Queued>; 64],
+    used: u16,
+}
+
+impl Model for Newcomers {
+    ghost use Rattle.std.specs.Prelude.{List, Option};
+    ghost use Rattle.cq_base.specs.declared.cell.Queued.{Queued};
+    ghost use Rattle.cq_ideal.specs.Newcomers.{AreUsed};
+
+    ghost Value = { List (Option Queued) };
+
+    ghost view = { λ a. a.places };
+
+    ghost invariant = { λ a. AreUsed a.used a.places };
+}
+
+// No cell in any of 64 places.
+fn nobody() -> [Option<Queued>; 64]
+    ensures { result ≡ replicate 64 None }
+{
+    [None; 64]
+}
+
+// The same in these places. It is made apart from all callers, so that none of them has room for it on its stack.
+#[inline(never)]
+fn clear(places: &mut [Option<Queued>; 64])
+    ensures { places.new ≡ replicate 64 None }
+{
+    *places = nobody();
+}
+
+impl Newcomers {
+    /// No cell came to any input.
+    pub fn none() -> Newcomers
+        ensures { result ≡ replicate 64 None }
+    {
+        Newcomers {
+            places: nobody(),
+            used: 0,
+        }
+    }
+
+    /// The cell that came to an input, if one did.
+    pub fn at(&self, input: usize) -> Option<Queued>
+        requires { input < 64 }
+        ensures { result ≡ slice_index_or self.now input None }
+    {
+        self.places[input]
+    }
+
+    // The places of so many inputs are to be filled. No cell stands behind them.
+    pub(crate) fn begin(&mut self, inputs: u16)
+        ensures long { length self.new ≡ 64 }
+        ensures beyond { (k : ℕ) → inputs ≤ k → slice_index_or self.new k None ≡ None }
+    {
+        if self.used <= inputs {
+            return;
+        }
+        clear(&mut self.places);
+        self.used = 0;
+    }
+
+    // A cell comes to an input, or none does, in place of what was there.
+    pub(crate) fn put(&mut self, input: Port, queued: Option<Queued>)
+        requires { input < 64 }
+        ensures { self.new ≡ slice_set self.old input queued }
+    {
+        self.places[input as usize] = queued;
+        let used = self.used.max(input + 1);
+        self.used = used;
+    }
+}
