@@ -19,7 +19,9 @@ of_nil : (cells : List Queued) → cells ≡ [] → none_in cells ≡ true
 unfolding none_in
 of_nil cells e = eq-eqb (length cells) 0 (ap length e)
 
-pub none_in_any : {X : Type 0} (cells_of : X → List Queued) (items : List X) (lists : List (List Queued)) (b : Bool) → b ≡ list_all (λ x. eqb (length (cells_of x)) 0) items → map cells_of items ≡ lists → IsTrue b ↔ All (λ cells. cells ≡ []) lists
+pub none_in_any : {X : Type 0} (cells_of : X → List Queued) (items : List X) (lists : List (List Queued)) (b : Bool) →
+    b ≡ list_all (λ x. eqb (length (cells_of x)) 0) items → map cells_of items ≡ lists →
+    IsTrue b ↔ All (λ cells. cells ≡ []) lists
 unfolding none_in
 none_in_any cells_of items lists b e l =
     let is : b ≡ list_all none_in lists = e ∙ sym (list_all-map none_in cells_of items) ∙ ap (list_all none_in) l in (

@@ -1,6 +1,6 @@
--- Cells that come into an empty list or an empty buffer in the order in which they are to stand. Each finds those ahead of it
--- alone: in a list all more urgent cells for its output stand there, and no less urgent one, so that it goes in at the end; in a
--- buffer all have lesser keys.
+-- Cells that come into an empty list or an empty buffer in the order in which they are to stand. Each finds those
+-- ahead of it alone: in a list all more urgent cells for its output stand there, and no less urgent one, so that it
+-- goes in at the end; in a buffer all have lesser keys.
 use Rattle.std.proofs.Common.{◌≡◌, ◌≢◌, ℕ, ◌+◌, ◌<◌, ◌^◌, cond, Bool, false, List, [], ◌∷◌, ◌++◌, length, map, get_or, take, drop, replicate, Some, refl, sym, ap, ◌∙◌, subst, ⊎_elim, arith}
 use Rattle.std.specs.Prelude.{◌&&◌, All, insert, slice_get}
 use Rattle.std.specs.List.{AllByRecursion}
@@ -96,7 +96,8 @@ module _ (outputs most : ℕ) (cells : List Queued) (wait : CanWait outputs most
   comes_last =
       goes_last at (get_or cells at d) w.cells long
       (subst
-      (AllByRecursion (λ (x : Queued). x.cell.output ≡ (get_or cells at d).cell.output → IsBefore x (get_or cells at d)))
+      (AllByRecursion
+      (λ (x : Queued). x.cell.output ≡ (get_or cells at d).cell.output → IsBefore x (get_or cells at d)))
       (sym so_far)
       (before_place (λ a b. a.cell.output ≡ b.cell.output → IsBefore a b) cells at d inside wait.order))
       ∙ ap (λ (l : List Queued). l ++ get_or cells at d ∷ []) so_far
@@ -192,7 +193,9 @@ one_stored sizes cells n buffers more b so_far is inside as_many here room one =
           ∙ ap (λ (l : List ℕ). l ++ buffer_room b ∷ []) so_far.rooms
           ∙ ap (λ (r : ℕ). take n sizes ++ r ∷ []) room
           ∙ sym (take_more sizes n 0 inside);
-      few = subst (All few) (sym (take_more sizes n 0 inside)) (All-push few (take n sizes) (get_or sizes n 0) so_far.few one);
+      few =
+          subst (All few) (sym (take_more sizes n 0 inside))
+          (All-push few (take n sizes) (get_or sizes n 0) so_far.few one);
     }
 
 -- ## What waits

@@ -1,5 +1,5 @@
--- How many cells for an output there are. An arrival brings one more, a transfer moves one from the inputs to the output's
--- buffer, and a departure takes one away. So it is in each slot with stable matchings, whoever found them.
+-- How many cells for an output there are. An arrival brings one more, a transfer moves one from the inputs to the
+-- output's buffer, and a departure takes one away. So it is in each slot with stable matchings, whoever found them.
 use Rattle.std.proofs.Common.{◌≡◌, ℕ, zero, suc, ◌+◌, ◌≤◌, eqb, Bool, true, false, List, [], ◌∷◌, length, drop, Option, Some, None, refl, sym, ap, ◌∙◌, subst, ⊎_elim, arith}
 use Rattle.std.specs.Prelude.{if◌then◌else◌, is_some, filter, insert}
 use Rattle.std.proofs.Math.ListN.{get_or-map}
@@ -42,7 +42,8 @@ comes j (Some cell) = bit (eqb cell.output j)
 
 count_cons : (j : ℕ) (x : Queued) (xs : List Queued) → count j (x ∷ xs) ≡ bit (is_for j x) + count j xs
 count_cons j x xs =
-    cond_both (is_for j x) (x ∷ filter (is_for j) xs) (filter (is_for j) xs) (λ l. length l ≡ bit (is_for j x) + count j xs)
+    cond_both (is_for j x) (x ∷ filter (is_for j) xs) (filter (is_for j) xs)
+    (λ l. length l ≡ bit (is_for j x) + count j xs)
     (λ yes. let one : bit (is_for j x) ≡ 1 = ap bit yes in omega arith)
     (λ no. let none : bit (is_for j x) ≡ 0 = ap bit no in omega arith)
 
@@ -63,11 +64,13 @@ count_left j k (x ∷ xs) =
     (λ _. omega arith)
     (λ _. let a = count_cons j x (without_first k xs) in let rest = count_left j k xs in omega arith)
 
-count_without : (j : ℕ) (xs : List Queued) (c : Queued) → first_for j xs ≡ Some c → count j (without_first j xs) + 1 ≡ count j xs
+count_without : (j : ℕ) (xs : List Queued) (c : Queued) → first_for j xs ≡ Some c →
+    count j (without_first j xs) + 1 ≡ count j xs
 count_without j [] c h = absurd (let P : ⊥ = cc in P)
 count_without j (x ∷ xs) c h =
     let b = count_cons j x xs in
-    cond_both (is_for j x) xs (x ∷ without_first j xs) (λ l. (if is_for j x then Some x else first_for j xs) ≡ Some c → count j l + 1 ≡ count j (x ∷ xs))
+    cond_both (is_for j x) xs (x ∷ without_first j xs) (λ l. (if is_for j x then Some x else first_for j xs) ≡ Some c
+    → count j l + 1 ≡ count j (x ∷ xs))
     (λ yes f. let one : bit (is_for j x) ≡ 1 = ap bit yes in omega arith)
     (λ no f.
     let none : bit (is_for j x) ≡ 0 = ap bit no in
@@ -82,7 +85,9 @@ count_taken j (Some k) xs = count_left j k xs
 -- ## Sums over the inputs
 
 -- each list has no more than before, or one that arrives
-sum_comes : (j : ℕ) (new old : List (List Queued)) (cells : List (Option Cell)) → length new ≡ length old → ((i : ℕ) → count j (list_of new i) ≤ count j (list_of old i) + comes j (arrival_at cells i)) → waiting_for j new ≤ waiting_for j old + count_for j cells
+sum_comes : (j : ℕ) (new old : List (List Queued)) (cells : List (Option Cell)) → length new ≡ length old →
+    ((i : ℕ) → count j (list_of new i) ≤ count j (list_of old i) + comes j (arrival_at cells i)) →
+    waiting_for j new ≤ waiting_for j old + count_for j cells
 sum_comes j [] [] cells same each = omega arith
 sum_comes j [] (y ∷ old) cells same each = absurd (omega arith)
 sum_comes j (x ∷ new) [] cells same each = absurd (omega arith)
@@ -97,7 +102,8 @@ sum_comes j (x ∷ new) (y ∷ old) (Some c ∷ cells) same each =
     let rest = sum_comes j new old cells (omega arith) (λ i. each (suc i)) in omega arith
 
 -- each list has no more than before
-sum_most : (j : ℕ) (new old : List (List Queued)) → length new ≡ length old → ((i : ℕ) → count j (list_of new i) ≤ count j (list_of old i)) → waiting_for j new ≤ waiting_for j old
+sum_most : (j : ℕ) (new old : List (List Queued)) → length new ≡ length old →
+    ((i : ℕ) → count j (list_of new i) ≤ count j (list_of old i)) → waiting_for j new ≤ waiting_for j old
 sum_most j [] [] same each = omega arith
 sum_most j [] (y ∷ old) same each = absurd (omega arith)
 sum_most j (x ∷ new) [] same each = absurd (omega arith)
@@ -106,7 +112,9 @@ sum_most j (x ∷ new) (y ∷ old) same each =
     let rest = sum_most j new old (omega arith) (λ i. each (suc i)) in omega arith
 
 -- and one of them has one less
-sum_less : (j : ℕ) (new old : List (List Queued)) (k : ℕ) → length new ≡ length old → ((i : ℕ) → count j (list_of new i) ≤ count j (list_of old i)) → count j (list_of new k) + 1 ≤ count j (list_of old k) → waiting_for j new + 1 ≤ waiting_for j old
+sum_less : (j : ℕ) (new old : List (List Queued)) (k : ℕ) → length new ≡ length old →
+    ((i : ℕ) → count j (list_of new i) ≤ count j (list_of old i)) →
+    count j (list_of new k) + 1 ≤ count j (list_of old k) → waiting_for j new + 1 ≤ waiting_for j old
 sum_less j [] [] k same each less = absurd (omega arith)
 sum_less j [] (y ∷ old) k same each less = absurd (omega arith)
 sum_less j (x ∷ new) [] k same each less = absurd (omega arith)
@@ -118,13 +126,16 @@ sum_less j (x ∷ new) (y ∷ old) (suc k) same each less =
 
 -- ## The phases
 
-came_one : (f : Fabric) (j : ℕ) (came : Option Queued) (cell : Option Cell) (xs : List Queued) → ((c : Queued) → came ≡ Some c → cell ≡ Some c.cell) → count j (list_arrived f came xs) ≤ count j xs + comes j cell
+came_one : (f : Fabric) (j : ℕ) (came : Option Queued) (cell : Option Cell) (xs : List Queued) →
+    ((c : Queued) → came ≡ Some c → cell ≡ Some c.cell) → count j (list_arrived f came xs) ≤ count j xs + comes j cell
 came_one f j None cell xs is = omega arith
 came_one f j (Some c) cell xs is =
     let here = ap (comes j) (is c refl) in
     let more = count_insert j xs (place_of_arrival (cushion_of f c) c xs) c in omega arith
 
-longer_one : (f : Fabric) (came : Option Queued) (cell : Option Cell) (xs : List Queued) → ((c : Queued) → came ≡ Some c → cell ≡ Some c.cell) → length (list_arrived f came xs) ≤ length xs + bit (is_some cell)
+longer_one : (f : Fabric) (came : Option Queued) (cell : Option Cell) (xs : List Queued) →
+    ((c : Queued) → came ≡ Some c → cell ≡ Some c.cell) →
+    length (list_arrived f came xs) ≤ length xs + bit (is_some cell)
 longer_one f None cell xs is = omega arith
 longer_one f (Some c) cell xs is =
     let here : bit (is_some cell) ≡ 1 = ap (λ (o : Option Cell). bit (is_some o)) (is c refl) in
@@ -147,18 +158,24 @@ length_drop [] = omega arith
 length_drop (x ∷ xs) = omega arith
 
 -- an input whose partner is output j has a cell for it
-offered : (m : Partners) (f : Fabric) → IsMatching (orders_of f.inputs) m → (i j : ℕ) → partner_of m i ≡ Some j → HasCellFor (input f i) j
+offered : (m : Partners) (f : Fabric) → IsMatching (orders_of f.inputs) m → (i j : ℕ) → partner_of m i ≡ Some j →
+    HasCellFor (input f i) j
 offered m f matching i j p =
     let none : List Queued = [] in
-    ((is_output_order (input f i)).offered j).0 (subst (λ o. IsListed o j) (get_or-map output_order f.inputs i none) (matching.offered i j p))
+    ((is_output_order (input f i)).offered j).0
+    (subst (λ o. IsListed o j) (get_or-map output_order f.inputs i none) (matching.offered i j p))
 
-moved : (m : Partners) (old new : Fabric) → IsMatching (orders_of old.inputs) m → Transfers m old new → (j : ℕ) → held_for j new ≤ held_for j old
+moved : (m : Partners) (old new : Fabric) → IsMatching (orders_of old.inputs) m → Transfers m old new → (j : ℕ) →
+    held_for j new ≤ held_for j old
 moved m old new matching step j =
-    let each : (i : ℕ) → count j (input new i) ≤ count j (input old i) = λ i. let e = ap (count j) (step.moves.taken i) in let l = count_taken j (partner_of m i) (input old i) in omega arith in
+    let each : (i : ℕ) → count j (input new i) ≤ count j (input old i) =
+    λ i. let e = ap (count j) (step.moves.taken i) in let l = count_taken j (partner_of m i) (input old i) in
+    omega arith in
     ⊎_elim
     (λ r.
     let cell = offered m old matching r.0 j r.1 in
-    let given : length (buffer new j) ≡ length (put cell.0 (buffer old j)) = ap length (step.moves.given r.0 j cell.0 r.1 cell.1) in
+    let given : length (buffer new j) ≡ length (put cell.0 (buffer old j)) =
+    ap length (step.moves.given r.0 j cell.0 r.1 cell.1) in
     let longer = put_length cell.0 (buffer old j) in
     let here = ap (count j) (step.moves.taken r.0 ∙ ap (λ p. list_taken p (input old r.0)) r.1) in
     let one = count_without j (input old r.0) cell.0 cell.1 in
@@ -170,9 +187,12 @@ moved m old new matching step j =
     omega arith)
     (partner_or_free m j)
 
-module _ (ms : List Machine) (slot : ℕ) (cells : List (Option Cell)) (f g : Fabric) (r : SlotRecord) (step : FabricSlot IsStable ms slot cells f r g) where
+module _ (ms : List Machine) (slot : ℕ) (cells : List (Option Cell)) (f g : Fabric) (r : SlotRecord)
+    (step : FabricSlot IsStable ms slot cells f r g) where
   came_is : (i : ℕ) (c : Queued) → came_to r.came i ≡ Some c → arrival_at cells i ≡ Some c.cell
-  came_is i c is = (came_from ms slot 0 cells f.ranks (record { came = r.came; ranks = r.arrived.ranks }) step.arrive.ranked i c is).cell_is
+  came_is i c is =
+      (came_from ms slot 0 cells f.ranks (record { came = r.came; ranks = r.arrived.ranks }) step.arrive.ranked i c
+      is).cell_is
 
   pub lists_kept : (i : ℕ) → length (input g i) ≤ length (input f i) + bit (is_some (arrival_at cells i))
   lists_kept i =
@@ -187,7 +207,10 @@ module _ (ms : List Machine) (slot : ℕ) (cells : List (Option Cell)) (f g : Fa
 
   pub outputs_kept : (j : ℕ) → held_for j g ≤ held_for j f + count_for j cells
   outputs_kept j =
-      let came = sum_comes j r.arrived.inputs f.inputs cells step.arrive.ports (λ i. let e = ap (count j) (step.arrive.lists i) in let l = came_one f j (came_to r.came i) (arrival_at cells i) (input f i) (came_is i) in omega arith) in
+      let came =
+      sum_comes j r.arrived.inputs f.inputs cells step.arrive.ports (λ i.
+      let e = ap (count j) (step.arrive.lists i) in
+      let l = came_one f j (came_to r.came i) (arrival_at cells i) (input f i) (came_is i) in omega arith) in
       let same = ap (λ bs. length (list_of bs j)) step.arrive.buffers in
       let first = moved r.first r.arrived r.filled step.first_chosen.matching step.fill j in
       let lists = ap (waiting_for j) step.depart.inputs in
@@ -203,7 +226,8 @@ fewer true o = omega arith
 fewer false o = omega arith
 
 -- what is admitted is no more than what arrives
-admitted_bit : (limits : List (Option ℕ)) (held : List ℕ) (marks : List Bool) (cells : List (Option Cell)) (a : Admission) →
+admitted_bit : (limits : List (Option ℕ)) (held : List ℕ) (marks : List Bool) (cells : List (Option Cell))
+    (a : Admission) →
     a ≡ admission limits held marks cells → (i : ℕ) →
     bit (is_some (arrival_at a.cells i)) ≤ bit (is_some (arrival_at cells i))
 unfolding admission
@@ -214,7 +238,8 @@ admitted_bit limits held marks cells a is i =
     let less = fewer (mark_at after i) (arrival_at cells i) in
     omega arith
 
-admitted_count : (limits : List (Option ℕ)) (held : List ℕ) (marks : List Bool) (cells : List (Option Cell)) (a : Admission) →
+admitted_count : (limits : List (Option ℕ)) (held : List ℕ) (marks : List Bool) (cells : List (Option Cell))
+    (a : Admission) →
     a ≡ admission limits held marks cells → (j : ℕ) → count_for j a.cells ≤ count_for j cells
 unfolding admission
 admitted_count limits held marks cells a is j =

@@ -5,6 +5,7 @@ pub mod Newest
 pub mod Empty
 pub mod Rooms
 pub mod Kept
+pub mod Known
 pub mod Limits
 pub mod Told
 pub mod Slot

@@ -1,8 +1,8 @@
--- What the outputs of a fabric hold. Between two slots these are as many cells as the lists of an ideal switch have with which
--- the fabric agrees. So the numbers that a limiter keeps are followed through a slot by the lists of that switch: it takes in
--- the same cells and sends the same, and agrees again.
+-- What the outputs of a fabric hold. Between two slots these are as many cells as the lists of an ideal switch have
+-- with which the fabric agrees. So the numbers that a limiter keeps are followed through a slot by the lists of that
+-- switch: it takes in the same cells and sends the same, and agrees again.
 use Rattle.std.proofs.Common.{◌≡◌, ◌≢◌, ℕ, zero, suc, ◌+◌, ◌-◌, ◌<◌, ◌≤◌, ◌^◌, Bool, List, [], ◌∷◌, length, map, get_or, drop, replicate, Option, Some, None, Ok, refl, sym, ap, ◌∙◌, subst, arith, get_or-set_same, get_or-set_other, length-set}
-use Rattle.std.specs.Prelude.{IfSome, if◌then◌else◌, is_some, slice_get}
+use Rattle.std.specs.Prelude.{IfSome, slice_get}
 use Rattle.std.proofs.lemmas.List.{ext_get_or, get_or-map, get_or-replicate, length-map, length-replicate}
 use Rattle.std.proofs.lemmas.List.FromFn.{get_or-map-range_with_len, length-map-range_with_len}
 use Rattle.cq_base.specs.declared.cell.Cell.{Cell}
@@ -26,6 +26,7 @@ use Rattle.cq_laws.proofs.Held.{hold_as_many}
 use Rattle.cq_prefs.specs.FirstCells.{list_of}
 use Rattle.cq_fabric.specs.Held.{HoldsFabric}
 use Rattle.cq_fabric.specs.Queues.{Queues, fabric_of}
+use Rattle.cq_fabric.proofs.Known.{AreRanked, BuffersHaveRoom, HaveJudged, HaveReleased, bit}
 
 pub held_long : (f : Fabric) → length (fabric_held f) ≡ length f.inputs
 unfolding fabric_held
@@ -60,7 +61,8 @@ holds_first n ranks q l inputs buffers limits held =
           (ap length held ∙ length-replicate n 0 ∙ sym (held_long f ∙ long))
           (λ j inside.
           let size = ap length held ∙ length-replicate n 0 in
-          let was : get_or l.held j 0 ≡ 0 = ap (λ (h : List ℕ). get_or h j 0) held ∙ get_or-replicate n j 0 0 (omega arith) in
+          let was : get_or l.held j 0 ≡ 0 =
+          ap (λ (h : List ℕ). get_or h j 0) held ∙ get_or-replicate n j 0 0 (omega arith) in
           let now = held_at f j (omega arith) in
           let waits = ap (waiting_for j) inputs ∙ nothing_for j n in
           let stands = ap (λ (b : List (List Queued)). length (get_or b j none)) buffers ∙ nothing_in j n in
@@ -71,8 +73,7 @@ holds_first n ranks q l inputs buffers limits held =
 
 -- the numbers of cells that outputs hold stay below 2^64 where their buffers have room for all that wait or come
 pub numbers_fit : (q : Queues) (ranks : List (List ℕ)) (l : LimiterView) (cells : List (Option Cell)) →
-    HoldsFabric (fabric_of q ranks) l →
-    ((j : ℕ) → j < length q.inputs → waiting_for j q.inputs + count_for j cells ≤ get_or q.to_outputs j 0 - length (list_of q.buffers j)) →
+    HoldsFabric (fabric_of q ranks) l → BuffersHaveRoom (length q.inputs) q cells →
     ((j : ℕ) → length (list_of q.buffers j) ≤ get_or q.to_outputs j 0) → ((j : ℕ) → get_or q.to_outputs j 0 < 2 ^ 64) →
     (j : ℕ) → j < length l.limits → get_or l.held j 0 + count_for j cells < 2 ^ 64
 numbers_fit q ranks l cells holds room within top j inside =
@@ -84,10 +85,10 @@ numbers_fit q ranks l cells holds room within top j inside =
     omega arith
 
 -- what is admitted finds room where all that comes does
-pub admitted_room : (q : Queues) (marks : List Bool) (cells : List (Option Cell)) (j : ℕ) →
-    waiting_for j q.inputs + count_for j cells ≤ get_or q.to_outputs j 0 - length (list_of q.buffers j) →
-    waiting_for j q.inputs + count_for j (admitted marks cells) ≤ get_or q.to_outputs j 0 - length (list_of q.buffers j)
-admitted_room q marks cells j room =
+pub admitted_room : (ports : ℕ) (q : Queues) (marks : List Bool) (cells : List (Option Cell)) →
+    BuffersHaveRoom ports q cells → BuffersHaveRoom ports q (admitted marks cells)
+admitted_room ports q marks cells room j inside =
+    let had = room j inside in
     let split = each_once j marks cells in
     omega arith
 
@@ -111,9 +112,6 @@ holds_fabric : (slot : ℕ) (f : Fabric) (ideal : IdealState) (l : LimiterView) 
     HoldsLists ideal.lists l → HoldsFabric f l
 holds_fabric slot f ideal l agrees holds =
     record { ports = holds.ports ∙ agrees.ports; held = holds.held ∙ sym (hold_as_many slot f ideal agrees) }
-
-abbrev pub bit : Option Queued → ℕ
-bit gone = if is_some gone then 1 else 0
 
 one_less : (xs : List Queued) (n : ℕ) → n + bit (slice_get xs 0) ≡ length xs → n ≡ length (drop 1 xs)
 one_less [] n e = omega arith
@@ -179,28 +177,32 @@ sends_are ms slot cells ideal r gone next ranked sent =
 
 -- ## A slot
 
-module _ (ms : List Machine) (slot : ℕ) (cells : List (Option Cell)) (f g : Fabric) (ideal : IdealState)
-    (came gone : List (Option Queued)) (ranks : List (List ℕ)) (agrees : Agrees slot f ideal)
-    (ranked : ranking ms slot 0 cells f.ranks ≡ Ok (record { came = came; ranks = ranks }))
-    (alike : SendsAlike ms slot cells ideal gone g) (first judged after : LimiterView) (holds : HoldsFabric f first) where
+module _ {ms : List Machine} {slot : ℕ} {q : Queues} {ranks : List (List ℕ)} {cells : List (Option Cell)}
+    {classes : ℕ} {came : List (Option Queued)} {ranks' : List (List ℕ)}
+    (known : AreRanked ms slot q ranks cells classes came ranks') where
   full : List (List Queued)
-  full = filled came ideal.lists
+  full = filled came known.ideal.lists
 
-  ideally : ranking ms slot 0 cells ideal.ranks ≡ Ok (record { came = came; ranks = ranks })
-  ideally = ap (λ (r : List (List ℕ)). ranking ms slot 0 cells r) (sym agrees.ranks) ∙ ranked
+  ideally : ranking ms slot 0 cells known.ideal.ranks ≡ Ok (record { came = came; ranks = ranks' })
+  ideally = ap (λ (r : List (List ℕ)). ranking ms slot 0 cells r) (sym known.agrees.ranks) ∙ known.ranked
 
   -- the outputs hold what the fabric has at the end of the slot
-  pub still_holds : judged.limits ≡ first.limits → length judged.held ≡ length first.limits →
-      ((j : ℕ) → j < length first.limits → get_or judged.held j 0 ≡ get_or first.held j 0 + count_for j cells) →
-      after.limits ≡ judged.limits → length after.held ≡ length judged.held →
-      ((j : ℕ) → get_or after.held j 0 + bit (came_to gone j) ≡ get_or judged.held j 0) → HoldsFabric g after
+  pub still_holds : (gone : List (Option Queued)) (g : Fabric) (before judged after : LimiterView) →
+      SendsAlike ms slot cells known.ideal gone g → HoldsFabric (fabric_of q ranks) before →
+      HaveJudged cells before judged → HaveReleased gone judged after → HoldsFabric g after
   unfolding full
-  still_holds limits long more kept as_long less =
-      let sends = sends_are ms slot cells ideal (record { came = came; ranks = ranks }) gone alike.next ideally alike.sent in
+  still_holds gone g before judged after alike holds judges releases =
+      let ranked : Ranking = record { came = came; ranks = ranks' } in
+      let sends = sends_are ms slot cells known.ideal ranked gone alike.next ideally alike.sent in
       let now : HoldsLists full judged =
-      holds_filled came cells ideal.lists full first judged (holds_ideal slot f ideal first agrees holds) refl limits long
-      more (came_for ms slot cells f.ranks (record { came = came; ranks = ranks }) ranked) in
+      holds_filled came cells known.ideal.lists full before judged
+      (holds_ideal slot (fabric_of q ranks) known.ideal before known.agrees holds) refl judges.limits judges.as_many
+      judges.more (came_for ms slot cells ranks ranked known.ranked) in
       let left : HoldsLists (rests full) after =
-      holds_rests full judged after now kept as_long
-      (λ j. let e = ap (λ (l : List (Option Queued)). bit (came_to l j)) sends.0 in let n = less j in omega arith) in
-      holds_fabric (slot + 1) g alike.next after alike.agrees (subst (λ (l : List (List Queued)). HoldsLists l after) sends.1 left)
+      holds_rests full judged after now releases.limits releases.as_many
+      (λ j.
+      let e = ap (λ (l : List (Option Queued)). bit (came_to l j)) sends.0 in
+      let n = releases.less j in
+      omega arith) in
+      holds_fabric (slot + 1) g alike.next after alike.agrees
+      (subst (λ (l : List (List Queued)). HoldsLists l after) sends.1 left)

@@ -1,5 +1,5 @@
--- Lists and buffers with their rooms. A cell that goes into a list takes the room that the list has for it, and a cell that
--- leaves gives it back, so that no list and no buffer can hold more cells, or fewer, than before.
+-- Lists and buffers with their rooms. A cell that goes into a list takes the room that the list has for it, and a
+-- cell that leaves gives it back, so that no list and no buffer can hold more cells, or fewer, than before.
 use Rattle.std.proofs.Common.{◌≡◌, ℕ, zero, suc, ◌+◌, ◌<◌, ◌≤◌, cond, List, [], ◌∷◌, ◌++◌, length, map, get_or, take, drop, Option, Some, None, refl, sym, ap, ◌∙◌, subst, ⊎_elim, arith, replicate}
 use Rattle.std.specs.Prelude.{is_some, slice_get}
 use Rattle.std.proofs.Math.ListN.{get_or-map}
@@ -23,12 +23,21 @@ use Rattle.cq_laws.proofs.Members.{among_at, first_at}
 use Rattle.cq_fabric.specs.Queues.{Queues, FitLists, KeysApart, CanCross, FitEach, AreSquare, list_room, buffer_room, fabric_of, no_list, list_at, list_with, front_of, popped}
 
 -- what a slice of a vector leaves of the vector
-pub whole : {X : Type 0} (n : ℕ) (xs old : List X) → n ≡ length xs → length old ≡ length xs → take n (xs ++ drop (length xs) old) ≡ xs
-whole n xs old size same = ap (λ l. take n (xs ++ l)) (drop_all (length xs) old (omega arith)) ∙ ap (take n) (append-nil xs) ∙ take_all n xs (omega arith)
+pub whole : {X : Type 0} (n : ℕ) (xs old : List X) → n ≡ length xs → length old ≡ length xs →
+    take n (xs ++ drop (length xs) old) ≡ xs
+whole n xs old size same =
+    ap (λ l. take n (xs ++ l)) (drop_all (length xs) old (omega arith)) ∙ ap (take n) (append-nil xs)
+    ∙ take_all n xs (omega arith)
 
 -- what clauses see of these lists and buffers
 abbrev pub shown : List Waiting → List Buffered → Queues
-shown lists buffers = record { inputs = cells_of lists; buffers = cells_in buffers; from_inputs = map list_room lists; to_outputs = map buffer_room buffers }
+shown lists buffers =
+    record {
+      inputs = cells_of lists;
+      buffers = cells_in buffers;
+      from_inputs = map list_room lists;
+      to_outputs = map buffer_room buffers;
+    }
 
 no_buffer : Buffered
 no_buffer = record { cells = []; spare = 0 }
@@ -49,7 +58,8 @@ cells_in-at : (buffers : List Buffered) (j : ℕ) → list_of (cells_in buffers)
 unfolding buffer_at no_buffer
 cells_in-at buffers j = get_or-map (λ (b : Buffered). b.cells) buffers j no_buffer
 
-buffer_room-at : (buffers : List Buffered) (j : ℕ) → get_or (map buffer_room buffers) j 0 ≡ buffer_room (buffer_at buffers j)
+buffer_room-at : (buffers : List Buffered) (j : ℕ) →
+    get_or (map buffer_room buffers) j 0 ≡ buffer_room (buffer_at buffers j)
 unfolding buffer_at no_buffer
 buffer_room-at buffers j = get_or-map (λ (b : Buffered). length b.cells + b.spare) buffers j no_buffer
 
@@ -58,11 +68,21 @@ unfolding buffer_at no_buffer
 buffer_spare-at buffers j = get_or-map (λ (b : Buffered). b.spare) buffers j no_buffer
 
 -- a room is what waits and what is spare
-list_room-is : (lists : List Waiting) (i : ℕ) → get_or (map list_room lists) i 0 ≡ length (list_of (cells_of lists) i) + list_spare lists i
-list_room-is lists i = let r = room-at lists i in let c = ap length (cells-at lists i) in let s = list_spare-at lists i in omega arith
+list_room-is : (lists : List Waiting) (i : ℕ) →
+    get_or (map list_room lists) i 0 ≡ length (list_of (cells_of lists) i) + list_spare lists i
+list_room-is lists i =
+    let r = room-at lists i in
+    let c = ap length (cells-at lists i) in
+    let s = list_spare-at lists i in
+    omega arith
 
-buffer_room-is : (buffers : List Buffered) (j : ℕ) → get_or (map buffer_room buffers) j 0 ≡ length (list_of (cells_in buffers) j) + buffer_spare buffers j
-buffer_room-is buffers j = let r = buffer_room-at buffers j in let c = ap length (cells_in-at buffers j) in let s = buffer_spare-at buffers j in omega arith
+buffer_room-is : (buffers : List Buffered) (j : ℕ) →
+    get_or (map buffer_room buffers) j 0 ≡ length (list_of (cells_in buffers) j) + buffer_spare buffers j
+buffer_room-is buffers j =
+    let r = buffer_room-at buffers j in
+    let c = ap length (cells_in-at buffers j) in
+    let s = buffer_spare-at buffers j in
+    omega arith
 
 pub get_or_same : {X : Type 0} (xs : List X) (i : ℕ) (d e : X) → i < length xs → get_or xs i d ≡ get_or xs i e
 get_or_same [] i d e l = absurd (omega arith)
@@ -71,7 +91,8 @@ get_or_same (x ∷ xs) (suc i) d e l = get_or_same xs i d e (omega arith)
 
 -- ## Arrivals
 
-pub fit_each : (lists : List Waiting) (buffers : List Buffered) (came : List (Option Queued)) (n : ℕ) → AreSquare lists buffers n → FitLists came (shown lists buffers) → FitEach (cells_in buffers) came lists
+pub fit_each : (lists : List Waiting) (buffers : List Buffered) (came : List (Option Queued)) (n : ℕ) →
+    AreSquare lists buffers n → FitLists came (shown lists buffers) → FitEach (cells_in buffers) came lists
 fit_each lists buffers came n square fit i c inside is =
     let f = fit i c is in
     let room = f.room in
@@ -87,18 +108,23 @@ fit_each lists buffers came n square fit i c inside is =
       output = omega arith;
       room = omega arith;
       other_key = subst (HasOtherKey c) (cells-at lists i) f.other_key;
-      ahead = subst (MoreUrgentAhead (cushion c.key (list_of (cells_in buffers) c.cell.output)) c) (cells-at lists i) f.ahead;
+      ahead =
+          subst (MoreUrgentAhead (cushion c.key (list_of (cells_in buffers) c.cell.output)) c) (cells-at lists i)
+          f.ahead;
     }
 
-cells_with : (lists : List Waiting) (buffers : List Buffered) (came : Option Queued) (w : Waiting) → (list_with (cells_in buffers) came w).cells ≡ list_arrived (fabric_of (shown lists buffers) []) came w.cells
+cells_with : (lists : List Waiting) (buffers : List Buffered) (came : Option Queued) (w : Waiting) →
+    (list_with (cells_in buffers) came w).cells ≡ list_arrived (fabric_of (shown lists buffers) []) came w.cells
 cells_with lists buffers None w = refl
 cells_with lists buffers (Some c) w = refl
 
-outputs_with : (buffers : List (List Queued)) (came : Option Queued) (w : Waiting) → (list_with buffers came w).outputs ≡ w.outputs
+outputs_with : (buffers : List (List Queued)) (came : Option Queued) (w : Waiting) →
+    (list_with buffers came w).outputs ≡ w.outputs
 outputs_with buffers None w = refl
 outputs_with buffers (Some c) w = refl
 
-room_with : (buffers : List (List Queued)) (came : Option Queued) (w : Waiting) → ((c : Queued) → came ≡ Some c → 0 < w.spare) → list_room (list_with buffers came w) ≡ list_room w
+room_with : (buffers : List (List Queued)) (came : Option Queued) (w : Waiting) →
+    ((c : Queued) → came ≡ Some c → 0 < w.spare) → list_room (list_with buffers came w) ≡ list_room w
 room_with buffers None w spare = refl
 room_with buffers (Some c) w spare =
     let some = spare c refl in
@@ -106,48 +132,70 @@ room_with buffers (Some c) w spare =
     let place : place_of_arrival x c w.cells ≤ length w.cells = omega arith in
     let longer = length-insert w.cells (place_of_arrival x c w.cells) c place in omega arith
 
-module _ (lists : List Waiting) (buffers : List Buffered) (came : List (Option Queued)) (n : ℕ) (square : AreSquare lists buffers n) (fit : FitLists came (shown lists buffers)) (lists' : List Waiting) (long : length lists' ≡ length lists) (with : (i : ℕ) → i < length lists → list_at lists' i ≡ list_with (cells_in buffers) (came_to came i) (list_at lists i)) where
+-- the cells that came went into these lists, which fit
+pub record HaveCome (lists : List Waiting) (buffers : List Buffered) (came : List (Option Queued)) (n : ℕ)
+    (lists' : List Waiting) : Type 0 where
+  pub square : AreSquare lists buffers n
+  pub fit : FitLists came (shown lists buffers)
+  pub long : length lists' ≡ length lists
+  pub each : (i : ℕ) → i < length lists →
+      list_at lists' i ≡ list_with (cells_in buffers) (came_to came i) (list_at lists i)
+
+module _ {lists : List Waiting} {buffers : List Buffered} {came : List (Option Queued)} {n : ℕ} {lists' : List Waiting}
+    (known : HaveCome lists buffers came n lists') where
   nobody_past : (i : ℕ) → length lists ≤ i → (o : Option Queued) → came_to came i ≡ o → o ≡ None
   nobody_past i past None is = refl
-  nobody_past i past (Some c) is = let l = (fit i c is).inside in let e = length-map lists (λ (w : Waiting). w.cells) in absurd (omega arith)
+  nobody_past i past (Some c) is =
+      let l = (known.fit i c is).inside in
+      let e = length-map lists (λ (w : Waiting). w.cells) in
+      absurd (omega arith)
 
-  pub arrived_cells : (i : ℕ) → list_of (cells_of lists') i ≡ list_arrived (fabric_of (shown lists buffers) []) (came_to came i) (list_of (cells_of lists) i)
+  pub arrived_cells : (i : ℕ) →
+      list_of (cells_of lists') i
+      ≡ list_arrived (fabric_of (shown lists buffers) []) (came_to came i) (list_of (cells_of lists) i)
   arrived_cells i =
       ⊎_elim
       (λ l.
-      cells-at lists' i ∙ ap (λ (w : Waiting). w.cells) (with i l) ∙ cells_with lists buffers (came_to came i) (list_at lists i)
+      cells-at lists' i ∙ ap (λ (w : Waiting). w.cells) (known.each i l)
+      ∙ cells_with lists buffers (came_to came i) (list_at lists i)
       ∙ ap (list_arrived (fabric_of (shown lists buffers) []) (came_to came i)) (sym (cells-at lists i)))
       (λ past.
-      get_or_past (cells_of lists') i [] (let e = length-map lists' (λ (w : Waiting). w.cells) in omega arith)
+      get_or_past (cells_of lists') i []
+      (let e = length-map lists' (λ (w : Waiting). w.cells) in let long = known.long in omega arith)
       ∙ sym (get_or_past (cells_of lists) i [] (let e = length-map lists (λ (w : Waiting). w.cells) in omega arith))
-      ∙ ap (λ o. list_arrived (fabric_of (shown lists buffers) []) o (list_of (cells_of lists) i)) (sym (nobody_past i past (came_to came i) refl)))
+      ∙ ap (λ o. list_arrived (fabric_of (shown lists buffers) []) o (list_of (cells_of lists) i))
+      (sym (nobody_past i past (came_to came i) refl)))
       (cases_lt i (length lists))
 
   pub arrived_rooms : map list_room lists' ≡ map list_room lists
   arrived_rooms =
       ext_get_or 0 (map list_room lists') (map list_room lists)
-      (length-map lists' (λ (w : Waiting). length w.cells + w.spare) ∙ long ∙ sym (length-map lists (λ (w : Waiting). length w.cells + w.spare)))
+      (length-map lists' (λ (w : Waiting). length w.cells + w.spare) ∙ known.long
+      ∙ sym (length-map lists (λ (w : Waiting). length w.cells + w.spare)))
       (λ i l.
-      let inside : i < length lists = let e = length-map lists' (λ (w : Waiting). length w.cells + w.spare) in omega arith in
-      room-at lists' i ∙ ap (λ (w : Waiting). length w.cells + w.spare) (with i inside)
-      ∙ room_with (cells_in buffers) (came_to came i) (list_at lists i) (λ c is. (fit_each lists buffers came n square fit i c inside is).room)
+      let inside : i < length lists =
+      let e = length-map lists' (λ (w : Waiting). length w.cells + w.spare) in let long = known.long in omega arith in
+      room-at lists' i ∙ ap (λ (w : Waiting). length w.cells + w.spare) (known.each i inside)
+      ∙ room_with (cells_in buffers) (came_to came i) (list_at lists i)
+      (λ c is. (fit_each lists buffers came n known.square known.fit i c inside is).room)
       ∙ sym (room-at lists i))
 
   pub arrived_square : AreSquare lists' buffers n
   arrived_square =
-      let few = square.few in
-      let as_many = square.as_many in
-      let offered = square.offered in
+      let few = known.square.few in
+      let as_many = known.square.as_many in
+      let offered = known.square.offered in
+      let long = known.long in
       record {
         few = omega arith;
-        as_many = as_many ∙ sym long;
-        offered = offered ∙ sym long;
+        as_many = as_many ∙ sym known.long;
+        offered = offered ∙ sym known.long;
         outputs = λ k d l.
             let inside : k < length lists = omega arith in
-            ap (λ (w : Waiting). w.outputs) (get_or_same lists' k d no_list l ∙ with k inside)
+            ap (λ (w : Waiting). w.outputs) (get_or_same lists' k d no_list l ∙ known.each k inside)
             ∙ outputs_with (cells_in buffers) (came_to came k) (list_at lists k)
-            ∙ square.outputs k no_list inside
-            ∙ sym long;
+            ∙ known.square.outputs k no_list inside
+            ∙ sym known.long;
       }
 
 -- ## A transfer
@@ -159,72 +207,96 @@ firsts_apart lists apart j i k c d a b e =
     let q = first_at (is_for j) (list_of lists k) d b in
     apart i k c d (among_at (list_of lists i) p.place c p.at) (among_at (list_of lists k) q.place d q.at) e
 
-pub has_cell : (lists : List (List Queued)) (buffers : List (List Queued)) (from to : List ℕ) (o : Orders) (m : Partners) → CanCross (record { inputs = lists; buffers = buffers; from_inputs = from; to_outputs = to }) → o ≡ orders_of lists → IsMatching o m → HaveCells m lists
+pub has_cell : (lists : List (List Queued)) (buffers : List (List Queued)) (from to : List ℕ) (o : Orders)
+    (m : Partners) → CanCross (record { inputs = lists; buffers = buffers; from_inputs = from; to_outputs = to }) →
+    o ≡ orders_of lists → IsMatching o m → HaveCells m lists
 has_cell lists buffers from to o m can is matching i j p =
-    let are : AreOrdersOf lists o = subst (AreOrdersOf lists) (sym is) (are_orders lists (firsts_apart lists can.apart)) in
+    let are : AreOrdersOf lists o =
+    subst (AreOrdersOf lists) (sym is) (are_orders lists (firsts_apart lists can.apart)) in
     ((are.outputs i).offered j).0 (matching.offered i j p)
 
 -- a matching has a place for each input
-pub matched_long : (inputs : List (List Queued)) (m : Partners) → IsMatching (orders_of inputs) m → length m ≡ length inputs
+pub matched_long : (inputs : List (List Queued)) (m : Partners) → IsMatching (orders_of inputs) m →
+    length m ≡ length inputs
 matched_long inputs m matching = matching.size ∙ length-map inputs output_order
 
-pub have_room : (lists : List Waiting) (buffers : List Buffered) (m : Partners) → CanCross (shown lists buffers) → HaveCells m (cells_of lists) → HaveRoom m buffers
+pub have_room : (lists : List Waiting) (buffers : List Buffered) (m : Partners) → CanCross (shown lists buffers) →
+    HaveCells m (cells_of lists) → HaveRoom m buffers
 have_room lists buffers m can have i j p =
     let room = can.room i j (have i j p) in
     let is = buffer_room-is buffers j in omega arith
 
-without_one : (j : ℕ) (xs : List Queued) (c : Queued) → first_for j xs ≡ Some c → length (without_first j xs) + 1 ≡ length xs
+without_one : (j : ℕ) (xs : List Queued) (c : Queued) → first_for j xs ≡ Some c →
+    length (without_first j xs) + 1 ≡ length xs
 without_one j [] c h = absurd (let P : ⊥ = cc in P)
 without_one j (x ∷ xs) c h =
-    cond_both (is_for j x) xs (x ∷ without_first j xs) (λ l. (cond (is_for j x) (Some x) (first_for j xs) ≡ Some c) → length l + 1 ≡ suc (length xs))
+    cond_both (is_for j x) xs (x ∷ without_first j xs) (λ l. (cond (is_for j x) (Some x) (first_for j xs) ≡ Some c) →
+    length l + 1 ≡ suc (length xs))
     (λ yes f. omega arith)
     (λ no f. let rest = without_one j xs c (ap (λ b. cond b (Some x) (first_for j xs)) (sym no) ∙ f) in omega arith) h
 
-taken_room : (p : Option ℕ) (xs : List Queued) (spare : ℕ) → ((j : ℕ) → p ≡ Some j → HasCellFor xs j) → length (list_taken p xs) + (spare + cond (is_some p) 1 0) ≡ length xs + spare
+taken_room : (p : Option ℕ) (xs : List Queued) (spare : ℕ) → ((j : ℕ) → p ≡ Some j → HasCellFor xs j) →
+    length (list_taken p xs) + (spare + cond (is_some p) 1 0) ≡ length xs + spare
 taken_room None xs spare has = omega arith
 taken_room (Some j) xs spare has = let c = has j refl in let one = without_one j xs c.0 c.1 in omega arith
 
-module _ (m : Partners) (lists : List Waiting) (buffers : List Buffered) (lists' : List Waiting) (buffers' : List Buffered) (have : HaveCells m (cells_of lists)) (moves : Moves m (cells_of lists) (cells_in buffers) (cells_of lists') (cells_in buffers')) (rooms : MovesRoom m lists buffers lists' buffers') where
+-- the first cells of the pairs of a matching went from these lists into these buffers
+pub record HaveCrossed (m : Partners) (lists : List Waiting) (buffers : List Buffered) (lists' : List Waiting)
+    (buffers' : List Buffered) : Type 0 where
+  pub have : HaveCells m (cells_of lists)
+  pub moves : Moves m (cells_of lists) (cells_in buffers) (cells_of lists') (cells_in buffers')
+  pub rooms : MovesRoom m lists buffers lists' buffers'
+  pub outputs : map (λ w. w.outputs) lists' ≡ map (λ w. w.outputs) lists
+
+module _ {m : Partners} {lists : List Waiting} {buffers : List Buffered} {lists' : List Waiting}
+    {buffers' : List Buffered} (known : HaveCrossed m lists buffers lists' buffers') where
   pub lists_long : length lists' ≡ length lists
-  lists_long = sym (length-map lists' (λ (w : Waiting). w.cells)) ∙ moves.ports.0 ∙ length-map lists (λ (w : Waiting). w.cells)
+  lists_long =
+      sym (length-map lists' (λ (w : Waiting). w.cells)) ∙ known.moves.ports.0
+      ∙ length-map lists (λ (w : Waiting). w.cells)
 
   pub buffers_long : length buffers' ≡ length buffers
-  buffers_long = sym (length-map buffers' (λ (b : Buffered). b.cells)) ∙ moves.ports.1 ∙ length-map buffers (λ (b : Buffered). b.cells)
+  buffers_long =
+      sym (length-map buffers' (λ (b : Buffered). b.cells)) ∙ known.moves.ports.1
+      ∙ length-map buffers (λ (b : Buffered). b.cells)
 
   pub crossed_list_rooms : map list_room lists' ≡ map list_room lists
   crossed_list_rooms =
       ext_get_or 0 (map list_room lists') (map list_room lists)
-      (length-map lists' (λ (w : Waiting). length w.cells + w.spare) ∙ lists_long ∙ sym (length-map lists (λ (w : Waiting). length w.cells + w.spare)))
+      (length-map lists' (λ (w : Waiting). length w.cells + w.spare) ∙ lists_long
+      ∙ sym (length-map lists (λ (w : Waiting). length w.cells + w.spare)))
       (λ i l.
       let now = list_room-is lists' i in
       let then = list_room-is lists i in
-      let taken = ap length (moves.taken i) in
-      let gained = rooms.gained i in
-      let same = taken_room (partner_of m i) (list_of (cells_of lists) i) (list_spare lists i) (λ j p. have i j p) in
+      let taken = ap length (known.moves.taken i) in
+      let gained = known.rooms.gained i in
+      let same =
+      taken_room (partner_of m i) (list_of (cells_of lists) i) (list_spare lists i) (λ j p. known.have i j p) in
       omega arith)
 
   pub crossed_buffer_rooms : map buffer_room buffers' ≡ map buffer_room buffers
   crossed_buffer_rooms =
       ext_get_or 0 (map buffer_room buffers') (map buffer_room buffers)
-      (length-map buffers' (λ (b : Buffered). length b.cells + b.spare) ∙ buffers_long ∙ sym (length-map buffers (λ (b : Buffered). length b.cells + b.spare)))
+      (length-map buffers' (λ (b : Buffered). length b.cells + b.spare) ∙ buffers_long
+      ∙ sym (length-map buffers (λ (b : Buffered). length b.cells + b.spare)))
       (λ j l.
       let now = buffer_room-is buffers' j in
       let then = buffer_room-is buffers j in
       ⊎_elim
       (λ r.
-      let cell = have r.0 j r.1 in
-      let given = ap length (moves.given r.0 j cell.0 r.1 cell.1) in
+      let cell = known.have r.0 j r.1 in
+      let given = ap length (known.moves.given r.0 j cell.0 r.1 cell.1) in
       let longer = put_length cell.0 (list_of (cells_in buffers) j) in
-      let lost = rooms.lost r.0 j r.1 in
+      let lost = known.rooms.lost r.0 j r.1 in
       omega arith)
       (λ free.
-      let kept = ap length (moves.kept j free) in
-      let same = rooms.kept j free in
+      let kept = ap length (known.moves.kept j free) in
+      let same = known.rooms.kept j free in
       omega arith)
       (partner_or_free m j))
 
-  pub crossed_square : (n : ℕ) → AreSquare lists buffers n → map (λ w. w.outputs) lists' ≡ map (λ w. w.outputs) lists → AreSquare lists' buffers' n
-  crossed_square n square outputs =
+  pub crossed_square : (n : ℕ) → AreSquare lists buffers n → AreSquare lists' buffers' n
+  crossed_square n square =
       let few = square.few in
       record {
         few = let e = lists_long in omega arith;
@@ -234,7 +306,8 @@ module _ (m : Partners) (lists : List Waiting) (buffers : List Buffered) (lists'
             let out : Waiting → ℕ = λ w. w.outputs in
             let e = lists_long in
             let inside : k < length lists = omega arith in
-            sym (get_or-map out lists' k d) ∙ ap (λ xs. get_or xs k (out d)) outputs ∙ get_or-map out lists k d ∙ square.outputs k d inside ∙ sym lists_long;
+            sym (get_or-map out lists' k d) ∙ ap (λ xs. get_or xs k (out d)) known.outputs ∙ get_or-map out lists k d
+            ∙ square.outputs k d inside ∙ sym lists_long;
       }
 
 -- ## Departures
@@ -247,35 +320,51 @@ pub rests_shown : (buffers : List Buffered) → cells_in (map popped buffers) �
 rests_shown [] = refl
 rests_shown (b ∷ buffers) = ap (λ l. drop 1 b.cells ∷ l) (rests_shown buffers)
 
-popped_room : (xs : List Queued) (spare : ℕ) → length (drop 1 xs) + (spare + cond (is_some (slice_get xs 0)) 1 0) ≡ length xs + spare
+popped_room : (xs : List Queued) (spare : ℕ) →
+    length (drop 1 xs) + (spare + cond (is_some (slice_get xs 0)) 1 0) ≡ length xs + spare
 popped_room [] spare = omega arith
 popped_room (x ∷ xs) spare = omega arith
 
 pub rooms_shown : (buffers : List Buffered) → map buffer_room (map popped buffers) ≡ map buffer_room buffers
 rooms_shown [] = refl
-rooms_shown (b ∷ buffers) = ap (λ r. r ∷ map buffer_room (map popped buffers)) (popped_room b.cells b.spare) ∙ ap (λ l. buffer_room b ∷ l) (rooms_shown buffers)
+rooms_shown (b ∷ buffers) =
+    ap (λ r. r ∷ map buffer_room (map popped buffers)) (popped_room b.cells b.spare)
+    ∙ ap (λ l. buffer_room b ∷ l) (rooms_shown buffers)
 
-pub popped_square : (lists : List Waiting) (buffers : List Buffered) (n : ℕ) → AreSquare lists buffers n → AreSquare lists (map popped buffers) n
-popped_square lists buffers n square = record { few = square.few; as_many = length-map buffers popped ∙ square.as_many; offered = square.offered; outputs = square.outputs }
+pub popped_square : (lists : List Waiting) (buffers : List Buffered) (n : ℕ) → AreSquare lists buffers n →
+    AreSquare lists (map popped buffers) n
+popped_square lists buffers n square =
+    record {
+      few = square.few;
+      as_many = length-map buffers popped ∙ square.as_many;
+      offered = square.offered;
+      outputs = square.outputs;
+    }
 
 -- ## New queues
 
-pub new_square : (lists : List Waiting) (buffers : List Buffered) (n k : ℕ) → k ≤ 64 → n ≡ k → map (λ w. w.outputs) lists ≡ replicate k k → length lists ≡ k → length buffers ≡ k → AreSquare lists buffers n
+pub new_square : (lists : List Waiting) (buffers : List Buffered) (n k : ℕ) → k ≤ 64 → n ≡ k →
+    map (λ w. w.outputs) lists ≡ replicate k k → length lists ≡ k → length buffers ≡ k → AreSquare lists buffers n
 new_square lists buffers n k few offered outputs long as_many =
     let out : Waiting → ℕ = λ w. w.outputs in
     record {
       few = omega arith;
       as_many = as_many ∙ sym long;
       offered = offered ∙ sym long;
-      outputs = λ t d l. sym (get_or-map out lists t d) ∙ ap (λ xs. get_or xs t (out d)) outputs ∙ get_or-replicate k t k (out d) (omega arith) ∙ sym long;
+      outputs =
+          λ t d l. sym (get_or-map out lists t d) ∙ ap (λ xs. get_or xs t (out d)) outputs
+          ∙ get_or-replicate k t k (out d) (omega arith) ∙ sym long;
     }
 
 -- ## One place
 
 -- what a popped buffer is, by its parts
-pub popped_by : (b b' : Buffered) (q : Option Queued) → q ≡ slice_get b.cells 0 → b'.cells ≡ drop 1 b.cells → b'.spare ≡ b.spare + cond (is_some q) 1 0 → b' ≡ popped b
+pub popped_by : (b b' : Buffered) (q : Option Queued) → q ≡ slice_get b.cells 0 → b'.cells ≡ drop 1 b.cells →
+    b'.spare ≡ b.spare + cond (is_some q) 1 0 → b' ≡ popped b
 popped_by b b' q first cells spare =
-    let more : b'.spare ≡ b.spare + cond (is_some (slice_get b.cells 0)) 1 0 = spare ∙ ap (λ (o : Option Queued). b.spare + cond (is_some o) 1 0) first in
+    let more : b'.spare ≡ b.spare + cond (is_some (slice_get b.cells 0)) 1 0 =
+    spare ∙ ap (λ (o : Option Queued). b.spare + cond (is_some o) 1 0) first in
     let had : Buffered = record { cells = b'.cells; spare = b'.spare } in
-    let want : Buffered = record { cells = drop 1 b.cells; spare = b.spare + cond (is_some (slice_get b.cells 0)) 1 0 } in
+    let want : Buffered =
+    record { cells = drop 1 b.cells; spare = b.spare + cond (is_some (slice_get b.cells 0)) 1 0 } in
     let same : had ≡ want = cc in same

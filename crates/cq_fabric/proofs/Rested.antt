@@ -1,5 +1,6 @@
--- Slots in which nothing waits and nothing comes. The first of them tells each machine that its output was idle, and the
--- others change nothing. After them the fabric is as empty as before, so it is in step with an ideal switch that is empty too.
+-- Slots in which nothing waits and nothing comes. The first of them tells each machine that its output was idle, and
+-- the others change nothing. After them the fabric is as empty as before, so it is in step with an ideal switch that
+-- is empty too.
 use Rattle.std.proofs.Common.{◌≡◌, ℕ, zero, suc, ◌<◌, ◌≤◌, Bool, List, Option, length, replicate, refl, sym, ap, ◌∙◌, subst, arith}
 use Rattle.cq_base.specs.Arrivals.{no_arrivals}
 use Rattle.cq_rank.specs.Machine.{Machine}
@@ -29,7 +30,8 @@ module _ (ms : List Machine) (ports : ℕ) where
   unfolding idled
   idle_is ranks = refl
 
-  stays_idle : (count : ℕ) (ranks : List (List ℕ)) → all_idle ms ports ranks ≡ ranks → idled_for ms count ports ranks ≡ ranks
+  stays_idle : (count : ℕ) (ranks : List (List ℕ)) → all_idle ms ports ranks ≡ ranks →
+      idled_for ms count ports ranks ≡ ranks
   stays_idle zero ranks same = refl
   stays_idle (suc count) ranks same =
       ap (idled_for ms count ports) (sym (idle_is ranks) ∙ same) ∙ stays_idle count ranks same
@@ -62,7 +64,8 @@ rested_run ms ports count slot f rested empty square long some is again =
     subst (λ (from : Fabric). Run from (with_ranks f rested)) (sym opening)
     (subst (λ (to : Fabric). Run (empty_fabric ports f.ranks) (with_ranks to rested)) (sym opening) there)
 
-agrees_later : (slot later : ℕ) (f : Fabric) (ideal : IdealState) → slot ≤ later → Agrees slot f ideal → Agrees later f ideal
+agrees_later : (slot later : ℕ) (f : Fabric) (ideal : IdealState) → slot ≤ later → Agrees slot f ideal →
+    Agrees later f ideal
 agrees_later slot later f ideal le a = record {
   fabric = a.fabric;
   ports = a.ports;
@@ -82,7 +85,8 @@ rested_agrees slot later f ideal rested empty had =
     let ports = length f.inputs in
     let opening : f ≡ empty_fabric ports f.ranks = empty_is f empty had.fabric.square in
     subst (λ (g : Fabric). Agrees later (with_ranks g rested) (empty_ideal ports rested)) (sym opening)
-    (agrees_later 0 later (empty_fabric ports rested) (empty_ideal ports rested) (omega arith) (empty_agree ports rested))
+    (agrees_later 0 later (empty_fabric ports rested) (empty_ideal ports rested) (omega arith)
+    (empty_agree ports rested))
 
 -- what the outputs hold does not depend on the states of the rank machines
 pub still_held : (q : Queues) (ranks rested : List (List ℕ)) (l : LimiterView) → HoldsFabric (fabric_of q ranks) l →
@@ -91,11 +95,14 @@ unfolding fabric_held
 still_held q ranks rested l holds = record { ports = holds.ports; held = holds.held }
 
 -- with limits the marks stay, and nothing is refused
-pub rested_limited_run : (limits : List (Option ℕ)) (marks : List Bool) (ms : List Machine) (ports count slot : ℕ) (f : Fabric)
-    (rested : List (List ℕ)) → IsEmptyFabric f → length f.buffers ≡ length f.inputs → length f.inputs ≡ ports → 0 < count →
+pub rested_limited_run : (limits : List (Option ℕ)) (marks : List Bool) (ms : List Machine) (ports count slot : ℕ)
+    (f : Fabric)
+    (rested : List (List ℕ)) → IsEmptyFabric f → length f.buffers ≡ length f.inputs → length f.inputs ≡ ports →
+    0 < count →
     rested ≡ all_idle ms ports f.ranks → all_idle ms ports rested ≡ rested →
     LimitedFabricRun IsInputBest limits ms slot (replicate count no_arrivals) (marked marks f)
     (quiet_limited_slots ms count slot ports f.ranks marks) (marked marks (with_ranks f rested))
 rested_limited_run limits marks ms ports count slot f rested empty square long some is again =
     run_with IsInputBest limits ms marks slot (replicate count no_arrivals) _ _ _
-    (none_come IsInputBest limits ms marks count) (rested_run ms ports count slot f rested empty square long some is again)
+    (none_come IsInputBest limits ms marks count)
+    (rested_run ms ports count slot f rested empty square long some is again)

@@ -49,5 +49,7 @@ one_made sizes n buffers more b made is inside empty spare one =
           ∙ ap (λ (l : List ℕ). l ++ buffer_room b ∷ []) made.rooms
           ∙ ap (λ (r : ℕ). take n sizes ++ r ∷ []) room
           ∙ sym (take_more sizes n 0 inside);
-      few = subst (All few) (sym (take_more sizes n 0 inside)) (All-push few (take n sizes) (get_or sizes n 0) made.few one);
+      few =
+          subst (All few) (sym (take_more sizes n 0 inside))
+          (All-push few (take n sizes) (get_or sizes n 0) made.few one);
     }

@@ -1,9 +1,9 @@
--- A slot of a fabric over its lists and buffers, phase by phase, whatever stable matchings it takes. What each phase asks for
--- follows from the state that agrees with an ideal one: all keys differ, the cells that come are the only ones of this slot, and
--- each cell that waits has slack 1, so that the more urgent cells for an output stand below the cushion of one that comes. Of the
--- rooms it is enough that the buffer of each output for which a cell waits or comes has room for one: where the first matching
--- fills that room, the output sends a cell and has it again.
-use Rattle.std.proofs.Common.{◌≡◌, ℕ, zero, suc, ◌+◌, ◌-◌, ◌<◌, ◌≤◌, eqb, Bool, true, false, List, [], ◌∷◌, length, get_or, drop, Option, Some, None, Ok, refl, sym, ap, ◌∙◌, subst, inl, inr, ⊎_elim, arith, ◌⊎◌}
+-- A slot of a fabric over its lists and buffers, phase by phase, whatever stable matchings it takes. What each phase
+-- asks for follows from the state that agrees with an ideal one: all keys differ, the cells that come are the only
+-- ones of this slot, and each cell that waits has slack 1, so that the more urgent cells for an output stand below
+-- the cushion of one that comes. Of the rooms it is enough that the buffer of each output for which a cell waits or
+-- comes has room for one: where the first matching fills that room, the output sends a cell and has it again.
+use Rattle.std.proofs.Common.{◌≡◌, ℕ, zero, suc, ◌+◌, ◌-◌, ◌<◌, ◌≤◌, eqb, Bool, true, false, List, [], ◌∷◌, length, get_or, drop, Option, Some, None, refl, sym, ap, ◌∙◌, subst, inl, inr, ⊎_elim, arith, ◌⊎◌}
 use Rattle.std.specs.Prelude.{IfSome, if◌then◌else◌, filter, slice_get}
 use Rattle.std.proofs.lemmas.Bool.{cases_lt, cond_both, eqb-true, eq-eqb}
 use Rattle.std.proofs.lemmas.List.{get_or-map, get_or_past, length-map}
@@ -16,14 +16,15 @@ use Rattle.cq_base.specs.Cells.{ArrivedBefore, is_for, put}
 use Rattle.cq_rank.specs.Machine.{Machine}
 use Rattle.cq_ideal.specs.Ideal.{count_for}
 use Rattle.cq_ideal.specs.Limiter.{LimiterView}
-use Rattle.cq_ideal.specs.Ranking.{ranking, AreForPorts}
-use Rattle.cq_ideal.specs.IdealSlot.{IdealState, fronts, rests, all_told}
+use Rattle.cq_ideal.specs.Ranking.{AreForPorts, Ranking}
+use Rattle.cq_ideal.specs.IdealSlot.{fronts}
 use Rattle.cq_prefs.specs.FirstCells.{list_of, orders_of, output_order}
-use Rattle.cq_prefs.specs.Moves.{Moves, list_taken, transfers_of}
+use Rattle.cq_prefs.specs.Moves.{list_taken, transfers_of}
 use Rattle.cq_prefs.specs.Pairing.{Partners, partner_of, IsMatching, IsStable}
+use Rattle.cq_xbar.specs.Crossbar.{HaveCells}
 use Rattle.cq_xbar.proofs.Noting.{noted_all, noted_few}
 use Rattle.cq_xbar.proofs.OneEach.{partner_or_free, put_length}
-use Rattle.cq_laws.specs.Agreement.{Agrees}
+use Rattle.cq_laws.specs.Agreement.{SendsAlike}
 use Rattle.cq_laws.specs.Fabric.{Fabric, IsAmong, cushion_of}
 use Rattle.cq_laws.specs.Holding.{waiting_for}
 use Rattle.cq_laws.specs.Phases.{came_to, list_arrived, Arrives, Transfers, Departs}
@@ -36,24 +37,32 @@ use Rattle.cq_laws.proofs.AfterDepartures.{sent_sound}
 use Rattle.cq_laws.proofs.Came.{came_from, keyed_from}
 use Rattle.cq_laws.proofs.Entered.{can_cross as firsts_cross, fits_list}
 use Rattle.cq_laws.proofs.Falls.{rest_of}
-use Rattle.cq_laws.proofs.OneSlot.{sound_from}
+use Rattle.cq_laws.proofs.OneSlot.{same_slot, sound_from}
 use Rattle.cq_fabric.specs.Held.{HoldsFabric}
 use Rattle.cq_fabric.specs.Newest.{IsNewest}
 use Rattle.cq_fabric.specs.Queues.{Queues, ComeApart, FitLists, CanCross, fabric_of}
+use Rattle.cq_fabric.proofs.Known.{AreRanked, BuffersHaveRoom, HaveArrived, HaveJudged, HaveMoved, HaveSent, ListsHaveRoom}
 use Rattle.cq_fabric.proofs.Limits.{held_at}
 use Rattle.cq_fabric.proofs.Newest.{newest_arrived}
 use Rattle.cq_fabric.proofs.Queued.{has_cell}
 
 -- ## Cells that wait or come for an output
 
-counted_one : (j : ℕ) (xs : List Queued) (c : Queued) → IsAmong c xs → is_for j c ≡ true → 1 ≤ length (filter (is_for j) xs)
+counted_one : (j : ℕ) (xs : List Queued) (c : Queued) → IsAmong c xs → is_for j c ≡ true →
+    1 ≤ length (filter (is_for j) xs)
 counted_one j [] c h e = absurd h
 counted_one j (x ∷ xs) c h e =
     cond_both (is_for j x) (x ∷ filter (is_for j) xs) (filter (is_for j) xs) (λ l. 1 ≤ length l)
     (λ _. omega arith)
-    (λ no. ⊎_elim (λ same. absurd (let clash : true ≡ false = sym e ∙ ap (is_for j) (sym same) ∙ no in let P : ⊥ = cc in P)) (λ k. counted_one j xs c k e) h)
+    (λ no.
+    ⊎_elim
+    (λ same.
+    let clash : true ≡ false = sym e ∙ ap (is_for j) (sym same) ∙ no in
+    absurd (let P : ⊥ = cc in P))
+    (λ k. counted_one j xs c k e) h)
 
-waits_one : (j : ℕ) (lists : List (List Queued)) (i : ℕ) (c : Queued) → IsAmong c (list_of lists i) → c.cell.output ≡ j → 1 ≤ waiting_for j lists
+waits_one : (j : ℕ) (lists : List (List Queued)) (i : ℕ) (c : Queued) → IsAmong c (list_of lists i) →
+    c.cell.output ≡ j → 1 ≤ waiting_for j lists
 waits_one j [] i c h e = absurd h
 waits_one j (cells ∷ lists) zero c h e = let one = counted_one j cells c h (eq-eqb c.cell.output j e) in omega arith
 waits_one j (cells ∷ lists) (suc i) c h e = let one = waits_one j lists i c h e in omega arith
@@ -61,7 +70,8 @@ waits_one j (cells ∷ lists) (suc i) c h e = let one = waits_one j lists i c h 
 abbrev bit : Bool → ℕ
 bit b = if b then 1 else 0
 
-arrives_one : (j : ℕ) (cells : List (Option Cell)) (i : ℕ) (cell : Cell) → arrival_at cells i ≡ Some cell → cell.output ≡ j → 1 ≤ count_for j cells
+arrives_one : (j : ℕ) (cells : List (Option Cell)) (i : ℕ) (cell : Cell) → arrival_at cells i ≡ Some cell →
+    cell.output ≡ j → 1 ≤ count_for j cells
 arrives_one j [] i cell h e = absurd (let P : ⊥ = cc in P)
 arrives_one j (None ∷ cells) zero cell h e = absurd (let P : ⊥ = cc in P)
 arrives_one j (None ∷ cells) (suc i) cell h e = arrives_one j cells i cell h e
@@ -73,16 +83,21 @@ arrives_one j (Some d ∷ cells) (suc i) cell h e = let one = arrives_one j cell
 
 -- ## The cells of one slot can cross
 
-can_cross : (slot : ℕ) (q : Queues) (ranks : List (List ℕ)) → Sound slot (fabric_of q ranks) → ((i j : ℕ) (c : Queued) → IsAmong c (list_of q.inputs i) → c.cell.output ≡ j → length (list_of q.buffers j) < get_or q.to_outputs j 0) → CanCross q
+can_cross : (slot : ℕ) (q : Queues) (ranks : List (List ℕ)) → Sound slot (fabric_of q ranks) →
+    ((i j : ℕ) (c : Queued) → IsAmong c (list_of q.inputs i) → c.cell.output ≡ j →
+    length (list_of q.buffers j) < get_or q.to_outputs j 0) → CanCross q
 can_cross slot q ranks sound room =
     let firsts = firsts_cross slot (fabric_of q ranks) sound in
     record {
       apart = λ i k c d a b e. (sound.apart.waiting i k c d a b e).0;
-      room = λ i j has. let p = first_at (is_for j) (list_of q.inputs i) has.0 has.1 in room i j has.0 (among_at (list_of q.inputs i) p.place has.0 p.at) (eqb-true has.0.cell.output j p.passes);
+      room = λ i j has.
+          let p = first_at (is_for j) (list_of q.inputs i) has.0 has.1 in
+          room i j has.0 (among_at (list_of q.inputs i) p.place has.0 p.at) (eqb-true has.0.cell.output j p.passes);
       keys = firsts.keys;
     }
 
-came_or_was : (f : Fabric) (q : Option Queued) (xs : List Queued) (c : Queued) → IsAmong c (list_arrived f q xs) → (q ≡ Some c) ⊎ IsAmong c xs
+came_or_was : (f : Fabric) (q : Option Queued) (xs : List Queued) (c : Queued) → IsAmong c (list_arrived f q xs) →
+    (q ≡ Some c) ⊎ IsAmong c xs
 came_or_was f None xs c h = inr h
 came_or_was f (Some n) xs c h = ⊎_elim (λ e. inl (ap Some e)) (λ k. inr k) (among_insert xs _ n c h)
 
@@ -96,12 +111,14 @@ taken_among None xs c h = h
 taken_among (Some j) xs c h = left_among j xs c h
 
 -- the list of an input after arrivals does not depend on the states of the rank machines
-list_same : (q : Queues) (a b : List (List ℕ)) (came : Option Queued) (xs : List Queued) → list_arrived (fabric_of q a) came xs ≡ list_arrived (fabric_of q b) came xs
+list_same : (q : Queues) (a b : List (List ℕ)) (came : Option Queued) (xs : List Queued) →
+    list_arrived (fabric_of q a) came xs ≡ list_arrived (fabric_of q b) came xs
 list_same q a b None xs = refl
 list_same q a b (Some c) xs = refl
 
 -- how many transfers a matching has
-pub few_cross : (m : Partners) (lists : List (List Queued)) (slot phase : ℕ) → IsMatching (orders_of lists) m → length (transfers_of m lists slot phase) ≤ length lists
+pub few_cross : (m : Partners) (lists : List (List Queued)) (slot phase : ℕ) → IsMatching (orders_of lists) m →
+    length (transfers_of m lists slot phase) ≤ length lists
 few_cross m lists slot phase matching =
     let all = ap length (noted_all m lists slot phase) in
     let few = noted_few m lists slot phase (length m) in
@@ -110,22 +127,24 @@ few_cross m lists slot phase matching =
 
 -- ## A slot
 
-module _ (ms : List Machine) (slot : ℕ) (q0 : Queues) (ranks0 : List (List ℕ)) (cells : List (Option Cell))
-    (class_count : ℕ) (came : List (Option Queued)) (ranks1 : List (List ℕ)) (ideal : IdealState)
-    (agrees : Agrees slot (fabric_of q0 ranks0) ideal) (ports : length q0.inputs ≡ length ms)
-    (for_ports : AreForPorts (length ms) class_count cells)
-    (ranked : ranking ms slot 0 cells ranks0 ≡ Ok (record { came = came; ranks = ranks1 })) where
-  pub come : AreForPorts (length q0.inputs) class_count cells
-  come = subst (λ n. AreForPorts n class_count cells) (sym ports) for_ports
+module _ {ms : List Machine} {slot : ℕ} {q0 : Queues} {ranks0 : List (List ℕ)} {cells : List (Option Cell)}
+    {classes : ℕ} {came : List (Option Queued)} {ranks1 : List (List ℕ)}
+    (known : AreRanked ms slot q0 ranks0 cells classes came ranks1) where
+  -- the cells that came, and the states of the machines then
+  abbrev now : Ranking
+  now = record { came = came; ranks = ranks1 }
+
+  pub come : AreForPorts (length q0.inputs) classes cells
+  come = subst (λ n. AreForPorts n classes cells) (sym known.ports) known.for_ports
 
   pub keyed : Keyed slot (length q0.inputs) came
-  keyed = keyed_from ms slot (length q0.inputs) class_count cells ranks0 (record { came = came; ranks = ranks1 }) ranked come
+  keyed = keyed_from ms slot (length q0.inputs) classes cells ranks0 now known.ranked come
 
   sound0 : Sound slot (fabric_of q0 ranks0)
-  sound0 = sound_from slot (fabric_of q0 ranks0) ideal agrees
+  sound0 = sound_from slot (fabric_of q0 ranks0) known.ideal known.agrees
 
   arrival : (i : ℕ) (c : Queued) → came_to came i ≡ Some c → arrival_at cells i ≡ Some c.cell
-  arrival i c is = (came_from ms slot 0 cells ranks0 (record { came = came; ranks = ranks1 }) ranked i c is).cell_is
+  arrival i c is = (came_from ms slot 0 cells ranks0 now known.ranked i c is).cell_is
 
   pub came_outputs : (i : ℕ) (c : Queued) → came_to came i ≡ Some c → c.cell.output < length q0.inputs
   came_outputs i c is = keyed.outputs i c is
@@ -142,15 +161,28 @@ module _ (ms : List Machine) (slot : ℕ) (q0 : Queues) (ranks0 : List (List ℕ
         each = λ i k c d a b e. sym (keyed.input_is i c a) ∙ ap (λ (x : Key). x.input) e ∙ keyed.input_is k d b;
       }
 
-  pub fits_lists : ((i : ℕ) (cell : Cell) → arrival_at cells i ≡ Some cell → 0 < get_or q0.from_inputs i 0 - length (list_of q0.inputs i)) → FitLists came q0
+  pub fits_lists : ListsHaveRoom q0 cells → FitLists came q0
   fits_lists room i c is =
-      let fits = fits_list ms slot class_count cells came (fabric_of q0 ranks0) ideal agrees come ranks1 ranked i c is in
+      let old = fabric_of q0 ranks0 in
+      let fits = fits_list ms slot classes cells came old known.ideal known.agrees come ranks1 known.ranked i c is in
       let spare = room i c.cell (arrival i c is) in
-      record { inside = fits.inside; output = fits.output; room = omega arith; other_key = fits.other_key; ahead = fits.ahead }
+      record {
+        inside = fits.inside;
+        output = fits.output;
+        room = omega arith;
+        other_key = fits.other_key;
+        ahead = fits.ahead;
+      }
 
-  module _ (q1 : Queues) (ports1 : length q1.inputs ≡ length q0.inputs) (lists1 : (i : ℕ) → list_of q1.inputs i ≡ list_arrived (fabric_of q0 []) (came_to came i) (list_of q0.inputs i)) (buffers1 : q1.buffers ≡ q0.buffers) (to1 : q1.to_outputs ≡ q0.to_outputs) where
+  module _ {q1 : Queues} (arrived : HaveArrived q0 came q1) where
     pub arrive : Arrives ms slot cells came (fabric_of q0 ranks0) (fabric_of q1 ranks1)
-    arrive = record { ranked = ranked; ports = ports1; lists = λ i. lists1 i ∙ list_same q0 [] ranks0 (came_to came i) (list_of q0.inputs i); buffers = buffers1 }
+    arrive =
+        record {
+          ranked = known.ranked;
+          ports = arrived.ports;
+          lists = λ i. arrived.lists i ∙ list_same q0 [] ranks0 (came_to came i) (list_of q0.inputs i);
+          buffers = arrived.buffers;
+        }
 
     -- a cell that came is the newest of its list
     pub came_newest : (i : ℕ) (c : Queued) → came_to came i ≡ Some c → IsNewest c (list_of q1.inputs i)
@@ -158,11 +190,13 @@ module _ (ms : List Machine) (slot : ℕ) (q0 : Queues) (ranks0 : List (List ℕ
         let old = list_of q0.inputs i in
         let before : ArrivedBefore c.key.slot old =
         all_from _ old (λ d h. let lt = sound0.early.waiting i d h in let at = keyed.slot_is i c is in omega arith) in
-        let arrived = lists1 i ∙ ap (λ o. list_arrived (fabric_of q0 []) o old) is in
-        subst (IsNewest c) (sym arrived) (newest_arrived (cushion_of (fabric_of q0 []) c) c old before)
+        let there = arrived.lists i ∙ ap (λ o. list_arrived (fabric_of q0 []) o old) is in
+        subst (IsNewest c) (sym there) (newest_arrived (cushion_of (fabric_of q0 []) c) c old before)
 
     sound1 : Sound (slot + 1) (fabric_of q1 ranks1)
-    sound1 = arrived_sound ms slot cells came (fabric_of q0 ranks0) (fabric_of q1 ranks1) arrive keyed sound0 agrees.slack
+    sound1 =
+        arrived_sound ms slot cells came (fabric_of q0 ranks0) (fabric_of q1 ranks1) arrive keyed sound0
+        known.agrees.slack
 
     -- a cell that waits at an input now waited there, or came
     one_waits : (i j : ℕ) (c : Queued) → IsAmong c (list_of q1.inputs i) → c.cell.output ≡ j →
@@ -171,114 +205,149 @@ module _ (ms : List Machine) (slot : ℕ) (q0 : Queues) (ranks0 : List (List ℕ
         ⊎_elim
         (λ new. let one = arrives_one j cells i c.cell (arrival i c new) e in omega arith)
         (λ was. let one = waits_one j q0.inputs i c was e in omega arith)
-        (came_or_was (fabric_of q0 []) (came_to came i) (list_of q0.inputs i) c (subst (IsAmong c) (lists1 i) h))
+        (came_or_was (fabric_of q0 []) (came_to came i) (list_of q0.inputs i) c (subst (IsAmong c) (arrived.lists i) h))
 
-    module _ (room : (j : ℕ) → j < length ms → waiting_for j q0.inputs + count_for j cells ≤ get_or q0.to_outputs j 0 - length (list_of q0.buffers j)) where
-      room1 : (i j : ℕ) (c : Queued) → IsAmong c (list_of q1.inputs i) → c.cell.output ≡ j → length (list_of q1.buffers j) < get_or q1.to_outputs j 0
+    module _ (room : BuffersHaveRoom (length ms) q0 cells) where
+      room1 : (i j : ℕ) (c : Queued) → IsAmong c (list_of q1.inputs i) → c.cell.output ≡ j →
+          length (list_of q1.buffers j) < get_or q1.to_outputs j 0
       room1 i j c h e =
           let out = sound1.fabric.outputs i c h in
-          let square : length q0.inputs ≡ length ms = ports in
+          let square : length q0.inputs ≡ length ms = known.ports in
+          let as_many : length q1.inputs ≡ length q0.inputs = arrived.ports in
           let fits = room j (omega arith) in
-          let long = ap (λ bs. length (list_of bs j)) buffers1 in
-          let many = ap (λ ns. get_or ns j 0) to1 in
+          let long = ap (λ bs. length (list_of bs j)) arrived.buffers in
+          let many = ap (λ ns. get_or ns j 0) arrived.to_outputs in
           let some = one_waits i j c h e in
           omega arith
 
       pub can_cross_first : CanCross q1
       can_cross_first = can_cross (slot + 1) q1 ranks1 sound1 room1
 
-      module _ (m1 : Partners) (stable1 : IsStable (orders_of q1.inputs) m1) (q2 : Queues) (moves1 : Moves m1 q1.inputs q1.buffers q2.inputs q2.buffers) where
+      module _ {m1 : Partners} {q2 : Queues} (moved1 : HaveMoved m1 q1 q2) where
+        -- the first cell for an output at the input that is its partner
+        crossing : HaveCells m1 q1.inputs
+        crossing =
+            has_cell q1.inputs q1.buffers q1.from_inputs q1.to_outputs (orders_of q1.inputs) m1 can_cross_first refl
+            moved1.stable.matching
+
         -- an output that sends a cell held one: it stood in its buffer, or crossed to it now
         sent_was_held : (j : ℕ) → 1 ≤ length (list_of q2.buffers j) →
             1 ≤ waiting_for j q0.inputs + count_for j cells + length (list_of q0.buffers j)
         sent_was_held j some =
             ⊎_elim
             (λ r.
-            let have = has_cell q1.inputs q1.buffers q1.from_inputs q1.to_outputs (orders_of q1.inputs) m1 can_cross_first refl stable1.matching in
-            let cell = have r.0 j r.1 in
+            let cell = crossing r.0 j r.1 in
             let p = first_at (is_for j) (list_of q1.inputs r.0) cell.0 cell.1 in
-            let one = one_waits r.0 j cell.0 (among_at (list_of q1.inputs r.0) p.place cell.0 p.at) (eqb-true cell.0.cell.output j p.passes) in
+            let among = among_at (list_of q1.inputs r.0) p.place cell.0 p.at in
+            let one = one_waits r.0 j cell.0 among (eqb-true cell.0.cell.output j p.passes) in
             omega arith)
             (λ free.
-            let kept = ap length (moves1.kept j free) in
-            let same = ap (λ bs. length (list_of bs j)) buffers1 in
+            let kept = ap length (moved1.moves.kept j free) in
+            let same = ap (λ bs. length (list_of bs j)) arrived.buffers in
             omega arith)
             (partner_or_free m1 j)
 
-        module _ (first judged now : LimiterView) (holds : HoldsFabric (fabric_of q0 ranks0) first) (more : (j : ℕ) → j < length first.limits → get_or judged.held j 0 ≡ get_or first.held j 0 + count_for j cells) (same : now.held ≡ judged.held) where
-          held_one : (j : ℕ) → j < length q0.inputs → (cells : List Queued) → length (list_of q2.buffers j) ≡ length cells →
-              IfSome (slice_get cells 0) (λ _. 0 < get_or now.held j 0)
+        module _ {before judged : LimiterView} (holds : HoldsFabric (fabric_of q0 ranks0) before)
+            (judges : HaveJudged cells before judged) where
+          held_one : (j : ℕ) → j < length q0.inputs → (cells : List Queued) →
+              length (list_of q2.buffers j) ≡ length cells →
+              IfSome (slice_get cells 0) (λ _. 0 < get_or judged.held j 0)
           held_one j inside [] e = tt
           held_one j inside (c ∷ cells) e =
               let some = sent_was_held j (omega arith) in
               let as_many = holds.ports in
-              let judged_is = more j (omega arith) in
+              let now = judges.more j (omega arith) in
               let was = ap (λ (l : List ℕ). get_or l j 0) holds.held ∙ held_at (fabric_of q0 ranks0) j inside in
-              let now_is = ap (λ (l : List ℕ). get_or l j 0) same in
               omega arith
 
           -- so the number that is kept of it is not 0
-          pub held_before : (j : ℕ) → IfSome (came_to (fronts q2.buffers) j) (λ _. 0 < get_or now.held j 0)
+          pub held_before : (j : ℕ) → IfSome (came_to (fronts q2.buffers) j) (λ _. 0 < get_or judged.held j 0)
           held_before j =
               let nil : List Queued = [] in
               let none : Option Queued = None in
-              let P : Option Queued → Type 0 = λ o. IfSome o (λ _. 0 < get_or now.held j 0) in
+              let P : Option Queued → Type 0 = λ o. IfSome o (λ _. 0 < get_or judged.held j 0) in
               let mapped = length-map q2.buffers (λ (xs : List Queued). slice_get xs 0) in
               ⊎_elim
               (λ inside.
-              let square = agrees.fabric.square in
-              let moved = moves1.ports.1 in
-              let as_many = ap length buffers1 in
-              subst P (sym (get_or-map (λ (xs : List Queued). slice_get xs 0) q2.buffers j nil none inside)) (held_one j (omega arith) (list_of q2.buffers j) refl))
+              let square = known.agrees.fabric.square in
+              let moved = moved1.moves.ports.1 in
+              let as_many = ap length arrived.buffers in
+              subst P (sym (get_or-map (λ (xs : List Queued). slice_get xs 0) q2.buffers j nil none inside))
+              (held_one j (omega arith) (list_of q2.buffers j) refl))
               (λ beyond. subst P (sym (get_or_past (fronts q2.buffers) j none (omega arith))) tt)
               (cases_lt j (length q2.buffers))
 
-      module _ (m1 : Partners) (stable1 : IsStable (orders_of q1.inputs) m1) (q2 : Queues) (moves1 : Moves m1 q1.inputs q1.buffers q2.inputs q2.buffers) (ranks2 : List (List ℕ)) (q3 : Queues) (inputs3 : q3.inputs ≡ q2.inputs) (buffers3 : q3.buffers ≡ rests q2.buffers) (told : ranks2 ≡ all_told ms (fronts q2.buffers) ranks1) (to3 : q3.to_outputs ≡ q1.to_outputs) where
-        pub fill : Transfers m1 (fabric_of q1 ranks1) (fabric_of q2 ranks1)
-        fill = record { moves = moves1; ranks = refl }
+        module _ {ranks2 : List (List ℕ)} {q3 : Queues} (sent : HaveSent ms q1 ranks1 q2 ranks2 q3) where
+          pub fill : Transfers m1 (fabric_of q1 ranks1) (fabric_of q2 ranks1)
+          fill = record { moves = moved1.moves; ranks = refl }
 
-        pub depart : Departs ms (fronts q2.buffers) (fabric_of q2 ranks1) (fabric_of q3 ranks2)
-        depart = record { sent = refl; buffers = buffers3; inputs = inputs3; ranks = told }
+          pub depart : Departs ms (fronts q2.buffers) (fabric_of q2 ranks1) (fabric_of q3 ranks2)
+          depart = record { sent = refl; buffers = sent.buffers; inputs = sent.inputs; ranks = sent.told }
 
-        sound2 : Sound (slot + 1) (fabric_of q2 ranks1)
-        sound2 = moved_sound (slot + 1) (fabric_of q1 ranks1) (fabric_of q2 ranks1) m1 sound1 stable1 fill
+          sound2 : Sound (slot + 1) (fabric_of q2 ranks1)
+          sound2 = moved_sound (slot + 1) (fabric_of q1 ranks1) (fabric_of q2 ranks1) m1 sound1 moved1.stable fill
 
-        sound3 : Sound (slot + 1) (fabric_of q3 ranks2)
-        sound3 = sent_sound ms (fronts q2.buffers) (slot + 1) (fabric_of q2 ranks1) (fabric_of q3 ranks2) depart sound2
+          sound3 : Sound (slot + 1) (fabric_of q3 ranks2)
+          sound3 =
+              sent_sound ms (fronts q2.buffers) (slot + 1) (fabric_of q2 ranks1) (fabric_of q3 ranks2) depart sound2
 
-        -- no buffer is longer than before the first matching
-        no_longer : (j : ℕ) → length (list_of q3.buffers j) ≤ length (list_of q1.buffers j)
-        no_longer j =
-            let rest = ap (λ bs. length (list_of bs j)) buffers3 ∙ ap length (rest_of q2.buffers j) in
-            ⊎_elim
-            (λ r.
-            let have = has_cell q1.inputs q1.buffers q1.from_inputs q1.to_outputs (orders_of q1.inputs) m1 can_cross_first refl stable1.matching in
-            let cell = have r.0 j r.1 in
-            let given = ap (λ l. length (drop 1 l)) (moves1.given r.0 j cell.0 r.1 cell.1) in
-            let longer = put_length cell.0 (list_of q1.buffers j) in
-            let less = length_rest (put cell.0 (list_of q1.buffers j)) in
-            omega arith)
-            (λ free.
-            let kept = ap (λ l. length (drop 1 l)) (moves1.kept j free) in
-            let less = length_rest (list_of q1.buffers j) in
-            omega arith)
-            (partner_or_free m1 j)
+          -- no buffer is longer than before the first matching
+          no_longer : (j : ℕ) → length (list_of q3.buffers j) ≤ length (list_of q1.buffers j)
+          no_longer j =
+              let rest = ap (λ bs. length (list_of bs j)) sent.buffers ∙ ap length (rest_of q2.buffers j) in
+              ⊎_elim
+              (λ r.
+              let cell = crossing r.0 j r.1 in
+              let given = ap (λ l. length (drop 1 l)) (moved1.moves.given r.0 j cell.0 r.1 cell.1) in
+              let longer = put_length cell.0 (list_of q1.buffers j) in
+              let less = length_rest (put cell.0 (list_of q1.buffers j)) in
+              omega arith)
+              (λ free.
+              let kept = ap (λ l. length (drop 1 l)) (moved1.moves.kept j free) in
+              let less = length_rest (list_of q1.buffers j) in
+              omega arith)
+              (partner_or_free m1 j)
 
-        pub can_cross_second : CanCross q3
-        can_cross_second =
-            can_cross (slot + 1) q3 ranks2 sound3
-            (λ i j c h e.
-            let here : IsAmong c (list_of q2.inputs i) = subst (λ ls. IsAmong c (list_of ls i)) inputs3 h in
-            let before : IsAmong c (list_of q1.inputs i) = taken_among (partner_of m1 i) (list_of q1.inputs i) c (subst (IsAmong c) (moves1.taken i) here) in
-            let had = room1 i j c before e in
-            let less = no_longer j in
-            let many = ap (λ ns. get_or ns j 0) to3 in
-            omega arith)
+          pub can_cross_second : CanCross q3
+          can_cross_second =
+              can_cross (slot + 1) q3 ranks2 sound3
+              (λ i j c h e.
+              let here : IsAmong c (list_of q2.inputs i) = subst (λ ls. IsAmong c (list_of ls i)) sent.inputs h in
+              let before : IsAmong c (list_of q1.inputs i) =
+              taken_among (partner_of m1 i) (list_of q1.inputs i) c (subst (IsAmong c) (moved1.moves.taken i) here) in
+              let had = room1 i j c before e in
+              let less = no_longer j in
+              let many = ap (λ ns. get_or ns j 0) sent.to_outputs in
+              omega arith)
 
-        module _ (m2 : Partners) (stable2 : IsStable (orders_of q3.inputs) m2) (q4 : Queues) (moves2 : Moves m2 q3.inputs q3.buffers q4.inputs q4.buffers) where
-          -- what is recorded of the slot
-          abbrev pub recorded : SlotRecord
-          recorded = record { slot = slot; came = came; arrived = fabric_of q1 ranks1; first = m1; filled = fabric_of q2 ranks1; gone = fronts q2.buffers; sent = fabric_of q3 ranks2; second = m2 }
+          module _ {m2 : Partners} {q4 : Queues} (moved2 : HaveMoved m2 q3 q4) where
+            -- what is recorded of the slot
+            abbrev pub recorded : SlotRecord
+            recorded =
+                record {
+                  slot = slot;
+                  came = came;
+                  arrived = fabric_of q1 ranks1;
+                  first = m1;
+                  filled = fabric_of q2 ranks1;
+                  gone = fronts q2.buffers;
+                  sent = fabric_of q3 ranks2;
+                  second = m2;
+                }
 
-          pub is_slot : FabricSlot IsStable ms slot cells (fabric_of q0 ranks0) recorded (fabric_of q4 ranks2)
-          is_slot = record { numbered = refl; arrive = arrive; first_chosen = stable1; fill = fill; depart = depart; second_chosen = stable2; finish = record { moves = moves2; ranks = refl } }
+            pub is_slot : FabricSlot IsStable ms slot cells (fabric_of q0 ranks0) recorded (fabric_of q4 ranks2)
+            is_slot =
+                record {
+                  numbered = refl;
+                  arrive = arrive;
+                  first_chosen = moved1.stable;
+                  fill = fill;
+                  depart = depart;
+                  second_chosen = moved2.stable;
+                  finish = record { moves = moved2.moves; ranks = refl };
+                }
+
+            pub alike : SendsAlike ms slot cells known.ideal (fronts q2.buffers) (fabric_of q4 ranks2)
+            alike =
+                same_slot ms slot classes cells (fabric_of q0 ranks0) (fabric_of q4 ranks2) known.ideal recorded
+                known.agrees come is_slot

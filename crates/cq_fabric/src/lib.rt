@@ -5,9 +5,11 @@
 //! offers of the inputs follow the lists. All memory is taken when the queues are made.
 #![tactic(auto)]
 
+mod gone;
 mod queues;
 mod sent;
 mod standing;
 
-pub use queues::{Queues, nobody};
+pub use gone::Gone;
+pub use queues::Queues;
 pub use sent::{release, tell};

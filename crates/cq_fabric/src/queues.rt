@@ -1,5 +1,5 @@
 //! The lists of all inputs, and the buffers of all outputs.
-ghost use Rattle.std.specs.Prelude.{◌≡◌, ◌≢◌, ◌==◌, ◌+◌, ◌-◌, ◌^◌, ◌<◌, ◌≤◌, ◌++◌, ℕ, [], All, IfOk, IsTrue, None, Some, length, map, replicate, slice_get, slice_index, take};
+ghost use Rattle.std.specs.Prelude.{◌≡◌, ◌≢◌, ◌==◌, ◌+◌, ◌-◌, ◌^◌, ◌<◌, ◌≤◌, ◌++◌, ℕ, [], All, IfOk, IsTrue, Some, length, map, replicate, slice_get, slice_index, take};
 ghost use Rattle.std.specs.List.{list_all, position_or_len};
 ghost use Rattle.cq_base.specs.Cells.{cushion};
 ghost use Rattle.cq_base.specs.declared.cell.Queued.{Queued as OfCell};
@@ -13,10 +13,12 @@ ghost use Rattle.cq_xbar.specs.Crossbar.{HaveCells, HaveRoom, KeysAreNew, MovesR
 ghost use Rattle.cq_laws.specs.Phases.{came_to, list_arrived};
 ghost use Rattle.cq_fabric.specs.Holding.{CanHold};
 ghost use Rattle.cq_fabric.specs.Newest.{IsNewest};
-ghost use Rattle.cq_fabric.specs.Queues.{CanCross, ComeApart, Comes, FitEach, FitLists, Fits, KeysApart, buffer_room, fabric_of, front_of, list_at, list_room, list_with, popped};
+ghost use Rattle.cq_fabric.specs.Queues.{CanCross, ComeApart, Comes, FitEach, FitLists, Fits, KeysApart, buffer_room, fabric_of, list_at, list_room, list_with};
 
+use crate::gone::Gone;
 use crate::standing::{all_buffered, all_listed, filled_buffers, filled_lists};
 use cq_base::{NoMemory, Port, Queued, Room, Sequence, Slot, Transfer};
+use cq_ideal::Newcomers;
 use cq_list::InputList;
 use cq_prefs::{Matching, Offers};
 use cq_urgency::OutputBuffer;
@@ -78,7 +80,7 @@ fn insert_each(
     lists: &mut [InputList],
     buffers: &[OutputBuffer],
     offers: &mut Offers,
-    came: &[Option<Queued>; 64],
+    came: &Newcomers,
 )
     requires few { length lists.old ≤ 64 }
     requires fit { FitEach (cells_in buffers.now) came.now lists.old }
@@ -90,7 +92,7 @@ fn insert_each(
     ensures offers { offers.new ≡ orders_of (cells_of lists.new) }
 {
     'inputs: for input in 0..lists.len() {
-        if let Some(queued) = came[input] {
+        if let Some(queued) = came.at(input) {
             insert_one(lists, buffers, offers, input, queued);
         }
     }
@@ -124,26 +126,6 @@ fn cross_matched(
 {
     transfer(matching, lists, buffers, slot, phase, note);
     offers.renew(lists, matching);
-}
-
-/// No cell in any of 64 places.
-pub fn nobody() -> [Option<Queued>; 64]
-    ensures { result ≡ replicate 64 None }
-{
-    [None; 64]
-}
-
-// The first cell of each buffer, which leaves it.
-fn pop_each(buffers: &mut [OutputBuffer]) -> [Option<Queued>; 64]
-    requires { length buffers.old ≤ 64 }
-    ensures gone { take (length buffers.old) result ≡ map front_of buffers.old }
-    ensures buffers { buffers.new ≡ map popped buffers.old }
-{
-    let mut gone = nobody();
-    'outputs: for output in 0..buffers.len() {
-        gone[output] = buffers[output].pop();
-    }
-    gone
 }
 
 // A list for each of these rooms, over as many outputs.
@@ -296,7 +278,7 @@ impl Queues {
     }
 
     /// The cells arrive, each at its input.
-    pub fn arrive(&mut self, came: &[Option<Queued>; 64])
+    pub fn arrive(&mut self, came: &Newcomers)
         requires fit { FitLists came.now self.old }
         requires come { ComeApart came.now self.old.inputs }
         ensures ports { length self.new.inputs ≡ length self.old.inputs }
@@ -347,15 +329,15 @@ impl Queues {
         );
     }
 
-    /// The first cell of each buffer, which leaves it, by output.
-    pub fn depart(&mut self) -> [Option<Queued>; 64]
-        ensures gone { take (length self.old.inputs) result ≡ fronts self.old.buffers }
+    /// The first cell of each buffer leaves it, and comes to `gone` at the place of its output.
+    pub fn depart(&mut self, gone: &mut Gone)
+        ensures gone { take (length self.old.inputs) gone.new ≡ fronts self.old.buffers }
         ensures buffers { self.new.buffers ≡ rests self.old.buffers }
         ensures inputs { self.new.inputs ≡ self.old.inputs }
         ensures from_inputs { self.new.from_inputs ≡ self.old.from_inputs }
         ensures to_outputs { self.new.to_outputs ≡ self.old.to_outputs }
     {
-        pop_each(&mut self.buffers)
+        gone.take_from(&mut self.buffers);
     }
 
     /// Whether no cell waits in any list or buffer.

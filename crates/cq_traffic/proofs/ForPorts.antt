@@ -1,5 +1,5 @@
--- What arrives in a slot is for the ports and of the classes, and each cell comes at its own input. It is found among all
--- cells that come, and what holds of each of these holds of it.
+-- What arrives in a slot is for the ports and of the classes, and each cell comes at its own input. It is found among
+-- all cells that come, and what holds of each of these holds of it.
 use Rattle.std.proofs.Common.{◌≡◌, ℕ, zero, suc, ◌+◌, ◌<◌, List, map, get_or, Option, Some, None, refl, sym, ap, ◌∙◌, subst, ⊎_elim, arith}
 use Rattle.std.specs.List.{AllByRecursion, range_with_len}
 use Rattle.std.proofs.lemmas.Bool.{cases_lt}
@@ -21,35 +21,50 @@ record Fits (ports classes k : ℕ) (cell : Cell) : Type 0 where
   pub output : cell.output < ports
   pub class : cell.class < classes
 
-pub one_found : (P : Cell → Type 0) (came : List Arrival) (t k : ℕ) (cell : Cell) → AllByRecursion P (found came t k) → arriving_at came t k ≡ Some cell → P cell
+pub one_found : (P : Cell → Type 0) (came : List Arrival) (t k : ℕ) (cell : Cell) →
+    AllByRecursion P (found came t k) → arriving_at came t k ≡ Some cell → P cell
 unfolding found
 one_found P came t k cell all is =
-    let one : AllByRecursion P (cell_listed (Some cell)) = subst (λ (o : Option Cell). AllByRecursion P (cell_listed o)) is all in
+    let one : AllByRecursion P (cell_listed (Some cell)) =
+    subst (λ (o : Option Cell). AllByRecursion P (cell_listed o)) is all in
     one.0
 
-arriving_fits : (ports classes : ℕ) (came : List Arrival) (t k : ℕ) (cell : Cell) → AllByRecursion (IsInRange ports classes) came → arriving_at came t k ≡ Some cell → Fits ports classes k cell
+arriving_fits : (ports classes : ℕ) (came : List Arrival) (t k : ℕ) (cell : Cell) →
+    AllByRecursion (IsInRange ports classes) came → arriving_at came t k ≡ Some cell → Fits ports classes k cell
 arriving_fits ports classes came t k cell all is =
     one_found (Fits ports classes k) came t k cell
     (all_found (Fits ports classes k) came t k
     (all_from (IsInRange ports classes) (λ a. a.slot ≡ t → a.cell.id.input ≡ k → Fits ports classes k a.cell)
-    (λ a r _ same. record { input = subst (λ (i : ℕ). i < ports) same r.input; output = r.output; class = r.class }) came all)) is
+    (λ a r _ same. record { input = subst (λ (i : ℕ). i < ports) same r.input; output = r.output; class = r.class })
+    came all)) is
 
-pub place_of : (came : List Arrival) (t input inputs : ℕ) (cell : Cell) → inputs ≡ 64 → arrival_at (arriving came t) input ≡ Some cell → arriving_at came t input ≡ Some cell
+pub place_of : (came : List Arrival) (t input inputs : ℕ) (cell : Cell) → inputs ≡ 64 →
+    arrival_at (arriving came t) input ≡ Some cell → arriving_at came t input ≡ Some cell
 place_of came t input inputs cell are at =
     let none : Option Cell = None in
     let cells : List (Option Cell) = map (arriving_at came t) (range_with_len 0 inputs) in
     let here : get_or cells input none ≡ Some cell =
-    ap (λ (l : List (Option Cell)). get_or l input none) (sym (arriving_is came t inputs are)) ∙ sym (unwrap_or-slice_get (arriving came t) input none) ∙ at in
+    ap (λ (l : List (Option Cell)). get_or l input none) (sym (arriving_is came t inputs are))
+    ∙ sym (unwrap_or-slice_get (arriving came t) input none) ∙ at in
     ⊎_elim
-    (λ inside. sym (get_or-map-range_with_len (arriving_at came t) 0 inputs input input none inside (omega arith)) ∙ here)
-    (λ outside. absurd (let past : get_or cells input none ≡ none = get_or_past cells input none (let l = length-map-range_with_len (arriving_at came t) 0 inputs in omega arith) in let P : ⊥ = cc in P))
+    (λ inside. sym (get_or-map-range_with_len (arriving_at came t) 0 inputs input input none inside (omega arith))
+    ∙ here)
+    (λ outside. absurd (let past : get_or cells input none ≡ none = get_or_past cells input none
+    (let l = length-map-range_with_len (arriving_at came t) 0 inputs in omega arith) in let P : ⊥ = cc in P))
     (cases_lt input inputs)
 
-pub arrivals_for : (ports classes : ℕ) (came : List Arrival) (t : ℕ) → IsTraffic ports classes came → AreForPorts ports classes (arriving came t)
+pub arrivals_for : (ports classes : ℕ) (came : List Arrival) (t : ℕ) → IsTraffic ports classes came →
+    AreForPorts ports classes (arriving came t)
 arrivals_for ports classes came t traffic = record {
-  inputs = λ input cell at. (arriving_fits ports classes came t input cell traffic.in_range (place_of came t input 64 cell refl at)).input;
-  outputs = λ input cell at. (arriving_fits ports classes came t input cell traffic.in_range (place_of came t input 64 cell refl at)).output;
-  classes = λ input cell at. (arriving_fits ports classes came t input cell traffic.in_range (place_of came t input 64 cell refl at)).class;
+  inputs =
+      λ input cell at. (arriving_fits ports classes came t input cell traffic.in_range
+      (place_of came t input 64 cell refl at)).input;
+  outputs =
+      λ input cell at. (arriving_fits ports classes came t input cell traffic.in_range
+      (place_of came t input 64 cell refl at)).output;
+  classes =
+      λ input cell at. (arriving_fits ports classes came t input cell traffic.in_range
+      (place_of came t input 64 cell refl at)).class;
 }
 
 -- and so is what arrives in so many slots

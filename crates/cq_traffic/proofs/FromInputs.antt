@@ -30,7 +30,8 @@ some_one None = refl
 some_one (Some cell) = refl
 
 module _ (i : ℕ) where
-  pub from_here : (came : List Arrival) (slot n : ℕ) → come_from i came slot (suc n) ≡ length (found came slot i) + come_from i came (slot + 1) n
+  pub from_here : (came : List Arrival) (slot n : ℕ) →
+      come_from i came slot (suc n) ≡ length (found came slot i) + come_from i came (slot + 1) n
   unfolding come_from total
   from_here came slot n = refl
 
@@ -48,27 +49,34 @@ module _ (i : ℕ) where
       let same = ap (λ (t : ℕ). length (found came t i)) at in
       omega arith
 
-  one_more : (a : Arrival) (came : List Arrival) → length (found (a ∷ came) a.slot i) ≤ length (found came a.slot i) + bit (is_from i a)
+  one_more : (a : Arrival) (came : List Arrival) →
+      length (found (a ∷ came) a.slot i) ≤ length (found came a.slot i) + bit (is_from i a)
   one_more a came =
       ⊎_elim
       (λ e.
       let one : length (found (a ∷ came) a.slot i) ≡ 1 = ap length (found_here a came a.slot i refl e) in
       let is : bit (is_from i a) ≡ 1 = ap bit (eq-eqb a.cell.id.input i e) in
       omega arith)
-      (λ ne. let same : length (found (a ∷ came) a.slot i) ≡ length (found came a.slot i) = ap length (other_input a came a.slot i ne) in omega arith)
+      (λ ne. let same : length (found (a ∷ came) a.slot i) ≡ length (found came a.slot i) = ap length
+      (other_input a came a.slot i ne) in omega arith)
       (cases_eq a.cell.id.input i)
 
   pub no_more_from : (came : List Arrival) (n : ℕ) → come_from i came 0 n ≤ number_of (is_from i) came
   unfolding come_from
-  no_more_from [] n = let none = total_none (λ t. length (found [] t i)) 0 n (λ t. ap length (found_none [] t i tt)) in omega arith
+  no_more_from [] n =
+      let none = total_none (λ t. length (found [] t i)) 0 n (λ t. ap length (found_none [] t i tt)) in
+      omega arith
   no_more_from (a ∷ came) n =
-      let more = total_more (λ t. length (found (a ∷ came) t i)) (λ t. length (found came t i)) a.slot (bit (is_from i a)) 0 n
+      let more =
+      total_more (λ t. length (found (a ∷ came) t i)) (λ t. length (found came t i)) a.slot (bit (is_from i a)) 0 n
       (λ t ne. ap length (other_slot a came t i (λ e. ne (sym e)))) (one_more a came) in
       let rest = no_more_from came n in
-      let count : bit (is_from i a) + number_of (is_from i) came ≡ number_of (is_from i) (a ∷ came) = one (is_from i a) in
+      let count : bit (is_from i a) + number_of (is_from i) came ≡ number_of (is_from i) (a ∷ came) =
+      one (is_from i a) in
       omega arith
     where
-      one : (b : Bool) → bit b + length (filter (is_from i) came) ≡ length (cond b (a ∷ filter (is_from i) came) (filter (is_from i) came))
+      one : (b : Bool) → bit b + length (filter (is_from i) came) ≡ length
+          (cond b (a ∷ filter (is_from i) came) (filter (is_from i) came))
       one true = omega arith
       one false = omega arith
 
@@ -79,10 +87,14 @@ arrives_found came t i = go (arrival_at (arriving came t) i) refl
   where
     go : (o : Option Cell) → arrival_at (arriving came t) i ≡ o → one_if o ≤ length (cell_listed (arriving_at came t i))
     go None e = omega arith
-    go (Some cell) e = let one : length (cell_listed (arriving_at came t i)) ≡ 1 = ap (λ (o : Option Cell). length (cell_listed o)) (place_of came t i 64 cell refl e) in omega arith
+    go (Some cell) e =
+        let one : length (cell_listed (arriving_at came t i)) ≡ 1 =
+        ap (λ (o : Option Cell). length (cell_listed o)) (place_of came t i 64 cell refl e) in
+        omega arith
 
 -- ## The slots so far
 
-pub first_more : (came : List Arrival) (slot : ℕ) → first_slots came (slot + 1) ≡ first_slots came slot ++ arriving came slot ∷ []
+pub first_more : (came : List Arrival) (slot : ℕ) →
+    first_slots came (slot + 1) ≡ first_slots came slot ++ arriving came slot ∷ []
 unfolding arriving_from
 first_more came slot = map-range_with_len_more (arriving came) 0 slot slot (omega arith)

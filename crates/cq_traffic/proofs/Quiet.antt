@@ -72,9 +72,11 @@ pub record IsBeforeBoth (slot last n : ℕ) (next : Option ℕ) : Type 0 where
   pub within : n ≤ last
   pub no_later : n ≤ unwrap_or next n
 
-pub before_both : (came : List Arrival) (slot last n : ℕ) (next : Option ℕ) → IsNextArrival came slot next → slot ≤ last →
+pub before_both : (came : List Arrival) (slot last n : ℕ) (next : Option ℕ) → IsNextArrival came slot next →
+    slot ≤ last →
     n ≡ min (unwrap_or next last) last → IsBeforeBoth slot last n next
-before_both came slot last n None all le is = record { late = omega arith; within = omega arith; no_later = omega arith }
+before_both came slot last n None all le is =
+    record { late = omega arith; within = omega arith; no_later = omega arith }
 before_both came slot last n (Some next) at le is =
     let late = at.late in
     record { late = omega arith; within = omega arith; no_later = omega arith }

@@ -1,5 +1,5 @@
--- What is still to come for one output. Each arrival adds one cell at most to what comes, at its slot and input, and only
--- to what comes for its output. So no more cells come for an output than there are arrivals for it.
+-- What is still to come for one output. Each arrival adds one cell at most to what comes, at its slot and input, and
+-- only to what comes for its output. So no more cells come for an output than there are arrivals for it.
 use Rattle.std.proofs.Common.{◌≡◌, ℕ, zero, suc, ◌+◌, ◌≤◌, Bool, true, false, cond, List, [], ◌∷◌, ◌++◌, length, map, Option, Some, None, refl, sym, ap, ◌∙◌, arith}
 use Rattle.std.specs.Prelude.{◌==◌}
 use Rattle.std.specs.List.{range_with_len, filter}
@@ -44,12 +44,14 @@ count_to j [] = 0
 count_to j (cell ∷ cells) = cond (cell.output == j) 1 0 + count_to j cells
 
 module _ (j : ℕ) where
-  count_for-cons : (o : Option Cell) (cells : List (Option Cell)) → count_for j (o ∷ cells) ≡ count_to j (cell_listed o) + count_for j cells
+  count_for-cons : (o : Option Cell) (cells : List (Option Cell)) →
+      count_for j (o ∷ cells) ≡ count_to j (cell_listed o) + count_for j cells
   unfolding count_to
   count_for-cons None cells = omega arith
   count_for-cons (Some cell) cells = omega arith
 
-  count_in_places : (came : List Arrival) (t a n : ℕ) → count_for j (map (arriving_at came t) (range_with_len a n)) ≡ total (λ k. count_to j (found came t k)) a n
+  count_in_places : (came : List Arrival) (t a n : ℕ) →
+      count_for j (map (arriving_at came t) (range_with_len a n)) ≡ total (λ k. count_to j (found came t k)) a n
   unfolding total found
   count_in_places came t a zero = refl
   count_in_places came t a (suc n) =
@@ -67,37 +69,50 @@ module _ (j : ℕ) where
     count_in_slot came t = ap (count_for j) (arriving_is came t inputs are) ∙ count_in_places came t 0 inputs
 
     -- an arrival adds itself to its slot, if it is for the output
-    in_slot-cons : (a : Arrival) (came : List Arrival) → in_slot (a ∷ came) a.slot ≤ in_slot came a.slot + cond (is_to j a) 1 0
+    in_slot-cons : (a : Arrival) (came : List Arrival) →
+        in_slot (a ∷ came) a.slot ≤ in_slot came a.slot + cond (is_to j a) 1 0
     unfolding in_slot count_to
     in_slot-cons a came =
-        total_more (λ k. count_to j (found (a ∷ came) a.slot k)) (λ k. count_to j (found came a.slot k)) a.cell.id.input (cond (is_to j a) 1 0) 0 inputs
+        total_more (λ k. count_to j (found (a ∷ came) a.slot k)) (λ k. count_to j (found came a.slot k))
+        a.cell.id.input (cond (is_to j a) 1 0) 0 inputs
         (λ k ne. ap (count_to j) (other_input a came a.slot k (λ e. ne (sym e))))
-        (let one : count_to j (found (a ∷ came) a.slot a.cell.id.input) ≡ count_to j (a.cell ∷ []) = ap (count_to j) (found_here a came a.slot a.cell.id.input refl refl) in omega arith)
+        (let one : count_to j (found (a ∷ came) a.slot a.cell.id.input) ≡ count_to j (a.cell ∷ []) = ap (count_to j)
+        (found_here a came a.slot a.cell.id.input refl refl) in omega arith)
 
     no_more_than : (came : List Arrival) (n : ℕ) → total (in_slot came) 0 n ≤ number_of (is_to j) came
     unfolding in_slot count_to
     no_more_than [] n =
-        let none = total_none (in_slot []) 0 n (λ t. total_none (λ k. count_to j (found [] t k)) 0 inputs (λ k. ap (count_to j) (found_none [] t k tt))) in omega arith
+        let none =
+        total_none (in_slot []) 0 n (λ t. total_none (λ k. count_to j (found [] t k)) 0 inputs
+        (λ k. ap (count_to j) (found_none [] t k tt))) in
+        omega arith
     no_more_than (a ∷ came) n =
         let more = total_more (in_slot (a ∷ came)) (in_slot came) a.slot (cond (is_to j a) 1 0) 0 n
-        (λ t ne. total_same (λ k. count_to j (found (a ∷ came) t k)) (λ k. count_to j (found came t k)) 0 inputs (λ k l. ap (count_to j) (other_slot a came t k (λ e. ne (sym e)))))
+        (λ t ne. total_same (λ k. count_to j (found (a ∷ came) t k)) (λ k. count_to j (found came t k)) 0 inputs
+        (λ k l. ap (count_to j) (other_slot a came t k (λ e. ne (sym e)))))
         (in_slot-cons a came) in
         let rest = no_more_than came n in
-        let count : cond (is_to j a) 1 0 + number_of (is_to j) came ≡ number_of (is_to j) (a ∷ came) = one (is_to j a) in
+        let count : cond (is_to j a) 1 0 + number_of (is_to j) came ≡ number_of (is_to j) (a ∷ came) =
+        one (is_to j a) in
         omega arith
       where
-        one : (b : Bool) → cond b 1 0 + length (filter (is_to j) came) ≡ length (cond b (a ∷ filter (is_to j) came) (filter (is_to j) came))
+        one : (b : Bool) → cond b 1 0 + length (filter (is_to j) came) ≡ length
+            (cond b (a ∷ filter (is_to j) came) (filter (is_to j) came))
         one true = omega arith
         one false = omega arith
 
-    count_from : (came : List Arrival) (a n : ℕ) → come_for j (map (arriving came) (range_with_len a n)) ≡ total (in_slot came) a n
+    count_from : (came : List Arrival) (a n : ℕ) →
+        come_for j (map (arriving came) (range_with_len a n)) ≡ total (in_slot came) a n
     unfolding come_for total
     count_from came a zero = refl
     count_from came a (suc n) = let here = count_in_slot came a in let rest = count_from came (a + 1) n in omega arith
 
   pub come_for-traffic_of : (came : List Arrival) → come_for j (traffic_of came) ≤ number_of (is_to j) came
   unfolding traffic_of
-  come_for-traffic_of came = let count = count_from 64 refl came 0 (enough came) in let few = no_more_than 64 refl came (enough came) in omega arith
+  come_for-traffic_of came =
+      let count = count_from 64 refl came 0 (enough came) in
+      let few = no_more_than 64 refl came (enough came) in
+      omega arith
 
   -- so it is in any number of slots
   pub no_more_to : (came : List Arrival) (n : ℕ) → come_for j (first_slots came n) ≤ number_of (is_to j) came

@@ -1,15 +1,21 @@
 use Rattle.std.proofs.Common.{◌≡◌, sym, ◌∙◌, subst}
 use Rattle.std.specs.Prelude.{All}
 use Rattle.cq_list.specs.InputList.{cells_of}
-use Rattle.cq_fabric.proofs.Queued.{firsts_apart, lists_long}
+use Rattle.cq_fabric.proofs.Queued.{HaveCrossed, firsts_apart, lists_long}
 use Rattle.cq_fabric.proofs.Offered.{as_offered, moved_apart, moved_same, moved_outputs}
 use Rattle.cq_fabric.proofs.queues.cross_matched.Goals as goal
 
 pub renew-requires-clause-lists : goal.renew-requires-clause-lists
 renew-requires-clause-lists c =
-    lists_long c.args.matching.now c.args.lists.now c.args.buffers.now c.transfer.new.lists c.transfer.new.buffers
-    c.requires.cells c.transfer.ensures.moves c.transfer.ensures.room
-    ∙ sym (as_offered c.args.lists.now c.args.offers.now c.requires.offers)
+    let crossed : HaveCrossed c.args.matching.now c.args.lists.now c.args.buffers.now c.transfer.new.lists
+    c.transfer.new.buffers =
+    record {
+      have = c.requires.cells;
+      moves = c.transfer.ensures.moves;
+      rooms = c.transfer.ensures.room;
+      outputs = c.transfer.ensures.outputs;
+    } in
+    lists_long crossed ∙ sym (as_offered c.args.lists.now c.args.offers.now c.requires.offers)
 
 pub renew-requires-clause-outputs : goal.renew-requires-clause-outputs
 renew-requires-clause-outputs c =

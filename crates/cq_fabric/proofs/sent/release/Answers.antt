@@ -4,7 +4,8 @@ use Rattle.std.proofs.lemmas.Bool.{cases_eq, cases_lt}
 use Rattle.std.proofs.lemmas.List.{get_or_past}
 use Rattle.cq_base.specs.declared.cell.Queued.{Queued}
 use Rattle.cq_laws.specs.Phases.{came_to}
-use Rattle.cq_fabric.proofs.Limits.{bit, released}
+use Rattle.cq_fabric.proofs.Known.{bit}
+use Rattle.cq_fabric.proofs.Limits.{released}
 use Rattle.cq_fabric.proofs.sent.release.Goals as goal
 
 pub outputs-init : goal.outputs-init
@@ -40,11 +41,14 @@ outputs-preserved c =
     let ports = inv.ports in
     let same = inv.left o (omega arith) in
     let some = subst (λ (n : ℕ). IfSome (came_to c.args.gone.now o) (λ _. 0 < n)) (sym same) (c.requires.holds o) in
-    let one = released (get_or c.args.gone.now o none) o c.outputs.limiter.held c.sent.new.self.held (omega arith) c.sent.ensures.held some in
+    let one =
+    released (get_or c.args.gone.now o none) o c.outputs.limiter.held c.sent.new.self.held (omega arith)
+    c.sent.ensures.held some in
     record {
       done = λ j before.
           ⊎_elim
-          (λ (here : j ≡ o). subst (λ (k : ℕ). get_or c.sent.new.self.held k 0 + bit (came_to c.args.gone.now k) ≡ get_or c.args.limiter.now.held k 0) (sym here) (one.0 ∙ same))
+          (λ (here : j ≡ o). subst (λ (k : ℕ). get_or c.sent.new.self.held k 0 + bit (came_to c.args.gone.now k)
+          ≡ get_or c.args.limiter.now.held k 0) (sym here) (one.0 ∙ same))
           (λ (other : j ≢ o). let was = inv.done j (omega arith) in let kept = one.1 j other in omega arith)
           (cases_eq j o);
       left = λ j from. let other : j ≢ o = λ e. absurd (omega arith) in one.1 j other ∙ inv.left j (omega arith);

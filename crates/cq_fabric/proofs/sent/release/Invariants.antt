@@ -1,6 +1,6 @@
 use Rattle.std.proofs.Common.{◌≡◌, ℕ, ◌+◌, ◌<◌, ◌≤◌, get_or, length}
 use Rattle.cq_laws.specs.Phases.{came_to}
-use Rattle.cq_fabric.proofs.Limits.{bit}
+use Rattle.cq_fabric.proofs.Known.{bit}
 use Rattle.cq_fabric.proofs.sent.release.Given as goal
 
 -- the outputs before this one hold what they sent no longer, and the others are as before

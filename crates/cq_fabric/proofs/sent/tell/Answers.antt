@@ -16,8 +16,12 @@ outputs-preserved g c =
     record {
       fixed = c.told.ensures.fixed ∙ inv.fixed;
       states =
-          told_next ms c.args.gone.now c.args.ranks.now.states c.outputs.ranks.states c.told.new.self.states c.outputs.output (get_or c.args.gone.now c.outputs.output None) (omega arith) inv.states refl
-          (subst (λ fixed. c.told.new.self.states ≡ set c.outputs.ranks.states c.outputs.output (told (machine_at (map g.R.Rank.machine fixed) c.outputs.output) (get_or c.outputs.ranks.states c.outputs.output []) (get_or c.args.gone.now c.outputs.output None))) inv.fixed c.told.ensures.states);
+          told_next ms c.args.gone.now c.args.ranks.now.states c.outputs.ranks.states c.told.new.self.states
+          c.outputs.output (get_or c.args.gone.now c.outputs.output None) (omega arith) inv.states refl
+          (subst (λ fixed. c.told.new.self.states ≡ set c.outputs.ranks.states c.outputs.output
+          (told (machine_at (map g.R.Rank.machine fixed) c.outputs.output)
+          (get_or c.outputs.ranks.states c.outputs.output []) (get_or c.args.gone.now c.outputs.output None)))
+          inv.fixed c.told.ensures.states);
     }
 
 pub returns-clause-states : goal.returns-clause-states
@@ -27,4 +31,5 @@ returns-clause-states g c =
     let outputs = c.requires.outputs in
     let states = c.requires.states in
     let past = c.outputs-test.false in
-    c.outputs.invariant.states ∙ at_end (all_told ms c.args.gone.now old) old c.outputs.output (length-told ms c.args.gone.now old) (omega arith)
+    c.outputs.invariant.states ∙ at_end (all_told ms c.args.gone.now old) old c.outputs.output
+    (length-told ms c.args.gone.now old) (omega arith)

@@ -7,5 +7,6 @@ use Rattle.cq_fabric.proofs.sent.tell.Given as goal
 abbrev pub invariant-outputs : goal.invariant-outputs
 invariant-outputs g l = record {
   fixed : l.ranks.fixed ≡ l.fn.ranks.fixed;
-  states : l.ranks.states ≡ changed_to (all_told (map g.R.Rank.machine l.fn.ranks.fixed) l.gone l.fn.ranks.states) l.fn.ranks.states l.output;
+  states : l.ranks.states ≡ changed_to (all_told (map g.R.Rank.machine l.fn.ranks.fixed) l.gone l.fn.ranks.states)
+      l.fn.ranks.states l.output;
 }

@@ -8,7 +8,8 @@ use Rattle.cq_fabric.proofs.standing.all_buffered.Goals as goal
 pub outputs-preserved : goal.outputs-preserved
 outputs-preserved c =
     let cells_at : Buffered → List Queued = λ x. x.cells in
-    one_told cells_at c.args.buffers.now c.outputs.output c.index-buffers-output.result c.outputs.all.items c.push.new.self.items
+    one_told cells_at c.args.buffers.now c.outputs.output c.index-buffers-output.result c.outputs.all.items
+    c.push.new.self.items
     c.in_ok-cells.cells c.outputs.invariant c.in_ok-push.ensures.items c.outputs-test.true c.index-buffers-output.is
     c.in_ok-cells.ensures
 

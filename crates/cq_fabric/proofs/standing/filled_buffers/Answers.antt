@@ -29,7 +29,8 @@ outputs-preserved c =
     let here : c.as_slice-crossed.result.now ≡ list_of cells output =
     c.as_slice-crossed.ensures
     ∙ get_or_read cells output c.index-cells-output.result (omega arith) c.index-cells-output.is [] in
-    one_stored rooms cells output c.outputs.buffers.items c.push.new.self.items c.in_ok-buffer.buffer c.outputs.invariant
+    one_stored rooms cells output c.outputs.buffers.items c.push.new.self.items c.in_ok-buffer.buffer
+    c.outputs.invariant
     c.in_ok-push.ensures.items inside as_many (c.in_ok-buffer.ensures.cells ∙ here) c.in_ok-buffer.ensures.room
     (omega (arith, c.type_inv.rooms output))
 

@@ -1,45 +1,83 @@
-use Rattle.std.proofs.Common.{◌≡◌, ◌<◌, ℕ, List, Option, [], length, map, take, drop, ◌++◌, sym, ap, ◌∙◌, subst, arith}
+use Rattle.std.proofs.Common.{◌≡◌, ◌<◌, ℕ, List, [], length, map, take, drop, ◌++◌, sym, ap, ◌∙◌, subst, arith}
 use Rattle.std.specs.Prelude.{All}
-use Rattle.cq_base.specs.declared.cell.Queued.{Queued}
 use Rattle.cq_list.specs.InputList.{Waiting, cells_of}
 use Rattle.cq_urgency.specs.OutputBuffer.{Buffered, cells_in}
 use Rattle.cq_prefs.specs.FirstCells.{list_of, orders_of}
 use Rattle.cq_prefs.specs.Orders.{ports}
 use Rattle.cq_laws.specs.Phases.{came_to, list_arrived}
 use Rattle.cq_fabric.specs.Queues.{Queues as Held, ComeApart, FitLists, FitEach, AreSquare, AreOffered, fabric_of, list_room, list_at, list_with}
-use Rattle.cq_fabric.proofs.Queued.{whole, fit_each, arrived_cells, arrived_rooms, arrived_square}
+use Rattle.cq_fabric.proofs.Queued.{HaveCome, shown, whole, fit_each, arrived_cells, arrived_rooms, arrived_square}
 use Rattle.cq_fabric.proofs.Offered.{as_offered}
 use Rattle.cq_fabric.proofs.queues.Queues.arrive.Goals as goal
+use Rattle.cq_fabric.proofs.queues.Queues.arrive.Goals.{After-self}
+
+-- ## What is known, call by call
+
+-- what comes fits the lists
+fits : (c : After-self) →
+    FitLists c.args.came.now (shown c.self.inside.lists.items c.self.inside.buffers.items)
+fits c = subst (FitLists c.args.came.now) (sym c.self.view_is) c.requires.fit
 
 -- what the loop says of the vectors, from what it says of their slices
-seen : (items got lists' : List Waiting) (buffers given : List Buffered) (came : List (Option Queued)) → got ≡ items → given ≡ buffers → ((i : ℕ) → i < length got → list_at lists' i ≡ list_with (cells_in given) (came_to came i) (list_at got i)) → (i : ℕ) → i < length items → list_at lists' i ≡ list_with (cells_in buffers) (came_to came i) (list_at items i)
-seen items got lists' buffers given came e f each =
-    subst (λ (bs : List Buffered). (i : ℕ) → i < length items → list_at lists' i ≡ list_with (cells_in bs) (came_to came i) (list_at items i)) f
-    (subst (λ (ls : List Waiting). (i : ℕ) → i < length ls → list_at lists' i ≡ list_with (cells_in given) (came_to came i) (list_at ls i)) e each)
+come : (c : goal.After-self-1) →
+    HaveCome c.self.inside.lists.items c.self.inside.buffers.items c.args.came.now (ports c.self.inside.offers)
+    c.insert_each.new.lists
+come c =
+    let lists = c.self.inside.lists.items in
+    let new = c.insert_each.new.lists in
+    let came = c.args.came.now in
+    record {
+      square = c.self.invariant.square;
+      fit = fits (goal.at.invariant_of-self c).After-self;
+      long = c.insert_each.ensures.ports ∙ ap length c.deref_mut.ensures.value;
+      each =
+          subst
+          (λ (bs : List Buffered). (i : ℕ) → i < length lists →
+          list_at new i ≡ list_with (cells_in bs) (came_to came i) (list_at lists i)) c.deref.ensures.value
+          (subst
+          (λ (ls : List Waiting). (i : ℕ) → i < length ls →
+          list_at new i ≡ list_with (cells_in c.deref.result.now) (came_to came i) (list_at ls i))
+          c.deref_mut.ensures.value c.insert_each.ensures.lists);
+    }
+
+-- the vector of the lists is its slice again
+lists_are : (c : goal.After-self-1) →
+    take c.self.inside.lists.len (c.insert_each.new.lists ++ drop (length c.insert_each.new.lists)
+    c.self.inside.lists.items) ≡ c.insert_each.new.lists
+lists_are c =
+    let size = c.deref_mut.ensures.len in
+    let value = ap length c.deref_mut.ensures.value in
+    let long = c.insert_each.ensures.ports in
+    whole c.self.inside.lists.len c.insert_each.new.lists c.self.inside.lists.items (omega arith) (omega arith)
+
+-- ## What is asked, and what stands afterwards
 
 pub insert_each-requires-clause-fit : goal.insert_each-requires-clause-fit
 insert_each-requires-clause-fit c =
-    let fits = subst (FitLists c.args.came.now) (sym c.self.view_is) c.requires.fit in
-    let each = fit_each c.self.inside.lists.items c.self.inside.buffers.items c.args.came.now (ports c.self.inside.offers) c.self.invariant.square fits in
-    subst (λ (bs : List Buffered). FitEach (cells_in bs) c.args.came.now c.deref_mut.result.now) (sym c.deref.ensures.value)
-    (subst (λ (ls : List Waiting). FitEach (cells_in c.self.inside.buffers.items) c.args.came.now ls) (sym c.deref_mut.ensures.value) each)
+    let lists = c.self.inside.lists.items in
+    let buffers = c.self.inside.buffers.items in
+    let came = c.args.came.now in
+    let fit = fits (goal.at.insert_each-requires-clause-fit c).After-self in
+    let each = fit_each lists buffers came (ports c.self.inside.offers) c.self.invariant.square fit in
+    subst (λ (bs : List Buffered). FitEach (cells_in bs) came c.deref_mut.result.now) (sym c.deref.ensures.value)
+    (subst (λ (ls : List Waiting). FitEach (cells_in buffers) came ls) (sym c.deref_mut.ensures.value) each)
 
 pub invariant_of-self : goal.invariant_of-self
 invariant_of-self c =
     let lists = c.self.inside.lists.items in
+    let buffers = c.self.inside.buffers.items in
     let new = c.insert_each.new.lists in
-    let fits = subst (FitLists c.args.came.now) (sym c.self.view_is) c.requires.fit in
-    let size = c.deref_mut.ensures.len in
-    let value = ap length c.deref_mut.ensures.value in
-    let long = c.insert_each.ensures.ports in
-    let is : take c.self.inside.lists.len (new ++ drop (length new) lists) ≡ new = whole c.self.inside.lists.len new lists (omega arith) (omega arith) in
+    let offers = c.insert_each.new.offers in
     let follows = c.insert_each.ensures.offers in
-    let offered : ports c.self.inside.offers ≡ ports c.insert_each.new.offers =
-    as_offered lists c.self.inside.offers c.self.invariant.offered ∙ sym (long ∙ value) ∙ sym (as_offered new c.insert_each.new.offers follows) in
-    let square = arrived_square lists c.self.inside.buffers.items c.args.came.now (ports c.self.inside.offers) c.self.invariant.square fits new (long ∙ value)
-    (seen lists c.deref_mut.result.now new c.self.inside.buffers.items c.deref.result.now c.args.came.now c.deref_mut.ensures.value c.deref.ensures.value c.insert_each.ensures.lists) in
-    subst (λ (ls : List Waiting). AreOffered ls c.self.inside.buffers.items c.insert_each.new.offers) (sym is)
-    (record { square = subst (AreSquare new c.self.inside.buffers.items) offered square; offered = follows; rooms = c.self.invariant.rooms })
+    let offered : ports c.self.inside.offers ≡ ports offers =
+    as_offered lists c.self.inside.offers c.self.invariant.offered ∙ sym (come c).long
+    ∙ sym (as_offered new offers follows) in
+    subst (λ (ls : List Waiting). AreOffered ls buffers offers) (sym (lists_are c))
+    (record {
+      square = subst (AreSquare new buffers) offered (arrived_square (come c));
+      offered = follows;
+      rooms = c.self.invariant.rooms;
+    })
 
 pub insert_each-requires-clause-come : goal.insert_each-requires-clause-come
 insert_each-requires-clause-come c =
@@ -48,7 +86,8 @@ insert_each-requires-clause-come c =
 
 pub insert_each-requires-clause-outputs : goal.insert_each-requires-clause-outputs
 insert_each-requires-clause-outputs c =
-    subst (λ (ls : List Waiting). All (λ list. list.outputs ≡ length ls) ls) (sym c.deref_mut.ensures.value) c.self.invariant.square.outputs
+    subst (λ (ls : List Waiting). All (λ list. list.outputs ≡ length ls) ls) (sym c.deref_mut.ensures.value)
+    c.self.invariant.square.outputs
 
 pub insert_each-requires-clause-offers : goal.insert_each-requires-clause-offers
 insert_each-requires-clause-offers c =
@@ -56,28 +95,14 @@ insert_each-requires-clause-offers c =
 
 pub returns-clause-lists : goal.returns-clause-lists
 returns-clause-lists c i =
-    let lists = c.self.inside.lists.items in
     let new = c.insert_each.new.lists in
-    let fits = subst (FitLists c.args.came.now) (sym c.self.view_is) c.requires.fit in
-    let size = c.deref_mut.ensures.len in
-    let value = ap length c.deref_mut.ensures.value in
-    let long = c.insert_each.ensures.ports in
-    let is : take c.self.inside.lists.len (new ++ drop (length new) lists) ≡ new = whole c.self.inside.lists.len new lists (omega arith) (omega arith) in
-    ap (λ (ls : List Waiting). list_of (cells_of ls) i) is
-    ∙ subst (λ (q : Held). list_of (cells_of new) i ≡ list_arrived (fabric_of q []) (came_to c.args.came.now i) (list_of q.inputs i)) c.self.view_is
-    (arrived_cells lists c.self.inside.buffers.items c.args.came.now (ports c.self.inside.offers) c.self.invariant.square fits new (long ∙ value)
-    (seen lists c.deref_mut.result.now new c.self.inside.buffers.items c.deref.result.now c.args.came.now c.deref_mut.ensures.value c.deref.ensures.value c.insert_each.ensures.lists) i)
+    let came = came_to c.args.came.now i in
+    ap (λ (ls : List Waiting). list_of (cells_of ls) i) (lists_are c)
+    ∙ subst
+    (λ (q : Held). list_of (cells_of new) i ≡ list_arrived (fabric_of q []) came (list_of q.inputs i)) c.self.view_is
+    (arrived_cells (come c) i)
 
 pub returns-clause-from_inputs : goal.returns-clause-from_inputs
 returns-clause-from_inputs c =
-    let lists = c.self.inside.lists.items in
-    let new = c.insert_each.new.lists in
-    let fits = subst (FitLists c.args.came.now) (sym c.self.view_is) c.requires.fit in
-    let size = c.deref_mut.ensures.len in
-    let value = ap length c.deref_mut.ensures.value in
-    let long = c.insert_each.ensures.ports in
-    let is : take c.self.inside.lists.len (new ++ drop (length new) lists) ≡ new = whole c.self.inside.lists.len new lists (omega arith) (omega arith) in
-    ap (λ (ls : List Waiting). map list_room ls) is
-    ∙ arrived_rooms lists c.self.inside.buffers.items c.args.came.now (ports c.self.inside.offers) c.self.invariant.square fits new (long ∙ value)
-    (seen lists c.deref_mut.result.now new c.self.inside.buffers.items c.deref.result.now c.args.came.now c.deref_mut.ensures.value c.deref.ensures.value c.insert_each.ensures.lists)
+    ap (λ (ls : List Waiting). map list_room ls) (lists_are c) ∙ arrived_rooms (come c)
     ∙ ap (λ (q : Held). q.from_inputs) c.self.view_is

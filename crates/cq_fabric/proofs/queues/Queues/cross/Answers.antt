@@ -10,24 +10,9 @@ use Rattle.cq_prefs.specs.Pairing.{Partners, IsMatching}
 use Rattle.cq_xbar.specs.Crossbar.{HaveCells, HaveRoom, MovesRoom}
 use Rattle.cq_fabric.specs.Queues.{Queues as Held, KeysApart, CanCross, AreSquare, AreOffered, list_room, buffer_room}
 use Rattle.cq_fabric.proofs.Offered.{as_offered}
-use Rattle.cq_fabric.proofs.Queued.{shown, whole, has_cell, have_room, lists_long, buffers_long, crossed_list_rooms, crossed_buffer_rooms, crossed_square, matched_long}
+use Rattle.cq_fabric.proofs.Queued.{HaveCrossed, shown, whole, has_cell, have_room, lists_long, buffers_long, crossed_list_rooms, crossed_buffer_rooms, crossed_square, matched_long}
 use Rattle.cq_fabric.proofs.queues.Queues.cross.Goals as goal
-
--- what the transfer says of the vectors, from what it says of their slices
-record Crossed (m : Partners) (lists : List Waiting) (buffers : List Buffered) (lists' : List Waiting) (buffers' : List Buffered) : Type 0 where
-  have : HaveCells m (cells_of lists)
-  moves : Moves m (cells_of lists) (cells_in buffers) (cells_of lists') (cells_in buffers')
-  rooms : MovesRoom m lists buffers lists' buffers'
-  outputs : map (λ w. w.outputs) lists' ≡ map (λ w. w.outputs) lists
-
-crossed : (m : Partners) (lists got : List Waiting) (buffers given : List Buffered) (lists' : List Waiting) (buffers' : List Buffered) → got ≡ lists → given ≡ buffers → HaveCells m (cells_of lists) → Moves m (cells_of got) (cells_in given) (cells_of lists') (cells_in buffers') → MovesRoom m got given lists' buffers' → map (λ w. w.outputs) lists' ≡ map (λ w. w.outputs) got → Crossed m lists buffers lists' buffers'
-crossed m lists got buffers given lists' buffers' e f have moves rooms outputs =
-    record {
-      have = have;
-      moves = subst (λ (ls : List Waiting). Moves m (cells_of ls) (cells_in buffers) (cells_of lists') (cells_in buffers')) e (subst (λ (bs : List Buffered). Moves m (cells_of got) (cells_in bs) (cells_of lists') (cells_in buffers')) f moves);
-      rooms = subst (λ (ls : List Waiting). MovesRoom m ls buffers lists' buffers') e (subst (λ (bs : List Buffered). MovesRoom m got bs lists' buffers') f rooms);
-      outputs = outputs ∙ ap (map (λ (w : Waiting). w.outputs)) e;
-    }
+use Rattle.cq_fabric.proofs.queues.Queues.cross.Goals.{After-self}
 
 have_cells : (lists : List Waiting) (buffers : List Buffered) (now : Held) (o : Orders) (m : Partners) →
     shown lists buffers ≡ now → CanCross now → o ≡ orders_of (cells_of lists) → IsMatching (orders_of now.inputs) m →
@@ -36,6 +21,62 @@ have_cells lists buffers now o m view can orders matching =
     has_cell (cells_of lists) (cells_in buffers) (map list_room lists) (map buffer_room buffers) o m
     (subst CanCross (sym view) can) orders
     (subst (λ (x : Orders). IsMatching x m) (sym (orders ∙ ap (λ (q : Held). orders_of q.inputs) view)) matching)
+
+-- ## What is known, call by call
+
+-- each pair of the matching has a cell that can cross
+have : (c : After-self) → HaveCells c.args.matching.now (cells_of c.self.inside.lists.items)
+have c =
+    have_cells c.self.inside.lists.items c.self.inside.buffers.items c.args.self.now c.self.inside.offers
+    c.args.matching.now c.self.view_is c.requires.cells c.self.invariant.offered c.requires.matching
+
+-- what the transfer says of the vectors, from what it says of their slices
+crossed : (c : goal.After-self-2-1) →
+    HaveCrossed c.args.matching.now c.self.inside.lists.items c.self.inside.buffers.items c.cross_matched.new.lists
+    c.cross_matched.new.buffers
+crossed c =
+    let m = c.args.matching.now in
+    let lists' = c.cross_matched.new.lists in
+    let buffers' = c.cross_matched.new.buffers in
+    let all = c.cross_matched.ensures in
+    let e = c.deref_mut.ensures.value in
+    let f = c.deref_mut-2.ensures.value in
+    record {
+      have = have (goal.at.invariant_of-self c).After-self;
+      moves =
+          subst
+          (λ (ls : List Waiting).
+          Moves m (cells_of ls) (cells_in c.self.inside.buffers.items) (cells_of lists') (cells_in buffers')) e
+          (subst
+          (λ (bs : List Buffered).
+          Moves m (cells_of c.deref_mut.result.now) (cells_in bs) (cells_of lists') (cells_in buffers')) f all.moves);
+      rooms =
+          subst (λ (ls : List Waiting). MovesRoom m ls c.self.inside.buffers.items lists' buffers') e
+          (subst (λ (bs : List Buffered). MovesRoom m c.deref_mut.result.now bs lists' buffers') f all.room);
+      outputs = all.outputs ∙ ap (map (λ (w : Waiting). w.outputs)) e;
+    }
+
+-- the vector of the lists is its slice again
+lists_are : (c : goal.After-self-2-1) →
+    take c.self.inside.lists.len (c.cross_matched.new.lists ++ drop (length c.cross_matched.new.lists)
+    c.self.inside.lists.items) ≡ c.cross_matched.new.lists
+lists_are c =
+    let long = lists_long (crossed c) in
+    let size = c.deref_mut.ensures.len in
+    let value = ap length c.deref_mut.ensures.value in
+    whole c.self.inside.lists.len c.cross_matched.new.lists c.self.inside.lists.items (omega arith) (omega arith)
+
+-- and so is that of the buffers
+buffers_are : (c : goal.After-self-2-1) →
+    take c.self.inside.buffers.len (c.cross_matched.new.buffers ++ drop (length c.cross_matched.new.buffers)
+    c.self.inside.buffers.items) ≡ c.cross_matched.new.buffers
+buffers_are c =
+    let long = buffers_long (crossed c) in
+    let size = c.deref_mut-2.ensures.len in
+    let value = ap length c.deref_mut-2.ensures.value in
+    whole c.self.inside.buffers.len c.cross_matched.new.buffers c.self.inside.buffers.items (omega arith) (omega arith)
+
+-- ## What is asked, and what stands afterwards
 
 pub cross_matched-requires-clause-lists : goal.cross_matched-requires-clause-lists
 cross_matched-requires-clause-lists c =
@@ -58,19 +99,15 @@ cross_matched-requires-clause-note c =
 
 pub cross_matched-requires-clause-cells : goal.cross_matched-requires-clause-cells
 cross_matched-requires-clause-cells c =
-    let lists = c.self.inside.lists.items in
-    let buffers = c.self.inside.buffers.items in
-    let m = c.args.matching.now in
-    let have = have_cells lists buffers c.args.self.now c.self.inside.offers m c.self.view_is c.requires.cells c.self.invariant.offered c.requires.matching in
-    subst (λ (ls : List Waiting). HaveCells m (cells_of ls)) (sym c.deref_mut.ensures.value) have
+    subst (λ (ls : List Waiting). HaveCells c.args.matching.now (cells_of ls)) (sym c.deref_mut.ensures.value)
+    (have (goal.at.cross_matched-requires-clause-cells c).After-self)
 
 pub cross_matched-requires-clause-room : goal.cross_matched-requires-clause-room
 cross_matched-requires-clause-room c =
-    let lists = c.self.inside.lists.items in
-    let buffers = c.self.inside.buffers.items in
-    let m = c.args.matching.now in
-    let have = have_cells lists buffers c.args.self.now c.self.inside.offers m c.self.view_is c.requires.cells c.self.invariant.offered c.requires.matching in
-    subst (HaveRoom m) (sym c.deref_mut-2.ensures.value) (have_room lists buffers m (subst CanCross (sym c.self.view_is) c.requires.cells) have)
+    let can = subst CanCross (sym c.self.view_is) c.requires.cells in
+    subst (HaveRoom c.args.matching.now) (sym c.deref_mut-2.ensures.value)
+    (have_room c.self.inside.lists.items c.self.inside.buffers.items c.args.matching.now can
+    (have (goal.at.cross_matched-requires-clause-room c).After-self))
 
 pub cross_matched-requires-clause-apart : goal.cross_matched-requires-clause-apart
 cross_matched-requires-clause-apart c =
@@ -80,58 +117,35 @@ cross_matched-requires-clause-apart c =
 pub invariant_of-self : goal.invariant_of-self
 invariant_of-self c =
     let lists = c.self.inside.lists.items in
-    let buffers = c.self.inside.buffers.items in
     let new = c.cross_matched.new.lists in
     let filled = c.cross_matched.new.buffers in
-    let m = c.args.matching.now in
-    let have = have_cells lists buffers c.args.self.now c.self.inside.offers m c.self.view_is c.requires.cells c.self.invariant.offered c.requires.matching in
-    let x = crossed m lists c.deref_mut.result.now buffers c.deref_mut-2.result.now new filled c.deref_mut.ensures.value c.deref_mut-2.ensures.value have c.cross_matched.ensures.moves c.cross_matched.ensures.room c.cross_matched.ensures.outputs in
-    let long = lists_long m lists buffers new filled x.have x.moves x.rooms in
-    let longer = buffers_long m lists buffers new filled x.have x.moves x.rooms in
-    let size = c.deref_mut.ensures.len in
-    let value = ap length c.deref_mut.ensures.value in
-    let sizes = c.deref_mut-2.ensures.len in
-    let values = ap length c.deref_mut-2.ensures.value in
-    let is : take c.self.inside.lists.len (new ++ drop (length new) lists) ≡ new = whole c.self.inside.lists.len new lists (omega arith) (omega arith) in
-    let are : take c.self.inside.buffers.len (filled ++ drop (length filled) buffers) ≡ filled = whole c.self.inside.buffers.len filled buffers (omega arith) (omega arith) in
+    let offers = c.cross_matched.new.offers in
+    let x = crossed c in
     let follows = c.cross_matched.ensures.offers in
-    let square = crossed_square m lists buffers new filled x.have x.moves x.rooms (ports c.self.inside.offers) c.self.invariant.square x.outputs in
-    let offered : ports c.self.inside.offers ≡ ports c.cross_matched.new.offers =
-    as_offered lists c.self.inside.offers c.self.invariant.offered ∙ sym long ∙ sym (as_offered new c.cross_matched.new.offers follows) in
-    subst (λ (ls : List Waiting). AreOffered ls (take c.self.inside.buffers.len (filled ++ drop (length filled) buffers)) c.cross_matched.new.offers) (sym is)
-    (subst (λ (bs : List Buffered). AreOffered new bs c.cross_matched.new.offers) (sym are)
+    let offered : ports c.self.inside.offers ≡ ports offers =
+    as_offered lists c.self.inside.offers c.self.invariant.offered ∙ sym (lists_long x)
+    ∙ sym (as_offered new offers follows) in
+    subst
+    (λ (ls : List Waiting).
+    AreOffered ls
+    (take c.self.inside.buffers.len (filled ++ drop (length filled) c.self.inside.buffers.items)) offers)
+    (sym (lists_are c))
+    (subst (λ (bs : List Buffered). AreOffered new bs offers) (sym (buffers_are c))
     (record {
-      square = subst (AreSquare new filled) offered square;
+      square =
+          subst (AreSquare new filled) offered (crossed_square x (ports c.self.inside.offers) c.self.invariant.square);
       offered = follows;
-      rooms = subst (λ (rooms : List ℕ). All (λ room. room < 2 ^ 64) rooms) (sym (crossed_buffer_rooms m lists buffers new filled x.have x.moves x.rooms)) c.self.invariant.rooms;
+      rooms =
+          subst (λ (rooms : List ℕ). All (λ room. room < 2 ^ 64) rooms) (sym (crossed_buffer_rooms x))
+          c.self.invariant.rooms;
     }))
 
 pub returns-clause-from_inputs : goal.returns-clause-from_inputs
 returns-clause-from_inputs c =
-    let lists = c.self.inside.lists.items in
-    let buffers = c.self.inside.buffers.items in
-    let new = c.cross_matched.new.lists in
-    let filled = c.cross_matched.new.buffers in
-    let m = c.args.matching.now in
-    let have = have_cells lists buffers c.args.self.now c.self.inside.offers m c.self.view_is c.requires.cells c.self.invariant.offered c.requires.matching in
-    let x = crossed m lists c.deref_mut.result.now buffers c.deref_mut-2.result.now new filled c.deref_mut.ensures.value c.deref_mut-2.ensures.value have c.cross_matched.ensures.moves c.cross_matched.ensures.room c.cross_matched.ensures.outputs in
-    let long = lists_long m lists buffers new filled x.have x.moves x.rooms in
-    let size = c.deref_mut.ensures.len in
-    let value = ap length c.deref_mut.ensures.value in
-    let is : take c.self.inside.lists.len (new ++ drop (length new) lists) ≡ new = whole c.self.inside.lists.len new lists (omega arith) (omega arith) in
-    ap (λ (ls : List Waiting). map list_room ls) is ∙ crossed_list_rooms m lists buffers new filled x.have x.moves x.rooms ∙ ap (λ (q : Held). q.from_inputs) c.self.view_is
+    ap (λ (ls : List Waiting). map list_room ls) (lists_are c) ∙ crossed_list_rooms (crossed c)
+    ∙ ap (λ (q : Held). q.from_inputs) c.self.view_is
 
 pub returns-clause-to_outputs : goal.returns-clause-to_outputs
 returns-clause-to_outputs c =
-    let lists = c.self.inside.lists.items in
-    let buffers = c.self.inside.buffers.items in
-    let new = c.cross_matched.new.lists in
-    let filled = c.cross_matched.new.buffers in
-    let m = c.args.matching.now in
-    let have = have_cells lists buffers c.args.self.now c.self.inside.offers m c.self.view_is c.requires.cells c.self.invariant.offered c.requires.matching in
-    let x = crossed m lists c.deref_mut.result.now buffers c.deref_mut-2.result.now new filled c.deref_mut.ensures.value c.deref_mut-2.ensures.value have c.cross_matched.ensures.moves c.cross_matched.ensures.room c.cross_matched.ensures.outputs in
-    let long = buffers_long m lists buffers new filled x.have x.moves x.rooms in
-    let size = c.deref_mut-2.ensures.len in
-    let value = ap length c.deref_mut-2.ensures.value in
-    let are : take c.self.inside.buffers.len (filled ++ drop (length filled) buffers) ≡ filled = whole c.self.inside.buffers.len filled buffers (omega arith) (omega arith) in
-    ap (λ (bs : List Buffered). map buffer_room bs) are ∙ crossed_buffer_rooms m lists buffers new filled x.have x.moves x.rooms ∙ ap (λ (q : Held). q.to_outputs) c.self.view_is
+    ap (λ (bs : List Buffered). map buffer_room bs) (buffers_are c) ∙ crossed_buffer_rooms (crossed c)
+    ∙ ap (λ (q : Held). q.to_outputs) c.self.view_is

@@ -19,7 +19,8 @@ pub fill-requires-clause-lists : goal.fill-requires-clause-lists
 fill-requires-clause-lists c =
     let waiting = c.in_ok-waiting.waiting.items in
     let k = length c.args.from_inputs.now in
-    let long = sym (length-map waiting (λ (w : Waiting). w.cells)) ∙ ap length c.in_ok-waiting.ensures.cells ∙ c.requires.lists in
+    let long =
+    sym (length-map waiting (λ (w : Waiting). w.cells)) ∙ ap length c.in_ok-waiting.ensures.cells ∙ c.requires.lists in
     let offered = ap ports c.in_ok-offers.ensures ∙ length-replicate k [] in
     ap length c.deref.ensures.value ∙ long ∙ sym offered
 
@@ -29,8 +30,11 @@ fill-requires-clause-outputs c =
     let crossed = c.in_ok-crossed.crossed.items in
     let n = ports c.in_ok-offers.offers in
     let k = length c.args.from_inputs.now in
-    let long = sym (length-map waiting (λ (w : Waiting). w.cells)) ∙ ap length c.in_ok-waiting.ensures.cells ∙ c.requires.lists in
-    let as_many = sym (length-map crossed (λ (b : Buffered). b.cells)) ∙ ap length c.in_ok-crossed.ensures.cells ∙ c.requires.buffers in
+    let long =
+    sym (length-map waiting (λ (w : Waiting). w.cells)) ∙ ap length c.in_ok-waiting.ensures.cells ∙ c.requires.lists in
+    let as_many =
+    sym (length-map crossed (λ (b : Buffered). b.cells)) ∙ ap length c.in_ok-crossed.ensures.cells
+    ∙ c.requires.buffers in
     let offered = ap ports c.in_ok-offers.ensures ∙ length-replicate k [] in
     let square = new_square waiting crossed n k c.requires.few offered c.in_ok-waiting.ensures.outputs long as_many in
     subst (λ (ls : List Waiting). All (λ list. list.outputs ≡ n) ls) (sym c.deref.ensures.value)
@@ -42,12 +46,19 @@ invariant_of-result c =
     let crossed = c.in_ok-crossed.crossed.items in
     let offers = c.fill.new.self in
     let k = length c.args.from_inputs.now in
-    let long = sym (length-map waiting (λ (w : Waiting). w.cells)) ∙ ap length c.in_ok-waiting.ensures.cells ∙ c.requires.lists in
-    let as_many = sym (length-map crossed (λ (b : Buffered). b.cells)) ∙ ap length c.in_ok-crossed.ensures.cells ∙ c.requires.buffers in
+    let long =
+    sym (length-map waiting (λ (w : Waiting). w.cells)) ∙ ap length c.in_ok-waiting.ensures.cells ∙ c.requires.lists in
+    let as_many =
+    sym (length-map crossed (λ (b : Buffered). b.cells)) ∙ ap length c.in_ok-crossed.ensures.cells
+    ∙ c.requires.buffers in
     let follows = c.fill.ensures.orders ∙ ap (λ (ls : List Waiting). orders_of (cells_of ls)) c.deref.ensures.value in
     let offered = as_offered waiting offers follows ∙ long in
     record {
-      square = new_square waiting crossed (ports offers) k c.requires.few offered c.in_ok-waiting.ensures.outputs long as_many;
+      square =
+          new_square waiting crossed (ports offers) k c.requires.few offered c.in_ok-waiting.ensures.outputs long
+          as_many;
       offered = follows;
-      rooms = subst (λ (rooms : List ℕ). All (λ room. room < 2 ^ 64) rooms) (sym c.in_ok-crossed.ensures.rooms) c.in_ok-crossed.ensures.few;
+      rooms =
+          subst (λ (rooms : List ℕ). All (λ room. room < 2 ^ 64) rooms) (sym c.in_ok-crossed.ensures.rooms)
+          c.in_ok-crossed.ensures.few;
     }

@@ -16,11 +16,19 @@ invariant_of-result c =
     let k = length c.args.from_inputs.now in
     let none : List Queued = [] in
     let square = c.requires.square in
-    let long = sym (length-map lists (λ (w : Waiting). w.cells)) ∙ ap length c.in_ok-new_lists.ensures.cells ∙ length-replicate k none in
-    let as_many = sym (length-map buffers (λ (b : Buffered). b.cells)) ∙ ap length c.in_ok-new_buffers.ensures.cells ∙ length-replicate (length c.args.to_outputs.now) none ∙ square in
+    let long =
+    sym (length-map lists (λ (w : Waiting). w.cells)) ∙ ap length c.in_ok-new_lists.ensures.cells
+    ∙ length-replicate k none in
+    let as_many =
+    sym (length-map buffers (λ (b : Buffered). b.cells)) ∙ ap length c.in_ok-new_buffers.ensures.cells
+    ∙ length-replicate (length c.args.to_outputs.now) none ∙ square in
     let offered = ap ports c.in_ok-new.ensures ∙ length-replicate k [] in
     record {
-      square = new_square lists buffers (ports c.in_ok-new.field-0) k c.requires.few offered c.in_ok-new_lists.ensures.outputs long as_many;
+      square =
+          new_square lists buffers (ports c.in_ok-new.field-0) k c.requires.few offered
+          c.in_ok-new_lists.ensures.outputs long as_many;
       offered = c.in_ok-new.ensures ∙ none_offered lists k c.in_ok-new_lists.ensures.cells;
-      rooms = subst (λ (rooms : List ℕ). All (λ room. room < 2 ^ 64) rooms) (sym c.in_ok-new_buffers.ensures.rooms) c.in_ok-new_buffers.ensures.few;
+      rooms =
+          subst (λ (rooms : List ℕ). All (λ room. room < 2 ^ 64) rooms) (sym c.in_ok-new_buffers.ensures.rooms)
+          c.in_ok-new_buffers.ensures.few;
     }

@@ -1,4 +1,4 @@
-use Rattle.std.proofs.Common.{◌≡◌, ◌<◌, ◌∙◌, List, [], ap, sym, length, arith}
+use Rattle.std.proofs.Common.{◌≡◌, ◌<◌, ◌∙◌, ℕ, List, [], ap, sym, length, arith}
 use Rattle.std.specs.Prelude.{slice_get}
 use Rattle.std.proofs.lemmas.List.{length-map, get_or_read}
 use Rattle.std.proofs.lemmas.Option.{same_Some}
@@ -6,22 +6,30 @@ use Rattle.std.proofs.Math.ListN.{get_or-map}
 use Rattle.cq_base.specs.declared.cell.Queued.{Queued}
 use Rattle.cq_base.specs.Cells.{cushion}
 use Rattle.cq_base.proofs.Lists.{all_at}
-use Rattle.cq_list.specs.InputList.{Waiting}
+use Rattle.cq_list.specs.InputList.{Waiting, cells_of}
 use Rattle.cq_urgency.specs.OutputBuffer.{Buffered}
 use Rattle.cq_prefs.specs.FirstCells.{list_of}
 use Rattle.cq_fabric.specs.Queues.{Queues, no_list}
 use Rattle.cq_fabric.proofs.Queued.{cells-at}
 use Rattle.cq_fabric.proofs.queues.Queues.slack_at.Goals as goal
 
+-- an input whose cells are seen has a list
+has_list : (lists : List Waiting) (seen : List (List Queued)) (input : ℕ) → cells_of lists ≡ seen →
+    input < length seen → input < length lists
+has_list lists seen input is inside =
+    let many = ap length is in
+    let long = length-map lists (λ (w : Waiting). w.cells) in
+    omega arith
+
 pub at-queued-requires : goal.at-queued-requires
 at-queued-requires c =
     let lists = c.self.inside.lists.items in
     let seen = ap (λ (q : Queues). q.inputs) c.self.view_is in
-    let inside : c.args.input < length lists =
-    let many = ap length seen in let long = length-map lists (λ (w : Waiting). w.cells) in let input = c.requires.input in omega arith in
+    let inside = has_list lists c.args.self.now.inputs c.args.input seen c.requires.input in
     let read = get_or_read lists c.args.input _ inside c.index-list.ensures no_list in
     let cells : list_of c.args.self.now.inputs c.args.input ≡ c.index-list.result.now.cells =
-    sym (ap (λ l. list_of l c.args.input) seen) ∙ cells-at lists c.args.input ∙ ap (λ (w : Waiting). w.cells) (sym read) in
+    sym (ap (λ l. list_of l c.args.input) seen) ∙ cells-at lists c.args.input
+    ∙ ap (λ (w : Waiting). w.cells) (sym read) in
     let there = c.requires.place in
     let long = ap length cells in
     omega arith
@@ -30,8 +38,7 @@ pub index-requires : goal.index-requires
 index-requires c =
     let lists = c.self.inside.lists.items in
     let seen = ap (λ (q : Queues). q.inputs) c.self.view_is in
-    let inside : c.args.input < length lists =
-    let many = ap length seen in let long = length-map lists (λ (w : Waiting). w.cells) in let input = c.requires.input in omega arith in
+    let inside = has_list lists c.args.self.now.inputs c.args.input seen c.requires.input in
     let read = get_or_read lists c.args.input _ inside c.index-list.ensures no_list in
     let waiting = c.outputs-waiting.ensures.waiting in
     let range : c.at-queued.result.cell.output < c.index-list.result.now.outputs =
@@ -45,11 +52,11 @@ pub returns : goal.returns
 returns c q at =
     let lists = c.self.inside.lists.items in
     let seen = ap (λ (q : Queues). q.inputs) c.self.view_is in
-    let inside : c.args.input < length lists =
-    let many = ap length seen in let long = length-map lists (λ (w : Waiting). w.cells) in let input = c.requires.input in omega arith in
+    let inside = has_list lists c.args.self.now.inputs c.args.input seen c.requires.input in
     let read = get_or_read lists c.args.input _ inside c.index-list.ensures no_list in
     let cells : list_of c.args.self.now.inputs c.args.input ≡ c.index-list.result.now.cells =
-    sym (ap (λ l. list_of l c.args.input) seen) ∙ cells-at lists c.args.input ∙ ap (λ (w : Waiting). w.cells) (sym read) in
+    sym (ap (λ l. list_of l c.args.input) seen) ∙ cells-at lists c.args.input
+    ∙ ap (λ (w : Waiting). w.cells) (sym read) in
     let waiting = c.outputs-waiting.ensures.waiting in
     let range : c.at-queued.result.cell.output < c.index-list.result.now.outputs =
     all_at (λ (x : Queued). x.cell.output < c.index-list.result.now.outputs) c.index-list.result.now.cells c.args.place
@@ -72,6 +79,7 @@ returns c q at =
     (ap (λ (b : Buffered). b.cells) read_too
     ∙ sym (get_or-map (λ (b : Buffered). b.cells) buffers output none)
     ∙ ap (λ l. list_of l output) seen_there) in
-    let of_cell = cushion_is ∙ ap (λ (x : Queued). cushion x.key (list_of c.args.self.now.buffers x.cell.output)) same in
+    let of_cell =
+    cushion_is ∙ ap (λ (x : Queued). cushion x.key (list_of c.args.self.now.buffers x.cell.output)) same in
     let slack = c.saturating_sub.ensures in
     omega arith

@@ -18,15 +18,20 @@ returns c =
     let lists = c.self.inside.lists.items in
     let seen = ap (λ (q : Queues). q.inputs) c.self.view_is in
     let inside : c.args.input < length lists =
-    let many = ap length seen in let long = length-map lists (λ (w : Waiting). w.cells) in let input = c.requires.input in omega arith in
+    let many = ap length seen in
+    let long = length-map lists (λ (w : Waiting). w.cells) in
+    let input = c.requires.input in
+    omega arith in
     let read = get_or_read lists c.args.input _ inside c.index-list.ensures no_list in
     let cells : list_of c.args.self.now.inputs c.args.input ≡ c.index-list.result.now.cells =
-    sym (ap (λ l. list_of l c.args.input) seen) ∙ cells-at lists c.args.input ∙ ap (λ (w : Waiting). w.cells) (sym read) in
+    sym (ap (λ l. list_of l c.args.input) seen) ∙ cells-at lists c.args.input
+    ∙ ap (λ (w : Waiting). w.cells) (sym read) in
     let order = c.outputs-waiting.ensures.waiting.in_order in
     let newest = subst (IsNewest c.args.queued.now) cells c.requires.newest in
     let place :
     c.place_of_key-place.result
-    ≡ position_or_len (λ (x : Queued). eqb x.key.slot c.args.queued.now.key.slot) (list_of c.args.self.now.inputs c.args.input) =
+    ≡ position_or_len (λ (x : Queued). eqb x.key.slot c.args.queued.now.key.slot)
+    (list_of c.args.self.now.inputs c.args.input) =
     c.place_of_key-place.ensures
     ∙ found_by_key c.args.queued.now c.index-list.result.now.cells newest order
     ∙ ap (position_or_len (λ (x : Queued). eqb x.key.slot c.args.queued.now.key.slot)) (sym cells) in

@@ -1,7 +1,7 @@
 use Rattle.std.proofs.Common.{◌≡◌, length, map, take}
 use Rattle.cq_fabric.specs.Queues.{front_of, popped}
 use Rattle.cq_fabric.proofs.Changed.{changed_to}
-use Rattle.cq_fabric.proofs.queues.pop_each.Given as goal
+use Rattle.cq_fabric.proofs.gone.pop_each.Given as goal
 
 -- the first cells of the buffers before this one have left
 abbrev pub invariant-outputs : goal.invariant-outputs
