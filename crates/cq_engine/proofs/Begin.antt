@@ -25,7 +25,8 @@ replicated zero i x y h = absurd (let P : ⊥ = cc in P)
 replicated (suc n) zero x y h = sym (same_Some x y h)
 replicated (suc n) (suc i) x y h = replicated n i x y h
 
-first_up : (ms : List Machine) (n : ℕ) (ranks : List (List ℕ)) → AreForOneSwitch ms → length ms ≡ n → IsInStep ms 0 (no_figures n) (empty_fabric n ranks)
+first_up : (ms : List Machine) (n : ℕ) (ranks : List (List ℕ)) → AreForOneSwitch ms → length ms ≡ n →
+    IsInStep ms 0 (no_figures n) (empty_fabric n ranks)
 first_up ms n ranks one ports =
     let none : List Queued = [] in
     let no_wait : Option ℕ = None in
@@ -44,12 +45,15 @@ first_up ms n ranks one ports =
       };
     }
 
-pub in_step_first : (ms : List Machine) (n : ℕ) (ranks : List (List ℕ)) (q : Queues) (x : Figures) → AreForOneSwitch ms → length ms ≡ n → q.inputs ≡ replicate n [] → q.buffers ≡ replicate n [] → x ≡ no_figures n → IsInStep ms 0 x (fabric_of q ranks)
+pub in_step_first : (ms : List Machine) (n : ℕ) (ranks : List (List ℕ)) (q : Queues) (x : Figures) →
+    AreForOneSwitch ms → length ms ≡ n → q.inputs ≡ replicate n [] → q.buffers ≡ replicate n [] → x ≡ no_figures n →
+    IsInStep ms 0 x (fabric_of q ranks)
 in_step_first ms n ranks q x one ports inputs buffers figures =
     let had : Fabric = fabric_of q ranks in
     let want : Fabric = empty_fabric n ranks in
     let fabric : had ≡ want = cc in
-    subst (λ (f : Fabric). IsInStep ms 0 x f) (sym fabric) (subst (λ (y : Figures). IsInStep ms 0 y (empty_fabric n ranks)) (sym figures) (first_up ms n ranks one ports))
+    subst (λ (f : Fabric). IsInStep ms 0 x f) (sym fabric)
+    (subst (λ (y : Figures). IsInStep ms 0 y (empty_fabric n ranks)) (sym figures) (first_up ms n ranks one ports))
 
 -- so an engine begins by looking at the arriving cells alone
 seen_first : (n : ℕ) (ranks : List (List ℕ)) (q : Queues) (x : Figures) → q.inputs ≡ replicate n [] →
@@ -64,7 +68,8 @@ seen_first n ranks q x inputs buffers figures =
 -- and no output holds a cell
 pub running_first : (ms : List Machine) (n : ℕ) (ranks : List (List ℕ)) (q : Queues) (x : Figures) (l : LimiterView) →
     AreForOneSwitch ms → length ms ≡ n → length ranks ≡ n → q.inputs ≡ replicate n [] → q.buffers ≡ replicate n [] →
-    x ≡ no_figures n → length l.limits ≡ n → l.held ≡ replicate n 0 → IsRunning ms 0 look.Arriving x (fabric_of q ranks) l
+    x ≡ no_figures n → length l.limits ≡ n → l.held ≡ replicate n 0 →
+    IsRunning ms 0 look.Arriving x (fabric_of q ranks) l
 running_first ms n ranks q x l one ports states inputs buffers figures limits held =
     record {
       in_step = in_step_first ms n ranks q x one ports inputs buffers figures;

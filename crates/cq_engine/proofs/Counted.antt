@@ -1,5 +1,5 @@
--- How many cells each output holds, counted in one walk over the lists: at first those of the buffers, and of each list those for
--- the output more.
+-- How many cells each output holds, counted in one walk over the lists: at first those of the buffers, and of each
+-- list those for the output more.
 use Rattle.std.proofs.Common.{◌≡◌, ◌≢◌, ℕ, zero, suc, ◌+◌, ◌^◌, ◌<◌, ◌≤◌, List, [], ◌∷◌, ◌++◌, length, map, get_or, set, take, refl, sym, ap, ◌∙◌, subst, ⊎_elim, arith}
 use Rattle.std.specs.Prelude.{All, filter}
 use Rattle.std.proofs.lemmas.Bool.{cases_eq, cond_both, eq-eqb, ne_eqb}
@@ -52,7 +52,8 @@ AreCounted old held cells = (j : ℕ) → j < length old → get_or held j 0 ≡
 
 module _ (old held : List ℕ) (cells : List Queued) (at : ℕ) (inside : at < length cells) (d : Queued)
     (so_far : AreCounted old held (take at cells)) (there : (get_or cells at d).cell.output < length old) where
-  one_more : (j : ℕ) → number_for j (take (at + 1) cells) ≡ number_for j (take at cells) + bit (is_for j (get_or cells at d))
+  one_more : (j : ℕ) →
+      number_for j (take (at + 1) cells) ≡ number_for j (take at cells) + bit (is_for j (get_or cells at d))
   one_more j =
       ap (number_for j) (take_more cells at d inside) ∙ number_push j (take at cells) (get_or cells at d)
 
@@ -133,7 +134,8 @@ module _ (f : Fabric) (i : ℕ) (held : List ℕ) (so_far : HeldSoFar f i held) 
   cells_inside outputs k d within =
       let ports = so_far.ports in
       let among : IsAmong (get_or cells k d) (input f i) =
-      subst (IsAmong (get_or cells k d)) here (among_at cells k (get_or cells k d) (slice_get-get_or cells k d within)) in
+      subst (IsAmong (get_or cells k d)) here (among_at cells k (get_or cells k d) (slice_get-get_or cells k d within))
+      in
       let low = outputs i (get_or cells k d) among in
       omega arith
 

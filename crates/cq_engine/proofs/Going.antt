@@ -1,6 +1,7 @@
--- An engine that goes on from a state in which another stood still. The lists and buffers of a sound fabric can wait in lists and
--- buffers of their rooms: no two cells of a list have one key, since no two places have. By the law on sound fabrics it is in step with
--- the ideal switch of its cells. Of the slacks nothing is claimed, since the first slot looks at all of them.
+-- An engine that goes on from a state in which another stood still. The lists and buffers of a sound fabric can wait
+-- in lists and buffers of their rooms: no two cells of a list have one key, since no two places have. By the law on
+-- sound fabrics it is in step with the ideal switch of its cells. Of the slacks nothing is claimed, since the first
+-- slot looks at all of them.
 use Rattle.std.proofs.Common.{◌≡◌, ◌≢◌, ℕ, zero, suc, ◌<◌, List, [], ◌∷◌, length, Option, Some, refl, sym, ap, ◌∙◌, subst, arith}
 use Rattle.std.specs.Prelude.{slice_get}
 use Rattle.cq_base.specs.declared.cell.Queued.{Queued}
@@ -73,7 +74,8 @@ can_hold ms limits from to x can =
           let ports : length x.lists ≡ length ms = can.ports.lists in
           record {
             room = can.list_rooms i (omega arith);
-            outputs = all_from (λ (c : Queued). c.cell.output < length x.lists) (input f i) (can.sound.fabric.outputs i);
+            outputs =
+                all_from (λ (c : Queued). c.cell.output < length x.lists) (input f i) (can.sound.fabric.outputs i);
             order = can.sound.order i;
             differ = keys_differ f i can.sound.differ;
           };

@@ -1,4 +1,5 @@
--- How many cells for an output there are, through a slot with input-best matchings: as through any slot with stable ones.
+-- How many cells for an output there are, through a slot with input-best matchings: as through any slot with stable
+-- ones.
 use Rattle.std.proofs.Common.{ℕ, ◌+◌, ◌≤◌, List, length, Option}
 use Rattle.std.specs.Prelude.{if◌then◌else◌, is_some}
 use Rattle.cq_base.specs.declared.cell.Cell.{Cell}

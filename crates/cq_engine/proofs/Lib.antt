@@ -7,3 +7,5 @@ mod Rested
 mod Looking
 mod Counted
 mod Going
+mod NothingCounted
+mod StraightSlot

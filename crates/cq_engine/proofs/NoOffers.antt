@@ -1,10 +1,14 @@
 -- Where nothing is offered the empty matching is the best for the inputs, and no proposal is made: no offered pair is
--- left out, and no input has an order to go down.
+-- left out, and no input has an order to go down. It moves no cell, and nothing is noted of it.
 use Rattle.std.proofs.Common.{◌≡◌, ℕ, ◌<◌, ◌≤◌, List, [], ◌∷◌, length, replicate, Option, Some, None, refl, sym, ap, ◌∙◌, ⊎_elim, arith}
-use Rattle.std.specs.List.{range_with_len, sum_by}
+use Rattle.std.specs.List.{cons_option, filter_map, range_with_len, sum_by}
 use Rattle.std.proofs.lemmas.Bool.{cases_lt}
 use Rattle.std.proofs.lemmas.List.{length-replicate, get_or_past}
 use Rattle.std.proofs.lemmas.List.Sums.{sum-map, sum_by-cons}
+use Rattle.cq_base.specs.declared.cell.Queued.{Queued}
+use Rattle.cq_base.specs.declared.cell.Transfer.{Transfer}
+use Rattle.cq_prefs.specs.FirstCells.{list_of}
+use Rattle.cq_prefs.specs.Moves.{Moves, list_taken, noted, transfers_of}
 use Rattle.cq_prefs.specs.Orders.{Orders, ports, outputs_of, IsOffered}
 use Rattle.cq_prefs.specs.Pairing.{partner_of, depth, spent, proposals, IsInputBest}
 use Rattle.cq_prefs.proofs.Pairs.{nobody}
@@ -53,3 +57,29 @@ pub none_at_all : (o : Orders) (n : ℕ) → ports o ≤ n → ((i : ℕ) → i 
     outputs_of o i ≡ []
 none_at_all o n all none i =
     ⊎_elim (none i) (λ past. get_or_past o.outputs i [] (omega arith)) (cases_lt i n)
+
+-- ## Nothing moves
+
+pub nothing_moves : (n : ℕ) (lists buffers : List (List Queued)) →
+    Moves (replicate n None) lists buffers lists buffers
+nothing_moves n lists buffers =
+    record {
+      ports = (refl, refl);
+      taken = λ i. ap (λ (p : Option ℕ). list_taken p (list_of lists i)) (sym (nobody n i));
+      given = λ i j c h _. absurd (let gone : None ≡ Some j = sym (nobody n i) ∙ h in let P : ⊥ = cc in P);
+      kept = λ j _. refl;
+    }
+
+none_kept : (f : ℕ → Option Transfer) (xs : List ℕ) → ((k : ℕ) → f k ≡ None) → filter_map f xs ≡ []
+none_kept f [] none = refl
+none_kept f (x ∷ xs) none =
+    ap (λ (o : Option Transfer). cons_option o (filter_map f xs)) (none x) ∙ none_kept f xs none
+
+pub nothing_noted : (n : ℕ) (lists : List (List Queued)) (slot phase : ℕ) →
+    transfers_of (replicate n None) lists slot phase ≡ []
+unfolding transfers_of
+nothing_noted n lists slot phase =
+    let none : Option ℕ = None in
+    none_kept (λ i. noted slot phase i (list_of lists i) (partner_of (replicate n none) i))
+    (range_with_len 0 (length (replicate n none)))
+    (λ k. ap (noted slot phase k (list_of lists k)) (nobody n k))

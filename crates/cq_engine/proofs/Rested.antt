@@ -12,7 +12,8 @@ use Rattle.cq_engine.specs.Engine.{IsInStep, IsSeen}
 use Rattle.cq_engine.specs.declared.measure.Look.{Look}
 use Rattle.cq_engine.specs.declared.measure.Look.TheVariants as look
 
-pub rested_in_step : (ms : List Machine) (slot later : ℕ) (x : Figures) (f : Fabric) (rested : List (List ℕ)) → slot ≤ later →
+pub rested_in_step : (ms : List Machine) (slot later : ℕ) (x : Figures) (f : Fabric) (rested : List (List ℕ)) →
+    slot ≤ later →
     IsEmptyFabric f → IsInStep ms slot x f →
     IsInStep ms later x (record { inputs = f.inputs; buffers = f.buffers; ranks = rested })
 rested_in_step ms slot later x f rested le empty had =
@@ -39,5 +40,7 @@ rested_seen look.Arriving x f rested empty square ports =
     record {
       ports = ports;
       more = λ i thread c at.
-          absurd (no_place (length f.inputs) rested i thread c (ap (λ (g : Fabric). slice_get (input g i) thread) (sym opening) ∙ at));
+          absurd
+          (no_place (length f.inputs) rested i thread c
+          (ap (λ (g : Fabric). slice_get (input g i) thread) (sym opening) ∙ at));
     }

@@ -8,7 +8,7 @@ ghost use Rattle.cq_engine.specs.Measuring.{output_counted};
 
 use crate::measure::count_outputs;
 use cq_base::{Departure, Figures, Port, Queued, Room, Slot};
-use cq_fabric::{Queues, release, tell};
+use cq_fabric::{Gone, Queues, release, tell};
 use cq_ideal::{Limiter, Ranks};
 use cq_rank::Rank;
 
@@ -54,13 +54,55 @@ fn count_departures(figures: &mut Figures, slot: Slot, gone: &[Option<Queued>])
     }
 }
 
-/// Each output sends the first cell of its buffer, which it then holds no longer, or is idle. Its machine is told, and
+/// Each output sends the cell of its place in `gone`, which it then holds no longer, or is idle. Its machine is told, and
 /// it is counted.
+pub fn leave<R: Rank>(
+    ranks: &mut Ranks<R>,
+    limiter: &mut Limiter,
+    figures: &mut Figures,
+    gone: &[Option<Queued>],
+    slot: Slot,
+    sent: &mut Room<Departure>,
+)
+    requires early { slot < 2 ^ 64 - 1 }
+    requires few { length gone.now ≤ 64 }
+    requires machines { length ranks.old.fixed ≡ length gone.now }
+    requires states { length ranks.old.states ≡ length ranks.old.fixed }
+    requires held { length limiter.old.held ≡ length gone.now }
+    requires holds { (j : ℕ) → IfSome (came_to gone.now j) (λ _. 0 < slice_index_or limiter.old.held j 0) }
+    requires sent { length gone.now ≤ sent.old.spare }
+    requires outputs { length figures.old.outputs ≡ length gone.now }
+    requires counts { (j : ℕ) (x : OutputFigures) → slice_get figures.old.outputs j ≡ Some x → x.cells < 2 ^ 64 - 1 }
+    ensures fixed { ranks.new.fixed ≡ ranks.old.fixed }
+    ensures ranks { ranks.new.states ≡ all_told (map R.machine ranks.old.fixed) gone.now ranks.old.states }
+    ensures held { (j : ℕ) → slice_index_or limiter.new.held j 0 + (if is_some (came_to gone.now j) then 1 else 0)
+        ≡ slice_index_or limiter.old.held j 0 }
+    ensures ports { length limiter.new.held ≡ length limiter.old.held }
+    ensures marks { limiter.new.marks ≡ limiter.old.marks }
+    ensures refused { limiter.new.refused ≡ limiter.old.refused }
+    ensures limits { limiter.new.limits ≡ limiter.old.limits }
+    ensures sent { sent.new.items ≡ sent.old.items ++ departures_in slot gone.now }
+    ensures sent_room { sent.new.spare + length (departures_in slot gone.now) ≡ sent.old.spare }
+    ensures slots { figures.new.slots ≡ (if list_any is_some gone.now then max figures.old.slots (slot + 1) else figures.old.slots) }
+    ensures output_figures { figures.new.outputs ≡ map (λ at. output_counted slot (came_to gone.now at.0) at.1) (enumerate_from 0 figures.old.outputs) }
+    ensures input_figures { figures.new.inputs ≡ figures.old.inputs }
+    ensures proposals { figures.new.proposals ≡ figures.old.proposals }
+    ensures most { figures.new.most ≡ figures.old.most }
+{
+    tell(ranks, gone);
+    release(limiter, gone);
+    send(slot, gone, sent);
+    count_departures(figures, slot, gone);
+}
+
+/// Each output sends the first cell of its buffer, which it then holds no longer, or is idle. Its machine is told, and
+/// it is counted. `places` are lent for what is sent.
 pub fn depart<R: Rank>(
     ranks: &mut Ranks<R>,
     queues: &mut Queues,
     limiter: &mut Limiter,
     figures: &mut Figures,
+    places: &mut Gone,
     slot: Slot,
     sent: &mut Room<Departure>,
 )
@@ -92,11 +134,8 @@ pub fn depart<R: Rank>(
     ensures proposals { figures.new.proposals ≡ figures.old.proposals }
     ensures most { figures.new.most ≡ figures.old.most }
 {
-    let ports = queues.ports() as usize;
-    let places = queues.depart();
-    let gone = &places[..ports];
-    tell(ranks, gone);
-    release(limiter, gone);
-    send(slot, gone, sent);
-    count_departures(figures, slot, gone);
+    let ports = queues.ports();
+    queues.depart(places);
+    let gone = places.of_outputs(ports);
+    leave(ranks, limiter, figures, gone, slot, sent);
 }

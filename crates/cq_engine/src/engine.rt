@@ -17,13 +17,14 @@ use crate::copied::{copied_figures, held_in};
 use crate::depart::depart;
 use crate::measure::{Look, count_inputs};
 use crate::settle::cross;
+use crate::straight::{go_straight, pass};
 use cq_base::{
     Arrivals, Departure, Figures, InputFigures, NoMemory, OutputFigures, Room, Sequence, Slot,
     TagFault, Transfer,
 };
 use cq_crew::Gate;
-use cq_fabric::{Queues, nobody};
-use cq_ideal::{Limiter, Ranks, Refused};
+use cq_fabric::{Gone, Queues};
+use cq_ideal::{Limiter, Newcomers, Ranks, Refused};
 use cq_laws::Frozen;
 use cq_rank::Rank;
 use std::alloc::Global;
@@ -46,6 +47,8 @@ pub struct Engine<R: Rank> {
     queues: Queues,
     limiter: Limiter,
     figures: Figures,
+    came: Newcomers,
+    gone: Gone,
     workers: u16,
     next: Slot,
     look: Look,
@@ -163,6 +166,8 @@ impl<R: Rank> Engine<R> {
             limiter: Limiter::new(alloc, limits)?,
             figures: no_figures(alloc, from_inputs.len())?,
             ranks: Ranks::of(ranks),
+            came: Newcomers::none(),
+            gone: Gone::none(),
             workers,
             next: 0,
             look: Look::Arriving,
@@ -214,6 +219,8 @@ impl<R: Rank> Engine<R> {
             queues,
             limiter,
             figures,
+            came: Newcomers::none(),
+            gone: Gone::none(),
             workers,
             next: from.next,
             look: Look::All,
@@ -291,16 +298,39 @@ impl<R: Rank> Engine<R> {
         ensures buffers_stay { OnErr result (self.new.fabric.buffers ≡ self.old.fabric.buffers) }
         ensures next_stays { OnErr result (self.new.next ≡ self.old.next) }
     {
-        let mut came = nobody();
-        self.queues.ports();
+        let ports = self.queues.ports();
         self.limiter.judge(arrivals);
-        if let Err(fault) = self.ranks.take(slot, arrivals, &self.limiter, &mut came) {
+        if let Err(fault) = self
+            .ranks
+            .take(slot, arrivals, &self.limiter, &mut self.came)
+        {
             self.stopped = true;
             return Err(fault);
         }
         self.limiter.count(arrivals);
-        self.queues.arrive(&came);
-        count_inputs(self.look, &mut self.figures.inputs, &self.queues, &came);
+        if go_straight(&self.queues, &self.came, &mut self.gone) {
+            let crossed = pass(
+                &mut self.ranks,
+                &mut self.limiter,
+                &mut self.figures,
+                &self.came,
+                self.gone.of_outputs(ports),
+                slot,
+                sent,
+                note,
+            );
+            count_proposals(&mut self.figures, crossed, 0);
+            self.look = Look::Arriving;
+            self.next = slot + 1;
+            return Ok(());
+        }
+        self.queues.arrive(&self.came);
+        count_inputs(
+            self.look,
+            &mut self.figures.inputs,
+            &self.queues,
+            &self.came,
+        );
         self.look = Look::Arriving;
         let workers = self.workers;
         let first = cross(&mut self.queues, rt, alloc, workers, slot, 1, gate, note);
@@ -309,6 +339,7 @@ impl<R: Rank> Engine<R> {
             &mut self.queues,
             &mut self.limiter,
             &mut self.figures,
+            &mut self.gone,
             slot,
             sent,
         );
@@ -391,6 +422,8 @@ impl<R: Rank> Engine<R> {
             queues: _,
             limiter,
             figures,
+            came: _,
+            gone: _,
             workers: _,
             next: _,
             look: _,

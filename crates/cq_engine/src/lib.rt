@@ -12,6 +12,7 @@ mod engine;
 mod laws;
 mod measure;
 mod settle;
+mod straight;
 
 pub use cq_base::{Figures, InputFigures, OutputFigures};
 pub use cq_crew::{Gate, OpenGate};

@@ -13,6 +13,7 @@ ghost use Rattle.cq_engine.specs.Measuring.{arriving_slack, input_counted, outpu
 
 use cq_base::{InputFigures, OutputFigures, Queued, Sequence, Slot};
 use cq_fabric::Queues;
+use cq_ideal::Newcomers;
 
 /// Which of the waiting cells a slot looks at for the least slack.
 #[derive(Clone, Copy, Debug, PartialEq, Eq)]
@@ -84,6 +85,26 @@ fn slack_seen(look: Look, queues: &Queues, input: usize, came: Option<Queued>) -
     }
 }
 
+// The least slack that was seen at an input, with what is seen of it now. None is less than 0, so once that was seen none
+// is looked for.
+fn least_seen(
+    look: Look,
+    least: Option<u64>,
+    queues: &Queues,
+    input: usize,
+    came: Option<Queued>,
+) -> Option<u64>
+    requires input { input < length queues.now.inputs }
+    requires output { (c : Queued) → came ≡ Some c → c.cell.output < length queues.now.inputs }
+    requires newest { (c : Queued) → came ≡ Some c → IsNewest c (list_of queues.now.inputs input) }
+    ensures { result ≡ either_by min least (slack_seen look queues.now input came) }
+{
+    if let Some(0) = least {
+        return least;
+    }
+    lesser(least, slack_seen(look, queues, input, came))
+}
+
 // How many cells there are: one or none.
 fn count_of(queued: Option<Queued>) -> u64
     ensures { result ≡ (if is_some queued then 1 else 0) }
@@ -112,7 +133,7 @@ fn input_counted(
     InputFigures {
         cells: figures.cells + count_of(came),
         longest: figures.longest.max(queues.len_of(input)),
-        slack: lesser(figures.slack, slack_seen(look, queues, input, came)),
+        slack: least_seen(look, figures.slack, queues, input, came),
     }
 }
 
@@ -144,7 +165,7 @@ pub fn count_inputs(
     look: Look,
     inputs: &mut Sequence<InputFigures>,
     queues: &Queues,
-    came: &[Option<Queued>; 64],
+    came: &Newcomers,
 )
     requires ports { length inputs.old ≡ length queues.now.inputs }
     requires outputs { (i : ℕ) (c : Queued) → came_to came.now i ≡ Some c → c.cell.output < length queues.now.inputs }
@@ -153,19 +174,27 @@ pub fn count_inputs(
     ensures { inputs.new ≡ map (λ at. input_counted look queues.now at.0 (came_to came.now at.0) at.1) (enumerate_from 0 inputs.old) }
 {
     'inputs: for input in 0..queues.ports() as usize {
-        let counted = input_counted(look, inputs.as_slice()[input], queues, input, came[input]);
+        let counted = input_counted(
+            look,
+            inputs.as_slice()[input],
+            queues,
+            input,
+            came.at(input),
+        );
         inputs.set(input, counted);
     }
 }
 
-/// Adds the cells that left the outputs to what was seen of them.
+/// Adds the cells that left the outputs to what was seen of them. Where none left nothing changes.
 pub fn count_outputs(outputs: &mut Sequence<OutputFigures>, slot: Slot, gone: &[Option<Queued>])
     requires ports { length outputs.old ≡ length gone.now }
     requires counts { (j : ℕ) (x : OfOutput) → slice_get outputs.old j ≡ Some x → x.cells < 2 ^ 64 - 1 }
     ensures { outputs.new ≡ map (λ at. output_counted slot (came_to gone.now at.0) at.1) (enumerate_from 0 outputs.old) }
 {
     'outputs: for output in 0..gone.len() {
-        let counted = output_counted(outputs.as_slice()[output], slot, gone[output]);
-        outputs.set(output, counted);
+        if let Some(queued) = gone[output] {
+            let counted = output_counted(outputs.as_slice()[output], slot, Some(queued));
+            outputs.set(output, counted);
+        }
     }
 }

@@ -1,5 +1,5 @@
 //! Finding the matching of a phase, and transferring it.
-ghost use Rattle.std.specs.Prelude.{◌≡◌, ◌↔◌, ◌+◌, ◌*◌, ◌≤◌, ◌++◌, ℕ, [], IsTrue, length};
+ghost use Rattle.std.specs.Prelude.{◌≡◌, ◌↔◌, ◌+◌, ◌*◌, ◌≤◌, ◌++◌, ℕ, [], IsTrue, None, length, replicate};
 ghost use Rattle.cq_crew.specs.Settling.{IsBestPhase};
 ghost use Rattle.cq_fabric.specs.Queues.{CanCross};
 ghost use Rattle.cq_prefs.specs.FirstCells.{orders_of};
@@ -8,7 +8,7 @@ ghost use Rattle.cq_prefs.specs.Orders.{outputs_of};
 ghost use Rattle.cq_prefs.specs.Pairing.{IsInputBest, proposals};
 
 use cq_base::{Room, Slot, Transfer};
-use cq_crew::{Gate, Phase, pair_phase};
+use cq_crew::{Gate, Phase, pair_phase, settle_alone};
 use cq_fabric::Queues;
 use cq_prefs::{Matching, Offers};
 use std::alloc::Global;
@@ -26,7 +26,19 @@ fn nothing_offered(offers: &Offers) -> bool
     true
 }
 
-// The input-best matching with its number of proposals. Where nothing is offered none is looked for.
+// No pair of so many inputs and outputs, which no proposal led to.
+fn no_phase(ports: u16) -> Phase
+    requires { ports ≤ 64 }
+    ensures matching { result.matching ≡ replicate ports None }
+    ensures proposals { result.proposals ≡ 0 }
+{
+    Phase {
+        matching: Matching::none(ports),
+        proposals: 0,
+    }
+}
+
+// The input-best matching with its number of proposals.
 fn settle<T: Threads + Sync, G: Gate>(
     rt: &T,
     alloc: Global,
@@ -38,18 +50,15 @@ fn settle<T: Threads + Sync, G: Gate>(
     requires few { workers ≤ 64 }
     ensures { IsBestPhase offers.now result }
 {
-    if nothing_offered(offers) {
-        return Phase {
-            matching: Matching::none(offers.ports()),
-            proposals: 0,
-        };
+    if workers == 1 {
+        return settle_alone(offers);
     }
     pair_phase(rt, alloc, offers, workers, gate).phase()
 }
 
 /// The input-best matching of the offers is transferred, and noted. So many workers at most propose at once
-/// where it is found, and it is not looked for where nothing is offered. The answer is the matching with its
-/// number of proposals.
+/// where it is found. Where nothing is offered none is looked for, and nothing is transferred. The answer is the
+/// matching with its number of proposals.
 pub fn cross<T: Threads + Sync, G: Gate>(
     queues: &mut Queues,
     rt: &T,
@@ -73,6 +82,9 @@ pub fn cross<T: Threads + Sync, G: Gate>(
     ensures note { note.new.items ≡ note.old.items ++ transfers_of result.matching queues.old.inputs slot phase }
     ensures note_room { note.new.spare + length (transfers_of result.matching queues.old.inputs slot phase) ≡ note.old.spare }
 {
+    if nothing_offered(queues.offers()) {
+        return no_phase(queues.ports());
+    }
     let settled = settle(rt, alloc, queues.offers(), workers, gate);
     queues.cross(&settled.matching, slot, phase, note);
     settled

@@ -1,5 +1,5 @@
--- Arrivals at the ports of a switch. No arrivals are for any ports, and one cell more, for one of the ports, is for them
--- too. And no more cells come for an output, are admitted there, or are refused than there are places.
+-- Arrivals at the ports of a switch. No arrivals are for any ports, and one cell more, for one of the ports, is for
+-- them too. And no more cells come for an output, are admitted there, or are refused than there are places.
 use Rattle.std.proofs.Common.{◌≡◌, ◌≢◌, ℕ, ◌+◌, ◌<◌, ◌≤◌, eqb, Bool, true, false, cond, List, [], ◌∷◌, length, get_or, set, Option, Some, None, sym, ap, ◌∙◌, inl, inr, ◌⊎◌, arith, get_or-set_same, get_or-set_other}
 use Rattle.std.proofs.lemmas.Bool.{cases_Bool, cases_lt, eqb-true, eq-eqb}
 use Rattle.std.proofs.lemmas.List.{set_past, get_or-replicate, get_or_past, length-replicate}
@@ -36,31 +36,52 @@ for_ports_none ports classes =
     }
 
 -- what comes to an input is the cell that was set there, or came there before
-set_or_before : (cells : List (Option Cell)) (input : ℕ) (cell : Cell) (i : ℕ) (c : Cell) → arrival_at (with_arrival cells input cell) i ≡ Some c → ((i ≡ input) × (c ≡ cell)) ⊎ (arrival_at cells i ≡ Some c)
+set_or_before : (cells : List (Option Cell)) (input : ℕ) (cell : Cell) (i : ℕ) (c : Cell) →
+    arrival_at (with_arrival cells input cell) i ≡ Some c → ((i ≡ input) × (c ≡ cell)) ⊎ (arrival_at cells i ≡ Some c)
 set_or_before cells input cell i c at =
     let none : Option Cell = None in
-    let read : get_or (set cells input (Some cell)) i none ≡ Some c = sym (unwrap_or-slice_get (set cells input (Some cell)) i none) ∙ at in
-    let before : get_or cells i none ≡ Some c → arrival_at cells i ≡ Some c = λ e. unwrap_or-slice_get cells i none ∙ e in
+    let read : get_or (set cells input (Some cell)) i none ≡ Some c =
+    sym (unwrap_or-slice_get (set cells input (Some cell)) i none) ∙ at in
+    let before : get_or cells i none ≡ Some c → arrival_at cells i ≡ Some c =
+    λ e. unwrap_or-slice_get cells i none ∙ e in
     elim (cases_Bool (eqb i input)) [
       | inl here ↦
           let e = eqb-true i input here in
           elim (cases_lt input (length cells)) [
             | inl inside ↦
-                let now : get_or (set cells input (Some cell)) i none ≡ Some cell = ap (λ n. get_or (set cells input (Some cell)) n none) e ∙ get_or-set_same cells input (Some cell) none inside in
+                let now : get_or (set cells input (Some cell)) i none ≡ Some cell =
+                ap (λ n. get_or (set cells input (Some cell)) n none) e
+                ∙ get_or-set_same cells input (Some cell) none inside in
                 inl (e, same_Some c cell (sym read ∙ now))
-            | inr beyond ↦ inr (before (ap (λ l. get_or l i none) (sym (set_past cells input (Some cell) beyond)) ∙ read))
+            | inr beyond ↦ inr (before (ap (λ l. get_or l i none) (sym (set_past cells input (Some cell) beyond))
+                ∙ read))
           ]
       | inr other ↦
-          let ne : i ≢ input = λ e. absurd (let clash : true ≡ false = sym (eq-eqb i input e) ∙ other in let P : ⊥ = cc in P) in
+          let ne : i ≢ input =
+          λ e. absurd (let clash : true ≡ false = sym (eq-eqb i input e) ∙ other in let P : ⊥ = cc in P) in
           inr (before (sym (get_or-set_other cells input i (Some cell) none ne) ∙ read))
     ]
 
-pub for_ports_with : (ports classes : ℕ) (cells : List (Option Cell)) (input : ℕ) (cell : Cell) → AreForPorts ports classes cells → input < ports → cell.output < ports → cell.class < classes → AreForPorts ports classes (with_arrival cells input cell)
+pub for_ports_with : (ports classes : ℕ) (cells : List (Option Cell)) (input : ℕ) (cell : Cell) →
+    AreForPorts ports classes cells → input < ports → cell.output < ports → cell.class < classes →
+    AreForPorts ports classes (with_arrival cells input cell)
 for_ports_with ports classes cells input cell for at_port for_port of_class =
     record {
-      inputs = λ i c at. elim (set_or_before cells input cell i c at) [ inl set ↦ let e = set.0 in omega arith | inr before ↦ for.inputs i c before ];
-      outputs = λ i c at. elim (set_or_before cells input cell i c at) [ inl set ↦ let e = ap (λ (c : Cell). c.output) set.1 in omega arith | inr before ↦ for.outputs i c before ];
-      classes = λ i c at. elim (set_or_before cells input cell i c at) [ inl set ↦ let e = ap (λ (c : Cell). c.class) set.1 in omega arith | inr before ↦ for.classes i c before ];
+      inputs =
+          λ i c at. elim (set_or_before cells input cell i c at) [
+            | inl set ↦ let e = set.0 in omega arith
+            | inr before ↦ for.inputs i c before
+          ];
+      outputs =
+          λ i c at. elim (set_or_before cells input cell i c at) [
+            | inl set ↦ let e = ap (λ (c : Cell). c.output) set.1 in omega arith
+            | inr before ↦ for.outputs i c before
+          ];
+      classes =
+          λ i c at. elim (set_or_before cells input cell i c at) [
+            | inl set ↦ let e = ap (λ (c : Cell). c.class) set.1 in omega arith
+            | inr before ↦ for.classes i c before
+          ];
     }
 
 -- no more cells come for an output than there are places
@@ -74,7 +95,8 @@ count_most j (Some cell ∷ cells) = go (eqb cell.output j) (count_most j cells)
     go false rest = omega arith
 
 -- no more cells are admitted for an output, or refused, than come
-pub admitted_most : (limits : List (Option ℕ)) (held : List ℕ) (marks : List Bool) (cells : List (Option Cell)) (j : ℕ) (a : Admission) →
+pub admitted_most : (limits : List (Option ℕ)) (held : List ℕ) (marks : List Bool) (cells : List (Option Cell)) (j : ℕ)
+    (a : Admission) →
     a ≡ admission limits held marks cells → count_for j a.cells ≤ length cells
 unfolding admission
 admitted_most limits held marks cells j a is =
@@ -83,7 +105,8 @@ admitted_most limits held marks cells j a is =
     let most = count_most j cells in
     omega arith
 
-pub refusals_most : (limits : List (Option ℕ)) (held : List ℕ) (marks : List Bool) (cells : List (Option Cell)) (a : Admission) →
+pub refusals_most : (limits : List (Option ℕ)) (held : List ℕ) (marks : List Bool) (cells : List (Option Cell))
+    (a : Admission) →
     a ≡ admission limits held marks cells → length a.refused ≤ length cells
 unfolding admission
 refusals_most limits held marks cells a is =

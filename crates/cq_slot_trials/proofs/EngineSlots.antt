@@ -23,22 +23,28 @@ use Rattle.cq_slot_trials.proofs.Arriving.{admitted_most, count_most, refusals_m
 four_at : (n j : ℕ) → j < 4 → get_or (n ∷ n ∷ n ∷ n ∷ []) j 0 ≡ n
 four_at n j l = get_or-replicate 4 j n 0 l
 
-pub buffer_room : (e : EngineView) (cells : List (Option Cell)) (n : ℕ) → length cells ≡ 64 → length e.fixed ≡ 4 → e.to_outputs ≡ 2560 ∷ 2560 ∷ 2560 ∷ 2560 ∷ [] → ((j : ℕ) → held_for j e.fabric ≤ 64 * n) → n < 40 → HaveBufferRoom cells e
+pub buffer_room : (e : EngineView) (cells : List (Option Cell)) (n : ℕ) → length cells ≡ 64 → length e.fixed ≡ 4 →
+    e.to_outputs ≡ 2560 ∷ 2560 ∷ 2560 ∷ 2560 ∷ [] → ((j : ℕ) → held_for j e.fabric ≤ 64 * n) → n < 40 →
+    HaveBufferRoom cells e
 buffer_room e cells n places ports room held early j inside =
     let here = ap (λ (l : List ℕ). get_or l j 0) room ∙ four_at 2560 j (omega arith) in
     let few = held j in
     let most = count_most j cells in
     omega arith
 
-module _ (ms : List Machine) (slot : ℕ) (cells : List (Option Cell)) (old new : EngineView) (sent sent' : RoomView Departure) (note note' : RoomView Transfer) (slot_done : SlotDone ms slot cells old new sent sent' note note') where
+module _ (ms : List Machine) (slot : ℕ) (cells : List (Option Cell)) (old new : EngineView)
+    (sent sent' : RoomView Departure) (note note' : RoomView Transfer)
+    (slot_done : SlotDone ms slot cells old new sent sent' note note') where
   record_is : LimitedRecord
   record_is = slot_done.record_of
 
-  pub lists_after : (n : ℕ) → ((i : ℕ) → length (input old.fabric i) ≤ n) → (i : ℕ) → length (input new.fabric i) ≤ n + 1
+  pub lists_after : (n : ℕ) → ((i : ℕ) → length (input old.fabric i) ≤ n) → (i : ℕ) →
+      length (input new.fabric i) ≤ n + 1
   unfolding record_is
   lists_after n few i =
       let had = few i in
-      let kept = lists_kept ms slot record_is.admission.cells old.fabric new.fabric record_is.of_slot slot_done.is_slot.runs i in
+      let kept =
+      lists_kept ms slot record_is.admission.cells old.fabric new.fabric record_is.of_slot slot_done.is_slot.runs i in
       let one = bit_most (is_some (arrival_at record_is.admission.cells i)) in
       omega arith
     where
@@ -46,18 +52,25 @@ module _ (ms : List Machine) (slot : ℕ) (cells : List (Option Cell)) (old new 
       bit_most true = omega arith
       bit_most false = omega arith
 
-  pub held_after : (n : ℕ) → length cells ≡ 64 → ((j : ℕ) → held_for j old.fabric ≤ 64 * n) → (j : ℕ) → held_for j new.fabric ≤ 64 * (n + 1)
+  pub held_after : (n : ℕ) → length cells ≡ 64 → ((j : ℕ) → held_for j old.fabric ≤ 64 * n) → (j : ℕ) →
+      held_for j new.fabric ≤ 64 * (n + 1)
   unfolding record_is
   held_after n places few j =
       let had = few j in
-      let kept = outputs_kept ms slot record_is.admission.cells old.fabric new.fabric record_is.of_slot slot_done.is_slot.runs j in
-      let most = admitted_most old.limits (fabric_held old.fabric) old.marks cells j record_is.admission slot_done.is_slot.admits in
+      let kept =
+      outputs_kept ms slot record_is.admission.cells old.fabric new.fabric record_is.of_slot slot_done.is_slot.runs j
+      in
+      let most =
+      admitted_most old.limits (fabric_held old.fabric) old.marks cells j record_is.admission slot_done.is_slot.admits
+      in
       omega arith
 
   pub counts_after : length cells ≡ 64 → (n : ℕ) → CanCount (n + 64) old.refused → CanCount n new.refused
   unfolding record_is
   counts_after places n can =
-      let few = refusals_most old.limits (fabric_held old.fabric) old.marks cells record_is.admission slot_done.is_slot.admits in
+      let few =
+      refusals_most old.limits (fabric_held old.fabric) old.marks cells record_is.admission slot_done.is_slot.admits
+      in
       subst (CanCount n) (sym slot_done.refused)
       (counts_fit record_is.admission.refused n 64 old.refused can (omega arith))
 
@@ -66,8 +79,17 @@ pub counts_first : (counts : List Refused) (limits : List (Option ℕ)) → coun
 counts_first counts limits is n few = subst (CanCount n) (sym is) (zero_fits n limits few)
 
 -- at first nothing waits
-pub lists_first : (f : Fabric) (n : ℕ) (ranks : List (List ℕ)) → f ≡ empty_fabric n ranks → (i : ℕ) → length (input f i) ≤ 0
-lists_first f n ranks is i = let e = ap (λ (g : Fabric). length (input g i)) is in let none = nothing_in i n in omega arith
+pub lists_first : (f : Fabric) (n : ℕ) (ranks : List (List ℕ)) → f ≡ empty_fabric n ranks → (i : ℕ) →
+    length (input f i) ≤ 0
+lists_first f n ranks is i =
+    let e = ap (λ (g : Fabric). length (input g i)) is in
+    let none = nothing_in i n in
+    omega arith
 
-pub held_first : (f : Fabric) (n : ℕ) (ranks : List (List ℕ)) → f ≡ empty_fabric n ranks → (j : ℕ) → held_for j f ≤ 64 * 0
-held_first f n ranks is j = let e = ap (held_for j) is in let none = nothing_in j n in let nobody = nothing_for j n in omega arith
+pub held_first : (f : Fabric) (n : ℕ) (ranks : List (List ℕ)) → f ≡ empty_fabric n ranks → (j : ℕ) →
+    held_for j f ≤ 64 * 0
+held_first f n ranks is j =
+    let e = ap (held_for j) is in
+    let none = nothing_in j n in
+    let nobody = nothing_for j n in
+    omega arith

@@ -1,5 +1,5 @@
 //! Queues over which nothing has come yet.
-use cq_fabric::Queues;
+use cq_fabric::{Gone, Queues};
 use std::test::Fail;
 
 #[test]
@@ -7,6 +7,8 @@ fn nothing_waits_and_nothing_leaves_at_first(rt: HostRuntime) -> Result<(), Fail
     let mut queues = Queues::new(rt.alloc(), &[1, 2], &[2, 1])?;
     assert_eq!(rt; (queues.ports(), queues.are_empty()), (2, true));
     assert_eq!(rt; (queues.lists().len(), queues.offers().ports()), (2, 2));
-    assert!(rt; queues.depart().iter().all(|queued| queued.is_none()));
+    let mut gone = Gone::none();
+    queues.depart(&mut gone);
+    assert!(rt; gone.of_outputs(2).iter().all(|queued| queued.is_none()));
     Ok(())
 }

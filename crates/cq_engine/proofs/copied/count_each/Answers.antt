@@ -20,7 +20,8 @@ pub places-preserved : goal.places-preserved
 places-preserved c = record {
   ports = ap length c.count_one.ensures ∙ length-set c.places.held _ _ ∙ c.places.invariant.ports;
   counts =
-      count_next c.args.held.now c.places.held c.args.cells.now c.places.at c.places-test.true _ c.places.invariant.counts
+      count_next c.args.held.now c.places.held c.args.cells.now c.places.at c.places-test.true _
+      c.places.invariant.counts
       (c.requires.outputs c.places.at _ c.places-test.true) c.count_one.new.held c.places.invariant.ports
       c.count_one.ensures;
 }

@@ -7,4 +7,6 @@ use Rattle.cq_engine.proofs.measure.count_inputs.Given as goal
 
 -- the inputs before this one are counted
 abbrev pub invariant-inputs : goal.invariant-inputs
-invariant-inputs l = l.inputs ≡ changed_to (map (λ at. input_counted l.look l.queues at.0 (came_to l.came at.0) at.1) (enumerate_from 0 l.fn.inputs)) l.fn.inputs l.input
+invariant-inputs l =
+    l.inputs ≡ changed_to (map (λ at. input_counted l.look l.queues at.0 (came_to l.came at.0) at.1)
+    (enumerate_from 0 l.fn.inputs)) l.fn.inputs l.input

@@ -17,7 +17,8 @@ places-preserved c =
     let count = c.len_of-count.ensures in
     let inside = c.places-test.true in
     let here = cell_there (input f c.args.input) c.places.place (omega arith) in
-    looked_at f c.args.input c.places.place here.0 c.slack_at.result c.places.least c.lesser-least.result c.places.invariant
+    looked_at f c.args.input c.places.place here.0 c.slack_at.result c.places.least c.lesser-least.result
+    c.places.invariant
     here.1 (c.slack_at.ensures here.0 here.1) c.lesser-least.ensures
 
 pub returns : goal.returns

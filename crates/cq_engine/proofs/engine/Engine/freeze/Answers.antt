@@ -1,6 +1,5 @@
 use Rattle.std.proofs.Common.{refl, ap, ◌∙◌, arith}
 use Rattle.std.proofs.lemmas.List.{length-map}
-use Rattle.cq_base.specs.Arrivals.{no_arrivals}
 use Rattle.cq_laws.specs.declared.frozen.Frozen.{Frozen}
 use Rattle.cq_engine.specs.Engine.{frozen_of}
 use Rattle.cq_engine.proofs.Going.{same_frozen}
@@ -10,7 +9,9 @@ use Rattle.cq_engine.proofs.engine.Engine.freeze.Goals as goal
 pub numbers-requires : goal.numbers-requires
 numbers-requires g c =
     let e = c.self.inside in
-    let running = up g.R.Rank.machine c.args.self.now.next no_arrivals c.args.self.now e.ranks.fixed e.ranks.states e.queues e.limiter e.figures e.next e.look e.stopped c.self.view_is c.requires refl c.self.invariant.1 in
+    let running =
+    up g.R.Rank.machine c.args.self.now e.ranks.fixed e.ranks.states e.queues e.limiter e.figures e.next e.look
+    e.stopped c.self.view_is c.self.invariant.1 c.args.self.now.next refl c.requires in
     let few = running.in_step.machines.few in
     let long = length-map e.ranks.fixed g.R.Rank.machine in
     omega arith

@@ -9,12 +9,17 @@ use Rattle.cq_engine.proofs.engine.Engine.new.Goals as goal
 pub invariant_of-result : goal.invariant_of-result
 invariant_of-result g c =
     let ms = map g.R.Rank.machine c.of.result.fixed in
-    let one : AreForOneSwitch ms = subst (λ (fixed : List (List ℕ)). AreForOneSwitch (map g.R.Rank.machine fixed)) (sym c.of.ensures.fixed) c.requires.machines in
-    let ports : length ms ≡ length c.args.ranks.items = length-map c.of.result.fixed g.R.Rank.machine ∙ ap length c.of.ensures.fixed ∙ length-map c.args.ranks.items g.R.Rank.fixed in
+    let one : AreForOneSwitch ms =
+    subst (λ (fixed : List (List ℕ)). AreForOneSwitch (map g.R.Rank.machine fixed)) (sym c.of.ensures.fixed)
+    c.requires.machines in
+    let ports : length ms ≡ length c.args.ranks.items =
+    length-map c.of.result.fixed g.R.Rank.machine ∙ ap length c.of.ensures.fixed
+    ∙ length-map c.args.ranks.items g.R.Rank.fixed in
     let n : length c.args.from_inputs.now ≡ length c.args.ranks.items = c.requires.from_inputs in
     let none : List Queued = [] in (
       record { some = c.requires.some; few = c.requires.few },
-      λ _. running_first ms (length c.args.ranks.items) c.of.result.states c.in_ok-new.field-0 c.in_ok-no_figures.field-0 c.in_ok-new-2.field-0 one ports
+      λ _. running_first ms (length c.args.ranks.items) c.of.result.states c.in_ok-new.field-0
+          c.in_ok-no_figures.field-0 c.in_ok-new-2.field-0 one ports
           (ap length c.of.ensures.states ∙ length-map c.args.ranks.items g.R.Rank.state)
           (c.in_ok-new.ensures.inputs ∙ ap (λ k. replicate k none) n)
           (c.in_ok-new.ensures.buffers ∙ ap (λ k. replicate k none) n)

@@ -1,4 +1,4 @@
-use Rattle.std.proofs.Common.{◌≡◌, ◌+◌, ◌<◌, ◌++◌, ℕ, List, length, get_or, map, sym, ap, ◌∙◌, subst, arith, append_assoc, length-append}
+use Rattle.std.proofs.Common.{◌≡◌, ◌+◌, ◌*◌, ◌<◌, ◌≤◌, ◌++◌, ℕ, List, length, get_or, map, take, sym, ap, ◌∙◌, subst, arith, append_assoc, length-append}
 use Rattle.std.specs.Prelude.{max}
 use Rattle.std.proofs.lemmas.List.{length-map}
 use Rattle.cq_rank.specs.Switch.{class_count}
@@ -8,234 +8,397 @@ use Rattle.cq_ideal.specs.Ranking.{ranking}
 use Rattle.cq_ideal.specs.Refused.{with_refused}
 use Rattle.cq_ideal.proofs.Slot.{by_marks}
 use Rattle.cq_prefs.specs.Moves.{transfers_of}
-use Rattle.cq_engine.specs.Engine.{EngineView, IsRunning, SlotDone, answer_to, its_admission}
-use Rattle.cq_engine.specs.declared.measure.Look.TheVariants.{Arriving}
+use Rattle.cq_fabric.specs.Held.{HoldsFabric}
 use Rattle.cq_fabric.specs.Queues.{fabric_of}
+use Rattle.cq_fabric.proofs.Known.{AreRanked, HaveArrived, HaveJudged, HaveReleased, HaveSent}
 use Rattle.cq_fabric.proofs.Limits.{admits_are, still_holds}
+use Rattle.cq_fabric.proofs.Slot.{came_newest, came_outputs, can_cross_first, can_cross_second, come_apart, few_cross, fits_lists, held_before}
 use Rattle.cq_fabric.proofs.Told.{length-told}
-use Rattle.cq_engine.proofs.Slot.{came_outputs, came_newest, come_apart, fits_lists, can_cross_first, can_cross_second, few_cross, held_before, whole_slot}
-use Rattle.cq_engine.proofs.Shown.{admitted_come, buffer_room_at, can_count, come_to_ports, few, list_room_at, numbers_fit, ports_are, up}
+use Rattle.cq_engine.specs.Engine.{EngineView, IsRunning, SlotDone, answer_to, its_admission}
+use Rattle.cq_engine.specs.Straight.{GoStraight, crossings}
+use Rattle.cq_engine.specs.declared.measure.Look.TheVariants.{Arriving}
+use Rattle.cq_engine.proofs.Shown.{Begun, begun, buffers_room, can_count, come_to_ports, few, lists_room, numbers_fit, ports_are, ranked, seen}
+use Rattle.cq_engine.proofs.Slot.{HaveCrossed, Whole, moved_of, whole_slot}
+use Rattle.cq_engine.proofs.StraightSlot.{at_most_square, crossings_few, held_straight, whole_straight}
+use Rattle.cq_engine.proofs.engine.Engine.slot.Given as given
 use Rattle.cq_engine.proofs.engine.Engine.slot.Goals as goal
+use Rattle.cq_engine.proofs.engine.Engine.slot.Goals.{After-arrive, After-count, After-cross-first, After-cross-second, After-depart, After-judge, After-of_outputs, After-pass-crossed, After-self, In_default}
+
+-- ## What is known, call by call
+
+-- where the slot begins
+known : (g : given.Over) (c : After-self g) →
+    Begun (map g.R.Rank.machine c.self.inside.ranks.fixed) c.args.slot c.args.arrivals.now c.self.inside.queues
+    c.self.inside.ranks.states c.self.inside.limiter c.self.inside.look c.self.inside.figures
+known g c =
+    let e = c.self.inside in
+    begun g.R.Rank.machine c.args.self.now e.ranks.fixed e.ranks.states e.queues e.limiter e.figures e.next e.look
+    e.stopped c.self.view_is c.self.invariant.1 c.args.slot c.args.arrivals.now
+    (record {
+      running = c.requires.running;
+      next = c.requires.next;
+      come = c.requires.arrivals;
+      list_room = c.requires.list_room;
+      buffer_room = c.requires.buffer_room;
+      refused = c.requires.refused;
+    })
+
+-- what the machines are asked to rank is what the fabric admits
+asks : (g : given.Over) (c : After-judge g) →
+    HoldsFabric (fabric_of c.self.inside.queues c.self.inside.ranks.states) c.self.inside.limiter →
+    ranking (map g.R.Rank.machine c.self.inside.ranks.fixed) c.args.slot 0
+    (admitted c.judge.new.self.marks c.args.arrivals.now) c.self.inside.ranks.states
+    ≡ ranking (map g.R.Rank.machine c.args.self.now.fixed) c.args.slot 0
+    (its_admission c.args.arrivals.now c.args.self.now).cells c.args.self.now.fabric.ranks
+asks g c holds =
+    let e = c.self.inside in
+    let M = g.R.Rank.machine in
+    let cells = c.args.arrivals.now in
+    ap (λ (a : Admission). ranking (map M e.ranks.fixed) c.args.slot 0 a.cells e.ranks.states)
+    (admits_are e.limiter (fabric_of e.queues e.ranks.states) cells c.judge.new.self.marks holds
+    c.judge.ensures.marks)
+    ∙ ap (λ (v : EngineView). ranking (map M v.fixed) c.args.slot 0 (its_admission cells v).cells v.fabric.ranks)
+    c.self.view_is
+
+-- once what is admitted has its keys
+taken : (g : given.Over) (c : In_default g) →
+    Begun (map g.R.Rank.machine c.self.inside.ranks.fixed) c.args.slot c.args.arrivals.now c.self.inside.queues
+    c.self.inside.ranks.states c.self.inside.limiter c.self.inside.look c.self.inside.figures →
+    AreRanked (map g.R.Rank.machine c.self.inside.ranks.fixed) c.args.slot c.self.inside.queues
+    c.self.inside.ranks.states (admitted c.judge.new.self.marks c.args.arrivals.now)
+    (class_count (map g.R.Rank.machine c.self.inside.ranks.fixed)) c.take.new.came c.take.new.self.states
+taken g c begins =
+    ranked begins c.judge.new.self.marks c.take.new.came c.take.new.self.states c.in_default.ensures.came
+
+-- once it has arrived
+arrived : (g : given.Over) (c : After-arrive g) →
+    HaveArrived c.self.inside.queues c.take.new.came c.arrive.new.self
+arrived g c =
+    record {
+      ports = c.arrive.ensures.ports;
+      lists = c.arrive.ensures.lists;
+      buffers = c.arrive.ensures.buffers;
+      to_outputs = c.arrive.ensures.to_outputs;
+    }
+
+-- what each output holds then
+judged : (g : given.Over) (c : After-count g) →
+    HaveJudged (admitted c.judge.new.self.marks c.args.arrivals.now) c.self.inside.limiter c.count.new.self
+judged g c =
+    let was = c.judge.ensures in
+    record {
+      limits = c.count.ensures.limits ∙ was.limits;
+      as_many = ap length c.count.ensures.held ∙ was.ports.held ∙ ap length was.limits;
+      more = λ j inside. ap (λ (h : List ℕ). get_or h j 0) c.count.ensures.held ∙ was.held j inside;
+    }
+
+-- once the first matching has crossed
+crossed : (g : given.Over) (c : After-cross-first g) →
+    HaveCrossed c.cross-first.result.matching c.cross-first.result.proposals c.arrive.new.self c.cross-first.new.queues
+crossed g c =
+    record {
+      best = c.cross-first.ensures.best;
+      counted = c.cross-first.ensures.proposals;
+      moves = c.cross-first.ensures.moves;
+    }
+
+-- once the outputs have sent, and the machines are told
+sent : (g : given.Over) (c : After-depart g) →
+    HaveSent (map g.R.Rank.machine c.self.inside.ranks.fixed) c.arrive.new.self c.take.new.self.states
+    c.cross-first.new.queues c.depart.new.ranks.states c.depart.new.queues
+sent g c =
+    let gone = fronts c.cross-first.new.queues.buffers in
+    record {
+      inputs = c.depart.ensures.inputs;
+      buffers = c.depart.ensures.buffers;
+      told =
+          c.depart.ensures.ranks
+          ∙ ap (λ (fixed : List (List ℕ)). all_told (map g.R.Rank.machine fixed) gone c.take.new.self.states)
+          c.take.ensures.fixed;
+      to_outputs = c.depart.ensures.to_outputs ∙ c.cross-first.ensures.to_outputs;
+    }
+
+-- and what each output holds then
+released : (g : given.Over) (c : After-depart g) →
+    HaveReleased (fronts c.cross-first.new.queues.buffers) c.count.new.self c.depart.new.limiter
+released g c =
+    record { limits = c.depart.ensures.limits; as_many = c.depart.ensures.ports; less = c.depart.ensures.held }
+
+-- once the second matching has crossed too
+crossed_again : (g : given.Over) (c : After-cross-second g) →
+    HaveCrossed c.cross-second.result.matching c.cross-second.result.proposals c.depart.new.queues
+    c.cross-second.new.queues
+crossed_again g c =
+    record {
+      best = c.cross-second.ensures.best;
+      counted = c.cross-second.ensures.proposals;
+      moves = c.cross-second.ensures.moves;
+    }
+
+-- all that the slot comes to
+whole : (g : given.Over) (c : goal.After-self-3-1 g) →
+    Whole (map g.R.Rank.machine c.self.inside.ranks.fixed) c.args.slot
+    (admitted c.judge.new.self.marks c.args.arrivals.now) c.self.inside.figures c.count_proposals-2.new.figures
+    (fabric_of c.self.inside.queues c.self.inside.ranks.states)
+    (fabric_of c.cross-second.new.queues c.depart.new.ranks.states)
+    (taken g (goal.at.returns-clause-slot g c).In_default (known g (goal.at.returns-clause-slot g c).After-self)).ideal
+    (fronts c.cross-first.new.queues.buffers)
+    (transfers_of c.cross-first.result.matching c.arrive.new.self.inputs c.args.slot 1
+    ++ transfers_of c.cross-second.result.matching c.depart.new.queues.inputs c.args.slot 2)
+whole g c =
+    let at = goal.at.returns-clause-slot g c in
+    let begins = known g at.After-self in
+    let first = c.cross-first.result.proposals in
+    let second = c.cross-second.result.proposals in
+    let left = c.depart.ensures in
+    let counted = c.count_proposals-2.ensures in
+    whole_slot c.self.inside.figures begins.running.in_step (taken g at.In_default begins) (arrived g at.After-arrive)
+    (buffers_room begins c.judge.new.self.marks) (crossed g at.After-cross-first) (sent g at.After-depart)
+    (crossed_again g at.After-cross-second) c.self.inside.look begins.running.seen c.count_proposals-2.new.figures
+    (record {
+      slots = counted.slots ∙ left.slots;
+      proposed = counted.proposals ∙ ap (λ n. n + (first + second)) left.proposals;
+      most = counted.most ∙ ap (λ n. max n (max first second)) left.most;
+      inputs = counted.inputs ∙ left.input_figures ∙ c.count_inputs.ensures;
+      outputs = counted.outputs ∙ left.output_figures;
+    })
+
+-- ## What is known of the straight way
+
+-- each cell that came is at the place of its output
+straight : (g : given.Over) (c : After-of_outputs g) →
+    GoStraight c.self.inside.queues c.take.new.came c.of_outputs.result.now
+straight g c =
+    let shown = c.of_outputs.ensures ∙ ap (λ n. take n c.go_straight.new.gone) c.ports-ports.ensures.value in
+    subst (GoStraight c.self.inside.queues c.take.new.came) (sym shown) (c.go_straight.ensures c.if-go_straight.true)
+
+-- what the machines are told
+told_straight : (g : given.Over) (c : After-pass-crossed g) →
+    c.pass-crossed.new.ranks.states
+    ≡ all_told (map g.R.Rank.machine c.self.inside.ranks.fixed) c.of_outputs.result.now c.take.new.self.states
+told_straight g c =
+    c.pass-crossed.ensures.ranks
+    ∙ ap
+    (λ (fixed : List (List ℕ)). all_told (map g.R.Rank.machine fixed) c.of_outputs.result.now c.take.new.self.states)
+    c.take.ensures.fixed
+
+released_straight : (g : given.Over) (c : After-pass-crossed g) →
+    HaveReleased c.of_outputs.result.now c.count.new.self c.pass-crossed.new.limiter
+released_straight g c =
+    let did = c.pass-crossed.ensures in record { limits = did.limits; as_many = did.ports; less = did.held }
+
+-- no more cells cross than there are ports
+few_proposed : (g : given.Over) (c : After-pass-crossed g) →
+    Begun (map g.R.Rank.machine c.self.inside.ranks.fixed) c.args.slot c.args.arrivals.now c.self.inside.queues
+    c.self.inside.ranks.states c.self.inside.limiter c.self.inside.look c.self.inside.figures →
+    GoStraight c.self.inside.queues c.take.new.came c.of_outputs.result.now →
+    c.pass-crossed.new.figures.proposals + (c.pass-crossed.result + 0)
+    ≤ c.args.self.now.figures.proposals + 2 * (length c.args.self.now.fixed * length c.args.self.now.fixed)
+few_proposed g c begins is =
+    let did = c.pass-crossed.ensures in
+    let few = crossings_few c.args.slot (length c.of_outputs.result.now) c.take.new.came in
+    let many = did.many in
+    let had = did.proposals in
+    let was = ap (λ (v : EngineView). v.figures.proposals) c.self.view_is in
+    let gone_long = is.ports in
+    let ports = begins.running.in_step.ports in
+    let long = length-map c.self.inside.ranks.fixed g.R.Rank.machine in
+    let looks = ap (λ (v : EngineView). length v.fixed) c.self.view_is in
+    let squared = at_most_square (length c.args.self.now.fixed) in
+    omega arith
+
+-- all that the slot comes to
+all_straight : (g : given.Over) (c : goal.After-self-then-go_straight-2-1 g) →
+    Whole (map g.R.Rank.machine c.self.inside.ranks.fixed) c.args.slot
+    (admitted c.judge.new.self.marks c.args.arrivals.now) c.self.inside.figures c.count_proposals.new.figures
+    (fabric_of c.self.inside.queues c.self.inside.ranks.states)
+    (fabric_of c.self.inside.queues c.pass-crossed.new.ranks.states)
+    (taken g (goal.at.returns-then-go_straight-clause-slot g c).In_default
+    (known g (goal.at.returns-then-go_straight-clause-slot g c).After-self)).ideal
+    c.of_outputs.result.now (crossings c.args.slot (length c.self.inside.queues.inputs) c.take.new.came)
+all_straight g c =
+    let at = goal.at.returns-then-go_straight-clause-slot g c in
+    let slot = c.args.slot in
+    let x = c.self.inside.figures in
+    let begins = known g at.After-self in
+    let marks = c.judge.new.self.marks in
+    let is = straight g at.After-of_outputs in
+    let did = c.pass-crossed.ensures in
+    let counted = c.count_proposals.ensures in
+    let many = did.many ∙ ap (λ (n : ℕ). length (crossings slot n c.take.new.came)) is.ports in
+    whole_straight (taken g at.In_default begins) (lists_room begins marks) is (buffers_room begins marks) x
+    begins.running.in_step c.self.inside.look begins.running.seen c.pass-crossed.new.ranks.states
+    (told_straight g at.After-pass-crossed) c.count_proposals.new.figures
+    (record {
+      slots = counted.slots ∙ did.slots;
+      proposed =
+          counted.proposals ∙ ap (λ (n : ℕ). n + (c.pass-crossed.result + 0)) did.proposals
+          ∙ ap (λ (n : ℕ). x.proposals + (n + 0)) many;
+      most =
+          counted.most ∙ ap (λ (n : ℕ). max n (max c.pass-crossed.result 0)) did.most
+          ∙ ap (λ (n : ℕ). max x.most (max n 0)) many;
+      inputs = counted.inputs ∙ did.input_figures;
+      outputs = counted.outputs ∙ did.output_figures;
+    })
+
+-- ## What the calls ask for
 
 pub judge-requires-clause-few : goal.judge-requires-clause-few
-judge-requires-clause-few g c =
-    let e = c.self.inside in
-    few g.R.Rank.machine c.args.slot c.args.arrivals.now c.args.self.now e.ranks.fixed e.ranks.states e.queues e.limiter e.figures e.next e.look e.stopped c.self.view_is c.requires.running c.requires.next c.self.invariant.1
+judge-requires-clause-few g c = few (known g (goal.at.judge-requires-clause-few g c).After-self)
 
 pub judge-requires-clause-arrivals : goal.judge-requires-clause-arrivals
 judge-requires-clause-arrivals g c =
-    let e = c.self.inside in
-    come_to_ports g.R.Rank.machine c.args.slot c.args.arrivals.now c.args.self.now e.ranks.fixed e.ranks.states e.queues e.limiter e.figures e.next e.look e.stopped c.self.view_is c.requires.running c.requires.next c.self.invariant.1 (class_count (map g.R.Rank.machine c.args.self.now.fixed)) c.requires.arrivals
+    come_to_ports (known g (goal.at.judge-requires-clause-arrivals g c).After-self)
 
 pub judge-requires-clause-held : goal.judge-requires-clause-held
 judge-requires-clause-held g c =
-    let e = c.self.inside in
-    numbers_fit g.R.Rank.machine c.args.slot c.args.arrivals.now c.args.self.now e.ranks.fixed e.ranks.states e.queues e.limiter e.figures e.next e.look e.stopped c.self.view_is c.requires.running c.requires.next c.self.invariant.1 c.requires.buffer_room c.ports.ensures.within c.ports.ensures.rooms
+    numbers_fit (known g (goal.at.judge-requires-clause-held g c).After-self) c.ports-ports.ensures.within
+    c.ports-ports.ensures.rooms
 
 pub take-requires-clause-marks : goal.take-requires-clause-marks
 take-requires-clause-marks g c =
-    let e = c.self.inside in
-    let marks = c.judge.ensures.ports.marks in
-    let limits = ap length c.judge.ensures.limits in
-    let ports = ports_are g.R.Rank.machine c.args.slot c.args.arrivals.now c.args.self.now e.ranks.fixed e.ranks.states e.queues e.limiter e.figures e.next e.look e.stopped c.self.view_is c.requires.running c.requires.next c.self.invariant.1 in
-    let seen = ap (λ (v : EngineView). length v.fixed) c.self.view_is in
-    omega arith
+    let begins = known g (goal.at.take-requires-clause-marks g c).After-self in
+    c.judge.ensures.ports.marks ∙ ap length c.judge.ensures.limits ∙ ports_are begins
+    ∙ length-map c.self.inside.ranks.fixed g.R.Rank.machine
 
 pub count-requires-clause-few : goal.count-requires-clause-few
 count-requires-clause-few g c =
-    let e = c.self.inside in
+    let most = few (known g (goal.at.count-requires-clause-few g c).After-self) in
     let limits = ap length c.judge.ensures.limits in
-    let most = few g.R.Rank.machine c.args.slot c.args.arrivals.now c.args.self.now e.ranks.fixed e.ranks.states e.queues e.limiter e.figures e.next e.look e.stopped c.self.view_is c.requires.running c.requires.next c.self.invariant.1 in
     omega arith
 
 pub count-requires-clause-refused : goal.count-requires-clause-refused
 count-requires-clause-refused g c =
-    let e = c.self.inside in
-    can_count g.R.Rank.machine c.args.slot c.args.arrivals.now c.args.self.now e.ranks.fixed e.ranks.states e.queues e.limiter e.figures e.next e.look e.stopped c.self.view_is c.requires.running c.requires.next c.self.invariant.1 c.judge.new.self c.requires.refused c.judge.ensures.limits c.judge.ensures.refused
+    can_count (known g (goal.at.count-requires-clause-refused g c).After-self) c.judge.new.self
+    c.judge.ensures.limits c.judge.ensures.refused
+
+pub go_straight-requires : goal.go_straight-requires
+go_straight-requires g c =
+    let at = goal.at.go_straight-requires g c in
+    came_outputs (taken g at.In_default (known g at.After-self))
+
+pub pass-crossed-requires-clause-holds : goal.pass-crossed-requires-clause-holds
+pass-crossed-requires-clause-holds g c =
+    let at = goal.at.pass-crossed-requires-clause-holds g c in
+    let begins = known g at.After-self in
+    let marks = c.judge.new.self.marks in
+    held_straight (taken g at.In_default begins) (lists_room begins marks) (straight g at.After-of_outputs)
+    (buffers_room begins marks) begins.running.holds (judged g at.After-count)
+
+pub count_proposals-requires : goal.count_proposals-requires
+count_proposals-requires g c =
+    let at = goal.at.count_proposals-requires g c in
+    let few = few_proposed g at.After-pass-crossed (known g at.After-self) (straight g at.After-of_outputs) in
+    let room = c.requires.proposals in
+    omega arith
 
 pub arrive-requires-clause-fit : goal.arrive-requires-clause-fit
 arrive-requires-clause-fit g c =
-    let e = c.self.inside in
-    let ms = map g.R.Rank.machine e.ranks.fixed in
-    let classes = class_count (map g.R.Rank.machine c.args.self.now.fixed) in
-    let marks = c.judge.new.self.marks in
-    let cells = admitted marks c.args.arrivals.now in
-    let running = up g.R.Rank.machine c.args.slot c.args.arrivals.now c.args.self.now e.ranks.fixed e.ranks.states e.queues e.limiter e.figures e.next e.look e.stopped c.self.view_is c.requires.running c.requires.next c.self.invariant.1 in
-    let come = admitted_come g.R.Rank.machine c.args.slot c.args.arrivals.now c.args.self.now e.ranks.fixed e.ranks.states e.queues e.limiter e.figures e.next e.look e.stopped c.self.view_is c.requires.running c.requires.next c.self.invariant.1 classes c.requires.arrivals marks in
-    let came = c.take.new.came in
-    let ranked = c.in_default.ensures.came in
-    fits_lists ms c.args.slot e.figures e.queues e.ranks.states cells classes came c.take.new.self.states running.in_step come ranked (list_room_at g.R.Rank.machine c.args.slot c.args.arrivals.now c.args.self.now e.ranks.fixed e.ranks.states e.queues e.limiter e.figures e.next e.look e.stopped c.self.view_is c.requires.running c.requires.next c.self.invariant.1 marks c.requires.list_room)
+    let at = goal.at.arrive-requires-clause-fit g c in
+    let begins = known g at.After-self in
+    fits_lists (taken g at.In_default begins) (lists_room begins c.judge.new.self.marks)
 
 pub arrive-requires-clause-come : goal.arrive-requires-clause-come
 arrive-requires-clause-come g c =
-    let e = c.self.inside in
-    let ms = map g.R.Rank.machine e.ranks.fixed in
-    let classes = class_count (map g.R.Rank.machine c.args.self.now.fixed) in
-    let marks = c.judge.new.self.marks in
-    let cells = admitted marks c.args.arrivals.now in
-    let running = up g.R.Rank.machine c.args.slot c.args.arrivals.now c.args.self.now e.ranks.fixed e.ranks.states e.queues e.limiter e.figures e.next e.look e.stopped c.self.view_is c.requires.running c.requires.next c.self.invariant.1 in
-    let come = admitted_come g.R.Rank.machine c.args.slot c.args.arrivals.now c.args.self.now e.ranks.fixed e.ranks.states e.queues e.limiter e.figures e.next e.look e.stopped c.self.view_is c.requires.running c.requires.next c.self.invariant.1 classes c.requires.arrivals marks in
-    let came = c.take.new.came in
-    let ranked = c.in_default.ensures.came in
-    come_apart ms c.args.slot e.figures e.queues e.ranks.states cells classes came c.take.new.self.states running.in_step come ranked
+    let at = goal.at.arrive-requires-clause-come g c in
+    come_apart (taken g at.In_default (known g at.After-self))
 
 pub count_inputs-requires-clause-outputs : goal.count_inputs-requires-clause-outputs
 count_inputs-requires-clause-outputs g c =
-    let e = c.self.inside in
-    let ms = map g.R.Rank.machine e.ranks.fixed in
-    let classes = class_count (map g.R.Rank.machine c.args.self.now.fixed) in
-    let marks = c.judge.new.self.marks in
-    let cells = admitted marks c.args.arrivals.now in
-    let running = up g.R.Rank.machine c.args.slot c.args.arrivals.now c.args.self.now e.ranks.fixed e.ranks.states e.queues e.limiter e.figures e.next e.look e.stopped c.self.view_is c.requires.running c.requires.next c.self.invariant.1 in
-    let come = admitted_come g.R.Rank.machine c.args.slot c.args.arrivals.now c.args.self.now e.ranks.fixed e.ranks.states e.queues e.limiter e.figures e.next e.look e.stopped c.self.view_is c.requires.running c.requires.next c.self.invariant.1 classes c.requires.arrivals marks in
-    let came = c.take.new.came in
-    let ranked = c.in_default.ensures.came in
-    λ i q is. subst (λ (n : ℕ). q.cell.output < n) (sym c.arrive.ensures.ports) (came_outputs ms c.args.slot e.figures e.queues e.ranks.states cells classes came c.take.new.self.states running.in_step come ranked i q is)
+    let at = goal.at.count_inputs-requires-clause-outputs g c in
+    let come = taken g at.In_default (known g at.After-self) in
+    λ i q is. subst (λ (n : ℕ). q.cell.output < n) (sym c.arrive.ensures.ports) (came_outputs come i q is)
 
 pub count_inputs-requires-clause-newest : goal.count_inputs-requires-clause-newest
 count_inputs-requires-clause-newest g c =
-    let e = c.self.inside in
-    let ms = map g.R.Rank.machine e.ranks.fixed in
-    let classes = class_count (map g.R.Rank.machine c.args.self.now.fixed) in
-    let marks = c.judge.new.self.marks in
-    let cells = admitted marks c.args.arrivals.now in
-    let running = up g.R.Rank.machine c.args.slot c.args.arrivals.now c.args.self.now e.ranks.fixed e.ranks.states e.queues e.limiter e.figures e.next e.look e.stopped c.self.view_is c.requires.running c.requires.next c.self.invariant.1 in
-    let come = admitted_come g.R.Rank.machine c.args.slot c.args.arrivals.now c.args.self.now e.ranks.fixed e.ranks.states e.queues e.limiter e.figures e.next e.look e.stopped c.self.view_is c.requires.running c.requires.next c.self.invariant.1 classes c.requires.arrivals marks in
-    let came = c.take.new.came in
-    let ranked = c.in_default.ensures.came in
-    came_newest ms c.args.slot e.figures e.queues e.ranks.states cells classes came c.take.new.self.states running.in_step come ranked c.arrive.new.self c.arrive.ensures.ports c.arrive.ensures.lists c.arrive.ensures.buffers c.arrive.ensures.to_outputs
+    let at = goal.at.count_inputs-requires-clause-newest g c in
+    came_newest (taken g at.In_default (known g at.After-self)) (arrived g at.After-arrive)
 
 pub cross-first-requires-clause-cells : goal.cross-first-requires-clause-cells
 cross-first-requires-clause-cells g c =
-    let e = c.self.inside in
-    let ms = map g.R.Rank.machine e.ranks.fixed in
-    let classes = class_count (map g.R.Rank.machine c.args.self.now.fixed) in
-    let marks = c.judge.new.self.marks in
-    let cells = admitted marks c.args.arrivals.now in
-    let running = up g.R.Rank.machine c.args.slot c.args.arrivals.now c.args.self.now e.ranks.fixed e.ranks.states e.queues e.limiter e.figures e.next e.look e.stopped c.self.view_is c.requires.running c.requires.next c.self.invariant.1 in
-    let come = admitted_come g.R.Rank.machine c.args.slot c.args.arrivals.now c.args.self.now e.ranks.fixed e.ranks.states e.queues e.limiter e.figures e.next e.look e.stopped c.self.view_is c.requires.running c.requires.next c.self.invariant.1 classes c.requires.arrivals marks in
-    let came = c.take.new.came in
-    let ranked = c.in_default.ensures.came in
-    let room = buffer_room_at g.R.Rank.machine c.args.slot c.args.arrivals.now c.args.self.now e.ranks.fixed e.ranks.states e.queues e.limiter e.figures e.next e.look e.stopped c.self.view_is c.requires.running c.requires.next c.self.invariant.1 marks c.requires.buffer_room in
-    λ _ _. can_cross_first ms c.args.slot e.figures e.queues e.ranks.states cells classes came c.take.new.self.states running.in_step come ranked c.arrive.new.self c.arrive.ensures.ports c.arrive.ensures.lists c.arrive.ensures.buffers c.arrive.ensures.to_outputs room
+    let at = goal.at.cross-first-requires-clause-cells g c in
+    let begins = known g at.After-self in
+    let room = buffers_room begins c.judge.new.self.marks in
+    λ _ _. can_cross_first (taken g at.In_default begins) (arrived g at.After-arrive) room
 
 pub depart-requires-clause-held : goal.depart-requires-clause-held
 depart-requires-clause-held g c =
-    let e = c.self.inside in
-    let ms = map g.R.Rank.machine e.ranks.fixed in
-    let classes = class_count (map g.R.Rank.machine c.args.self.now.fixed) in
-    let marks = c.judge.new.self.marks in
-    let cells = admitted marks c.args.arrivals.now in
-    let running = up g.R.Rank.machine c.args.slot c.args.arrivals.now c.args.self.now e.ranks.fixed e.ranks.states e.queues e.limiter e.figures e.next e.look e.stopped c.self.view_is c.requires.running c.requires.next c.self.invariant.1 in
-    let come = admitted_come g.R.Rank.machine c.args.slot c.args.arrivals.now c.args.self.now e.ranks.fixed e.ranks.states e.queues e.limiter e.figures e.next e.look e.stopped c.self.view_is c.requires.running c.requires.next c.self.invariant.1 classes c.requires.arrivals marks in
-    let came = c.take.new.came in
-    let ranked = c.in_default.ensures.came in
-    let held = c.judge.ensures.ports.held in
-    let kept = ap length c.count.ensures.held in
-    let limits = ap length c.judge.ensures.limits in
-    let holds = running.holds.ports in
+    let at = goal.at.depart-requires-clause-held g c in
+    let begins = known g at.After-self in
+    let many = (judged g at.After-count).as_many in
+    let holds = begins.running.holds.ports in
     let came_ports = c.arrive.ensures.ports in
     let moved = c.cross-first.ensures.moves.ports.0 in
     omega arith
 
 pub depart-requires-clause-holds : goal.depart-requires-clause-holds
 depart-requires-clause-holds g c =
-    let e = c.self.inside in
-    let ms = map g.R.Rank.machine e.ranks.fixed in
-    let classes = class_count (map g.R.Rank.machine c.args.self.now.fixed) in
-    let marks = c.judge.new.self.marks in
-    let cells = admitted marks c.args.arrivals.now in
-    let running = up g.R.Rank.machine c.args.slot c.args.arrivals.now c.args.self.now e.ranks.fixed e.ranks.states e.queues e.limiter e.figures e.next e.look e.stopped c.self.view_is c.requires.running c.requires.next c.self.invariant.1 in
-    let come = admitted_come g.R.Rank.machine c.args.slot c.args.arrivals.now c.args.self.now e.ranks.fixed e.ranks.states e.queues e.limiter e.figures e.next e.look e.stopped c.self.view_is c.requires.running c.requires.next c.self.invariant.1 classes c.requires.arrivals marks in
-    let came = c.take.new.came in
-    let ranked = c.in_default.ensures.came in
-    let room = buffer_room_at g.R.Rank.machine c.args.slot c.args.arrivals.now c.args.self.now e.ranks.fixed e.ranks.states e.queues e.limiter e.figures e.next e.look e.stopped c.self.view_is c.requires.running c.requires.next c.self.invariant.1 marks c.requires.buffer_room in
-    λ j. held_before ms c.args.slot e.figures e.queues e.ranks.states cells classes came c.take.new.self.states running.in_step come ranked c.arrive.new.self c.arrive.ensures.ports c.arrive.ensures.lists c.arrive.ensures.buffers c.arrive.ensures.to_outputs room c.cross-first.result.matching c.cross-first.ensures.best c.cross-first.new.queues c.cross-first.ensures.moves e.limiter c.judge.new.self c.count.new.self running.holds c.judge.ensures.held c.count.ensures.held j
+    let at = goal.at.depart-requires-clause-holds g c in
+    let begins = known g at.After-self in
+    held_before (taken g at.In_default begins) (arrived g at.After-arrive)
+    (buffers_room begins c.judge.new.self.marks) (moved_of (crossed g at.After-cross-first)) begins.running.holds
+    (judged g at.After-count)
 
 pub cross-second-requires-clause-cells : goal.cross-second-requires-clause-cells
 cross-second-requires-clause-cells g c =
-    let e = c.self.inside in
-    let ms = map g.R.Rank.machine e.ranks.fixed in
-    let classes = class_count (map g.R.Rank.machine c.args.self.now.fixed) in
-    let marks = c.judge.new.self.marks in
-    let cells = admitted marks c.args.arrivals.now in
-    let running = up g.R.Rank.machine c.args.slot c.args.arrivals.now c.args.self.now e.ranks.fixed e.ranks.states e.queues e.limiter e.figures e.next e.look e.stopped c.self.view_is c.requires.running c.requires.next c.self.invariant.1 in
-    let come = admitted_come g.R.Rank.machine c.args.slot c.args.arrivals.now c.args.self.now e.ranks.fixed e.ranks.states e.queues e.limiter e.figures e.next e.look e.stopped c.self.view_is c.requires.running c.requires.next c.self.invariant.1 classes c.requires.arrivals marks in
-    let came = c.take.new.came in
-    let ranked = c.in_default.ensures.came in
-    let room = buffer_room_at g.R.Rank.machine c.args.slot c.args.arrivals.now c.args.self.now e.ranks.fixed e.ranks.states e.queues e.limiter e.figures e.next e.look e.stopped c.self.view_is c.requires.running c.requires.next c.self.invariant.1 marks c.requires.buffer_room in
-    let told : c.depart.new.ranks.states ≡ all_told ms (fronts c.cross-first.new.queues.buffers) c.take.new.self.states = c.depart.ensures.ranks ∙ ap (λ (fixed : List (List ℕ)). all_told (map g.R.Rank.machine fixed) (fronts c.cross-first.new.queues.buffers) c.take.new.self.states) c.take.ensures.fixed in
-    λ _ _. can_cross_second ms c.args.slot e.figures e.queues e.ranks.states cells classes came c.take.new.self.states running.in_step come ranked c.arrive.new.self c.arrive.ensures.ports c.arrive.ensures.lists c.arrive.ensures.buffers c.arrive.ensures.to_outputs room c.cross-first.result.matching c.cross-first.ensures.best c.cross-first.new.queues c.cross-first.ensures.moves c.depart.new.ranks.states c.depart.new.queues c.depart.ensures.inputs c.depart.ensures.buffers told (c.depart.ensures.to_outputs ∙ c.cross-first.ensures.to_outputs)
+    let at = goal.at.cross-second-requires-clause-cells g c in
+    let begins = known g at.After-self in
+    let room = buffers_room begins c.judge.new.self.marks in
+    let moved = moved_of (crossed g at.After-cross-first) in
+    λ _ _. can_cross_second (taken g at.In_default begins) (arrived g at.After-arrive) room moved
+    (sent g at.After-depart)
 
 pub cross-second-requires-clause-note : goal.cross-second-requires-clause-note
 cross-second-requires-clause-note g c =
-    let e = c.self.inside in
-    let ms = map g.R.Rank.machine e.ranks.fixed in
-    let classes = class_count (map g.R.Rank.machine c.args.self.now.fixed) in
-    let marks = c.judge.new.self.marks in
-    let cells = admitted marks c.args.arrivals.now in
-    let running = up g.R.Rank.machine c.args.slot c.args.arrivals.now c.args.self.now e.ranks.fixed e.ranks.states e.queues e.limiter e.figures e.next e.look e.stopped c.self.view_is c.requires.running c.requires.next c.self.invariant.1 in
-    let come = admitted_come g.R.Rank.machine c.args.slot c.args.arrivals.now c.args.self.now e.ranks.fixed e.ranks.states e.queues e.limiter e.figures e.next e.look e.stopped c.self.view_is c.requires.running c.requires.next c.self.invariant.1 classes c.requires.arrivals marks in
-    let came = c.take.new.came in
-    let ranked = c.in_default.ensures.came in
-    let few = few_cross c.cross-first.result.matching c.arrive.new.self.inputs c.args.slot 1 c.cross-first.ensures.best in
+    let begins = known g (goal.at.cross-second-requires-clause-note g c).After-self in
+    let best = c.cross-first.ensures.best in
+    let few = few_cross c.cross-first.result.matching c.arrive.new.self.inputs c.args.slot 1 best.stable.matching in
     let room = c.requires.note in
     let left = c.cross-first.ensures.note_room in
-    let sent = ap length c.depart.ensures.inputs in
+    let gone = ap length c.depart.ensures.inputs in
     let moved = c.cross-first.ensures.moves.ports.0 in
     let came_ports = c.arrive.ensures.ports in
-    let ports = running.in_step.ports in
-    let long = length-map e.ranks.fixed g.R.Rank.machine in
-    let seen = ap (λ (v : EngineView). length v.fixed) c.self.view_is in
+    let ports = begins.running.in_step.ports in
+    let long = length-map c.self.inside.ranks.fixed g.R.Rank.machine in
+    let looks = ap (λ (v : EngineView). length v.fixed) c.self.view_is in
     omega arith
+
+-- ## What the slot comes to
 
 pub invariant_of-self-2 : goal.invariant_of-self-2
 invariant_of-self-2 g c =
-    let e = c.self.inside in
-    let ms = map g.R.Rank.machine e.ranks.fixed in
-    let classes = class_count (map g.R.Rank.machine c.args.self.now.fixed) in
-    let marks = c.judge.new.self.marks in
-    let cells = admitted marks c.args.arrivals.now in
-    let running = up g.R.Rank.machine c.args.slot c.args.arrivals.now c.args.self.now e.ranks.fixed e.ranks.states e.queues e.limiter e.figures e.next e.look e.stopped c.self.view_is c.requires.running c.requires.next c.self.invariant.1 in
-    let come = admitted_come g.R.Rank.machine c.args.slot c.args.arrivals.now c.args.self.now e.ranks.fixed e.ranks.states e.queues e.limiter e.figures e.next e.look e.stopped c.self.view_is c.requires.running c.requires.next c.self.invariant.1 classes c.requires.arrivals marks in
-    let came = c.take.new.came in
-    let ranked = c.in_default.ensures.came in
-    let room = buffer_room_at g.R.Rank.machine c.args.slot c.args.arrivals.now c.args.self.now e.ranks.fixed e.ranks.states e.queues e.limiter e.figures e.next e.look e.stopped c.self.view_is c.requires.running c.requires.next c.self.invariant.1 marks c.requires.buffer_room in
-    let told : c.depart.new.ranks.states ≡ all_told ms (fronts c.cross-first.new.queues.buffers) c.take.new.self.states = c.depart.ensures.ranks ∙ ap (λ (fixed : List (List ℕ)). all_told (map g.R.Rank.machine fixed) (fronts c.cross-first.new.queues.buffers) c.take.new.self.states) c.take.ensures.fixed in
-    let y = c.count_proposals.new.figures in
-    let whole = whole_slot ms c.args.slot e.figures e.queues e.ranks.states cells classes came c.take.new.self.states running.in_step come ranked c.arrive.new.self c.arrive.ensures.ports c.arrive.ensures.lists c.arrive.ensures.buffers c.arrive.ensures.to_outputs room c.cross-first.result.matching c.cross-first.ensures.best c.cross-first.new.queues c.cross-first.ensures.moves c.depart.new.ranks.states c.depart.new.queues c.depart.ensures.inputs c.depart.ensures.buffers told (c.depart.ensures.to_outputs ∙ c.cross-first.ensures.to_outputs) c.cross-second.result.matching c.cross-second.ensures.best c.cross-second.new.queues c.cross-second.ensures.moves e.look running.seen y c.cross-first.result.proposals c.cross-second.result.proposals c.cross-first.ensures.proposals c.cross-second.ensures.proposals
-    (c.count_proposals.ensures.slots ∙ c.depart.ensures.slots)
-    (c.count_proposals.ensures.proposals ∙ ap (λ n. n + (c.cross-first.result.proposals + c.cross-second.result.proposals)) c.depart.ensures.proposals)
-    (c.count_proposals.ensures.most ∙ ap (λ n. max n (max c.cross-first.result.proposals c.cross-second.result.proposals)) c.depart.ensures.most)
-    (c.count_proposals.ensures.inputs ∙ c.depart.ensures.input_figures ∙ c.count_inputs.ensures)
-    (c.count_proposals.ensures.outputs ∙ c.depart.ensures.output_figures) in
-    let judged = c.judge.ensures.ports.held in
-    let limits = ap length c.judge.ensures.limits in
-    let kept = ap length c.count.ensures.held in
-    let holds = still_holds ms c.args.slot cells (fabric_of e.queues e.ranks.states) (fabric_of c.cross-second.new.queues c.depart.new.ranks.states) whole.ideal came (fronts c.cross-first.new.queues.buffers) c.take.new.self.states whole.agreed ranked whole.alike e.limiter c.count.new.self c.depart.new.limiter running.holds
-    (c.count.ensures.limits ∙ c.judge.ensures.limits) (omega arith)
-    (λ j inside. ap (λ (h : List ℕ). get_or h j 0) c.count.ensures.held ∙ c.judge.ensures.held j inside)
-    c.depart.ensures.limits c.depart.ensures.ports c.depart.ensures.held in
-    let many = ap length told in (
+    let at = goal.at.returns-clause-slot g c in
+    let begins = known g at.After-self in
+    let come = taken g at.In_default begins in
+    let done = whole g c in
+    let next = sent g at.After-depart in
+    let gone = fronts c.cross-first.new.queues.buffers in
+    let old = fabric_of c.self.inside.queues c.self.inside.ranks.states in
+    let new = fabric_of c.cross-second.new.queues c.depart.new.ranks.states in (
       c.self.invariant.0,
-      λ _. subst (λ (fixed : List (List ℕ)). IsRunning (map g.R.Rank.machine fixed) (c.args.slot + 1) Arriving y (fabric_of c.cross-second.new.queues c.depart.new.ranks.states) c.depart.new.limiter) (sym (c.depart.ensures.fixed ∙ c.take.ensures.fixed))
+      λ _. subst
+          (λ (fixed : List (List ℕ)).
+          IsRunning (map g.R.Rank.machine fixed) (c.args.slot + 1) Arriving c.count_proposals-2.new.figures new
+          c.depart.new.limiter)
+          (sym (c.depart.ensures.fixed ∙ c.take.ensures.fixed))
           (record {
-            in_step = whole.in_step;
-            seen = whole.seen;
-            ranks = many ∙ length-told ms (fronts c.cross-first.new.queues.buffers) c.take.new.self.states ∙ c.take.ensures.many ∙ running.ranks;
-            holds = holds;
+            in_step = done.in_step;
+            seen = done.seen;
+            ranks =
+                ap length next.told
+                ∙ length-told (map g.R.Rank.machine c.self.inside.ranks.fixed) gone c.take.new.self.states
+                ∙ c.take.ensures.many ∙ begins.running.ranks;
+            holds =
+                still_holds come gone new c.self.inside.limiter c.count.new.self c.depart.new.limiter done.alike
+                begins.running.holds (judged g at.After-count) (released g at.After-depart);
           }),
     )
 
 pub returns-in-Err-clause-answer : goal.returns-in-Err-clause-answer
 returns-in-Err-clause-answer g c =
-    let e = c.self.inside in
-    let ms = map g.R.Rank.machine e.ranks.fixed in
-    let marks = c.judge.new.self.marks in
-    let running = up g.R.Rank.machine c.args.slot c.args.arrivals.now c.args.self.now e.ranks.fixed e.ranks.states e.queues e.limiter e.figures e.next e.look e.stopped c.self.view_is c.requires.running c.requires.next c.self.invariant.1 in
-    let admits = admits_are e.limiter (fabric_of e.queues e.ranks.states) c.args.arrivals.now marks running.holds c.judge.ensures.marks in
-    let fault = sym (ap (λ (a : Admission). ranking ms c.args.slot 0 a.cells e.ranks.states) admits) ∙ c.in-Err.ensures.fault in
-    sym (ap answer_to (sym (ap (λ (v : EngineView). ranking (map g.R.Rank.machine v.fixed) c.args.slot 0 (its_admission c.args.arrivals.now v).cells v.fabric.ranks) c.self.view_is) ∙ fault))
+    let at = goal.at.returns-in-Err-clause-answer g c in
+    let asked = asks g at.After-judge (known g at.After-self).running.holds in
+    sym (ap answer_to (sym asked ∙ c.in-Err.ensures.fault))
 
 pub returns-in-Err-clause-lists_stay : goal.returns-in-Err-clause-lists_stay
 returns-in-Err-clause-lists_stay g c = ap (λ (v : EngineView). v.fabric.inputs) c.self.view_is
@@ -249,79 +412,149 @@ returns-in-Err-clause-limits g c = c.judge.ensures.limits ∙ ap (λ (v : Engine
 pub returns-in-Err-clause-refusals_stay : goal.returns-in-Err-clause-refusals_stay
 returns-in-Err-clause-refusals_stay g c = c.judge.ensures.refused ∙ ap (λ (v : EngineView). v.refused) c.self.view_is
 
+pub invariant_of-self-then-go_straight : goal.invariant_of-self-then-go_straight
+invariant_of-self-then-go_straight g c =
+    let at = goal.at.returns-then-go_straight-clause-slot g c in
+    let begins = known g at.After-self in
+    let come = taken g at.In_default begins in
+    let done = all_straight g c in
+    let gone = c.of_outputs.result.now in
+    let new = fabric_of c.self.inside.queues c.pass-crossed.new.ranks.states in (
+      c.self.invariant.0,
+      λ _. subst
+          (λ (fixed : List (List ℕ)).
+          IsRunning (map g.R.Rank.machine fixed) (c.args.slot + 1) Arriving c.count_proposals.new.figures new
+          c.pass-crossed.new.limiter)
+          (sym (c.pass-crossed.ensures.fixed ∙ c.take.ensures.fixed))
+          (record {
+            in_step = done.in_step;
+            seen = done.seen;
+            ranks =
+                ap length (told_straight g at.After-pass-crossed)
+                ∙ length-told (map g.R.Rank.machine c.self.inside.ranks.fixed) gone c.take.new.self.states
+                ∙ c.take.ensures.many ∙ begins.running.ranks;
+            holds =
+                still_holds come gone new c.self.inside.limiter c.count.new.self c.pass-crossed.new.limiter
+                done.alike begins.running.holds (judged g at.After-count) (released_straight g at.After-pass-crossed);
+          }),
+    )
+
+pub returns-then-go_straight-clause-answer : goal.returns-then-go_straight-clause-answer
+returns-then-go_straight-clause-answer g c =
+    let at = goal.at.returns-then-go_straight-clause-answer g c in
+    let asked = asks g at.After-judge (known g at.After-self).running.holds in
+    sym (ap answer_to (sym asked ∙ c.in_default.ensures.came))
+
+pub returns-then-go_straight-clause-slot : goal.returns-then-go_straight-clause-slot
+returns-then-go_straight-clause-slot g c =
+    let at = goal.at.returns-then-go_straight-clause-slot g c in
+    let e = c.self.inside in
+    let slot = c.args.slot in
+    let cells = c.args.arrivals.now in
+    let marks = c.judge.new.self.marks in
+    let came = c.take.new.came in
+    let begins = known g at.After-self in
+    let done = all_straight g c in
+    let is = straight g at.After-of_outputs in
+    let did = c.pass-crossed.ensures in
+    let note_room = did.note_room in
+    let noted = ap length done.crossed in
+    let many = ap (λ (n : ℕ). length (crossings slot n came)) is.ports in
+    let gone = ap (λ l. length (departures_in slot l)) done.gone in
+    let sent_room = did.sent_room in
+    let new : EngineView =
+    seen c.pass-crossed.new.ranks.fixed c.pass-crossed.new.ranks.states e.queues c.pass-crossed.new.limiter
+    c.count_proposals.new.figures (slot + 1) e.stopped in
+    subst
+    (λ (v : EngineView).
+    SlotDone (map g.R.Rank.machine v.fixed) slot cells v new c.args.sent.now c.pass-crossed.new.sent c.args.note.now
+    c.pass-crossed.new.note)
+    c.self.view_is
+    (record {
+      record_of = record { admission = by_marks marks cells; of_slot = done.of_slot };
+      is_slot =
+          record {
+            admits =
+                admits_are e.limiter (fabric_of e.queues e.ranks.states) cells marks begins.running.holds
+                c.judge.ensures.marks;
+            runs = done.is_slot;
+            marks = did.marks ∙ c.count.ensures.marks;
+          };
+      departed = did.sent ∙ ap (λ l. c.args.sent.now.items ++ departures_in slot l) (sym done.gone);
+      departed_room = omega arith;
+      crossed =
+          did.note
+          ∙ ap (λ l. c.args.note.now.items ++ l) (ap (λ (n : ℕ). crossings slot n came) is.ports ∙ sym done.crossed);
+      crossed_room = omega arith;
+      counted = done.figures;
+      refused =
+          did.refused ∙ c.count.ensures.refused
+          ∙ ap (with_refused (refused marks cells)) c.judge.ensures.refused;
+    })
+
+pub returns-then-go_straight-clause-few : goal.returns-then-go_straight-clause-few
+returns-then-go_straight-clause-few g c =
+    let at = goal.at.returns-then-go_straight-clause-few g c in
+    let few = few_proposed g at.After-pass-crossed (known g at.After-self) (straight g at.After-of_outputs) in
+    let counted = c.count_proposals.ensures.proposals in
+    omega arith
+
 pub returns-clause-answer : goal.returns-clause-answer
 returns-clause-answer g c =
-    let e = c.self.inside in
-    let ms = map g.R.Rank.machine e.ranks.fixed in
-    let classes = class_count (map g.R.Rank.machine c.args.self.now.fixed) in
-    let marks = c.judge.new.self.marks in
-    let cells = admitted marks c.args.arrivals.now in
-    let running = up g.R.Rank.machine c.args.slot c.args.arrivals.now c.args.self.now e.ranks.fixed e.ranks.states e.queues e.limiter e.figures e.next e.look e.stopped c.self.view_is c.requires.running c.requires.next c.self.invariant.1 in
-    let come = admitted_come g.R.Rank.machine c.args.slot c.args.arrivals.now c.args.self.now e.ranks.fixed e.ranks.states e.queues e.limiter e.figures e.next e.look e.stopped c.self.view_is c.requires.running c.requires.next c.self.invariant.1 classes c.requires.arrivals marks in
-    let came = c.take.new.came in
-    let ranked = c.in_default.ensures.came in
-    let admits = admits_are e.limiter (fabric_of e.queues e.ranks.states) c.args.arrivals.now marks running.holds c.judge.ensures.marks in
-    let done = sym (ap (λ (a : Admission). ranking ms c.args.slot 0 a.cells e.ranks.states) admits) ∙ ranked in
-    sym (ap answer_to (sym (ap (λ (v : EngineView). ranking (map g.R.Rank.machine v.fixed) c.args.slot 0 (its_admission c.args.arrivals.now v).cells v.fabric.ranks) c.self.view_is) ∙ done))
+    let at = goal.at.returns-clause-answer g c in
+    let asked = asks g at.After-judge (known g at.After-self).running.holds in
+    sym (ap answer_to (sym asked ∙ c.in_default.ensures.came))
 
 pub returns-clause-slot : goal.returns-clause-slot
 returns-clause-slot g c =
     let e = c.self.inside in
-    let ms = map g.R.Rank.machine e.ranks.fixed in
-    let classes = class_count (map g.R.Rank.machine c.args.self.now.fixed) in
+    let slot = c.args.slot in
+    let cells = c.args.arrivals.now in
     let marks = c.judge.new.self.marks in
-    let cells = admitted marks c.args.arrivals.now in
-    let running = up g.R.Rank.machine c.args.slot c.args.arrivals.now c.args.self.now e.ranks.fixed e.ranks.states e.queues e.limiter e.figures e.next e.look e.stopped c.self.view_is c.requires.running c.requires.next c.self.invariant.1 in
-    let come = admitted_come g.R.Rank.machine c.args.slot c.args.arrivals.now c.args.self.now e.ranks.fixed e.ranks.states e.queues e.limiter e.figures e.next e.look e.stopped c.self.view_is c.requires.running c.requires.next c.self.invariant.1 classes c.requires.arrivals marks in
-    let came = c.take.new.came in
-    let ranked = c.in_default.ensures.came in
-    let room = buffer_room_at g.R.Rank.machine c.args.slot c.args.arrivals.now c.args.self.now e.ranks.fixed e.ranks.states e.queues e.limiter e.figures e.next e.look e.stopped c.self.view_is c.requires.running c.requires.next c.self.invariant.1 marks c.requires.buffer_room in
-    let told : c.depart.new.ranks.states ≡ all_told ms (fronts c.cross-first.new.queues.buffers) c.take.new.self.states = c.depart.ensures.ranks ∙ ap (λ (fixed : List (List ℕ)). all_told (map g.R.Rank.machine fixed) (fronts c.cross-first.new.queues.buffers) c.take.new.self.states) c.take.ensures.fixed in
-    let y = c.count_proposals.new.figures in
-    let whole = whole_slot ms c.args.slot e.figures e.queues e.ranks.states cells classes came c.take.new.self.states running.in_step come ranked c.arrive.new.self c.arrive.ensures.ports c.arrive.ensures.lists c.arrive.ensures.buffers c.arrive.ensures.to_outputs room c.cross-first.result.matching c.cross-first.ensures.best c.cross-first.new.queues c.cross-first.ensures.moves c.depart.new.ranks.states c.depart.new.queues c.depart.ensures.inputs c.depart.ensures.buffers told (c.depart.ensures.to_outputs ∙ c.cross-first.ensures.to_outputs) c.cross-second.result.matching c.cross-second.ensures.best c.cross-second.new.queues c.cross-second.ensures.moves e.look running.seen y c.cross-first.result.proposals c.cross-second.result.proposals c.cross-first.ensures.proposals c.cross-second.ensures.proposals
-    (c.count_proposals.ensures.slots ∙ c.depart.ensures.slots)
-    (c.count_proposals.ensures.proposals ∙ ap (λ n. n + (c.cross-first.result.proposals + c.cross-second.result.proposals)) c.depart.ensures.proposals)
-    (c.count_proposals.ensures.most ∙ ap (λ n. max n (max c.cross-first.result.proposals c.cross-second.result.proposals)) c.depart.ensures.most)
-    (c.count_proposals.ensures.inputs ∙ c.depart.ensures.input_figures ∙ c.count_inputs.ensures)
-    (c.count_proposals.ensures.outputs ∙ c.depart.ensures.output_figures) in
-    let admits = admits_are e.limiter (fabric_of e.queues e.ranks.states) c.args.arrivals.now marks running.holds c.judge.ensures.marks in
-    let first = transfers_of c.cross-first.result.matching c.arrive.new.self.inputs c.args.slot 1 in
-    let second = transfers_of c.cross-second.result.matching c.depart.new.queues.inputs c.args.slot 2 in
-    let first_room = c.cross-first.ensures.note_room in
-    let second_room = c.cross-second.ensures.note_room in
-    let crossed = ap length whole.crossed in
+    let begins = known g (goal.at.returns-clause-slot g c).After-self in
+    let done = whole g c in
+    let one = c.cross-first.ensures in
+    let two = c.cross-second.ensures in
+    let left = c.depart.ensures in
+    let first = transfers_of c.cross-first.result.matching c.arrive.new.self.inputs slot 1 in
+    let second = transfers_of c.cross-second.result.matching c.depart.new.queues.inputs slot 2 in
+    let first_room = one.note_room in
+    let second_room = two.note_room in
+    let both = ap length done.crossed in
     let longer = length-append first second in
-    let gone = ap (λ l. length (departures_in c.args.slot l)) whole.gone in
-    let left = c.depart.ensures.sent_room in
-    let limiter = c.depart.new.limiter in
-    let new : EngineView = record {
-      fixed = c.depart.new.ranks.fixed;
-      limits = limiter.limits;
-      fabric = fabric_of c.cross-second.new.queues c.depart.new.ranks.states;
-      marks = limiter.marks;
-      refused = limiter.refused;
-      from_inputs = c.cross-second.new.queues.from_inputs;
-      to_outputs = c.cross-second.new.queues.to_outputs;
-      figures = y;
-      next = c.args.slot + 1;
-      stopped = e.stopped;
-    } in
-    subst (λ (v : EngineView). SlotDone (map g.R.Rank.machine v.fixed) c.args.slot c.args.arrivals.now v new c.args.sent.now c.depart.new.sent c.args.note.now c.cross-second.new.note) c.self.view_is
+    let gone = ap (λ l. length (departures_in slot l)) done.gone in
+    let sent_room = left.sent_room in
+    let new : EngineView =
+    seen c.depart.new.ranks.fixed c.depart.new.ranks.states c.cross-second.new.queues c.depart.new.limiter
+    c.count_proposals-2.new.figures (slot + 1) e.stopped in
+    subst
+    (λ (v : EngineView).
+    SlotDone (map g.R.Rank.machine v.fixed) slot cells v new c.args.sent.now c.depart.new.sent c.args.note.now
+    c.cross-second.new.note)
+    c.self.view_is
     (record {
-      record_of = record { admission = by_marks marks c.args.arrivals.now; of_slot = whole.of_slot };
-      is_slot = record { admits = admits; runs = whole.is_slot; marks = c.depart.ensures.marks ∙ c.count.ensures.marks };
-      departed = c.depart.ensures.sent ∙ ap (λ l. c.args.sent.now.items ++ departures_in c.args.slot l) (sym whole.gone);
+      record_of = record { admission = by_marks marks cells; of_slot = done.of_slot };
+      is_slot =
+          record {
+            admits =
+                admits_are e.limiter (fabric_of e.queues e.ranks.states) cells marks begins.running.holds
+                c.judge.ensures.marks;
+            runs = done.is_slot;
+            marks = left.marks ∙ c.count.ensures.marks;
+          };
+      departed = left.sent ∙ ap (λ l. c.args.sent.now.items ++ departures_in slot l) (sym done.gone);
       departed_room = omega arith;
       crossed =
-          c.cross-second.ensures.note ∙ ap (λ l. l ++ second) c.cross-first.ensures.note ∙ append_assoc c.args.note.now.items first second
-          ∙ ap (λ l. c.args.note.now.items ++ l) (sym whole.crossed);
+          two.note ∙ ap (λ l. l ++ second) one.note ∙ append_assoc c.args.note.now.items first second
+          ∙ ap (λ l. c.args.note.now.items ++ l) (sym done.crossed);
       crossed_room = omega arith;
-      counted = whole.figures;
+      counted = done.figures;
       refused =
-          c.depart.ensures.refused ∙ c.count.ensures.refused
-          ∙ ap (with_refused (refused marks c.args.arrivals.now)) c.judge.ensures.refused;
+          left.refused ∙ c.count.ensures.refused
+          ∙ ap (with_refused (refused marks cells)) c.judge.ensures.refused;
     })
 
 pub returns-clause-limits : goal.returns-clause-limits
 returns-clause-limits g c =
-    c.depart.ensures.limits ∙ c.count.ensures.limits ∙ c.judge.ensures.limits ∙ ap (λ (v : EngineView). v.limits) c.self.view_is
+    c.depart.ensures.limits ∙ c.count.ensures.limits ∙ c.judge.ensures.limits
+    ∙ ap (λ (v : EngineView). v.limits) c.self.view_is

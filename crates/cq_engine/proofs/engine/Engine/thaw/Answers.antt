@@ -21,7 +21,8 @@ put-requires-clause-few g c =
 pub put-requires-clause-outputs : goal.put-requires-clause-outputs
 put-requires-clause-outputs g c =
     let many = length-map (map g.R.Rank.fixed c.args.ranks.items) g.R.Rank.machine in
-    ap length c.as_slice-states.ensures ∙ c.requires.goes_on.ports.ranks ∙ many ∙ sym (ap length c.of-ranks.ensures.fixed)
+    ap length c.as_slice-states.ensures ∙ c.requires.goes_on.ports.ranks ∙ many
+    ∙ sym (ap length c.of-ranks.ensures.fixed)
 
 pub put-requires-clause-sized : goal.put-requires-clause-sized
 put-requires-clause-sized g c =
@@ -107,7 +108,9 @@ invariant_of-result g c =
     (c.in_ok-queues.ensures.buffers ∙ c.as_slice-buffers.ensures)
     (c.put.ensures.states ∙ c.as_slice-states.ensures) c.in_ok-figures.ensures in (
       record { some = c.requires.some; few = c.requires.few },
-      λ _. subst (λ (fixed : List (List ℕ)). IsRunning (map g.R.Rank.machine fixed) x.next look.All figures (fabric_of queues states) limiter)
+      λ _. subst
+          (λ (fixed : List (List ℕ)).
+          IsRunning (map g.R.Rank.machine fixed) x.next look.All figures (fabric_of queues states) limiter)
           (sym (c.put.ensures.fixed ∙ c.of-ranks.ensures.fixed)) runs,
     )
 

@@ -1,0 +1,10 @@
+use Rattle.std.proofs.Common.{◌≡◌, ◌+◌, ◌++◌, length}
+use Rattle.cq_engine.specs.Straight.{crossings}
+use Rattle.cq_engine.proofs.straight.note_each.Given as goal
+
+-- the cells of the inputs before this one are noted
+abbrev pub invariant-inputs : goal.invariant-inputs
+invariant-inputs l = record {
+  items : l.note.items ≡ l.fn.note.items ++ crossings l.slot l.input l.came;
+  room : l.note.spare + length (crossings l.slot l.input l.came) ≡ l.fn.note.spare;
+}
