@@ -1,7 +1,7 @@
--- What bounds a run of a fabric with stable matchings over all cells that arrive. In a slot a list gets no more cells than
--- arrive at its input, and an output holds no more cells more than arrive for it. So no list and no output holds more than
--- arrives in all. Beside the fabric an ideal switch runs, with which it agrees. So where the whole run of that one meets no
--- tag fault, the fabric meets none, and it goes on for no more slots than that one.
+-- What bounds a run of a fabric with stable matchings over all cells that arrive. In a slot a list gets no more cells
+-- than arrive at its input, and an output holds no more cells more than arrive for it. So no list and no output holds
+-- more than arrives in all. Beside the fabric an ideal switch runs, with which it agrees. So where the whole run of
+-- that one meets no tag fault, the fabric meets none, and it goes on for no more slots than that one.
 use Rattle.std.proofs.Common.{◌≡◌, ℕ, zero, suc, ◌+◌, ◌<◌, ◌≤◌, true, false, List, [], ◌∷◌, length, take, Option, Some, Result, Ok, Err, refl, sym, ap, ◌∙◌, subst, ⊎_elim, arith}
 use Rattle.std.specs.Prelude.{IsOk, IsOkAnd}
 use Rattle.std.proofs.lemmas.Bool.{cases_lt}
@@ -82,7 +82,8 @@ module _ (limits : List (Option ℕ)) (ms : List Machine) (came : List Arrival) 
       omega arith
 
   module _ (ports : ℕ) (ranks : List (List ℕ)) (slot : ℕ) (f : Marked Fabric) (rs : List LimitedRecord)
-      (run : LimitedFabricRun IsStable limits ms 0 (first_slots came slot) (empty_limited_fabric ports ranks) rs f) where
+      (run :
+      LimitedFabricRun IsStable limits ms 0 (first_slots came slot) (empty_limited_fabric ports ranks) rs f) where
     -- where a cell arrives in the next slot, fewer wait at its input than arrive there in all
     pub list_is_short : (i : ℕ) (cell : Cell) → arrival_at (arriving came slot) i ≡ Some cell →
         length (input f.state i) < number_of (is_from i) came
@@ -97,7 +98,8 @@ module _ (limits : List (Option ℕ)) (ms : List Machine) (came : List Arrival) 
         let one : one_if (arrival_at (arriving came slot) i) ≡ 1 = ap one_if at in
         omega arith
 
-    -- the cells that an output holds and those that arrive for it in the next slot are no more than arrive for it in all
+    -- the cells that an output holds and those that arrive for it in the next slot are no more than arrive for it in
+    -- all
     pub output_is_short : (j : ℕ) → held_for j f.state + count_for j (arriving came slot) ≤ number_of (is_to j) came
     output_is_short j =
         let grown = outputs_grow j slot 0 (empty_limited_fabric ports ranks) f rs run in
@@ -114,7 +116,8 @@ module _ (limits : List (Option ℕ)) (ms : List Machine) (came : List Arrival) 
       beside =
           same_limited_run limits ms classes 0 (first_slots came slot) (empty_limited_fabric ports ranks) f
           (empty_limited ports ranks) rs
-          (begin limits ms classes ports ranks (first_slots came slot) (slots_fit ports classes came 0 slot traffic)) run
+          (begin limits ms classes ports ranks (first_slots came slot) (slots_fit ports classes came 0 slot traffic))
+          run
 
       pub agree_now : LimitedAgrees slot f beside.after
       agree_now =
@@ -136,7 +139,8 @@ module _ (limits : List (Option ℕ)) (ms : List Machine) (came : List Arrival) 
           (ap (λ (l : List (List (Option Cell))). limited_run limits ms 0 l start) (first_more came slot)
           ∙ limited_parts limits ms 0 slot (first_slots came slot) (cells ∷ []) start at
           ∙ ap (limited_going_on limits ms slot (cells ∷ [])) beside.ran
-          ∙ ap (behind (admissions_in rs) (gone_in (slots_in rs))) (run_fault limits ms slot cells [] beside.after fault here))
+          ∙ ap (behind (admissions_in rs) (gone_in (slots_in rs)))
+          (run_fault limits ms slot cells [] beside.after fault here))
 
       -- the ranks of what is admitted in the next slot fit
       pub ranks_fit : IsOk (whole_limited_run limits ms came (empty_limited ports ranks)) →
@@ -178,7 +182,8 @@ module _ (limits : List (Option ℕ)) (ms : List Machine) (came : List Arrival) 
     pub slots_bounded : (slot : ℕ) (f : Marked Fabric) (rs : List LimitedRecord) →
         LimitedFabricRun IsStable limits ms 0 (first_slots came slot) (empty_limited_fabric ports ranks) rs f →
         ((m : ℕ) (g : Marked Fabric) → m ≤ slot →
-        AfterBy (LimitedFabricSlot IsStable limits ms) came (empty_limited_fabric ports ranks) rs m g → end_of came ≤ m →
+        AfterBy (LimitedFabricSlot IsStable limits ms) came (empty_limited_fabric ports ranks) rs m g → end_of came
+        ≤ m →
         IsEmptyFabric g.state → ⊥) → slot < enough came
     slots_bounded slot f rs run not_over =
         let n = last limits ms ports ranks came in
@@ -186,7 +191,8 @@ module _ (limits : List (Option ℕ)) (ms : List Machine) (came : List Arrival) 
         ⊎_elim
         (λ (before : slot < n). omega arith)
         (λ (late : n ≤ slot).
-        let r = reach (LimitedFabricSlot IsStable limits ms) came (empty_limited_fabric ports ranks) rs n slot f late run in
+        let r =
+        reach (LimitedFabricSlot IsStable limits ms) came (empty_limited_fabric ports ranks) rs n slot f late run in
         let over = over_there r.state (take n rs) r.after in
         absurd (not_over n r.state late r.after over.0 over.1))
         (cases_lt slot n)

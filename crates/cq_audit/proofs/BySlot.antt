@@ -1,5 +1,5 @@
--- The lines of a log by slots and phases. Of lines of earlier slots and then later ones, those before a slot are the first,
--- and those of its phases are among the others.
+-- The lines of a log by slots and phases. Of lines of earlier slots and then later ones, those before a slot are the
+-- first, and those of its phases are among the others.
 use Rattle.std.proofs.Common.{◌≡◌, ℕ, ◌+◌, ◌<◌, ◌≤◌, ◌⊎◌, eqb, ltb, Bool, true, false, List, [], ◌∷◌, ◌++◌, cond, refl, sym, ap, ◌∙◌, ⊎_elim, inl, inr, arith}
 use Rattle.std.specs.List.{AllByRecursion, filter}
 use Rattle.std.proofs.lemmas.Bool.{and_from, and_left, and_parts, and_right, cases_lt, cond-false, cond_both, eq-eqb, eqb-true, false_from_ne_true, le-ltb, lt-ltb, ltb-true, ne_eqb}
@@ -75,7 +75,8 @@ module _ (slot : ℕ) where
       (weaker (λ t. slot ≤ t.slot) (λ t. ltb t.slot slot ≡ false) late ys none)
 
   -- those before this slot are among those before a later one
-  pub before_later : (to : ℕ) (note : List Transfer) → slot ≤ to → before_slot slot (before_slot to note) ≡ before_slot slot note
+  pub before_later : (to : ℕ) (note : List Transfer) → slot ≤ to →
+      before_slot slot (before_slot to note) ≡ before_slot slot note
   before_later to note le =
       keeps_of_kept (λ t. ltb t.slot slot) (λ t. ltb t.slot to)
       (λ t here. let lt : t.slot < slot = ltb-true t.slot slot here in lt-ltb t.slot to (omega arith)) note

@@ -13,7 +13,8 @@ use Rattle.cq_audit.specs.Phase.{IsPhaseFault, IsStableTold}
 use Rattle.cq_audit.specs.declared.phase.PhaseFault.{PhaseFault}
 
 -- there are as many lists as inputs
-pub lists_long : (lists : List Waiting) (inputs : List (List Queued)) → cells_of lists ≡ inputs → length lists ≡ length inputs
+pub lists_long : (lists : List Waiting) (inputs : List (List Queued)) → cells_of lists ≡ inputs →
+    length lists ≡ length inputs
 lists_long lists inputs is = sym (length-map lists (λ (w : Waiting). w.cells)) ∙ ap length is
 
 pub fault_there : (lists : List Waiting) (inputs : List (List Queued)) (lines : List Transfer) (fault : PhaseFault) →
@@ -21,7 +22,8 @@ pub fault_there : (lists : List Waiting) (inputs : List (List Queued)) (lines : 
 fault_there lists inputs lines fault is wrong = subst (λ (x : List (List Queued)). IsPhaseFault x lines fault) is wrong
 
 module _ (lists : List Waiting) (old new : Queues) (slot phase : ℕ) (lines : List Transfer) (pairs m : Partners)
-    (is : cells_of lists ≡ old.inputs) (told : IsStableTold (cells_of lists) slot phase lines pairs) (same : m ≡ pairs) where
+    (is : cells_of lists ≡ old.inputs) (told : IsStableTold (cells_of lists) slot phase lines pairs)
+    (same : m ≡ pairs) where
   told_there : IsStableTold old.inputs slot phase lines m
   told_there =
       subst (IsStableTold old.inputs slot phase lines) (sym same)

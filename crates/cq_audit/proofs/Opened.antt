@@ -1,5 +1,5 @@
--- How the replay of a log begins that is made for a setup: the machines are those of the disciplines, each in its opening
--- state, and there is room for all cells that arrive and for all lines. And what its end says of the log.
+-- How the replay of a log begins that is made for a setup: the machines are those of the disciplines, each in its
+-- opening state, and there is room for all cells that arrive and for all lines. And what its end says of the log.
 use Rattle.std.proofs.Common.{◌≡◌, ℕ, ◌+◌, ◌*◌, List, length, map, Option, Result, Ok, Err, sym, ap, ◌∙◌, subst, arith}
 use Rattle.std.specs.Prelude.{IfErr, IsOk, OnOk, slice_index}
 use Rattle.std.specs.List.{range_with_len}
@@ -67,7 +67,8 @@ module _ (M : List ℕ → Machine) (setup : Setup) (limits : List (Option ℕ))
   pub ready : (lines : List Transfer) (note : RoomView Transfer) (ports : ℕ) → ports ≡ length setup.kinds →
       IsInStep (map M first.fixed) 0 first → class_count (machines_of setup) ≡ length setup.classes →
       IsTraffic (length setup.kinds) (length setup.classes) came → IsShort came →
-      IsOk (whole_limited_run limits (machines_of setup) came (empty_limited (length setup.kinds) (openings_of setup))) →
+      IsOk (whole_limited_run limits (machines_of setup) came
+      (empty_limited (length setup.kinds) (openings_of setup))) →
       first.from_inputs ≡ map (λ i. number_of (is_from i) came) (range_with_len 0 ports) →
       first.to_outputs ≡ map (λ j. number_of (is_to j) came) (range_with_len 0 ports) →
       AreInOrder ports lines → note.spare ≡ length lines + 2 * ports →

@@ -1,7 +1,8 @@
--- The replay of a log, slot by slot. Before each slot the fabric has had the slots before it, with stable matchings, and what
--- was moved in them is what the lines before it say; the run is over after none of them. A slot moves what its lines say, and
--- slots that are skipped move nothing. So the lines that are left are those of this slot and of later ones. At a fault of a
--- phase all before it is known, and at the end of the run no line is left, or the first that is left is not reached.
+-- The replay of a log, slot by slot. Before each slot the fabric has had the slots before it, with stable matchings,
+-- and what was moved in them is what the lines before it say; the run is over after none of them. A slot moves what
+-- its lines say, and slots that are skipped move nothing. So the lines that are left are those of this slot and of
+-- later ones. At a fault of a phase all before it is known, and at the end of the run no line is left, or the first
+-- that is left is not reached.
 use Rattle.std.proofs.Common.{◌≡◌, ℕ, ◌+◌, ◌-◌, ◌*◌, ◌<◌, ◌≤◌, zero, suc, List, [], ◌∷◌, ◌++◌, length, take, replicate, Option, Bool, refl, sym, ap, ◌∙◌, subst, ⊎_elim, arith, append_assoc, length-append}
 use Rattle.std.proofs.lemmas.Bool.{cases_lt}
 use Rattle.std.proofs.lemmas.List.{append-nil, take-append-le, take_all}
@@ -142,7 +143,8 @@ module _ (ms : List Machine) (came : List Arrival) (lines : List Transfer) (firs
         let many : length b.records ≡ slot = one_each slot now.fabric b.records b.runs in
         let at : slot ≡ 0 + length (first_slots came slot) = omega arith in
         let step : LimitedFabricSlot IsStable first.limits ms slot (arriving came slot) now.fabric r new.fabric =
-        subst (λ (l : List (Option Cell)). LimitedFabricSlot IsStable first.limits ms slot l now.fabric r new.fabric) are
+        subst (λ (l : List (Option Cell)). LimitedFabricSlot IsStable first.limits ms slot l now.fabric r new.fabric)
+        are
         (subst (λ (l : List (Option ℕ)). LimitedFabricSlot IsStable l ms slot cells now.fabric r new.fabric) b.limits
         had.is_slot) in
         let parts = moved_more b.records r in
@@ -194,7 +196,8 @@ module _ (ms : List Machine) (came : List Arrival) (lines : List Transfer) (firs
     ran : LimitedFabricRun IsStable first.limits ms slot (replicate (next - slot) no_arrivals) now.fabric quiet_records
         new.fabric
     ran =
-        subst (λ (l : List (Option ℕ)). LimitedFabricRun IsStable l ms slot (replicate (next - slot) no_arrivals) now.fabric
+        subst (λ (l : List (Option ℕ)). LimitedFabricRun IsStable l ms slot (replicate (next - slot) no_arrivals)
+        now.fabric
         (quiet_limited_slots ms (next - slot) slot (ports_in now) now.fabric.state.ranks now.fabric.marks) new.fabric)
         b.limits rested.ran
 

@@ -1,5 +1,5 @@
--- Slots that a replay skips. No cell arrives up to the next arrival, and no line is of a slot before the first one's. And a
--- stretch of no slots leaves everything as it is.
+-- Slots that a replay skips. No cell arrives up to the next arrival, and no line is of a slot before the first one's.
+-- And a stretch of no slots leaves everything as it is.
 use Rattle.std.proofs.Common.{◌≡◌, ℕ, zero, suc, ◌-◌, ◌<◌, ◌≤◌, ◌⊎◌, min, List, [], ◌∷◌, replicate, Option, None, Some, refl, ap, ⊎_elim, arith}
 use Rattle.std.specs.Prelude.{slice_get}
 use Rattle.std.specs.List.{AllByRecursion}

@@ -22,7 +22,7 @@ use Rattle.cq_laws.specs.SlotBySlot.{AfterBy}
 use Rattle.cq_traffic.proofs.ForPorts.{arrivals_for}
 use Rattle.cq_audit.specs.Audit.{IsNoOf, phase_refusal, refusal_of}
 use Rattle.cq_audit.specs.Log.{AreInOrder}
-use Rattle.cq_audit.specs.Phase.{IsPhaseFault, NoneBefore, in_phase}
+use Rattle.cq_audit.specs.Phase.{IsPhaseFault, in_phase}
 use Rattle.cq_audit.specs.Replay.{HasBufferRoom, HasListRoom, IsFirstFault, IsInStep, IsSecondFault, IsSlotFault, ReplayView, SlotReplayed, ports_in}
 use Rattle.cq_audit.specs.Running.{HasRested, IsReady, IsStill, RunEnds}
 use Rattle.cq_audit.specs.StableRun.{IsFaultAt, Reaches, StableRun, before_slot}
@@ -36,6 +36,7 @@ use Rattle.cq_audit.proofs.BySlot.{before_is, phase_later}
 use Rattle.cq_audit.proofs.Following.{weaker}
 use Rattle.cq_audit.proofs.Replaying.{Replaying, more_at_rest, not_over, one_each, replaying_first, replaying_next, replaying_rested}
 use Rattle.cq_audit.proofs.Skips.{all_late}
+use Rattle.cq_audit.proofs.Slots.{CanReplay}
 use Rattle.cq_audit.proofs.WholeFollowing.{moved, run_before}
 
 pub goes_on : (b : Bool) (end slot : ℕ) (Empty : Type 0) → b ≡ false → (IsTrue b ↔ ((end ≤ slot) × Empty)) →
@@ -49,20 +50,6 @@ no_of : (limits : List (Option ℕ)) (ms : List Machine) (came : List Arrival) (
     IsNoOf limits ms came start lines (phase_refusal slot phase fault)
 no_of limits ms came start lines slot phase (WrongLine i) is = is
 no_of limits ms came start lines slot phase (Unsettled i j) is = is
-
--- all that a slot of a replay asks for
-pub record CanReplay (M : List ℕ → Machine) (slot : ℕ) (cells : List (Option Cell)) (rest : List Transfer)
-    (now : ReplayView) (note : RoomView Transfer) : Type 0 where
-  pub in_step : IsInStep (map M now.fixed) slot now
-  pub early : slot < 2 ^ 64 - 1
-  pub arrivals : AreForPorts (ports_in now) (class_count (map M now.fixed)) cells
-  pub ranked : IsOk (ranking (map M now.fixed) slot 0 (fabric_admission now.limits cells now.fabric).cells
-      now.fabric.state.ranks)
-  pub list_room : HasListRoom cells now
-  pub buffer_room : HasBufferRoom cells now
-  pub in_order : AreInOrder (ports_in now) rest
-  pub none_before : NoneBefore slot 1 rest
-  pub note_room : 2 * ports_in now ≤ note.spare
 
 module _ (M : List ℕ → Machine) (came : List Arrival) (lines : List Transfer) (first : ReplayView)
     (first_note : RoomView Transfer) (ready : IsReady (map M first.fixed) came lines first first_note) where
@@ -135,7 +122,8 @@ module _ (M : List ℕ → Machine) (came : List Arrival) (lines : List Transfer
 
   module _ (slot : ℕ) (rest : List Transfer) (now : ReplayView) (note : RoomView Transfer)
       (b : Before slot rest now note) (more : end_of came ≤ slot → IsEmptyFabric now.fabric.state → ⊥) where
-    run_from_start : LimitedFabricRun IsStable first.limits (map M first.fixed) 0 (first_slots came slot) start b.records
+    run_from_start : LimitedFabricRun IsStable first.limits (map M first.fixed) 0 (first_slots came slot) start
+        b.records
         now.fabric
     run_from_start = from_start slot now.fabric b.records b.runs
 

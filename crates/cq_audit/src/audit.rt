@@ -18,7 +18,7 @@ use crate::log::read_log;
 use crate::refusal::AuditRefusal;
 use crate::replay::Replay;
 use cq_base::{Room, Setup, Slot, Transfer};
-use cq_cells::{Nearby, Schedule};
+use cq_cells::{Coming, Schedule};
 use cq_rank::Rank;
 use cq_scfq::Discipline;
 use cq_traffic::{quiet_until, rooms_from, rooms_to};
@@ -139,13 +139,14 @@ fn replay_run<R: Rank>(
     requires { IsReady (map R.machine replay.old.fixed) schedule.now.came lines.now replay.old note.old }
     ensures { RunEnds (map R.machine replay.old.fixed) schedule.now.came lines.now replay.old result }
 {
-    let mut near = Nearby::nowhere();
+    let mut coming = Coming::none();
     let mut slot = 0;
     let mut rest = lines;
     'slots: while !is_over(replay, schedule, slot) {
         slot = skip(replay, schedule, rest, slot);
-        let arrivals = schedule.arrivals_near(slot, &mut near);
-        rest = match replay.slot(slot, &arrivals, rest, note) {
+        schedule.arrive(slot, &mut coming);
+        let arrivals = coming.arrivals();
+        rest = match replay.slot(slot, arrivals, rest, note) {
             Ok(rest) => rest,
             Err(fault) => return Err(AuditRefusal::of_slot(slot, fault)),
         };

@@ -17,8 +17,8 @@ use crate::crossing::cross;
 use crate::parted::part;
 use crate::phase::PhaseFault;
 use cq_base::{Arrivals, NoMemory, Room, Slot, Transfer};
-use cq_fabric::{Queues, nobody, release, tell};
-use cq_ideal::{Limiter, Ranks};
+use cq_fabric::{Gone, Queues, release, tell};
+use cq_ideal::{Limiter, Newcomers, Ranks};
 use cq_rank::Rank;
 use std::alloc::Global;
 use std::marker::Model;
@@ -114,7 +114,7 @@ impl<R: Rank> Replay<R> {
             rest.now self.old self.new note.old note.new) }
         ensures fault { IfErr result (IsSlotFault (map R.machine self.old.fixed) slot arrivals.now lines.now self.old) }
     {
-        let mut came = nobody();
+        let mut came = Newcomers::none();
         self.queues.ports();
         self.limiter.judge(arrivals);
         if let Err(_) = self.ranks.take(slot, arrivals, &self.limiter, &mut came) {
@@ -126,9 +126,10 @@ impl<R: Rank> Replay<R> {
         if let Err(fault) = cross(&mut self.queues, slot, 1, first, note) {
             return Err(SlotFault { phase: 1, fault });
         }
-        let ports = self.queues.ports() as usize;
-        let places = self.queues.depart();
-        let gone = &places[..ports];
+        let ports = self.queues.ports();
+        let mut places = Gone::none();
+        self.queues.depart(&mut places);
+        let gone = places.of_outputs(ports);
         tell(&mut self.ranks, gone);
         release(&mut self.limiter, gone);
         let (second, rest) = part(behind, slot, 2);

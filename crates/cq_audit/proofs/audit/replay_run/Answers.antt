@@ -1,10 +1,13 @@
-use Rattle.std.proofs.Common.{Err, map, sym, subst, arith}
+use Rattle.std.proofs.Common.{◌≤◌, Err, map, sym, subst, ◌∙◌, arith}
 use Rattle.cq_base.specs.Arriving.{end_of}
 use Rattle.cq_laws.specs.Fabric.{IsEmptyFabric}
 use Rattle.cq_audit.specs.Running.{RunEnds}
 use Rattle.cq_audit.specs.declared.refusal.AuditRefusal.{AuditRefusal}
 use Rattle.cq_audit.proofs.Steps.{at_end, at_first, can_there, fault_there, goes_on, left_there, next_there, rest_in_order, rest_is_short, skip_in_step}
+use Rattle.cq_audit.proofs.Slots.{CanReplay}
+use Rattle.cq_audit.proofs.audit.replay_run.Given as given
 use Rattle.cq_audit.proofs.audit.replay_run.Goals as goal
+use Rattle.cq_audit.proofs.audit.replay_run.Goals.{After-arrivals-arrivals, After-skip-slot}
 
 pub slots-init : goal.slots-init
 slots-init g c =
@@ -17,134 +20,103 @@ skip-slot-requires-clause-in_step g c =
 
 pub skip-slot-requires-clause-in_order : goal.skip-slot-requires-clause-in_order
 skip-slot-requires-clause-in_order g c =
-    rest_in_order g.R.Rank.machine c.args.schedule.now.came c.args.lines.now c.args.replay.now c.args.note.now c.requires
+    rest_in_order g.R.Rank.machine c.args.schedule.now.came c.args.lines.now c.args.replay.now c.args.note.now
+    c.requires
     c.slots.slot c.slots.rest.now c.slots.replay c.slots.note c.slots.invariant
+
+-- the loop goes on at this slot
+goes : (g : given.Over) (c : After-skip-slot g) → end_of c.args.schedule.now.came ≤ c.slots.slot →
+    IsEmptyFabric c.slots.replay.fabric.state → ⊥
+goes g c =
+    goes_on c.is_over.result (end_of c.args.schedule.now.came) c.slots.slot
+    (IsEmptyFabric c.slots.replay.fabric.state) c.slots-test.true c.is_over.ensures
+
+-- all that the slot asks for
+can : (g : given.Over) (c : After-arrivals-arrivals g) →
+    CanReplay g.R.Rank.machine c.skip-slot.result c.arrivals-arrivals.result.now c.slots.rest.now
+    c.skip-slot.new.replay c.slots.note
+can g c =
+    can_there g.R.Rank.machine c.args.schedule.now.came c.args.lines.now c.args.replay.now c.args.note.now c.requires
+    c.slots.slot c.slots.rest.now c.slots.replay c.slots.note c.slots.invariant
+    (goes_on c.is_over.result (end_of c.args.schedule.now.came) c.slots.slot
+    (IsEmptyFabric c.slots.replay.fabric.state) c.slots-test.true c.is_over.ensures)
+    c.skip-slot.result c.skip-slot.new.replay c.skip-slot.ensures.still c.skip-slot.ensures.rested
+    c.arrivals-arrivals.result.now (c.arrivals-arrivals.ensures ∙ c.arrive.ensures)
 
 pub slot-requires-clause-in_step : goal.slot-requires-clause-in_step
 slot-requires-clause-in_step g c =
-    let more = goes_on c.is_over.result (end_of c.args.schedule.now.came) c.slots.slot
-    (IsEmptyFabric c.slots.replay.fabric.state) c.slots-test.true c.is_over.ensures in
-    (can_there g.R.Rank.machine c.args.schedule.now.came c.args.lines.now c.args.replay.now c.args.note.now c.requires
-    c.slots.slot c.slots.rest.now c.slots.replay c.slots.note c.slots.invariant more
-    c.skip-slot.result c.skip-slot.new.replay c.skip-slot.ensures.still c.skip-slot.ensures.rested
-    c.arrivals_near-arrivals.result c.arrivals_near-arrivals.ensures).in_step
+    (can g (goal.at.slot-requires-clause-in_step g c).After-arrivals-arrivals).in_step
 
 pub slot-requires-clause-early : goal.slot-requires-clause-early
 slot-requires-clause-early g c =
-    let more = goes_on c.is_over.result (end_of c.args.schedule.now.came) c.slots.slot
-    (IsEmptyFabric c.slots.replay.fabric.state) c.slots-test.true c.is_over.ensures in
-    (can_there g.R.Rank.machine c.args.schedule.now.came c.args.lines.now c.args.replay.now c.args.note.now c.requires
-    c.slots.slot c.slots.rest.now c.slots.replay c.slots.note c.slots.invariant more
-    c.skip-slot.result c.skip-slot.new.replay c.skip-slot.ensures.still c.skip-slot.ensures.rested
-    c.arrivals_near-arrivals.result c.arrivals_near-arrivals.ensures).early
+    (can g (goal.at.slot-requires-clause-early g c).After-arrivals-arrivals).early
 
 pub slot-requires-clause-arrivals : goal.slot-requires-clause-arrivals
 slot-requires-clause-arrivals g c =
-    let more = goes_on c.is_over.result (end_of c.args.schedule.now.came) c.slots.slot
-    (IsEmptyFabric c.slots.replay.fabric.state) c.slots-test.true c.is_over.ensures in
-    (can_there g.R.Rank.machine c.args.schedule.now.came c.args.lines.now c.args.replay.now c.args.note.now c.requires
-    c.slots.slot c.slots.rest.now c.slots.replay c.slots.note c.slots.invariant more
-    c.skip-slot.result c.skip-slot.new.replay c.skip-slot.ensures.still c.skip-slot.ensures.rested
-    c.arrivals_near-arrivals.result c.arrivals_near-arrivals.ensures).arrivals
+    (can g (goal.at.slot-requires-clause-arrivals g c).After-arrivals-arrivals).arrivals
 
 pub slot-requires-clause-ranked : goal.slot-requires-clause-ranked
 slot-requires-clause-ranked g c =
-    let more = goes_on c.is_over.result (end_of c.args.schedule.now.came) c.slots.slot
-    (IsEmptyFabric c.slots.replay.fabric.state) c.slots-test.true c.is_over.ensures in
-    (can_there g.R.Rank.machine c.args.schedule.now.came c.args.lines.now c.args.replay.now c.args.note.now c.requires
-    c.slots.slot c.slots.rest.now c.slots.replay c.slots.note c.slots.invariant more
-    c.skip-slot.result c.skip-slot.new.replay c.skip-slot.ensures.still c.skip-slot.ensures.rested
-    c.arrivals_near-arrivals.result c.arrivals_near-arrivals.ensures).ranked
+    (can g (goal.at.slot-requires-clause-ranked g c).After-arrivals-arrivals).ranked
 
 pub slot-requires-clause-list_room : goal.slot-requires-clause-list_room
 slot-requires-clause-list_room g c =
-    let more = goes_on c.is_over.result (end_of c.args.schedule.now.came) c.slots.slot
-    (IsEmptyFabric c.slots.replay.fabric.state) c.slots-test.true c.is_over.ensures in
-    (can_there g.R.Rank.machine c.args.schedule.now.came c.args.lines.now c.args.replay.now c.args.note.now c.requires
-    c.slots.slot c.slots.rest.now c.slots.replay c.slots.note c.slots.invariant more
-    c.skip-slot.result c.skip-slot.new.replay c.skip-slot.ensures.still c.skip-slot.ensures.rested
-    c.arrivals_near-arrivals.result c.arrivals_near-arrivals.ensures).list_room
+    (can g (goal.at.slot-requires-clause-list_room g c).After-arrivals-arrivals).list_room
 
 pub slot-requires-clause-buffer_room : goal.slot-requires-clause-buffer_room
 slot-requires-clause-buffer_room g c =
-    let more = goes_on c.is_over.result (end_of c.args.schedule.now.came) c.slots.slot
-    (IsEmptyFabric c.slots.replay.fabric.state) c.slots-test.true c.is_over.ensures in
-    (can_there g.R.Rank.machine c.args.schedule.now.came c.args.lines.now c.args.replay.now c.args.note.now c.requires
-    c.slots.slot c.slots.rest.now c.slots.replay c.slots.note c.slots.invariant more
-    c.skip-slot.result c.skip-slot.new.replay c.skip-slot.ensures.still c.skip-slot.ensures.rested
-    c.arrivals_near-arrivals.result c.arrivals_near-arrivals.ensures).buffer_room
+    (can g (goal.at.slot-requires-clause-buffer_room g c).After-arrivals-arrivals).buffer_room
 
 pub slot-requires-clause-in_order : goal.slot-requires-clause-in_order
 slot-requires-clause-in_order g c =
-    let more = goes_on c.is_over.result (end_of c.args.schedule.now.came) c.slots.slot
-    (IsEmptyFabric c.slots.replay.fabric.state) c.slots-test.true c.is_over.ensures in
-    (can_there g.R.Rank.machine c.args.schedule.now.came c.args.lines.now c.args.replay.now c.args.note.now c.requires
-    c.slots.slot c.slots.rest.now c.slots.replay c.slots.note c.slots.invariant more
-    c.skip-slot.result c.skip-slot.new.replay c.skip-slot.ensures.still c.skip-slot.ensures.rested
-    c.arrivals_near-arrivals.result c.arrivals_near-arrivals.ensures).in_order
+    (can g (goal.at.slot-requires-clause-in_order g c).After-arrivals-arrivals).in_order
 
 pub slot-requires-clause-none_before : goal.slot-requires-clause-none_before
 slot-requires-clause-none_before g c =
-    let more = goes_on c.is_over.result (end_of c.args.schedule.now.came) c.slots.slot
-    (IsEmptyFabric c.slots.replay.fabric.state) c.slots-test.true c.is_over.ensures in
-    (can_there g.R.Rank.machine c.args.schedule.now.came c.args.lines.now c.args.replay.now c.args.note.now c.requires
-    c.slots.slot c.slots.rest.now c.slots.replay c.slots.note c.slots.invariant more
-    c.skip-slot.result c.skip-slot.new.replay c.skip-slot.ensures.still c.skip-slot.ensures.rested
-    c.arrivals_near-arrivals.result c.arrivals_near-arrivals.ensures).none_before
+    (can g (goal.at.slot-requires-clause-none_before g c).After-arrivals-arrivals).none_before
 
 pub slot-requires-clause-note : goal.slot-requires-clause-note
 slot-requires-clause-note g c =
-    let more = goes_on c.is_over.result (end_of c.args.schedule.now.came) c.slots.slot
-    (IsEmptyFabric c.slots.replay.fabric.state) c.slots-test.true c.is_over.ensures in
-    (can_there g.R.Rank.machine c.args.schedule.now.came c.args.lines.now c.args.replay.now c.args.note.now c.requires
-    c.slots.slot c.slots.rest.now c.slots.replay c.slots.note c.slots.invariant more
-    c.skip-slot.result c.skip-slot.new.replay c.skip-slot.ensures.still c.skip-slot.ensures.rested
-    c.arrivals_near-arrivals.result c.arrivals_near-arrivals.ensures).note_room
+    (can g (goal.at.slot-requires-clause-note g c).After-arrivals-arrivals).note_room
 
 pub returns-in-Err : goal.returns-in-Err
 returns-in-Err g c =
-    let more = goes_on c.is_over.result (end_of c.args.schedule.now.came) c.slots.slot
-    (IsEmptyFabric c.slots.replay.fabric.state) c.slots-test.true c.is_over.ensures in
+    let more = goes g (goal.at.returns-in-Err g c).After-skip-slot in
     subst (λ (r : AuditRefusal). RunEnds (map g.R.Rank.machine c.args.replay.now.fixed) c.args.schedule.now.came
     c.args.lines.now c.args.replay.now (Err r)) (sym c.of_slot.ensures)
     (fault_there g.R.Rank.machine c.args.schedule.now.came c.args.lines.now c.args.replay.now c.args.note.now c.requires
     c.slots.slot c.slots.rest.now c.slots.replay c.slots.note c.slots.invariant more
     c.skip-slot.result c.skip-slot.new.replay c.skip-slot.ensures.still c.skip-slot.ensures.rested
-    c.arrivals_near-arrivals.result c.in-Err.fault c.arrivals_near-arrivals.ensures c.in-Err.ensures.fault)
+    c.arrivals-arrivals.result.now c.in-Err.fault (c.arrivals-arrivals.ensures ∙ c.arrive.ensures)
+    c.in-Err.ensures.fault)
 
 pub slots-smaller : goal.slots-smaller
 slots-smaller g c =
-    let more = goes_on c.is_over.result (end_of c.args.schedule.now.came) c.slots.slot
-    (IsEmptyFabric c.slots.replay.fabric.state) c.slots-test.true c.is_over.ensures in
-    let left = left_there g.R.Rank.machine c.args.schedule.now.came c.args.lines.now c.args.replay.now c.args.note.now c.requires
-    c.slots.slot c.slots.rest.now c.slots.replay c.slots.note c.slots.invariant more
+    let more = goes g (goal.at.slots-smaller g c).After-skip-slot in
+    let left = left_there g.R.Rank.machine c.args.schedule.now.came c.args.lines.now c.args.replay.now c.args.note.now
+    c.requires c.slots.slot c.slots.rest.now c.slots.replay c.slots.note c.slots.invariant more
     c.skip-slot.result c.skip-slot.new.replay c.skip-slot.ensures.still c.skip-slot.ensures.rested in
     let late = c.skip-slot.ensures.still.late in
     omega arith
 
 pub slots-preserved : goal.slots-preserved
 slots-preserved g c =
-    let more = goes_on c.is_over.result (end_of c.args.schedule.now.came) c.slots.slot
-    (IsEmptyFabric c.slots.replay.fabric.state) c.slots-test.true c.is_over.ensures in
+    let more = goes g (goal.at.slots-preserved g c).After-skip-slot in
     next_there g.R.Rank.machine c.args.schedule.now.came c.args.lines.now c.args.replay.now c.args.note.now c.requires
     c.slots.slot c.slots.rest.now c.slots.replay c.slots.note c.slots.invariant more
     c.skip-slot.result c.skip-slot.new.replay c.skip-slot.ensures.still c.skip-slot.ensures.rested
-    c.arrivals_near-arrivals.result c.in-Ok.rest.now c.slot.new.self c.slot.new.note c.arrivals_near-arrivals.ensures
-    c.in-Ok.ensures.slot
+    c.arrivals-arrivals.result.now c.in-Ok.rest.now c.slot.new.self c.slot.new.note
+    (c.arrivals-arrivals.ensures ∙ c.arrive.ensures) c.in-Ok.ensures.slot
 
 pub overflow_add-slot : goal.overflow_add-slot
 overflow_add-slot g c =
-    let more = goes_on c.is_over.result (end_of c.args.schedule.now.came) c.slots.slot
-    (IsEmptyFabric c.slots.replay.fabric.state) c.slots-test.true c.is_over.ensures in
-    let early = (can_there g.R.Rank.machine c.args.schedule.now.came c.args.lines.now c.args.replay.now c.args.note.now
-    c.requires c.slots.slot c.slots.rest.now c.slots.replay c.slots.note c.slots.invariant more
-    c.skip-slot.result c.skip-slot.new.replay c.skip-slot.ensures.still c.skip-slot.ensures.rested
-    c.arrivals_near-arrivals.result c.arrivals_near-arrivals.ensures).early in
+    let early = (can g (goal.at.overflow_add-slot g c).After-arrivals-arrivals).early in
     omega arith
 
 pub left_over-requires : goal.left_over-requires
 left_over-requires g c =
-    rest_is_short g.R.Rank.machine c.args.schedule.now.came c.args.lines.now c.args.replay.now c.args.note.now c.requires
+    rest_is_short g.R.Rank.machine c.args.schedule.now.came c.args.lines.now c.args.replay.now c.args.note.now
+    c.requires
     c.slots.slot c.slots.rest.now c.slots.replay c.slots.note c.slots.invariant
 
 pub returns : goal.returns

@@ -9,41 +9,63 @@ use Rattle.cq_laws.specs.LimitedFabric.{LimitedFabricRun}
 use Rattle.cq_laws.specs.LimitedQuiet.{quiet_limited_slots}
 use Rattle.cq_fabric.specs.Queues.{fabric_of}
 use Rattle.cq_audit.specs.Replay.{IsInStep, ReplayView}
-use Rattle.cq_audit.proofs.Slots.{few_fixed, here, shown, states_long}
+use Rattle.cq_audit.proofs.Slots.{in_step_here, shown}
 use Rattle.cq_audit.proofs.Stands.{rested_run, rested_step}
+use Rattle.cq_audit.proofs.replay.Replay.rest.Given as given
 use Rattle.cq_audit.proofs.replay.Replay.rest.Goals as goal
+use Rattle.cq_audit.proofs.replay.Replay.rest.Goals.{After-self}
+
+-- the parts are in step where the slots begin
+stands : (g : given.Over) (c : After-self g) →
+    IsInStep (map g.R.Rank.machine c.self.inside.ranks.fixed) c.args.slot
+    (shown c.self.inside.ranks.fixed c.self.inside.ranks.states c.self.inside.queues c.self.inside.limiter)
+stands g c =
+    let e = c.self.inside in
+    in_step_here g.R.Rank.machine c.args.slot c.args.self.now e.ranks.fixed e.ranks.states e.queues e.limiter
+    c.self.view_is c.requires.in_step
 
 pub rest-requires-clause-few : goal.rest-requires-clause-few
 rest-requires-clause-few g c =
-    let e = c.self.inside in
-    few_fixed g.R.Rank.machine c.args.slot no_arrivals c.args.self.now e.ranks.fixed e.ranks.states e.queues e.limiter c.self.view_is c.requires.in_step
+    let few = (stands g (goal.at.rest-requires-clause-few g c).After-self).machines.few in
+    let long = length-map c.self.inside.ranks.fixed g.R.Rank.machine in
+    omega arith
 
 pub rest-requires-clause-states : goal.rest-requires-clause-states
 rest-requires-clause-states g c =
-    let e = c.self.inside in
-    states_long g.R.Rank.machine c.args.slot no_arrivals c.args.self.now e.ranks.fixed e.ranks.states e.queues e.limiter c.self.view_is c.requires.in_step
+    (stands g (goal.at.rest-requires-clause-states g c).After-self).ranks
+    ∙ length-map c.self.inside.ranks.fixed g.R.Rank.machine
 
 pub returns-clause-slots : goal.returns-clause-slots
 returns-clause-slots g c =
     let e = c.self.inside in
-    let ms = map g.R.Rank.machine e.ranks.fixed in
+    let M = g.R.Rank.machine in
     let slot = c.args.slot in
     let to = c.args.to in
-    let step = here g.R.Rank.machine slot no_arrivals c.args.self.now e.ranks.fixed e.ranks.states e.queues e.limiter c.self.view_is c.requires.in_step in
+    let step = stands g (goal.at.returns-clause-slots g c).After-self in
     let empty = subst (λ (v : ReplayView). IsEmptyFabric v.fabric.state) (sym c.self.view_is) c.requires.empty in
     let rested = c.rest.new.self.states in
     let later : slot < to = c.requires.later in
-    subst (λ (v : ReplayView). LimitedFabricRun IsStable v.limits (map g.R.Rank.machine v.fixed) slot (replicate (to - slot) no_arrivals) v.fabric (quiet_limited_slots (map g.R.Rank.machine v.fixed) (to - slot) slot (length v.fixed) v.fabric.state.ranks v.fabric.marks) (marked e.limiter.marks (fabric_of e.queues rested))) c.self.view_is
-    (rested_run ms slot to e.ranks.fixed e.ranks.states rested e.queues e.limiter step empty (length e.ranks.fixed) (to - slot)
-    (length-map e.ranks.fixed g.R.Rank.machine) (omega arith) c.rest.ensures.states c.rest.ensures.again)
+    let many = length-map e.ranks.fixed M in
+    subst
+    (λ (v : ReplayView).
+    LimitedFabricRun IsStable v.limits (map M v.fixed) slot (replicate (to - slot) no_arrivals) v.fabric
+    (quiet_limited_slots (map M v.fixed) (to - slot) slot (length v.fixed) v.fabric.state.ranks v.fabric.marks)
+    (marked e.limiter.marks (fabric_of e.queues rested)))
+    c.self.view_is
+    (rested_run (map M e.ranks.fixed) slot to e.ranks.fixed e.ranks.states rested e.queues e.limiter step empty
+    (length e.ranks.fixed) (to - slot) many (omega arith) c.rest.ensures.states c.rest.ensures.again)
 
 pub returns-clause-in_step : goal.returns-clause-in_step
 returns-clause-in_step g c =
     let e = c.self.inside in
-    let ms = map g.R.Rank.machine e.ranks.fixed in
+    let M = g.R.Rank.machine in
     let rested = c.rest.new.self.states in
-    let step = here g.R.Rank.machine c.args.slot no_arrivals c.args.self.now e.ranks.fixed e.ranks.states e.queues e.limiter c.self.view_is c.requires.in_step in
+    let step = stands g (goal.at.returns-clause-in_step g c).After-self in
     let empty = subst (λ (v : ReplayView). IsEmptyFabric v.fabric.state) (sym c.self.view_is) c.requires.empty in
-    subst (λ (v : ReplayView). IsInStep (map g.R.Rank.machine v.fixed) c.args.to (shown c.rest.new.self.fixed rested e.queues e.limiter)) c.self.view_is
-    (rested_step ms c.args.slot c.args.to e.ranks.fixed e.ranks.states rested e.queues e.limiter step empty c.rest.new.self.fixed
-    (ap length c.rest.ensures.states ∙ length-idle ms (length e.ranks.fixed) e.ranks.states))
+    let long =
+    ap length c.rest.ensures.states ∙ length-idle (map M e.ranks.fixed) (length e.ranks.fixed) e.ranks.states in
+    subst
+    (λ (v : ReplayView). IsInStep (map M v.fixed) c.args.to (shown c.rest.new.self.fixed rested e.queues e.limiter))
+    c.self.view_is
+    (rested_step (map M e.ranks.fixed) c.args.slot c.args.to e.ranks.fixed e.ranks.states rested e.queues e.limiter step
+    empty c.rest.new.self.fixed long)
