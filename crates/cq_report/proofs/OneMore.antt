@@ -1,6 +1,7 @@
--- Lines of numbers and texts of lines. A line is its first number, then each other behind a blank, then the line feed. In a
--- text one line more stands behind the lines before it.
-use Rattle.std.proofs.Common.{◌≡◌, ℕ, ◌+◌, ◌<◌, List, [], ◌∷◌, ◌++◌, length, take, get_or, ap, sym, ◌∙◌, append_assoc, arith}
+-- Lines of numbers and texts of lines. A line is its first number, then each other behind a blank, then the line
+-- feed. In a text one line more stands behind the lines before it. And the lines of what items stand for are a text of
+-- those items.
+use Rattle.std.proofs.Common.{◌≡◌, ℕ, ◌+◌, ◌<◌, List, [], ◌∷◌, ◌++◌, length, take, get_or, map, refl, ap, sym, ◌∙◌, append_assoc, arith}
 use Rattle.std.specs.List.{flat_map}
 use Rattle.std.proofs.lemmas.List.{append-nil, flat_map_more, take_more, length-take-le}
 use Rattle.cq_base.specs.Decimal.{decimal}
@@ -54,3 +55,9 @@ pub no_line_left : {X : Type 0} (line : X → List ℕ) (left : List X) (text al
     text ++ flat_map line left ≡ all → text ≡ all
 no_line_left line left text all none so_far =
     sym (append-nil text) ∙ ap (λ xs. text ++ flat_map line xs) (sym none) ∙ so_far
+
+-- the lines of what the items stand for
+pub lines_of_these : {X Y : Type 0} (line : Y → List ℕ) (f : X → Y) (xs : List X) →
+    flat_map (λ (x : X). line (f x)) xs ≡ flat_map line (map f xs)
+lines_of_these line f [] = refl
+lines_of_these line f (x ∷ xs) = ap (λ ys. line (f x) ++ ys) (lines_of_these line f xs)

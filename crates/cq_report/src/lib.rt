@@ -11,4 +11,4 @@ mod tests;
 mod texts;
 
 pub use report::report_text;
-pub use texts::{log_text, log_text_of_room, trace_text};
+pub use texts::{log_text, log_text_of_room, trace_text, trace_text_of_packed};

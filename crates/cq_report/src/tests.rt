@@ -1,8 +1,8 @@
 //! Texts of runs that were worked by hand.
-use crate::{log_text, log_text_of_room, report_text, trace_text};
+use crate::{log_text, log_text_of_room, report_text, trace_text, trace_text_of_packed};
 use cq_base::{
-    Cell, CellId, Departure, Figures, InputFigures, Key, OutputFigures, Queued, Room, Sequence,
-    Transfer,
+    Cell, CellId, Departure, Figures, InputFigures, Key, OutputFigures, PackedDeparture, Queued,
+    Room, Sequence, Transfer,
 };
 use cq_ideal::Refused;
 use std::alloc::Global;
@@ -79,6 +79,9 @@ fn a_trace_has_a_line_for_each_departure(rt: HostRuntime) -> Result<(), Fail> {
     let text = trace_text(rt.alloc(), &long.map(departure))?;
     let lines =
         b"3600000000000 63 62 4294967295 4095\n18446744073709551615 65535 65535 4294967295 4294967295\n";
+    assert_eq!(rt; text.as_slice(), lines.as_slice());
+    let packed = long.map(|row| PackedDeparture::of(&departure(row)));
+    let text = trace_text_of_packed(rt.alloc(), &packed)?;
     assert_eq!(rt; text.as_slice(), lines.as_slice());
     Ok(())
 }

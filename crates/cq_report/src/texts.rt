@@ -1,9 +1,10 @@
 //! The trace and the log of a run.
-ghost use Rattle.std.specs.Prelude.{◌≡◌, ◌++◌, IfOk, OnOk};
+ghost use Rattle.std.specs.Prelude.{◌≡◌, ◌++◌, IfOk, OnOk, map};
+ghost use Rattle.cq_base.specs.Packed.{unpacked};
 ghost use Rattle.cq_base.specs.Texts.{trace_of, log_of, trace_line, log_line};
 
 use crate::lines::{LINE, put_line};
-use cq_base::{Departure, NoMemory, Room, Supply, Transfer};
+use cq_base::{Departure, NoMemory, PackedDeparture, Room, Supply, Transfer};
 use std::alloc::Global;
 
 // The most bytes of a line of the trace: those of its five numbers, and what stands behind each.
@@ -23,6 +24,19 @@ pub fn trace_text(alloc: Global, sent: &[Departure]) -> Result<Vec<u8>, NoMemory
     let mut line = [0; LINE];
     'departures: for departure in sent {
         put_departure(&mut text, &mut line, departure)?;
+    }
+    Ok(text)
+}
+
+/// The text of [`trace_text`] of departures that are packed. The error is want of memory.
+#[tactic(auto, unfolding(cq_base::specs::Texts::trace_of))]
+pub fn trace_text_of_packed(alloc: Global, sent: &[PackedDeparture]) -> Result<Vec<u8>, NoMemory>
+    ensures { IfOk result (λ text. text.items ≡ trace_of (map unpacked sent.now)) }
+{
+    let mut text = Vec::with_capacity(alloc, sent.len().saturating_mul(TRACE_LINE))?;
+    let mut line = [0; LINE];
+    'departures: for packed in sent {
+        put_departure(&mut text, &mut line, &packed.departure())?;
     }
     Ok(text)
 }
