@@ -36,7 +36,8 @@ filter_flat p f (i ∷ is) =
 flat_alike : (f g : ℕ → List Arrival) → ((i : ℕ) → f i ≡ g i) → (is : List ℕ) → flat_map f is ≡ flat_map g is
 flat_alike f g same [] = refl
 flat_alike f g same (i ∷ is) =
-    ap (λ (l : List Arrival). l ++ flat_map f is) (same i) ∙ ap (λ (l : List Arrival). g i ++ l) (flat_alike f g same is)
+    ap (λ (l : List Arrival). l ++ flat_map f is) (same i) ∙ ap (λ (l : List Arrival). g i ++ l)
+    (flat_alike f g same is)
 
 fewer_flat : (f g : ℕ → List Arrival) → ((i : ℕ) → length (f i) ≤ length (g i)) → (is : List ℕ) →
     length (flat_map f is) ≤ length (flat_map g is)
@@ -97,7 +98,8 @@ module _ (limits : List (Option ℕ)) (next : ℕ) (came : List Arrival) (names 
         ap (λ (l : List Arrival). filter (λ a. nat_lt a.slot next && not (has_name names a)) l) are.by_input
         ∙ filter_flat (λ (a : Arrival). ltb a.slot next && not (has_name names a)) (λ i. filter (is_from i) came)
         (range_with_len 0 ports)
-        ∙ flat_alike (λ i. filter (λ a. nat_lt a.slot next && not (has_name names a)) (filter (is_from i) came)) at of_input
+        ∙ flat_alike (λ i. filter (λ a. nat_lt a.slot next && not (has_name names a)) (filter (is_from i) came)) at
+        of_input
         (range_with_len 0 ports)
 
     -- none is left out twice
@@ -157,7 +159,8 @@ module _ (limits : List (Option ℕ)) (next : ℕ) (came : List Arrival) (names 
                 ∙ sym (all_counted_both (cells_in (left_before input)) (cells_in (at input)) (refused_counts limits []))
                 ∙ ap (λ (l : List Cell). with_refused l (refused_counts limits []))
                 (sym (map-append (λ (a : Arrival). a.cell) (left_before input) (at input)))
-                ∙ ap (λ (l : List Arrival). with_refused (cells_in l) (refused_counts limits [])) (sym (left_more input));
+                ∙ ap (λ (l : List Arrival). with_refused (cells_in l) (refused_counts limits []))
+                (sym (left_more input));
           }
 
     pub tallied_counts : (marks : List Bool) (refused : List Refused) → Tallied ports marks refused →

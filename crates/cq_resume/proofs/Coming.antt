@@ -80,7 +80,8 @@ behind_same from next slot (b ∷ line) le all =
     let test : is_between from next b ≡ is_between (slot + 1) next b =
     ap (λ (t : Bool). t && ltb b.slot next) (first ∙ sym second) in
     ap (λ (t : Bool). cond t (b ∷ filter (is_between from next) line) (filter (is_between from next) line)) test
-    ∙ ap (λ (l : List Arrival). cond (is_between (slot + 1) next b) (b ∷ l) l) (behind_same from next slot line le all.1)
+    ∙ ap (λ (l : List Arrival). cond (is_between (slot + 1) next b) (b ∷ l) l)
+    (behind_same from next slot line le all.1)
 
 none_arrives : (slot : ℕ) (line : List Arrival) → AllByRecursion (λ b. slot < b.slot) line → ArrivesIn slot line → ⊥
 none_arrives slot [] all arrives = arrives
@@ -126,7 +127,8 @@ next_in from next slot (a ∷ line) rising le lt arrives all =
           (λ ge. absurd (none_arrives slot (a ∷ line)
           (omega arith, later_on slot line a (omega arith) rising.0) arrives)) (cases_lt a.slot slot) in
           let early : a.slot < from =
-          ⊎_elim (λ less. less) (λ ge. let late : slot ≤ a.slot = all.0 ge in absurd (omega arith)) (cases_lt a.slot from) in
+          ⊎_elim (λ less. less) (λ ge. let late : slot ≤ a.slot = all.0 ge in absurd (omega arith))
+          (cases_lt a.slot from) in
           let rest : ArrivesIn slot line =
           ⊎_elim (λ same. absurd (other same)) (λ more. more) arrives in
           let its = next_in from next slot line rising.1 le lt rest all.1 in
@@ -144,7 +146,8 @@ next_in from next slot (a ∷ line) rising le lt arrives all =
 -- ## At an input
 
 -- what is found of an input is found among its cells
-found_at : (slot input : ℕ) (came : List Arrival) → find (is_at slot input) came ≡ find (is_in slot) (filter (is_from input) came)
+found_at : (slot input : ℕ) (came : List Arrival) → find (is_at slot input) came ≡ find (is_in slot)
+    (filter (is_from input) came)
 found_at slot input [] = refl
 found_at slot input (a ∷ came) =
     ⊎_elim
@@ -180,7 +183,8 @@ module _ (input from next : ℕ) (came : List Arrival) where
       (whole : IsLine (filter (is_from input) came)) where
     its : IsNext from next slot (filter (is_from input) came)
     its =
-        next_in from next slot (filter (is_from input) came) (line_rising (filter (is_from input) came) whole) is.late lt
+        next_in from next slot (filter (is_from input) came) (line_rising (filter (is_from input) came) whole) is.late
+        lt
         is.arrives is.none_before
 
     there : arriving_at came slot input ≡ Some its.arrival.cell

@@ -47,8 +47,10 @@ module _ {X : Type 0} (p : X → Bool) where
       (λ k d le inside. behind (suc k) d (omega arith) (omega arith))
       ∙ sym (failed x xs (before zero x (omega arith)))
 
--- a list that does not fall is cut behind the last item that is no greater, and what is left before the first that is no less
-module _ {X : Type 0} (key : X → ℕ) (t start end : ℕ) (xs upto : List X) (high : end ≤ length xs) (low : start ≤ length upto)
+-- a list that does not fall is cut behind the last item that is no greater, and what is left before the first that is
+-- no less
+module _ {X : Type 0} (key : X → ℕ) (t start end : ℕ) (xs upto : List X) (high : end ≤ length xs)
+    (low : start ≤ length upto)
     (cut : upto ≡ take end xs)
     (to : IsPartitionPoint (λ x. leb (key x) t ≡ true) (λ x. leb (key x) t ≡ false) xs end)
     (from : IsPartitionPoint (λ x. ltb (key x) t ≡ true) (λ x. ltb (key x) t ≡ false) upto start) where

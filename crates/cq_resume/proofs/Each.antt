@@ -27,7 +27,8 @@ module _ {X : Type 0} (P : X → Type 0) where
       subst (λ (l : List X). AllByRecursion P l) (sym (take_more xs i d inside))
       (all_both (take i xs) (get_or xs i d ∷ []) all (here, tt))
 
-  pub all_hold : (xs : List X) (i : ℕ) → length xs ≤ i → AllByRecursion P (take i xs) → (true ≡ true) ↔ AllByRecursion P xs
+  pub all_hold : (xs : List X) (i : ℕ) → length xs ≤ i → AllByRecursion P (take i xs) →
+      (true ≡ true) ↔ AllByRecursion P xs
   all_hold xs i past all =
       ((λ _. subst (λ (l : List X). AllByRecursion P l) (take_all i xs past) all), (λ _. refl))
 

@@ -412,7 +412,8 @@ module _ (w : Switch) (s : State) (listing buffering : List Queued) (sending : L
             all_over Told (NamedInTurn c) (LeaveInTurn q)
             (λ d r b is one less.
             same_ahead w.came s.head.next c d q r (facts c q a) (facts d r b)
-            (is (to_named c d q r (facts c q a) (facts d r b) one) (later_back c d q r (facts c q a) (facts d r b) less)))
+            (is (to_named c d q r (facts c q a) (facts d r b) one)
+            (later_back c d q r (facts c q a) (facts d r b) less)))
             (queued_in s) (listing ++ buffering) zips (recursion_from_All (NamedInTurn c) (queued_in s) all))
             (queued_in s) (listing ++ buffering) zips
             (recursion_from_All (λ c. All (NamedInTurn c) (queued_in s)) (queued_in s) keep.queued);

@@ -1,6 +1,6 @@
--- What a run goes on from. The cells that a sound state names are different arrivals before its next slot. So the fabric that it
--- tells of stands in order, no key is in it twice, and in each list, for each output and in each count there are no more cells
--- than came, and none has more than there were slots.
+-- What a run goes on from. The cells that a sound state names are different arrivals before its next slot. So the
+-- fabric that it tells of stands in order, no key is in it twice, and in each list, for each output and in each count
+-- there are no more cells than came, and none has more than there were slots.
 use Rattle.std.proofs.Common.{◌≡◌, ◌≢◌, ℕ, zero, suc, ◌+◌, ◌<◌, ◌≤◌, ◌^◌, ◌⊎◌, Bool, true, false, cond, List, [], ◌∷◌, length, map, Option, None, Some, refl, sym, ap, ◌∙◌, subst, inl, inr, ⊎_elim, arith, length-append}
 use Rattle.std.specs.Prelude.{◌==◌, ◌&&◌, IsSome, filter, find, nat_lt, not, slice_get}
 use Rattle.std.specs.List.{AllByRecursion, enumerate_from, filter_map, range_with_len}
@@ -191,7 +191,8 @@ fewer_kept : {X : Type 0} (p : X → Bool) (xs : List X) → length (filter p xs
 fewer_kept p [] = omega arith
 fewer_kept p (x ∷ xs) = by (p x) (fewer_kept p xs)
   where
-    by : (b : Bool) → length (filter p xs) ≤ length xs → length (cond b (x ∷ filter p xs) (filter p xs)) ≤ suc (length xs)
+    by : (b : Bool) → length (filter p xs) ≤ length xs → length (cond b (x ∷ filter p xs) (filter p xs)) ≤ suc
+        (length xs)
     by true le = omega arith
     by false le = omega arith
 
@@ -437,7 +438,8 @@ module _ (w : Switch) (s : State) (in_range : IsInRange s) (shape : HasShape w s
       ∙ two.here in
       let threads : k ≡ l =
       one_place SameKey (λ a b e. sym e) (input f i)
-      (of_list (λ (xs : List Queued). EachPair (λ (a b : Queued). SameKey a b → ⊥) xs) tt i (list_differs i)) k l c d first
+      (of_list (λ (xs : List Queued). EachPair (λ (a b : Queued). SameKey a b → ⊥) xs) tt i (list_differs i)) k l c d
+      first
       (subst (λ (n : ℕ). slice_get (input f n) l ≡ Some d) (sym inputs) second) same in
       ap (λ (n : ℕ). Waiting n k) inputs ∙ ap (λ (n : ℕ). Waiting j n) threads
   places_differ (Waiting i k) (Crossed j l) c d first second same =
@@ -465,7 +467,8 @@ module _ (w : Switch) (s : State) (in_range : IsInRange s) (shape : HasShape w s
       ∙ two.here in
       let places : k ≡ l =
       one_place SameKey (λ a b e. sym e) (buffer f i)
-      (of_buffer (λ (xs : List Queued). EachPair (λ (a b : Queued). SameKey a b → ⊥) xs) tt i (buffer_differs i)) k l c d
+      (of_buffer (λ (xs : List Queued). EachPair (λ (a b : Queued). SameKey a b → ⊥) xs) tt i (buffer_differs i)) k l c
+      d
       first (subst (λ (n : ℕ). slice_get (buffer f n) l ≡ Some d) (sym outputs) second) same in
       ap (λ (n : ℕ). Crossed n k) outputs ∙ ap (λ (n : ℕ). Crossed j n) places
 

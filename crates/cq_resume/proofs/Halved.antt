@@ -38,7 +38,8 @@ lesser_part key xs rising i j d le inside is =
     ]
 
 -- items of which each later one has no lesser number do not fall
-pub not_falling : {X : Type 0} (key : X → ℕ) (xs : List X) → AllPairs (λ a b. key a ≤ key b) xs → IsNonDecreasingBy key xs
+pub not_falling : {X : Type 0} (key : X → ℕ) (xs : List X) → AllPairs (λ a b. key a ≤ key b) xs →
+    IsNonDecreasingBy key xs
 not_falling key xs pairs i j d le inside =
     elim (cases_eq i j) [
       | inl same ↦

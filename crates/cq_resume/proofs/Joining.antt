@@ -52,7 +52,8 @@ fold_both f b (x ∷ xs) ys = fold_both f (f b x) xs ys
 kept_both : (k : Kept) (first next : ℕ) (rs ss : List LimitedRecord) → first + length rs ≡ next →
     kept_on k first (rs ++ ss) ≡ kept_on (kept_on k first rs) next ss
 kept_both k first next rs ss long =
-    let slots : slots_in (rs ++ ss) ≡ slots_in rs ++ slots_in ss = map-append (λ (r : LimitedRecord). r.of_slot) rs ss in
+    let slots : slots_in (rs ++ ss) ≡ slots_in rs ++ slots_in ss =
+    map-append (λ (r : LimitedRecord). r.of_slot) rs ss in
     let size = length-map rs (λ (r : LimitedRecord). r.of_slot) in
     let sent : k.sent ++ departures_of first (gone_in (slots_in (rs ++ ss)))
     ≡ (k.sent ++ departures_of first (gone_in (slots_in rs))) ++ departures_of next (gone_in (slots_in ss)) =
@@ -124,7 +125,8 @@ module _ (ms : List Machine) (n : ℕ) (marks : List Bool) where
 
 module _ {S R : Type 0} (Step : ℕ → List (Option Cell) → S → R → S → Type 0)
     (Fault : ℕ → List (Option Cell) → S → TagFault → Type 0) where
-  record StopParts (slot : ℕ) (before after : List (List (Option Cell))) (f : S) (rs : List R) (fault : TagFault) : Type 0 where
+  record StopParts (slot : ℕ) (before after : List (List (Option Cell))) (f : S) (rs : List R) (fault : TagFault) :
+      Type 0 where
     middle : S
     first : RunBy Step slot before f (take (length before) rs) middle
     second : StopBy Step Fault (slot + length before) after middle (drop (length before) rs) fault
@@ -202,10 +204,12 @@ module _ (limits : List (Option ℕ)) (ms : List Machine) where
       FabricSlot IsInputBest ms slot cells f r g → IsSquare f → IsSquare g
   slot_square cells slot f g r x square =
       let arrived = x.arrive.ports in
-      let kept : length r.arrived.buffers ≡ length f.buffers = ap (λ (l : List (List Queued)). length l) x.arrive.buffers in
+      let kept : length r.arrived.buffers ≡ length f.buffers =
+      ap (λ (l : List (List Queued)). length l) x.arrive.buffers in
       let filled = x.fill.moves.ports.0 in
       let filled_too = x.fill.moves.ports.1 in
-      let sent : length r.sent.inputs ≡ length r.filled.inputs = ap (λ (l : List (List Queued)). length l) x.depart.inputs in
+      let sent : length r.sent.inputs ≡ length r.filled.inputs =
+      ap (λ (l : List (List Queued)). length l) x.depart.inputs in
       let gone : length r.sent.buffers ≡ length r.filled.buffers =
       ap (λ (l : List (List Queued)). length l) x.depart.buffers
       ∙ length-map r.filled.buffers (λ (xs : List Queued). drop 1 xs) in
@@ -253,8 +257,10 @@ module _ (w : Switch) where
       let n = length ss in
       let cut = arriving_parts w.came next (next + n) n (length rs - n) (length rs) refl (omega arith) in
       let long = arriving_length w.came next n in
-      let p = parts StepOf next (arriving_from w.came next n) (arriving_from w.came (next + n) (length rs - n)) start g rs
-      (subst (λ (l : List (List (Option Cell))). RunBy StepOf next l start rs g) (sym cut) (whole_run next start g rs r)) in
+      let p =
+      parts StepOf next (arriving_from w.came next n) (arriving_from w.came (next + n) (length rs - n)) start g rs
+      (subst (λ (l : List (List (Option Cell))). RunBy StepOf next l start rs g) (sym cut)
+      (whole_run next start g rs r)) in
       let first : RunBy StepOf next (arriving_from w.came next n) start (take n rs) p.middle =
       subst (λ (k : ℕ). RunBy StepOf next (arriving_from w.came next n) start (take k rs) p.middle) long p.first in
       let same = one.run next (arriving_from w.came next n) start p.middle h (take n rs) ss first
@@ -310,7 +316,8 @@ module _ (w : Switch) where
     join n rs end run =
         subst (λ (l : List (List (Option Cell))). RunBy StepOf 0 l start (part.records ++ rs) end)
         (arriving_parts w.came 0 slots slots n (slots + n) (omega arith) refl)
-        (on.run 0 (arriving_from w.came 0 slots) (arriving_from w.came slots n) start there end part.records rs part.runs
+        (on.run 0 (arriving_from w.came 0 slots) (arriving_from w.came slots n) start there end part.records rs
+        part.runs
         (subst (λ (k : ℕ). RunBy StepOf k (arriving_from w.came slots n) there rs end) (sym begins) run))
 
     -- what is kept of both
@@ -331,7 +338,8 @@ module _ (w : Switch) where
             part.runs in
             let size = length-drop slots rs in
             let more : length (drop slots rs) ≡ length rs - slots = omega arith in
-            let run : RunBy StepOf slots (arriving_from w.came slots (length (drop slots rs))) there (drop slots rs) end =
+            let run : RunBy StepOf slots (arriving_from w.came slots (length (drop slots rs))) there (drop slots rs)
+            end =
             subst (λ (n : ℕ). RunBy StepOf slots (arriving_from w.came slots n) there (drop slots rs) end) (sym more)
             (subst (λ (m : Marked Fabric). RunBy StepOf slots (arriving_from w.came slots (length rs - slots)) m (drop
             slots rs) end) same.1 r.rest) in
@@ -389,7 +397,8 @@ module _ (w : Switch) where
             let late = runs.all_came in
             let none = quiet_from w.came more n (omega arith) in
             let is_empty : end.state ≡ empty_fabric ports end.state.ranks = empty_is end.state runs.empty square in
-            let still : RunBy StepOf n (replicate more no_arrivals) (marked end.marks (empty_fabric ports end.state.ranks))
+            let still : RunBy StepOf n (replicate more no_arrivals)
+            (marked end.marks (empty_fabric ports end.state.ranks))
             quiet resting =
             run_with IsInputBest w.limits w.machines end.marks n (replicate more no_arrivals)
             (empty_fabric ports end.state.ranks)
@@ -465,8 +474,10 @@ module _ (w : Switch) where
     pub part_is_run : (kept whole : Kept) → IsResumed w at kept → IsWhole w ranks whole → kept ≡ whole
     part_is_run kept whole resumed is =
         let other = part_resumes whole is in
-        let same = one_on at.frozen.next there resumed.end other.end resumed.records other.records resumed.runs other.runs in
-        resumed.kept_is ∙ ap (λ (l : List LimitedRecord). kept_on (kept_in at) at.frozen.next l) same ∙ sym other.kept_is
+        let same =
+        one_on at.frozen.next there resumed.end other.end resumed.records other.records resumed.runs other.runs in
+        resumed.kept_is ∙ ap (λ (l : List LimitedRecord). kept_on (kept_in at) at.frozen.next l) same
+        ∙ sym other.kept_is
 
     -- a fault that is met later is met from there
     module _ (fault : TagFault) (count : ℕ) (rs : List LimitedRecord)
@@ -499,7 +510,8 @@ module _ (w : Switch) where
           let enough = few in
           let long = arriving_length w.came 0 slots in
           let cut = arriving_parts w.came 0 slots slots (count - slots) count (omega arith) (omega arith) in
-          let p = stop_parts StepOf FaultOf 0 (arriving_from w.came 0 slots) (arriving_from w.came slots (count - slots))
+          let p =
+          stop_parts StepOf FaultOf 0 (arriving_from w.came 0 slots) (arriving_from w.came slots (count - slots))
           start rs fault
           (subst (λ (l : List (List (Option Cell))). StopBy StepOf FaultOf 0 l start rs fault) (sym cut) stops)
           (omega arith) in

@@ -78,7 +78,8 @@ module _ (t : Tables) (c : Scheduled) (s : State) (f : Found) (tables : AreTable
       told_for (ports_of t.setup) (classes_of t.setup) c.came traffic s.head.next s.buffered f.buffered.items
       found.buffered
 
-  sent_for : AllByRecursion (λ g. (g.queued.cell.output < ports_of t.setup) × (g.queued.cell.class < classes_of t.setup))
+  sent_for : AllByRecursion (λ g. (g.queued.cell.output < ports_of t.setup)
+      × (g.queued.cell.class < classes_of t.setup))
       f.sent.items
   sent_for =
       gone_for (ports_of t.setup) (classes_of t.setup) c.came traffic s.head.next s.sent f.sent.items found.sent
@@ -125,7 +126,8 @@ module _ (t : Tables) (c : Scheduled) (s : State) (f : Found) (tables : AreTable
   order_to stand =
       let moved = moved_found (switch_of t c) s f.listed.items f.buffered.items f.sent.items found.listed found.buffered
       found.sent stand in (
-        lists_found (switch_of t c) s f.listed.items f.buffered.items f.sent.items found.listed found.buffered found.sent
+        lists_found (switch_of t c) s f.listed.items f.buffered.items f.sent.items found.listed found.buffered
+            found.sent
             stand,
         buffers_found (switch_of t c) s f.listed.items f.buffered.items f.sent.items found.listed found.buffered
             found.sent stand,
@@ -186,12 +188,14 @@ module _ (t : Tables) (c : Scheduled) (s : State) (f : Found) (tables : AreTable
 
   pub packets_from : PacketsStand t.limits s.head.next c.came f.names.items → AreWholePackets (switch_of t c) s
   packets_from =
-      packets_clause (switch_of t c) s f.listed.items f.buffered.items f.sent.items found.listed found.buffered found.sent
+      packets_clause (switch_of t c) s f.listed.items f.buffered.items f.sent.items found.listed found.buffered
+      found.sent
       f.names.items found.same
 
   pub packets_to : AreWholePackets (switch_of t c) s → PacketsStand t.limits s.head.next c.came f.names.items
   packets_to =
-      packets_found (switch_of t c) s f.listed.items f.buffered.items f.sent.items found.listed found.buffered found.sent
+      packets_found (switch_of t c) s f.listed.items f.buffered.items f.sent.items found.listed found.buffered
+      found.sent
       f.names.items found.same
 
   pub tally_from : (x : Tally) → TalliesUp t.limits s.head.next c.came f.names.items x → IsTally (switch_of t c) s x

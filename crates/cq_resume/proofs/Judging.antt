@@ -111,7 +111,8 @@ module _ (w : Switch) (s : State) (listing buffering : List Queued) (sending : L
       (λ (a : Arrival). nat_lt a.slot s.head.next && not (is_named (named_in s) a))
       (λ a. ap (λ (b : Bool). nat_lt a.slot s.head.next && not b) (sym (one_named a))) w.came
 
-  pub tally_is : (x : Tally) → length w.limits ≡ s.head.ports → TalliesUp w.limits s.head.next w.came names x → IsTally w s x
+  pub tally_is : (x : Tally) → length w.limits ≡ s.head.ports → TalliesUp w.limits s.head.next w.came names x →
+      IsTally w s x
   tally_is x many up =
       record {
         marks =

@@ -49,7 +49,8 @@ module _ {X : Type 0} (input lane : X → ℕ) (R : X → X → Type 0) where
         none = λ l inside is k d lt own in_lane. none k d lt own;
       }
 
-  -- what is known before a place: the items of one lane stand in order, and the last ones at the input of the one before it
+  -- what is known before a place: the items of one lane stand in order, and the last ones at the input of the one
+  -- before it
   pub record Lanes (xs : List X) (lanes n : ℕ) (last : List (Option X)) : Type 0 where
     pub pairs : PairsBelow InLane xs n
     pub ends : (d : X) → AreLast xs n (input (get_or xs (n - 1) d)) last
@@ -83,7 +84,8 @@ module _ {X : Type 0} (input lane : X → ℕ) (R : X → X → Type 0) where
               | inr later ↦
                   let le = rising (n - 1) n e (omega arith) inside in
                   let back : input (get_or xs (n - 1) e) < input here → ⊥ = stays (omega arith) in
-                  ⊎_elim (λ lt. absurd (back lt)) (λ ge. omega arith) (cases_lt (input (get_or xs (n - 1) e)) (input here))
+                  ⊎_elim (λ lt. absurd (back lt)) (λ ge. omega arith)
+                  (cases_lt (input (get_or xs (n - 1) e)) (input here))
             ]
 
     -- another input begins: none of it came yet
@@ -212,14 +214,16 @@ module _ {X : Type 0} (input lane : X → ℕ) (R : X → X → Type 0) where
                             ∙ ap (λ (j : ℕ). lane (get_or xs j d)) (sym here_too) ∙ in_lane in
                             other (sym mine)
                         | inr less ↦
-                            are.none l (omega arith) (sym (get_or-set_other now (lane here) l (Some here) None other) ∙ is)
+                            are.none l (omega arith) (sym (get_or-set_other now (lane here) l (Some here) None other)
+                            ∙ is)
                             k d (omega arith) at in_lane
                       ]
                 ];
           }
 
       -- one item more
-      pub lanes_more : ((a b c : X) → R a b → R b c → R a c) → MayFollow → length now ≡ lanes → Lanes xs lanes (n + 1) then
+      pub lanes_more : ((a b c : X) → R a b → R b c → R a c) → MayFollow → length now ≡ lanes →
+          Lanes xs lanes (n + 1) then
       lanes_more goes_on may long =
           record {
             pairs = λ i j d lt le.
@@ -274,10 +278,12 @@ module _ {X : Type 0} (input lane : X → ℕ) (R : X → X → Type 0) where
       where
         by : ((begun ≡ true) × (now ≡ none_seen lanes)) ⊎ ((begun ≡ false) × (now ≡ last)) → length now ≡ lanes
         by (inl begins) =
-            ap (λ (l : List (Option X)). length l) begins.1 ∙ length-replicate lanes (let nothing : Option X = None in nothing)
+            ap (λ (l : List (Option X)). length l) begins.1 ∙ length-replicate lanes
+            (let nothing : Option X = None in nothing)
         by (inr goes_on) = ap (λ (l : List (Option X)). length l) goes_on.1 ∙ known.long
 
-    module _ (fits : lane its < lanes) (r : Bool) (test : (r ≡ true) ↔ IfSome (get_or now (lane its) None) (λ y. R y its)) where
+    module _ (fits : lane its < lanes) (r : Bool) (test : (r ≡ true) ↔ IfSome (get_or now (lane its) None)
+        (λ y. R y its)) where
       within : lane its < length now
       within = let long = long_now in omega arith
 

@@ -24,7 +24,8 @@ arrival_key n = (n.queued.key.input, n.queued.key.slot)
 abbrev pub pair_cmp : ℕ × ℕ → ℕ × ℕ → Ordering
 pair_cmp a b = ordering_then (nat_cmp a.0 b.0) (nat_cmp a.1 b.1)
 
--- of two pairs of which the second is not less, the first is less or the same in its first part, and then no greater in the other
+-- of two pairs of which the second is not less, the first is less or the same in its first part, and then no greater
+-- in the other
 not_less : (i s j t : ℕ) → is_lt (ordering_then (nat_cmp j i) (nat_cmp t s)) ≡ false → (i < j) ⊎ ((i ≡ j) × (s ≤ t))
 not_less i s j t fails =
     ⊎_elim
@@ -46,7 +47,8 @@ pub names_sorted : {F : Type 0} {g : Mut F (Bor Name × Unit {0}) (ℕ × ℕ)} 
     ((a : Bor Name × Unit {0}) (r : ℕ × ℕ) (f' : F) → Called g f a r f' → (r ≡ arrival_key a.0.now) × (f' ≡ f)) →
     AllAdjacentBelow IsNameNotAfter xs (length xs)
 names_sorted {g = g} {f = f} xs sorted calls k d inside =
-    let up = sorted arrival_key (always_returns_same g (λ a r. r ≡ arrival_key a.0.now) f calls) k d (omega arith) inside in
+    let up =
+    sorted arrival_key (always_returns_same g (λ a r. r ≡ arrival_key a.0.now) f calls) k d (omega arith) inside in
     let a = get_or xs k d in
     let b = get_or xs (k + 1) d in
     not_less a.queued.key.input a.queued.key.slot b.queued.key.input b.queued.key.slot up
@@ -171,7 +173,8 @@ not_its input slot n other =
     (λ same.
     and_right (eqb n.queued.key.slot slot) (eqb n.queued.key.input input)
     (ne_eqb n.queued.key.input input (λ e. other same e)))
-    (λ fails. and_left (eqb n.queued.key.slot slot) (eqb n.queued.key.input input) (ne_eqb n.queued.key.slot slot fails))
+    (λ fails. and_left (eqb n.queued.key.slot slot) (eqb n.queued.key.input input)
+    (ne_eqb n.queued.key.slot slot fails))
     (cases_eq n.queued.key.slot slot)
 
 pub ahead_parts : (input slot : ℕ) (names : List Name) → AllPairs IsNameBefore names →

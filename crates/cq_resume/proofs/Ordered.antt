@@ -219,7 +219,8 @@ module _ (w : Switch) (s : State) (listing buffering : List Queued) (sending : L
         let floor : (machine_at w.machines (output_of w.came c)).floor (get_or s.ranks (output_of w.came c) [])
         (class_of w.came c)
         ≡ (machine_at (machines_of setup) q.cell.output).floor (get_or s.ranks q.cell.output []) q.cell.class =
-        ap (λ (ms : List Machine). (machine_at ms (output_of w.came c)).floor (get_or s.ranks (output_of w.came c) []) (class_of
+        ap (λ (ms : List Machine). (machine_at ms (output_of w.came c)).floor (get_or s.ranks (output_of w.came c) [])
+        (class_of
         w.came c)) own
         ∙ ap (λ (j : ℕ). (machine_at (machines_of setup) j).floor (get_or s.ranks j []) (class_of w.came c)) output
         ∙ ap (λ (k : ℕ). (machine_at (machines_of setup) q.cell.output).floor (get_or s.ranks q.cell.output []) k)
@@ -241,7 +242,8 @@ module _ (w : Switch) (s : State) (listing buffering : List Queued) (sending : L
         let floor : (machine_at w.machines (output_of w.came c)).floor (get_or s.ranks (output_of w.came c) [])
         (class_of w.came c)
         ≡ (machine_at (machines_of setup) q.cell.output).floor (get_or s.ranks q.cell.output []) q.cell.class =
-        ap (λ (ms : List Machine). (machine_at ms (output_of w.came c)).floor (get_or s.ranks (output_of w.came c) []) (class_of
+        ap (λ (ms : List Machine). (machine_at ms (output_of w.came c)).floor (get_or s.ranks (output_of w.came c) [])
+        (class_of
         w.came c)) own
         ∙ ap (λ (j : ℕ). (machine_at (machines_of setup) j).floor (get_or s.ranks j []) (class_of w.came c)) output
         ∙ ap (λ (k : ℕ). (machine_at (machines_of setup) q.cell.output).floor (get_or s.ranks q.cell.output []) k)

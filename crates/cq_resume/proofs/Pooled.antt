@@ -1,5 +1,6 @@
--- No more items than a pool has, where each item stands for one of the pool and no two stand for the same. So items with different
--- numbers below a bound are no more than the bound. And what a walk over a list keeps: items and pairs of items that are looked up.
+-- No more items than a pool has, where each item stands for one of the pool and no two stand for the same. So items
+-- with different numbers below a bound are no more than the bound. And what a walk over a list keeps: items and pairs
+-- of items that are looked up.
 use Rattle.std.proofs.Common.{◌≡◌, ◌≢◌, ℕ, zero, suc, ◌+◌, ◌<◌, ◌≤◌, ◌⊎◌, Bool, true, false, cond, List, [], ◌∷◌, ◌++◌, length, map, Option, None, Some, refl, sym, ap, ◌∙◌, subst, inl, inr, ⊎_elim, arith}
 use Rattle.std.specs.Prelude.{filter, slice_get}
 use Rattle.std.specs.List.{AllByRecursion, cons_option, filter_map, range_with_len}

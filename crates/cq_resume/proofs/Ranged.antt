@@ -35,7 +35,8 @@ module _ (ports classes : ℕ) (came : List Arrival) (traffic : IsTraffic ports 
   one_for : (c : Named) (q : Queued) → IsTold came next c q → IsFor q
   one_for c q is =
       let facts = told_facts came next c q is in
-      let it = found_holds (IsInRange ports classes) (is_at c.slot c.input) came q.cell traffic.in_range facts.arrives in
+      let it =
+      found_holds (IsInRange ports classes) (is_at c.slot c.input) came q.cell traffic.in_range facts.arrives in
       let output : it.0.cell.output ≡ q.cell.output = ap (λ (x : Cell). x.output) it.2 in
       let class : it.0.cell.class ≡ q.cell.class = ap (λ (x : Cell). x.class) it.2 in
       let low = it.1.output in

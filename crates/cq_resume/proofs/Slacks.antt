@@ -139,7 +139,8 @@ module _ (came : List Arrival) (next : ℕ) where
     where
       by : (b : Bool) → filter_map (queued_of came) (filter (λ d. eqb d.input i) names) ≡ filter (λ r. eqb r.key.input
           i) found → filter_map (queued_of came) (cond b (c ∷ filter (λ d. eqb d.input i) names) (filter (λ d. eqb
-          d.input i) names)) ≡ cond b (q ∷ filter (λ r. eqb r.key.input i) found) (filter (λ r. eqb r.key.input i) found)
+          d.input i) names)) ≡ cond b (q ∷ filter (λ r. eqb r.key.input i) found)
+          (filter (λ r. eqb r.key.input i) found)
       by true rest =
           ap (λ (o : Option Queued). cons_option o (filter_map (queued_of came) (filter (λ d. eqb d.input i) names)))
           (told_is came next c q zips.0)

@@ -85,7 +85,8 @@ record IsFirstOf (line : List Arrival) (b : Arrival) : Type 0 where
   output : first.cell.output ≡ b.cell.output
 
 -- behind a cell whose packet's first cell is known
-first_behind : (all line : List Arrival) (a b : Arrival) → ComeBehind a line → ((c : Arrival) → Has line c → Has all c) →
+first_behind : (all line : List Arrival) (a b : Arrival) → ComeBehind a line →
+    ((c : Arrival) → Has line c → Has all c) →
     IsFirstOf all a → Has line b → IsFirstOf all b
 first_behind all [] a b behind among known has = absurd has
 first_behind all (c ∷ line) a b behind among known has =
@@ -288,7 +289,8 @@ module _ (limits : List (Option ℕ)) (ports next : ℕ) (came : List Arrival) (
       let not_first : is_first b ≡ false = ne_eqb b.cell.id.index 0 (λ e. let P : ⊥ = omega arith in P) in
       let same : fold later_one f (filter is_first (b ∷ rest)) ≡ fold later_one f (filter is_first rest) =
       ap (λ (t : Bool). fold later_one f (cond t (b ∷ filter is_first rest) (filter is_first rest))) not_first in
-      let inner = last_first all b rest f behind.1 (λ c has. among c (inr has)) there (packet ∙ sym on.0) (omega arith) in
+      let inner =
+      last_first all b rest f behind.1 (λ c has. among c (inr has)) there (packet ∙ sym on.0) (omega arith) in
       record {
         there = subst (λ (x : Arrival). Has all x) (sym same) inner.there;
         packet = ap (λ (x : Arrival). x.cell.id.packet) same ∙ inner.packet;
@@ -300,7 +302,8 @@ module _ (limits : List (Option ℕ)) (ports next : ℕ) (came : List Arrival) (
       let same : fold later_one f (filter is_first (b ∷ rest)) ≡ fold later_one b (filter is_first rest) =
       ap (λ (t : Bool). fold later_one f (cond t (b ∷ filter is_first rest) (filter is_first rest))) first
       ∙ ap (λ (x : Arrival). fold later_one x (filter is_first rest)) later in
-      let inner = last_first all b rest b behind.1 (λ c has. among c (inr has)) (among b (inl refl)) refl (omega arith) in
+      let inner =
+      last_first all b rest b behind.1 (λ c has. among c (inr has)) (among b (inl refl)) refl (omega arith) in
       record {
         there = subst (λ (x : Arrival). Has all x) (sym same) inner.there;
         packet = ap (λ (x : Arrival). x.cell.id.packet) same ∙ inner.packet;

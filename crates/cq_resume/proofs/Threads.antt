@@ -21,7 +21,8 @@ pub record Threads (listed buffered : List Queued) (n thread : ℕ) : Type 0 whe
       length (thread_in listed place t.key.input) < length (cushion_in buffered t)
 
 pub threads_first : (listed buffered : List Queued) → Threads listed buffered 0 0
-threads_first listed buffered = record { counted = λ d. refl; few = omega arith; stand = λ place t lt is. absurd (omega arith) }
+threads_first listed buffered =
+    record { counted = λ d. refl; few = omega arith; stand = λ place t lt is. absurd (omega arith) }
 
 pub threads_hold : (listed buffered : List Queued) (n thread : ℕ) → Threads listed buffered n thread →
     length listed ≤ n → (true ≡ true) ↔ SlackStands listed buffered

@@ -24,7 +24,8 @@ module _ (limits : List (Option ℕ)) (next : ℕ) (came : List Arrival) (names 
       (whole limits ports next came names are input inside)
       (lines_stand limits ports next came names are stand input inside) (sym stops)
 
-  module _ (marks : List Bool) (refused : List Refused) (known : Tallied limits next came names ports marks refused) where
+  module _ (marks : List Bool) (refused : List Refused) (known : Tallied limits next came names ports marks
+      refused) where
     many : length marks ≡ ports
     many =
         sym (length-map marks (λ (m : Bool). Some m)) ∙ ap (λ (l : List (Option Bool)). length l) known.marked

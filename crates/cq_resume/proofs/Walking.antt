@@ -83,7 +83,8 @@ module _ (names : List Name) (limits : List (Option ℕ)) (all left rest : List 
       let others = cells_in (unnamed names rest) in
       record {
         marks =
-            sym (step ∙ ap (λ (b : Bool). cond b (mark_on (has_name names) (has_limit limits) (not named) rest) None) holds)
+            sym (step ∙ ap (λ (b : Bool). cond b (mark_on (has_name names) (has_limit limits) (not named) rest) None)
+            holds)
             ∙ known.marks;
         counted =
             ap (λ (l : List Refused). with_refused others l) is
@@ -130,7 +131,8 @@ module _ (names : List Name) (limits : List (Option ℕ)) (all rest : List Arriv
     (known : Walked names limits all (coming input from next came) mark first now) (slot : ℕ) (cell : Cell)
     (splits : coming input from next came ≡ record { slot = slot; cell = cell } ∷ rest) (is_told limited may : Bool)
     (name : is_told ≡ list_any (λ n. eqb n.queued.key.slot slot && eqb n.queued.key.input input) names)
-    (limit : limited ≡ has_limit limits cell.output) (test : may ≡ may_come (cell.id.index == 0) is_told limited mark) where
+    (limit : limited ≡ has_limit limits cell.output) (test : may ≡ may_come
+    (cell.id.index == 0) is_told limited mark) where
   abbrev its : Arrival
   its = record { slot = slot; cell = cell }
 
@@ -148,7 +150,8 @@ module _ (names : List Name) (limits : List (Option ℕ)) (all rest : List Arriv
   -- it may not come
   pub walk_stops : may ≡ false → None ≡ mark_on (has_name names) (has_limit limits) false all
   walk_stops is =
-      walked_stop names limits all (coming input from next came) rest mark first now known its splits (sym its_test ∙ is)
+      walked_stop names limits all (coming input from next came) rest mark first now known its splits
+      (sym its_test ∙ is)
 
   pub walk_counts : CanCount 1 now
   walk_counts = can_count names limits all (coming input from next came) rest mark first now known its splits

@@ -7,7 +7,8 @@ use Rattle.std.proofs.lemmas.List.{take_all, take_more}
 use Rattle.cq_resume.proofs.Chained.{EachPair}
 
 module _ {A B : Type 0} (R : A → B → Type 0) where
-  zip_push : (xs : List A) (ys : List B) (x : A) (y : B) → AllZip R xs ys → R x y → AllZip R (xs ++ x ∷ []) (ys ++ y ∷ [])
+  zip_push : (xs : List A) (ys : List B) (x : A) (y : B) → AllZip R xs ys → R x y →
+      AllZip R (xs ++ x ∷ []) (ys ++ y ∷ [])
   zip_push [] [] x y zips own = (own, tt)
   zip_push [] (b ∷ ys) x y zips own = absurd zips
   zip_push (a ∷ xs) [] x y zips own = absurd zips

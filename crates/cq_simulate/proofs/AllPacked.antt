@@ -1,10 +1,12 @@
 -- Packets that are put together at all outputs in one pass. When so many departures were used up, those that are left
 -- are the others, and each output stands where a walk over its own departures would stand (`SoFar`). One departure more
 -- goes on with the walk at its output, and passes by those at all others.
-use Rattle.std.proofs.Common.{◌≡◌, ◌≢◌, ℕ, ◌+◌, ◌<◌, ◌≤◌, All, List, [], ◌∷◌, ◌++◌, length, drop, get_or, set, Option, Some, None, option_to_list, refl, sym, ap, ◌∙◌, subst, ⊎_elim, arith}
+use Rattle.std.proofs.Common.{◌≡◌, ◌≢◌, ℕ, ◌+◌, ◌<◌, ◌≤◌, All, List, [], ◌∷◌, ◌++◌, length, map, drop, get_or, set, Option, Some, None, option_to_list, refl, sym, ap, ◌∙◌, subst, ⊎_elim, arith}
 use Rattle.std.proofs.lemmas.Bool.{cases_eq}
 use Rattle.std.proofs.lemmas.List.{append-nil, drop_more, get_or-set_other, get_or-set_same, length-drop, length-set, take_all}
+use Rattle.cq_base.specs.Packed.{unpacked}
 use Rattle.cq_base.specs.declared.cell.Departure.{Departure}
+use Rattle.cq_base.specs.declared.packed.PackedDeparture.{PackedDeparture}
 use Rattle.cq_cells.specs.Schedule.{arrivals}
 use Rattle.cq_pcap.specs.Captured.{Captured}
 use Rattle.cq_pcap.specs.declared.write.OutPacket.{OutPacket}
@@ -28,6 +30,12 @@ pub one_left : (packets more : List OutPacket) (left is : Option OutPacket) (p :
     left ≡ Some p → more ≡ packets ++ p ∷ [] → more ≡ packets ++ option_to_list is
 one_left packets more left is p same one pushed =
     pushed ∙ ap (λ (o : Option OutPacket). packets ++ option_to_list o) (sym one ∙ same)
+
+-- the first one that is left, as it is
+pub first_unpacked : (left rest : List PackedDeparture) (p : PackedDeparture) (d : Departure) → left ≡ p ∷ rest →
+    d ≡ unpacked p → map unpacked left ≡ d ∷ map unpacked rest
+first_unpacked left rest p d first is =
+    ap (λ (ps : List PackedDeparture). map unpacked ps) first ∙ ap (λ (x : Departure). x ∷ map unpacked rest) (sym is)
 
 -- ## All outputs
 

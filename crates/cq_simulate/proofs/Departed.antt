@@ -58,30 +58,41 @@ left_in_packets t captures sent are many h i =
     (runnable t.setup came are.setup (traffic_is t captures are many)) is i (packets_come t captures i are many) in
     record { is_taken = l.is_taken; left = l.left })
 
-all_came : (P : Cell → Type 0) (i c j : ℕ) (came : List Arrival) → AllByRecursion (λ a. P a.cell) came → AllByRecursion P (came_in_flow i c j came)
+all_came : (P : Cell → Type 0) (i c j : ℕ) (came : List Arrival) → AllByRecursion (λ a. P a.cell) came →
+    AllByRecursion P (came_in_flow i c j came)
 all_came P i c j [] all = tt
 all_came P i c j (a ∷ came) all =
-    cond_both (comes_in_flow i c j a) (a ∷ filter (comes_in_flow i c j) came) (filter (comes_in_flow i c j) came) (λ l. AllByRecursion P (map (λ (x : Arrival). x.cell) l))
+    cond_both (comes_in_flow i c j a) (a ∷ filter (comes_in_flow i c j) came) (filter (comes_in_flow i c j) came)
+    (λ l. AllByRecursion P (map (λ (x : Arrival). x.cell) l))
     (λ _. (all.0, all_came P i c j came all.1)) (λ _. all_came P i c j came all.1)
 
-rest_left : (P : Cell → Type 0) (b : Bool) (d : Departure) (l : List Departure) → AllByRecursion P (map (λ (x : Departure). x.queued.cell) (cond b (d ∷ l) l)) → AllByRecursion P (map (λ (x : Departure). x.queued.cell) l)
+rest_left : (P : Cell → Type 0) (b : Bool) (d : Departure) (l : List Departure) →
+    AllByRecursion P (map (λ (x : Departure). x.queued.cell) (cond b (d ∷ l) l)) → AllByRecursion P
+    (map (λ (x : Departure). x.queued.cell) l)
 rest_left P true d l all = all.1
 rest_left P false d l all = all
 
-one_left : (P : Cell → Type 0) (i c j : ℕ) (sent : List Departure) (k : ℕ) (e : Departure) → AllByRecursion P (left_in_flow i c j sent) → k < length sent → leaves_in_flow i c j (get_or sent k e) ≡ true → P (get_or sent k e).queued.cell
+one_left : (P : Cell → Type 0) (i c j : ℕ) (sent : List Departure) (k : ℕ) (e : Departure) →
+    AllByRecursion P (left_in_flow i c j sent) → k < length sent → leaves_in_flow i c j (get_or sent k e) ≡ true → P
+    (get_or sent k e).queued.cell
 one_left P i c j [] k e all inside of = absurd (omega arith)
 one_left P i c j (d ∷ sent) zero e all inside of =
     let first : AllByRecursion P (map (λ (x : Departure). x.queued.cell) (d ∷ filter (leaves_in_flow i c j) sent)) =
-    subst (λ (l : List Departure). AllByRecursion P (map (λ (x : Departure). x.queued.cell) l)) (cond-true (leaves_in_flow i c j d) (d ∷ filter (leaves_in_flow i c j) sent) (filter (leaves_in_flow i c j) sent) of) all in
+    subst (λ (l : List Departure). AllByRecursion P (map (λ (x : Departure). x.queued.cell) l))
+    (cond-true (leaves_in_flow i c j d) (d ∷ filter (leaves_in_flow i c j) sent) (filter (leaves_in_flow i c j) sent)
+    of) all in
     first.0
 one_left P i c j (d ∷ sent) (suc k) e all inside of =
-    one_left P i c j sent k e (rest_left P (leaves_in_flow i c j d) d (filter (leaves_in_flow i c j) sent) all) (omega arith) of
+    one_left P i c j sent k e (rest_left P (leaves_in_flow i c j d) d (filter (leaves_in_flow i c j) sent) all)
+    (omega arith) of
 
 own_flow : (d : Departure) → leaves_in_flow d.queued.cell.id.input d.queued.cell.class d.output d ≡ true
 own_flow d =
     let cell : Cell = d.queued.cell in
-    and_from (d.output == d.output) (cell.id.input == cell.id.input && cell.class == cell.class) (eq-eqb d.output d.output refl)
-    (and_from (cell.id.input == cell.id.input) (cell.class == cell.class) (eq-eqb cell.id.input cell.id.input refl) (eq-eqb cell.class cell.class refl))
+    and_from (d.output == d.output) (cell.id.input == cell.id.input && cell.class == cell.class)
+    (eq-eqb d.output d.output refl)
+    (and_from (cell.id.input == cell.id.input) (cell.class == cell.class) (eq-eqb cell.id.input cell.id.input refl)
+    (eq-eqb cell.class cell.class refl))
 
 all_taken : (P : Cell → Type 0) (p : Cell → Bool) (cells : List Cell) → AllByRecursion P cells →
     AllByRecursion P (filter p cells)
@@ -119,34 +130,45 @@ module _ (P : Arrival → Type 0) where
   all_joined [] ys a b = b
   all_joined (x ∷ xs) ys a b = (a.0, all_joined xs ys a.1 b)
 
-  all_flat : (f : ℕ → List Arrival) (a n : ℕ) → ((k : ℕ) → k < a + n → AllByRecursion P (f k)) → AllByRecursion P (flat_map f (range_with_len a n))
+  all_flat : (f : ℕ → List Arrival) (a n : ℕ) → ((k : ℕ) → k < a + n → AllByRecursion P (f k)) →
+      AllByRecursion P (flat_map f (range_with_len a n))
   all_flat f a zero h = tt
-  all_flat f a (suc n) h = all_joined (f a) (flat_map f (range_with_len (a + 1) n)) (h a (omega arith)) (all_flat f (a + 1) n (λ k l. h k (omega arith)))
+  all_flat f a (suc n) h =
+      all_joined (f a) (flat_map f (range_with_len (a + 1) n)) (h a (omega arith))
+      (all_flat f (a + 1) n (λ k l. h k (omega arith)))
 
-  all_made : (f : ℕ → Arrival) (a n : ℕ) → ((k : ℕ) → k < a + n → P (f k)) → AllByRecursion P (map f (range_with_len a n))
+  all_made : (f : ℕ → Arrival) (a n : ℕ) → ((k : ℕ) → k < a + n → P (f k)) →
+      AllByRecursion P (map f (range_with_len a n))
   all_made f a zero h = tt
   all_made f a (suc n) h = (h a (omega arith), all_made f (a + 1) n (λ k l. h k (omega arith)))
 
-all_captured : (t : Tables) (captures : List (List Captured)) → 1 ≤ t.cell_bytes → AllByRecursion (λ a. IsCaptured captures a.cell) (arrivals t captures)
+all_captured : (t : Tables) (captures : List (List Captured)) → 1 ≤ t.cell_bytes →
+    AllByRecursion (λ a. IsCaptured captures a.cell) (arrivals t captures)
 unfolding arrivals arrivals_at cell_of cells
 all_captured t captures some =
     all_flat (λ a. IsCaptured captures a.cell) (arrivals_at t captures) 0 (length captures)
-    (λ i in_captures. all_flat (λ a. IsCaptured captures a.cell) (arrivals_of t captures i) 0 (length (packets_of captures i))
-    (λ k in_packets. all_made (λ a. IsCaptured captures a.cell) (λ (n : ℕ). record { slot = start t captures i k + n; cell = cell_of t captures i k n }) 0 (cells t captures i k)
-    (λ n in_cells. let begins = piece_begins (length (packet_at captures i k).body) t.cell_bytes n some (omega arith) in record { input = omega arith; packet = omega arith; piece = omega arith })))
+    (λ i in_captures. all_flat (λ a. IsCaptured captures a.cell) (arrivals_of t captures i) 0
+    (length (packets_of captures i))
+    (λ k in_packets. all_made (λ a. IsCaptured captures a.cell)
+    (λ (n : ℕ). record { slot = start t captures i k + n; cell = cell_of t captures i k n }) 0 (cells t captures i k)
+    (λ n in_cells. let begins = piece_begins (length (packet_at captures i k).body) t.cell_bytes n some (omega arith) in
+    record { input = omega arith; packet = omega arith; piece = omega arith })))
 
 -- a flow in which a cell came is one of a port
 module _ (ports i c j : ℕ) where
   for_port : (a : Arrival) → comes_in_flow i c j a ≡ true → a.cell.output < ports → j < ports
   for_port a of less = ⊎_elim
       (λ (same : a.cell.output ≡ j). omega arith)
-      (λ ne. let other = and_left (a.cell.output == j) (a.cell.id.input == i && a.cell.class == c) (ne_eqb a.cell.output j ne) in absurd (let P : ⊥ = cc in P))
+      (λ ne. let other = and_left (a.cell.output == j) (a.cell.id.input == i && a.cell.class == c)
+      (ne_eqb a.cell.output j ne) in absurd (let P : ⊥ = cc in P))
       (cases_eq a.cell.output j)
 
-  came_for_port : (came : List Arrival) → AllByRecursion (λ a. a.cell.output < ports) came → AllByRecursion (λ (_ : Cell). j < ports) (came_in_flow i c j came)
+  came_for_port : (came : List Arrival) → AllByRecursion (λ a. a.cell.output < ports) came →
+      AllByRecursion (λ (_ : Cell). j < ports) (came_in_flow i c j came)
   came_for_port [] all = tt
   came_for_port (a ∷ came) all =
-      cond_both (comes_in_flow i c j a) (a ∷ filter (comes_in_flow i c j) came) (filter (comes_in_flow i c j) came) (λ l. AllByRecursion (λ (_ : Cell). j < ports) (map (λ (x : Arrival). x.cell) l))
+      cond_both (comes_in_flow i c j a) (a ∷ filter (comes_in_flow i c j) came) (filter (comes_in_flow i c j) came)
+      (λ l. AllByRecursion (λ (_ : Cell). j < ports) (map (λ (x : Arrival). x.cell) l))
       (λ of. (for_port a of all.0, came_for_port came all.1)) (λ _. came_for_port came all.1)
 
 module _ (t : Tables) (captures : List (List Captured)) (sent : List Departure) (are : AreTables t)

@@ -1,5 +1,6 @@
--- One slot of the fabric by its numbers. The cells that wait at the inputs grow by those that arrive and fall by one for each
--- transfer. A phase has no more proposals than the number of ports squared, and none where no cell waits at an input.
+-- One slot of the fabric by its numbers. The cells that wait at the inputs grow by those that arrive and fall by one
+-- for each transfer. A phase has no more proposals than the number of ports squared, and none where no cell waits at
+-- an input.
 use Rattle.std.proofs.Common.{◌≡◌, ℕ, zero, suc, ◌+◌, ◌*◌, ◌≤◌, ◌<◌, Bool, true, false, cond, List, [], ◌∷◌, length, length-append, map, get_or, Option, Some, None, refl, ap, ◌∙◌, subst, arith, mul-le-mul}
 use Rattle.std.specs.Prelude.{sum}
 use Rattle.std.specs.List.{range_with_len, filter_map, cons_option}
@@ -65,16 +66,21 @@ one_present (Some cell ∷ cells) zero = omega arith
 one_present (None ∷ cells) (suc i) = one_present cells i
 one_present (Some cell ∷ cells) (suc i) = let rest = one_present cells i in omega arith
 
-all_arrivals : (cells : List (Option Cell)) (n : ℕ) → total (λ i. one_if (arrival_at cells i)) 0 n ≤ length (present cells)
+all_arrivals : (cells : List (Option Cell)) (n : ℕ) → total (λ i. one_if (arrival_at cells i)) 0 n ≤ length
+    (present cells)
 unfolding total
 all_arrivals cells zero = omega arith
 all_arrivals [] (suc n) = let none = total_none (λ i. one_if (arrival_at [] i)) 0 (suc n) (λ i. refl) in omega arith
 all_arrivals (None ∷ cells) (suc n) =
-    let next : total (λ i. one_if (arrival_at (None ∷ cells) i)) (0 + 1) n ≡ total (λ i. one_if (arrival_at cells i)) 0 n = total_next (λ i. one_if (arrival_at (None ∷ cells) i)) 0 (0 + 1) n refl in
+    let next : total (λ i. one_if (arrival_at (None ∷ cells) i)) (0 + 1) n
+    ≡ total (λ i. one_if (arrival_at cells i)) 0 n =
+    total_next (λ i. one_if (arrival_at (None ∷ cells) i)) 0 (0 + 1) n refl in
     let rest = all_arrivals cells n in
     omega arith
 all_arrivals (Some cell ∷ cells) (suc n) =
-    let next : total (λ i. one_if (arrival_at (Some cell ∷ cells) i)) (0 + 1) n ≡ total (λ i. one_if (arrival_at cells i)) 0 n = total_next (λ i. one_if (arrival_at (Some cell ∷ cells) i)) 0 (0 + 1) n refl in
+    let next : total (λ i. one_if (arrival_at (Some cell ∷ cells) i)) (0 + 1) n
+    ≡ total (λ i. one_if (arrival_at cells i)) 0 n =
+    total_next (λ i. one_if (arrival_at (Some cell ∷ cells) i)) 0 (0 + 1) n refl in
     let rest = all_arrivals cells n in
     omega arith
 
@@ -82,7 +88,8 @@ all_arrivals (Some cell ∷ cells) (suc n) =
 unfoldable pub at_inputs : Fabric → ℕ → ℕ
 at_inputs f n = total (λ i. length (input f i)) 0 n
 
-longer_one : (f : Fabric) (came : Option Queued) (cell : Option Cell) (xs : List Queued) → ((c : Queued) → came ≡ Some c → cell ≡ Some c.cell) → length (list_arrived f came xs) ≤ length xs + one_if cell
+longer_one : (f : Fabric) (came : Option Queued) (cell : Option Cell) (xs : List Queued) →
+    ((c : Queued) → came ≡ Some c → cell ≡ Some c.cell) → length (list_arrived f came xs) ≤ length xs + one_if cell
 longer_one f None cell xs is = omega arith
 longer_one f (Some c) cell xs is =
     let here : one_if cell ≡ 1 = ap one_if (is c refl) in
@@ -108,41 +115,54 @@ length_taken (Some j) (x ∷ xs) =
     (λ _. omega arith)
     (λ _. let rest = length_taken (Some j) xs in omega arith)
 
-one_left : (h : Queued → Transfer) (b : Bool) (x : Queued) (o : Option Queued) (rest xs : List Queued) → one_crosses (option_map h o) + length rest ≤ length xs → one_crosses (option_map h (cond b (Some x) o)) + length (cond b xs (x ∷ rest)) ≤ suc (length xs)
+one_left : (h : Queued → Transfer) (b : Bool) (x : Queued) (o : Option Queued) (rest xs : List Queued) →
+    one_crosses (option_map h o) + length rest ≤ length xs → one_crosses (option_map h (cond b (Some x) o)) + length
+    (cond b xs (x ∷ rest)) ≤ suc (length xs)
 one_left h true x o rest xs le = omega arith
 one_left h false x o rest xs le = omega arith
 
 module _ (slot phase : ℕ) where
-  one_taken : (i : ℕ) (p : Option ℕ) (xs : List Queued) → one_crosses (noted slot phase i xs p) + length (list_taken p xs) ≤ length xs
+  one_taken : (i : ℕ) (p : Option ℕ) (xs : List Queued) → one_crosses (noted slot phase i xs p) + length
+      (list_taken p xs) ≤ length xs
   one_taken i None xs = omega arith
   one_taken i (Some j) [] = omega arith
   one_taken i (Some j) (x ∷ xs) =
-      one_left (λ (c : Queued). record { slot = slot; phase = phase; input = i; output = j; id = c.cell.id }) (is_for j x) x (first_for j xs) (without_first j xs) xs (one_taken i (Some j) xs)
+      one_left (λ (c : Queued). record { slot = slot; phase = phase; input = i; output = j; id = c.cell.id })
+      (is_for j x) x (first_for j xs) (without_first j xs) xs (one_taken i (Some j) xs)
 
   module _ (m : Partners) (f g : Fabric) (step : Transfers m f g) where
-    some_cross : (a n : ℕ) → length (filter_map (λ i. noted slot phase i (input f i) (partner_of m i)) (range_with_len a n)) + total (λ i. length (input g i)) a n ≤ total (λ i. length (input f i)) a n
+    some_cross : (a n : ℕ) → length (filter_map (λ i. noted slot phase i (input f i) (partner_of m i))
+        (range_with_len a n)) + total (λ i. length (input g i)) a n ≤ total (λ i. length (input f i)) a n
     unfolding total
     some_cross a zero = omega arith
     some_cross a (suc n) =
         let one = one_taken a (partner_of m a) (input f a) in
-        let left : length (input g a) ≡ length (list_taken (partner_of m a) (input f a)) = ap length (step.moves.taken a) in
+        let left : length (input g a) ≡ length (list_taken (partner_of m a) (input f a)) =
+        ap length (step.moves.taken a) in
         let rest = some_cross (a + 1) n in
-        let more = length-cons_option (noted slot phase a (input f a) (partner_of m a)) (filter_map (λ i. noted slot phase i (input f i) (partner_of m i)) (range_with_len (a + 1) n)) in
+        let more =
+        length-cons_option (noted slot phase a (input f a) (partner_of m a))
+        (filter_map (λ i. noted slot phase i (input f i) (partner_of m i)) (range_with_len (a + 1) n)) in
         omega arith
 
     all_cross : (n : ℕ) → length m ≡ n → length (transfers_of m f.inputs slot phase) + at_inputs g n ≤ at_inputs f n
     unfolding transfers_of at_inputs
-    all_cross n same = subst (λ (n : ℕ). length (transfers_of m f.inputs slot phase) + at_inputs g n ≤ at_inputs f n) same (some_cross 0 (length m))
+    all_cross n same =
+        subst (λ (n : ℕ). length (transfers_of m f.inputs slot phase) + at_inputs g n ≤ at_inputs f n) same
+        (some_cross 0 (length m))
 
 pub shorter : (m : Partners) (f g : Fabric) → Transfers m f g → (i : ℕ) → length (input g i) ≤ length (input f i)
-shorter m f g step i = let e : length (input g i) ≡ length (list_taken (partner_of m i) (input f i)) = ap length (step.moves.taken i) in let l = length_taken (partner_of m i) (input f i) in omega arith
+shorter m f g step i =
+    let e : length (input g i) ≡ length (list_taken (partner_of m i) (input f i)) =
+    ap length (step.moves.taken i) in let l = length_taken (partner_of m i) (input f i) in omega arith
 
 -- ## Proposals
 
 module _ (o : Orders) (m : Partners) (is : IsMatching o m) where
   spent_few : (i : ℕ) (p : Option ℕ) → partner_of m i ≡ p → spent (outputs_of o i) p ≤ length (outputs_of o i)
   spent_few i None e = omega arith
-  spent_few i (Some j) e = let l : place_in (outputs_of o i) j < length (outputs_of o i) = is.offered i j e in omega arith
+  spent_few i (Some j) e =
+      let l : place_in (outputs_of o i) j < length (outputs_of o i) = is.offered i j e in omega arith
 
   -- where no order is longer than this
   proposals_within : (b : ℕ) → ((i : ℕ) → length (outputs_of o i) ≤ b) → proposals o m ≤ ports o * b
@@ -150,9 +170,11 @@ module _ (o : Orders) (m : Partners) (is : IsMatching o m) where
       let f : ℕ → ℕ = λ i. spent (outputs_of o i) (partner_of m i) in
       let n = ports o in
       let long = length-map-range_with_len f 0 n in
-      let all : sum (map f (range_with_len 0 n)) ≤ length (map f (range_with_len 0 n)) * b = sum_by-le (λ (x : ℕ). x) b (map f (range_with_len 0 n))
+      let all : sum (map f (range_with_len 0 n)) ≤ length (map f (range_with_len 0 n)) * b =
+      sum_by-le (λ (x : ℕ). x) b (map f (range_with_len 0 n))
       (λ k d inside.
-      let here : get_or (map f (range_with_len 0 n)) k d ≡ f k = get_or-map-range_with_len f 0 n k k d (omega arith) (omega arith) in
+      let here : get_or (map f (range_with_len 0 n)) k d ≡ f k =
+      get_or-map-range_with_len f 0 n k k d (omega arith) (omega arith) in
       let one : f k ≤ length (outputs_of o k) = spent_few k (partner_of m k) refl in
       let most = few k in
       omega arith) in
@@ -170,31 +192,39 @@ module _ (f : Fabric) (m : Partners) (is : IsMatching (orders_of f.inputs) m) wh
   proposals_few fabric =
       let o = orders_of f.inputs in
       let n : ports o ≡ length f.inputs = length-map f.inputs output_order in
-      subst (λ (k : ℕ). proposals o m ≤ k * k) n (proposals_within o m is (ports o) (outputs_at_most o (are_offers f.inputs (in_range f fabric))))
+      subst (λ (k : ℕ). proposals o m ≤ k * k) n (proposals_within o m is (ports o)
+      (outputs_at_most o (are_offers f.inputs (in_range f fabric))))
 
   proposals_none : ((i : ℕ) → length (input f i) ≡ 0) → proposals (orders_of f.inputs) m ≡ 0
   proposals_none none =
       let o = orders_of f.inputs in
       let within : proposals o m ≤ ports o * 0 = proposals_within o m is 0
-      (λ i. let e : length (outputs_of o i) ≡ 0 = ap length (outputs_at f.inputs i ∙ ap output_order (nil_from_length (input f i) (none i))) in omega arith) in
+      (λ i. let e : length (outputs_of o i) ≡ 0 = ap length (outputs_at f.inputs i ∙ ap output_order
+      (nil_from_length (input f i) (none i))) in omega arith) in
       omega arith
 
 -- ## A slot
 
-module _ (ms : List Machine) (slot : ℕ) (cells : List (Option Cell)) (f g : Fabric) (r : SlotRecord) (step : FabricSlot IsInputBest ms slot cells f r g) where
+module _ (ms : List Machine) (slot : ℕ) (cells : List (Option Cell)) (f g : Fabric) (r : SlotRecord)
+    (step : FabricSlot IsInputBest ms slot cells f r g) where
   came_is : (i : ℕ) (c : Queued) → came_to r.came i ≡ Some c → arrival_at cells i ≡ Some c.cell
-  came_is i c is = (came_from ms slot 0 cells f.ranks (record { came = r.came; ranks = r.arrived.ranks }) step.arrive.ranked i c is).cell_is
+  came_is i c is =
+      (came_from ms slot 0 cells f.ranks (record { came = r.came; ranks = r.arrived.ranks }) step.arrive.ranked i c
+      is).cell_is
 
   arrived_one : (i : ℕ) → length (input r.arrived i) ≤ length (input f i) + one_if (arrival_at cells i)
   arrived_one i =
-      let e : length (input r.arrived i) ≡ length (list_arrived f (came_to r.came i) (input f i)) = ap length (step.arrive.lists i) in
+      let e : length (input r.arrived i) ≡ length (list_arrived f (came_to r.came i) (input f i)) =
+      ap length (step.arrive.lists i) in
       let l = longer_one f (came_to r.came i) (arrival_at cells i) (input f i) (came_is i) in
       omega arith
 
   arrived_all : (n : ℕ) → at_inputs r.arrived n ≤ at_inputs f n + length (present cells)
   unfolding at_inputs
   arrived_all n =
-      let most = total_most (λ i. length (input r.arrived i)) (λ i. length (input f i)) (λ i. one_if (arrival_at cells i)) 0 n arrived_one in
+      let most =
+      total_most (λ i. length (input r.arrived i)) (λ i. length (input f i)) (λ i. one_if (arrival_at cells i)) 0 n
+      arrived_one in
       let all = all_arrivals cells n in
       omega arith
 
@@ -215,37 +245,45 @@ module _ (ms : List Machine) (slot : ℕ) (cells : List (Option Cell)) (f g : Fa
   second_size = step.second_chosen.stable.matching.size ∙ length-map r.sent.inputs output_order ∙ sent_ports
 
   -- each transfer takes a cell from an input
-  pub cross_few : (n : ℕ) → length f.inputs ≡ n → length (transfers_in r) + at_inputs g n ≤ at_inputs f n + length (present cells)
+  pub cross_few : (n : ℕ) → length f.inputs ≡ n → length (transfers_in r) + at_inputs g n ≤ at_inputs f n + length
+      (present cells)
   unfolding transfers_in
   cross_few n same =
       let came = arrived_all n in
       let first = all_cross r.slot 1 r.first r.arrived r.filled step.fill n (first_size ∙ same) in
       let sent = sent_all n in
       let second = all_cross r.slot 2 r.second r.sent g step.finish n (second_size ∙ same) in
-      let both = length-append (transfers_of r.first r.arrived.inputs r.slot 1) (transfers_of r.second r.sent.inputs r.slot 2) in
+      let both =
+      length-append (transfers_of r.first r.arrived.inputs r.slot 1) (transfers_of r.second r.sent.inputs r.slot 2) in
       omega arith
 
   -- where no cell waits and none arrives none is proposed
   pub none_proposed : ((i : ℕ) → length (input f i) ≡ 0) → length (present cells) ≡ 0 → sum (proposals_in r) ≡ 0
   unfolding proposals_in
   none_proposed none quiet =
-      let before : (i : ℕ) → length (input r.arrived i) ≡ 0 = λ i. let a = arrived_one i in let b = none i in let c = one_present cells i in omega arith in
-      let after : (i : ℕ) → length (input r.sent i) ≡ 0 = λ i. let a = before i in let b = shorter r.first r.arrived r.filled step.fill i in let c = sent_same i in omega arith in
+      let before : (i : ℕ) → length (input r.arrived i) ≡ 0 =
+      λ i. let a = arrived_one i in let b = none i in let c = one_present cells i in omega arith in
+      let after : (i : ℕ) → length (input r.sent i) ≡ 0 =
+      λ i. let a = before i in let b = shorter r.first r.arrived r.filled step.fill i in let c = sent_same i in
+      omega arith in
       let first = proposals_none r.arrived r.first step.first_chosen.stable.matching before in
       let second = proposals_none r.sent r.second step.second_chosen.stable.matching after in
       omega arith
 
   -- and else not more than the number of ports squared in each of the two phases
-  pub proposed_few : (classes : ℕ) (ideal : IdealState) → Agrees slot f ideal → AreForPorts (length f.inputs) classes cells → sum (proposals_in r) ≤ 2 * (length f.inputs * length f.inputs)
+  pub proposed_few : (classes : ℕ) (ideal : IdealState) → Agrees slot f ideal →
+      AreForPorts (length f.inputs) classes cells → sum (proposals_in r) ≤ 2 * (length f.inputs * length f.inputs)
   unfolding proposals_in
   proposed_few classes ideal agrees come =
       let stable = stable_slot ms slot cells f g r step in
       let one : Sound (slot + 1) r.arrived = arrived ms slot classes cells f g ideal r agrees come stable in
       let two : Sound (slot + 1) r.sent = after_sent ms slot classes cells f g ideal r agrees come stable in
       let first : proposals (orders_of r.arrived.inputs) r.first ≤ length f.inputs * length f.inputs =
-      subst (λ (n : ℕ). proposals (orders_of r.arrived.inputs) r.first ≤ n * n) step.arrive.ports (proposals_few r.arrived r.first step.first_chosen.stable.matching one.fabric) in
+      subst (λ (n : ℕ). proposals (orders_of r.arrived.inputs) r.first ≤ n * n) step.arrive.ports
+      (proposals_few r.arrived r.first step.first_chosen.stable.matching one.fabric) in
       let second : proposals (orders_of r.sent.inputs) r.second ≤ length f.inputs * length f.inputs =
-      subst (λ (n : ℕ). proposals (orders_of r.sent.inputs) r.second ≤ n * n) sent_ports (proposals_few r.sent r.second step.second_chosen.stable.matching two.fabric) in
+      subst (λ (n : ℕ). proposals (orders_of r.sent.inputs) r.second ≤ n * n) sent_ports
+      (proposals_few r.sent r.second step.second_chosen.stable.matching two.fabric) in
       omega arith
 
 pub square_few : (n : ℕ) → n ≤ 64 → n * n ≤ 4096

@@ -1,7 +1,7 @@
--- What the laws of the fabric say of the run of a fabric that is made for tables: the cells that arrive are for its ports and
--- classes in every slot, and so are those that it admits; and the run begins where nothing waits and no mark is up, where the
--- fabric and the ideal switch agree. By its own records it is a run without limits of what they admit, and so its matchings and
--- its slack are what they are without limits.
+-- What the laws of the fabric say of the run of a fabric that is made for tables: the cells that arrive are for its
+-- ports and classes in every slot, and so are those that it admits; and the run begins where nothing waits and no
+-- mark is up, where the fabric and the ideal switch agree. By its own records it is a run without limits of what they
+-- admit, and so its matchings and its slack are what they are without limits.
 use Rattle.std.proofs.Common.{◌≡◌, ℕ, ◌+◌, ◌<◌, ◌≤◌, List, [], ◌∷◌, take, Option, Ok, ap, ◌∙◌, refl, sym, subst, ⊎_elim, arith}
 use Rattle.std.specs.Prelude.{All, IsOkAnd, Result, length, max}
 use Rattle.std.specs.List.{AllByRecursion}

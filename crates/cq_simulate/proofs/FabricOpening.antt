@@ -39,19 +39,6 @@ pub record IsBuiltFor (M : List ℕ → Machine) (t : Tables) (ports : ℕ) (sta
   pub marks : first.marks ≡ marks_down ports
   pub many : ports ≡ length t.setup.kinds
 
-pub built_for : (M : List ℕ → Machine) (t : Tables) (fixed states : List (List ℕ)) (limits : List (Option ℕ))
-    (first : EngineView) {ports : ℕ} → map M fixed ≡ machines_of t.setup → limits ≡ t.limits → first.fixed ≡ fixed →
-    first.limits ≡ limits → first.fabric ≡ empty_fabric ports states → first.marks ≡ marks_down ports →
-    length fixed ≡ ports → IsBuiltFor M t ports states first
-built_for M t fixed states limits first machines are same has fabric marks many =
-    record {
-      machines = ap (map M) same ∙ machines;
-      limits = has ∙ are;
-      fabric = fabric;
-      marks = marks;
-      many = sym many ∙ machine_count M fixed t.setup machines;
-    }
-
 module _ (M : List ℕ → Machine) (t : Tables) (came : List Arrival) (ports : ℕ) (states : List (List ℕ))
     (first : EngineView) (built : IsBuiltFor M t ports states first) where
   pub port_count : length first.fixed ≡ length t.setup.kinds

@@ -1,9 +1,9 @@
--- The run of the fabric from any slot on, slot by slot. At each slot the fabric agrees with an ideal switch, so what is known of one
--- slot of that holds here too: its departures fit, it refuses the same cells, and a cell that waits leaves. The cells that the
--- fabric holds, and those that are still to come, are no more than there is room for: in each list, in each buffer, and in the
--- lists of departures and of transfers, as each admitted cell leaves once and crosses once. While a cell waits one leaves in each
--- slot, so that the slots do not end before the cells, and there are no more slots with proposals than cells; and a slot has no more
--- than twice the number of ports squared.
+-- The run of the fabric from any slot on, slot by slot. At each slot the fabric agrees with an ideal switch, so what
+-- is known of one slot of that holds here too: its departures fit, it refuses the same cells, and a cell that waits
+-- leaves. The cells that the fabric holds, and those that are still to come, are no more than there is room for: in
+-- each list, in each buffer, and in the lists of departures and of transfers, as each admitted cell leaves once and
+-- crosses once. While a cell waits one leaves in each slot, so that the slots do not end before the cells, and there
+-- are no more slots with proposals than cells; and a slot has no more than twice the number of ports squared.
 use Rattle.std.proofs.Common.{take, ◌≡◌, ℕ, zero, suc, ◌+◌, ◌-◌, ◌*◌, ◌<◌, ◌≤◌, false, List, [], ◌∷◌, ◌++◌, length, map, Option, refl, sym, ap, ◌∙◌, subst, ⊎_elim, arith, length-append, Bool, true, append_assoc}
 use Rattle.std.specs.Prelude.{sum, fold, slice_index}
 use Rattle.std.specs.List.{range_with_len, flat_map}
@@ -78,8 +78,8 @@ pub over_by_is : (came : List Arrival) (next : ℕ) → over_by came next ≡ ne
 unfolding over_by
 over_by_is came next = refl
 
--- what is known before a slot, where so many slots are left. Of a run to its end (`whole`) that are enough slots, and it was not over
--- before.
+-- what is known before a slot, where so many slots are left. Of a run to its end (`whole`) that are enough slots, and
+-- it was not over before.
 pub record Crossing (whole : Bool) (ms : List Machine) (came : List Arrival) (first : EngineView)
     (first_sent : RoomView Departure) (first_note : RoomView Transfer) (slot n : ℕ) (now : EngineView)
     (sent : RoomView Departure) (note : RoomView Transfer) : Type 0 where
@@ -120,8 +120,10 @@ waiting-sum (cells ∷ lists) =
     omega arith
 
 -- as many cells wait in the ideal switch as the fabric holds
-pub all_wait : (slot : ℕ) (f : Fabric) (ideal : IdealState) → Agrees slot f ideal → waiting ideal.lists ≡ sum (fabric_held f)
-all_wait slot f ideal agrees = waiting-sum ideal.lists ∙ ap (λ (l : List ℕ). sum l) (sym (hold_as_many slot f ideal agrees))
+pub all_wait : (slot : ℕ) (f : Fabric) (ideal : IdealState) → Agrees slot f ideal →
+    waiting ideal.lists ≡ sum (fabric_held f)
+all_wait slot f ideal agrees =
+    waiting-sum ideal.lists ∙ ap (λ (l : List ℕ). sum l) (sym (hold_as_many slot f ideal agrees))
 
 inputs_joined : (lists : List (List Queued)) →
     total (λ i. length (list_of lists i)) 0 (length lists) ≡ length (flat_map (λ (cells : List Queued). cells) lists)
@@ -243,7 +245,8 @@ module _ (whole : Bool) (ms : List Machine) (came : List Arrival) (first : Engin
   -- these slots of the run are these records
   abbrev Ran : ℕ → List LimitedRecord → Marked Fabric → Type 0
   Ran m rs f =
-      LimitedFabricRun IsInputBest first.limits ms first.next (arriving_from came first.next m) (marked_fabric first) rs f
+      LimitedFabricRun IsInputBest first.limits ms first.next (arriving_from came first.next m) (marked_fabric first) rs
+      f
 
   empty_beside : (slot : ℕ) (f : Marked Fabric) (ideal : Marked IdealState) → LimitedAgrees slot f ideal →
       waiting ideal.state.lists ≡ 0 → IsEmptyFabric f.state
@@ -334,7 +337,8 @@ module _ (whole : Bool) (ms : List Machine) (came : List Arrival) (first : Engin
               subst (λ (l : List (List (Option Cell))).
               LimitedFabricRun IsInputBest first.limits ms first.next l (marked_fabric first) (c.records ++ r ∷ []) g)
               (next_slots came first.next (length c.records) slot (length (c.records ++ r ∷ [])) long (omega arith))
-              ((all_go_on (LimitedFabricSlot IsInputBest first.limits ms) (IsLimitedFault first.limits ms)).slot first.next
+              ((all_go_on (LimitedFabricSlot IsInputBest first.limits ms) (IsLimitedFault first.limits ms)).slot
+              first.next
               (arriving_from came first.next (length c.records)) cells (marked_fabric first) f g c.records r c.went.runs
               (subst (λ (k : ℕ). LimitedFabricSlot IsInputBest first.limits ms k cells f r g) at step));
           departed =
@@ -467,7 +471,8 @@ module _ (whole : Bool) (ms : List Machine) (came : List Arrival) (first : Engin
             subst (λ (l : List (List (Option Cell))).
             LimitedFabricStops IsInputBest first.limits ms first.next l (marked_fabric first) (c.records ++ []) fault)
             (slots_left came first.next (length c.records) slot j count had (omega arith))
-            ((all_go_on (LimitedFabricSlot IsInputBest first.limits ms) (IsLimitedFault first.limits ms)).stop first.next
+            ((all_go_on (LimitedFabricSlot IsInputBest first.limits ms) (IsLimitedFault first.limits ms)).stop
+            first.next
             before (arriving came slot ∷ later) (marked_fabric first) (marked_fabric now) c.records [] fault c.went.runs
             (subst (λ (k : ℕ). IsLimitedFault first.limits ms k (arriving came slot) (marked_fabric now) fault) at is));
       }

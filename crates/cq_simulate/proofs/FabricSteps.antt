@@ -1,5 +1,5 @@
 -- What each step of the loop over the slots of the fabric asks for, where so many slots are left as are not yet over.
-use Rattle.std.proofs.Common.{◌≡◌, ◌↔◌, ℕ, suc, ◌+◌, ◌-◌, ◌*◌, ◌<◌, ◌≤◌, ◌^◌, Bool, true, false, List, length, map, replicate, Option, Some, Result, Ok, Err, sym, ap, ◌∙◌, subst, ⊎_elim, arith}
+use Rattle.std.proofs.Common.{◌≡◌, ◌↔◌, ℕ, suc, ◌+◌, ◌-◌, ◌*◌, ◌<◌, ◌≤◌, ◌^◌, Bool, true, false, List, [], length, map, replicate, Option, Some, Result, Ok, Err, refl, sym, ap, ◌∙◌, subst, ⊎_elim, arith}
 use Rattle.std.specs.Prelude.{IsTrue, slice_index}
 use Rattle.std.proofs.lemmas.Bool.{cases_lt}
 use Rattle.cq_base.specs.Arrivals.{arrival_at, no_arrivals}
@@ -12,7 +12,7 @@ use Rattle.cq_base.specs.declared.cell.Transfer.{Transfer}
 use Rattle.cq_cells.specs.Traffic.{IsShort}
 use Rattle.cq_engine.specs.Engine.{EngineView, HaveBufferRoom, HaveListRoom, SlotDone, answer_to, its_admission, marked_fabric, ports_of}
 use Rattle.cq_ideal.specs.Admission.{Marked}
-use Rattle.cq_ideal.specs.Ideal.{count_for}
+use Rattle.cq_ideal.specs.Ideal.{HaveLeft, count_for}
 use Rattle.cq_ideal.specs.Limiter.{CanCount}
 use Rattle.cq_ideal.specs.Ranking.{AreForPorts, Ranking, ranking}
 use Rattle.cq_ideal.specs.declared.refused.Refused.{Refused}
@@ -24,12 +24,13 @@ use Rattle.cq_rank.specs.Machine.{Machine}
 use Rattle.cq_rank.specs.Switch.{class_count}
 use Rattle.cq_simulate.proofs.FabricCounts.{square_few}
 use Rattle.cq_simulate.proofs.FabricRunning.{Crossing, crossing_fault, crossing_first, crossing_left, crossing_next, crossing_over, over_by, over_by_is}
+use Rattle.cq_simulate.proofs.Handed.{TakenOver, few_left, left_with_all, room_again}
 use Rattle.cq_simulate.proofs.Steps.{ends_early}
 use Rattle.cq_simulate.proofs.FabricStretches.{crossing_rest, same_fabric}
 use Rattle.cq_simulate.specs.Stretch.{FabricHasRested}
 use Rattle.cq_ideal.proofs.Counting.{counts_fit}
 use Rattle.cq_ideal.specs.Refused.{refused_in}
-use Rattle.cq_simulate.specs.GoingOn.{HasRunOn, IsReadyOn, StopsWithin, HasPartedTo}
+use Rattle.cq_simulate.specs.GoingOn.{HasPartedTo, HasRunOn, IsReadyOn, IsReadyPart, NoneCome, StopsWithin}
 use Rattle.cq_traffic.proofs.ForPorts.{arrivals_for}
 use Rattle.cq_traffic.proofs.FromInputs.{arrives_found, from_here, one_if}
 use Rattle.cq_traffic.proofs.ToOutputs.{for_here}
@@ -44,7 +45,7 @@ rank_err (Ok r) fault e = absurd (let P : ⊥ = cc in P)
 rank_err (Err other) fault e = let same : other ≡ fault = cc in ap (λ (f : TagFault). Err f) same
 
 -- from where the engine stands a run to its end has few slots
-pub over_few : (came : List Arrival) (next : ℕ) → next < 2 ^ 63 → IsShort came → length came ≤ 2 ^ 34 →
+over_few : (came : List Arrival) (next : ℕ) → next < 2 ^ 63 → IsShort came → length came ≤ 2 ^ 34 →
     over_by came next ≤ 2 ^ 63 + 2 ^ 36
 over_few came next early short few =
     let ends = ends_early came in
@@ -52,17 +53,17 @@ over_few came next early short few =
     let over = over_by_is came next in
     omega arith
 
-pub ends_in : (came : List Arrival) (next : ℕ) → end_of came ≤ over_by came next
+ends_in : (came : List Arrival) (next : ℕ) → end_of came ≤ over_by came next
 ends_in came next = let over = over_by_is came next in omega arith
 
 -- a quiet stretch ends within the run
-pub skipped_within : (came : List Arrival) (slot next end : ℕ) → IsQuiet came slot next → end_of came ≤ end → slot ≤ end →
+skipped_within : (came : List Arrival) (slot next end : ℕ) → IsQuiet came slot next → end_of came ≤ end → slot ≤ end →
     next ≤ end
 skipped_within came slot next end quiet ends inside =
     let late : slot ≤ next = quiet.late in
     ⊎_elim (λ lt. let before = quiet.more lt in omega arith) (λ ge. omega arith) (cases_lt slot next)
 
-pub starts_in : (came : List Arrival) (next : ℕ) → next ≤ over_by came next
+starts_in : (came : List Arrival) (next : ℕ) → next ≤ over_by came next
 starts_in came next = let over = over_by_is came next in omega arith
 
 -- what the engine says of a slot that it has had
@@ -76,27 +77,90 @@ pub record HasHad (ms : List Machine) (slot : ℕ) (cells : List (Option Cell)) 
   pub from_inputs : new.from_inputs ≡ old.from_inputs
   pub to_outputs : new.to_outputs ≡ old.to_outputs
 
+-- what left in a slot stands in a list of its own, and is taken over from there
+module _ (ms : List Machine) (slot : ℕ) (cells : List (Option Cell)) (old new : EngineView)
+    (leaving left : RoomView Departure) (note note_new : RoomView Transfer) (none : leaving.items ≡ [])
+    (had : HasHad ms slot cells old new leaving left note note_new)
+  where
+    left_here : HaveLeft slot had.done.record_of.of_slot.gone leaving left
+    left_here = record { items = had.done.departed; spare = had.done.departed_room }
+
+    pub few_leave : length left.items ≤ leaving.spare
+    few_leave = few_left slot had.done.record_of.of_slot.gone leaving left none left_here
+
+    pub room_is_back : (emptied : RoomView Departure) → emptied.spare ≡ left.spare + length left.items →
+        emptied.spare ≡ leaving.spare
+    room_is_back = room_again slot had.done.record_of.of_slot.gone leaving left none left_here
+
+    pub handed : (sent sent_new : RoomView Departure) → TakenOver sent left sent_new →
+        HasHad ms slot cells old new sent sent_new note note_new
+    handed sent sent_new taken =
+        let has : HaveLeft slot had.done.record_of.of_slot.gone sent sent_new = left_with_all slot
+        had.done.record_of.of_slot.gone leaving left none left_here sent sent_new taken in
+        record {
+          done =
+              record {
+                record_of = had.done.record_of;
+                is_slot = had.done.is_slot;
+                departed = has.items;
+                departed_room = has.spare;
+                crossed = had.done.crossed;
+                crossed_room = had.done.crossed_room;
+                counted = had.done.counted;
+                refused = had.done.refused;
+              };
+          running = had.running;
+          next = had.next;
+          fixed = had.fixed;
+          limits = had.limits;
+          from_inputs = had.from_inputs;
+          to_outputs = had.to_outputs;
+        }
+
+-- all that an engine asks for a slot
+pub record CanRun (M : List ℕ → Machine) (slot : ℕ) (cells : List (Option Cell)) (now : EngineView)
+    (sent : RoomView Departure) (note : RoomView Transfer) : Type 0 where
+  pub early : slot < 2 ^ 64 - 1
+  pub arrivals : AreForPorts (length now.fixed) (class_count (map M now.fixed)) cells
+  pub list_room : HaveListRoom cells now
+  pub buffer_room : HaveBufferRoom cells now
+  pub refused : CanCount (ports_of now) now.refused
+  pub sent_room : length now.fixed ≤ sent.spare
+  pub note_room : 2 * length now.fixed ≤ note.spare
+  pub proposals : now.figures.proposals + 2 * (length now.fixed * length now.fixed) < 2 ^ 64
+
+-- The run, which began there and is to its end or not, stands at this slot, which is to be run.
+pub record Stands (whole : Bool) (end : ℕ) (M : List ℕ → Machine) (came : List Arrival) (first : EngineView)
+    (first_sent : RoomView Departure) (first_note : RoomView Transfer) (slot : ℕ) (now : EngineView)
+    (sent : RoomView Departure) (note : RoomView Transfer) : Type 0 where
+  pub ready : IsReadyOn (map M first.fixed) came first first_sent first_note
+  pub few : end ≤ 2 ^ 63 + 2 ^ 36
+  pub crossing : Crossing whole (map M first.fixed) came first first_sent first_note slot (end - slot) now sent note
+  pub more : whole ≡ true → end_of came ≤ slot → IsEmptyFabric now.fabric → ⊥
+  pub some : slot < end
+
 -- of a run that is not to its end
-pub never : {X : Type 0} → false ≡ true → X
+never : {X : Type 0} → false ≡ true → X
 never is = absurd (let P : ⊥ = cc in P)
 
 module _ (whole : Bool) (end : ℕ) (M : List ℕ → Machine) (came : List Arrival) (first : EngineView)
     (first_sent : RoomView Departure) (first_note : RoomView Transfer)
     (ready : IsReadyOn (map M first.fixed) came first first_sent first_note) (few : end ≤ 2 ^ 63 + 2 ^ 36) where
-  abbrev pub Before : ℕ → EngineView → RoomView Departure → RoomView Transfer → Type 0
+  abbrev Before : ℕ → EngineView → RoomView Departure → RoomView Transfer → Type 0
   Before slot now sent note =
       Crossing whole (map M first.fixed) came first first_sent first_note slot (end - slot) now sent note
 
-  pub at_first : first.next ≤ end → (whole ≡ true → end ≡ over_by came first.next) →
+  at_first : first.next ≤ end → (whole ≡ true → end ≡ over_by came first.next) →
       Before first.next first first_sent first_note
   at_first le slots = crossing_first whole (map M first.fixed) came first first_sent first_note (end - first.next) ready
       (λ is. let all = slots is in omega arith)
 
   -- of a run to its end
-  pub a_slot_left : (slot : ℕ) (now : EngineView) (sent : RoomView Departure) (note : RoomView Transfer) →
+  a_slot_left : (slot : ℕ) (now : EngineView) (sent : RoomView Departure) (note : RoomView Transfer) →
       Before slot now sent note → whole ≡ true → (end_of came ≤ slot → IsEmptyFabric now.fabric → ⊥) → slot < end
   a_slot_left slot now sent note b is more =
-      let some = crossing_left whole (map M first.fixed) came first first_sent first_note slot (end - slot) now sent note
+      let some =
+      crossing_left whole (map M first.fixed) came first first_sent first_note slot (end - slot) now sent note
       b is more in
       omega arith
 
@@ -114,7 +178,7 @@ module _ (whole : Bool) (end : ℕ) (M : List ℕ → Machine) (came : List Arri
     b_next = subst (λ (n : ℕ). Crossing whole (map M first.fixed) came first first_sent first_note slot n now sent note)
         one_more b
 
-    pub early : slot < 2 ^ 64 - 1
+    early : slot < 2 ^ 64 - 1
     early = omega arith
 
     same_ports : length now.fixed ≡ length first.fixed
@@ -123,7 +187,7 @@ module _ (whole : Bool) (end : ℕ) (M : List ℕ → Machine) (came : List Arri
     for_ports : AreForPorts (length first.fixed) (class_count (map M first.fixed)) (arriving came slot)
     for_ports = arrivals_for (length first.fixed) (class_count (map M first.fixed)) came slot ready.traffic
 
-    pub arrivals_fit : (cells : List (Option Cell)) → cells ≡ arriving came slot →
+    arrivals_fit : (cells : List (Option Cell)) → cells ≡ arriving came slot →
         AreForPorts (length now.fixed) (class_count (map M now.fixed)) cells
     arrivals_fit cells are =
         subst (λ (cells : List (Option Cell)). AreForPorts (length now.fixed) (class_count (map M now.fixed)) cells)
@@ -131,7 +195,7 @@ module _ (whole : Bool) (end : ℕ) (M : List ℕ → Machine) (came : List Arri
         (subst (λ (fixed : List (List ℕ)). AreForPorts (length fixed) (class_count (map M fixed))
         (arriving came slot)) (sym b.fixed) for_ports)
 
-    pub list_room : (cells : List (Option Cell)) → cells ≡ arriving came slot → HaveListRoom cells now
+    list_room : (cells : List (Option Cell)) → cells ≡ arriving came slot → HaveListRoom cells now
     list_room cells are i cell at =
         let there : arrival_at (arriving came slot) i ≡ Some cell = ap (λ (l : List (Option Cell)). arrival_at l i)
         (sym are) ∙ at in
@@ -144,7 +208,7 @@ module _ (whole : Bool) (end : ℕ) (M : List ℕ → Machine) (came : List Arri
         ap (λ (l : List ℕ). slice_index l i) b.from_inputs in
         omega arith
 
-    pub buffer_room : (cells : List (Option Cell)) → cells ≡ arriving came slot → HaveBufferRoom cells now
+    buffer_room : (cells : List (Option Cell)) → cells ≡ arriving came slot → HaveBufferRoom cells now
     buffer_room cells are j within =
         let ports = same_ports in
         let inside : j < length first.fixed = omega arith in
@@ -155,13 +219,13 @@ module _ (whole : Bool) (end : ℕ) (M : List ℕ → Machine) (came : List Arri
         ap (λ (l : List ℕ). slice_index l j) b.to_outputs in
         omega arith
 
-    pub sent_room : length now.fixed ≤ sent.spare
+    sent_room : length now.fixed ≤ sent.spare
     sent_room = let spare = b.spare in let ports = same_ports in omega arith
 
-    pub note_room : 2 * length now.fixed ≤ note.spare
+    note_room : 2 * length now.fixed ≤ note.spare
     note_room = let room = b.room in let ports = same_ports in omega arith
 
-    pub proposals_fit : now.figures.proposals + 2 * (length now.fixed * length now.fixed) < 2 ^ 64
+    proposals_fit : now.figures.proposals + 2 * (length now.fixed * length now.fixed) < 2 ^ 64
     proposals_fit =
         let ports = same_ports in
         let most : length first.fixed ≤ 64 = ready.ports in
@@ -171,7 +235,7 @@ module _ (whole : Bool) (end : ℕ) (M : List ℕ → Machine) (came : List Arri
         let proposed = b.proposed in
         omega arith
 
-    pub can_refuse : CanCount (ports_of now) now.refused
+    can_refuse : CanCount (ports_of now) now.refused
     can_refuse =
         let most : ports_of first ≤ 64 = ready.ports in
         let lost = refused_in (admissions_in b.records) in
@@ -184,7 +248,20 @@ module _ (whole : Bool) (end : ℕ) (M : List ℕ → Machine) (came : List Arri
         (subst (λ (counts : List Refused). CanCount (ports_of first) counts) (sym b.went.refused)
         (counts_fit lost (ports_of first) (length lost) first.refused room (omega arith)))
 
-    pub at_next : (cells : List (Option Cell)) (after : EngineView) (sent_new : RoomView Departure)
+    can_run : (cells : List (Option Cell)) → cells ≡ arriving came slot → CanRun M slot cells now sent note
+    can_run cells are =
+        record {
+          early = early;
+          arrivals = arrivals_fit cells are;
+          list_room = list_room cells are;
+          buffer_room = buffer_room cells are;
+          refused = can_refuse;
+          sent_room = sent_room;
+          note_room = note_room;
+          proposals = proposals_fit;
+        }
+
+    at_next : (cells : List (Option Cell)) (after : EngineView) (sent_new : RoomView Departure)
         (note_new : RoomView Transfer) → cells ≡ arriving came slot → HasHad
         (map M now.fixed) slot cells now after sent sent_new note note_new → Before (slot + 1) after sent_new note_new
     unfolding left
@@ -197,12 +274,13 @@ module _ (whole : Bool) (end : ℕ) (M : List ℕ → Machine) (came : List Arri
         note_new) are had.done))
         had.running had.next had.fixed had.limits had.from_inputs had.to_outputs
 
-    pub at_fault : (cells : List (Option Cell)) (fault : TagFault) (j count : ℕ) → slot + suc j ≡ first.next + count →
+    at_fault : (cells : List (Option Cell)) (fault : TagFault) (j count : ℕ) → slot + suc j ≡ first.next + count →
         cells ≡ arriving came slot →
         Err fault ≡ answer_to (ranking (map M now.fixed) slot 0 (its_admission cells now).cells now.fabric.ranks) →
         StopsWithin (map M first.fixed) came first count fault
     at_fault cells fault j count long are answer =
-        crossing_fault whole (map M first.fixed) came first first_sent first_note slot (end - slot) now sent note fault j
+        crossing_fault whole (map M first.fixed) came first first_sent first_note slot (end - slot) now sent note fault
+        j
         count b long
         (ap (λ (limits : List (Option ℕ)). ranking (map M first.fixed) slot 0 (fabric_admission limits
         (arriving came slot) (marked_fabric now)).cells now.fabric.ranks) (sym b.went.limits)
@@ -225,7 +303,7 @@ module _ (whole : Bool) (end : ℕ) (M : List ℕ → Machine) (came : List Arri
         (next - slot) no_arrivals) (marked_fabric now) (quiet_limited_slots (map M fixed) (next - slot) slot
         (ports_of now) now.fabric.ranks now.marks) (marked_fabric new)) b.fixed rested.ran
 
-    pub at_rest : Before next new sent note
+    at_rest : Before next new sent note
     at_rest =
         let left : end - slot ≡ next - slot + (end - next) = omega arith in
         let there : slot + (next - slot) ≡ next = omega arith in
@@ -240,7 +318,7 @@ module _ (whole : Bool) (end : ℕ) (M : List ℕ → Machine) (came : List Arri
         rested.figures (rested.reached ∙ sym there) rested.running rested.fixed rested.limits rested.refused
         rested.from_inputs rested.to_outputs)
 
-    pub more_at_rest : (whole ≡ true → end_of came ≤ slot → IsEmptyFabric now.fabric → ⊥) → whole ≡ true →
+    more_at_rest : (whole ≡ true → end_of came ≤ slot → IsEmptyFabric now.fabric → ⊥) → whole ≡ true →
         end_of came ≤ next → IsEmptyFabric new.fabric → ⊥
     more_at_rest more is le empty =
         ⊎_elim
@@ -252,14 +330,141 @@ module _ (whole : Bool) (end : ℕ) (M : List ℕ → Machine) (came : List Arri
         more is (omega arith) (subst IsEmptyFabric (ap (λ (m : Marked Fabric). m.state) same) empty))
         (cases_lt slot next)
 
-  pub at_end : (slot : ℕ) (now : EngineView) (sent : RoomView Departure) (note : RoomView Transfer) →
+  at_end : (slot : ℕ) (now : EngineView) (sent : RoomView Departure) (note : RoomView Transfer) →
       Before slot now sent note → whole ≡ true → end_of came ≤ slot → IsEmptyFabric now.fabric →
       HasRunOn (map M first.fixed) came first now first_sent sent first_note note
-  at_end slot now sent note b is le empty = crossing_over whole (map M first.fixed) came first first_sent first_note slot
+  at_end slot now sent note b is le empty =
+      crossing_over whole (map M first.fixed) came first first_sent first_note slot
       (end - slot) now sent note b is le empty
 
-  pub at_last : (slot : ℕ) (now : EngineView) (sent : RoomView Departure) (note : RoomView Transfer) →
+  at_last : (slot : ℕ) (now : EngineView) (sent : RoomView Departure) (note : RoomView Transfer) →
       Before slot now sent note → slot ≡ end →
       HasPartedTo (map M first.fixed) came end first now first_sent sent first_note note
   at_last slot now sent note b is =
       record { records = b.records; went = b.went; reached = b.long ∙ is; next = b.next ∙ is; ports = b.ports }
+
+-- ## Where a run stands
+
+module _ {whole : Bool} {end : ℕ} {M : List ℕ → Machine} {came : List Arrival} {first : EngineView}
+    {first_sent : RoomView Departure} {first_note : RoomView Transfer} {slot : ℕ} {now : EngineView}
+    {sent : RoomView Departure} {note : RoomView Transfer}
+    (here : Stands whole end M came first first_sent first_note slot now sent note) where
+  -- the slot finds all that it asks for
+  pub can_run_here : (cells : List (Option Cell)) → cells ≡ arriving came slot → CanRun M slot cells now sent note
+  can_run_here =
+      can_run whole end M came first first_sent first_note here.ready here.few slot now sent note here.crossing
+      here.more
+      here.some
+
+  -- once it is run, the run stands at the next one
+  pub next_here : (cells : List (Option Cell)) (after : EngineView) (sent_new : RoomView Departure)
+      (note_new : RoomView Transfer) → cells ≡ arriving came slot →
+      HasHad (map M now.fixed) slot cells now after sent sent_new note note_new →
+      Crossing whole (map M first.fixed) came first first_sent first_note (slot + 1) (end - (slot + 1)) after sent_new
+      note_new
+  next_here =
+      at_next whole end M came first first_sent first_note here.ready here.few slot now sent note here.crossing
+      here.more
+      here.some
+
+  -- and a tag fault of the slot is one at which the run stops
+  pub fault_here : (cells : List (Option Cell)) (fault : TagFault) (j count : ℕ) → slot + suc j ≡ first.next + count →
+      cells ≡ arriving came slot →
+      Err fault ≡ answer_to (ranking (map M now.fixed) slot 0 (its_admission cells now).cells now.fabric.ranks) →
+      StopsWithin (map M first.fixed) came first count fault
+  fault_here =
+      at_fault whole end M came first first_sent first_note here.ready here.few slot now sent note here.crossing
+      here.more
+      here.some
+
+-- ## A run to its end
+
+module _ (M : List ℕ → Machine) (came : List Arrival) (first : EngineView) (first_sent : RoomView Departure)
+    (first_note : RoomView Transfer) (ready : IsReadyOn (map M first.fixed) came first first_sent first_note) where
+  abbrev pub Runs : ℕ → EngineView → RoomView Departure → RoomView Transfer → Type 0
+  Runs slot now sent note =
+      Crossing true (map M first.fixed) came first first_sent first_note slot (over_by came first.next - slot) now
+      sent note
+
+  few_all : over_by came first.next ≤ 2 ^ 63 + 2 ^ 36
+  few_all = over_few came first.next ready.early ready.short ready.few
+
+  pub run_begins : Runs first.next first first_sent first_note
+  run_begins =
+      at_first true (over_by came first.next) M came first first_sent first_note ready few_all
+      (starts_in came first.next) (λ _. refl)
+
+  -- quiet slots are skipped
+  pub run_stands : (slot next : ℕ) (now new : EngineView) (sent : RoomView Departure) (note : RoomView Transfer) →
+      Runs slot now sent note → (end_of came ≤ slot → IsEmptyFabric now.fabric → ⊥) → IsQuiet came slot next →
+      FabricHasRested (map M now.fixed) slot next now new →
+      Stands true (over_by came first.next) M came first first_sent first_note next new sent note
+  run_stands slot next now new sent note runs more quiet rested =
+      let end = over_by came first.next in
+      let still : true ≡ true → end_of came ≤ slot → IsEmptyFabric now.fabric → ⊥ = λ _. more in
+      let some : slot < over_by came first.next =
+      a_slot_left true end M came first first_sent first_note ready few_all slot now sent note runs refl more in
+      let within = skipped_within came slot next end quiet (ends_in came first.next) (omega arith) in
+      let there =
+      at_rest true end M came first first_sent first_note ready few_all slot next now new sent note runs quiet.late
+      within
+      quiet.none (λ _ lt. quiet.more lt) rested in
+      let going =
+      more_at_rest true end M came first first_sent first_note ready few_all slot next now new sent note runs quiet.late
+      within quiet.none (λ _ lt. quiet.more lt) rested still in
+      record {
+        ready = ready;
+        few = few_all;
+        crossing = there;
+        more = going;
+        some =
+            a_slot_left true end M came first first_sent first_note ready few_all next new sent note there refl
+            (going refl);
+      }
+
+  pub run_ends : (slot : ℕ) (now : EngineView) (sent : RoomView Departure) (note : RoomView Transfer) →
+      Runs slot now sent note → end_of came ≤ slot → IsEmptyFabric now.fabric →
+      HasRunOn (map M first.fixed) came first now first_sent sent first_note note
+  run_ends slot now sent note runs le empty =
+      at_end true (over_by came first.next) M came first first_sent first_note ready few_all slot now sent note runs
+      refl le empty
+
+-- ## A run up to a slot
+
+module _ (M : List ℕ → Machine) (came : List Arrival) (last : ℕ) (first : EngineView)
+    (first_sent : RoomView Departure) (first_note : RoomView Transfer)
+    (ready : IsReadyPart (map M first.fixed) came last first first_sent first_note) where
+  abbrev pub Parts : ℕ → EngineView → RoomView Departure → RoomView Transfer → Type 0
+  Parts slot now sent note =
+      Crossing false (map M first.fixed) came first first_sent first_note slot (last - slot) now sent note
+
+  few_slots : last ≤ 2 ^ 63 + 2 ^ 36
+  few_slots = let early = ready.early in omega arith
+
+  pub part_begins : Parts first.next first first_sent first_note
+  part_begins =
+      at_first false last M came first first_sent first_note ready.ready few_slots ready.next (λ is. never is)
+
+  -- slots in which nothing comes are skipped
+  pub part_rests : (slot next : ℕ) (now new : EngineView) (sent : RoomView Departure) (note : RoomView Transfer) →
+      Parts slot now sent note → slot ≤ next → next ≤ last → NoneCome came slot next →
+      FabricHasRested (map M now.fixed) slot next now new → Parts next new sent note
+  part_rests slot next now new sent note parts late within none rested =
+      at_rest false last M came first first_sent first_note ready.ready few_slots slot next now new sent note parts late
+      within none (λ is lt. never is) rested
+
+  pub part_stands : (slot : ℕ) (now : EngineView) (sent : RoomView Departure) (note : RoomView Transfer) →
+      Parts slot now sent note → slot < last → Stands false last M came first first_sent first_note slot now sent note
+  part_stands slot now sent note parts some =
+      record {
+        ready = ready.ready;
+        few = few_slots;
+        crossing = parts;
+        more = λ is late empty. never is;
+        some = some;
+      }
+
+  pub part_ends : (slot : ℕ) (now : EngineView) (sent : RoomView Departure) (note : RoomView Transfer) →
+      Parts slot now sent note → slot ≡ last →
+      HasPartedTo (map M first.fixed) came last first now first_sent sent first_note note
+  part_ends = at_last false last M came first first_sent first_note ready.ready few_slots

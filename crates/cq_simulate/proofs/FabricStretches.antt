@@ -1,5 +1,5 @@
--- Stretches of slots that the fabric skips. What is known before the first of them is known after each, as after any slot:
--- none sends a cell, moves or refuses one, or changes a figure.
+-- Stretches of slots that the fabric skips. What is known before the first of them is known after each, as after any
+-- slot: none sends a cell, moves or refuses one, or changes a figure.
 use Rattle.std.proofs.Common.{◌≡◌, ℕ, zero, suc, ◌+◌, ◌<◌, ◌≤◌, Bool, true, false, List, [], ◌++◌, length, replicate, Option, refl, sym, ap, ◌∙◌, subst, arith}
 use Rattle.std.proofs.lemmas.List.{append-nil}
 use Rattle.cq_base.specs.Arrivals.{no_arrivals}
@@ -42,14 +42,15 @@ pub crossing_rest : (whole : Bool) (ms : List Machine) (came : List Arrival) (fi
     ((t : ℕ) → AreForPorts (ports_of first) classes (arriving came t)) →
     (k slot n m : ℕ) (ranks : List (List ℕ)) (marks : List Bool) (now after : EngineView) → m ≡ k + n →
     Crossing whole ms came first first_sent first_note slot m now sent note →
-    ((t : ℕ) → slot ≤ t → t < slot + k → arriving came t ≡ no_arrivals) → (whole ≡ true → 0 < k → slot + k < end_of came) →
+    ((t : ℕ) → slot ≤ t → t < slot + k → arriving came t ≡ no_arrivals) →
+    (whole ≡ true → 0 < k → slot + k < end_of came) →
     LimitedFabricRun IsInputBest now.limits ms slot (replicate k no_arrivals) (marked_fabric now)
     (quiet_limited_slots ms k slot ports ranks marks) (marked_fabric after) →
     after.figures ≡ now.figures → after.next ≡ slot + k → after.stopped ≡ false → after.fixed ≡ now.fixed →
     after.limits ≡ now.limits → after.refused ≡ now.refused → after.from_inputs ≡ now.from_inputs →
     after.to_outputs ≡ now.to_outputs → Crossing whole ms came first first_sent first_note (slot + k) n after sent note
-crossing_rest whole ms came first first_sent sent first_note note ports classes few for_ports zero slot n m ranks marks now after left
-    c quiet
+crossing_rest whole ms came first first_sent sent first_note note ports classes few for_ports zero slot n m ranks marks
+    now after left c quiet
     more ran figures next running fixed limits refused from_inputs to_outputs =
     let at : slot ≡ slot + 0 = omega arith in
     let is_next : now.next ≡ after.next = c.next ∙ at ∙ sym next in

@@ -39,18 +39,21 @@ ceil_is len cell_bytes some =
     let high : up * cell_bytes < len + cell_bytes = bounds.1 in
     let rest = len + (cell_bytes - 1) - up * cell_bytes in
     let parts : len + (cell_bytes - 1) ≡ up * cell_bytes + rest = omega arith in
-    let is : (len + (cell_bytes - 1)) / cell_bytes ≡ up = ap (λ (n : ℕ). n / cell_bytes) parts ∙ div-mul-add up cell_bytes rest (omega arith) in
+    let is : (len + (cell_bytes - 1)) / cell_bytes ≡ up =
+    ap (λ (n : ℕ). n / cell_bytes) parts ∙ div-mul-add up cell_bytes rest (omega arith) in
     ap (max 1) (sym is)
 
 -- ## What a cell carries
 
 -- the bytes of cell i of a frame
 abbrev pub piece_of : List ℕ → ℕ → ℕ → List ℕ
-piece_of frame cell_bytes index = take (min cell_bytes (length frame - index * cell_bytes)) (drop (index * cell_bytes) frame)
+piece_of frame cell_bytes index =
+    take (min cell_bytes (length frame - index * cell_bytes)) (drop (index * cell_bytes) frame)
 
 -- ## What is open after some cells
 
-pub opened-append : (captures : List (List Captured)) (was : Option Open) (xs ys : List Cell) → opened captures was (xs ++ ys) ≡ opened captures (opened captures was xs) ys
+pub opened-append : (captures : List (List Captured)) (was : Option Open) (xs ys : List Cell) →
+    opened captures was (xs ++ ys) ≡ opened captures (opened captures was xs) ys
 opened-append captures was [] ys = refl
 opened-append captures was (x ∷ xs) ys = opened-append captures (open_after was x (piece_at captures x)) xs ys
 
@@ -81,7 +84,8 @@ module _ (t : Tables) (captures : List (List Captured)) (input : ℕ) (some : 0 
   all_cut k m zero = tt
   all_cut k m (suc n) = (record { at = refl; len = refl; stretch = refl }, all_cut k (m + 1) n)
 
-  all_joined : (k m n : ℕ) → joined_pieces (map (carried k) (range_with_len m n)) ≡ flat_map (piece_of (frame k) t.cell_bytes) (range_with_len m n)
+  all_joined : (k m n : ℕ) → joined_pieces (map (carried k) (range_with_len m n)) ≡ flat_map
+      (piece_of (frame k) t.cell_bytes) (range_with_len m n)
   unfolding carried frame
   all_joined k m zero = refl
   all_joined k m (suc n) = ap (λ (l : List ℕ). piece_of (frame k) t.cell_bytes m ++ l) (all_joined k (m + 1) n)
@@ -95,7 +99,8 @@ module _ (t : Tables) (captures : List (List Captured)) (input : ℕ) (some : 0 
   all_pieces k =
       let n = cells_of (length (frame k)) t.cell_bytes in
       sym (all_joined k 0 n)
-      ∙ pieces_give_frame (frame k) t.cell_bytes (map (carried k) (range_with_len 0 n)) some (all_cut k 0 n) (all_counted k 0 n ∙ ceil_is (length (frame k)) t.cell_bytes some)
+      ∙ pieces_give_frame (frame k) t.cell_bytes (map (carried k) (range_with_len 0 n)) some (all_cut k 0 n)
+      (all_counted k 0 n ∙ ceil_is (length (frame k)) t.cell_bytes some)
 
   -- what is open after the first cells of a packet, where some are left
   open_at_cell : ℕ → ℕ → Option Open
@@ -125,10 +130,12 @@ module _ (t : Tables) (captures : List (List Captured)) (input : ℕ) (some : 0 
   unfolding cell_of
   last_is k m = refl
 
-  whole_is : (k m : ℕ) → (cell_of t captures input k m).last ≡ true → bytes_taken (open_at_cell k m) ++ piece_at captures (cell_of t captures input k m) ≡ frame k
+  whole_is : (k m : ℕ) → (cell_of t captures input k m).last ≡ true →
+      bytes_taken (open_at_cell k m) ++ piece_at captures (cell_of t captures input k m) ≡ frame k
   unfolding frame pieces
   whole_is k m last =
-      let end : m + 1 ≡ cells t captures input k = eqb-true (m + 1) (cells t captures input k) (sym (last_is k m) ∙ last) in
+      let end : m + 1 ≡ cells t captures input k =
+      eqb-true (m + 1) (cells t captures input k) (sym (last_is k m) ∙ last) in
       ap (λ (l : List ℕ). l ++ piece_at captures (cell_of t captures input k m)) (taken_so_far k m)
       ∙ ap (λ (l : List ℕ). pieces k m ++ l) (piece_is k m)
       ∙ sym (pieces_more k m)
@@ -139,23 +146,31 @@ module _ (t : Tables) (captures : List (List Captured)) (input : ℕ) (some : 0 
   unfolding frame cell_of
   fits k m = record { next = next_is k m; whole = whole_is k m }
 
-  grown_is : (k m : ℕ) → Some (with_piece (open_at_cell k m) k (piece_of (frame k) t.cell_bytes m)) ≡ open_at_cell k (m + 1)
+  grown_is : (k m : ℕ) → Some (with_piece (open_at_cell k m) k (piece_of (frame k) t.cell_bytes m)) ≡ open_at_cell k
+      (m + 1)
   unfolding open_at_cell pieces
   grown_is k zero =
       let e : pieces k 1 ≡ piece_of (frame k) t.cell_bytes 0 = append-nil (piece_of (frame k) t.cell_bytes 0) in
       ap (λ (l : List ℕ). let o : Option Open = Some (record { packet = k; taken = 1; body = l }) in o) (sym e)
   grown_is k (suc m) =
-      let e : pieces k (suc m + 1) ≡ pieces k (suc m) ++ piece_of (frame k) t.cell_bytes (suc m) = pieces_more k (suc m) in
+      let e : pieces k (suc m + 1) ≡ pieces k (suc m) ++ piece_of (frame k) t.cell_bytes (suc m) =
+      pieces_more k (suc m) in
       let n : suc (suc m) ≡ suc m + 1 = omega arith in
       ap (λ (l : List ℕ). let o : Option Open = Some (record { packet = k; taken = suc m + 1; body = l }) in o) (sym e)
       ∙ ap (λ (j : ℕ). let o : Option Open = Some (record { packet = k; taken = j; body = pieces k j }) in o) (sym n)
       ∙ ap (open_at_cell k) n
 
-  after_cell : (k m r : ℕ) → m + suc r ≡ cells t captures input k → open_after (open_at_cell k m) (cell_of t captures input k m) (piece_at captures (cell_of t captures input k m)) ≡ open_with k (m + 1) r
+  after_cell : (k m r : ℕ) → m + suc r ≡ cells t captures input k →
+      open_after (open_at_cell k m) (cell_of t captures input k m) (piece_at captures (cell_of t captures input k m)) ≡
+      open_with k (m + 1) r
   unfolding open_with cell_of
-  after_cell k m zero e = ap (λ (b : Bool). cond b None (Some (with_piece (open_at_cell k m) k (piece_at captures (cell_of t captures input k m))))) (eq-eqb (m + 1) (cells t captures input k) (omega arith))
+  after_cell k m zero e =
+      ap (λ (b : Bool). cond b None (Some (with_piece (open_at_cell k m) k
+      (piece_at captures (cell_of t captures input k m))))) (eq-eqb (m + 1) (cells t captures input k) (omega arith))
   after_cell k m (suc r) e =
-      ap (λ (b : Bool). cond b None (Some (with_piece (open_at_cell k m) k (piece_at captures (cell_of t captures input k m))))) (ne_eqb (m + 1) (cells t captures input k) (λ same. omega arith))
+      ap (λ (b : Bool). cond b None (Some (with_piece (open_at_cell k m) k
+      (piece_at captures (cell_of t captures input k m))))) (ne_eqb (m + 1) (cells t captures input k)
+      (λ same. omega arith))
       ∙ ap (λ (l : List ℕ). let o : Option Open = Some (with_piece (open_at_cell k m) k l) in o) (piece_is k m)
       ∙ grown_is k m
 
@@ -168,7 +183,10 @@ module _ (t : Tables) (captures : List (List Captured)) (input : ℕ) (some : 0 
   closed_at_first k zero = refl
   closed_at_first k (suc n) = refl
 
-  walk : (k : ℕ) (later : List Cell) (cell : Cell) (rest : List Cell) → ((p : List Cell) → later ≡ p ++ cell ∷ rest → Fits captures (opened captures None p) cell) → (r m : ℕ) → m + r ≡ cells t captures input k → (p : List Cell) → map (cell_of t captures input k) (range_with_len m r) ++ later ≡ p ++ cell ∷ rest → Fits captures (opened captures (open_with k m r) p) cell
+  walk : (k : ℕ) (later : List Cell) (cell : Cell) (rest : List Cell) →
+      ((p : List Cell) → later ≡ p ++ cell ∷ rest → Fits captures (opened captures None p) cell) → (r m : ℕ) → m + r ≡
+      cells t captures input k → (p : List Cell) → map (cell_of t captures input k) (range_with_len m r) ++ later ≡ p ++
+      cell ∷ rest → Fits captures (opened captures (open_with k m r) p) cell
   unfolding open_with
   walk k later cell rest go zero m e p is = go p is
   walk k later cell rest go (suc r) m e [] is =
@@ -177,17 +195,22 @@ module _ (t : Tables) (captures : List (List Captured)) (input : ℕ) (some : 0 
   walk k later cell rest go (suc r) m e (x ∷ p) is =
       let same : cell_of t captures input k m ≡ x = cc in
       let others : map (cell_of t captures input k) (range_with_len (m + 1) r) ++ later ≡ p ++ cell ∷ rest = cc in
-      subst (λ (c : Cell). Fits captures (opened captures (open_after (open_at_cell k m) c (piece_at captures c)) p) cell) same
-      (subst (λ (o : Option Open). Fits captures (opened captures o p) cell) (sym (after_cell k m r e)) (walk k later cell rest go r (m + 1) (omega arith) p others))
+      subst (λ (c : Cell). Fits captures (opened captures (open_after (open_at_cell k m) c (piece_at captures c)) p)
+      cell) same
+      (subst (λ (o : Option Open). Fits captures (opened captures o p) cell) (sym (after_cell k m r e))
+      (walk k later cell rest go r (m + 1) (omega arith) p others))
 
   -- each cell of some packets, one after another
-  pub each_fits : (ks : List ℕ) (p : List Cell) (cell : Cell) (rest : List Cell) → flat_map packet_cells ks ≡ p ++ cell ∷ rest → Fits captures (opened captures None p) cell
+  pub each_fits : (ks : List ℕ) (p : List Cell) (cell : Cell) (rest : List Cell) →
+      flat_map packet_cells ks ≡ p ++ cell ∷ rest → Fits captures (opened captures None p) cell
   unfolding packet_cells open_with open_at_cell
   each_fits [] [] cell rest is = absurd (let P : ⊥ = cc in P)
   each_fits [] (x ∷ p) cell rest is = absurd (let P : ⊥ = cc in P)
   each_fits (k ∷ ks) p cell rest is =
-      subst (λ (o : Option Open). Fits captures (opened captures o p) cell) (closed_at_first k (cells t captures input k))
-      (walk k (flat_map packet_cells ks) cell rest (λ q same. each_fits ks q cell rest same) (cells t captures input k) 0 (omega arith) p is)
+      subst (λ (o : Option Open). Fits captures (opened captures o p) cell)
+      (closed_at_first k (cells t captures input k))
+      (walk k (flat_map packet_cells ks) cell rest (λ q same. each_fits ks q cell rest same) (cells t captures input k)
+      0 (omega arith) p is)
 
   -- ## The packets that are taken in
 
@@ -237,34 +260,45 @@ module _ (t : Tables) (captures : List (List Captured)) (input : ℕ) (some : 0 
 
   whole_joined : (xs ys : List Cell) → AreWhole xs → AreWhole ys → AreWhole (xs ++ ys)
   unfolding AreWhole
-  whole_joined xs ys x y =
-      (x.0 ++ y.0, ap (λ (l : List Cell). l ++ ys) x.1 ∙ ap (λ (l : List Cell). flat_map packet_cells x.0 ++ l) y.1 ∙ sym (flat_map-append packet_cells x.0 y.0))
+  whole_joined xs ys x y = (
+    x.0 ++ y.0,
+    ap (λ (l : List Cell). l ++ ys) x.1 ∙ ap (λ (l : List Cell). flat_map packet_cells x.0 ++ l) y.1
+        ∙ sym (flat_map-append packet_cells x.0 y.0),
+  )
 
   module _ (c j : ℕ) where
-    flow_joined : (xs ys : List Arrival) → came_in_flow input c j (xs ++ ys) ≡ came_in_flow input c j xs ++ came_in_flow input c j ys
+    flow_joined : (xs ys : List Arrival) → came_in_flow input c j (xs ++ ys) ≡ came_in_flow input c j xs ++ came_in_flow
+        input c j ys
     flow_joined xs ys =
         ap (map (λ (x : Arrival). x.cell)) (filter-append (comes_in_flow input c j) xs ys)
-        ∙ map-append (λ (x : Arrival). x.cell) (filter (comes_in_flow input c j) xs) (filter (comes_in_flow input c j) ys)
+        ∙ map-append (λ (x : Arrival). x.cell) (filter (comes_in_flow input c j) xs)
+        (filter (comes_in_flow input c j) ys)
 
-    flow_over : (f : ℕ → List Arrival) (a n : ℕ) → ((k : ℕ) → AreWhole (came_in_flow input c j (f k))) → AreWhole (came_in_flow input c j (flat_map f (range_with_len a n)))
+    flow_over : (f : ℕ → List Arrival) (a n : ℕ) → ((k : ℕ) → AreWhole (came_in_flow input c j (f k))) →
+        AreWhole (came_in_flow input c j (flat_map f (range_with_len a n)))
     unfolding AreWhole
     flow_over f a zero whole = ([], refl)
     flow_over f a (suc n) whole =
         subst AreWhole (sym (flow_joined (f a) (flat_map f (range_with_len (a + 1) n))))
-        (whole_joined (came_in_flow input c j (f a)) (came_in_flow input c j (flat_map f (range_with_len (a + 1) n))) (whole a) (flow_over f (a + 1) n whole))
+        (whole_joined (came_in_flow input c j (f a)) (came_in_flow input c j (flat_map f (range_with_len (a + 1) n)))
+        (whole a) (flow_over f (a + 1) n whole))
 
-    all_in_flow : (f : ℕ → Arrival) (a n : ℕ) → ((m : ℕ) → comes_in_flow input c j (f m) ≡ true) → came_in_flow input c j (map f (range_with_len a n)) ≡ map (λ (m : ℕ). (f m).cell) (range_with_len a n)
+    all_in_flow : (f : ℕ → Arrival) (a n : ℕ) → ((m : ℕ) → comes_in_flow input c j (f m) ≡ true) →
+        came_in_flow input c j (map f (range_with_len a n)) ≡ map (λ (m : ℕ). (f m).cell) (range_with_len a n)
     all_in_flow f a zero e = refl
     all_in_flow f a (suc n) e =
         let rest = map f (range_with_len (a + 1) n) in
-        ap (map (λ (x : Arrival). x.cell)) (cond-true (comes_in_flow input c j (f a)) (f a ∷ filter (comes_in_flow input c j) rest) (filter (comes_in_flow input c j) rest) (e a))
+        ap (map (λ (x : Arrival). x.cell)) (cond-true (comes_in_flow input c j (f a))
+        (f a ∷ filter (comes_in_flow input c j) rest) (filter (comes_in_flow input c j) rest) (e a))
         ∙ ap (λ (l : List Cell). (f a).cell ∷ l) (all_in_flow f (a + 1) n e)
 
-    none_in_flow : (f : ℕ → Arrival) (a n : ℕ) → ((m : ℕ) → comes_in_flow input c j (f m) ≡ false) → came_in_flow input c j (map f (range_with_len a n)) ≡ []
+    none_in_flow : (f : ℕ → Arrival) (a n : ℕ) → ((m : ℕ) → comes_in_flow input c j (f m) ≡ false) →
+        came_in_flow input c j (map f (range_with_len a n)) ≡ []
     none_in_flow f a zero e = refl
     none_in_flow f a (suc n) e =
         let rest = map f (range_with_len (a + 1) n) in
-        ap (map (λ (x : Arrival). x.cell)) (cond-false (comes_in_flow input c j (f a)) (f a ∷ filter (comes_in_flow input c j) rest) (filter (comes_in_flow input c j) rest) (e a))
+        ap (map (λ (x : Arrival). x.cell)) (cond-false (comes_in_flow input c j (f a))
+        (f a ∷ filter (comes_in_flow input c j) rest) (filter (comes_in_flow input c j) rest) (e a))
         ∙ none_in_flow f (a + 1) n e
 
     -- the arrival of a cell
@@ -273,7 +307,9 @@ module _ (t : Tables) (captures : List (List Captured)) (input : ℕ) (some : 0 
 
     -- whether a packet is of the flow
     of_flow : ℕ → ℕ → Bool
-    of_flow i k = (route t i (packet_at captures i k).body).0 == j && (i == input && (route t i (packet_at captures i k).body).1 == c)
+    of_flow i k =
+        (route t i (packet_at captures i k).body).0 == j && (i == input &&
+        (route t i (packet_at captures i k).body).1 == c)
 
     flow_is : (i k m : ℕ) → comes_in_flow input c j (arrival i k m) ≡ of_flow i k
     unfolding arrival of_flow cell_of
@@ -284,8 +320,11 @@ module _ (t : Tables) (captures : List (List Captured)) (input : ℕ) (some : 0 
     packet_whole i k =
         ⊎_elim
         (λ yes_.
-        let parts = and_parts ((route t i (packet_at captures i k).body).0 == j) (i == input && (route t i (packet_at captures i k).body).1 == c) yes_ in
-        let own : i ≡ input = eqb-true i input (and_parts (i == input) ((route t i (packet_at captures i k).body).1 == c) parts.1).0 in (
+        let parts =
+        and_parts ((route t i (packet_at captures i k).body).0 == j)
+        (i == input && (route t i (packet_at captures i k).body).1 == c) yes_ in
+        let own : i ≡ input =
+        eqb-true i input (and_parts (i == input) ((route t i (packet_at captures i k).body).1 == c) parts.1).0 in (
           k ∷ [],
           all_in_flow (arrival i k) 0 (cells t captures i k) (λ m. flow_is i k m ∙ yes_)
               ∙ ap (λ (n : ℕ). map (cell_of t captures n k) (range_with_len 0 (cells t captures n k))) own
@@ -296,7 +335,9 @@ module _ (t : Tables) (captures : List (List Captured)) (input : ℕ) (some : 0 
 
     flow_whole : AreWhole (came_in_flow input c j (arrivals t captures))
     unfolding arrivals arrivals_at
-    flow_whole = flow_over (arrivals_at t captures) 0 (length captures) (λ i. flow_over (arrivals_of t captures i) 0 (length (packets_of captures i)) (λ k. packet_whole i k))
+    flow_whole =
+        flow_over (arrivals_at t captures) 0 (length captures)
+        (λ i. flow_over (arrivals_of t captures i) 0 (length (packets_of captures i)) (λ k. packet_whole i k))
 
     -- each cell of the packets that are taken in is the next when those before it were taken
     pub flow_fits : (is_taken : ℕ → Bool) (p : List Cell) (cell : Cell) (rest : List Cell) →

@@ -1,6 +1,6 @@
--- Of each flow the cells that a sound state names, those that were sent and then those that wait, are the arrivals that it names
--- before its next slot, in their order. Both lists rise by the slots in which their cells arrived, and have the same cells: of a
--- flow there arrives one cell in a slot at most.
+-- Of each flow the cells that a sound state names, those that were sent and then those that wait, are the arrivals
+-- that it names before its next slot, in their order. Both lists rise by the slots in which their cells arrived, and
+-- have the same cells: of a flow there arrives one cell in a slot at most.
 use Rattle.std.proofs.Common.{◌≡◌, ◌≢◌, ℕ, ◌<◌, ◌≤◌, Bool, true, false, List, [], ◌∷◌, ◌++◌, length, map, filter, Option, Some, None, refl, sym, ap, ◌∙◌, subst, inl, inr, ⊎_elim, arith}
 use Rattle.std.specs.Prelude.{◌&&◌, ◌==◌, ◌||◌, All, option_map}
 use Rattle.std.specs.List.{AllByRecursion, AllPairs, cons_option, filter_map, list_any}
@@ -458,7 +458,8 @@ module _ (w : Switch) (s : State) (in_range : IsInRange s) (shape : HasShape w s
       (has_right (queued_in s) (map (λ (d : Sent). d.cell) s.sent) it.sent.cell
       (has_image (λ (d : Sent). d.cell) s.sent it.sent it.has)) it.of)
       (λ later.
-      let it = waits q later in one_of_names it.name q (queued_named w s in_range shape sound traffic it.name it.has) it.of)
+      let it =
+      waits q later in one_of_names it.name q (queued_named w s in_range shape sound traffic it.name it.has) it.of)
       (has_cases gone waiting q image.1) in
       subst (λ (a : Arrival). Has told a) image.2 (to_told (as_arrival q) one)
 

@@ -1,6 +1,7 @@
--- Which packets of an input a run that goes on from a sound state has taken. Of those that began before the next slot the state
--- says it, with one answer for all cells that arrived; of the others the run does. Where a packet goes on over the slot both say
--- the same: it is the last that began, and the mark of the input is up exactly where the state does not name it.
+-- Which packets of an input a run that goes on from a sound state has taken. Of those that began before the next slot
+-- the state says it, with one answer for all cells that arrived; of the others the run does. Where a packet goes on
+-- over the slot both say the same: it is the last that began, and the mark of the input is up exactly where the state
+-- does not name it.
 use Rattle.std.proofs.Common.{◌≡◌, ◌⊎◌, ℕ, ◌+◌, ◌<◌, ◌≤◌, not, Bool, true, false, cond, List, [], ◌∷◌, ◌++◌, filter, Option, refl, sym, ap, ◌∙◌, subst, inl, inr, ⊎_elim, arith}
 use Rattle.std.specs.Prelude.{◌&&◌, ◌==◌, nat_lt}
 use Rattle.std.specs.List.{AllByRecursion, list_any}
@@ -44,12 +45,14 @@ all_rest next (a ∷ line) late =
     cond-true (is_from_on next a) (a ∷ rest_of next line) (rest_of next line) (ap not (le-ltb a.slot next late.0))
     ∙ ap (λ (l : List Arrival). a ∷ l) (all_rest next line late.1)
 
-pub parted_at : (next : ℕ) (line : List Arrival) → EachPair IsEarlier line → line ≡ early_of next line ++ rest_of next line
+pub parted_at : (next : ℕ) (line : List Arrival) → EachPair IsEarlier line →
+    line ≡ early_of next line ++ rest_of next line
 parted_at next [] rising = refl
 parted_at next (a ∷ line) rising =
     ⊎_elim
     (λ early.
-    let in_first = cond-true (is_early next a) (a ∷ early_of next line) (early_of next line) (lt-ltb a.slot next early) in
+    let in_first =
+    cond-true (is_early next a) (a ∷ early_of next line) (early_of next line) (lt-ltb a.slot next early) in
     let not_after : rest_of next (a ∷ line) ≡ rest_of next line =
     cond-false (is_from_on next a) (a ∷ rest_of next line) (rest_of next line) (ap not (lt-ltb a.slot next early)) in
     ap (λ (l : List Arrival). a ∷ l) (parted_at next line rising.1)

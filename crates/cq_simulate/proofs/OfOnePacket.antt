@@ -1,5 +1,6 @@
--- The arrivals at one input, packet after packet, and a part of them. The number of a packet is no less than those of the packets
--- ahead of it, and the first cell of each is there. And the last of some arrivals, by slot, is no earlier than any of them.
+-- The arrivals at one input, packet after packet, and a part of them. The number of a packet is no less than those of
+-- the packets ahead of it, and the first cell of each is there. And the last of some arrivals, by slot, is no earlier
+-- than any of them.
 use Rattle.std.proofs.Common.{◌≡◌, ◌⊎◌, ℕ, ◌+◌, ◌≤◌, List, [], ◌∷◌, ◌++◌, Some, cond, fold, refl, sym, ap, ◌∙◌, subst, inl, inr, ⊎_elim, arith}
 use Rattle.std.specs.Prelude.{nat_lt, if◌then◌else◌, Bool}
 use Rattle.std.specs.List.{AllByRecursion}
@@ -108,7 +109,8 @@ latest_on : (x : Arrival) (xs : List Arrival) → IsLatest (x ∷ xs) (fold late
 latest_on x [] =
     record {
       has = inl refl;
-      after = λ y has. ⊎_elim (λ (same : x ≡ y). let e : x.slot ≡ y.slot = ap (λ (a : Arrival). a.slot) same in omega arith)
+      after =
+          λ y has. ⊎_elim (λ (same : x ≡ y). let e : x.slot ≡ y.slot = ap (λ (a : Arrival). a.slot) same in omega arith)
           (λ none. absurd none) has;
     }
 latest_on x (z ∷ zs) =

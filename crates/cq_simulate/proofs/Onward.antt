@@ -1,5 +1,5 @@
--- A fabric that has had no slot can go on like any other, and its run is the run from slot 0 on. And the tag fault at which it stops
--- is the first of the ideal switch.
+-- A fabric that has had no slot can go on like any other, and its run is the run from slot 0 on. And the tag fault at
+-- which it stops is the first of the ideal switch.
 use Rattle.std.proofs.Common.{◌≡◌, ℕ, zero, suc, ◌+◌, ◌*◌, ◌<◌, ◌≤◌, ◌^◌, List, [], ◌++◌, length, replicate, Err, refl, sym, ap, ◌∙◌, subst, arith}
 use Rattle.std.specs.Prelude.{All, fold, slice_index, sum, take}
 use Rattle.std.specs.List.{flat_map}
@@ -148,7 +148,8 @@ module _ (ms : List Machine) (came : List Arrival) (first : EngineView) (first_s
           first = λ m f run le none.
               has.first m f
               (subst (λ (n : ℕ).
-              LimitedFabricRun IsInputBest first.limits ms n (arriving_from came n m) (marked_fabric first) (take m rs) f)
+              LimitedFabricRun IsInputBest first.limits ms n (arriving_from came n m) (marked_fabric first) (take m rs)
+              f)
               (sym next) run)
               (omega arith) none;
         };
@@ -183,7 +184,8 @@ module _ (ms : List Machine) (came : List Arrival) (first : EngineView) (first_s
       let stops : LimitedFabricStops IsInputBest first.limits ms 0 (first_slots came at.count)
       (empty_limited_fabric p ranks) at.stops.records fault =
       subst (λ (f : Marked Fabric).
-      LimitedFabricStops IsInputBest first.limits ms 0 (first_slots came at.count) f at.stops.records fault) begins_empty
+      LimitedFabricStops IsInputBest first.limits ms 0 (first_slots came at.count) f at.stops.records fault)
+      begins_empty
       (subst (λ (n : ℕ).
       LimitedFabricStops IsInputBest first.limits ms n (arriving_from came n at.count) (marked_fabric first)
       at.stops.records fault) ready.next at.stops.stops) in

@@ -27,8 +27,11 @@ use Rattle.cq_simulate.specs.Ready.{IsReady}
 use Rattle.cq_ideal.proofs.LimitedEnds.{limited_same_sent}
 
 -- as many machines as kinds
-pub machine_count : (M : List ℕ → Machine) (fixed : List (List ℕ)) (setup : Setup) → map M fixed ≡ machines_of setup → length fixed ≡ length setup.kinds
-machine_count M fixed setup are = sym (length-map fixed M) ∙ ap (λ (l : List Machine). length l) are ∙ length-map setup.kinds (λ kind. machine_of kind setup.classes)
+pub machine_count : (M : List ℕ → Machine) (fixed : List (List ℕ)) (setup : Setup) → map M fixed ≡ machines_of setup →
+    length fixed ≡ length setup.kinds
+machine_count M fixed setup are =
+    sym (length-map fixed M) ∙ ap (λ (l : List Machine). length l) are
+    ∙ length-map setup.kinds (λ kind. machine_of kind setup.classes)
 
 pub few_cells : (came : List Arrival) → length came ≤ enough came
 unfolding enough

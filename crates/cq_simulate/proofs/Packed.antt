@@ -19,12 +19,15 @@ length-rows_from : (place : ℕ) (ps : List Captured) → length (rows_from plac
 length-rows_from place [] = refl
 length-rows_from place (p ∷ ps) = ap suc (length-rows_from (place + 16 + length p.body) ps)
 
-original_at : (place : ℕ) (ps : List Captured) (k : ℕ) (d : PacketRow) (e : Captured) → k < length ps → (get_or (rows_from place ps) k d).original ≡ (get_or ps k e).original
+original_at : (place : ℕ) (ps : List Captured) (k : ℕ) (d : PacketRow) (e : Captured) → k < length ps →
+    (get_or (rows_from place ps) k d).original ≡ (get_or ps k e).original
 original_at place [] k d e inside = absurd (omega arith)
 original_at place (p ∷ ps) zero d e inside = refl
 original_at place (p ∷ ps) (suc k) d e inside = original_at (place + 16 + length p.body) ps k d e (omega arith)
 
-module _ (captures : List (List Captured)) (input k : ℕ) (capture : List Captured) (in_captures : input < length captures) (is : capture ≡ get_or captures input capture) (in_packets : k < length (packets_of captures input)) where
+module _ (captures : List (List Captured)) (input k : ℕ) (capture : List Captured)
+    (in_captures : input < length captures) (is : capture ≡ get_or captures input capture)
+    (in_packets : k < length (packets_of captures input)) where
   capture_is : capture ≡ packets_of captures input
   capture_is = is ∙ get_or_default captures input capture [] in_captures
 
@@ -32,51 +35,69 @@ module _ (captures : List (List Captured)) (input k : ℕ) (capture : List Captu
   in_capture = let e = ap (λ (l : List Captured). length l) capture_is in omega arith
 
   pub in_rows : (rows : List PacketRow) → rows ≡ rows_from 24 capture → k < length rows
-  in_rows rows e = let l = ap (λ (l : List PacketRow). length l) e in let m = length-rows_from 24 capture in let n = in_capture in omega arith
+  in_rows rows e =
+      let l =
+      ap (λ (l : List PacketRow). length l) e in let m = length-rows_from 24 capture in let n = in_capture in
+      omega arith
 
   empty : Captured
   empty = record { stamp = 0; original = 0; body = [] }
 
-  pub original_is : (rows : List PacketRow) (d : PacketRow) → rows ≡ rows_from 24 capture → (get_or rows k d).original ≡ (packet_at captures input k).original
+  pub original_is : (rows : List PacketRow) (d : PacketRow) → rows ≡ rows_from 24 capture →
+      (get_or rows k d).original ≡ (packet_at captures input k).original
   unfolding empty
   original_is rows d e =
-      ap (λ (l : List PacketRow). (get_or l k d).original) e ∙ original_at 24 capture k d empty in_capture ∙ ap (λ (l : List Captured). (get_or l k empty).original) capture_is
+      ap (λ (l : List PacketRow). (get_or l k d).original) e ∙ original_at 24 capture k d empty in_capture
+      ∙ ap (λ (l : List Captured). (get_or l k empty).original) capture_is
 
 -- ## One after another
 
-module _ (t : Tables) (captures : List (List Captured)) (sent : List Departure) (output k : ℕ) (e : Departure) (inside : k < length sent) where
-  next : packets_out t captures (take (k + 1) sent) output ≡ packets_out t captures (take k sent) output ++ map (leaving t captures) (cond (ends_packet_at output (get_or sent k e)) (get_or sent k e ∷ []) [])
+module _ (t : Tables) (captures : List (List Captured)) (sent : List Departure) (output k : ℕ) (e : Departure)
+    (inside : k < length sent) where
+  next : packets_out t captures (take (k + 1) sent) output ≡ packets_out t captures (take k sent) output ++ map
+      (leaving t captures) (cond (ends_packet_at output (get_or sent k e)) (get_or sent k e ∷ []) [])
   unfolding packets_out
   next =
       let d : Departure = get_or sent k e in
-      ap (λ (l : List Departure). map (leaving t captures) (filter (ends_packet_at output) l)) (take_more sent k e inside)
+      ap (λ (l : List Departure). map (leaving t captures) (filter (ends_packet_at output) l))
+      (take_more sent k e inside)
       ∙ ap (map (leaving t captures)) (filter-append (ends_packet_at output) (take k sent) (d ∷ []))
-      ∙ map-append (leaving t captures) (filter (ends_packet_at output) (take k sent)) (cond (ends_packet_at output d) (d ∷ []) [])
+      ∙ map-append (leaving t captures) (filter (ends_packet_at output) (take k sent))
+      (cond (ends_packet_at output d) (d ∷ []) [])
 
-  pub one_packed : (packets more : List OutPacket) (p : OutPacket) → ends_packet_at output (get_or sent k e) ≡ true → p ≡ leaving t captures (get_or sent k e) → packets ≡ packets_out t captures (take k sent) output → more ≡ packets ++ p ∷ [] → more ≡ packets_out t captures (take (k + 1) sent) output
+  pub one_packed : (packets more : List OutPacket) (p : OutPacket) → ends_packet_at output (get_or sent k e) ≡ true →
+      p ≡ leaving t captures (get_or sent k e) → packets ≡ packets_out t captures (take k sent) output → more ≡ packets
+      ++ p ∷ [] → more ≡ packets_out t captures (take (k + 1) sent) output
   one_packed packets more p ends is so_far pushed =
       let d : Departure = get_or sent k e in
       pushed
       ∙ ap (λ (l : List OutPacket). l ++ p ∷ []) so_far
       ∙ ap (λ (q : OutPacket). packets_out t captures (take k sent) output ++ q ∷ []) is
-      ∙ ap (λ (l : List Departure). packets_out t captures (take k sent) output ++ map (leaving t captures) l) (sym (cond-true (ends_packet_at output d) (d ∷ []) [] ends))
+      ∙ ap (λ (l : List Departure). packets_out t captures (take k sent) output ++ map (leaving t captures) l)
+      (sym (cond-true (ends_packet_at output d) (d ∷ []) [] ends))
       ∙ sym next
 
-  pub none_packed : (packets : List OutPacket) → ends_packet_at output (get_or sent k e) ≡ false → packets ≡ packets_out t captures (take k sent) output → packets ≡ packets_out t captures (take (k + 1) sent) output
+  pub none_packed : (packets : List OutPacket) → ends_packet_at output (get_or sent k e) ≡ false →
+      packets ≡ packets_out t captures (take k sent) output → packets ≡ packets_out t captures (take (k + 1) sent)
+      output
   none_packed packets other so_far =
       let d : Departure = get_or sent k e in
       so_far
       ∙ sym (append-nil (packets_out t captures (take k sent) output))
-      ∙ ap (λ (l : List Departure). packets_out t captures (take k sent) output ++ map (leaving t captures) l) (sym (cond-false (ends_packet_at output d) (d ∷ []) [] other))
+      ∙ ap (λ (l : List Departure). packets_out t captures (take k sent) output ++ map (leaving t captures) l)
+      (sym (cond-false (ends_packet_at output d) (d ∷ []) [] other))
       ∙ sym next
 
-pub all_pushed : (packets more : List OutPacket) (p : OutPacket) → more ≡ packets ++ p ∷ [] → All (λ p. length p.body ≤ 262144) packets → length p.body ≤ 262144 → All (λ p. length p.body ≤ 262144) more
+pub all_pushed : (packets more : List OutPacket) (p : OutPacket) → more ≡ packets ++ p ∷ [] →
+    All (λ p. length p.body ≤ 262144) packets → length p.body ≤ 262144 → All (λ p. length p.body ≤ 262144) more
 all_pushed packets more p pushed all small =
-    subst (All (λ p. length p.body ≤ 262144)) (sym pushed) (All-append (λ p. length p.body ≤ 262144) packets (p ∷ []) all (one p small))
+    subst (All (λ p. length p.body ≤ 262144)) (sym pushed) (All-append (λ p. length p.body ≤ 262144) packets
+    (p ∷ []) all (one p small))
   where
     one : (p : OutPacket) → length p.body ≤ 262144 → All (λ p. length p.body ≤ 262144) (p ∷ [])
     one p small zero d inside = small
     one p small (suc k) d inside = absurd (omega arith)
 
 pub none_large : (packets : List OutPacket) → packets ≡ [] → All (λ p. length p.body ≤ 262144) packets
-none_large packets none k d inside = let e : length packets ≡ 0 = ap (λ (l : List OutPacket). length l) none in absurd (omega arith)
+none_large packets none k d inside =
+    let e : length packets ≡ 0 = ap (λ (l : List OutPacket). length l) none in absurd (omega arith)

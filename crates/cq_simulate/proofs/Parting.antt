@@ -1,5 +1,5 @@
--- What a run up to a slot of a fabric that is made for tables says of the tables: the state in which it stands still, with what was
--- kept, or the tag fault at which it stops.
+-- What a run up to a slot of a fabric that is made for tables says of the tables: the state in which it stands still,
+-- with what was kept, or the tag fault at which it stops.
 use Rattle.std.proofs.Common.{◌≡◌, ℕ, ◌-◌, List, [], ◌++◌, length, map, Option, sym, ap, ◌∙◌, subst, arith}
 use Rattle.std.specs.Prelude.{fold}
 use Rattle.std.proofs.lemmas.List.{length-map}
@@ -33,8 +33,10 @@ use Rattle.cq_simulate.specs.PartedRuns.{IsPartFault}
 use Rattle.cq_simulate.specs.declared.refusal.RunRefusal.TheVariants as refusal
 
 module _ (M : List ℕ → Machine) (t : Tables) (s : Scheduled) (ports : ℕ) (states : List (List ℕ)) (first : EngineView)
-    (built : IsBuiltFor M t ports states first) (openings : states ≡ openings_of t.setup) (first_sent : RoomView Departure)
-    (first_note : RoomView Transfer) (ready : IsReadyFabric (map M first.fixed) s.came first first_sent first_note) where
+    (built : IsBuiltFor M t ports states first) (openings : states ≡ openings_of t.setup)
+    (first_sent : RoomView Departure)
+    (first_note : RoomView Transfer) (ready : IsReadyFabric
+    (map M first.fixed) s.came first first_sent first_note) where
   machines_are : length first.fixed ≡ length (machines_of t.setup)
   machines_are = sym (length-map first.fixed M) ∙ ap length built.machines
 
@@ -114,6 +116,7 @@ module _ (M : List ℕ → Machine) (t : Tables) (s : Scheduled) (ports : ℕ) (
             LimitedFabricStops IsInputBest first.limits (map M first.fixed) 0 (arriving_from s.came 0 k)
             (marked_fabric first) at.records fault) all
             (subst (λ (n : ℕ).
-            LimitedFabricStops IsInputBest first.limits (map M first.fixed) n (arriving_from s.came n (slots - first.next))
+            LimitedFabricStops IsInputBest first.limits (map M first.fixed) n
+            (arriving_from s.came n (slots - first.next))
             (marked_fabric first) at.records fault) next at.stops)))),
       )

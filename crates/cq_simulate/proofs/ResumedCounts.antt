@@ -1,6 +1,6 @@
--- No output of a run that goes on from a sound state has sent more cells than there were slots. In the state each of them
--- has one `sent` line a slot at most, and the lines stand slot by slot: so from the first of them on, the cells that it
--- sent are no more than the slots up to the last line. From there on an output sends one cell a slot at most.
+-- No output of a run that goes on from a sound state has sent more cells than there were slots. In the state each of
+-- them has one `sent` line a slot at most, and the lines stand slot by slot: so from the first of them on, the cells
+-- that it sent are no more than the slots up to the last line. From there on an output sends one cell a slot at most.
 use Rattle.std.proofs.Common.{◌≡◌, ℕ, zero, suc, ◌+◌, ◌<◌, ◌≤◌, All, List, [], ◌∷◌, length, map, fold, Option, Some, None, refl, sym, ap, ◌∙◌, subst, ⊎_elim, arith}
 use Rattle.std.specs.Prelude.{◌==◌, max, option_map, AllPairs}
 use Rattle.std.specs.List.{AllByRecursion, cons_option, filter_map, range_with_len}

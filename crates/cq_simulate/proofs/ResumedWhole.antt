@@ -1,7 +1,7 @@
--- The cells that departed in a run that goes on from a sound state are those of whole packets. Of each flow what the state says
--- was sent, and then what waits in it, are the arrivals that it names, in their order. What waits leaves first, as it does from the
--- list of the ideal switch beside it, and then what is admitted of what comes. A packet that the state names is named with all its
--- cells, and goes on as it began.
+-- The cells that departed in a run that goes on from a sound state are those of whole packets. Of each flow what the
+-- state says was sent, and then what waits in it, are the arrivals that it names, in their order. What waits leaves
+-- first, as it does from the list of the ideal switch beside it, and then what is admitted of what comes. A packet
+-- that the state names is named with all its cells, and goes on as it began.
 use Rattle.std.proofs.Common.{◌≡◌, ℕ, ◌+◌, ◌<◌, ◌≤◌, Bool, true, false, cond, not, List, [], ◌∷◌, ◌++◌, length, map, filter, Option, Ok, refl, sym, ap, ◌∙◌, subst, ⊎_elim, arith}
 use Rattle.std.specs.Prelude.{◌&&◌, ◌==◌, All}
 use Rattle.std.specs.List.{AllByRecursion}
@@ -147,7 +147,8 @@ no_first (x ∷ xs) ys none = absurd (let P : ⊥ = cc in P)
 module _ (t : Tables) (captures : List (List Captured)) (are : AreTables t) (many : length captures ≡ ports_of t.setup)
     (s : State) (in_range : IsInRange s) (shape : HasShape (switch_of t (schedule_of t captures)) s)
     (sound : IsSound (switch_of t (schedule_of t captures)) s) (kept : Kept)
-    (resumed : IsResumed (switch_of t (schedule_of t captures)) (taken_of (switch_of t (schedule_of t captures)) s) kept) where
+    (resumed : IsResumed (switch_of t (schedule_of t captures)) (taken_of (switch_of t (schedule_of t captures)) s)
+    kept) where
   abbrev pub w : Switch
   w = switch_of t (schedule_of t captures)
 
@@ -219,7 +220,8 @@ module _ (t : Tables) (captures : List (List Captured)) (are : AreTables t) (man
 
   fabric_runs : LimitedFabricRun IsInputBest w.limits w.machines next slots start rs resumed.end
   fabric_runs =
-      subst (λ (l : List LimitedRecord). LimitedFabricRun IsInputBest w.limits w.machines next slots start l resumed.end)
+      subst (λ (l : List LimitedRecord). LimitedFabricRun IsInputBest w.limits w.machines next slots start l
+      resumed.end)
       (take_all (length rs) rs (omega arith)) runs_on.after
 
   fits : AllByRecursion (AreForPorts (length f.inputs) (classes_of t.setup)) slots
@@ -321,7 +323,8 @@ module _ (t : Tables) (captures : List (List Captured)) (are : AreTables t) (man
         let low : i < s.head.ports = omega arith in
         (whole_on w.limits w.machines next slots beside ran alike.ran stand over i begin late_packets).before p last
         ∙ ap not
-        (get_or-map-range_with_len (λ (k : ℕ). is_refused came s (latest (firsts_at came s k))) 0 s.head.ports i i false low
+        (get_or-map-range_with_len (λ (k : ℕ). is_refused came s (latest (firsts_at came s k))) 0 s.head.ports i i false
+        low
         (omega arith)))
         (λ (past : ports ≤ i). let none : begin ≡ 0 = no_packets past in absurd (omega arith))
         (cases_lt i ports)

@@ -1,5 +1,5 @@
--- What a run that goes on says of the tables that its fabric is made for: the resumed run to its end, or the tag fault at which it
--- stops.
+-- What a run that goes on says of the tables that its fabric is made for: the resumed run to its end, or the tag
+-- fault at which it stops.
 use Rattle.std.proofs.Common.{◌≡◌, ℕ, ◌++◌, List, length, map, Option, sym, ap, ◌∙◌, subst, arith}
 use Rattle.std.specs.Prelude.{take}
 use Rattle.std.proofs.lemmas.List.{take_all}
@@ -36,7 +36,8 @@ module _ (M : List ℕ → Machine) (t : Tables) (s : Scheduled) (first : Engine
       Runs (switch_of t s) first.next (arriving_from s.came first.next m) (marked_fabric first) rs f
   of_switch m rs f run =
       subst (λ (ms : List Machine).
-      LimitedFabricRun IsInputBest t.limits ms first.next (arriving_from s.came first.next m) (marked_fabric first) rs f)
+      LimitedFabricRun IsInputBest t.limits ms first.next (arriving_from s.came first.next m) (marked_fabric first) rs
+      f)
       machines
       (subst (λ (l : List (Option ℕ)).
       LimitedFabricRun IsInputBest l (map M first.fixed) first.next (arriving_from s.came first.next m)
@@ -51,7 +52,8 @@ module _ (M : List ℕ → Machine) (t : Tables) (s : Scheduled) (first : Engine
       LimitedFabricRun IsInputBest l (map M first.fixed) first.next (arriving_from s.came first.next m)
       (marked_fabric first) rs f) (sym limits)
       (subst (λ (ms : List Machine).
-      LimitedFabricRun IsInputBest t.limits ms first.next (arriving_from s.came first.next m) (marked_fabric first) rs f)
+      LimitedFabricRun IsInputBest t.limits ms first.next (arriving_from s.came first.next m) (marked_fabric first) rs
+      f)
       (sym machines) run)
 
   pub resumed_of : (last : EngineView) (first_sent sent : RoomView Departure) (first_note note : RoomView Transfer) →
@@ -104,7 +106,8 @@ module _ (M : List ℕ → Machine) (t : Tables) (s : Scheduled) (first : Engine
         records = at.stops.records;
         stops =
             subst (λ (x : Frozen).
-            Stops (switch_of t s) x.next (arriving_from s.came x.next at.count) (marked_in x) at.stops.records fault) stood
+            Stops (switch_of t s) x.next (arriving_from s.came x.next at.count) (marked_in x) at.stops.records fault)
+            stood
             (subst (λ (ms : List Machine).
             LimitedFabricStops IsInputBest t.limits ms first.next (arriving_from s.came first.next at.count)
             (marked_fabric first) at.stops.records fault) machines

@@ -1,5 +1,5 @@
--- What a stable run of tables sends. With any stable matchings the fabric ends where the ideal switch ends, and has sent what that
--- sends.
+-- What a stable run of tables sends. With any stable matchings the fabric ends where the ideal switch ends, and has
+-- sent what that sends.
 use Rattle.std.proofs.Common.{◌≡◌, ◌∙◌, ℕ, List, length, ap}
 use Rattle.std.specs.Prelude.{Ok}
 use Rattle.cq_base.specs.Arriving.{Arrival}

@@ -1,5 +1,5 @@
--- What waits for an output in a sound state stands there as in a run: in the order of the keys, each cell with the level of its
--- class and a rank below the floor, and each arrived in an earlier slot.
+-- What waits for an output in a sound state stands there as in a run: in the order of the keys, each cell with the
+-- level of its class and a rank below the floor, and each arrived in an earlier slot.
 use Rattle.std.proofs.Common.{◌≡◌, ℕ, ◌<◌, ◌≤◌, List, [], ◌∷◌, length, Some, sym, ap, ◌∙◌, subst, ⊎_elim, arith}
 use Rattle.std.specs.Prelude.{slice_index_or}
 use Rattle.std.proofs.lemmas.List.Elements.{recursion_from_All}

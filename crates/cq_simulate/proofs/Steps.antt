@@ -2,6 +2,7 @@
 use Rattle.std.proofs.Common.{◌≡◌, ◌↔◌, ℕ, suc, ◌+◌, ◌-◌, ◌<◌, ◌≤◌, ◌^◌, Bool, true, false, List, [], length, map, replicate, Option, Result, Ok, Err, refl, sym, ap, ◌∙◌, subst, ⊎_elim, arith}
 use Rattle.std.specs.Prelude.{IsTrue, All, IfOk, slice_index}
 use Rattle.std.proofs.lemmas.Bool.{cases_lt}
+use Rattle.std.proofs.lemmas.Result.{IfOk-weaker}
 use Rattle.cq_base.specs.declared.cell.Cell.{Cell}
 use Rattle.cq_base.specs.declared.cell.Departure.{Departure}
 use Rattle.cq_base.specs.declared.cell.Queued.{Queued}
@@ -23,6 +24,7 @@ use Rattle.cq_ideal.specs.Ranking.{AreForPorts}
 use Rattle.cq_simulate.specs.Ready.{IsReady}
 use Rattle.cq_simulate.specs.Stretch.{HasRested}
 use Rattle.cq_ideal.proofs.Waiting.{waiting}
+use Rattle.cq_simulate.proofs.Handed.{TakenOver, few_left, left_with_all, room_again}
 use Rattle.cq_simulate.proofs.Stretches.{running_rest}
 use Rattle.cq_simulate.proofs.Running.{Running, can_count, running_first, running_next, running_over, running_fault, slot_left, run_from, sent_from}
 use Rattle.cq_ideal.specs.Ending.{arriving_from, slots_of}
@@ -33,8 +35,10 @@ use Rattle.cq_traffic.specs.Stretch.{IsQuiet}
 
 -- ## The test
 
-pub not_over : (b : Bool) (end slot : ℕ) (lists : List (List Queued)) → b ≡ false → (IsTrue b ↔ ((end ≤ slot) × All (λ cells. cells ≡ []) lists)) → end ≤ slot → waiting lists ≡ 0 → ⊥
-not_over b end slot lists going iff le none = let over : b ≡ true = iff.1 (le, nothing_left lists none) in let P : ⊥ = cc in P
+pub not_over : (b : Bool) (end slot : ℕ) (lists : List (List Queued)) → b ≡ false →
+    (IsTrue b ↔ ((end ≤ slot) × All (λ cells. cells ≡ []) lists)) → end ≤ slot → waiting lists ≡ 0 → ⊥
+not_over b end slot lists going iff le none =
+    let over : b ≡ true = iff.1 (le, nothing_left lists none) in let P : ⊥ = cc in P
 
 -- ## The steps
 
@@ -75,16 +79,58 @@ pub record HasHad (ms : List Machine) (slot : ℕ) (cells : List (Option Cell)) 
   pub limits : new.limits ≡ old.limits
   pub rooms : new.rooms ≡ old.rooms
 
-module _ (M : List ℕ → Machine) (came : List Arrival) (first : IdealSwitch) (first_sent : RoomView Departure) (ready : IsReady (map M first.fixed) came first first_sent) where
+-- what left in a slot stands in a list of its own, and is taken over from there
+module _ (ms : List Machine) (slot : ℕ) (cells : List (Option Cell)) (old new : IdealSwitch)
+    (leaving left : RoomView Departure) (none : leaving.items ≡ []) (had : HasHad ms slot cells old new leaving left)
+  where
+    left_here : (s : LimitedSent) × HaveLeft slot s.gone leaving left
+    left_here =
+        let ok = slot_ok (its_slot ms slot cells old) had.answer in (
+          ok.0,
+          subst (λ (x : Result LimitedSent TagFault). IfOk x (λ of_slot.
+              HaveLeft slot of_slot.gone leaving left)) ok.1 had.left,
+        )
+
+    pub few_leave : length left.items ≤ leaving.spare
+    few_leave = few_left slot left_here.0.gone leaving left none left_here.1
+
+    pub room_is_back : (emptied : RoomView Departure) → emptied.spare ≡ left.spare + length left.items →
+        emptied.spare ≡ leaving.spare
+    room_is_back = room_again slot left_here.0.gone leaving left none left_here.1
+
+    pub handed : (sent sent_new : RoomView Departure) → TakenOver sent left sent_new →
+        HasHad ms slot cells old new sent sent_new
+    handed sent sent_new taken = record {
+      answer = had.answer;
+      state = had.state;
+      left = IfOk-weaker (its_slot ms slot cells old)
+          (λ (of_slot : LimitedSent). HaveLeft slot of_slot.gone leaving left)
+          (λ (of_slot : LimitedSent). HaveLeft slot of_slot.gone sent sent_new)
+          (λ of_slot has. left_with_all slot of_slot.gone leaving left none has sent sent_new taken) had.left;
+      refused = had.refused;
+      running = had.running;
+      next = had.next;
+      fixed = had.fixed;
+      limits = had.limits;
+      rooms = had.rooms;
+    }
+
+module _ (M : List ℕ → Machine) (came : List Arrival) (first : IdealSwitch) (first_sent : RoomView Departure)
+    (ready : IsReady (map M first.fixed) came first first_sent) where
   abbrev pub Before : ℕ → IdealSwitch → RoomView Departure → Type 0
   Before slot now sent = Running (map M first.fixed) came first first_sent slot (enough came - slot) now sent
 
   pub at_first : Before 0 first first_sent
-  at_first = subst (λ (n : ℕ). Running (map M first.fixed) came first first_sent 0 n first first_sent) (omega arith) (running_first (map M first.fixed) came first first_sent ready)
+  at_first =
+      subst (λ (n : ℕ). Running (map M first.fixed) came first first_sent 0 n first first_sent) (omega arith)
+      (running_first (map M first.fixed) came first first_sent ready)
 
-  module _ (slot : ℕ) (now : IdealSwitch) (sent : RoomView Departure) (r : Before slot now sent) (more : end_of came ≤ slot → waiting now.state.lists ≡ 0 → ⊥) where
+  module _ (slot : ℕ) (now : IdealSwitch) (sent : RoomView Departure) (r : Before slot now sent)
+      (more : end_of came ≤ slot → waiting now.state.lists ≡ 0 → ⊥) where
     pub a_slot_left : slot < enough came
-    a_slot_left = let some = slot_left (map M first.fixed) came first first_sent slot (enough came - slot) now sent r more in omega arith
+    a_slot_left =
+        let some =
+        slot_left (map M first.fixed) came first first_sent slot (enough came - slot) now sent r more in omega arith
 
     one_more : enough came - slot ≡ suc (enough came - (slot + 1))
     one_more = let l = a_slot_left in omega arith
@@ -95,10 +141,13 @@ module _ (M : List ℕ → Machine) (came : List Arrival) (first : IdealSwitch) 
     pub early : slot < 2 ^ 64 - 1
     early = let l = a_slot_left in let short : enough came ≤ 2 ^ 63 + 2 ^ 35 = ready.short in omega arith
 
-    pub arrivals_fit : (cells : List (Option Cell)) → cells ≡ arriving came slot → AreForPorts (length now.fixed) (class_count (map M now.fixed)) cells
+    pub arrivals_fit : (cells : List (Option Cell)) → cells ≡ arriving came slot →
+        AreForPorts (length now.fixed) (class_count (map M now.fixed)) cells
     arrivals_fit cells are =
-        subst (λ (cells : List (Option Cell)). AreForPorts (length now.fixed) (class_count (map M now.fixed)) cells) (sym are)
-        (subst (λ (fixed : List (List ℕ)). AreForPorts (length fixed) (class_count (map M fixed)) (arriving came slot)) (sym r.fixed)
+        subst (λ (cells : List (Option Cell)). AreForPorts (length now.fixed) (class_count (map M now.fixed)) cells)
+        (sym are)
+        (subst (λ (fixed : List (List ℕ)). AreForPorts (length fixed) (class_count (map M fixed)) (arriving came slot))
+        (sym r.fixed)
         (arrivals_for (length first.fixed) (class_count (map M first.fixed)) came slot ready.traffic))
 
     pub room_left : (cells : List (Option Cell)) → cells ≡ arriving came slot → HasRoomFor cells now
@@ -119,7 +168,10 @@ module _ (M : List ℕ → Machine) (came : List Arrival) (first : IdealSwitch) 
         ready.short)
 
     pub room_sent : length now.fixed ≤ sent.spare
-    room_sent = let spare = r.spare in let same : length now.fixed ≡ length first.fixed = ap (λ (l : List (List ℕ)). length l) r.fixed in omega arith
+    room_sent =
+        let spare =
+        r.spare in let same : length now.fixed ≡ length first.fixed = ap (λ (l : List (List ℕ)). length l) r.fixed in
+        omega arith
 
     as_now : (cells : List (Option Cell)) → cells ≡ arriving came slot →
         its_slot (map M now.fixed) slot cells now
@@ -154,7 +206,8 @@ module _ (M : List ℕ → Machine) (came : List Arrival) (first : IdealSwitch) 
         (sym (as_now cells are) ∙ slot_err (its_slot (map M now.fixed) slot cells now) fault answer)
 
   -- a stretch is skipped
-  module _ (slot next : ℕ) (now new : IdealSwitch) (sent : RoomView Departure) (r : Before slot now sent) (quiet : IsQuiet came slot next) (rested : HasRested (map M now.fixed) slot next now new) where
+  module _ (slot next : ℕ) (now new : IdealSwitch) (sent : RoomView Departure) (r : Before slot now sent)
+      (quiet : IsQuiet came slot next) (rested : HasRested (map M now.fixed) slot next now new) where
     ran : limited_run first.limits (map M first.fixed) slot (replicate (next - slot) no_arrivals) (marked_state now)
         ≡ Ok (nothing_came (next - slot) (length now.fixed) (marked_state new))
     ran =
@@ -169,14 +222,17 @@ module _ (M : List ℕ → Machine) (came : List Arrival) (first : IdealSwitch) 
         let late : slot ≤ next = quiet.late in
         let more = quiet.more in
         let some = ends_early came in
-        let left : enough came - slot ≡ next - slot + (enough came - next) = ⊎_elim (λ lt. let before = more lt in omega arith) (λ ge. omega arith) (cases_lt slot next) in
+        let left : enough came - slot ≡ next - slot + (enough came - next) =
+        ⊎_elim (λ lt. let before = more lt in omega arith) (λ ge. omega arith) (cases_lt slot next) in
         let there : slot + (next - slot) ≡ next = omega arith in
         subst (λ (t : ℕ). Running (map M first.fixed) came first first_sent t (enough came - next) new sent) there
-        (running_rest (map M first.fixed) came first first_sent sent (length now.fixed) (next - slot) slot (enough came - next) (enough came - slot) now new left r
+        (running_rest (map M first.fixed) came first first_sent sent (length now.fixed) (next - slot) slot
+        (enough came - next) (enough came - slot) now new left r
         (λ t from to. quiet.none t from (omega arith)) (λ some. let before = more (omega arith) in omega arith) ran
         (rested.reached ∙ sym there) rested.running rested.lists rested.fixed rested.limits rested.refused rested.rooms)
 
-    pub more_at_rest : (end_of came ≤ slot → waiting now.state.lists ≡ 0 → ⊥) → end_of came ≤ next → waiting new.state.lists ≡ 0 → ⊥
+    pub more_at_rest : (end_of came ≤ slot → waiting now.state.lists ≡ 0 → ⊥) → end_of came ≤ next →
+        waiting new.state.lists ≡ 0 → ⊥
     more_at_rest more le none =
         ⊎_elim
         (λ lt. let before = quiet.more lt in omega arith)
@@ -191,7 +247,8 @@ module _ (M : List ℕ → Machine) (came : List Arrival) (first : IdealSwitch) 
       ≡ Ok sent.items
   at_end slot now sent r le none =
       whole_run first.limits (map M first.fixed) came (marked_state first)
-      ∙ running_over (map M first.fixed) came first first_sent slot (enough came - slot) now sent r le (none_waits now.state.lists none)
+      ∙ running_over (map M first.fixed) came first first_sent slot (enough came - slot) now sent r le
+      (none_waits now.state.lists none)
 
   -- so no departure is of a late slot
   pub early_at_end : (slot : ℕ) (now : IdealSwitch) (sent : RoomView Departure) → Before slot now sent →

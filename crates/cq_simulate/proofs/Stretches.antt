@@ -1,5 +1,6 @@
--- Stretches of slots that are skipped, since no cell comes in them and none waits. What is known of the ideal switch before
--- the first of them is known after the last: none sends a cell, nothing is refused, and the lists stay as they are.
+-- Stretches of slots that are skipped, since no cell comes in them and none waits. What is known of the ideal switch
+-- before the first of them is known after the last: none sends a cell, nothing is refused, and the lists stay as they
+-- are.
 use Rattle.std.proofs.Common.{◌≡◌, ℕ, zero, suc, ◌+◌, ◌-◌, ◌<◌, ◌≤◌, false, List, [], ◌++◌, length, replicate, Option, None, Result, Ok, Err, refl, sym, ap, ◌∙◌, ⊎_elim, subst, arith}
 use Rattle.std.specs.Prelude.{slice_index_or}
 use Rattle.std.proofs.lemmas.Bool.{cases_lt}
@@ -108,7 +109,8 @@ same_run limits ms came ports k slot n m s t left quiet ran =
     ∙ sent_behind k slot ports (replicate k (nothing_refused t.marks no_arrivals))
     (limited_run limits ms (slot + k) rest t)
 
-pub running_rest : (ms : List Machine) (came : List Arrival) (first : IdealSwitch) (first_sent sent : RoomView Departure)
+pub running_rest : (ms : List Machine) (came : List Arrival) (first : IdealSwitch)
+    (first_sent sent : RoomView Departure)
     (ports k slot n m : ℕ) (now after : IdealSwitch) → m ≡ k + n → Running ms came first first_sent slot m now sent →
     ((t : ℕ) → slot ≤ t → t < slot + k → arriving came t ≡ no_arrivals) → (0 < k → slot + k ≤ end_of came) →
     limited_run first.limits ms slot (replicate k no_arrivals) (marked_state now)

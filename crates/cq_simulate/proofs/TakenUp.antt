@@ -1,5 +1,6 @@
--- A fabric that is taken up can go on. What waits in it came before the slot that it stands at, and what is to come comes from
--- that slot on, so both together are no more than what comes in all: at each input, for each output, and of all cells.
+-- A fabric that is taken up can go on. What waits in it came before the slot that it stands at, and what is to come
+-- comes from that slot on, so both together are no more than what comes in all: at each input, for each output, and
+-- of all cells.
 use Rattle.std.proofs.Common.{◌≡◌, ℕ, zero, suc, ◌+◌, ◌*◌, ◌<◌, ◌≤◌, ◌^◌, Bool, true, false, cond, List, [], ◌∷◌, length, map, Option, refl, sym, ap, ◌∙◌, subst, ⊎_elim, arith}
 use Rattle.std.specs.Prelude.{◌==◌, filter, slice_index, sum}
 use Rattle.std.specs.List.{flat_map, range_with_len}
@@ -213,7 +214,8 @@ module _ (w : Switch) where
             let had = goes.lists i in
             let parts = both_parts (is_from i) x.next w.came in
             let room : slice_index from_inputs i ≡ number_of (is_from i) w.came =
-            ap (λ (l : List ℕ). slice_index l i) from ∙ get_or-map-range_with_len comes 0 n i i 0 inside (omega arith) in
+            ap (λ (l : List ℕ). slice_index l i) from ∙ get_or-map-range_with_len comes 0 n i i 0 inside
+            (omega arith) in
             omega arith;
         buffer_rooms = λ j inside.
             let had = goes.buffers j in

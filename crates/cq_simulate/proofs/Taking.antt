@@ -23,35 +23,52 @@ use Rattle.cq_simulate.proofs.Joining.{flow_fits, opened-append}
 use Rattle.cq_simulate.proofs.Packed.{none_packed, one_packed}
 
 -- the cells of a flow among some departures and then others
-flow-append : (i c j : ℕ) (xs ys : List Departure) → left_in_flow i c j (xs ++ ys) ≡ left_in_flow i c j xs ++ left_in_flow i c j ys
+flow-append : (i c j : ℕ) (xs ys : List Departure) → left_in_flow i c j (xs ++ ys) ≡ left_in_flow i c j xs ++
+    left_in_flow i c j ys
 flow-append i c j xs ys =
     ap (map (λ (x : Departure). x.queued.cell)) (filter-append (leaves_in_flow i c j) xs ys)
-    ∙ map-append (λ (x : Departure). x.queued.cell) (filter (leaves_in_flow i c j) xs) (filter (leaves_in_flow i c j) ys)
+    ∙ map-append (λ (x : Departure). x.queued.cell) (filter (leaves_in_flow i c j) xs)
+    (filter (leaves_in_flow i c j) ys)
 
-of_flow : (i c j : ℕ) (d : Departure) (ds : List Departure) → leaves_in_flow i c j d ≡ true → left_in_flow i c j (d ∷ ds) ≡ d.queued.cell ∷ left_in_flow i c j ds
-of_flow i c j d ds e = ap (map (λ (x : Departure). x.queued.cell)) (cond-true (leaves_in_flow i c j d) (d ∷ filter (leaves_in_flow i c j) ds) (filter (leaves_in_flow i c j) ds) e)
+of_flow : (i c j : ℕ) (d : Departure) (ds : List Departure) → leaves_in_flow i c j d ≡ true →
+    left_in_flow i c j (d ∷ ds) ≡ d.queued.cell ∷ left_in_flow i c j ds
+of_flow i c j d ds e =
+    ap (map (λ (x : Departure). x.queued.cell)) (cond-true (leaves_in_flow i c j d)
+    (d ∷ filter (leaves_in_flow i c j) ds) (filter (leaves_in_flow i c j) ds) e)
 
-of_other : (i c j : ℕ) (d : Departure) (ds : List Departure) → leaves_in_flow i c j d ≡ false → left_in_flow i c j (d ∷ ds) ≡ left_in_flow i c j ds
-of_other i c j d ds e = ap (map (λ (x : Departure). x.queued.cell)) (cond-false (leaves_in_flow i c j d) (d ∷ filter (leaves_in_flow i c j) ds) (filter (leaves_in_flow i c j) ds) e)
+of_other : (i c j : ℕ) (d : Departure) (ds : List Departure) → leaves_in_flow i c j d ≡ false →
+    left_in_flow i c j (d ∷ ds) ≡ left_in_flow i c j ds
+of_other i c j d ds e =
+    ap (map (λ (x : Departure). x.queued.cell)) (cond-false (leaves_in_flow i c j d)
+    (d ∷ filter (leaves_in_flow i c j) ds) (filter (leaves_in_flow i c j) ds) e)
 
 -- what is known when so many departures were gone through
-pub record SoFar (t : Tables) (captures : List (List Captured)) (sent : List Departure) (output k : ℕ) (joiner : JoinerView) (packets : List OutPacket) : Type 0 where
+pub record SoFar (t : Tables) (captures : List (List Captured)) (sent : List Departure) (output k : ℕ)
+    (joiner : JoinerView) (packets : List OutPacket) : Type 0 where
   pub inputs : joiner.inputs ≡ length captures
   pub classes : joiner.classes ≡ length t.setup.classes
-  pub open_packets : (i c : ℕ) → c < length t.setup.classes → open_at joiner i c ≡ opened captures None (left_in_flow i c output (take k sent))
+  pub open_packets : (i c : ℕ) → c < length t.setup.classes →
+      open_at joiner i c ≡ opened captures None (left_in_flow i c output (take k sent))
   pub made : packets ≡ packets_out t captures (take k sent) output
   pub small : All (λ p. length p.body ≤ 262144) packets
 
-module _ (t : Tables) (captures : List (List Captured)) (sent : List Departure) (output k : ℕ) (e : Departure) (inside : k < length sent) where
-  next_flow : (i c : ℕ) → left_in_flow i c output (take (k + 1) sent) ≡ left_in_flow i c output (take k sent) ++ left_in_flow i c output (get_or sent k e ∷ [])
-  next_flow i c = ap (left_in_flow i c output) (take_more sent k e inside) ∙ flow-append i c output (take k sent) (get_or sent k e ∷ [])
+module _ (t : Tables) (captures : List (List Captured)) (sent : List Departure) (output k : ℕ) (e : Departure)
+    (inside : k < length sent) where
+  next_flow : (i c : ℕ) → left_in_flow i c output (take (k + 1) sent) ≡ left_in_flow i c output (take k sent) ++
+      left_in_flow i c output (get_or sent k e ∷ [])
+  next_flow i c =
+      ap (left_in_flow i c output) (take_more sent k e inside)
+      ∙ flow-append i c output (take k sent) (get_or sent k e ∷ [])
 
   -- a departure of another pair, or at another output
-  pub same_flow : (i c : ℕ) → leaves_in_flow i c output (get_or sent k e) ≡ false → left_in_flow i c output (take (k + 1) sent) ≡ left_in_flow i c output (take k sent)
+  pub same_flow : (i c : ℕ) → leaves_in_flow i c output (get_or sent k e) ≡ false →
+      left_in_flow i c output (take (k + 1) sent) ≡ left_in_flow i c output (take k sent)
   same_flow i c other =
-      next_flow i c ∙ ap (λ (l : List Cell). left_in_flow i c output (take k sent) ++ l) (of_other i c output (get_or sent k e) [] other) ∙ append-nil (left_in_flow i c output (take k sent))
+      next_flow i c ∙ ap (λ (l : List Cell). left_in_flow i c output (take k sent) ++ l)
+      (of_other i c output (get_or sent k e) [] other) ∙ append-nil (left_in_flow i c output (take k sent))
 
-  pub at_other : (joiner : JoinerView) (packets : List OutPacket) → SoFar t captures sent output k joiner packets → (get_or sent k e).output ≢ output → SoFar t captures sent output (k + 1) joiner packets
+  pub at_other : (joiner : JoinerView) (packets : List OutPacket) → SoFar t captures sent output k joiner packets →
+      (get_or sent k e).output ≢ output → SoFar t captures sent output (k + 1) joiner packets
   at_other joiner packets so_far ne =
       let d : Departure = get_or sent k e in
       let away : (d.output == output) ≡ false = ne_eqb d.output output ne in
@@ -60,18 +77,23 @@ module _ (t : Tables) (captures : List (List Captured)) (sent : List Departure) 
         classes = so_far.classes;
         open_packets = λ i c few.
             so_far.open_packets i c few
-            ∙ ap (opened captures None) (sym (same_flow i c (and_left (d.output == output) (d.queued.cell.id.input == i && d.queued.cell.class == c) away)));
-        made = none_packed t captures sent output k e inside packets (and_left (d.output == output) d.queued.cell.last away) so_far.made;
+            ∙ ap (opened captures None) (sym (same_flow i c
+            (and_left (d.output == output) (d.queued.cell.id.input == i && d.queued.cell.class == c) away)));
+        made =
+            none_packed t captures sent output k e inside packets
+            (and_left (d.output == output) d.queued.cell.last away) so_far.made;
         small = so_far.small;
       }
 
   module _ (here : (get_or sent k e).output ≡ output) where
-    own : leaves_in_flow (get_or sent k e).queued.cell.id.input (get_or sent k e).queued.cell.class output (get_or sent k e) ≡ true
+    own : leaves_in_flow (get_or sent k e).queued.cell.id.input (get_or sent k e).queued.cell.class output
+        (get_or sent k e) ≡ true
     own =
         let d : Departure = get_or sent k e in
         let c : Cell = d.queued.cell in
         and_from (d.output == output) (c.id.input == c.id.input && c.class == c.class) (eq-eqb d.output output here)
-        (and_from (c.id.input == c.id.input) (c.class == c.class) (eq-eqb c.id.input c.id.input refl) (eq-eqb c.class c.class refl))
+        (and_from (c.id.input == c.id.input) (c.class == c.class) (eq-eqb c.id.input c.id.input refl)
+        (eq-eqb c.class c.class refl))
 
     pub cell_fits : (joiner : JoinerView) (packets : List OutPacket) → SoFar t captures sent output k joiner packets →
         AreTables t → length captures ≡ ports_of t.setup → LeaveWhole (arrivals t captures) sent →
@@ -82,7 +104,8 @@ module _ (t : Tables) (captures : List (List Captured)) (sent : List Departure) 
         let d : Departure = get_or sent k e in
         let i = d.queued.cell.id.input in
         let c = d.queued.cell.class in
-        let parts : take k sent ++ (d ∷ drop (k + 1) sent) ≡ sent = ap (λ (l : List Departure). take k sent ++ l) (sym (drop_more sent k e inside)) ∙ take-append-drop k sent in
+        let parts : take k sent ++ (d ∷ drop (k + 1) sent) ≡ sent =
+        ap (λ (l : List Departure). take k sent ++ l) (sym (drop_more sent k e inside)) ∙ take-append-drop k sent in
         let l = whole i in
         subst (λ (o : Option Open). Fits captures o d.queued.cell) (sym (so_far.open_packets i c few))
         (flow_fits t captures i (let b = are.cell_bytes in omega arith) c output l.is_taken
@@ -90,37 +113,62 @@ module _ (t : Tables) (captures : List (List Captured)) (sent : List Departure) 
         (sym (l.left c output)
         ∙ ap (left_in_flow i c output) (sym parts)
         ∙ flow-append i c output (take k sent) (d ∷ drop (k + 1) sent)
-        ∙ ap (λ (l : List Cell). left_in_flow i c output (take k sent) ++ l) (of_flow i c output d (drop (k + 1) sent) own)))
+        ∙ ap (λ (l : List Cell). left_in_flow i c output (take k sent) ++ l)
+        (of_flow i c output d (drop (k + 1) sent) own)))
 
-    module _ (joiner joiner_new : JoinerView) (packets : List OutPacket) (so_far : SoFar t captures sent output k joiner packets) (inputs : joiner_new.inputs ≡ joiner.inputs) (classes : joiner_new.classes ≡ joiner.classes) (pair : open_at joiner_new (get_or sent k e).queued.cell.id.input (get_or sent k e).queued.cell.class ≡ open_after (open_at joiner (get_or sent k e).queued.cell.id.input (get_or sent k e).queued.cell.class) (get_or sent k e).queued.cell (piece_at captures (get_or sent k e).queued.cell)) (others : (i c : ℕ) → c < joiner.classes → IsOtherPair i c (get_or sent k e).queued.cell → open_at joiner_new i c ≡ open_at joiner i c) where
-      of_pair : (get_or sent k e).queued.cell.class < length t.setup.classes → open_at joiner_new (get_or sent k e).queued.cell.id.input (get_or sent k e).queued.cell.class ≡ opened captures None (left_in_flow (get_or sent k e).queued.cell.id.input (get_or sent k e).queued.cell.class output (take (k + 1) sent))
+    module _ (joiner joiner_new : JoinerView) (packets : List OutPacket)
+        (so_far : SoFar t captures sent output k joiner packets) (inputs : joiner_new.inputs ≡ joiner.inputs)
+        (classes : joiner_new.classes ≡ joiner.classes) (pair : open_at joiner_new
+        (get_or sent k e).queued.cell.id.input (get_or sent k e).queued.cell.class ≡ open_after
+        (open_at joiner (get_or sent k e).queued.cell.id.input (get_or sent k e).queued.cell.class)
+        (get_or sent k e).queued.cell (piece_at captures (get_or sent k e).queued.cell))
+        (others : (i c : ℕ) → c < joiner.classes → IsOtherPair i c (get_or sent k e).queued.cell → open_at joiner_new i
+        c ≡ open_at joiner i c) where
+      of_pair : (get_or sent k e).queued.cell.class < length t.setup.classes →
+          open_at joiner_new (get_or sent k e).queued.cell.id.input (get_or sent k e).queued.cell.class ≡ opened
+          captures None (left_in_flow (get_or sent k e).queued.cell.id.input (get_or sent k e).queued.cell.class output
+          (take (k + 1) sent))
       of_pair few =
           let d : Departure = get_or sent k e in
           let i = d.queued.cell.id.input in
           let c = d.queued.cell.class in
           pair
-          ∙ ap (λ (o : Option Open). open_after o d.queued.cell (piece_at captures d.queued.cell)) (so_far.open_packets i c few)
+          ∙ ap (λ (o : Option Open). open_after o d.queued.cell (piece_at captures d.queued.cell))
+          (so_far.open_packets i c few)
           ∙ sym (opened-append captures None (left_in_flow i c output (take k sent)) (d.queued.cell ∷ []))
-          ∙ ap (λ (l : List Cell). opened captures None (left_in_flow i c output (take k sent) ++ l)) (sym (of_flow i c output d [] own))
+          ∙ ap (λ (l : List Cell). opened captures None (left_in_flow i c output (take k sent) ++ l))
+          (sym (of_flow i c output d [] own))
           ∙ ap (opened captures None) (sym (next_flow i c))
 
-      of_others : (i c : ℕ) → c < length t.setup.classes → IsOtherPair i c (get_or sent k e).queued.cell → leaves_in_flow i c output (get_or sent k e) ≡ false → open_at joiner_new i c ≡ opened captures None (left_in_flow i c output (take (k + 1) sent))
+      of_others : (i c : ℕ) → c < length t.setup.classes → IsOtherPair i c (get_or sent k e).queued.cell →
+          leaves_in_flow i c output (get_or sent k e) ≡ false → open_at joiner_new i c ≡ opened captures None
+          (left_in_flow i c output (take (k + 1) sent))
       of_others i c few other away =
           let same = so_far.classes in
-          others i c (omega arith) other ∙ so_far.open_packets i c few ∙ ap (opened captures None) (sym (same_flow i c away))
+          others i c (omega arith) other ∙ so_far.open_packets i c few
+          ∙ ap (opened captures None) (sym (same_flow i c away))
 
-      open_next : (i c : ℕ) → c < length t.setup.classes → open_at joiner_new i c ≡ opened captures None (left_in_flow i c output (take (k + 1) sent))
+      open_next : (i c : ℕ) → c < length t.setup.classes → open_at joiner_new i c ≡ opened captures None
+          (left_in_flow i c output (take (k + 1) sent))
       open_next i c few =
           let d : Departure = get_or sent k e in
           ⊎_elim
           (λ (same_input : i ≡ d.queued.cell.id.input).
           ⊎_elim
           (λ (same_class : c ≡ d.queued.cell.class).
-          subst (λ (n : ℕ). open_at joiner_new n c ≡ opened captures None (left_in_flow n c output (take (k + 1) sent))) (sym same_input)
-          (subst (λ (n : ℕ). open_at joiner_new d.queued.cell.id.input n ≡ opened captures None (left_in_flow d.queued.cell.id.input n output (take (k + 1) sent))) (sym same_class) (of_pair (omega arith))))
-          (λ ne. of_others i c few (inr ne) (and_right (d.output == output) (d.queued.cell.id.input == i && d.queued.cell.class == c) (and_right (d.queued.cell.id.input == i) (d.queued.cell.class == c) (ne_eqb d.queued.cell.class c (λ x. ne (sym x))))))
+          subst (λ (n : ℕ). open_at joiner_new n c ≡ opened captures None (left_in_flow n c output (take (k + 1) sent)))
+          (sym same_input)
+          (subst (λ (n : ℕ). open_at joiner_new d.queued.cell.id.input n ≡ opened captures None
+          (left_in_flow d.queued.cell.id.input n output (take (k + 1) sent))) (sym same_class) (of_pair (omega arith))))
+          (λ ne. of_others i c few (inr ne) (and_right (d.output == output)
+          (d.queued.cell.id.input == i && d.queued.cell.class == c)
+          (and_right (d.queued.cell.id.input == i) (d.queued.cell.class == c)
+          (ne_eqb d.queued.cell.class c (λ x. ne (sym x))))))
           (cases_eq c d.queued.cell.class))
-          (λ ne. of_others i c few (inl ne) (and_right (d.output == output) (d.queued.cell.id.input == i && d.queued.cell.class == c) (and_left (d.queued.cell.id.input == i) (d.queued.cell.class == c) (ne_eqb d.queued.cell.id.input i (λ x. ne (sym x))))))
+          (λ ne. of_others i c few (inl ne) (and_right (d.output == output)
+          (d.queued.cell.id.input == i && d.queued.cell.class == c)
+          (and_left (d.queued.cell.id.input == i) (d.queued.cell.class == c)
+          (ne_eqb d.queued.cell.id.input i (λ x. ne (sym x))))))
           (cases_eq i d.queued.cell.id.input)
 
       -- what ends at this output
@@ -134,7 +182,10 @@ module _ (t : Tables) (captures : List (List Captured)) (sent : List Departure) 
         inputs = inputs ∙ so_far.inputs;
         classes = classes ∙ so_far.classes;
         open_packets = open_next;
-        made = none_packed t captures sent output k e inside packets (ends false (not_last (get_or sent k e).queued.cell.last (leaving t captures (get_or sent k e)) none)) so_far.made;
+        made =
+            none_packed t captures sent output k e inside packets
+            (ends false (not_last (get_or sent k e).queued.cell.last (leaving t captures (get_or sent k e)) none))
+            so_far.made;
         small = so_far.small;
       }
         where
@@ -142,14 +193,18 @@ module _ (t : Tables) (captures : List (List Captured)) (sent : List Departure) 
           not_last true p n = absurd (let P : ⊥ = cc in P)
           not_last false p n = refl
 
-      pub packed : (p : OutPacket) (more : List OutPacket) → Some p ≡ left_with t captures (get_or sent k e) → more ≡ packets ++ p ∷ [] → All (λ p. length p.body ≤ 262144) more → SoFar t captures sent output (k + 1) joiner_new more
+      pub packed : (p : OutPacket) (more : List OutPacket) → Some p ≡ left_with t captures (get_or sent k e) →
+          more ≡ packets ++ p ∷ [] → All (λ p. length p.body ≤ 262144) more → SoFar t captures sent output (k + 1)
+          joiner_new more
       packed p more some pushed small =
           let found = is_last (get_or sent k e).queued.cell.last p (leaving t captures (get_or sent k e)) some in
           record {
             inputs = inputs ∙ so_far.inputs;
             classes = classes ∙ so_far.classes;
             open_packets = open_next;
-            made = one_packed t captures sent output k e inside packets more p (ends true found.0) found.1 so_far.made pushed;
+            made =
+                one_packed t captures sent output k e inside packets more p (ends true found.0) found.1 so_far.made
+                pushed;
             small = small;
           }
         where
@@ -161,7 +216,10 @@ none_out : (t : Tables) (captures : List (List Captured)) (output : ℕ) → [] 
 unfolding packets_out
 none_out t captures output = refl
 
-pub at_first : (t : Tables) (captures : List (List Captured)) (sent : List Departure) (output : ℕ) (joiner : JoinerView) (packets : List OutPacket) → joiner.inputs ≡ length captures → joiner.classes ≡ length t.setup.classes → ((i c : ℕ) → open_at joiner i c ≡ None) → packets ≡ [] → All (λ p. length p.body ≤ 262144) packets → SoFar t captures sent output 0 joiner packets
+pub at_first : (t : Tables) (captures : List (List Captured)) (sent : List Departure) (output : ℕ) (joiner : JoinerView)
+    (packets : List OutPacket) → joiner.inputs ≡ length captures → joiner.classes ≡ length t.setup.classes →
+    ((i c : ℕ) → open_at joiner i c ≡ None) → packets ≡ [] → All (λ p. length p.body ≤ 262144) packets → SoFar t
+    captures sent output 0 joiner packets
 at_first t captures sent output joiner packets inputs classes none nothing small = record {
   inputs = inputs;
   classes = classes;
@@ -170,9 +228,12 @@ at_first t captures sent output joiner packets inputs classes none nothing small
   small = small;
 }
 
-none_of : (p : Departure → Bool) (xs : List Departure) → ((k : ℕ) (e : Departure) → k < length xs → p (get_or xs k e) ≡ false) → filter p xs ≡ []
+none_of : (p : Departure → Bool) (xs : List Departure) → ((k : ℕ) (e : Departure) → k < length xs → p (get_or xs k e)
+    ≡ false) → filter p xs ≡ []
 none_of p [] h = refl
-none_of p (x ∷ xs) h = cond-false (p x) (x ∷ filter p xs) (filter p xs) (h 0 x (omega arith)) ∙ none_of p xs (λ k e l. h (suc k) e (omega arith))
+none_of p (x ∷ xs) h =
+    cond-false (p x) (x ∷ filter p xs) (filter p xs) (h 0 x (omega arith))
+    ∙ none_of p xs (λ k e l. h (suc k) e (omega arith))
 
 -- at what is no port nothing departs
 pub nowhere : (t : Tables) (captures : List (List Captured)) (sent : List Departure) (output : ℕ) → AreTables t →
@@ -185,4 +246,5 @@ nowhere t captures sent output are many whole none =
     (λ k e inside.
     let d : Departure = get_or sent k e in
     let at_port : d.output < ports_of t.setup = departed_output t captures sent are many whole k e inside in
-    and_left (d.output == output) d.queued.cell.last (ne_eqb d.output output (λ (same : d.output ≡ output). absurd (omega arith)))))
+    and_left (d.output == output) d.queued.cell.last (ne_eqb d.output output
+    (λ (same : d.output ≡ output). absurd (omega arith)))))

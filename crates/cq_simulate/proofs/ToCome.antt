@@ -1,6 +1,6 @@
--- What is still to come. The first arrival of a slot from this one on is the same among all arrivals as among those that are still to
--- come. So in any slots from this one on no more cells come than are to come, and no more for an output or at an input than are to
--- come for it or at it.
+-- What is still to come. The first arrival of a slot from this one on is the same among all arrivals as among those
+-- that are still to come. So in any slots from this one on no more cells come than are to come, and no more for an
+-- output or at an input than are to come for it or at it.
 use Rattle.std.proofs.Common.{◌≡◌, ℕ, zero, suc, ◌+◌, ◌≤◌, Bool, cond, List, [], ◌∷◌, ◌++◌, length, map, Option, Some, refl, sym, ap, ◌∙◌, arith}
 use Rattle.std.specs.Prelude.{◌==◌, find, nat_le}
 use Rattle.std.specs.List.{range_with_len}
@@ -41,7 +41,8 @@ places_kept : (s t : ℕ) → s ≤ t → (came : List Arrival) (a n : ℕ) →
     map (arriving_at (to_come s came) t) (range_with_len a n) ≡ map (arriving_at came t) (range_with_len a n)
 places_kept s t le came a zero = refl
 places_kept s t le came a (suc n) =
-    ap (λ (o : Option Cell). o ∷ map (arriving_at (to_come s came) t) (range_with_len (a + 1) n)) (at_kept s t a le came)
+    ap (λ (o : Option Cell). o ∷ map (arriving_at (to_come s came) t) (range_with_len (a + 1) n))
+    (at_kept s t a le came)
     ∙ ap (λ (l : List (Option Cell)). arriving_at came t a ∷ l) (places_kept s t le came (a + 1) n)
 
 arriving_kept : (s t : ℕ) → s ≤ t → (came : List Arrival) (inputs : ℕ) → inputs ≡ 64 →
@@ -91,7 +92,8 @@ come_few s n came =
     let few = come_count-first x (s + n) in
     omega arith
 
-pub for_few : (j s n : ℕ) (came : List Arrival) → come_for j (arriving_from came s n) ≤ number_of (is_to j) (to_come s came)
+pub for_few : (j s n : ℕ) (came : List Arrival) → come_for j (arriving_from came s n) ≤ number_of (is_to j)
+    (to_come s came)
 for_few j s n came =
     let x = to_come s came in
     let kept : come_for j (arriving_from x s n) ≡ come_for j (arriving_from came s n) =
@@ -110,7 +112,8 @@ total_behind f a zero n b k e g =
     let same : total f b n ≡ total f a k = ap (λ (x : ℕ). total f x n) at ∙ ap (λ (x : ℕ). total f a x) long in
     omega arith
 total_behind f a (suc m) n b zero e g = absurd (omega arith)
-total_behind f a (suc m) n b (suc k) e g = let rest = total_behind f (a + 1) m n b k (omega arith) (omega arith) in omega arith
+total_behind f a (suc m) n b (suc k) e g =
+    let rest = total_behind f (a + 1) m n b k (omega arith) (omega arith) in omega arith
 
 found_kept : (s t k : ℕ) → s ≤ t → (came : List Arrival) → found (to_come s came) t k ≡ found came t k
 unfolding found

@@ -19,6 +19,7 @@ use Rattle.cq_route.specs.declared.tables.Tables.{Tables}
 use Rattle.cq_scfq.specs.Disciplines.{machines_of, openings_of}
 use Rattle.cq_simulate.specs.IdealRuns.{ran_ideal}
 use Rattle.cq_simulate.specs.declared.fabric_run.FabricRun.{FabricRun}
+use Rattle.cq_simulate.specs.declared.fabric_run.PackedFabricRun.{PackedFabricRun}
 
 -- the records of the whole run, from the empty fabric on up to the last slot in which a cell arrives, waits or leaves, with the
 -- input-best matchings. There is one such list at most (`limited_runs_end_together` of cq_laws)
@@ -41,6 +42,10 @@ pub record IsKeptOf (t : Tables) (came : List Arrival) (run : FabricRun) : Type 
   pub note : run.note.items ≡ transfers_of_run (slots_in records)
   pub figures : run.figures ≡ figures_of (ports_of t.setup) (slots_in records)
   pub refused : run.refused.items ≡ refused_counts t.limits (refused_in_run records)
+
+-- a run whose departures are packed, as it is
+abbrev pub unpacked_run : PackedFabricRun → FabricRun
+unpacked_run run = record { sent = run.sent; note = run.note; figures = run.figures; refused = run.refused }
 
 -- after the arrivals of each slot every cell that waits at an input has slack 0 at least: no more cells stand ahead of it in
 -- its list than more urgent cells wait at its output

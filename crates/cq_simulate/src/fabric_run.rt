@@ -1,18 +1,18 @@
 //! The run of the fabric.
-ghost use Rattle.std.specs.Prelude.{◌≡◌, ◌↔◌, ◌≤◌, IsTrue, false, IfOk, IfErr, Ok, OnOk, map};
+ghost use Rattle.std.specs.Prelude.{◌≡◌, ◌↔◌, ◌≤◌, IsTrue, false, IfOk, IfErr, Ok, OnOk, [], length, map};
 ghost use Rattle.cq_base.specs.Arriving.{end_of};
 ghost use Rattle.cq_cells.specs.Traffic.{IsTraffic, IsShort};
 ghost use Rattle.cq_laws.specs.Fabric.{IsEmptyFabric};
 ghost use Rattle.cq_route.specs.Tables.{AreTables, classes_of, ports_of};
-ghost use Rattle.cq_simulate.specs.FabricRuns.{IsKeptOf};
+ghost use Rattle.cq_simulate.specs.FabricRuns.{IsKeptOf, unpacked_run};
 ghost use Rattle.cq_simulate.specs.IdealRuns.{ideal_departures, IsRefusalOf};
 ghost use Rattle.cq_simulate.specs.GoingOn.{HasRunOn, IsReadyOn, StopsOn};
 ghost use Rattle.cq_simulate.specs.Stretch.{FabricHasRested};
 ghost use Rattle.cq_traffic.specs.Stretch.{IsQuiet};
 
 use crate::RunRefusal;
-use cq_base::{Departure, Figures, Room, Slot, TagFault, Transfer};
-use cq_cells::{Nearby, Schedule};
+use cq_base::{Departure, Departures, Figures, Room, Slot, TagFault, Transfer};
+use cq_cells::{Coming, Schedule};
 use cq_crew::Gate;
 use cq_engine::{Engine, Refused};
 use cq_rank::Rank;
@@ -27,6 +27,19 @@ use std::thread::Threads;
 pub struct FabricRun {
     /// The departures, in order of slot, then output.
     pub sent: Room<Departure>,
+    /// The transfers, in order of slot, then phase, then input.
+    pub note: Room<Transfer>,
+    /// What was seen of the run.
+    pub figures: Figures,
+    /// How many packets and cells were refused, at each output that has a limit, in order of output.
+    pub refused: Vec<Refused>,
+}
+
+/// What the fabric did, with its departures packed.
+#[derive(Drop)]
+pub struct PackedFabricRun {
+    /// The departures, in order of slot, then output.
+    pub sent: Departures,
     /// The transfers, in order of slot, then phase, then input.
     pub note: Room<Transfer>,
     /// What was seen of the run.
@@ -57,12 +70,44 @@ pub fn run_fabric<R: Threads + Sync, G: Gate>(
     ensures as_ideal { IfOk result (λ run. ideal_departures tables.now schedule.now.came ≡ Ok run.sent.items) }
     ensures refused { IfErr result (IsRefusalOf (ideal_departures tables.now schedule.now.came)) }
 {
+    let run = run_fabric_packed(rt, alloc, tables, schedule, gate)?;
+    let PackedFabricRun {
+        sent,
+        note,
+        figures,
+        refused,
+    } = run;
+    let room = sent.into_room(alloc)?;
+    Ok(FabricRun {
+        sent: room,
+        note,
+        figures,
+        refused,
+    })
+}
+
+/// Does what [`run_fabric`] does, and packs the departures. Its errors are the same.
+pub fn run_fabric_packed<R: Threads + Sync, G: Gate>(
+    rt: &R,
+    alloc: Global,
+    tables: &Tables,
+    schedule: &Schedule,
+    gate: &G,
+) -> Result<PackedFabricRun, RunRefusal>
+    requires tables { AreTables tables.now }
+    requires ports { schedule.now.ports ≡ ports_of tables.now.setup }
+    requires traffic { IsTraffic (ports_of tables.now.setup) (classes_of tables.now.setup) schedule.now.came }
+    requires short { IsShort schedule.now.came }
+    ensures run { IfOk result (λ run. IsKeptOf tables.now schedule.now.came (unpacked_run run)) }
+    ensures as_ideal { IfOk result (λ run. ideal_departures tables.now schedule.now.came ≡ Ok run.sent.items) }
+    ensures refused { IfErr result (IsRefusalOf (ideal_departures tables.now schedule.now.came)) }
+{
     let ranks = Discipline::all(alloc, &tables.setup)?;
     let ports = ranks.len() as u16;
     let from_inputs = rooms_from(alloc, schedule, ports)?;
     let to_outputs = rooms_to(alloc, schedule, ports)?;
     let total = schedule.total();
-    let mut sent = Room::new(alloc, total + ports as u64)?;
+    let mut sent = Departures::new(alloc, total + ports as u64)?;
     let mut note = Room::new(alloc, total + 2 * ports as u64)?;
     let mut engine = Engine::new(
         alloc,
@@ -72,9 +117,19 @@ pub fn run_fabric<R: Threads + Sync, G: Gate>(
         tables.limits.as_slice(),
         tables.workers,
     )?;
-    run_slots(rt, alloc, &mut engine, schedule, gate, &mut sent, &mut note)?;
+    let mut leaving = Room::new(alloc, ports as u64)?;
+    run_slots(
+        rt,
+        alloc,
+        &mut engine,
+        schedule,
+        gate,
+        &mut leaving,
+        &mut sent,
+        &mut note,
+    )?;
     let seen = engine.into_seen();
-    Ok(FabricRun {
+    Ok(PackedFabricRun {
         sent,
         note,
         figures: seen.figures,
@@ -108,26 +163,31 @@ fn skip<R: Rank>(engine: &mut Engine<R>, schedule: &Schedule, slot: Slot) -> Slo
     next
 }
 
-// Runs a fabric on over all cells that are still to come. The error is its first tag fault.
+// Runs a fabric on over all cells that are still to come. What is sent in a slot stands in a list for as many as there
+// are ports, until it is packed. The error is the first tag fault.
 pub fn run_slots<T: Threads + Sync, R: Rank, G: Gate>(
     rt: &T,
     alloc: Global,
     engine: &mut Engine<R>,
     schedule: &Schedule,
     gate: &G,
-    sent: &mut Room<Departure>,
+    leaving: &mut Room<Departure>,
+    sent: &mut Departures,
     note: &mut Room<Transfer>,
 ) -> Result<(), TagFault>
     requires ready { IsReadyOn (map R.machine engine.old.fixed) schedule.now.came engine.old sent.old note.old }
+    requires none { leaving.old.items ≡ [] }
+    requires few { leaving.old.spare ≡ length engine.old.fixed }
     ensures run { OnOk result (HasRunOn (map R.machine engine.old.fixed) schedule.now.came engine.old engine.new sent.old sent.new note.old note.new) }
     ensures fault { IfErr result (StopsOn (map R.machine engine.old.fixed) schedule.now.came engine.old) }
 {
-    let mut near = Nearby::nowhere();
+    let mut coming = Coming::none();
     let mut slot = engine.next();
     'slots: while !is_over(engine, schedule, slot) {
         slot = skip(engine, schedule, slot);
-        let arrivals = schedule.arrivals_near(slot, &mut near);
-        engine.slot(rt, alloc, slot, &arrivals, gate, sent, note)?;
+        schedule.arrive(slot, &mut coming);
+        engine.slot(rt, alloc, slot, coming.arrivals(), gate, leaving, note)?;
+        sent.take_all(leaving);
         slot += 1;
     }
     Ok(())

@@ -1,5 +1,5 @@
 //! The run of the ideal switch.
-ghost use Rattle.std.specs.Prelude.{◌≡◌, ◌↔◌, ◌+◌, ◌<◌, ◌≤◌, ◌^◌, IsTrue, false, All, Ok, Err, IfOk, IfErr, OnOk, [], map, max};
+ghost use Rattle.std.specs.Prelude.{◌≡◌, ◌↔◌, ◌+◌, ◌<◌, ◌≤◌, ◌^◌, IsTrue, false, All, Ok, Err, IfOk, IfErr, OnOk, [], length, map, max};
 ghost use Rattle.cq_base.specs.Arriving.{end_of, traffic_of};
 ghost use Rattle.cq_cells.specs.Traffic.{IsTraffic, IsShort};
 ghost use Rattle.cq_ideal.specs.Admission.{NoLimits};
@@ -14,8 +14,8 @@ ghost use Rattle.cq_simulate.specs.Stretch.{HasRested};
 ghost use Rattle.cq_traffic.specs.Stretch.{IsQuiet};
 
 use crate::RunRefusal;
-use cq_base::{Departure, Room, Slot, TagFault};
-use cq_cells::{Nearby, Schedule};
+use cq_base::{Departure, Departures, Room, Slot, TagFault};
+use cq_cells::{Coming, Schedule};
 use cq_ideal::Ideal;
 use cq_rank::Rank;
 use cq_route::Tables;
@@ -54,14 +54,34 @@ pub fn run_ideal(
     ensures ends_with_a_departure { NoLimits tables.now.limits → IfOk result (λ run. slots_ran tables.now schedule.now.came ≡ run.slots) }
     ensures refused { IfErr result (IsRefusalOf (ideal_departures tables.now schedule.now.came)) }
 {
+    let packed = run_ideal_packed(alloc, tables, schedule)?;
+    let sent = packed.into_room(alloc)?;
+    let slots = slots_of(sent.items());
+    Ok(IdealRun { sent, slots })
+}
+
+/// The departures of [`run_ideal`], packed, with its errors.
+pub fn run_ideal_packed(
+    alloc: Global,
+    tables: &Tables,
+    schedule: &Schedule,
+) -> Result<Departures, RunRefusal>
+    requires tables { AreTables tables.now }
+    requires ports { schedule.now.ports ≡ ports_of tables.now.setup }
+    requires traffic { IsTraffic (ports_of tables.now.setup) (classes_of tables.now.setup) schedule.now.came }
+    requires short { IsShort schedule.now.came }
+    ensures sent { IfOk result (λ sent. ideal_departures tables.now schedule.now.came ≡ Ok sent.items) }
+    ensures early { IfOk result (λ sent. slots_of sent.items ≤ 2 ^ 63 + 2 ^ 35) }
+    ensures refused { IfErr result (IsRefusalOf (ideal_departures tables.now schedule.now.came)) }
+{
     let ranks = Discipline::all(alloc, &tables.setup)?;
     let ports = ranks.len() as u16;
     let rooms = rooms_to(alloc, schedule, ports)?;
-    let mut sent = Room::new(alloc, schedule.total() + ports as u64)?;
+    let mut sent = Departures::new(alloc, schedule.total() + ports as u64)?;
     let mut ideal = Ideal::new(alloc, ranks, rooms.as_slice(), tables.limits.as_slice())?;
-    run_slots(&mut ideal, schedule, &mut sent)?;
-    let slots = slots_of(sent.items());
-    Ok(IdealRun { sent, slots })
+    let mut leaving = Room::new(alloc, ports as u64)?;
+    run_slots(&mut ideal, schedule, &mut leaving, &mut sent)?;
+    Ok(sent)
 }
 
 // Whether no cell arrives any more and none waits.
@@ -90,25 +110,30 @@ fn skip<R: Rank>(ideal: &mut Ideal<R>, schedule: &Schedule, slot: Slot) -> Slot
     next
 }
 
-// Runs a switch over all cells that arrive. The error is its first tag fault.
+// Runs a switch over all cells that arrive. What is sent in a slot stands in a list for as many as there are ports, until it
+// is packed. The error is the switch's first tag fault.
 fn run_slots<R: Rank>(
     ideal: &mut Ideal<R>,
     schedule: &Schedule,
-    sent: &mut Room<Departure>,
+    leaving: &mut Room<Departure>,
+    sent: &mut Departures,
 ) -> Result<(), TagFault>
     requires ready { IsReady (map R.machine ideal.old.fixed) schedule.now.came ideal.old sent.old }
+    requires none { leaving.old.items ≡ [] }
+    requires few { leaving.old.spare ≡ length ideal.old.fixed }
     ensures sent { OnOk result (departures_limited (limited_run ideal.old.limits (map R.machine ideal.old.fixed) 0
         (traffic_of schedule.now.came) (marked_state ideal.old)) ≡ Ok sent.new.items) }
     ensures fault { IfErr result (λ fault. departures_limited (limited_run ideal.old.limits (map R.machine
         ideal.old.fixed) 0 (traffic_of schedule.now.came) (marked_state ideal.old)) ≡ Err fault) }
     ensures early { OnOk result (slots_of sent.new.items ≤ 2 ^ 63 + 2 ^ 35) }
 {
-    let mut near = Nearby::nowhere();
+    let mut coming = Coming::none();
     let mut slot = 0;
     'slots: while !is_over(ideal, schedule, slot) {
         slot = skip(ideal, schedule, slot);
-        let arrivals = schedule.arrivals_near(slot, &mut near);
-        ideal.slot(slot, &arrivals, sent)?;
+        schedule.arrive(slot, &mut coming);
+        ideal.slot(slot, coming.arrivals(), leaving)?;
+        sent.take_all(leaving);
         slot += 1;
     }
     Ok(())

@@ -11,8 +11,8 @@ mod parted_run;
 mod refusal;
 
 pub use cq_engine::Refused;
-pub use fabric_run::{FabricRun, run_fabric};
-pub use ideal_run::{IdealRun, run_ideal};
+pub use fabric_run::{FabricRun, PackedFabricRun, run_fabric, run_fabric_packed};
+pub use ideal_run::{IdealRun, run_ideal, run_ideal_packed};
 pub use idle::outputs_send_once_a_slot;
 pub use laws::{
     each_packet_is_written_or_counted, fabric_sends_as_the_ideal_switch, whole_packets_arrive,

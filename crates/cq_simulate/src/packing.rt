@@ -6,7 +6,7 @@ ghost use Rattle.cq_simulate.specs.Packets.{ArePacked, LeaveWhole};
 ghost use Rattle.cq_simulate.specs.Pieces.{CanTake, IsEmptied, Took};
 
 use crate::packets::take;
-use cq_base::{Departure, NoMemory, Room, Supply};
+use cq_base::{Departure, Departures, NoMemory};
 use cq_pcap::{Capture, OutPacket};
 use cq_reasm::Joiner;
 use cq_route::Tables;
@@ -24,7 +24,7 @@ pub struct Packing {
 /// departures are used up while the packets grow, so that their memory serves for them. The error is want of memory.
 pub fn packets_of_all(
     alloc: Global,
-    sent: Room<Departure>,
+    sent: Departures,
     captures: &[Capture],
     tables: &Tables,
     t0: u64,
@@ -38,8 +38,9 @@ pub fn packets_of_all(
     let ports = captures.len() as u16;
     let classes = tables.setup.classes.as_slice().len() as u16;
     let mut places = emptied(alloc, ports, classes)?;
-    let mut left = Supply::of(sent.into_vec());
-    'departures: while let Some(departure) = left.pop_first() {
+    let mut left = sent.into_supply();
+    'departures: while let Some(packed) = left.pop_first() {
+        let departure = packed.departure();
         places[departure.output as usize].take(&departure, captures, tables, t0)?;
     }
     Ok(places)

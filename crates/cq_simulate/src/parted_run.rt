@@ -8,12 +8,13 @@ ghost use Rattle.cq_route.specs.Tables.{AreTables, classes_of, ports_of};
 ghost use Rattle.cq_scfq.specs.Disciplines.{openings_of};
 ghost use Rattle.cq_simulate.specs.GoingOn.{HasPartedTo, IsReadyPart, NoneCome, StopsWithin};
 ghost use Rattle.cq_simulate.specs.PartedRuns.{CanBeTakenUp, IsPartFault, IsResumeFault, kept_of, taken_at};
+ghost use Rattle.cq_simulate.specs.FabricRuns.{unpacked_run};
 ghost use Rattle.cq_simulate.specs.Stretch.{FabricHasRested};
 
 use crate::RunRefusal;
-use crate::fabric_run::{FabricRun, run_slots};
-use cq_base::{Departure, NoMemory, Room, Slot, TagFault, Transfer};
-use cq_cells::{Nearby, Schedule};
+use crate::fabric_run::{PackedFabricRun, run_slots};
+use cq_base::{Departure, Departures, NoMemory, Room, Slot, TagFault, Transfer};
+use cq_cells::{Coming, Schedule};
 use cq_crew::Gate;
 use cq_engine::Engine;
 use cq_rank::Rank;
@@ -87,7 +88,7 @@ pub fn part_fabric<R: Threads + Sync, G: Gate>(
 }
 
 /// Runs the fabric on from a state that was taken up, until no cell arrives any more and none waits. What was kept before
-/// stands ahead of what this run keeps.
+/// stands ahead of what this run keeps. The departures are packed.
 ///
 /// - `Tag`: a rank of these slots does not fit 128 bits.
 /// - `NoMemory`: there was not the memory for the lists, the buffers, the departures and the transfers.
@@ -98,13 +99,13 @@ pub fn resume_fabric<R: Threads + Sync, G: Gate>(
     schedule: &Schedule,
     taken: &Taken,
     gate: &G,
-) -> Result<FabricRun, RunRefusal>
+) -> Result<PackedFabricRun, RunRefusal>
     requires tables { AreTables tables.now }
     requires ports { schedule.now.ports ≡ ports_of tables.now.setup }
     requires traffic { IsTraffic (ports_of tables.now.setup) (classes_of tables.now.setup) schedule.now.came }
     requires short { IsShort schedule.now.came }
     requires sound { CanBeTakenUp (switch_of tables.now schedule.now) taken.now }
-    ensures run { IfOk result (λ run. IsResumed (switch_of tables.now schedule.now) taken.now (kept_of run)) }
+    ensures run { IfOk result (λ run. IsResumed (switch_of tables.now schedule.now) taken.now (kept_of (unpacked_run run))) }
     ensures refused { IfErr result (IsResumeFault (switch_of tables.now schedule.now) taken.now) }
 {
     let ranks = Discipline::all(alloc, &tables.setup)?;
@@ -112,7 +113,7 @@ pub fn resume_fabric<R: Threads + Sync, G: Gate>(
     let from_inputs = rooms_from(alloc, schedule, ports)?;
     let to_outputs = rooms_to(alloc, schedule, ports)?;
     let total = schedule.total();
-    let mut sent = holding(alloc, taken.sent.as_slice(), total + ports as u64)?;
+    let mut sent = packed_holding(alloc, taken.sent.as_slice(), total + ports as u64)?;
     let mut note = holding(alloc, taken.note.as_slice(), total + 2 * ports as u64)?;
     let mut engine = Engine::thaw(
         alloc,
@@ -123,9 +124,19 @@ pub fn resume_fabric<R: Threads + Sync, G: Gate>(
         tables.workers,
         &taken.frozen,
     )?;
-    run_slots(rt, alloc, &mut engine, schedule, gate, &mut sent, &mut note)?;
+    let mut leaving = Room::new(alloc, ports as u64)?;
+    run_slots(
+        rt,
+        alloc,
+        &mut engine,
+        schedule,
+        gate,
+        &mut leaving,
+        &mut sent,
+        &mut note,
+    )?;
     let seen = engine.into_seen();
-    Ok(FabricRun {
+    Ok(PackedFabricRun {
         sent,
         note,
         figures: seen.figures,
@@ -147,6 +158,21 @@ fn holding<T: Copy>(alloc: Global, items: &[T], spare: u64) -> Result<Room<T>, N
         room.push(items[at]);
     }
     Ok(room)
+}
+
+// These departures, packed, with room for so many more. The error is want of memory, as that of `holding`.
+fn packed_holding(alloc: Global, items: &[Departure], spare: u64) -> Result<Departures, NoMemory>
+    ensures items { IfOk result (λ departures. departures.items ≡ items.now) }
+    ensures spare { IfOk result (λ departures. departures.spare ≡ spare) }
+{
+    let held = items.len() as u64;
+    if spare > u64::MAX - held {
+        return Err(NoMemory);
+    }
+    let mut room = holding(alloc, items, 0)?;
+    let mut departures = Departures::new(alloc, held + spare)?;
+    departures.take_all(&mut room);
+    Ok(departures)
 }
 
 // The slot up to which no cell arrives: that of the next arrival, but no later than the last.
@@ -196,15 +222,16 @@ fn run_before<T: Threads + Sync, R: Rank, G: Gate>(
     ensures run { OnOk result (HasPartedTo (map R.machine engine.old.fixed) schedule.now.came last engine.old engine.new sent.old sent.new note.old note.new) }
     ensures fault { IfErr result (StopsWithin (map R.machine engine.old.fixed) schedule.now.came engine.old (last - engine.old.next)) }
 {
-    let mut near = Nearby::nowhere();
+    let mut coming = Coming::none();
     let mut slot = engine.next();
     'slots: while slot < last {
         slot = skip_before(engine, schedule, slot, last);
         if slot >= last {
             return Ok(());
         }
-        let arrivals = schedule.arrivals_near(slot, &mut near);
-        engine.slot(rt, alloc, slot, &arrivals, gate, sent, note)?;
+        schedule.arrive(slot, &mut coming);
+        let arrivals = coming.arrivals();
+        engine.slot(rt, alloc, slot, arrivals, gate, sent, note)?;
         slot += 1;
     }
     Ok(())

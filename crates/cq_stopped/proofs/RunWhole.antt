@@ -1,5 +1,5 @@
--- The crossbar run of a configured switch is its whole run from the opening states on, and what it keeps is what that keeps:
--- there are as many machines as ports, and figures and counts are folded from nothing.
+-- The crossbar run of a configured switch is its whole run from the opening states on, and what it keeps is what that
+-- keeps: there are as many machines as ports, and figures and counts are folded from nothing.
 use Rattle.std.proofs.Common.{◌≡◌, ◌∙◌, ℕ, List, [], length, sym, ap, subst, arith}
 use Rattle.std.specs.Prelude.{fold}
 use Rattle.std.proofs.lemmas.List.{length-map}

@@ -6,16 +6,19 @@ use Rattle.cq_resume.proofs.floors.are_below_floors.Goals as goal
 pub returns-then-not-is_below_floor : goal.returns-then-not-is_below_floor
 returns-then-not-is_below_floor c =
     let inside = c.places-test.true in
-    all_fail (StandsBelow c.args.setup.now c.args.ranks.now) c.args.cells.now c.places.at _ c.is_below_floor.result (omega arith)
+    all_fail (StandsBelow c.args.setup.now c.args.ranks.now) c.args.cells.now c.places.at _ c.is_below_floor.result
+    (omega arith)
     c.is_below_floor.ensures c.if-not-is_below_floor.true
 
 pub places-preserved : goal.places-preserved
 places-preserved c =
     let inside = c.places-test.true in
-    all_more (StandsBelow c.args.setup.now c.args.ranks.now) c.args.cells.now c.places.at _ (omega arith) c.places.invariant
+    all_more (StandsBelow c.args.setup.now c.args.ranks.now) c.args.cells.now c.places.at _ (omega arith)
+    c.places.invariant
     (c.is_below_floor.ensures.0 c.if-not-is_below_floor.false)
 
 pub returns : goal.returns
 returns c =
     let past = c.places-test.false in
-    all_hold (StandsBelow c.args.setup.now c.args.ranks.now) c.args.cells.now c.places.at (omega arith) c.places.invariant
+    all_hold (StandsBelow c.args.setup.now c.args.ranks.now) c.args.cells.now c.places.at (omega arith)
+    c.places.invariant

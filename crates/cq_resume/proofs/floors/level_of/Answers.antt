@@ -9,7 +9,8 @@ use Rattle.cq_scfq.specs.Disciplines.{machine_of}
 use Rattle.cq_resume.proofs.floors.level_of.Goals as goal
 
 -- every discipline takes the level of a class from its row
-level_is : (kind : Kind) (rows : List ClassRow) (class : ℕ) → (machine_of kind rows).level class ≡ (row_at rows class).level
+level_is : (kind : Kind) (rows : List ClassRow) (class : ℕ) →
+    (machine_of kind rows).level class ≡ (row_at rows class).level
 level_is FirstCome rows class = refl
 level_is Priority rows class = refl
 level_is Fair rows class = refl

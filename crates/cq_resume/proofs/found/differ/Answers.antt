@@ -9,17 +9,13 @@ places-init c = pairs_first IsNameBefore c.args.names.now
 
 pub returns-then-not-is_before : goal.returns-then-not-is_before
 returns-then-not-is_before c =
-    let inside = c.places-test.true in
-    let least = c.places.auto.at in
-    pairs_fail IsNameBefore c.args.names.now c.places.at _ c.is_before.result (omega arith)
-    (omega arith) c.is_before.ensures c.if-not-is_before.true
+    pairs_fail IsNameBefore c.args.names.now c.places.at _ c.is_before.result c.places.auto.at
+    c.places-test.true c.is_before.ensures c.if-not-is_before.true
 
 pub places-preserved : goal.places-preserved
 places-preserved c =
-    let inside = c.places-test.true in
-    let least = c.places.auto.at in
-    pairs_more IsNameBefore c.args.names.now name_on c.places.at _ (omega arith) (omega arith) c.places.invariant
-    (c.is_before.ensures.0 c.if-not-is_before.false)
+    pairs_more IsNameBefore c.args.names.now name_on c.places.at _ c.places.auto.at c.places-test.true
+    c.places.invariant (c.is_before.ensures.0 c.if-not-is_before.false)
 
 pub returns : goal.returns
 returns c =

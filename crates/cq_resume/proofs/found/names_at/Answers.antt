@@ -17,8 +17,10 @@ returns c =
     let rising = not_falling key xs
     (weaker_pairs IsNameBefore (λ (a b : Name). a.queued.key.input ≤ b.queued.key.input) name_inputs xs c.requires) in
     let to = IsPartitionPoint-from_clause (λ (q : Name). leb q.queued.key.input t) xs end
-    c.partition_point-end.ensures.partitioned (IsPartitionedBy-leb key xs t rising) (λ a r q k. search (rules, tests)) in
-    let from = IsPartitionPoint-from_clause (λ (q : Name). ltb q.queued.key.input t) (take end xs) c.partition_point-start.result
+    c.partition_point-end.ensures.partitioned (IsPartitionedBy-leb key xs t rising)
+    (λ a r q k. search (rules, tests)) in
+    let from =
+    IsPartitionPoint-from_clause (λ (q : Name). ltb q.queued.key.input t) (take end xs) c.partition_point-start.result
     c.partition_point-start.ensures.partitioned
     (IsPartitionedBy-ltb key (take end xs) t (IsNonDecreasingBy-take key end xs rising))
     (λ a r q k. search (rules, tests)) in

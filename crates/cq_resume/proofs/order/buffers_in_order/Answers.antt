@@ -9,16 +9,12 @@ places-init c = pairs_first IsBufferedBefore c.args.buffered.now
 
 pub returns-then-not-is_buffered_before : goal.returns-then-not-is_buffered_before
 returns-then-not-is_buffered_before c =
-    let inside = c.places-test.true in
-    let least = c.places.auto.at in
-    pairs_fail IsBufferedBefore c.args.buffered.now c.places.at _ c.is_buffered_before.result (omega arith)
-    (omega arith) c.is_buffered_before.ensures c.if-not-is_buffered_before.true
+    pairs_fail IsBufferedBefore c.args.buffered.now c.places.at _ c.is_buffered_before.result c.places.auto.at
+    c.places-test.true c.is_buffered_before.ensures c.if-not-is_buffered_before.true
 
 pub places-preserved : goal.places-preserved
 places-preserved c =
-    let inside = c.places-test.true in
-    let least = c.places.auto.at in
-    pairs_more IsBufferedBefore c.args.buffered.now buffered_on c.places.at _ (omega arith) (omega arith)
+    pairs_more IsBufferedBefore c.args.buffered.now buffered_on c.places.at _ c.places.auto.at c.places-test.true
     c.places.invariant (c.is_buffered_before.ensures.0 c.if-not-is_buffered_before.false)
 
 pub returns : goal.returns

@@ -9,17 +9,13 @@ places-init c = pairs_first IsNoLaterInput c.args.listed.now
 
 pub returns-then-not-is_no_later : goal.returns-then-not-is_no_later
 returns-then-not-is_no_later c =
-    let inside = c.places-test.true in
-    let least = c.places.auto.at in
-    pairs_fail IsNoLaterInput c.args.listed.now c.places.at _ c.is_no_later.result (omega arith)
-    (omega arith) c.is_no_later.ensures c.if-not-is_no_later.true
+    pairs_fail IsNoLaterInput c.args.listed.now c.places.at _ c.is_no_later.result c.places.auto.at
+    c.places-test.true c.is_no_later.ensures c.if-not-is_no_later.true
 
 pub places-preserved : goal.places-preserved
 places-preserved c =
-    let inside = c.places-test.true in
-    let least = c.places.auto.at in
-    pairs_more IsNoLaterInput c.args.listed.now input_on c.places.at _ (omega arith) (omega arith) c.places.invariant
-    (c.is_no_later.ensures.0 c.if-not-is_no_later.false)
+    pairs_more IsNoLaterInput c.args.listed.now input_on c.places.at _ c.places.auto.at c.places-test.true
+    c.places.invariant (c.is_no_later.ensures.0 c.if-not-is_no_later.false)
 
 pub returns : goal.returns
 returns c =

@@ -9,17 +9,13 @@ places-init c = pairs_first IsMovedBefore c.args.moved.now
 
 pub returns-then-not-is_moved_before : goal.returns-then-not-is_moved_before
 returns-then-not-is_moved_before c =
-    let inside = c.places-test.true in
-    let least = c.places.auto.at in
-    pairs_fail IsMovedBefore c.args.moved.now c.places.at _ c.is_moved_before.result (omega arith)
-    (omega arith) c.is_moved_before.ensures c.if-not-is_moved_before.true
+    pairs_fail IsMovedBefore c.args.moved.now c.places.at _ c.is_moved_before.result c.places.auto.at
+    c.places-test.true c.is_moved_before.ensures c.if-not-is_moved_before.true
 
 pub places-preserved : goal.places-preserved
 places-preserved c =
-    let inside = c.places-test.true in
-    let least = c.places.auto.at in
-    pairs_more IsMovedBefore c.args.moved.now moved_on c.places.at _ (omega arith) (omega arith) c.places.invariant
-    (c.is_moved_before.ensures.0 c.if-not-is_moved_before.false)
+    pairs_more IsMovedBefore c.args.moved.now moved_on c.places.at _ c.places.auto.at c.places-test.true
+    c.places.invariant (c.is_moved_before.ensures.0 c.if-not-is_moved_before.false)
 
 pub returns : goal.returns
 returns c =

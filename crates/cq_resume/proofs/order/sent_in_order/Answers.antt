@@ -9,17 +9,13 @@ places-init c = pairs_first IsSentBefore c.args.sent.now
 
 pub returns-then-not-is_sent_before : goal.returns-then-not-is_sent_before
 returns-then-not-is_sent_before c =
-    let inside = c.places-test.true in
-    let least = c.places.auto.at in
-    pairs_fail IsSentBefore c.args.sent.now c.places.at _ c.is_sent_before.result (omega arith)
-    (omega arith) c.is_sent_before.ensures c.if-not-is_sent_before.true
+    pairs_fail IsSentBefore c.args.sent.now c.places.at _ c.is_sent_before.result c.places.auto.at
+    c.places-test.true c.is_sent_before.ensures c.if-not-is_sent_before.true
 
 pub places-preserved : goal.places-preserved
 places-preserved c =
-    let inside = c.places-test.true in
-    let least = c.places.auto.at in
-    pairs_more IsSentBefore c.args.sent.now sent_on c.places.at _ (omega arith) (omega arith) c.places.invariant
-    (c.is_sent_before.ensures.0 c.if-not-is_sent_before.false)
+    pairs_more IsSentBefore c.args.sent.now sent_on c.places.at _ c.places.auto.at c.places-test.true
+    c.places.invariant (c.is_sent_before.ensures.0 c.if-not-is_sent_before.false)
 
 pub returns : goal.returns
 returns c =

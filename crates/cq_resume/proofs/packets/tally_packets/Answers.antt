@@ -13,7 +13,8 @@ pub inputs-init : goal.inputs-init
 inputs-init c =
     subst (λ (m : List Bool). Tallied c.args.limits.now c.args.next c.args.schedule.now.came c.args.names.now 0 m
     c.in_ok-refused.refused.items) (sym c.new-marks.ensures.items)
-    (subst (λ (l : List Refused). Tallied c.args.limits.now c.args.next c.args.schedule.now.came c.args.names.now 0 [] l)
+    (subst (λ (l : List Refused). Tallied c.args.limits.now c.args.next c.args.schedule.now.came c.args.names.now 0 []
+    l)
     (sym c.in_ok-refused.ensures)
     (tallied_first c.args.limits.now c.args.next c.args.schedule.now.came c.args.names.now))
 

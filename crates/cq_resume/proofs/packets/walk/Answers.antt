@@ -11,7 +11,8 @@ arrivals-init c =
 pub bounds-limits-cell : goal.bounds-limits-cell
 bounds-limits-cell c =
     let many = c.requires.limits in
-    let low = goes_inside c.args.schedule.now.ports c.args.input c.arrivals.from c.args.next c.args.schedule.now.came _ _
+    let low =
+    goes_inside c.args.schedule.now.ports c.args.input c.arrivals.from c.args.next c.args.schedule.now.came _ _
     c.in-Some.ensures.some c.requires.packets.outputs in
     omega arith
 

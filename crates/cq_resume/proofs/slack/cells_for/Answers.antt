@@ -16,8 +16,10 @@ returns c =
     let rising = not_falling key xs
     (weaker_pairs IsBufferedBefore (λ (a b : Queued). a.cell.output ≤ b.cell.output) output_no_less xs c.requires) in
     let to = IsPartitionPoint-from_clause (λ (q : Queued). leb q.cell.output t) xs end
-    c.partition_point-end.ensures.partitioned (IsPartitionedBy-leb key xs t rising) (λ a r q k. search (rules, tests)) in
-    let from = IsPartitionPoint-from_clause (λ (q : Queued). ltb q.cell.output t) (take end xs) c.partition_point-start.result
+    c.partition_point-end.ensures.partitioned (IsPartitionedBy-leb key xs t rising)
+    (λ a r q k. search (rules, tests)) in
+    let from =
+    IsPartitionPoint-from_clause (λ (q : Queued). ltb q.cell.output t) (take end xs) c.partition_point-start.result
     c.partition_point-start.ensures.partitioned
     (IsPartitionedBy-ltb key (take end xs) t (IsNonDecreasingBy-take key end xs rising))
     (λ a r q k. search (rules, tests)) in

@@ -15,4 +15,5 @@ returns c =
     let at : ℕ → List Queued = λ j. filter (λ q. eqb q.cell.output j) c.args.buffered.now in
     let past = c.outputs-test.false in
     let most = c.outputs.auto.output-end in
-    c.of.ensures ∙ ranged_last at c.outputs.output c.args.ports c.outputs.buffers.items c.outputs.invariant (omega arith)
+    c.of.ensures ∙ ranged_last at c.outputs.output c.args.ports c.outputs.buffers.items c.outputs.invariant
+    (omega arith)

@@ -13,8 +13,10 @@ returns c =
     let end = c.partition_point-end.result in
     let rising = not_falling key xs c.requires in
     let to = IsPartitionPoint-from_clause (λ (q : Queued). leb q.key.input t) xs end
-    c.partition_point-end.ensures.partitioned (IsPartitionedBy-leb key xs t rising) (λ a r q k. search (rules, tests)) in
-    let from = IsPartitionPoint-from_clause (λ (q : Queued). ltb q.key.input t) (take end xs) c.partition_point-start.result
+    c.partition_point-end.ensures.partitioned (IsPartitionedBy-leb key xs t rising)
+    (λ a r q k. search (rules, tests)) in
+    let from =
+    IsPartitionPoint-from_clause (λ (q : Queued). ltb q.key.input t) (take end xs) c.partition_point-start.result
     c.partition_point-start.ensures.partitioned
     (IsPartitionedBy-ltb key (take end xs) t (IsNonDecreasingBy-take key end xs rising))
     (λ a r q k. search (rules, tests)) in

@@ -1,175 +1,18 @@
-use Rattle.std.proofs.Common.{◌≡◌, ℕ, List, [], Option, length, map, refl, ap, sym, ◌∙◌, arith}
-use Rattle.std.specs.List.{range_with_len}
-use Rattle.std.proofs.lemmas.List.{length-map}
-use Rattle.std.proofs.lemmas.List.FromFn.{length-map-range_with_len}
-use Rattle.std.proofs.lemmas.Result.{err_from_is_err_and}
-use Rattle.cq_cells.specs.Traffic.{is_from, is_to, number_of}
-use Rattle.cq_ideal.specs.Refused.{refused_counts}
-use Rattle.cq_scfq.specs.Discipline.{fixed_of, machine_from, state_of}
-use Rattle.cq_simulate.proofs.FabricLaws.{kept_as_ideal}
-use Rattle.cq_simulate.proofs.FabricOpening.{built_for, ideal_of_tables, kept_of, ready_fabric}
-use Rattle.cq_simulate.proofs.Opening.{machine_count}
-use Rattle.cq_simulate.proofs.Onward.{first_fault, has_run, ready_on}
+use Rattle.std.proofs.Common.{ap, sym, ◌∙◌}
+use Rattle.std.specs.Prelude.{Ok}
 use Rattle.cq_simulate.proofs.fabric_run.run_fabric.Goals as goal
-
-pub new-requires-3-clause-from_inputs : goal.new-requires-3-clause-from_inputs
-new-requires-3-clause-from_inputs g c =
-    let f : ℕ → ℕ = λ i. number_of (is_from i) c.args.schedule.now.came in
-    let len : c.len-ports.result ≡ length c.in_ok-ranks.ranks.items = omega
-    (arith, c.len-ports.ensures, c.in_ok-ranks.ranks.ok) in
-    ap (λ (l : List ℕ). length l) (c.as_slice.ensures.value ∙ c.in_ok-from_inputs.ensures)
-    ∙ length-map-range_with_len f 0 c.len-ports.result ∙ len
-
-pub new-requires-3-clause-to_outputs : goal.new-requires-3-clause-to_outputs
-new-requires-3-clause-to_outputs g c =
-    let f : ℕ → ℕ = λ j. number_of (is_to j) c.args.schedule.now.came in
-    let len : c.len-ports.result ≡ length c.in_ok-ranks.ranks.items = omega
-    (arith, c.len-ports.ensures, c.in_ok-ranks.ranks.ok) in
-    ap (λ (l : List ℕ). length l) (c.as_slice-2.ensures.value ∙ c.in_ok-to_outputs.ensures)
-    ∙ length-map-range_with_len f 0 c.len-ports.result ∙ len
-
-pub new-requires-3-clause-limits : goal.new-requires-3-clause-limits
-new-requires-3-clause-limits g c =
-    let setup = c.args.tables.now.setup in
-    let count : length (map fixed_of c.in_ok-ranks.ranks.items) ≡ length setup.kinds =
-    machine_count machine_from (map fixed_of c.in_ok-ranks.ranks.items) setup c.in_ok-ranks.ensures.machines in
-    ap length c.as_slice-3.ensures ∙ c.requires.tables.limits.ports_are ∙ sym count
-    ∙ length-map c.in_ok-ranks.ranks.items fixed_of
-
-pub run_slots-requires-clause-ready : goal.run_slots-requires-clause-ready
-run_slots-requires-clause-ready g c =
-    let items = c.in_ok-ranks.ranks.items in
-    let t = c.args.tables.now in
-    let came = c.args.schedule.now.came in
-    let engine = c.in_ok-engine.engine in
-    let some = c.requires.tables.setup.ports in
-    let len : c.len-ports.result ≡ length items = omega (arith, c.len-ports.ensures, c.in_ok-ranks.ranks.ok) in
-    let from : ℕ → ℕ = λ i. number_of (is_from i) came in
-    let to : ℕ → ℕ = λ j. number_of (is_to j) came in
-    let ready =
-    ready_fabric machine_from t came (length items) (map state_of items) engine
-    (built_for machine_from t (map fixed_of items) (map state_of items) _ c.in_ok-engine.engine
-    c.in_ok-ranks.ensures.machines
-    c.as_slice-3.ensures c.in_ok-engine.ensures.fixed c.in_ok-engine.ensures.limits c.in_ok-engine.ensures.fabric
-    c.in_ok-engine.ensures.marks (length-map items fixed_of))
-    c.in_ok-sent.sent c.in_ok-note.note c.requires.tables.setup
-    (c.in_ok-ranks.ensures.classes (omega arith))
-    c.in_ok-engine.ensures.stopped c.in_ok-engine.ensures.next
-    (c.in_ok-engine.ensures.refused ∙ ap (λ (l : List (Option ℕ)). refused_counts l []) c.as_slice-3.ensures)
-    (c.in_ok-engine.ensures.from_inputs ∙ c.as_slice.ensures.value ∙ c.in_ok-from_inputs.ensures
-    ∙ ap (λ (n : ℕ). map from (range_with_len 0 n)) len)
-    (c.in_ok-engine.ensures.to_outputs ∙ c.as_slice-2.ensures.value ∙ c.in_ok-to_outputs.ensures
-    ∙ ap (λ (n : ℕ). map to (range_with_len 0 n)) len)
-    c.in_ok-engine.ensures.figures
-    c.requires.traffic c.requires.short
-    (omega (arith, c.total-total.ensures.cells, c.total-total.ensures.few))
-    c.in_ok-sent.ensures.items
-    (c.in_ok-sent.ensures.spare ∙ omega (arith, len, c.total-total.ensures.cells))
-    c.in_ok-note.ensures.items
-    (c.in_ok-note.ensures.spare ∙ omega (arith, len, c.total-total.ensures.cells)) in
-    λ _ _. ready_on (map machine_from engine.fixed) came engine c.in_ok-sent.sent c.in_ok-note.note ready
-
-pub returns-in_err-run_slots-clause-refused : goal.returns-in_err-run_slots-clause-refused
-returns-in_err-run_slots-clause-refused g c =
-    let items = c.in_ok-ranks.ranks.items in
-    let t = c.args.tables.now in
-    let came = c.args.schedule.now.came in
-    let engine = c.in_ok-engine.engine in
-    let some = c.requires.tables.setup.ports in
-    let len : c.len-ports.result ≡ length items = omega (arith, c.len-ports.ensures, c.in_ok-ranks.ranks.ok) in
-    let from : ℕ → ℕ = λ i. number_of (is_from i) came in
-    let to : ℕ → ℕ = λ j. number_of (is_to j) came in
-    let ready =
-    ready_fabric machine_from t came (length items) (map state_of items) engine
-    (built_for machine_from t (map fixed_of items) (map state_of items) _ c.in_ok-engine.engine
-    c.in_ok-ranks.ensures.machines
-    c.as_slice-3.ensures c.in_ok-engine.ensures.fixed c.in_ok-engine.ensures.limits c.in_ok-engine.ensures.fabric
-    c.in_ok-engine.ensures.marks (length-map items fixed_of))
-    c.in_ok-sent.sent c.in_ok-note.note c.requires.tables.setup
-    (c.in_ok-ranks.ensures.classes (omega arith))
-    c.in_ok-engine.ensures.stopped c.in_ok-engine.ensures.next
-    (c.in_ok-engine.ensures.refused ∙ ap (λ (l : List (Option ℕ)). refused_counts l []) c.as_slice-3.ensures)
-    (c.in_ok-engine.ensures.from_inputs ∙ c.as_slice.ensures.value ∙ c.in_ok-from_inputs.ensures
-    ∙ ap (λ (n : ℕ). map from (range_with_len 0 n)) len)
-    (c.in_ok-engine.ensures.to_outputs ∙ c.as_slice-2.ensures.value ∙ c.in_ok-to_outputs.ensures
-    ∙ ap (λ (n : ℕ). map to (range_with_len 0 n)) len)
-    c.in_ok-engine.ensures.figures
-    c.requires.traffic c.requires.short
-    (omega (arith, c.total-total.ensures.cells, c.total-total.ensures.few))
-    c.in_ok-sent.ensures.items
-    (c.in_ok-sent.ensures.spare ∙ omega (arith, len, c.total-total.ensures.cells))
-    c.in_ok-note.ensures.items
-    (c.in_ok-note.ensures.spare ∙ omega (arith, len, c.total-total.ensures.cells)) in
-    let p = err_from_is_err_and c.from_residual-in_err-run_slots.result c.from_residual-in_err-run_slots.ensures.1 in
-    rw (p.1, p.2)
-    (sym (ideal_of_tables machine_from t came (length items) (map state_of items) engine
-    (built_for machine_from t (map fixed_of items) (map state_of items) _ engine
-    c.in_ok-ranks.ensures.machines
-    c.as_slice-3.ensures c.in_ok-engine.ensures.fixed c.in_ok-engine.ensures.limits c.in_ok-engine.ensures.fabric
-    c.in_ok-engine.ensures.marks (length-map items fixed_of)) c.in_ok-ranks.ensures.states)
-    ∙ first_fault (map machine_from engine.fixed) came engine c.in_ok-sent.sent c.in_ok-note.note ready _
-    c.in_err-run_slots.ensures.fault)
 
 pub returns-clause-run : goal.returns-clause-run
 returns-clause-run g c =
-    let items = c.in_ok-ranks.ranks.items in
-    let t = c.args.tables.now in
-    let came = c.args.schedule.now.came in
-    let engine = c.in_ok-engine.engine in
-    let some = c.requires.tables.setup.ports in
-    let len : c.len-ports.result ≡ length items = omega (arith, c.len-ports.ensures, c.in_ok-ranks.ranks.ok) in
-    let from : ℕ → ℕ = λ i. number_of (is_from i) came in
-    let to : ℕ → ℕ = λ j. number_of (is_to j) came in
-    let ready =
-    ready_fabric machine_from t came (length items) (map state_of items) engine
-    (built_for machine_from t (map fixed_of items) (map state_of items) _ c.in_ok-engine.engine
-    c.in_ok-ranks.ensures.machines
-    c.as_slice-3.ensures c.in_ok-engine.ensures.fixed c.in_ok-engine.ensures.limits c.in_ok-engine.ensures.fabric
-    c.in_ok-engine.ensures.marks (length-map items fixed_of))
-    c.in_ok-sent.sent c.in_ok-note.note c.requires.tables.setup
-    (c.in_ok-ranks.ensures.classes (omega arith))
-    c.in_ok-engine.ensures.stopped c.in_ok-engine.ensures.next
-    (c.in_ok-engine.ensures.refused ∙ ap (λ (l : List (Option ℕ)). refused_counts l []) c.as_slice-3.ensures)
-    (c.in_ok-engine.ensures.from_inputs ∙ c.as_slice.ensures.value ∙ c.in_ok-from_inputs.ensures
-    ∙ ap (λ (n : ℕ). map from (range_with_len 0 n)) len)
-    (c.in_ok-engine.ensures.to_outputs ∙ c.as_slice-2.ensures.value ∙ c.in_ok-to_outputs.ensures
-    ∙ ap (λ (n : ℕ). map to (range_with_len 0 n)) len)
-    c.in_ok-engine.ensures.figures
-    c.requires.traffic c.requires.short
-    (omega (arith, c.total-total.ensures.cells, c.total-total.ensures.few))
-    c.in_ok-sent.ensures.items
-    (c.in_ok-sent.ensures.spare ∙ omega (arith, len, c.total-total.ensures.cells))
-    c.in_ok-note.ensures.items
-    (c.in_ok-note.ensures.spare ∙ omega (arith, len, c.total-total.ensures.cells)) in
-    let seen = c.into_seen-seen.result in
-    kept_of machine_from t c.args.schedule.now.came (length items) (map state_of items) c.in_ok-engine.engine
-    (built_for machine_from t (map fixed_of items) (map state_of items) _ c.in_ok-engine.engine
-    c.in_ok-ranks.ensures.machines
-    c.as_slice-3.ensures c.in_ok-engine.ensures.fixed c.in_ok-engine.ensures.limits c.in_ok-engine.ensures.fabric
-    c.in_ok-engine.ensures.marks (length-map items fixed_of))
-    c.run_slots.new.engine c.run_slots.new.sent c.run_slots.new.note
-    (record {
-      sent = c.run_slots.new.sent;
-      note = c.run_slots.new.note;
-      figures = seen.figures;
-      refused =
-          seen.refused;
-    })
-    c.in_ok-ranks.ensures.states
-    (has_run (map machine_from engine.fixed) came engine c.in_ok-sent.sent c.in_ok-note.note ready
-    c.run_slots.new.engine
-    c.run_slots.new.sent c.run_slots.new.note c.in_ok-run_slots.ensures.run) refl refl c.into_seen-seen.ensures.figures
-    c.into_seen-seen.ensures.refused
+    let kept = c.in_ok-run.ensures.run in
+    record {
+      records = kept.records;
+      is_run = kept.is_run;
+      sent = c.in_ok-room.ensures ∙ kept.sent;
+      note = kept.note;
+      figures = kept.figures;
+      refused = kept.refused;
+    }
 
 pub returns-clause-as_ideal : goal.returns-clause-as_ideal
-returns-clause-as_ideal g c =
-    let seen = c.into_seen-seen.result in
-    kept_as_ideal c.args.tables.now c.args.schedule.now.came
-    (record {
-      sent = c.run_slots.new.sent;
-      note = c.run_slots.new.note;
-      figures = seen.figures;
-      refused =
-          seen.refused;
-    })
-    c.requires.traffic (returns-clause-run g c)
+returns-clause-as_ideal g c = c.in_ok-run.ensures.as_ideal ∙ ap Ok (sym c.in_ok-room.ensures)

@@ -6,10 +6,14 @@ use Rattle.cq_simulate.proofs.Stretches.{no_rest}
 use Rattle.cq_simulate.proofs.ideal_run.skip.Goals as goal
 
 pub returns-then-not-empty-clause-rested : goal.returns-then-not-empty-clause-rested
-returns-then-not-empty-clause-rested g c = no_rest (map g.R.Rank.machine c.args.ideal.now.fixed) c.args.slot c.args.ideal.now c.requires.next c.requires.running
+returns-then-not-empty-clause-rested g c =
+    no_rest (map g.R.Rank.machine c.args.ideal.now.fixed) c.args.slot c.args.ideal.now c.requires.next
+    c.requires.running
 
 pub returns-then-next-slot-clause-rested : goal.returns-then-next-slot-clause-rested
-returns-then-next-slot-clause-rested g c = no_rest (map g.R.Rank.machine c.args.ideal.now.fixed) c.args.slot c.args.ideal.now c.requires.next c.requires.running
+returns-then-next-slot-clause-rested g c =
+    no_rest (map g.R.Rank.machine c.args.ideal.now.fixed) c.args.slot c.args.ideal.now c.requires.next
+    c.requires.running
 
 pub returns-clause-rested : goal.returns-clause-rested
 returns-clause-rested g c =

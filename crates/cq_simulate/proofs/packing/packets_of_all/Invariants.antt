@@ -1,9 +1,11 @@
-use Rattle.std.proofs.Common.{length}
+use Rattle.std.proofs.Common.{length, map}
+use Rattle.cq_base.specs.Packed.{unpacked}
 use Rattle.cq_simulate.proofs.AllPacked.{AllSoFar}
 use Rattle.cq_simulate.proofs.packing.packets_of_all.Given as goal
 
 abbrev pub invariant-departures : goal.invariant-departures
-invariant-departures l = AllSoFar l.tables l.captures l.fn.sent.items l.left l.places.items
+invariant-departures l = AllSoFar l.tables l.captures l.fn.sent.items (map unpacked l.left)
+    l.places.items
 
 abbrev pub decreases-departures : goal.decreases-departures
 decreases-departures l = length l.left

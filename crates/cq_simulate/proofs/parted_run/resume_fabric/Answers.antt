@@ -1,7 +1,6 @@
 use Rattle.std.proofs.Common.{◌≡◌, ℕ, List, length, map, ap, ◌∙◌, arith, sym, subst}
 use Rattle.std.specs.List.{range_with_len}
 use Rattle.std.proofs.lemmas.List.{length-map}
-use Rattle.std.proofs.lemmas.List.FromFn.{length-map-range_with_len}
 use Rattle.std.proofs.lemmas.Result.{err_from_is_err_and}
 use Rattle.cq_cells.specs.Traffic.{IsTraffic, is_from, is_to, number_of}
 use Rattle.cq_laws.specs.declared.frozen.Frozen.{Frozen}
@@ -11,83 +10,104 @@ use Rattle.cq_resume.specs.Switch.{switch_of}
 use Rattle.cq_route.specs.Tables.{classes_of, ports_of}
 use Rattle.cq_scfq.specs.Discipline.{fixed_of, machine_from}
 use Rattle.cq_scfq.specs.Disciplines.{machines_of}
+use Rattle.cq_simulate.proofs.Making.{limits_long, rooms_long}
 use Rattle.cq_simulate.proofs.Opening.{machine_count}
 use Rattle.cq_simulate.proofs.Resuming.{resumed_fault, resumed_of}
 use Rattle.cq_simulate.proofs.TakenUp.{can_go_on, goes_of, machines_many, ready_from}
+use Rattle.cq_simulate.proofs.parted_run.resume_fabric.Given as given
 use Rattle.cq_simulate.proofs.parted_run.resume_fabric.Goals as goal
+use Rattle.cq_simulate.proofs.parted_run.resume_fabric.Goals.{After-len-ports}
+
+-- there is a rank for each port that is counted
+counted : (g : given.Over) (c : After-len-ports g) → c.len-ports.result ≡ length c.in_ok-ranks.ranks.items
+counted g c = omega (arith, c.len-ports.ensures, c.in_ok-ranks.ranks.ok)
+
+-- and a machine
+as_many : (g : given.Over) (c : After-len-ports g) → c.len-ports.result ≡ length c.in_ok-ranks.ranks.items →
+    c.len-ports.result ≡ length (machines_of c.args.tables.now.setup)
+as_many g c len =
+    let t = c.args.tables.now in
+    let items = c.in_ok-ranks.ranks.items in
+    len ∙ sym (length-map items fixed_of)
+    ∙ machine_count machine_from (map fixed_of items) t.setup c.in_ok-ranks.ensures.machines ∙ sym (machines_many t)
+
+-- ## What the engine is made of
 
 pub thaw-requires-clause-from_inputs : goal.thaw-requires-clause-from_inputs
 thaw-requires-clause-from_inputs g c =
-    let f : ℕ → ℕ = λ i. number_of (is_from i) c.args.schedule.now.came in
-    let len : c.len-ports.result ≡ length c.in_ok-ranks.ranks.items = omega
-    (arith, c.len-ports.ensures, c.in_ok-ranks.ranks.ok) in
-    ap (λ (l : List ℕ). length l) (c.as_slice-3.ensures.value ∙ c.in_ok-from_inputs.ensures)
-    ∙ length-map-range_with_len f 0 c.len-ports.result ∙ len
+    rooms_long (λ i. number_of (is_from i) c.args.schedule.now.came) _ _ _
+    (c.as_slice-3.ensures.value ∙ c.in_ok-from_inputs.ensures)
+    (counted g (goal.at.thaw-requires-clause-from_inputs g c).After-len-ports)
 
 pub thaw-requires-clause-to_outputs : goal.thaw-requires-clause-to_outputs
 thaw-requires-clause-to_outputs g c =
-    let f : ℕ → ℕ = λ j. number_of (is_to j) c.args.schedule.now.came in
-    let len : c.len-ports.result ≡ length c.in_ok-ranks.ranks.items = omega
-    (arith, c.len-ports.ensures, c.in_ok-ranks.ranks.ok) in
-    ap (λ (l : List ℕ). length l) (c.as_slice-4.ensures.value ∙ c.in_ok-to_outputs.ensures)
-    ∙ length-map-range_with_len f 0 c.len-ports.result ∙ len
+    rooms_long (λ j. number_of (is_to j) c.args.schedule.now.came) _ _ _
+    (c.as_slice-4.ensures.value ∙ c.in_ok-to_outputs.ensures)
+    (counted g (goal.at.thaw-requires-clause-to_outputs g c).After-len-ports)
 
 pub thaw-requires-clause-limits : goal.thaw-requires-clause-limits
 thaw-requires-clause-limits g c =
-    let setup = c.args.tables.now.setup in
-    let count : length (map fixed_of c.in_ok-ranks.ranks.items) ≡ length setup.kinds =
-    machine_count machine_from (map fixed_of c.in_ok-ranks.ranks.items) setup c.in_ok-ranks.ensures.machines in
-    ap length c.as_slice-5.ensures ∙ c.requires.tables.limits.ports_are ∙ sym count
-    ∙ length-map c.in_ok-ranks.ranks.items fixed_of
+    limits_long c.args.tables.now (map fixed_of c.in_ok-ranks.ranks.items) _ c.as_slice-5.ensures
+    c.requires.tables.limits.ports_are c.in_ok-ranks.ensures.machines
+    (length-map c.in_ok-ranks.ranks.items fixed_of)
 
 pub thaw-requires-clause-goes_on : goal.thaw-requires-clause-goes_on
 thaw-requires-clause-goes_on g c =
+    let at = goal.at.thaw-requires-clause-goes_on g c in
     let t = c.args.tables.now in
     let s = c.args.schedule.now in
-    let items = c.in_ok-ranks.ranks.items in
     let some = c.requires.tables.setup.ports in
     let from : ℕ → ℕ = λ i. number_of (is_from i) s.came in
     let to : ℕ → ℕ = λ j. number_of (is_to j) s.came in
-    let len : c.len-ports.result ≡ length items = omega (arith, c.len-ports.ensures, c.in_ok-ranks.ranks.ok) in
-    let count : c.len-ports.result ≡ length (machines_of t.setup) =
-    len ∙ sym (length-map items fixed_of) ∙ machine_count machine_from (map fixed_of items) t.setup
-    c.in_ok-ranks.ensures.machines ∙ sym (machines_many t) in
+    let count = as_many g at.After-len-ports (counted g at.After-len-ports) in
     can_go_on (switch_of t s) c.args.taken.now.frozen _ _ _ _
     (goes_of t s c.args.taken.now c.requires.sound c.requires.traffic) c.in_ok-ranks.ensures.machines
     (c.in_ok-ranks.ensures.classes (omega arith)) c.as_slice-5.ensures
     (c.as_slice-3.ensures.value ∙ c.in_ok-from_inputs.ensures ∙ ap (λ (n : ℕ). map from (range_with_len 0 n)) count)
     (c.as_slice-4.ensures.value ∙ c.in_ok-to_outputs.ensures ∙ ap (λ (n : ℕ). map to (range_with_len 0 n)) count)
 
+-- ## The run that goes on
+
 pub run_slots-requires-clause-ready : goal.run_slots-requires-clause-ready
 run_slots-requires-clause-ready g c =
+    let at = goal.at.run_slots-requires-clause-ready g c in
     let t = c.args.tables.now in
     let s = c.args.schedule.now in
     let w = switch_of t s in
-    let items = c.in_ok-ranks.ranks.items in
     let some = c.requires.tables.setup.ports in
+    let many : length (machines_of t.setup) ≡ ports_of t.setup = machines_many t in
+    let engine = c.in_ok-engine.ensures in
+    let cells = c.total-total.ensures in
     let from : ℕ → ℕ = λ i. number_of (is_from i) s.came in
     let to : ℕ → ℕ = λ j. number_of (is_to j) s.came in
-    let len : c.len-ports.result ≡ length items = omega (arith, c.len-ports.ensures, c.in_ok-ranks.ranks.ok) in
-    let many : length (machines_of t.setup) ≡ ports_of t.setup = machines_many t in
     let count : c.len-ports.result ≡ length (machines_of t.setup) =
-    len ∙ sym (length-map items fixed_of) ∙ machine_count machine_from (map fixed_of items) t.setup
-    c.in_ok-ranks.ensures.machines ∙ sym many in
-    let goes = subst (λ (x : Frozen). GoesOn w x) (sym c.in_ok-engine.ensures.frozen)
+    as_many g at.After-len-ports (counted g at.After-len-ports) in
+    let goes =
+    subst (λ (x : Frozen). GoesOn w x) (sym engine.frozen)
     (goes_of t s c.args.taken.now c.requires.sound c.requires.traffic) in
     let ready =
     ready_from w machine_from c.in_ok-engine.engine c.in_ok-sent.sent c.in_ok-note.note goes
-    (ap (map machine_from) c.in_ok-engine.ensures.fixed ∙ c.in_ok-ranks.ensures.machines)
-    c.in_ok-engine.ensures.stopped (omega arith)
+    (ap (map machine_from) engine.fixed ∙ c.in_ok-ranks.ensures.machines) engine.stopped (omega arith)
     (subst (λ (n : ℕ). IsTraffic n (classes_of t.setup) s.came) (sym many) c.requires.traffic)
-    (c.in_ok-ranks.ensures.classes (omega arith)) c.requires.short
-    (omega (arith, c.total-total.ensures.cells, c.total-total.ensures.few))
-    (c.in_ok-engine.ensures.from_inputs ∙ c.as_slice-3.ensures.value ∙ c.in_ok-from_inputs.ensures
+    (c.in_ok-ranks.ensures.classes (omega arith)) c.requires.short (omega (arith, cells.cells, cells.few))
+    (engine.from_inputs ∙ c.as_slice-3.ensures.value ∙ c.in_ok-from_inputs.ensures
     ∙ ap (λ (n : ℕ). map from (range_with_len 0 n)) count)
-    (c.in_ok-engine.ensures.to_outputs ∙ c.as_slice-4.ensures.value ∙ c.in_ok-to_outputs.ensures
+    (engine.to_outputs ∙ c.as_slice-4.ensures.value ∙ c.in_ok-to_outputs.ensures
     ∙ ap (λ (n : ℕ). map to (range_with_len 0 n)) count)
-    (c.in_ok-sent.ensures.spare ∙ omega (arith, count, c.total-total.ensures.cells))
-    (c.in_ok-note.ensures.spare ∙ omega (arith, count, c.total-total.ensures.cells)) in
+    (c.in_ok-sent.ensures.spare ∙ omega (arith, count, cells.cells))
+    (c.in_ok-note.ensures.spare ∙ omega (arith, count, cells.cells)) in
     λ _ _. ready
+
+pub run_slots-requires-clause-none : goal.run_slots-requires-clause-none
+run_slots-requires-clause-none g c = λ _ _. c.in_ok-leaving.ensures.items
+
+pub run_slots-requires-clause-few : goal.run_slots-requires-clause-few
+run_slots-requires-clause-few g c =
+    let items = c.in_ok-ranks.ranks.items in
+    let len = counted g (goal.at.run_slots-requires-clause-few g c).After-len-ports in
+    let fixed : length c.in_ok-engine.engine.fixed ≡ length items =
+    ap (λ (l : List (List ℕ)). length l) c.in_ok-engine.ensures.fixed ∙ length-map items fixed_of in
+    λ _ _. c.in_ok-leaving.ensures.spare ∙ omega (arith, len, fixed)
 
 pub returns-in_err-run_slots-clause-refused : goal.returns-in_err-run_slots-clause-refused
 returns-in_err-run_slots-clause-refused g c =

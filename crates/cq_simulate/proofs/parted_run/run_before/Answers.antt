@@ -1,21 +1,43 @@
-use Rattle.std.proofs.Common.{◌+◌, ◌-◌, ◌≤◌, ◌^◌, false, ap, sym, ◌∙◌, arith}
+use Rattle.std.proofs.Common.{◌+◌, ◌-◌, false, ap, sym, ◌∙◌, arith}
 use Rattle.std.specs.Result.{is_err}
 use Rattle.std.proofs.lemmas.Result.{err_from_is_err_and}
-use Rattle.cq_simulate.proofs.FabricSteps.{at_fault, at_first, at_last, at_next, at_rest, arrivals_fit, buffer_room, can_refuse, early as is_early, list_room, never, note_room, proposals_fit, sent_room}
+use Rattle.cq_simulate.proofs.FabricSteps.{CanRun, Stands, can_run_here, fault_here, next_here, part_begins, part_ends, part_rests, part_stands}
+use Rattle.cq_simulate.proofs.parted_run.run_before.Given as given
 use Rattle.cq_simulate.proofs.parted_run.run_before.Goals as goal
+use Rattle.cq_simulate.proofs.parted_run.run_before.Goals.{After-arrivals-arrivals}
+
+-- ## What is known
+
+-- once slots in which nothing comes are skipped, the run stands at a slot before the last
+stands : (g : given.Over) (c : After-arrivals-arrivals g) →
+    Stands false c.args.last g.R.Rank.machine c.args.schedule.now.came c.args.engine.now c.args.sent.now
+    c.args.note.now c.skip_before-slot.result c.skip_before-slot.new.engine c.slots.sent c.slots.note
+stands g c =
+    let M = g.R.Rank.machine in
+    let came = c.args.schedule.now.came in
+    let skipped = c.skip_before-slot.ensures in
+    part_stands M came c.args.last c.args.engine.now c.args.sent.now c.args.note.now c.requires.ready
+    c.skip_before-slot.result c.skip_before-slot.new.engine c.slots.sent c.slots.note
+    (part_rests M came c.args.last c.args.engine.now c.args.sent.now c.args.note.now c.requires.ready c.slots.slot
+    c.skip_before-slot.result c.slots.engine c.skip_before-slot.new.engine c.slots.sent c.slots.note
+    c.slots.invariant.crossing skipped.late skipped.within skipped.none skipped.rested)
+    c.if-slot-last.false
+
+-- and finds all that it asks for
+can : (g : given.Over) (c : After-arrivals-arrivals g) →
+    CanRun g.R.Rank.machine c.skip_before-slot.result c.arrivals-arrivals.result.now
+    c.skip_before-slot.new.engine c.slots.sent c.slots.note
+can g c = can_run_here (stands g c) c.arrivals-arrivals.result.now (c.arrivals-arrivals.ensures ∙ c.arrive.ensures)
+
+-- ## The loop
 
 pub slots-init : goal.slots-init
 slots-init g c =
-    let came = c.args.schedule.now.came in
-    let first = c.args.engine.now in
-    let last = c.args.last in
-    let ready = c.requires.ready.ready in
-    let early = c.requires.ready.early in
-    let few : last ≤ 2 ^ 63 + 2 ^ 36 = omega arith in
     rw c.next-slot.ensures
     (record {
-      crossing = at_first false last g.R.Rank.machine came first c.args.sent.now c.args.note.now ready few
-          c.requires.ready.next (λ is. never is);
+      crossing =
+          part_begins g.R.Rank.machine c.args.schedule.now.came c.args.last c.args.engine.now c.args.sent.now
+          c.args.note.now c.requires.ready;
       before = c.requires.ready.next;
     })
 
@@ -30,166 +52,47 @@ skip_before-slot-requires-clause-before g c = c.slots.invariant.before
 
 pub slot-requires-clause-early : goal.slot-requires-clause-early
 slot-requires-clause-early g c =
-    let came = c.args.schedule.now.came in
-    let first = c.args.engine.now in
-    let last = c.args.last in
-    let ready = c.requires.ready.ready in
-    let early = c.requires.ready.early in
-    let few : last ≤ 2 ^ 63 + 2 ^ 36 = omega arith in
-    let now = at_rest false last g.R.Rank.machine came first c.args.sent.now c.args.note.now ready few
-    c.slots.slot c.skip_before-slot.result c.slots.engine c.skip_before-slot.new.engine c.slots.sent c.slots.note
-    c.slots.invariant.crossing c.skip_before-slot.ensures.late c.skip_before-slot.ensures.within
-    c.skip_before-slot.ensures.none
-    (λ is lt. never is) c.skip_before-slot.ensures.rested in
-    λ _ _. is_early false last g.R.Rank.machine came first c.args.sent.now c.args.note.now ready few
-    c.skip_before-slot.result c.skip_before-slot.new.engine c.slots.sent c.slots.note now (λ is late empty. never is)
-    c.if-slot-last.false
+    λ _ _. (can g (goal.at.slot-requires-clause-early g c).After-arrivals-arrivals).early
 
 pub slot-requires-clause-arrivals : goal.slot-requires-clause-arrivals
 slot-requires-clause-arrivals g c =
-    let came = c.args.schedule.now.came in
-    let first = c.args.engine.now in
-    let last = c.args.last in
-    let ready = c.requires.ready.ready in
-    let early = c.requires.ready.early in
-    let few : last ≤ 2 ^ 63 + 2 ^ 36 = omega arith in
-    let now = at_rest false last g.R.Rank.machine came first c.args.sent.now c.args.note.now ready few
-    c.slots.slot c.skip_before-slot.result c.slots.engine c.skip_before-slot.new.engine c.slots.sent c.slots.note
-    c.slots.invariant.crossing c.skip_before-slot.ensures.late c.skip_before-slot.ensures.within
-    c.skip_before-slot.ensures.none
-    (λ is lt. never is) c.skip_before-slot.ensures.rested in
-    λ _ _. arrivals_fit false last g.R.Rank.machine came first c.args.sent.now c.args.note.now ready few
-    c.skip_before-slot.result c.skip_before-slot.new.engine c.slots.sent c.slots.note now (λ is late empty. never is)
-    c.if-slot-last.false
-    c.arrivals_near-arrivals.result c.arrivals_near-arrivals.ensures
+    λ _ _. (can g (goal.at.slot-requires-clause-arrivals g c).After-arrivals-arrivals).arrivals
 
 pub slot-requires-clause-list_room : goal.slot-requires-clause-list_room
 slot-requires-clause-list_room g c =
-    let came = c.args.schedule.now.came in
-    let first = c.args.engine.now in
-    let last = c.args.last in
-    let ready = c.requires.ready.ready in
-    let early = c.requires.ready.early in
-    let few : last ≤ 2 ^ 63 + 2 ^ 36 = omega arith in
-    let now = at_rest false last g.R.Rank.machine came first c.args.sent.now c.args.note.now ready few
-    c.slots.slot c.skip_before-slot.result c.slots.engine c.skip_before-slot.new.engine c.slots.sent c.slots.note
-    c.slots.invariant.crossing c.skip_before-slot.ensures.late c.skip_before-slot.ensures.within
-    c.skip_before-slot.ensures.none
-    (λ is lt. never is) c.skip_before-slot.ensures.rested in
-    λ _ _. list_room false last g.R.Rank.machine came first c.args.sent.now c.args.note.now ready few
-    c.skip_before-slot.result c.skip_before-slot.new.engine c.slots.sent c.slots.note now (λ is late empty. never is)
-    c.if-slot-last.false
-    c.arrivals_near-arrivals.result c.arrivals_near-arrivals.ensures
+    λ _ _. (can g (goal.at.slot-requires-clause-list_room g c).After-arrivals-arrivals).list_room
 
 pub slot-requires-clause-buffer_room : goal.slot-requires-clause-buffer_room
 slot-requires-clause-buffer_room g c =
-    let came = c.args.schedule.now.came in
-    let first = c.args.engine.now in
-    let last = c.args.last in
-    let ready = c.requires.ready.ready in
-    let early = c.requires.ready.early in
-    let few : last ≤ 2 ^ 63 + 2 ^ 36 = omega arith in
-    let now = at_rest false last g.R.Rank.machine came first c.args.sent.now c.args.note.now ready few
-    c.slots.slot c.skip_before-slot.result c.slots.engine c.skip_before-slot.new.engine c.slots.sent c.slots.note
-    c.slots.invariant.crossing c.skip_before-slot.ensures.late c.skip_before-slot.ensures.within
-    c.skip_before-slot.ensures.none
-    (λ is lt. never is) c.skip_before-slot.ensures.rested in
-    λ _ _. buffer_room false last g.R.Rank.machine came first c.args.sent.now c.args.note.now ready few
-    c.skip_before-slot.result c.skip_before-slot.new.engine c.slots.sent c.slots.note now (λ is late empty. never is)
-    c.if-slot-last.false
-    c.arrivals_near-arrivals.result c.arrivals_near-arrivals.ensures
+    λ _ _. (can g (goal.at.slot-requires-clause-buffer_room g c).After-arrivals-arrivals).buffer_room
 
 pub slot-requires-clause-refused : goal.slot-requires-clause-refused
 slot-requires-clause-refused g c =
-    let came = c.args.schedule.now.came in
-    let first = c.args.engine.now in
-    let last = c.args.last in
-    let ready = c.requires.ready.ready in
-    let early = c.requires.ready.early in
-    let few : last ≤ 2 ^ 63 + 2 ^ 36 = omega arith in
-    let now = at_rest false last g.R.Rank.machine came first c.args.sent.now c.args.note.now ready few
-    c.slots.slot c.skip_before-slot.result c.slots.engine c.skip_before-slot.new.engine c.slots.sent c.slots.note
-    c.slots.invariant.crossing c.skip_before-slot.ensures.late c.skip_before-slot.ensures.within
-    c.skip_before-slot.ensures.none
-    (λ is lt. never is) c.skip_before-slot.ensures.rested in
-    λ _ _. can_refuse false last g.R.Rank.machine came first c.args.sent.now c.args.note.now ready few
-    c.skip_before-slot.result c.skip_before-slot.new.engine c.slots.sent c.slots.note now (λ is late empty. never is)
-    c.if-slot-last.false
+    λ _ _. (can g (goal.at.slot-requires-clause-refused g c).After-arrivals-arrivals).refused
 
 pub slot-requires-clause-sent : goal.slot-requires-clause-sent
 slot-requires-clause-sent g c =
-    let came = c.args.schedule.now.came in
-    let first = c.args.engine.now in
-    let last = c.args.last in
-    let ready = c.requires.ready.ready in
-    let early = c.requires.ready.early in
-    let few : last ≤ 2 ^ 63 + 2 ^ 36 = omega arith in
-    let now = at_rest false last g.R.Rank.machine came first c.args.sent.now c.args.note.now ready few
-    c.slots.slot c.skip_before-slot.result c.slots.engine c.skip_before-slot.new.engine c.slots.sent c.slots.note
-    c.slots.invariant.crossing c.skip_before-slot.ensures.late c.skip_before-slot.ensures.within
-    c.skip_before-slot.ensures.none
-    (λ is lt. never is) c.skip_before-slot.ensures.rested in
-    λ _ _. sent_room false last g.R.Rank.machine came first c.args.sent.now c.args.note.now ready few
-    c.skip_before-slot.result c.skip_before-slot.new.engine c.slots.sent c.slots.note now (λ is late empty. never is)
-    c.if-slot-last.false
+    λ _ _. (can g (goal.at.slot-requires-clause-sent g c).After-arrivals-arrivals).sent_room
 
 pub slot-requires-clause-note : goal.slot-requires-clause-note
 slot-requires-clause-note g c =
-    let came = c.args.schedule.now.came in
-    let first = c.args.engine.now in
-    let last = c.args.last in
-    let ready = c.requires.ready.ready in
-    let early = c.requires.ready.early in
-    let few : last ≤ 2 ^ 63 + 2 ^ 36 = omega arith in
-    let now = at_rest false last g.R.Rank.machine came first c.args.sent.now c.args.note.now ready few
-    c.slots.slot c.skip_before-slot.result c.slots.engine c.skip_before-slot.new.engine c.slots.sent c.slots.note
-    c.slots.invariant.crossing c.skip_before-slot.ensures.late c.skip_before-slot.ensures.within
-    c.skip_before-slot.ensures.none
-    (λ is lt. never is) c.skip_before-slot.ensures.rested in
-    λ _ _. note_room false last g.R.Rank.machine came first c.args.sent.now c.args.note.now ready few
-    c.skip_before-slot.result c.skip_before-slot.new.engine c.slots.sent c.slots.note now (λ is late empty. never is)
-    c.if-slot-last.false
+    λ _ _. (can g (goal.at.slot-requires-clause-note g c).After-arrivals-arrivals).note_room
 
 pub slot-requires-clause-proposals : goal.slot-requires-clause-proposals
 slot-requires-clause-proposals g c =
-    let came = c.args.schedule.now.came in
-    let first = c.args.engine.now in
-    let last = c.args.last in
-    let ready = c.requires.ready.ready in
-    let early = c.requires.ready.early in
-    let few : last ≤ 2 ^ 63 + 2 ^ 36 = omega arith in
-    let now = at_rest false last g.R.Rank.machine came first c.args.sent.now c.args.note.now ready few
-    c.slots.slot c.skip_before-slot.result c.slots.engine c.skip_before-slot.new.engine c.slots.sent c.slots.note
-    c.slots.invariant.crossing c.skip_before-slot.ensures.late c.skip_before-slot.ensures.within
-    c.skip_before-slot.ensures.none
-    (λ is lt. never is) c.skip_before-slot.ensures.rested in
-    λ _ _. proposals_fit false last g.R.Rank.machine came first c.args.sent.now c.args.note.now ready few
-    c.skip_before-slot.result c.skip_before-slot.new.engine c.slots.sent c.slots.note now (λ is late empty. never is)
-    c.if-slot-last.false
+    λ _ _. (can g (goal.at.slot-requires-clause-proposals g c).After-arrivals-arrivals).proposals
 
 pub returns-in_err-slot-clause-fault : goal.returns-in_err-slot-clause-fault
 returns-in_err-slot-clause-fault g c =
+    let here = stands g (goal.at.returns-in_err-slot-clause-fault g c).After-arrivals-arrivals in
     let p = err_from_is_err_and c.from_residual.result c.from_residual.ensures.1 in
-    let came = c.args.schedule.now.came in
-    let first = c.args.engine.now in
-    let last = c.args.last in
-    let ready = c.requires.ready.ready in
-    let early = c.requires.ready.early in
-    let few : last ≤ 2 ^ 63 + 2 ^ 36 = omega arith in
-    let now = at_rest false last g.R.Rank.machine came first c.args.sent.now c.args.note.now ready few
-    c.slots.slot c.skip_before-slot.result c.slots.engine c.skip_before-slot.new.engine c.slots.sent c.slots.note
-    c.slots.invariant.crossing c.skip_before-slot.ensures.late c.skip_before-slot.ensures.within
-    c.skip_before-slot.ensures.none
-    (λ is lt. never is) c.skip_before-slot.ensures.rested in
     let starts = c.requires.ready.next in
     let left = c.if-slot-last.false in
+    let last = c.args.last in
     rw (p.1, p.2)
-    (at_fault false last g.R.Rank.machine came first c.args.sent.now c.args.note.now ready few
-    c.skip_before-slot.result c.skip_before-slot.new.engine c.slots.sent c.slots.note now (λ is late empty. never is)
-    left
-    c.arrivals_near-arrivals.result c.in_err-slot.field-0.0 (last - (c.skip_before-slot.result + 1))
-    (last - first.next) (omega arith)
-    c.arrivals_near-arrivals.ensures (sym c.in_err-slot.was ∙ c.slot.ensures.answer))
+    (fault_here here c.arrivals-arrivals.result.now c.in_err-slot.field-0.0 (last - (c.skip_before-slot.result + 1))
+    (last - c.args.engine.now.next) (omega arith) (c.arrivals-arrivals.ensures ∙ c.arrive.ensures)
+    (sym c.in_err-slot.was ∙ c.slot.ensures.answer))
 
 pub slots-smaller : goal.slots-smaller
 slots-smaller g c =
@@ -199,25 +102,12 @@ slots-smaller g c =
 
 pub slots-preserved : goal.slots-preserved
 slots-preserved g c =
-    let came = c.args.schedule.now.came in
-    let first = c.args.engine.now in
-    let last = c.args.last in
-    let ready = c.requires.ready.ready in
-    let early = c.requires.ready.early in
-    let few : last ≤ 2 ^ 63 + 2 ^ 36 = omega arith in
-    let now = at_rest false last g.R.Rank.machine came first c.args.sent.now c.args.note.now ready few
-    c.slots.slot c.skip_before-slot.result c.slots.engine c.skip_before-slot.new.engine c.slots.sent c.slots.note
-    c.slots.invariant.crossing c.skip_before-slot.ensures.late c.skip_before-slot.ensures.within
-    c.skip_before-slot.ensures.none
-    (λ is lt. never is) c.skip_before-slot.ensures.rested in
     let left = c.if-slot-last.false in
     record {
       crossing =
-          at_next false last g.R.Rank.machine came first c.args.sent.now c.args.note.now ready few
-          c.skip_before-slot.result c.skip_before-slot.new.engine c.slots.sent c.slots.note now
-          (λ is late empty. never is) left
-          c.arrivals_near-arrivals.result c.slot.new.self c.slot.new.sent c.slot.new.note
-          c.arrivals_near-arrivals.ensures
+          next_here (stands g (goal.at.slots-preserved g c).After-arrivals-arrivals)
+          c.arrivals-arrivals.result.now c.slot.new.self c.slot.new.sent c.slot.new.note
+          (c.arrivals-arrivals.ensures ∙ c.arrive.ensures)
           (record {
             done = c.in_ok-slot.ensures.slot;
             running = c.slot.ensures.stopped ∙ ap is_err c.in_ok-slot.was;
@@ -232,31 +122,21 @@ slots-preserved g c =
 
 pub returns-then-slot-last-clause-run : goal.returns-then-slot-last-clause-run
 returns-then-slot-last-clause-run g c =
+    let M = g.R.Rank.machine in
     let came = c.args.schedule.now.came in
-    let first = c.args.engine.now in
-    let last = c.args.last in
-    let ready = c.requires.ready.ready in
-    let early = c.requires.ready.early in
-    let few : last ≤ 2 ^ 63 + 2 ^ 36 = omega arith in
-    let now = at_rest false last g.R.Rank.machine came first c.args.sent.now c.args.note.now ready few
-    c.slots.slot c.skip_before-slot.result c.slots.engine c.skip_before-slot.new.engine c.slots.sent c.slots.note
-    c.slots.invariant.crossing c.skip_before-slot.ensures.late c.skip_before-slot.ensures.within
-    c.skip_before-slot.ensures.none
-    (λ is lt. never is) c.skip_before-slot.ensures.rested in
+    let skipped = c.skip_before-slot.ensures in
     let over = c.if-slot-last.true in
     let within = c.skip_before-slot.ensures.within in
-    at_last false last g.R.Rank.machine came first c.args.sent.now c.args.note.now ready few
-    c.skip_before-slot.result c.skip_before-slot.new.engine c.slots.sent c.slots.note now (omega arith)
+    part_ends M came c.args.last c.args.engine.now c.args.sent.now c.args.note.now c.requires.ready
+    c.skip_before-slot.result c.skip_before-slot.new.engine c.slots.sent c.slots.note
+    (part_rests M came c.args.last c.args.engine.now c.args.sent.now c.args.note.now c.requires.ready c.slots.slot
+    c.skip_before-slot.result c.slots.engine c.skip_before-slot.new.engine c.slots.sent c.slots.note
+    c.slots.invariant.crossing skipped.late skipped.within skipped.none skipped.rested)
+    (omega arith)
 
 pub returns-clause-run : goal.returns-clause-run
 returns-clause-run g c =
-    let came = c.args.schedule.now.came in
-    let first = c.args.engine.now in
-    let last = c.args.last in
-    let ready = c.requires.ready.ready in
-    let early = c.requires.ready.early in
-    let few : last ≤ 2 ^ 63 + 2 ^ 36 = omega arith in
     let over = c.slots-test.false in
     let before = c.slots.invariant.before in
-    at_last false last g.R.Rank.machine came first c.args.sent.now c.args.note.now ready few
-    c.slots.slot c.slots.engine c.slots.sent c.slots.note c.slots.invariant.crossing (omega arith)
+    part_ends g.R.Rank.machine c.args.schedule.now.came c.args.last c.args.engine.now c.args.sent.now c.args.note.now
+    c.requires.ready c.slots.slot c.slots.engine c.slots.sent c.slots.note c.slots.invariant.crossing (omega arith)

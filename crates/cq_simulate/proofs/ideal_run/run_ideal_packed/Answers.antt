@@ -1,0 +1,105 @@
+use Rattle.std.proofs.Common.{◌≡◌, ℕ, List, [], length, map, Option, ap, sym, ◌∙◌, arith}
+use Rattle.std.specs.List.{range_with_len}
+use Rattle.std.proofs.lemmas.List.{length-map}
+use Rattle.std.proofs.lemmas.List.FromFn.{length-map-range_with_len}
+use Rattle.std.proofs.lemmas.Result.{err_from_is_err_and}
+use Rattle.cq_ideal.specs.Refused.{refused_counts}
+use Rattle.cq_cells.specs.Traffic.{is_to, number_of}
+use Rattle.cq_scfq.specs.Discipline.{fixed_of, machine_from, state_of}
+use Rattle.cq_simulate.proofs.Opening.{few_cells, machine_count, ready, run_of_tables}
+use Rattle.cq_simulate.proofs.ideal_run.run_ideal_packed.Goals as goal
+
+pub overflow_add-total : goal.overflow_add-total
+overflow_add-total c =
+    let items = c.in_ok-ranks.ranks.items in
+    let count : length (map fixed_of items) ≡ length c.args.tables.now.setup.kinds =
+    machine_count machine_from (map fixed_of items) c.args.tables.now.setup c.in_ok-ranks.ensures.machines in
+    let same : length (map fixed_of items) ≡ length items = length-map items fixed_of in
+    let few = c.requires.tables.setup.ports in
+    let cells = few_cells c.args.schedule.now.came in
+    omega (arith, c.requires.short, c.total.ensures.cells, c.len-ports.ensures)
+
+pub new-requires-2-clause-rooms : goal.new-requires-2-clause-rooms
+new-requires-2-clause-rooms c =
+    let f : ℕ → ℕ = λ j. number_of (is_to j) c.args.schedule.now.came in
+    let len : c.len-ports.result ≡ length c.in_ok-ranks.ranks.items =
+    omega (arith, c.len-ports.ensures, c.in_ok-ranks.ranks.ok) in
+    ap (λ (l : List ℕ). length l) (c.as_slice.ensures.value ∙ c.in_ok-rooms.ensures)
+    ∙ length-map-range_with_len f 0 c.len-ports.result ∙ len
+
+pub new-requires-2-clause-limits : goal.new-requires-2-clause-limits
+new-requires-2-clause-limits c =
+    let items = c.in_ok-ranks.ranks.items in
+    let count =
+    machine_count machine_from (map fixed_of items) c.args.tables.now.setup c.in_ok-ranks.ensures.machines in
+    ap length c.as_slice-2.ensures ∙ c.requires.tables.limits.ports_are ∙ sym count ∙ length-map items fixed_of
+
+pub run_slots-requires-clause-ready : goal.run_slots-requires-clause-ready
+run_slots-requires-clause-ready c =
+    let items = c.in_ok-ranks.ranks.items in
+    let t = c.args.tables.now in
+    let ideal = c.in_ok-ideal.ensures in
+    let count : length (map fixed_of items) ≡ length t.setup.kinds =
+    machine_count machine_from (map fixed_of items) t.setup c.in_ok-ranks.ensures.machines in
+    let some = c.requires.tables.setup.ports in
+    let len : c.len-ports.result ≡ length items = omega (arith, c.len-ports.ensures, c.in_ok-ranks.ranks.ok) in
+    let f : ℕ → ℕ = λ j. number_of (is_to j) c.args.schedule.now.came in
+    ready machine_from t c.args.schedule.now.came (length items) (map state_of items) c.in_ok-ideal.ideal
+    c.in_ok-sent.sent
+    (record {
+      machines = ap (map machine_from) ideal.fixed ∙ c.in_ok-ranks.ensures.machines;
+      limits = ideal.limits ∙ c.as_slice-2.ensures;
+      state = ideal.state;
+      marks = ideal.marks;
+      many = sym (length-map items fixed_of) ∙ count;
+    })
+    c.requires.tables.setup (c.in_ok-ranks.ensures.classes (omega arith)) ideal.stopped ideal.next
+    (ideal.refused ∙ ap (λ (l : List (Option ℕ)). refused_counts l []) c.as_slice-2.ensures)
+    (ideal.rooms ∙ c.as_slice.ensures.value ∙ c.in_ok-rooms.ensures
+    ∙ ap (λ (n : ℕ). map f (range_with_len 0 n)) len)
+    c.requires.traffic c.requires.short c.in_ok-sent.ensures.items
+    (c.in_ok-sent.ensures.spare ∙ omega (arith, len, c.total.ensures.cells))
+
+pub run_slots-requires-clause-few : goal.run_slots-requires-clause-few
+run_slots-requires-clause-few c =
+    let items = c.in_ok-ranks.ranks.items in
+    let len : c.len-ports.result ≡ length items = omega (arith, c.len-ports.ensures, c.in_ok-ranks.ranks.ok) in
+    let fixed : length c.in_ok-ideal.ideal.fixed ≡ length items = ap (λ (l : List (List ℕ)). length l)
+    c.in_ok-ideal.ensures.fixed ∙ length-map items fixed_of in
+    c.in_ok-leaving.ensures.spare ∙ omega (arith, len, fixed)
+
+pub returns-in_err-run_slots-clause-refused : goal.returns-in_err-run_slots-clause-refused
+returns-in_err-run_slots-clause-refused c =
+    let items = c.in_ok-ranks.ranks.items in
+    let t = c.args.tables.now in
+    let ideal = c.in_ok-ideal.ensures in
+    let count : length (map fixed_of items) ≡ length t.setup.kinds =
+    machine_count machine_from (map fixed_of items) t.setup c.in_ok-ranks.ensures.machines in
+    let p = err_from_is_err_and c.from_residual-in_err-run_slots.result c.from_residual-in_err-run_slots.ensures.1 in
+    rw (p.1, p.2)
+    (sym (run_of_tables machine_from t c.args.schedule.now.came (length items) (map state_of items) c.in_ok-ideal.ideal
+    (record {
+      machines = ap (map machine_from) ideal.fixed ∙ c.in_ok-ranks.ensures.machines;
+      limits = ideal.limits ∙ c.as_slice-2.ensures;
+      state = ideal.state;
+      marks = ideal.marks;
+      many = sym (length-map items fixed_of) ∙ count;
+    }) c.in_ok-ranks.ensures.states)
+    ∙ c.in_err-run_slots.ensures.fault)
+
+pub returns-clause-sent : goal.returns-clause-sent
+returns-clause-sent c =
+    let items = c.in_ok-ranks.ranks.items in
+    let t = c.args.tables.now in
+    let ideal = c.in_ok-ideal.ensures in
+    let count : length (map fixed_of items) ≡ length t.setup.kinds =
+    machine_count machine_from (map fixed_of items) t.setup c.in_ok-ranks.ensures.machines in
+    sym (run_of_tables machine_from t c.args.schedule.now.came (length items) (map state_of items) c.in_ok-ideal.ideal
+    (record {
+      machines = ap (map machine_from) ideal.fixed ∙ c.in_ok-ranks.ensures.machines;
+      limits = ideal.limits ∙ c.as_slice-2.ensures;
+      state = ideal.state;
+      marks = ideal.marks;
+      many = sym (length-map items fixed_of) ∙ count;
+    }) c.in_ok-ranks.ensures.states)
+    ∙ c.in_ok-run_slots.ensures.sent
