@@ -1,6 +1,6 @@
--- Every packet leaves a switch of one port without a limit, once and in its place. Each cell leaves in the slot in which it comes
--- (`OnePort`), so the departures are the arrivals. Of a packet's cells the last one alone is marked as last, so a packet leaves with
--- it, in its slot. And the arrivals are those of one packet after another.
+-- Every packet leaves a switch of one port without a limit, once and in its place. Each cell leaves in the slot in
+-- which it comes (`OnePort`), so the departures are the arrivals. Of a packet's cells the last one alone is marked as
+-- last, so a packet leaves with it, in its slot. And the arrivals are those of one packet after another.
 use Rattle.std.proofs.Common.{◌≡◌, ℕ, zero, suc, ◌+◌, ◌-◌, ◌*◌, ◌<◌, ◌≤◌, Bool, true, false, cond, List, [], ◌∷◌, ◌++◌, length, map, flat_map, Result, Ok, Err, refl, sym, ap, ◌∙◌, subst, arith}
 use Rattle.std.specs.Prelude.{◌&&◌, ◌==◌, None}
 use Rattle.std.specs.List.{AllByRecursion, AllPairs, filter, range_with_len}
@@ -38,22 +38,28 @@ abbrev BeginsFrom : ℕ → List Arrival → Type 0
 BeginsFrom slot [] = Unit {0}
 BeginsFrom slot (a ∷ came) = slot ≤ a.slot
 
-begins_later : (a : Arrival) (came : List Arrival) → a.cell.id.input ≡ 0 → AllByRecursion (λ b. b.cell.id.input ≡ 0) came → AllPairs IsLater (a ∷ came) → BeginsFrom (a.slot + 1) came
+begins_later : (a : Arrival) (came : List Arrival) → a.cell.id.input ≡ 0 →
+    AllByRecursion (λ b. b.cell.id.input ≡ 0) came → AllPairs IsLater (a ∷ came) → BeginsFrom (a.slot + 1) came
 begins_later a [] here all later = tt
 begins_later a (b ∷ came) here all later =
     let after : a.slot < b.slot = later 0 1 a (omega arith) (omega arith) (here ∙ sym all.0) in omega arith
 
-in_turn : (classes slot : ℕ) (came : List Arrival) → AllByRecursion (IsInRange 1 classes) came → AllPairs IsLater came → BeginsFrom slot came → InTurnFrom slot came
+in_turn : (classes slot : ℕ) (came : List Arrival) → AllByRecursion (IsInRange 1 classes) came →
+    AllPairs IsLater came → BeginsFrom slot came → InTurnFrom slot came
 in_turn classes slot [] ranges later first = tt
 in_turn classes slot (a ∷ came) ranges later first =
     let input : a.cell.id.input ≡ 0 = let l = ranges.0.input in omega arith in
     let output : a.cell.output ≡ 0 = let l = ranges.0.output in omega arith in
-    let inputs = all_from (IsInRange 1 classes) (λ b. b.cell.id.input ≡ 0) (λ b r. let l = r.input in omega arith) came ranges.1 in (
+    let inputs =
+    all_from (IsInRange 1 classes) (λ b. b.cell.id.input ≡ 0) (λ b r. let l = r.input in omega arith) came ranges.1 in (
       record { from = first; input = input; output = output },
-      in_turn classes (a.slot + 1) came ranges.1 (λ i j d less inside. later (suc i) (suc j) d (omega arith) (omega arith)) (begins_later a came input inputs later),
+      in_turn classes (a.slot + 1) came ranges.1
+          (λ i j d less inside. later (suc i) (suc j) d (omega arith) (omega arith))
+          (begins_later a came input inputs later),
     )
 
-ran_ok : (P : List Departure → Type 0) (x : Result Ran TagFault) (sent : List Departure) → departures_ran x ≡ Ok sent → ((ran : Ran) → x ≡ Ok ran → P (departures_of 0 ran.gone)) → P sent
+ran_ok : (P : List Departure → Type 0) (x : Result Ran TagFault) (sent : List Departure) →
+    departures_ran x ≡ Ok sent → ((ran : Ran) → x ≡ Ok ran → P (departures_of 0 ran.gone)) → P sent
 ran_ok P (Ok ran) sent h f = let same : departures_of 0 ran.gone ≡ sent = cc h in subst P same (f ran refl)
 ran_ok P (Err fault) sent h f = absurd (let Q : ⊥ = cc h in Q)
 
@@ -79,13 +85,17 @@ sent_in_slot t came sent one none traffic h =
     let ranks = openings_of t.setup in
     let whole = whole_limited_run t.limits ms came (empty_limited ports ranks) in
     let P : ℕ → Type 0 = λ n. AllByRecursion (IsInRange n (classes_of t.setup)) came in
-    let turn : InTurnFrom 0 came = in_turn (classes_of t.setup) 0 came (subst P one traffic.in_range) traffic.one_by_one (begins came) in
-    let before = all_from (λ a. a.slot < end_of came) (λ a. a.slot < 0 + (end_of came + length came)) (λ a l. omega arith) came (before_end came) in
+    let turn : InTurnFrom 0 came =
+    in_turn (classes_of t.setup) 0 came (subst P one traffic.in_range) traffic.one_by_one (begins came) in
+    let before =
+    all_from (λ a. a.slot < end_of came) (λ a. a.slot < 0 + (end_of came + length came)) (λ a l. omega arith) came
+    (before_end came) in
     ran_ok (λ l. AreInSlot came l) (ideal_run ms 0 (traffic_of came) (empty_ideal ports ranks)) sent
     (same_sent ms ports ranks came ∙ sym (ap departures_ran (run_as_before t.limits ms ports ranks came none))
     ∙ same_departures whole ∙ h)
     (λ ran is. each_in_its_slot ms 63 refl (enough came) 0 came ranks ran turn before
-    (ap (λ (l : List _). ideal_run ms 0 l (alone ranks)) (all_slots came) ∙ sym (ap (ideal_run ms 0 (traffic_of came)) (starts_alone ports ranks one)) ∙ is))
+    (ap (λ (l : List _). ideal_run ms 0 l (alone ranks)) (all_slots came)
+    ∙ sym (ap (ideal_run ms 0 (traffic_of came)) (starts_alone ports ranks one)) ∙ is))
   where
     begins : (came : List Arrival) → BeginsFrom 0 came
     begins [] = tt
@@ -103,20 +113,26 @@ module _ (t : Tables) (captures : List (List Captured)) where
       let p = packet_at captures a.cell.id.input a.cell.id.packet in
       record { stamp = first_stamp captures + a.slot * t.slot_ns; original = p.original; body = p.body }
 
-  one_out : (b : Bool) (d : Departure) (gone : List Departure) (came : List Arrival) → map (leaving t captures) gone ≡ map with_slot came
+  one_out : (b : Bool) (d : Departure) (gone : List Departure) (came : List Arrival) →
+      map (leaving t captures) gone ≡ map with_slot came
       → map (leaving t captures) (cond b (d ∷ gone) gone) ≡ map with_slot (cond b (as_arrival d ∷ came) came)
   one_out true d gone came e = ap (λ (l : List OutPacket). leaving t captures d ∷ l) e
   one_out false d gone came e = e
 
-  outs : (sent : List Departure) → AllByRecursion (λ d. d.output ≡ 0) sent → map (leaving t captures) (filter (ends_packet_at 0) sent) ≡ map with_slot (filter is_last (map as_arrival sent))
+  outs : (sent : List Departure) → AllByRecursion (λ d. d.output ≡ 0) sent →
+      map (leaving t captures) (filter (ends_packet_at 0) sent) ≡ map with_slot (filter is_last (map as_arrival sent))
   outs [] all = refl
   outs (d ∷ sent) all =
-      let own : ends_packet_at 0 d ≡ d.queued.cell.last = ap (λ (b : Bool). b && d.queued.cell.last) (eq-eqb d.output 0 all.0) in
-      ap (λ (b : Bool). map (leaving t captures) (cond b (d ∷ filter (ends_packet_at 0) sent) (filter (ends_packet_at 0) sent))) own
-      ∙ one_out d.queued.cell.last d (filter (ends_packet_at 0) sent) (filter is_last (map as_arrival sent)) (outs sent all.1)
+      let own : ends_packet_at 0 d ≡ d.queued.cell.last =
+      ap (λ (b : Bool). b && d.queued.cell.last) (eq-eqb d.output 0 all.0) in
+      ap (λ (b : Bool). map (leaving t captures)
+      (cond b (d ∷ filter (ends_packet_at 0) sent) (filter (ends_packet_at 0) sent))) own
+      ∙ one_out d.queued.cell.last d (filter (ends_packet_at 0) sent) (filter is_last (map as_arrival sent))
+      (outs sent all.1)
 
 -- of a packet's arrivals the last one alone is marked
-last_alone : (f : ℕ → Arrival) (total : ℕ) → ((i : ℕ) → (f i).cell.last ≡ (i + 1 == total)) → (n a : ℕ) → total ≡ a + suc n → filter is_last (map f (range_with_len a (suc n))) ≡ f (a + n) ∷ []
+last_alone : (f : ℕ → Arrival) (total : ℕ) → ((i : ℕ) → (f i).cell.last ≡ (i + 1 == total)) → (n a : ℕ) →
+    total ≡ a + suc n → filter is_last (map f (range_with_len a (suc n))) ≡ f (a + n) ∷ []
 last_alone f total marks zero a e =
     cond-true (is_last (f a)) (f a ∷ []) [] (marks a ∙ eq-eqb (a + 1) total (omega arith))
     ∙ ap (λ (i : ℕ). f i ∷ []) (let same : a ≡ a + zero = omega arith in same)
@@ -153,11 +169,14 @@ module _ (t : Tables) (captures : List (List Captured)) where
       ∙ last_alone (arrival_of k) (cells t captures 0 k) (marked k) n 0 total
       ∙ ap (λ (i : ℕ). arrival_of k i ∷ []) place
 
-  lasts : (n a : ℕ) → filter is_last (flat_map (arrivals_of t captures 0) (range_with_len a n)) ≡ map last_of (range_with_len a n)
+  lasts : (n a : ℕ) → filter is_last (flat_map (arrivals_of t captures 0) (range_with_len a n)) ≡ map last_of
+      (range_with_len a n)
   lasts zero a = refl
   lasts (suc n) a =
-      filter-append is_last (arrivals_of t captures 0 a) (flat_map (arrivals_of t captures 0) (range_with_len (a + 1) n))
-      ∙ ap (λ (l : List Arrival). l ++ filter is_last (flat_map (arrivals_of t captures 0) (range_with_len (a + 1) n))) (lasts_of a)
+      filter-append is_last (arrivals_of t captures 0 a)
+      (flat_map (arrivals_of t captures 0) (range_with_len (a + 1) n))
+      ∙ ap (λ (l : List Arrival). l ++ filter is_last
+      (flat_map (arrivals_of t captures 0) (range_with_len (a + 1) n))) (lasts_of a)
       ∙ ap (λ (l : List Arrival). last_of a ∷ l) (lasts n (a + 1))
 
 module _ (t : Tables) (packets : List Captured) where
@@ -168,7 +187,8 @@ module _ (t : Tables) (packets : List Captured) where
   unfolding arrivals arrivals_at
   arrivals_are = append-nil (flat_map (arrivals_of t one 0) (range_with_len 0 (length packets)))
 
-  as_passed : (n a : ℕ) → map (with_slot t one) (map (last_of t one) (range_with_len a n)) ≡ map (as_it_leaves t packets) (range_with_len a n)
+  as_passed : (n a : ℕ) → map (with_slot t one) (map (last_of t one) (range_with_len a n)) ≡ map
+      (as_it_leaves t packets) (range_with_len a n)
   unfolding cell_of
   as_passed zero a = refl
   as_passed (suc n) a = ap (λ (l : List OutPacket). as_it_leaves t packets a ∷ l) (as_passed n (a + 1))
@@ -177,7 +197,8 @@ module _ (t : Tables) (packets : List Captured) where
       ideal_departures t (arrivals t one) ≡ Ok sent → packets_out t one sent 0 ≡ all_leave t packets
   unfolding packets_out
   all_leave_is sent are single none h =
-      let in_slot : AreInSlot (arrivals t one) sent = sent_in_slot t (arrivals t one) sent single none (traffic_is t one are (sym single)) h in
+      let in_slot : AreInSlot (arrivals t one) sent =
+      sent_in_slot t (arrivals t one) sent single none (traffic_is t one are (sym single)) h in
       outs t one sent in_slot.output
       ∙ ap (λ (l : List Arrival). map (with_slot t one) (filter is_last l)) (in_slot.cells ∙ arrivals_are)
       ∙ ap (map (with_slot t one)) (lasts t one (length packets) 0)

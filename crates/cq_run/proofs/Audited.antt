@@ -1,5 +1,5 @@
--- Judging an audit: the configuration, its captures, the trace, the log, and then the ideal run. Where all of them are there it
--- aims at a yes, which the log and the trace meet or deny.
+-- Judging an audit: the configuration, its captures, the trace, the log, and then the ideal run. Where all of them
+-- are there it aims at a yes, which the log and the trace meet or deny.
 use Rattle.std.proofs.Common.{◌≡◌, ◌∙◌, ℕ, List, refl, sym, ap, subst, inl, inr}
 use Rattle.std.specs.Prelude.{Option, None, Some, IfSome, Result, Ok, Err, IsOkAnd}
 use Rattle.cq_base.specs.Texts.{trace_of}

@@ -1,5 +1,5 @@
--- The captures of the outputs, one after another: those that were made and those that are still to be made are all. Each is
--- that of the packets which were put together at its output.
+-- The captures of the outputs, one after another: those that were made and those that are still to be made are all.
+-- Each is that of the packets which were put together at its output.
 use Rattle.std.proofs.Common.{◌≡◌, ◌<◌, ◌≤◌, ◌∙◌, ℕ, ◌+◌, All, List, [], ◌∷◌, ◌++◌, length, drop, get_or, refl, ap, sym, subst, add-one, append_assoc, arith}
 use Rattle.std.specs.Prelude.{Result, Ok, Err}
 use Rattle.std.proofs.lemmas.List.{append-nil, drop_all, drop_more}
@@ -24,7 +24,8 @@ use Rattle.cq_simulate.specs.Packets.{ArePacked, LeaveWhole}
 use Rattle.cq_simulate.specs.declared.packing.Packing.{Packing}
 
 -- a plan of these names and this text
-pub plan_is : (plan : Plan) (writes : List (List ℕ × List ℕ)) (text : List ℕ) → plan.writes ≡ writes → plan.text ≡ text → plan ≡ record { writes = writes; text = text }
+pub plan_is : (plan : Plan) (writes : List (List ℕ × List ℕ)) (text : List ℕ) → plan.writes ≡ writes →
+    plan.text ≡ text → plan ≡ record { writes = writes; text = text }
 plan_is plan writes text e f =
     ap (λ (ws : List (List ℕ × List ℕ)). let p : Plan = record { writes = ws; text = plan.text } in p) e
     ∙ ap (λ (tx : List ℕ). let p : Plan = record { writes = writes; text = tx } in p) f
@@ -51,7 +52,8 @@ module _ (t : Tables) (captures : List (List Captured)) (sent : List Departure) 
       let P : List (List Captured) → Type 0 = λ cs. LeaveWhole (arrivals t cs) sent in subst P (sym same) h
 
   -- what was put together at an output
-  module _ (lent : List (List Captured)) (left places : List Packing) (same_captures : lent ≡ captures) (same : places ≡ left)
+  module _ (lent : List (List Captured)) (left places : List Packing) (same_captures : lent ≡ captures)
+      (same : places ≡ left)
       (packed : ArePacked t lent sent left) (output : ℕ) (there : output < ports_of t.setup) where
     pub in_places : output < length places
     in_places =
@@ -73,43 +75,59 @@ module _ (t : Tables) (captures : List (List Captured)) (sent : List Departure) 
 
       pub file_is : (bytes : List ℕ) → bytes ≡ written place.packets.items → bytes ≡ capture_out t captures sent output
       file_is bytes built =
-          built ∙ ap (λ (q : Packing). written q.packets.items) is_left ∙ ap written (packed.packets output place in_left)
+          built ∙ ap (λ (q : Packing). written q.packets.items) is_left
+          ∙ ap written (packed.packets output place in_left)
           ∙ ap (λ (cs : List (List Captured)). capture_out t cs sent output) same_captures
 
   -- the first output, and those after it
-  captures_of_more : (k : ℕ) (row : PortRow) (rows : List PortRow) → captures_out t captures sent k (row ∷ rows) ≡ (row.write, capture_out t captures sent k) ∷ captures_out t captures sent (k + 1) rows
+  captures_of_more : (k : ℕ) (row : PortRow) (rows : List PortRow) →
+      captures_out t captures sent k (row ∷ rows) ≡ (row.write, capture_out t captures sent k) ∷ captures_out t
+      captures sent (k + 1) rows
   unfolding captures_out
   captures_of_more k row rows = rw add-one refl
 
   -- what was made of the first k, with what is to be made of the rest
-  pub made_more : (rows : List PortRow) (k : ℕ) (row : PortRow) (d : PortRow) (made more all : List (List ℕ × List ℕ)) (name bytes : List ℕ) → k < length rows → row ≡ get_or rows k d → name ≡ row.write → bytes ≡ capture_out t captures sent k → more ≡ made ++ (name, bytes) ∷ []
-      → made ++ captures_out t captures sent k (drop k rows) ≡ all → more ++ captures_out t captures sent (k + 1) (drop (k + 1) rows) ≡ all
+  pub made_more : (rows : List PortRow) (k : ℕ) (row : PortRow) (d : PortRow) (made more all : List (List ℕ × List ℕ))
+      (name bytes : List ℕ) → k < length rows → row ≡ get_or rows k d → name ≡ row.write →
+      bytes ≡ capture_out t captures sent k → more ≡ made ++ (name, bytes) ∷ []
+      → made ++ captures_out t captures sent k (drop k rows) ≡ all →
+      more ++ captures_out t captures sent (k + 1) (drop (k + 1) rows) ≡ all
   made_more rows k row d made more all name bytes inside is named built pushed so_far =
       let rest = captures_out t captures sent (k + 1) (drop (k + 1) rows) in
       ap (λ (ws : List (List ℕ × List ℕ)). ws ++ rest) pushed
       ∙ append_assoc made ((name, bytes) ∷ []) rest
       ∙ ap (λ (n : List ℕ). made ++ (n, bytes) ∷ rest) (named ∙ ap (λ (r : PortRow). r.write) is)
       ∙ ap (λ (b : List ℕ). made ++ ((get_or rows k d).write, b) ∷ rest) built
-      ∙ ap (λ (ws : List (List ℕ × List ℕ)). made ++ ws) (sym (ap (captures_out t captures sent k) (drop_more rows k d inside) ∙ captures_of_more k (get_or rows k d) (drop (k + 1) rows)))
+      ∙ ap (λ (ws : List (List ℕ × List ℕ)). made ++ ws)
+      (sym (ap (captures_out t captures sent k) (drop_more rows k d inside)
+      ∙ captures_of_more k (get_or rows k d) (drop (k + 1) rows)))
       ∙ so_far
 
   -- at the end all are made
-  pub made_all : (rows : List PortRow) (k : ℕ) (made all : List (List ℕ × List ℕ)) → length rows ≤ k → made ++ captures_out t captures sent k (drop k rows) ≡ all → made ≡ all
+  pub made_all : (rows : List PortRow) (k : ℕ) (made all : List (List ℕ × List ℕ)) → length rows ≤ k →
+      made ++ captures_out t captures sent k (drop k rows) ≡ all → made ≡ all
   unfolding captures_out
-  made_all rows k made all over so_far = sym (append-nil made) ∙ ap (λ (rs : List PortRow). made ++ captures_out t captures sent k rs) (sym (drop_all k rows over)) ∙ so_far
+  made_all rows k made all over so_far =
+      sym (append-nil made) ∙ ap (λ (rs : List PortRow). made ++ captures_out t captures sent k rs)
+      (sym (drop_all k rows over)) ∙ so_far
 
   -- a plan with these and the trace
-  pub switched_is : (plan : Plan) (made more : List (List ℕ × List ℕ)) (bytes : List ℕ) → made ≡ captures_out t captures sent 0 t.ports → more ≡ made ++ (t.trace, bytes) ∷ [] → bytes ≡ trace_of sent
+  pub switched_is : (plan : Plan) (made more : List (List ℕ × List ℕ)) (bytes : List ℕ) →
+      made ≡ captures_out t captures sent 0 t.ports → more ≡ made ++ (t.trace, bytes) ∷ [] → bytes ≡ trace_of sent
       → plan.writes ≡ more → plan.text ≡ [] → plan ≡ switched t captures sent
   unfolding switched
   switched_is plan made more bytes all pushed traced writes none =
       plan_is plan (captures_out t captures sent 0 t.ports ++ (t.trace, trace_of sent) ∷ []) []
-      (writes ∙ pushed ∙ ap (λ (ws : List (List ℕ × List ℕ)). ws ++ (t.trace, bytes) ∷ []) all ∙ ap (λ (b : List ℕ). captures_out t captures sent 0 t.ports ++ (t.trace, b) ∷ []) traced)
+      (writes ∙ pushed ∙ ap (λ (ws : List (List ℕ × List ℕ)). ws ++ (t.trace, bytes) ∷ []) all
+      ∙ ap (λ (b : List ℕ). captures_out t captures sent 0 t.ports ++ (t.trace, b) ∷ []) traced)
       none
 
   -- these, the trace and the log
-  pub crossed_writes : (made traced logged : List (List ℕ × List ℕ)) (trace log : List ℕ) (note : List Transfer) → made ≡ captures_out t captures sent 0 t.ports → traced ≡ made ++ (t.trace, trace) ∷ [] → logged ≡ traced ++ (t.log, log) ∷ []
-      → trace ≡ trace_of sent → log ≡ log_of note → logged ≡ captures_out t captures sent 0 t.ports ++ (t.trace, trace_of sent) ∷ (t.log, log_of note) ∷ []
+  pub crossed_writes : (made traced logged : List (List ℕ × List ℕ)) (trace log : List ℕ) (note : List Transfer) →
+      made ≡ captures_out t captures sent 0 t.ports → traced ≡ made ++ (t.trace, trace) ∷ [] →
+      logged ≡ traced ++ (t.log, log) ∷ []
+      → trace ≡ trace_of sent → log ≡ log_of note →
+      logged ≡ captures_out t captures sent 0 t.ports ++ (t.trace, trace_of sent) ∷ (t.log, log_of note) ∷ []
   crossed_writes made traced logged trace log note all first second is_trace is_log =
       second
       ∙ ap (λ (ws : List (List ℕ × List ℕ)). ws ++ (t.log, log) ∷ []) first

@@ -1,4 +1,7 @@
--- From how a run ends to what its status says. Each end has one status, and what the end says of the verdict is what the status says of it. The table of refusals is used for three facts alone: no refusal has a status of an end that is none, one with the status of read faults comes only where contents are told, and words are refused only where they are no command.
+-- From how a run ends to what its status says. Each end has one status, and what the end says of the verdict is what
+-- the status says of it. The table of refusals is used for three facts alone: no refusal has a status of an end that
+-- is none, one with the status of read faults comes only where contents are told, and words are refused only where
+-- they are no command.
 use Rattle.std.proofs.Common.{◌≡◌, ◌≢◌, ◌⊎◌, ℕ, IsTrue, List, [], ◌∷◌, refl, ap, sym, subst, ◌∙◌, inl, inr}
 use Rattle.std.specs.Prelude.{Option, None, Some, IfSome, MatchOption, Result, Ok, Err, IsOkAnd}
 use Rattle.cq_space.specs.Causes.{Rose}
@@ -74,10 +77,12 @@ abbrev Outruns : Status → Type 0
 Outruns answer = (answer ≡ status.Capture) ⊎ (answer ≡ status.NoMemory)
 
 -- a cut at a file was counted since the start
-cut_rose : (ws : List (List ℕ × List ℕ)) (name : List ℕ) (old new : Space) → IsCutAtFile ws name old new → Rose old.faults new.faults
+cut_rose : (ws : List (List ℕ × List ℕ)) (name : List ℕ) (old new : Space) → IsCutAtFile ws name old new →
+    Rose old.faults new.faults
 cut_rose [] name old new h = absurd h
 cut_rose (w ∷ ws) name old new (inl h) = h.1.cause
-cut_rose (w ∷ ws) name old new (inr h) = rose_from old.faults h.0.faults new.faults h.1.uncounted (cut_rose ws name h.0 new h.2)
+cut_rose (w ∷ ws) name old new (inr h) =
+    rose_from old.faults h.0.faults new.faults h.1.uncounted (cut_rose ws name h.0 new h.2)
 
 -- a fact of what is aimed at where one plan meets it
 aimed : (v : Result Aim Refusal) (P Q : Aim → Type 0) → ((aim : Aim) → P aim → Q aim) → IsOkAnd v P → IsOkAnd v Q
@@ -90,14 +95,19 @@ aimed_status (Err e) P h = absurd h
 
 -- a verdict calls for the status of its refusal, and of what denies its aim
 refused_status : (v : Result Aim Refusal) (r : Refusal) → v ≡ Err r → CallsFor v (meaning_of r).status
-refused_status v r e = let P : Result Aim Refusal → Type 0 = λ x. CallsFor x (meaning_of r).status in subst P (sym e) refl
+refused_status v r e =
+    let P : Result Aim Refusal → Type 0 = λ x. CallsFor x (meaning_of r).status in
+    subst P (sym e) refl
 
-denied_status : (v : Result Aim Refusal) (r : Refusal) → IsOkAnd v (λ aim. Denies aim r) → CallsFor v (meaning_of r).status
+denied_status : (v : Result Aim Refusal) (r : Refusal) → IsOkAnd v (λ aim. Denies aim r) →
+    CallsFor v (meaning_of r).status
 denied_status (Ok aim) r h = inr (r, h, refl)
 denied_status (Err e) r h = absurd h
 
 -- want of memory says nothing of the verdict
-memory_causes : (p : Pace) (v : Contents → Result Aim Refusal) (known : Option Contents) (old new : World) → Uncounted p (Outruns status.NoMemory) old.files.faults new.files.faults → IsUntouched old new → StatusCauses p v known old new status.NoMemory
+memory_causes : (p : Pace) (v : Contents → Result Aim Refusal) (known : Option Contents) (old new : World) →
+    Uncounted p (Outruns status.NoMemory) old.files.faults new.files.faults → IsUntouched old new →
+    StatusCauses p v known old new status.NoMemory
 memory_causes p v known old new c h = record {
   by_verdict = λ r w m. absurd (m refl);
   done = λ e. cc;
@@ -109,11 +119,13 @@ memory_causes p v known old new c h = record {
   complete = λ f o. told_any known _ (λ m. inr refl);
 }
 
--- What is said of the verdict where contents are known calls for the status of a refusal: it is the verdict, or denies what
--- the verdict aims at.
-halted_causes : (p : Pace) (v : Contents → Result Aim Refusal) (known : Option Contents) (r : Refusal) (old new : World) (P : Contents → Type 0)
+-- What is said of the verdict where contents are known calls for the status of a refusal: it is the verdict, or
+-- denies what the verdict aims at.
+halted_causes : (p : Pace) (v : Contents → Result Aim Refusal) (known : Option Contents) (r : Refusal)
+    (old new : World) (P : Contents → Type 0)
     → ((m : Contents) → P m → CallsFor (v m) (meaning_of r).status) → MatchOption known (IsTrue (meaning_of r).untold) P
-    → Uncounted p (Outruns (meaning_of r).status) old.files.faults new.files.faults → IsUntouched old new → StatusCauses p v known old new (meaning_of r).status
+    → Uncounted p (Outruns (meaning_of r).status) old.files.faults new.files.faults → IsUntouched old new →
+    StatusCauses p v known old new (meaning_of r).status
 halted_causes p v known r old new P calls h c u =
     let by : IfSome known P = told_of_match known (IsTrue (meaning_of r).untold) P h in
     record {
@@ -126,29 +138,40 @@ halted_causes p v known r old new P calls h c u =
       write_planned = λ e. absurd (not_cut r e);
       untouched = λ _ _. u;
       uncounted = λ _ _. (c, ap (λ s. s.faults) u.out);
-      complete = λ _ _. told_map known P (λ m. CallsFor (v m) (meaning_of r).status ⊎ ((meaning_of r).status ≡ status.NoMemory)) (λ m q. inl (calls m q)) by;
+      complete =
+          λ _ _. told_map known P (λ m. CallsFor (v m) (meaning_of r).status
+          ⊎ ((meaning_of r).status ≡ status.NoMemory)) (λ m q. inl (calls m q)) by;
     }
 
 -- a refusal is the verdict
-refusal_causes : (p : Pace) (v : Contents → Result Aim Refusal) (known : Option Contents) (r : Refusal) (old new : World) → MatchOption known (IsTrue (meaning_of r).untold) (λ m. v m ≡ Err r)
-    → Uncounted p (Outruns (meaning_of r).status) old.files.faults new.files.faults → IsUntouched old new → StatusCauses p v known old new (meaning_of r).status
+refusal_causes : (p : Pace) (v : Contents → Result Aim Refusal) (known : Option Contents) (r : Refusal)
+    (old new : World) → MatchOption known (IsTrue (meaning_of r).untold) (λ m. v m ≡ Err r)
+    → Uncounted p (Outruns (meaning_of r).status) old.files.faults new.files.faults → IsUntouched old new →
+    StatusCauses p v known old new (meaning_of r).status
 refusal_causes p v known r old new h c u =
     halted_causes p v known r old new (λ m. v m ≡ Err r) (λ m e. refused_status (v m) r e) h c u
 
 -- a denial denies it
-denial_causes : (p : Pace) (v : Contents → Result Aim Refusal) (known : Option Contents) (r : Refusal) (old new : World) → IsDenial v known r
-    → Uncounted p (Outruns (meaning_of r).status) old.files.faults new.files.faults → IsUntouched old new → StatusCauses p v known old new (meaning_of r).status
+denial_causes : (p : Pace) (v : Contents → Result Aim Refusal) (known : Option Contents) (r : Refusal)
+    (old new : World) → IsDenial v known r
+    → Uncounted p (Outruns (meaning_of r).status) old.files.faults new.files.faults → IsUntouched old new →
+    StatusCauses p v known old new (meaning_of r).status
 denial_causes p v known r old new h c u =
     halted_causes p v known r old new (λ m. IsOkAnd (v m) (λ aim. Denies aim r)) (λ m d. denied_status (v m) r d) h c u
 
 -- a plan that was cut short is aimed at, and the cut was counted
-cut_causes : (p : Pace) (v : Contents → Result Aim Refusal) (known : Option Contents) (plan : Plan) (old new : World) → IfSome known (λ m. IsOkAnd (v m) (λ aim. Meets aim plan)) → Rose old.files.faults new.files.faults ⊎ Rose old.out.faults new.out.faults → StatusCauses p v known old new status.WriteFault
+cut_causes : (p : Pace) (v : Contents → Result Aim Refusal) (known : Option Contents) (plan : Plan) (old new : World)
+    → IfSome known (λ m. IsOkAnd (v m) (λ aim. Meets aim plan)) →
+    Rose old.files.faults new.files.faults ⊎ Rose old.out.faults new.out.faults →
+    StatusCauses p v known old new status.WriteFault
 cut_causes p v known plan old new by rose = record {
   by_verdict = λ _ w _. absurd (w refl);
   done = λ e. cc;
   read = λ e. cc;
   write = λ _. rose;
-  write_planned = λ _. told_map known _ _ (λ m e. aimed (v m) (λ aim. Meets aim plan) (λ aim. (p : Plan) × Meets aim p) (λ aim h. (plan, h)) e) by;
+  write_planned =
+      λ _. told_map known _ _ (λ m e. aimed (v m) (λ aim. Meets aim plan) (λ aim. (p : Plan) × Meets aim p)
+      (λ aim h. (plan, h)) e) by;
   untouched = λ _ w. absurd (w refl);
   uncounted = λ _ w. absurd (w refl);
   complete = λ f o. absurd (elim rose as (λ _. ⊥) [ inl r ↦ f r | inr r ↦ o r ]);
@@ -168,28 +191,51 @@ module _ (p : Pace) (a : Reader) (R : List ℕ → Type 0) (command : Command) (
       (counts_known p U (Outruns (meaning_of r).status) command old.files new.files (λ w. inl (outruns_is r w.0)) h.1) u
   refused_at r u (inr h) =
       denial_causes p (judged a command) (known_to command old.files).told r old new h.0
-      (counts_same p (Outruns (meaning_of r).status) old.files.faults new.files.faults (same_faults command old.files new.files h.1)) u
+      (counts_same p (Outruns (meaning_of r).status) old.files.faults new.files.faults
+      (same_faults command old.files new.files h.1)) u
 
-  unread_rose : (name : List ℕ) → CommandHalts p (judged a command) Asked (known_to command old.files) (known_to command new.files) (Unread name)
+  unread_rose : (name : List ℕ) → CommandHalts p (judged a command) Asked (known_to command old.files)
+      (known_to command new.files) (Unread name)
       → Rose old.files.faults new.files.faults
   unread_rose name (inl h) = rose_known command old.files new.files h.0
   unread_rose name (inr h) = absurd h
 
-  memory_counts : CommandHalts p (judged a command) Asked (known_to command old.files) (known_to command new.files) NoMemory
+  memory_counts : CommandHalts p (judged a command) Asked (known_to command old.files) (known_to command new.files)
+      NoMemory
       → Uncounted p (Outruns status.NoMemory) old.files.faults new.files.faults
-  memory_counts (inl h) = counts_known p (AnyName Asked) (Outruns status.NoMemory) command old.files new.files (λ u. inr refl) h
+  memory_counts (inl h) =
+      counts_known p (AnyName Asked) (Outruns status.NoMemory) command old.files new.files (λ u. inr refl) h
   memory_counts (inr h) = absurd h
 
-command_causes : (p : Pace) (a : Reader) (R W : List ℕ → Type 0) (T : Type 0) (command : Command) (old new : World) (end : Result (Unit {0}) Stop) → CommandEnds p a R W T command old new end → StatusCauses p (judged a command) (known_to command old.files).told old new (status_of end)
+-- how a run ends, by whether its words are a command
+abbrev pub Ends : Pace → Reader → (List ℕ → Type 0) → (List ℕ → Type 0) → Type 0 → Option Command → World → World →
+    Result (Unit {0}) Stop → Type 0
+Ends p a R W T command old new end =
+    MatchOption command (WordsEnd old new end) (λ c. CommandEnds p a R W T c old new end)
+
+command_causes : (p : Pace) (a : Reader) (R W : List ℕ → Type 0) (T : Type 0) (command : Command) (old new : World)
+    (end : Result (Unit {0}) Stop) → CommandEnds p a R W T command old new end →
+    StatusCauses p (judged a command) (known_to command old.files).told old new (status_of end)
 command_causes p a R W T command old new (Ok x) h = record {
-  by_verdict = λ _ _ _. told_map (known_to command old.files).told _ _ (λ m e. aimed_status (judged a command m) (λ aim. Meets aim h.0) e) h.1.verdict;
-  done = λ _. told_map (known_to command old.files).told _ _ (λ m e. aimed (judged a command m) (λ aim. Meets aim h.0) (λ aim. (plan : Plan) × Meets aim plan × IsDone plan old new) (λ aim meets. (h.0, meets, h.2)) e) h.1.verdict;
+  by_verdict =
+      λ _ _ _. told_map (known_to command old.files).told _ _
+      (λ m e. aimed_status (judged a command m) (λ aim. Meets aim h.0) e) h.1.verdict;
+  done =
+      λ _. told_map (known_to command old.files).told _ _
+      (λ m e. aimed (judged a command m) (λ aim. Meets aim h.0)
+      (λ aim. (plan : Plan) × Meets aim plan × IsDone plan old new) (λ aim meets. (h.0, meets, h.2)) e) h.1.verdict;
   read = λ e. cc;
   write = λ e. cc;
   write_planned = λ e. cc;
   untouched = λ d _. absurd (d refl);
-  uncounted = λ _ _. (counts_same p (Outruns status.Done) old.files.faults new.files.faults h.2.files_uncounted, h.2.out_uncounted);
-  complete = λ _ _. told_map (known_to command old.files).told _ _ (λ m e. inl (aimed_status (judged a command m) (λ aim. Meets aim h.0) e)) h.1.verdict;
+  uncounted =
+      λ _ _. (
+        counts_same p (Outruns status.Done) old.files.faults new.files.faults h.2.files_uncounted,
+        h.2.out_uncounted,
+      );
+  complete =
+      λ _ _. told_map (known_to command old.files).told _ _
+      (λ m e. inl (aimed_status (judged a command m) (λ aim. Meets aim h.0) e)) h.1.verdict;
 }
 command_causes p a R W T command old new (Err (Halted (Refused r))) h = refused_at p a R command old new r h.1 h.0
 command_causes p a R W T command old new (Err (Halted (Unread name))) h =
@@ -205,16 +251,22 @@ command_causes p a R W T command old new (Err (Halted (Unread name))) h =
       complete = λ f _. absurd (f rose);
     }
 command_causes p a R W T command old new (Err (Halted NoMemory)) h =
-    memory_causes p (judged a command) (known_to command old.files).told old new (memory_counts p a R command old new h.0) h.1
-command_causes p a R W T command old new (Err (Cut (File name))) h = cut_causes p (judged a command) (known_to command old.files).told h.0 old new h.1.verdict (inl (cut_rose h.0.writes name old.files new.files h.2.0))
-command_causes p a R W T command old new (Err (Cut Output)) h = cut_causes p (judged a command) (known_to command old.files).told h.0 old new h.1.verdict (inr h.2.0.cause)
+    memory_causes p (judged a command) (known_to command old.files).told old new
+    (memory_counts p a R command old new h.0) h.1
+command_causes p a R W T command old new (Err (Cut (File name))) h =
+    cut_causes p (judged a command) (known_to command old.files).told h.0 old new h.1.verdict
+    (inl (cut_rose h.0.writes name old.files new.files h.2.0))
+command_causes p a R W T command old new (Err (Cut Output)) h =
+    cut_causes p (judged a command) (known_to command old.files).told h.0 old new h.1.verdict (inr h.2.0.cause)
 
 untouched : (old new : World) → new ≡ old → IsUntouched old new
 untouched old new e = record { told = ap (λ w. w.files.told) e; out = ap (λ w. w.out) e }
 
-words_causes : (p : Pace) (a : Reader) (old new : World) (end : Result (Unit {0}) Stop) → WordsEnd old new end → StatusCauses p (judged_or_words a None) old.files.told old new (status_of end)
+words_causes : (p : Pace) (a : Reader) (old new : World) (end : Result (Unit {0}) Stop) → WordsEnd old new end →
+    StatusCauses p (judged_or_words a None) old.files.told old new (status_of end)
 words_causes p a old new end (e, h) =
-    let P : Result (Unit {0}) Stop → Type 0 = λ r. StatusCauses p (judged_or_words a None) old.files.told old new (status_of r) in
+    let P : Result (Unit {0}) Stop → Type 0 =
+    λ r. StatusCauses p (judged_or_words a None) old.files.told old new (status_of r) in
     subst P (sym e) record {
       by_verdict = λ _ _ _. told_any old.files.told _ (λ m. refl);
       done = λ d. cc;
@@ -222,17 +274,29 @@ words_causes p a old new end (e, h) =
       write = λ w. cc;
       write_planned = λ w. cc;
       untouched = λ _ _. untouched old new h;
-      uncounted = λ _ _. (counts_same p (Outruns status.Words) old.files.faults new.files.faults (ap (λ w. w.files.faults) h), ap (λ w. w.out.faults) h);
+      uncounted =
+          λ _ _. (
+            counts_same p (Outruns status.Words) old.files.faults new.files.faults (ap (λ w. w.files.faults) h),
+            ap (λ w. w.out.faults) h,
+          );
       complete = λ _ _. told_any old.files.told _ (λ m. inl refl);
     }
 
-causes : (p : Pace) (a : Reader) (R W : List ℕ → Type 0) (T : Type 0) (command : Option Command) (old new : World) (end : Result (Unit {0}) Stop) → MatchOption command (WordsEnd old new end) (λ c. CommandEnds p a R W T c old new end) → StatusCauses p (judged_or_words a command) (known_by command old.files) old new (status_of end)
+causes : (p : Pace) (a : Reader) (R W : List ℕ → Type 0) (T : Type 0) (command : Option Command) (old new : World)
+    (end : Result (Unit {0}) Stop) → Ends p a R W T command old new end →
+    StatusCauses p (judged_or_words a command) (known_by command old.files) old new (status_of end)
 causes p a R W T None old new end h = words_causes p a old new end h
 causes p a R W T (Some c) old new end h = command_causes p a R W T c old new end h
 
 -- the top call's status is that of its end
-pub causes_at : (p : Pace) (a : Reader) (R W : List ℕ → Type 0) (T : Type 0) (command : Option Command) (old new : World) (end : Result (Unit {0}) Stop) (answer : Status) → answer ≡ status_of end → MatchOption command (WordsEnd old new end) (λ c. CommandEnds p a R W T c old new end) → StatusCauses p (judged_or_words a command) (known_by command old.files) old new answer
-causes_at p a R W T command old new end answer e h = let P : Status → Type 0 = λ s. StatusCauses p (judged_or_words a command) (known_by command old.files) old new s in subst P (sym e) (causes p a R W T command old new end h)
+pub causes_at : (p : Pace) (a : Reader) (R W : List ℕ → Type 0) (T : Type 0) (command : Option Command)
+    (old new : World) (end : Result (Unit {0}) Stop) (answer : Status) → answer ≡ status_of end →
+    Ends p a R W T command old new end →
+    StatusCauses p (judged_or_words a command) (known_by command old.files) old new answer
+causes_at p a R W T command old new end answer e h =
+    let P : Status → Type 0 =
+    λ s. StatusCauses p (judged_or_words a command) (known_by command old.files) old new s in
+    subst P (sym e) (causes p a R W T command old new end h)
 
 -- only words that are no command are refused as such
 
@@ -266,7 +330,8 @@ not_denied : (a : Reader) (command : Command) (told : Option Contents) → IsDen
 not_denied a command None h = cc
 not_denied a command (Some m) h = never_denied_at (judged a command m) h
 
-not_words_at : (p : Pace) (a : Reader) (R : List ℕ → Type 0) (command : Command) (old new : World) (r : Refusal) → r ≡ Words
+not_words_at : (p : Pace) (a : Reader) (R : List ℕ → Type 0) (command : Command) (old new : World) (r : Refusal) →
+    r ≡ Words
     → CommandHalts p (judged a command) R (known_to command old.files) (known_to command new.files) (Refused r) → ⊥
 not_words_at p a R command old new r is (inl h) =
     let P : Refusal → Type 0 = λ s. IsRefused (judged a command) (known_to command old.files).told s in
@@ -275,7 +340,8 @@ not_words_at p a R command old new r is (inr h) =
     let P : Refusal → Type 0 = λ s. IsDenial (judged a command) (known_to command old.files).told s in
     not_denied a command (known_to command old.files).told (subst P is h.0)
 
-not_words : (p : Pace) (a : Reader) (R W : List ℕ → Type 0) (T : Type 0) (command : Command) (old new : World) (end : Result (Unit {0}) Stop) → CommandEnds p a R W T command old new end → status_of end ≡ status.Words → ⊥
+not_words : (p : Pace) (a : Reader) (R W : List ℕ → Type 0) (T : Type 0) (command : Command) (old new : World)
+    (end : Result (Unit {0}) Stop) → CommandEnds p a R W T command old new end → status_of end ≡ status.Words → ⊥
 not_words p a R W T command old new (Ok x) h e = cc
 not_words p a R W T command old new (Err (Halted (Refused r))) h e =
     not_words_at p a (λ name. MayRead command name × R name) command old new r (words_is r e) h.0
@@ -284,20 +350,24 @@ not_words p a R W T command old new (Err (Halted NoMemory)) h e = cc
 not_words p a R W T command old new (Err (Cut at)) h e = cc
 
 -- words that are no command end with the status of such words
-pub words_end : (p : Pace) (a : Reader) (R W : List ℕ → Type 0) (T : Type 0) (command : Option Command) (old new : World) (end : Result (Unit {0}) Stop) (answer : Status) → answer ≡ status_of end
-    → MatchOption command (WordsEnd old new end) (λ c. CommandEnds p a R W T c old new end) → command ≡ None → answer ≡ status.Words
+pub words_end : (p : Pace) (a : Reader) (R W : List ℕ → Type 0) (T : Type 0) (command : Option Command)
+    (old new : World) (end : Result (Unit {0}) Stop) (answer : Status) → answer ≡ status_of end
+    → Ends p a R W T command old new end → command ≡ None → answer ≡ status.Words
 words_end p a R W T None old new end answer e h none = e ∙ ap status_of h.0
 words_end p a R W T (Some c) old new end answer e h none = absurd (let P : ⊥ = cc none in P)
 
-pub only_words : (p : Pace) (a : Reader) (R W : List ℕ → Type 0) (T : Type 0) (command : Option Command) (old new : World) (end : Result (Unit {0}) Stop) (answer : Status) → answer ≡ status_of end → MatchOption command (WordsEnd old new end) (λ c. CommandEnds p a R W T c old new end) → answer ≡ status.Words → command ≡ None
+pub only_words : (p : Pace) (a : Reader) (R W : List ℕ → Type 0) (T : Type 0) (command : Option Command)
+    (old new : World) (end : Result (Unit {0}) Stop) (answer : Status) → answer ≡ status_of end →
+    Ends p a R W T command old new end → answer ≡ status.Words → command ≡ None
 only_words p a R W T None old new end answer e h w = refl
 only_words p a R W T (Some c) old new end answer e h w = absurd (not_words p a R W T c old new end h (sym e ∙ w))
 
 -- ## The headline
 
 -- a command that is done emulates
-emulated : (p : Pace) (a : Reader) (R W : List ℕ → Type 0) (T : Type 0) (command : Option Command) (old new : World) (x : Unit {0})
-    → MatchOption command (WordsEnd old new (Ok x)) (λ c. CommandEnds p a R W T c old new (Ok x)) → (c : Command) → command ≡ Some c
+emulated : (p : Pace) (a : Reader) (R W : List ℕ → Type 0) (T : Type 0) (command : Option Command) (old new : World)
+    (x : Unit {0})
+    → Ends p a R W T command old new (Ok x) → (c : Command) → command ≡ Some c
     → IfSome old.files.told (λ m. (plan : Plan) × Emulates a c m plan × IsDone plan old new)
 emulated p a R W T None old new x h c e = absurd (let P : ⊥ = cc e in P)
 emulated p a R W T (Some d) old new x h c e =
@@ -307,8 +377,9 @@ emulated p a R W T (Some d) old new x h c e =
     told_map old.files.told _ _ (λ m does. (ends.0, does, ends.2)) ends.1.emulates
 
 -- the same of an end that is known by its status
-pub emulated_at : (p : Pace) (a : Reader) (R W : List ℕ → Type 0) (T : Type 0) (command : Option Command) (old new : World) (end : Result (Unit {0}) Stop)
-    → status_of end ≡ status.Done → MatchOption command (WordsEnd old new end) (λ c. CommandEnds p a R W T c old new end) → (c : Command) → command ≡ Some c
+pub emulated_at : (p : Pace) (a : Reader) (R W : List ℕ → Type 0) (T : Type 0) (command : Option Command)
+    (old new : World) (end : Result (Unit {0}) Stop)
+    → status_of end ≡ status.Done → Ends p a R W T command old new end → (c : Command) → command ≡ Some c
     → IfSome old.files.told (λ m. (plan : Plan) × Emulates a c m plan × IsDone plan old new)
 emulated_at p a R W T command old new (Ok x) done h c e = emulated p a R W T command old new x h c e
 emulated_at p a R W T command old new (Err (Halted (Refused r))) done h c e = absurd (not_done r done)

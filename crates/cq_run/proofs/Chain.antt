@@ -1,4 +1,6 @@
--- One judgement after another. Where the first ends without an answer, so do both; where it has one, both end as the second does. A name that the second is to read is to be read by both, since the first comes to the same without it, or misses it.
+-- One judgement after another. Where the first ends without an answer, so do both; where it has one, both end as the
+-- second does. A name that the second is to read is to be read by both, since the first comes to the same without it,
+-- or misses it.
 use Rattle.std.proofs.Common.{◌≡◌, ◌∙◌, ℕ, IsTrue, List, ap, refl, sym, subst, inl, inr}
 use Rattle.std.specs.Prelude.{Option, None, Some, IfSome, Result, Ok, Err}
 use Rattle.std.specs.FinMap.{remove}
@@ -14,12 +16,18 @@ use Rattle.cq_run.proofs.Counted.{counts_same, name_after, outrun_after, rose_fr
 use Rattle.cq_run.proofs.Stays.{Stays}
 
 -- a computation that is refused is refused whatever the contents
-refused_so : {A : Type 0} (told : Option Contents) (r : Result A Refusal) (refusal : Refusal) → r ≡ Err refusal → IsTrue (meaning_of refusal).untold → IsRefused (λ (m : Contents). r) told refusal
+refused_so : {A : Type 0} (told : Option Contents) (r : Result A Refusal) (refusal : Refusal) → r ≡ Err refusal →
+    IsTrue (meaning_of refusal).untold → IsRefused (λ (m : Contents). r) told refusal
 refused_so None r refusal e u = u
 refused_so (Some m) r refusal e u = e
 
-pub halts_computed : {A : Type 0} (p : Pace) (r : Result A Refusal) (R : List ℕ → Type 0) (old new : Space) (halt : Halt) → new.faults ≡ old.faults → IsHaltOf r halt → Halts p (λ (m : Contents). r) R old new halt
-halts_computed p r R old new (Refused refusal) l h = (refused_so old.told r refusal h.0 h.1, counts_same p (IsTrue (meaning_of refusal).outruns × AnyName R) old.faults new.faults l)
+pub halts_computed : {A : Type 0} (p : Pace) (r : Result A Refusal) (R : List ℕ → Type 0) (old new : Space)
+    (halt : Halt) → new.faults ≡ old.faults → IsHaltOf r halt → Halts p (λ (m : Contents). r) R old new halt
+halts_computed p r R old new (Refused refusal) l h = (
+  refused_so old.told r refusal h.0 h.1,
+  counts_same p (IsTrue (meaning_of refusal).outruns × AnyName R) old.faults
+      new.faults l,
+)
 halts_computed p r R old new (Unread name) l h = absurd h
 halts_computed p r R old new NoMemory l h = counts_same p (AnyName R) old.faults new.faults l
 
@@ -36,48 +44,83 @@ module _ {A B : Type 0} (j : Contents → Result A Refusal) (f : A → Contents 
   read_then None name h = tt
   read_then (Some m) name h = ap (λ (r : Result A Refusal). r >>= (λ (x : A). f x (remove m name))) h
 
-  halts_then : (p : Pace) (R S : List ℕ → Type 0) (old new : Space) (halt : Halt) → ((name : List ℕ) → R name → S name) → Halts p j R old new halt → Halts p both S old new halt
-  halts_then p R S old new (Refused refusal) i h =
-      (refused_then old.told refusal h.0, outrun_after p (IsTrue (meaning_of refusal).outruns) R S old.faults old.faults new.faults i refl h.1)
+  halts_then : (p : Pace) (R S : List ℕ → Type 0) (old new : Space) (halt : Halt) →
+      ((name : List ℕ) → R name → S name) → Halts p j R old new halt → Halts p both S old new halt
+  halts_then p R S old new (Refused refusal) i h = (
+    refused_then old.told refusal h.0,
+    outrun_after p (IsTrue (meaning_of refusal).outruns) R S old.faults
+        old.faults new.faults i refl h.1,
+  )
   halts_then p R S old new (Unread name) i h = (h.0, i name h.1, read_then old.told name h.2)
   halts_then p R S old new NoMemory i h = name_after p R S old.faults old.faults new.faults i refl h
 
   -- the first ends both
-  pub judges_then : {p : Pace} (R S : List ℕ → Type 0) (old new : Space) (halt : Halt) → ((name : List ℕ) → R name → S name) → Judges p j R old new (Err halt) → Judges p both S old new (Err halt)
-  judges_then {p} R S old new halt i h = record { ok = tt; halt = halts_then p R S old new halt i h.halt; closed = h.closed; told = h.told; uncounted = tt }
+  pub judges_then : {p : Pace} (R S : List ℕ → Type 0) (old new : Space) (halt : Halt) →
+      ((name : List ℕ) → R name → S name) → Judges p j R old new (Err halt) → Judges p both S old new (Err halt)
+  judges_then {p} R S old new halt i h =
+      record {
+        ok = tt;
+        halt = halts_then p R S old new halt i h.halt;
+        closed = h.closed;
+        told = h.told;
+        uncounted = tt;
+      }
 
-  refused_after : (told : Option Contents) (x : A) (refusal : Refusal) → IfSome told (λ m. j m ≡ Ok x) → IsRefused (f x) told refusal → IsRefused both told refusal
+  refused_after : (told : Option Contents) (x : A) (refusal : Refusal) → IfSome told (λ m. j m ≡ Ok x) →
+      IsRefused (f x) told refusal → IsRefused both told refusal
   refused_after None x refusal e h = h
   refused_after (Some m) x refusal e h = ap (λ (r : Result A Refusal). r >>= (λ (z : A). f z m)) e ∙ h
 
-  read_after : (told : Option Contents) (x : A) (name : List ℕ) → Stays j → IfSome told (λ m. j m ≡ Ok x) → IsToRead (f x) told name → IsToRead both told name
+  read_after : (told : Option Contents) (x : A) (name : List ℕ) → Stays j → IfSome told (λ m. j m ≡ Ok x) →
+      IsToRead (f x) told name → IsToRead both told name
   unfolding Stays
   read_after None x name s e h = tt
   read_after (Some m) x name s e h =
       let rest : Result A Refusal → Result B Refusal = λ r. r >>= (λ (z : A). f z (remove m name)) in
       elim (s m name x e) [ inl same ↦ ap rest same ∙ h | inr missed ↦ ap rest missed ]
 
-  ok_after : (told : Option Contents) (x : A) (y : B) → IfSome told (λ m. j m ≡ Ok x) → IfSome told (λ m. f x m ≡ Ok y) → IfSome told (λ m. both m ≡ Ok y)
+  ok_after : (told : Option Contents) (x : A) (y : B) → IfSome told (λ m. j m ≡ Ok x) →
+      IfSome told (λ m. f x m ≡ Ok y) → IfSome told (λ m. both m ≡ Ok y)
   ok_after None x y e h = tt
   ok_after (Some m) x y e h = ap (λ (r : Result A Refusal). r >>= (λ (z : A). f z m)) e ∙ h
 
-  halts_after : (p : Pace) (R S : List ℕ → Type 0) (old mid new : Space) (x : A) (halt : Halt) → Stays j → ((name : List ℕ) → R name → S name) → IfSome old.told (λ m. j m ≡ Ok x) → mid.told ≡ old.told → mid.faults ≡ old.faults → Halts p (f x) R mid new halt → Halts p both S old new halt
+  halts_after : (p : Pace) (R S : List ℕ → Type 0) (old mid new : Space) (x : A) (halt : Halt) → Stays j →
+      ((name : List ℕ) → R name → S name) → IfSome old.told (λ m. j m ≡ Ok x) → mid.told ≡ old.told →
+      mid.faults ≡ old.faults → Halts p (f x) R mid new halt → Halts p both S old new halt
   halts_after p R S old mid new x (Refused refusal) s i e t l h = (
-    refused_after old.told x refusal e (let P : Option Contents → Type 0 = λ o. IsRefused (f x) o refusal in subst P t h.0),
+    refused_after old.told x refusal e (let P : Option Contents → Type 0 = λ o. IsRefused (f x) o refusal in
+        subst P t h.0),
     outrun_after p (IsTrue (meaning_of refusal).outruns) R S old.faults mid.faults new.faults i l h.1,
   )
-  halts_after p R S old mid new x (Unread name) s i e t l h = (rose_from old.faults mid.faults new.faults l h.0, i name h.1, read_after old.told x name s e (let P : Option Contents → Type 0 = λ o. IsToRead (f x) o name in subst P t h.2))
+  halts_after p R S old mid new x (Unread name) s i e t l h = (
+    rose_from old.faults mid.faults new.faults l h.0,
+    i name h.1,
+    read_after old.told x name s e
+        (let P : Option Contents → Type 0 = λ o. IsToRead (f x) o name in subst P t h.2),
+  )
   halts_after p R S old mid new x NoMemory s i e t l h = name_after p R S old.faults mid.faults new.faults i l h
 
   -- the second ends both
-  pub judges_after : {q p : Pace} (Q R S : List ℕ → Type 0) (old mid new : Space) (x : A) (halt : Halt) → Stays j → ((name : List ℕ) → R name → S name) → Judges q j Q old mid (Ok x) → Judges p (f x) R mid new (Err halt) → Judges p both S old new (Err halt)
-  judges_after {q} {p} Q R S old mid new x halt s i g h = record { ok = tt; halt = halts_after p R S old mid new x halt s i g.ok g.told g.uncounted h.halt; closed = h.closed; told = h.told ∙ g.told; uncounted = tt }
+  pub judges_after : {q p : Pace} (Q R S : List ℕ → Type 0) (old mid new : Space) (x : A) (halt : Halt) → Stays j →
+      ((name : List ℕ) → R name → S name) → Judges q j Q old mid (Ok x) → Judges p (f x) R mid new (Err halt) →
+      Judges p both S old new (Err halt)
+  judges_after {q} {p} Q R S old mid new x halt s i g h =
+      record {
+        ok = tt;
+        halt = halts_after p R S old mid new x halt s i g.ok g.told g.uncounted h.halt;
+        closed = h.closed;
+        told = h.told ∙ g.told;
+        uncounted = tt;
+      }
 
   -- both have an answer
-  pub judges_both : {q p : Pace} (Q R S : List ℕ → Type 0) (old mid new : Space) (x : A) (y : B) → Judges q j Q old mid (Ok x) → Judges p (f x) R mid new (Ok y) → Judges p both S old new (Ok y)
+  pub judges_both : {q p : Pace} (Q R S : List ℕ → Type 0) (old mid new : Space) (x : A) (y : B) →
+      Judges q j Q old mid (Ok x) → Judges p (f x) R mid new (Ok y) → Judges p both S old new (Ok y)
   judges_both Q R S old mid new x y g h =
       record {
-        ok = ok_after old.told x y g.ok (let P : Option Contents → Type 0 = λ o. IfSome o (λ m. f x m ≡ Ok y) in subst P g.told h.ok);
+        ok =
+            ok_after old.told x y g.ok (let P : Option Contents → Type 0 = λ o. IfSome o (λ m. f x m ≡ Ok y) in
+            subst P g.told h.ok);
         halt = tt;
         closed = h.closed;
         told = h.told ∙ g.told;
@@ -85,32 +128,50 @@ module _ {A B : Type 0} (j : Contents → Result A Refusal) (f : A → Contents 
       }
 
 -- more may be said of names that are unread
-pub halts_more : {A : Type 0} (p : Pace) (j : Contents → Result A Refusal) (R S : List ℕ → Type 0) (old new : Space) (halt : Halt) → ((name : List ℕ) → R name → S name)
+pub halts_more : {A : Type 0} (p : Pace) (j : Contents → Result A Refusal) (R S : List ℕ → Type 0) (old new : Space)
+    (halt : Halt) → ((name : List ℕ) → R name → S name)
     → Halts p j R old new halt → Halts p j S old new halt
-halts_more p j R S old new (Refused refusal) i h = (h.0, outrun_after p (IsTrue (meaning_of refusal).outruns) R S old.faults old.faults new.faults i refl h.1)
+halts_more p j R S old new (Refused refusal) i h =
+    (h.0, outrun_after p (IsTrue (meaning_of refusal).outruns) R S old.faults old.faults new.faults i refl h.1)
 halts_more p j R S old new (Unread name) i h = (h.0, i name h.1, h.2)
 halts_more p j R S old new NoMemory i h = name_after p R S old.faults old.faults new.faults i refl h
 
-pub judges_more : {A : Type 0} (p : Pace) (j : Contents → Result A Refusal) (R S : List ℕ → Type 0) (old new : Space) (result : Result A Halt) → ((name : List ℕ) → R name → S name)
+pub judges_more : {A : Type 0} (p : Pace) (j : Contents → Result A Refusal) (R S : List ℕ → Type 0) (old new : Space)
+    (result : Result A Halt) → ((name : List ℕ) → R name → S name)
     → Judges p j R old new result → Judges p j S old new result
-judges_more p j R S old new (Ok x) i h = record { ok = h.ok; halt = tt; closed = h.closed; told = h.told; uncounted = h.uncounted }
-judges_more p j R S old new (Err halt) i h = record { ok = tt; halt = halts_more p j R S old new halt i h.halt; closed = h.closed; told = h.told; uncounted = tt }
+judges_more p j R S old new (Ok x) i h =
+    record { ok = h.ok; halt = tt; closed = h.closed; told = h.told; uncounted = h.uncounted }
+judges_more p j R S old new (Err halt) i h =
+    record {
+      ok = tt;
+      halt = halts_more p j R S old new halt i h.halt;
+      closed = h.closed;
+      told = h.told;
+      uncounted = tt;
+    }
 
 -- an answer says nothing of names that are unread
-pub judges_any : {A : Type 0} {p q : Pace} (j : Contents → Result A Refusal) (R S : List ℕ → Type 0) (old new : Space) (x : A) → Judges p j R old new (Ok x) → Judges q j S old new (Ok x)
-judges_any j R S old new x h = record { ok = h.ok; halt = tt; closed = h.closed; told = h.told; uncounted = h.uncounted }
+pub judges_any : {A : Type 0} {p q : Pace} (j : Contents → Result A Refusal) (R S : List ℕ → Type 0) (old new : Space)
+    (x : A) → Judges p j R old new (Ok x) → Judges q j S old new (Ok x)
+judges_any j R S old new x h =
+    record { ok = h.ok; halt = tt; closed = h.closed; told = h.told; uncounted = h.uncounted }
 
 -- a computation that ends without an answer, where nothing was read
-pub judges_computed_err : {A : Type 0} (p : Pace) (r : Result A Refusal) (R : List ℕ → Type 0) (at : Space) (halt : Halt) → at.mode ≡ Closed → IsHaltOf r halt → Judges p (λ (m : Contents). r) R at at (Err halt)
-judges_computed_err p r R at halt c h = record { ok = tt; halt = halts_computed p r R at at halt refl h; closed = c; told = refl; uncounted = tt }
+pub judges_computed_err : {A : Type 0} (p : Pace) (r : Result A Refusal) (R : List ℕ → Type 0) (at : Space)
+    (halt : Halt) → at.mode ≡ Closed → IsHaltOf r halt → Judges p (λ (m : Contents). r) R at at (Err halt)
+judges_computed_err p r R at halt c h =
+    record { ok = tt; halt = halts_computed p r R at at halt refl h; closed = c; told = refl; uncounted = tt }
 
-computed_told : {A : Type 0} (told : Option Contents) (r : Result A Refusal) (x : A) → r ≡ Ok x → IfSome told (λ (m : Contents). r ≡ Ok x)
+computed_told : {A : Type 0} (told : Option Contents) (r : Result A Refusal) (x : A) → r ≡ Ok x →
+    IfSome told (λ (m : Contents). r ≡ Ok x)
 computed_told None r x e = tt
 computed_told (Some m) r x e = e
 
 -- one that has an answer
-pub judges_computed : {A : Type 0} {p : Pace} (r : Result A Refusal) (R : List ℕ → Type 0) (at : Space) (x : A) → at.mode ≡ Closed → r ≡ Ok x → Judges p (λ (m : Contents). r) R at at (Ok x)
-judges_computed r R at x c e = record { ok = computed_told at.told r x e; halt = tt; closed = c; told = refl; uncounted = refl }
+pub judges_computed : {A : Type 0} {p : Pace} (r : Result A Refusal) (R : List ℕ → Type 0) (at : Space) (x : A) →
+    at.mode ≡ Closed → r ≡ Ok x → Judges p (λ (m : Contents). r) R at at (Ok x)
+judges_computed r R at x c e =
+    record { ok = computed_told at.told r x e; halt = tt; closed = c; told = refl; uncounted = refl }
 
 -- judgements that come to the same of all contents
 module _ {A : Type 0} (j k : Contents → Result A Refusal) (same : (m : Contents) → j m ≡ k m) where
@@ -126,13 +187,18 @@ module _ {A : Type 0} (j k : Contents → Result A Refusal) (same : (m : Content
   ok_as None x h = tt
   ok_as (Some m) x h = sym (same m) ∙ h
 
-  halts_as : (p : Pace) (R : List ℕ → Type 0) (old new : Space) (halt : Halt) → Halts p j R old new halt → Halts p k R old new halt
+  halts_as : (p : Pace) (R : List ℕ → Type 0) (old new : Space) (halt : Halt) → Halts p j R old new halt →
+      Halts p k R old new halt
   halts_as p R old new (Refused refusal) h = (refused_as old.told refusal h.0, h.1)
   halts_as p R old new (Unread name) h = (h.0, h.1, read_as old.told name h.2)
   halts_as p R old new NoMemory h = h
 
-  pub judges_as_ok : {p : Pace} (R : List ℕ → Type 0) (old new : Space) (x : A) → Judges p j R old new (Ok x) → Judges p k R old new (Ok x)
-  judges_as_ok R old new x h = record { ok = ok_as old.told x h.ok; halt = tt; closed = h.closed; told = h.told; uncounted = h.uncounted }
+  pub judges_as_ok : {p : Pace} (R : List ℕ → Type 0) (old new : Space) (x : A) → Judges p j R old new (Ok x) →
+      Judges p k R old new (Ok x)
+  judges_as_ok R old new x h =
+      record { ok = ok_as old.told x h.ok; halt = tt; closed = h.closed; told = h.told; uncounted = h.uncounted }
 
-  pub judges_as_err : {p : Pace} (R : List ℕ → Type 0) (old new : Space) (halt : Halt) → Judges p j R old new (Err halt) → Judges p k R old new (Err halt)
-  judges_as_err {p} R old new halt h = record { ok = tt; halt = halts_as p R old new halt h.halt; closed = h.closed; told = h.told; uncounted = tt }
+  pub judges_as_err : {p : Pace} (R : List ℕ → Type 0) (old new : Space) (halt : Halt) →
+      Judges p j R old new (Err halt) → Judges p k R old new (Err halt)
+  judges_as_err {p} R old new halt h =
+      record { ok = tt; halt = halts_as p R old new halt h.halt; closed = h.closed; told = h.told; uncounted = tt }

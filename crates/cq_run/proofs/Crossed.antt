@@ -31,7 +31,8 @@ use Rattle.cq_run.specs.Verdict.{sent_or_tag, tables_in, captures_in}
 use Rattle.cq_run.specs.declared.switching.Crossed.{Crossed}
 use Rattle.cq_run.proofs.Captures.{plan_is}
 
-keeps_up : (t : Tables) (captures : List (List Captured)) (rs : List LimitedRecord) → AreGiven t captures → IsTraffic (ports_of t.setup) (classes_of t.setup) (arrivals t captures) →
+keeps_up : (t : Tables) (captures : List (List Captured)) (rs : List LimitedRecord) → AreGiven t captures →
+    IsTraffic (ports_of t.setup) (classes_of t.setup) (arrivals t captures) →
     IsFabricRun t (arrivals t captures) rs → KeepsUp t captures rs
 keeps_up t captures rs given traffic is = record {
   given = given;
@@ -76,22 +77,27 @@ module _ (t : Tables) (captures : List (List Captured)) (c : Crossed) (is : IsCr
 
   -- a plan with its captures, its trace, its log and its report
   pub plan_crossed :
-      plan.writes ≡ captures_out t captures c.switched.sent.items 0 t.ports ++ (t.trace, trace_of c.switched.sent.items) ∷ (t.log, log_of c.note.items) ∷ [] →
+      plan.writes ≡ captures_out t captures c.switched.sent.items 0 t.ports
+      ++ (t.trace, trace_of c.switched.sent.items) ∷ (t.log, log_of c.note.items) ∷ [] →
       plan.text ≡ report_with c.figures c.refused.items → plan ≡ crossed t captures c.switched.sent.items is.records
   unfolding crossed
   plan_crossed writes text =
       plan_is plan _ _
-      (writes ∙ ap (λ (note : List Transfer). captures_out t captures c.switched.sent.items 0 t.ports ++ (t.trace, trace_of c.switched.sent.items) ∷ (t.log, log_of note) ∷ []) is.note)
+      (writes ∙ ap (λ (note : List Transfer). captures_out t captures c.switched.sent.items 0 t.ports
+      ++ (t.trace, trace_of c.switched.sent.items) ∷ (t.log, log_of note) ∷ []) is.note)
       (text ∙ report_is)
 
   -- a plan with its report alone
-  pub plan_reported : plan.writes ≡ [] → plan.text ≡ report_with c.figures c.refused.items → plan ≡ reported t is.records
+  pub plan_reported : plan.writes ≡ [] → plan.text ≡ report_with c.figures c.refused.items →
+      plan ≡ reported t is.records
   unfolding reported
   plan_reported writes text = plan_is plan _ _ writes (text ∙ report_is)
 
 -- a plan of such a run is one of what the crossbar switch does
-pub crossing : (t : Tables) (captures : List (List Captured)) (c : Crossed) (is : IsCrossed t captures c) (plan : Plan) →
-    plan.writes ≡ captures_out t captures c.switched.sent.items 0 t.ports ++ (t.trace, trace_of c.switched.sent.items) ∷ (t.log, log_of c.note.items) ∷ [] →
+pub crossing : (t : Tables) (captures : List (List Captured)) (c : Crossed) (is : IsCrossed t captures c)
+    (plan : Plan) →
+    plan.writes ≡ captures_out t captures c.switched.sent.items 0 t.ports ++ (t.trace, trace_of c.switched.sent.items)
+    ∷ (t.log, log_of c.note.items) ∷ [] →
     plan.text ≡ report_with c.figures c.refused.items → IsCrossing t captures plan
 crossing t captures c is plan writes text = record {
   sent = c.switched.sent.items;
@@ -103,7 +109,8 @@ crossing t captures c is plan writes text = record {
 }
 
 module _ (t : Tables) (captures : List (List Captured)) (plan : Plan) (is : IsCrossing t captures plan) where
-  emulates_at : (r : Reader) (config : List ℕ) (m : Contents) → tables_in config m ≡ Ok t → captures_in r t m ≡ Ok captures → IsEmulation r config m plan
+  emulates_at : (r : Reader) (config : List ℕ) (m : Contents) → tables_in config m ≡ Ok t →
+      captures_in r t m ≡ Ok captures → IsEmulation r config m plan
   emulates_at r config m configured captured = record {
     tables = t;
     configured = configured;
@@ -114,12 +121,16 @@ module _ (t : Tables) (captures : List (List Captured)) (plan : Plan) (is : IsCr
     written = is.written ∙ ap (λ (sent : List Departure). crossed t captures sent is.records) is.departed;
   }
 
-  emulates_told : (r : Reader) (config : List ℕ) (told : Option Contents) → IfSome told (λ m. tables_in config m ≡ Ok t) → IfSome told (λ m. captures_in r t m ≡ Ok captures) → IfSome told (λ m. IsEmulation r config m plan)
+  emulates_told : (r : Reader) (config : List ℕ) (told : Option Contents) →
+      IfSome told (λ m. tables_in config m ≡ Ok t) → IfSome told (λ m. captures_in r t m ≡ Ok captures) →
+      IfSome told (λ m. IsEmulation r config m plan)
   emulates_told r config None g h = tt
   emulates_told r config (Some m) g h = emulates_at r config m g h
 
   -- what is written of a configuration and captures that were read, at either pace
-  pub emulates : {p q : Pace} (r : Reader) (config : List ℕ) (Q R : List ℕ → Type 0) (old mid new : Space) → Judges p (tables_in config) Q old mid (Ok t) → Judges q (captures_in r t) R mid new (Ok captures) → IfSome old.told (λ m. IsEmulation r config m plan)
+  pub emulates : {p q : Pace} (r : Reader) (config : List ℕ) (Q R : List ℕ → Type 0) (old mid new : Space) →
+      Judges p (tables_in config) Q old mid (Ok t) → Judges q (captures_in r t) R mid new (Ok captures) →
+      IfSome old.told (λ m. IsEmulation r config m plan)
   emulates r config Q R old mid new g h =
       let P : Option Contents → Type 0 = λ o. IfSome o (λ m. captures_in r t m ≡ Ok captures) in
       emulates_told r config old.told g.ok (subst P g.told h.ok)

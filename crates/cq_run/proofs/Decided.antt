@@ -1,5 +1,5 @@
--- Judging any command. A call that denies nothing decides it, and whatever is decided, the file space is closed and its contents
--- are as before.
+-- Judging any command. A call that denies nothing decides it, and whatever is decided, the file space is closed and
+-- its contents are as before.
 use Rattle.std.proofs.Common.{◌≡◌, ℕ, IsTrue, List, inl, inr, subst, sym}
 use Rattle.std.specs.Prelude.{IfSome, IsOkAnd, Option, None, Some, Result, Ok, Err}
 use Rattle.cq_space.specs.Space.{Contents, Space, Closed}

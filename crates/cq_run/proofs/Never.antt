@@ -33,7 +33,8 @@ use Rattle.cq_run.specs.Verdict.{◌>>=◌, named, found_or_missing, tables_in, 
 abbrev pub IsOfContents : {A : Type 0} → Result A Refusal → Type 0
 IsOfContents r = r ≡ Err Words → ⊥
 
-never_then : {A B : Type 0} (r : Result A Refusal) (f : A → Result B Refusal) → IsOfContents r → ((x : A) → IsOfContents (f x)) → IsOfContents (r >>= f)
+never_then : {A B : Type 0} (r : Result A Refusal) (f : A → Result B Refusal) → IsOfContents r →
+    ((x : A) → IsOfContents (f x)) → IsOfContents (r >>= f)
 never_then (Ok x) f n g h = g x h
 never_then (Err e) f n g h = let is : e ≡ Words = cc h in n (ap Err is)
 
@@ -49,7 +50,8 @@ never_faulty : (input : ℕ) (r : Result (List Captured) Fault) → IsOfContents
 never_faulty input (Ok packets) h = cc
 never_faulty input (Err fault) h = cc
 
-never_long : (input limit : ℕ) (b : Bool) (r : Result (List Captured) Refusal) → IsOfContents r → IsOfContents (cond b (Err (Capture input (Long limit))) r)
+never_long : (input limit : ℕ) (b : Bool) (r : Result (List Captured) Refusal) → IsOfContents r →
+    IsOfContents (cond b (Err (Capture input (Long limit))) r)
 never_long input limit true r n h = cc
 never_long input limit false r n h = n h
 
@@ -58,29 +60,40 @@ never_tag (Ok sent) h = cc
 never_tag (Err fault) h = cc
 
 never_tables : (name : List ℕ) (m : Contents) → IsOfContents (tables_in name m)
-never_tables name m = never_then (named m name) (λ bytes. read_or_refused_for (read_or_refused bytes)) (never_found name (get m name)) (λ bytes. never_configured (read_or_refused bytes))
+never_tables name m =
+    never_then (named m name) (λ bytes. read_or_refused_for (read_or_refused bytes)) (never_found name (get m name))
+    (λ bytes. never_configured (read_or_refused bytes))
 
-never_capture : (r : Reader) (name : List ℕ) (input limit : ℕ) (m : Contents) → IsOfContents (capture_in r name input limit m)
+never_capture : (r : Reader) (name : List ℕ) (input limit : ℕ) (m : Contents) →
+    IsOfContents (capture_in r name input limit m)
 never_capture r name input limit m =
     never_then (named m name) (capture_of r input limit) (never_found name (get m name))
-    (λ bytes. never_long input limit (nat_lt limit (length bytes)) (read_or_faulty input (r.read bytes)) (never_faulty input (r.read bytes)))
+    (λ bytes. never_long input limit (nat_lt limit (length bytes)) (read_or_faulty input (r.read bytes))
+    (never_faulty input (r.read bytes)))
 
-never_packets : (r : Reader) (input limit : ℕ) (read : Option (List ℕ)) (m : Contents) → IsOfContents (packets_at r input limit read m)
+never_packets : (r : Reader) (input limit : ℕ) (read : Option (List ℕ)) (m : Contents) →
+    IsOfContents (packets_at r input limit read m)
 never_packets r input limit None m h = cc
 never_packets r input limit (Some name) m h = never_capture r name input limit m h
 
-never_captures : (r : Reader) (limit input : ℕ) (rows : List PortRow) (m : Contents) → IsOfContents (captures_from r limit input rows m)
+never_captures : (r : Reader) (limit input : ℕ) (rows : List PortRow) (m : Contents) →
+    IsOfContents (captures_from r limit input rows m)
 unfolding captures_from
 never_captures r limit input [] m h = cc
 never_captures r limit input (row ∷ rows) m h =
-    never_then (packets_at r input limit row.read m) (λ packets. captures_from r limit (input + 1) rows m >>= (λ others. Ok (packets ∷ others))) (never_packets r input limit row.read m)
-    (λ packets. never_then (captures_from r limit (input + 1) rows m) (λ others. Ok (packets ∷ others)) (never_captures r limit (input + 1) rows m) (λ others e. cc)) h
+    never_then (packets_at r input limit row.read m)
+    (λ packets. captures_from r limit (input + 1) rows m >>= (λ others. Ok (packets ∷ others)))
+    (never_packets r input limit row.read m)
+    (λ packets. never_then (captures_from r limit (input + 1) rows m) (λ others. Ok (packets ∷ others))
+    (never_captures r limit (input + 1) rows m) (λ others e. cc)) h
 
-never_long_text : (long : Refusal) → (long ≡ Words → ⊥) → (b : Bool) (r : Result (List ℕ) Refusal) → IsOfContents r → IsOfContents (cond b (Err long) r)
+never_long_text : (long : Refusal) → (long ≡ Words → ⊥) → (b : Bool) (r : Result (List ℕ) Refusal) → IsOfContents r →
+    IsOfContents (cond b (Err long) r)
 never_long_text long other true r n h = let is : long ≡ Words = cc h in other is
 never_long_text long other false r n h = n h
 
-never_short : (long : Refusal) → (long ≡ Words → ⊥) → (name : List ℕ) (m : Contents) → IsOfContents (short_in long name m)
+never_short : (long : Refusal) → (long ≡ Words → ⊥) → (name : List ℕ) (m : Contents) →
+    IsOfContents (short_in long name m)
 never_short long other name m =
     never_then (named m name) (short_or long) (never_found name (get m name))
     (λ bytes. never_long_text long other (nat_lt 268435456 (length bytes)) (Ok bytes) (λ e. cc))
@@ -92,53 +105,82 @@ never_state : (name : List ℕ) (m : Contents) → IsOfContents (state_in name m
 never_state name m = never_short (State stopped.Long) (λ e. cc) name m
 
 -- no command comes to that
-never_switched : (r : Reader) (config : List ℕ) (m : Contents) (aim : Tables → List (List Captured) → List Departure → Aim)
-    → IsOfContents (tables_in config m >>= (λ tables. captures_in r tables m >>= (λ captures. ideally_sent tables captures >>= (λ sent. Ok (aim tables captures sent)))))
+never_switched : (r : Reader) (config : List ℕ) (m : Contents)
+    (aim : Tables → List (List Captured) → List Departure → Aim)
+    →
+    IsOfContents (tables_in config m >>=
+    (λ tables. captures_in r tables m >>=
+    (λ captures. ideally_sent tables captures >>= (λ sent. Ok (aim tables captures sent)))))
 never_switched r config m aim =
-    let last : Tables → List (List Captured) → List Departure → Result Aim Refusal = λ tables captures sent. Ok (aim tables captures sent) in
-    never_then (tables_in config m) (λ tables. captures_in r tables m >>= (λ captures. ideally_sent tables captures >>= (λ sent. last tables captures sent))) (never_tables config m)
-    (λ tables. never_then (captures_in r tables m) (λ captures. ideally_sent tables captures >>= (λ sent. last tables captures sent)) (never_captures r tables.limit_bytes 0 tables.ports m)
-    (λ captures. never_then (ideally_sent tables captures) (λ sent. last tables captures sent) (never_tag (ideal_departures tables (arrivals tables captures))) (λ sent e. cc)))
+    let last : Tables → List (List Captured) → List Departure → Result Aim Refusal =
+    λ tables captures sent. Ok (aim tables captures sent) in
+    never_then (tables_in config m) (λ tables.
+    captures_in r tables m >>= (λ captures. ideally_sent tables captures >>= (λ sent. last tables captures sent)))
+    (never_tables config m)
+    (λ tables. never_then (captures_in r tables m)
+    (λ captures. ideally_sent tables captures >>= (λ sent. last tables captures sent))
+    (never_captures r tables.limit_bytes 0 tables.ports m)
+    (λ captures. never_then (ideally_sent tables captures) (λ sent. last tables captures sent)
+    (never_tag (ideal_departures tables (arrivals tables captures))) (λ sent e. cc)))
 
 pub never_words : (r : Reader) (command : Command) (m : Contents) → IsOfContents (judged r command m)
 never_words r (Pass from to) m =
     let tables = plain_tables from to in
-    let aim : List Captured → List Departure → Result Aim Refusal = λ packets sent. Ok (Exactly (passed from to packets sent)) in
-    never_then (capture_in r from 0 tables.limit_bytes m) (λ packets. ideally_sent tables (packets ∷ []) >>= (λ sent. aim packets sent)) (never_capture r from 0 tables.limit_bytes m)
-    (λ packets. never_then (ideally_sent tables (packets ∷ [])) (λ sent. aim packets sent) (never_tag (ideal_departures tables (arrivals tables (packets ∷ [])))) (λ sent e. cc))
+    let aim : List Captured → List Departure → Result Aim Refusal =
+    λ packets sent. Ok (Exactly (passed from to packets sent)) in
+    never_then (capture_in r from 0 tables.limit_bytes m)
+    (λ packets. ideally_sent tables (packets ∷ []) >>= (λ sent. aim packets sent))
+    (never_capture r from 0 tables.limit_bytes m)
+    (λ packets. never_then (ideally_sent tables (packets ∷ [])) (λ sent. aim packets sent)
+    (never_tag (ideal_departures tables (arrivals tables (packets ∷ [])))) (λ sent e. cc))
 never_words r (Check config) m =
     let aim : Tables → Result Aim Refusal = λ tables. Ok (Exactly (checked tables)) in
     never_then (tables_in config m) aim (never_tables config m) (λ tables e. cc)
-never_words r (Ideal config) m = never_switched r config m (λ tables captures sent. Exactly (switched tables captures sent))
+never_words r (Ideal config) m =
+    never_switched r config m (λ tables captures sent. Exactly (switched tables captures sent))
 never_words r (Run config) m = never_switched r config m (λ tables captures sent. Crossing tables captures sent)
 never_words r (Soak seed ports slots) m =
     let tables = soak_tables ports in
     let captures = soak_captures seed ports slots in
     let aim : List Departure → Result Aim Refusal = λ sent. Ok (Reporting tables captures) in
-    never_then (ideally_sent tables captures) aim (never_tag (ideal_departures tables (arrivals tables captures))) (λ sent e. cc)
+    never_then (ideally_sent tables captures) aim (never_tag (ideal_departures tables (arrivals tables captures)))
+    (λ sent e. cc)
 never_words r (Audit config) m =
     let aim : Tables → List (List Captured) → List ℕ → List ℕ → List Departure → Result Aim Refusal =
     λ tables captures trace log sent. Ok (Auditing tables captures sent trace log) in
     never_then (tables_in config m)
-    (λ tables. captures_in r tables m >>= (λ captures. text_in LongTrace tables.trace m >>= (λ trace. text_in LongLog tables.log m >>= (λ log. ideally_sent tables captures >>= (λ sent. aim tables captures trace log sent)))))
+    (λ tables. captures_in r tables m >>=
+    (λ captures. text_in LongTrace tables.trace m >>=
+    (λ trace. text_in LongLog tables.log m >>=
+    (λ log. ideally_sent tables captures >>= (λ sent. aim tables captures trace log sent)))))
     (never_tables config m)
     (λ tables. never_then (captures_in r tables m)
-    (λ captures. text_in LongTrace tables.trace m >>= (λ trace. text_in LongLog tables.log m >>= (λ log. ideally_sent tables captures >>= (λ sent. aim tables captures trace log sent))))
+    (λ captures. text_in LongTrace tables.trace m >>=
+    (λ trace. text_in LongLog tables.log m >>=
+    (λ log. ideally_sent tables captures >>= (λ sent. aim tables captures trace log sent))))
     (never_captures r tables.limit_bytes 0 tables.ports m)
     (λ captures. never_then (text_in LongTrace tables.trace m)
-    (λ trace. text_in LongLog tables.log m >>= (λ log. ideally_sent tables captures >>= (λ sent. aim tables captures trace log sent)))
+    (λ trace. text_in LongLog tables.log m >>=
+    (λ log. ideally_sent tables captures >>= (λ sent. aim tables captures trace log sent)))
     (never_text LongTrace tables.trace m)
-    (λ trace. never_then (text_in LongLog tables.log m) (λ log. ideally_sent tables captures >>= (λ sent. aim tables captures trace log sent))
+    (λ trace. never_then (text_in LongLog tables.log m)
+    (λ log. ideally_sent tables captures >>= (λ sent. aim tables captures trace log sent))
     (never_text LongLog tables.log m)
     (λ log. never_then (ideally_sent tables captures) (λ sent. aim tables captures trace log sent)
     (never_tag (ideal_departures tables (arrivals tables captures))) (λ sent e. cc)))))
 never_words r (Part config slots state) m =
-    let aim : Tables → List (List Captured) → Result Aim Refusal = λ tables captures. Ok (Parting tables captures slots state) in
-    never_then (tables_in config m) (λ tables. captures_in r tables m >>= (λ captures. aim tables captures)) (never_tables config m)
-    (λ tables. never_then (captures_in r tables m) (λ captures. aim tables captures) (never_captures r tables.limit_bytes 0 tables.ports m)
+    let aim : Tables → List (List Captured) → Result Aim Refusal =
+    λ tables captures. Ok (Parting tables captures slots state) in
+    never_then (tables_in config m) (λ tables. captures_in r tables m >>= (λ captures. aim tables captures))
+    (never_tables config m)
+    (λ tables. never_then (captures_in r tables m) (λ captures. aim tables captures)
+    (never_captures r tables.limit_bytes 0 tables.ports m)
     (λ captures e. cc))
 never_words r (Resume config state) m =
-    let aim : Tables → List (List Captured) → List ℕ → Result Aim Refusal = λ tables captures text. Ok (Resuming tables captures text) in
-    never_then (tables_in config m) (λ tables. captures_in r tables m >>= (λ captures. state_in state m >>= (λ text. aim tables captures text))) (never_tables config m)
-    (λ tables. never_then (captures_in r tables m) (λ captures. state_in state m >>= (λ text. aim tables captures text)) (never_captures r tables.limit_bytes 0 tables.ports m)
+    let aim : Tables → List (List Captured) → List ℕ → Result Aim Refusal =
+    λ tables captures text. Ok (Resuming tables captures text) in
+    never_then (tables_in config m) (λ tables. captures_in r tables m >>=
+    (λ captures. state_in state m >>= (λ text. aim tables captures text))) (never_tables config m)
+    (λ tables. never_then (captures_in r tables m) (λ captures. state_in state m >>= (λ text. aim tables captures text))
+    (never_captures r tables.limit_bytes 0 tables.ports m)
     (λ captures. never_then (state_in state m) (λ text. aim tables captures text) (never_state state m) (λ text e. cc)))

@@ -1,6 +1,6 @@
--- Captures are read in one way. The function that reads a file from its front goes by the grammar, so there is a reader; and a file
--- of bytes is spelt or has a fault, so two readers answer the same. What was read and is spelt, or has a fault, is what any reader
--- makes of the name that it was read from.
+-- Captures are read in one way. The function that reads a file from its front goes by the grammar, so there is a
+-- reader; and a file of bytes is spelt or has a fault, so two readers answer the same. What was read and is spelt, or
+-- has a fault, is what any reader makes of the name that it was read from.
 use Rattle.std.proofs.Common.{◌≡◌, ◌⊎◌, ◌∙◌, ◌<◌, ◌≤◌, ℕ, Bool, IsTrue, cond, List, length, inl, inr, refl, ap, sym}
 use Rattle.std.specs.Prelude.{Option, None, Some, IfSome, Result, Ok, Err, IsErrOf, Vec, slice_index}
 use Rattle.std.specs.FinMap.{get}
@@ -33,35 +33,45 @@ from_front = record { read = packets_of; spelt = spelt_is_read; faulty = fault_i
 pub one_answer : (r s : Reader) (bytes : List ℕ) → ((i : ℕ) → slice_index bytes i < 256) → r.read bytes ≡ s.read bytes
 one_answer r s bytes are = go (spelt_or_faulty bytes are)
   where
-    go : ((packets : List Captured) × Spells bytes packets) ⊎ ((fault : Fault) × IsFaulty bytes fault) → r.read bytes ≡ s.read bytes
+    go : ((packets : List Captured) × Spells bytes packets) ⊎ ((fault : Fault) × IsFaulty bytes fault) →
+        r.read bytes ≡ s.read bytes
     go (inl (packets, h)) = r.spelt bytes packets h ∙ sym (s.spelt bytes packets h)
     go (inr (fault, h)) = r.faulty bytes fault h ∙ sym (s.faulty bytes fault h)
 
 module _ (r : Reader) (name : List ℕ) (input limit : ℕ) (bytes : List ℕ) (short : length bytes ≤ limit) where
   -- a file of at most this length is looked at
-  read_at : (m : Contents) → get m name ≡ Some bytes → capture_in r name input limit m ≡ read_or_faulty input (r.read bytes)
+  read_at : (m : Contents) → get m name ≡ Some bytes →
+      capture_in r name input limit m ≡ read_or_faulty input (r.read bytes)
   read_at m at =
       ap (λ (o : Option (List ℕ)). found_or_missing name o >>= capture_of r input limit) at
-      ∙ ap (λ (b : Bool). let long : Result (List Captured) Refusal = Err (Capture input (Long limit)) in cond b long (read_or_faulty input (r.read bytes)))
+      ∙ ap (λ (b : Bool). let long : Result (List Captured) Refusal = Err (Capture input (Long limit)) in
+      cond b long (read_or_faulty input (r.read bytes)))
       (le-ltb limit (length bytes) short)
 
-  pub capture_is : (told : Option Contents) (packets : List Captured) → IfSome told (λ m. get m name ≡ Some bytes) → Spells bytes packets
+  pub capture_is : (told : Option Contents) (packets : List Captured) → IfSome told (λ m. get m name ≡ Some bytes) →
+      Spells bytes packets
       → IfSome told (λ m. capture_in r name input limit m ≡ Ok packets)
   capture_is None packets at spelt = tt
   capture_is (Some m) packets at spelt = read_at m at ∙ ap (read_or_faulty input) (r.spelt bytes packets spelt)
 
-  pub capture_is_not : (told : Option Contents) (fault : Fault) → IfSome told (λ m. get m name ≡ Some bytes) → IsFaulty bytes fault
+  pub capture_is_not : (told : Option Contents) (fault : Fault) → IfSome told (λ m. get m name ≡ Some bytes) →
+      IsFaulty bytes fault
       → IsRefused (capture_in r name input limit) told (Capture input (capture_fault fault))
   capture_is_not None fault at faulty = refl
   capture_is_not (Some m) fault at faulty = read_at m at ∙ ap (read_or_faulty input) (r.faulty bytes fault faulty)
 
   -- a refusal of the reading stops it for its fault, or for want of memory
-  pub capture_halts : (p : Pace) (R : List ℕ → Type 0) (old new : Space) (found : Option Fault) → IfSome old.told (λ m. get m name ≡ Some bytes) → IfSome found (IsFaulty bytes)
-      → Uncounted p (AnyName R) old.faults new.faults → Halts p (capture_in r name input limit) R old new (halt_for input (option_map capture_fault found))
+  pub capture_halts : (p : Pace) (R : List ℕ → Type 0) (old new : Space) (found : Option Fault) →
+      IfSome old.told (λ m. get m name ≡ Some bytes) → IfSome found (IsFaulty bytes)
+      → Uncounted p (AnyName R) old.faults new.faults →
+      Halts p (capture_in r name input limit) R old new (halt_for input (option_map capture_fault found))
   capture_halts p R old new None at faulty kept = kept
   capture_halts p R old new (Some fault) at faulty kept =
-      let T : Type 0 = IsTrue (meaning_of (Capture input (capture_fault fault))).outruns in
-      (capture_is_not old.told fault at faulty, counts_after p (AnyName R) (T × AnyName R) old.faults old.faults new.faults (λ u. (refl, u)) refl kept)
+      let T : Type 0 = IsTrue (meaning_of (Capture input (capture_fault fault))).outruns in (
+        capture_is_not old.told fault at faulty,
+        counts_after p (AnyName R) (T × AnyName R) old.faults old.faults
+            new.faults (λ u. (refl, u)) refl kept,
+      )
 
 -- a file that was read was read with no fault
 pub read_is_no_fault : (v : Vec ℕ Global) (P : Type 0) → IsErrOf {T = Vec ℕ Global} (Ok v) whole.Fault ⊎ P → P

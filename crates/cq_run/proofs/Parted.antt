@@ -97,8 +97,9 @@ module _ (r : Reader) (config : List ℕ) (slots : ℕ) (name : List ℕ) where
     -- ## What is written of it
 
     stops_told : (told : Option Contents) (text : List ℕ) (plan : Plan) → AreGiven t captures →
-        IsPartText t captures slots text → plan ≡ state_written name text → IfSome told (λ m. tables_in config m ≡ Ok t) →
-        IfSome told (λ m. captures_in r t m ≡ Ok captures) → IfSome told (λ m. IsStopped r config slots name m plan)
+        IsPartText t captures slots text → plan ≡ state_written name text →
+        IfSome told (λ m. tables_in config m ≡ Ok t) → IfSome told (λ m. captures_in r t m ≡ Ok captures) →
+        IfSome told (λ m. IsStopped r config slots name m plan)
     stops_told None text plan given is written a b = tt
     stops_told (Some m) text plan given is written a b = record {
       tables = t;

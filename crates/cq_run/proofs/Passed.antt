@@ -34,39 +34,50 @@ use Rattle.cq_run.proofs.Planned.{plans_computed}
 use Rattle.cq_run.proofs.Stays.{capture_stays}
 
 -- the capture ends it
-pub passing_halts : (from to : List ℕ) (t : Tables) (plain : t ≡ plain_tables from to) (r : Reader) (R S : List ℕ → Type 0) (old new : Space) (halt : Halt) → ((name : List ℕ) → R name → S name)
-    → Judges InTurn (capture_in r from 0 t.limit_bytes) R old new (Err halt) → Judges InTurn (judged r (Pass from to)) S old new (Err halt)
+pub passing_halts : (from to : List ℕ) (t : Tables) (plain : t ≡ plain_tables from to) (r : Reader)
+    (R S : List ℕ → Type 0) (old new : Space) (halt : Halt) → ((name : List ℕ) → R name → S name)
+    → Judges InTurn (capture_in r from 0 t.limit_bytes) R old new (Err halt) →
+    Judges InTurn (judged r (Pass from to)) S old new (Err halt)
 passing_halts from to t plain r R S old new halt i g =
     let P : Tables → Type 0 = λ x. Judges InTurn (capture_in r from 0 x.limit_bytes) R old new (Err halt) in
     judges_then (capture_in r from 0 (plain_tables from to).limit_bytes)
-    (λ (ps : List Captured) (m : Contents). ideally_sent (plain_tables from to) (ps ∷ []) >>= (λ ds. let a : Result Aim Refusal = Ok (Exactly (passed from to ps ds)) in a))
+    (λ (ps : List Captured) (m : Contents). ideally_sent (plain_tables from to) (ps ∷ []) >>= (λ ds.
+    let a : Result Aim Refusal = Ok (Exactly (passed from to ps ds)) in a))
     R S old new halt i (subst P plain g)
 
-module _ (from to : List ℕ) (t : Tables) (packets : List Captured) (captures : List (List Captured)) (sent : List Departure) (plain : t ≡ plain_tables from to) (one : captures ≡ packets ∷ []) where
+module _ (from to : List ℕ) (t : Tables) (packets : List Captured) (captures : List (List Captured))
+    (sent : List Departure) (plain : t ≡ plain_tables from to) (one : captures ≡ packets ∷ []) where
   abbrev aim_of : List Captured → List Departure → Result Aim Refusal
   aim_of ps ds = Ok (Exactly (passed from to ps ds))
 
   sent_is : ideally_sent t captures ≡ Ok sent → ideally_sent (plain_tables from to) (packets ∷ []) ≡ Ok sent
   sent_is h = ap (λ (x : Tables). ideally_sent x (packets ∷ [])) (sym plain) ∙ ap (ideally_sent t) (sym one) ∙ h
 
-  aims_halt : (x : Result (List Departure) Refusal) (halt : Halt) → IsHaltOf x halt → IsHaltOf (x >>= aim_of packets) halt
+  aims_halt : (x : Result (List Departure) Refusal) (halt : Halt) → IsHaltOf x halt →
+      IsHaltOf (x >>= aim_of packets) halt
   aims_halt x (Refused refusal) h = (ap (λ (s : Result (List Departure) Refusal). s >>= aim_of packets) h.0, h.1)
   aims_halt x (Unread name) h = absurd h
   aims_halt x NoMemory h = h
 
   -- the run ends it
-  pub passed_halts : (r : Reader) (R S : List ℕ → Type 0) (old mid : Space) (halt : Halt) → Judges InTurn (capture_in r from 0 t.limit_bytes) R old mid (Ok packets) → IsHaltOf (ideally_sent t captures) halt
+  pub passed_halts : (r : Reader) (R S : List ℕ → Type 0) (old mid : Space) (halt : Halt) →
+      Judges InTurn (capture_in r from 0 t.limit_bytes) R old mid (Ok packets) →
+      IsHaltOf (ideally_sent t captures) halt
       → Judges InTurn (judged r (Pass from to)) S old mid (Err halt)
   passed_halts r R S old mid halt g h =
       let P : Tables → Type 0 = λ x. Judges InTurn (capture_in r from 0 x.limit_bytes) R old mid (Ok packets) in
       let Q : Tables → Type 0 = λ x. IsHaltOf (ideally_sent x (packets ∷ [])) halt in
       let T : List (List Captured) → Type 0 = λ cs. IsHaltOf (ideally_sent t cs) halt in
-      judges_after (capture_in r from 0 (plain_tables from to).limit_bytes) (λ (ps : List Captured) (m : Contents). ideally_sent (plain_tables from to) (ps ∷ []) >>= aim_of ps) R S S old mid mid packets halt
+      judges_after (capture_in r from 0 (plain_tables from to).limit_bytes)
+      (λ (ps : List Captured) (m : Contents). ideally_sent (plain_tables from to) (ps ∷ []) >>= aim_of ps) R S S old
+      mid mid packets halt
       (capture_stays r from 0 (plain_tables from to).limit_bytes) (λ name u. u) (subst P plain g)
-      (judges_computed_err InTurn (ideally_sent (plain_tables from to) (packets ∷ []) >>= aim_of packets) S mid halt g.closed
+      (judges_computed_err InTurn (ideally_sent (plain_tables from to) (packets ∷ []) >>= aim_of packets) S mid halt
+      g.closed
       (aims_halt (ideally_sent (plain_tables from to) (packets ∷ [])) halt (subst Q plain (subst T one h))))
 
-  plan_passed : (plan : Plan) → plan.writes ≡ (to, capture_out t captures sent 0) ∷ [] → plan.text ≡ [] → plan ≡ passed from to packets sent
+  plan_passed : (plan : Plan) → plan.writes ≡ (to, capture_out t captures sent 0) ∷ [] → plan.text ≡ [] →
+      plan ≡ passed from to packets sent
   plan_passed plan writes none =
       plan_is plan _ []
       (writes
@@ -74,12 +85,16 @@ module _ (from to : List ℕ) (t : Tables) (packets : List Captured) (captures :
       ∙ ap (λ (x : Tables). (to, capture_out x (packets ∷ []) sent 0) ∷ []) plain)
       none
 
-  pub plans_passed : (r : Reader) (R S : List ℕ → Type 0) (old mid : Space) (plan : Plan) → Judges InTurn (capture_in r from 0 t.limit_bytes) R old mid (Ok packets) → ideally_sent t captures ≡ Ok sent
-      → plan.writes ≡ (to, capture_out t captures sent 0) ∷ [] → plan.text ≡ [] → Plans InTurn (judged r (Pass from to)) S old mid (Ok plan)
+  pub plans_passed : (r : Reader) (R S : List ℕ → Type 0) (old mid : Space) (plan : Plan) →
+      Judges InTurn (capture_in r from 0 t.limit_bytes) R old mid (Ok packets) → ideally_sent t captures ≡ Ok sent
+      → plan.writes ≡ (to, capture_out t captures sent 0) ∷ [] → plan.text ≡ [] →
+      Plans InTurn (judged r (Pass from to)) S old mid (Ok plan)
   plans_passed r R S old mid plan g h writes none =
       let P : Tables → Type 0 = λ x. Judges InTurn (capture_in r from 0 x.limit_bytes) R old mid (Ok packets) in
-      plans_computed (capture_in r from 0 (plain_tables from to).limit_bytes) (λ (ps : List Captured). ideally_sent (plain_tables from to) (ps ∷ []) >>= aim_of ps) R S old mid packets
-      (Exactly (passed from to packets sent)) plan (subst P plain g) (ap (λ (s : Result (List Departure) Refusal). s >>= aim_of packets) (sent_is h)) (plan_passed plan writes none)
+      plans_computed (capture_in r from 0 (plain_tables from to).limit_bytes)
+      (λ (ps : List Captured). ideally_sent (plain_tables from to) (ps ∷ []) >>= aim_of ps) R S old mid packets
+      (Exactly (passed from to packets sent)) plan (subst P plain g)
+      (ap (λ (s : Result (List Departure) Refusal). s >>= aim_of packets) (sent_is h)) (plan_passed plan writes none)
 
   -- what keeps up with the captures of the plain switch keeps up with the one capture
   keeps_up_plain : (rs : List LimitedRecord) → KeepsUp t captures rs → KeepsUp (plain_tables from to) (packets ∷ []) rs
@@ -89,17 +104,21 @@ module _ (from to : List ℕ) (t : Tables) (packets : List Captured) (captures :
       subst P plain (subst Q one h)
 
   -- what leaves the plain switch of the one capture is all of it
-  pub leaves_all : AreTables t → ideally_sent t captures ≡ Ok sent → capture_out t captures sent 0 ≡ capture_of_all (plain_tables from to) packets
+  pub leaves_all : AreTables t → ideally_sent t captures ≡ Ok sent →
+      capture_out t captures sent 0 ≡ capture_of_all (plain_tables from to) packets
   unfolding plain_tables
   leaves_all are h =
       let single : ports_of t.setup ≡ 1 = ap (λ (x : Tables). ports_of x.setup) plain in
       let none : NoLimits t.limits = subst (λ (x : Tables). NoLimits x.limits) (sym plain) none_limited in
-      let ideal = ap (λ (cs : List (List Captured)). ideal_departures t (arrivals t cs)) (sym one) ∙ sent_ok sent (ideal_departures t (arrivals t captures)) h in
+      let ideal =
+      ap (λ (cs : List (List Captured)). ideal_departures t (arrivals t cs)) (sym one)
+      ∙ sent_ok sent (ideal_departures t (arrivals t captures)) h in
       ap (λ (cs : List (List Captured)). capture_out t cs sent 0) one
       ∙ ap written (all_leave_is t packets sent are single none ideal)
       ∙ ap (λ (x : Tables). capture_of_all x packets) plain
 
-  passage_at : (r : Reader) (m : Contents) (rs : List LimitedRecord) (plan : Plan) → KeepsUp t captures rs → sent ≡ departures_in_run rs
+  passage_at : (r : Reader) (m : Contents) (rs : List LimitedRecord) (plan : Plan) → KeepsUp t captures rs →
+      sent ≡ departures_in_run rs
       → plan ≡ passed from to packets sent → plan.writes ≡ (to, capture_of_all (plain_tables from to) packets) ∷ []
       → capture_in r from 0 t.limit_bytes m ≡ Ok packets → IsPassage r from to m plan
   passage_at r m rs plan up departed is all captured = record {
@@ -111,15 +130,20 @@ module _ (from to : List ℕ) (t : Tables) (packets : List Captured) (captures :
     whole = all;
   }
 
-  passage_told : (r : Reader) (told : Option Contents) (rs : List LimitedRecord) (plan : Plan) → KeepsUp t captures rs → sent ≡ departures_in_run rs
+  passage_told : (r : Reader) (told : Option Contents) (rs : List LimitedRecord) (plan : Plan) →
+      KeepsUp t captures rs → sent ≡ departures_in_run rs
       → plan ≡ passed from to packets sent → plan.writes ≡ (to, capture_of_all (plain_tables from to) packets) ∷ []
-      → IfSome told (λ m. capture_in r from 0 t.limit_bytes m ≡ Ok packets) → IfSome told (λ m. IsPassage r from to m plan)
+      → IfSome told (λ m. capture_in r from 0 t.limit_bytes m ≡ Ok packets) →
+      IfSome told (λ m. IsPassage r from to m plan)
   passage_told r None rs plan up departed is all captured = tt
   passage_told r (Some m) rs plan up departed is all captured = passage_at r m rs plan up departed is all captured
 
   -- what is written of a capture that was read
-  pub passage : (r : Reader) (R : List ℕ → Type 0) (old mid : Space) (rs : List LimitedRecord) (plan : Plan) → AreTables t → Judges InTurn (capture_in r from 0 t.limit_bytes) R old mid (Ok packets)
-      → KeepsUp t captures rs → sent ≡ departures_in_run rs → ideally_sent t captures ≡ Ok sent → plan.writes ≡ (to, capture_out t captures sent 0) ∷ [] → plan.text ≡ []
+  pub passage : (r : Reader) (R : List ℕ → Type 0) (old mid : Space) (rs : List LimitedRecord) (plan : Plan) →
+      AreTables t → Judges InTurn (capture_in r from 0 t.limit_bytes) R old mid (Ok packets)
+      → KeepsUp t captures rs → sent ≡ departures_in_run rs → ideally_sent t captures ≡ Ok sent →
+      plan.writes ≡ (to, capture_out t captures sent 0) ∷ [] → plan.text ≡ []
       → IfSome old.told (λ m. IsPassage r from to m plan)
   passage r R old mid rs plan are g up departed h writes none =
-      passage_told r old.told rs plan up departed (plan_passed plan writes none) (writes ∙ ap (λ (bytes : List ℕ). (to, bytes) ∷ []) (leaves_all are h)) g.ok
+      passage_told r old.told rs plan up departed (plan_passed plan writes none)
+      (writes ∙ ap (λ (bytes : List ℕ). (to, bytes) ∷ []) (leaves_all are h)) g.ok

@@ -1,4 +1,6 @@
--- Texts that are put one after another. A text that was cut short after others were put whole is a front of all: what was taken before it has a known length, so the front's length is that and the piece's. A front of a text is a front of each longer text.
+-- Texts that are put one after another. A text that was cut short after others were put whole is a front of all: what
+-- was taken before it has a known length, so the front's length is that and the piece's. A front of a text is a front
+-- of each longer text.
 use Rattle.std.proofs.Common.{◌≡◌, ◌<◌, ◌≤◌, ℕ, ◌+◌, List, [], ◌∷◌, ◌++◌, length, take, drop, get_or, Bor, refl, ap, sym, subst, ◌∙◌, arith, append_assoc}
 use Rattle.std.specs.Prelude.{Option, None, Some, Result, Ok, Err, IsErr}
 use Rattle.std.specs.Io.KnownBytes.{append_known}
@@ -12,7 +14,8 @@ use Rattle.cq_run.specs.Line.{Puts, line}
 use Rattle.cq_run.proofs.Counted.{rose_from}
 
 -- the digits that were written at the front
-pub front_is : (text old new : List ℕ) (count : ℕ) → count ≡ length text → new ≡ text ++ drop count old → take count new ≡ text
+pub front_is : (text old new : List ℕ) (count : ℕ) → count ≡ length text → new ≡ text ++ drop count old →
+    take count new ≡ text
 front_is text old new count c e = ap (take count) e ∙ take_at text (drop count old) count (sym c)
 
 -- a line in pieces: its head, its text and the line feed
@@ -21,14 +24,21 @@ unfolding line
 line_in_pieces head text text' e = ap (λ ys. head ++ (ys ++ 10 ∷ [])) e ∙ sym (append_assoc head text' (10 ∷ []))
 
 -- a line of two numbers in pieces: each has a text before it
-pub line_of_two : (a b b' c d d' : List ℕ) → b ≡ b' → d ≡ d' → a ++ (b ++ (c ++ (d ++ 10 ∷ []))) ≡ line (a ++ b' ++ c ++ d')
+pub line_of_two : (a b b' c d d' : List ℕ) → b ≡ b' → d ≡ d' →
+    a ++ (b ++ (c ++ (d ++ 10 ∷ []))) ≡ line (a ++ b' ++ c ++ d')
 unfolding line
-line_of_two a b b' c d d' e f = ap (λ ys. a ++ (ys ++ (c ++ (d ++ 10 ∷ [])))) e ∙ ap (λ ys. a ++ (b' ++ (c ++ (ys ++ 10 ∷ [])))) f ∙ simp append_assoc
+line_of_two a b b' c d d' e f =
+    ap (λ ys. a ++ (ys ++ (c ++ (d ++ 10 ∷ [])))) e ∙ ap (λ ys. a ++ (b' ++ (c ++ (ys ++ 10 ∷ [])))) f
+    ∙ simp append_assoc
 
 -- and of three
-pub line_of_three : (a b b' c d d' e f f' : List ℕ) → b ≡ b' → d ≡ d' → f ≡ f' → a ++ (b ++ (c ++ (d ++ (e ++ (f ++ 10 ∷ []))))) ≡ line (a ++ b' ++ c ++ d' ++ e ++ f')
+pub line_of_three : (a b b' c d d' e f f' : List ℕ) → b ≡ b' → d ≡ d' → f ≡ f' →
+    a ++ (b ++ (c ++ (d ++ (e ++ (f ++ 10 ∷ []))))) ≡ line (a ++ b' ++ c ++ d' ++ e ++ f')
 unfolding line
-line_of_three a b b' c d d' e f f' p q r = ap (λ ys. a ++ (ys ++ (c ++ (d ++ (e ++ (f ++ 10 ∷ [])))))) p ∙ ap (λ ys. a ++ (b' ++ (c ++ (ys ++ (e ++ (f ++ 10 ∷ [])))))) q ∙ ap (λ ys. a ++ (b' ++ (c ++ (d' ++ (e ++ (ys ++ 10 ∷ [])))))) r ∙ simp append_assoc
+line_of_three a b b' c d d' e f f' p q r =
+    ap (λ ys. a ++ (ys ++ (c ++ (d ++ (e ++ (f ++ 10 ∷ [])))))) p
+    ∙ ap (λ ys. a ++ (b' ++ (c ++ (ys ++ (e ++ (f ++ 10 ∷ [])))))) q
+    ∙ ap (λ ys. a ++ (b' ++ (c ++ (d' ++ (e ++ (ys ++ 10 ∷ [])))))) r ∙ simp append_assoc
 
 -- a line after the pieces of its head
 pub line_after : (a b b' c text : List ℕ) → b ≡ b' → a ++ (b ++ c) ++ line text ≡ line (a ++ b' ++ c ++ text)
@@ -54,31 +64,44 @@ two_behind head a b b' c d d' e f =
     ∙ ap (λ ys. head ++ (a ++ (b' ++ (c ++ ys)))) (append-nil d')
     ∙ simp append_assoc
 
-pub puts_as : {E : Type 0} (a b : List ℕ) (old new : Taken) (r : Result (Unit {0}) E) → a ≡ b → Puts a old new r → Puts b old new r
+pub puts_as : {E : Type 0} (a b : List ℕ) (old new : Taken) (r : Result (Unit {0}) E) → a ≡ b → Puts a old new r →
+    Puts b old new r
 puts_as a b old new r e h = let P : List ℕ → Type 0 = λ t. Puts t old new r in subst P e h
 
-append_known-append_known : (known : Option (List ℕ)) (a b : List ℕ) → append_known (append_known known a) b ≡ append_known known (a ++ b)
+append_known-append_known : (known : Option (List ℕ)) (a b : List ℕ) →
+    append_known (append_known known a) b ≡ append_known known (a ++ b)
 append_known-append_known None a b = refl
 append_known-append_known (Some xs) a b = ap Some (append_assoc xs a b)
 
 -- a front of a text is a front of a longer one
 front_of_longer : (a b : List ℕ) (n : ℕ) → take n a ≡ take (length (take n a)) (a ++ b)
 front_of_longer a b n =
-    sym (ap (take (length (take n a))) (ap (λ ys. ys ++ b) (sym (take-append-drop n a)) ∙ append_assoc (take n a) (drop n a) b)
+    sym (ap (take (length (take n a))) (ap (λ ys. ys ++ b) (sym (take-append-drop n a))
+    ∙ append_assoc (take n a) (drop n a) b)
     ∙ take_at (take n a) (drop n a ++ b) (length (take n a)) refl)
 
 -- an error after a front of the text
-pub puts_front : {E : Type 0} (text : List ℕ) (old new : Taken) (r : Result (Unit {0}) E) → IsErr r → (n : ℕ) × (new.bytes ≡ append_known old.bytes (take n text)) → old.faults ≤ new.faults → Rose old.faults new.faults → Puts text old new r
+pub puts_front : {E : Type 0} (text : List ℕ) (old new : Taken) (r : Result (Unit {0}) E) → IsErr r →
+    (n : ℕ) × (new.bytes ≡ append_known old.bytes (take n text)) → old.faults ≤ new.faults →
+    Rose old.faults new.faults → Puts text old new r
 puts_front text old new (Ok x) err front later rose = cc
-puts_front text old new (Err e) err front later rose = record { bytes = front; cause = record { later = later; uncounted = tt; failed = rose } }
+puts_front text old new (Err e) err front later rose =
+    record { bytes = front; cause = record { later = later; uncounted = tt; failed = rose } }
 
 -- the first of two texts was cut short
-pub puts_cut : {E : Type 0} (a b : List ℕ) (old new : Taken) (r : Result (Unit {0}) E) → IsErr r → (n : ℕ) × (new.bytes ≡ append_known old.bytes (take n a)) → old.faults ≤ new.faults → Rose old.faults new.faults → Puts (a ++ b) old new r
+pub puts_cut : {E : Type 0} (a b : List ℕ) (old new : Taken) (r : Result (Unit {0}) E) → IsErr r →
+    (n : ℕ) × (new.bytes ≡ append_known old.bytes (take n a)) → old.faults ≤ new.faults → Rose old.faults new.faults →
+    Puts (a ++ b) old new r
 puts_cut a b old new r err front later rose =
-    puts_front (a ++ b) old new r err (length (take front.0 a), front.1 ∙ ap (append_known old.bytes) (front_of_longer a b front.0)) later rose
+    puts_front (a ++ b) old new r err (
+      length (take front.0 a),
+      front.1
+          ∙ ap (append_known old.bytes) (front_of_longer a b front.0),
+    ) later rose
 
 -- the first of two texts was put whole, and then the second was put
-pub puts_then : {E : Type 0} (a b : List ℕ) (old mid new : Taken) (r : Result (Unit {0}) E) → mid.bytes ≡ append_known old.bytes a → mid.faults ≡ old.faults → Puts b mid new r → Puts (a ++ b) old new r
+pub puts_then : {E : Type 0} (a b : List ℕ) (old mid new : Taken) (r : Result (Unit {0}) E) →
+    mid.bytes ≡ append_known old.bytes a → mid.faults ≡ old.faults → Puts b mid new r → Puts (a ++ b) old new r
 puts_then a b old mid new (Ok x) e l h = record {
   bytes = h.bytes ∙ ap (λ k. append_known k b) e ∙ append_known-append_known old.bytes a b;
   cause = record { later = let later = h.cause.later in omega arith; uncounted = h.cause.uncounted ∙ l; failed = tt };
@@ -91,18 +114,30 @@ puts_then a b old mid new (Err f) e l h = record {
         ∙ append_known-append_known old.bytes a (take h.bytes.0 b)
         ∙ ap (append_known old.bytes) (sym (take-append-add a b h.bytes.0)),
   );
-  cause = record { later = let later = h.cause.later in omega arith; uncounted = tt; failed = rose_from old.faults mid.faults new.faults l h.cause.failed };
+  cause =
+      record {
+        later = let later = h.cause.later in omega arith;
+        uncounted = tt;
+        failed = rose_from old.faults mid.faults new.faults l h.cause.failed;
+      };
 }
 
 -- all pieces, by those before the one at a place
-pieces_at : (ps : List (Bor (List ℕ))) (i : ℕ) (d : Bor (List ℕ)) → i < length ps → flat_map (λ p. p.now) ps ≡ flat_map (λ p. p.now) (take i ps) ++ ((get_or ps i d).now ++ flat_map (λ p. p.now) (drop (i + 1) ps))
+pieces_at : (ps : List (Bor (List ℕ))) (i : ℕ) (d : Bor (List ℕ)) → i < length ps →
+    flat_map (λ p. p.now) ps ≡ flat_map (λ p. p.now) (take i ps)
+    ++ ((get_or ps i d).now ++ flat_map (λ p. p.now) (drop (i + 1) ps))
 pieces_at ps i d h =
     ap (flat_map (λ p. p.now)) (sym (take-append-drop i ps) ∙ ap (λ qs. take i ps ++ qs) (drop_more ps i d h))
     ∙ flat_map-append (λ p. p.now) (take i ps) (get_or ps i d ∷ drop (i + 1) ps)
 
 -- the piece at a place was cut short, after those before it
-pub pieces_cut : {E : Type 0} (ps : List (Bor (List ℕ))) (i : ℕ) (d : Bor (List ℕ)) (start old new : Taken) (r : Result (Unit {0}) E) → IsErr r → i < length ps → old.bytes ≡ append_known start.bytes (flat_map (λ p. p.now) (take i ps)) → old.faults ≡ start.faults → (n : ℕ) × (new.bytes ≡ append_known old.bytes (take n (get_or ps i d).now)) → old.faults ≤ new.faults → Rose old.faults new.faults → Puts (flat_map (λ p. p.now) ps) start new r
+pub pieces_cut : {E : Type 0} (ps : List (Bor (List ℕ))) (i : ℕ) (d : Bor (List ℕ)) (start old new : Taken)
+    (r : Result (Unit {0}) E) → IsErr r → i < length ps →
+    old.bytes ≡ append_known start.bytes (flat_map (λ p. p.now) (take i ps)) → old.faults ≡ start.faults →
+    (n : ℕ) × (new.bytes ≡ append_known old.bytes (take n (get_or ps i d).now)) → old.faults ≤ new.faults →
+    Rose old.faults new.faults → Puts (flat_map (λ p. p.now) ps) start new r
 pieces_cut ps i d start old new r err h put uncounted front later rose =
     puts_as _ (flat_map (λ p. p.now) ps) start new r (sym (pieces_at ps i d h))
-    (puts_then (flat_map (λ p. p.now) (take i ps)) ((get_or ps i d).now ++ flat_map (λ p. p.now) (drop (i + 1) ps)) start old new r put uncounted
+    (puts_then (flat_map (λ p. p.now) (take i ps)) ((get_or ps i d).now ++ flat_map (λ p. p.now) (drop (i + 1) ps))
+    start old new r put uncounted
     (puts_cut (get_or ps i d).now (flat_map (λ p. p.now) (drop (i + 1) ps)) old new r err front later rose))

@@ -14,6 +14,8 @@ get-remove_same m name =
     get-remove nat_list_cmp_total m name name
     ∙ ap (λ b. cond b None (get m name)) ((eq_by_cmp_equiv nat_list_cmp_total).refl name)
 
-pub capture_is_to_read : (r : Reader) (told : Option Contents) (name : List ℕ) (input limit : ℕ) → IsToRead (capture_in r name input limit) told name
+pub capture_is_to_read : (r : Reader) (told : Option Contents) (name : List ℕ) (input limit : ℕ) →
+    IsToRead (capture_in r name input limit) told name
 capture_is_to_read r None name input limit = tt
-capture_is_to_read r (Some m) name input limit = ap (λ o. found_or_missing name o >>= capture_of r input limit) (get-remove_same m name)
+capture_is_to_read r (Some m) name input limit =
+    ap (λ o. found_or_missing name o >>= capture_of r input limit) (get-remove_same m name)

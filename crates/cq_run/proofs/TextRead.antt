@@ -1,5 +1,6 @@
--- What is told of a text, as the trace or the log of an audit or the state of a stopped run, from what was read under its name:
--- its bytes, where they are not too many. The name that was asked for is the one that is to be read, or a copy of it.
+-- What is told of a text, as the trace or the log of an audit or the state of a stopped run, from what was read under
+-- its name: its bytes, where they are not too many. The name that was asked for is the one that is to be read, or a
+-- copy of it.
 use Rattle.std.proofs.Common.{◌≡◌, ◌<◌, ◌≤◌, ◌⊎◌, ◌∙◌, ℕ, Bool, IsTrue, true, false, cond, List, [], length, refl, sym, ap, subst, inl, inr, arith}
 use Rattle.std.specs.Prelude.{nat_lt, Option, None, Some, IfSome, Result, Ok, Err, IsErrOf, Vec, unwrap_or}
 use Rattle.std.specs.FinMap.{get, remove}

@@ -20,15 +20,18 @@ told_of_match None U P h = tt
 told_of_match (Some m) U P h = h
 
 -- contents are told where the other fact cannot hold
-pub told_is_some : {A : Type 0} (told : Option A) (U : Type 0) (P : A → Type 0) → ¬ U → MatchOption told U P → IsSomeAnd told P
+pub told_is_some : {A : Type 0} (told : Option A) (U : Type 0) (P : A → Type 0) → ¬ U → MatchOption told U P →
+    IsSomeAnd told P
 told_is_some None U P n h = n h
 told_is_some (Some m) U P n h = h
 
-pub some_map : {A : Type 0} (told : Option A) (P Q : A → Type 0) → ((m : A) → P m → Q m) → IsSomeAnd told P → IsSomeAnd told Q
+pub some_map : {A : Type 0} (told : Option A) (P Q : A → Type 0) → ((m : A) → P m → Q m) → IsSomeAnd told P →
+    IsSomeAnd told Q
 some_map None P Q f h = h
 some_map (Some m) P Q f h = f m h
 
 -- a sink that was given a text took it, or, where that failed, a front of it
-pub took : {E : Type 0} (text : List ℕ) (old new : Taken) (result : Result (Unit {0}) E) → Puts text old new result → TakesText text old new
+pub took : {E : Type 0} (text : List ℕ) (old new : Taken) (result : Result (Unit {0}) E) → Puts text old new result →
+    TakesText text old new
 took text old new (Ok x) h = inl h.bytes
 took text old new (Err e) h = inr (h.cause.failed, h.bytes)

@@ -29,7 +29,8 @@ either_within false x y g h = h
 in_range : (least most : ℕ) (text : List ℕ) (n : ℕ) → number_from least most text ≡ Some n → IsInRange least most n
 in_range least most text n = go (is_numeral text) (nat_le least (value_of text)) (nat_le (value_of text) most) refl refl
   where
-    go : (a b c : Bool) → nat_le least (value_of text) ≡ b → nat_le (value_of text) most ≡ c → cond (a && (b && c)) (Some (value_of text)) None ≡ Some n → IsInRange least most n
+    go : (a b c : Bool) → nat_le least (value_of text) ≡ b → nat_le (value_of text) most ≡ c →
+        cond (a && (b && c)) (Some (value_of text)) None ≡ Some n → IsInRange least most n
     go true true true low high e =
         let is : value_of text ≡ n = cc in
         let P : ℕ → Type 0 = λ k. IsInRange least most k in
@@ -38,7 +39,8 @@ in_range least most text n = go (is_numeral text) (nat_le least (value_of text))
     go true false c low high e = absurd (let P : ⊥ = cc in P)
     go false b c low high e = absurd (let P : ⊥ = cc in P)
 
-soak_within : (seed ports slots : Option ℕ) → ((n : ℕ) → ports ≡ Some n → IsInRange 1 64 n) → ((n : ℕ) → slots ≡ Some n → IsInRange 1 20000 n) → IsWithin (soak_of seed ports slots)
+soak_within : (seed ports slots : Option ℕ) → ((n : ℕ) → ports ≡ Some n → IsInRange 1 64 n) →
+    ((n : ℕ) → slots ≡ Some n → IsInRange 1 20000 n) → IsWithin (soak_of seed ports slots)
 soak_within (Some seed) (Some ports) (Some slots) g h = some_within (Soak seed ports slots) (g ports refl, h slots refl)
 soak_within (Some seed) (Some ports) None g h = none_within
 soak_within (Some seed) None slots g h = none_within
@@ -67,7 +69,8 @@ slots_within text n e = let most : n ≤ 9223372036854775807 = (in_range 0 most_
 three_within : (word first second third : List ℕ) → IsWithin (with_three word first second third)
 three_within word first second third =
     either_within (bytes_eq word (codes "soak")) _ _
-    (soak_within (number_from 0 18446744073709551615 first) (number_from 1 64 second) (number_from 1 20000 third) (in_range 1 64 second) (in_range 1 20000 third))
+    (soak_within (number_from 0 18446744073709551615 first) (number_from 1 64 second) (number_from 1 20000 third)
+    (in_range 1 64 second) (in_range 1 20000 third))
     (either_within (bytes_eq word (codes "part")) _ _
     (parted_within first third (number_from 0 most_slots second) (slots_within second)) none_within)
 
@@ -78,6 +81,8 @@ form_within word (first ∷ second ∷ []) = two_within word first second
 form_within word (first ∷ second ∷ third ∷ []) = three_within word first second third
 form_within word (a ∷ b ∷ c ∷ d ∷ rest) = none_within
 
-pub words_within : (words : List (List ℕ)) (command : Command) → command_for words ≡ Some command → IsWithinRange command
+pub words_within : (words : List (List ℕ)) (command : Command) → command_for words ≡ Some command →
+    IsWithinRange command
 words_within [] = none_within
-words_within (word ∷ values) = either_within (list_all is_value values) (form_of word values) None (form_within word values) none_within
+words_within (word ∷ values) =
+    either_within (list_all is_value values) (form_of word values) None (form_within word values) none_within

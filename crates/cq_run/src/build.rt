@@ -11,7 +11,7 @@ use crate::plan::{Work, Write};
 use crate::switching::{Crossed, Switched};
 use cq_base::{Figures, MOST_DIGITS, Name, NoMemory, Sequence, digits};
 use cq_pcap::{Capture, capture_bytes};
-use cq_report::{log_text_of_room, report_text, trace_text};
+use cq_report::{log_text_of_room, report_text, trace_text_of_packed};
 use cq_route::Tables;
 use cq_simulate::{Packing, Refused, packets_of_all};
 use std::alloc::Global;
@@ -121,7 +121,7 @@ pub fn build_switched(
     requires run { IsSwitched tables.now captures run }
     ensures { IfOk result (λ plan. plan ≡ switched tables.now captures run.sent.items) }
 {
-    let trace = trace_text(alloc, run.sent.items())?;
+    let trace = trace_text_of_packed(alloc, run.sent.as_slice())?;
     let mut writes = build_captures(alloc, tables, captures, run)?;
     put_write(alloc, &mut writes, &tables.trace, trace)?;
     Ok(Work::of(writes, Vec::new(alloc)))
@@ -150,7 +150,7 @@ pub fn build_crossed(
         refused,
     } = run;
     let log = log_text_of_room(alloc, note)?;
-    let trace = trace_text(alloc, switched.sent.items())?;
+    let trace = trace_text_of_packed(alloc, switched.sent.as_slice())?;
     let mut writes = build_captures(alloc, tables, captures, switched)?;
     put_write(alloc, &mut writes, &tables.trace, trace)?;
     put_write(alloc, &mut writes, &tables.log, log)?;

@@ -26,7 +26,8 @@ mod switching;
 mod top;
 
 pub use cq_simulate::{
-    FabricRun, IdealRun, Refused, RunRefusal, packets_of, run_fabric, run_ideal,
+    FabricRun, IdealRun, PackedFabricRun, Refused, RunRefusal, packets_of, run_fabric,
+    run_fabric_packed, run_ideal, run_ideal_packed,
 };
 pub use cq_words::{Command, command_of};
 pub use denial::Denial;

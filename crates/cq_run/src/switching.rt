@@ -8,20 +8,20 @@ ghost use Rattle.cq_run.specs.Verdict.{ideally_sent};
 
 use crate::{Denial, Halt, Refusal};
 use cq_audit::{AuditRefusal, audit_log, audit_trace};
-use cq_base::{Departure, Figures, Room, Transfer};
+use cq_base::{Departures, Figures, Room, Transfer};
 use cq_cells::Schedule;
 use cq_crew::Gate;
 use cq_pcap::Capture;
-use cq_report::trace_text;
+use cq_report::trace_text_of_packed;
 use cq_route::Tables;
-use cq_simulate::{Refused, RunRefusal, run_fabric, run_ideal};
+use cq_simulate::{Refused, RunRefusal, run_fabric_packed, run_ideal_packed};
 use std::alloc::Global;
 use std::thread::Threads;
 
 /// What was sent, and the stamp from which its slots are counted, in nanoseconds.
 #[derive(Drop)]
 pub struct Switched {
-    pub sent: Room<Departure>,
+    pub sent: Departures,
     pub first_stamp: u64,
 }
 
@@ -62,9 +62,9 @@ pub fn switch_ideally<R: Threads + Sync>(
     ensures refused { IfErr result (IsHaltOf (ideally_sent tables.now captures.now)) }
 {
     let schedule = Schedule::of(rt, alloc, captures, tables)?;
-    let run = run_ideal(alloc, tables, &schedule)?;
+    let sent = run_ideal_packed(alloc, tables, &schedule)?;
     Ok(Switched {
-        sent: run.sent,
+        sent,
         first_stamp: schedule.t0(),
     })
 }
@@ -85,7 +85,7 @@ pub fn switch_by_crossbar<R: Threads + Sync, G: Gate>(
     ensures refused { IfErr result (IsHaltOf (ideally_sent tables.now captures.now)) }
 {
     let schedule = Schedule::of(rt, alloc, captures, tables)?;
-    let run = run_fabric(rt, alloc, tables, &schedule, gate)?;
+    let run = run_fabric_packed(rt, alloc, tables, &schedule, gate)?;
     let switched = Switched {
         sent: run.sent,
         first_stamp: schedule.t0(),
@@ -114,7 +114,7 @@ pub fn audit_texts<R: Threads + Sync>(
     ensures halted { IfErr result (IsAuditHalted tables.now captures.now trace.now log.now) }
 {
     let schedule = Schedule::of(rt, alloc, captures, tables)?;
-    let ideal = run_ideal(alloc, tables, &schedule)?;
+    let ideal = run_ideal_packed(alloc, tables, &schedule)?;
     audit_log(
         alloc,
         &tables.setup,
@@ -122,7 +122,7 @@ pub fn audit_texts<R: Threads + Sync>(
         &schedule,
         log,
     )?;
-    let text = trace_text(alloc, ideal.sent.items())?;
+    let text = trace_text_of_packed(alloc, ideal.as_slice())?;
     match audit_trace(trace, &text) {
         None => Ok(()),
         Some(line) => Err(denied(Denial::Trace { line })),

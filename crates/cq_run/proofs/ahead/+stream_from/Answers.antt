@@ -7,14 +7,16 @@ use Rattle.cq_run.proofs.Behind.{all_arrive, begun_is, begun_small, capture_ends
 use Rattle.cq_run.proofs.Failed.{fails_after}
 use Rattle.cq_run.proofs.ahead.+stream_from.Goals as goal
 
--- What failed since the first file was read failed since this call began, for no fault was counted before: that is `fails_after`, the
--- argument `more` of the lemmas. `c.in-Some.ensures.cases.0` says that the rows are the first and the rest.
+-- What failed since the first file was read failed since this call began, for no fault was counted before: that is
+-- `fails_after`, the argument `more` of the lemmas. `c.in-Some.ensures.cases.0` says that the rows are the first and
+-- the rest.
 
 pub returns-in-None-clause-judges : goal.returns-in-None-clause-judges
 returns-in-None-clause-judges g t c = λ r.
     let none : c.args.rows.now ≡ [] = nil_from_length c.args.rows.now c.in-None.ensures.cases in
     let files = c.args.files.now in
-    let R : List ℕ → Type 0 = λ asked. Fails g.F.Files.space g.F.Files.may_fail g.F.Files.keeps (Reads asked) files files in
+    let R : List ℕ → Type 0 =
+    λ asked. Fails g.F.Files.space g.F.Files.may_fail g.F.Files.keeps (Reads asked) files files in
     rw (none, c.of.ensures, c.new.ensures.items)
     (none_arrive r c.args.limit c.args.input R (g.F.Files.space files) c.requires.closed)
 
@@ -35,7 +37,8 @@ returns-in_err-begun-in-Some-clause-judges g t c = λ r.
     let space = g.F.Files.space in
     let new = c.begin_port.new.files in
     rw (p.1, p.2, c.in-Some.ensures.cases.0)
-    (file_ends r c.args.limit c.args.input c.in-Some.row.now c.in-Some.rest.now _ _ (λ name u. u) (space c.args.files.now)
+    (file_ends r c.args.limit c.args.input c.in-Some.row.now c.in-Some.rest.now _ _ (λ name u. u)
+    (space c.args.files.now)
     (space new) (space new) c.in_err-begun-in-Some.field-0.0 (c.in_err-begun-in-Some.ensures.halts r)
     c.begin_port.ensures.closed c.begin_port.ensures.told)
 
@@ -50,7 +53,8 @@ returns-in_err-capture-in-Some-clause-judges g t c = λ r.
     rw (p.1, p.2, c.in-Some.ensures.cases.0)
     (capture_ends r c.args.limit c.args.input c.in-Some.row.now c.in-Some.rest.now _ _
     (λ name. fails_after space g.F.Files.may_fail g.F.Files.keeps (Reads name) c.args.files.now mid new
-    g.met.F.Files.lasts begun.ensures.uncounted c.begin_port.ensures.kept) (space c.args.files.now) (space mid) (space new)
+    g.met.F.Files.lasts begun.ensures.uncounted c.begin_port.ensures.kept) (space c.args.files.now) (space mid)
+    (space new)
     begun.begun begun.ensures.begun c.begin_port.ensures.told begun.ensures.uncounted c.in_err-capture-in-Some.field-0.0
     c.stream_from-later.result c.in_err-capture-in-Some.ensures.halts (c.stream_from-later.ensures.judges r))
 
@@ -65,7 +69,8 @@ returns-in_err-captures-in-Some-clause-judges g t c = λ r.
     rw (p.1, p.2, c.in-Some.ensures.cases.0)
     (later_ends r c.args.limit c.args.input c.in-Some.row.now c.in-Some.rest.now _ _
     (λ name. fails_after space g.F.Files.may_fail g.F.Files.keeps (Reads name) c.args.files.now mid new
-    g.met.F.Files.lasts begun.ensures.uncounted c.begin_port.ensures.kept) (space c.args.files.now) (space mid) (space new)
+    g.met.F.Files.lasts begun.ensures.uncounted c.begin_port.ensures.kept) (space c.args.files.now) (space mid)
+    (space new)
     begun.begun begun.ensures.begun c.begin_port.ensures.told begun.ensures.uncounted c.in_ok-capture-in-Some.capture
     c.begin_port.ensures.closed c.in_ok-capture-in-Some.ensures.spelt c.in_err-captures-in-Some.field-0.0
     (c.in_err-captures-in-Some.ensures.judges r))
@@ -81,7 +86,8 @@ returns-in_err-in_front-in-Some-clause-judges g t c = λ r.
     rw (p.1, p.2, c.in-Some.ensures.cases.0)
     (memory_ends r c.args.limit c.args.input c.in-Some.row.now c.in-Some.rest.now _ _
     (λ name. fails_after space g.F.Files.may_fail g.F.Files.keeps (Reads name) c.args.files.now mid new
-    g.met.F.Files.lasts begun.ensures.uncounted c.begin_port.ensures.kept) (space c.args.files.now) (space mid) (space new)
+    g.met.F.Files.lasts begun.ensures.uncounted c.begin_port.ensures.kept) (space c.args.files.now) (space mid)
+    (space new)
     begun.begun begun.ensures.begun c.begin_port.ensures.told begun.ensures.uncounted c.in_ok-capture-in-Some.capture
     c.begin_port.ensures.closed c.in_ok-capture-in-Some.ensures.spelt c.in_ok-captures-in-Some.captures
     (c.in_ok-captures-in-Some.ensures.judges r))
@@ -95,7 +101,8 @@ returns-in_ok-in_front-in-Some-clause-judges g t c = λ r.
     rw (c.in_ok-in_front-in-Some.ensures, c.in-Some.ensures.cases.0)
     (all_arrive r c.args.limit c.args.input c.in-Some.row.now c.in-Some.rest.now _ _
     (λ name. fails_after space g.F.Files.may_fail g.F.Files.keeps (Reads name) c.args.files.now mid new
-    g.met.F.Files.lasts begun.ensures.uncounted c.begin_port.ensures.kept) (space c.args.files.now) (space mid) (space new)
+    g.met.F.Files.lasts begun.ensures.uncounted c.begin_port.ensures.kept) (space c.args.files.now) (space mid)
+    (space new)
     begun.begun begun.ensures.begun c.begin_port.ensures.told begun.ensures.uncounted c.in_ok-capture-in-Some.capture
     c.begin_port.ensures.closed c.in_ok-capture-in-Some.ensures.spelt c.in_ok-captures-in-Some.captures
     (c.in_ok-captures-in-Some.ensures.judges r))

@@ -51,7 +51,8 @@ ports-preserved c =
     c.ports.output (omega arith) c.index-places-output.result c.index-places-output.is c.in_ok-bytes.bytes.items
     c.in_ok-bytes.ensures in
     made_more c.args.tables.now c.args.captures c.args.run.sent.items c.as_slice-rows.result.now c.ports.output
-    c.index-rows-output.result c.index-rows-output.result _ _ _ _ c.in_ok-bytes.bytes.items inside c.index-rows-output.is
+    c.index-rows-output.result c.index-rows-output.result _ _ _ _ c.in_ok-bytes.bytes.items inside
+    c.index-rows-output.is
     refl built c.in_ok-put_write.ensures c.ports.invariant
 
 pub returns : goal.returns

@@ -9,4 +9,4 @@ returns-clause-writes c =
     ∙ crossed_writes c.args.tables.now c.args.captures c.args.run.switched.sent.items c.in_ok-writes.writes.items
     c.put_write.new.writes.items c.put_write-2.new.writes.items c.in_ok-trace.trace.items c.in_ok-log.log.items
     c.args.run.note.items c.in_ok-writes.ensures c.in_ok-put_write.ensures c.in_ok-put_write-2.ensures
-    (c.in_ok-trace.ensures ∙ ap trace_of c.items.ensures) c.in_ok-log.ensures
+    (c.in_ok-trace.ensures ∙ ap trace_of c.as_slice.ensures) c.in_ok-log.ensures

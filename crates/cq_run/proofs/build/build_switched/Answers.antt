@@ -9,5 +9,7 @@ build_captures-requires-clause-run c =
 
 pub returns : goal.returns
 returns c =
-    switched_is c.args.tables.now c.args.captures c.args.run.sent.items c.of.result c.in_ok-writes.writes.items _ c.in_ok-trace.trace.items c.in_ok-writes.ensures c.in_ok-put_write.ensures (c.in_ok-trace.ensures ∙ ap trace_of c.items.ensures)
+    switched_is c.args.tables.now c.args.captures c.args.run.sent.items c.of.result c.in_ok-writes.writes.items _
+    c.in_ok-trace.trace.items c.in_ok-writes.ensures c.in_ok-put_write.ensures
+    (c.in_ok-trace.ensures ∙ ap trace_of c.as_slice.ensures)
     c.of.ensures.writes (c.of.ensures.text ∙ c.new.ensures.items)

@@ -28,5 +28,6 @@ returns-clause-crossing g c =
 pub returns-in_err-crossed-clause-refused : goal.returns-in_err-crossed-clause-refused
 returns-in_err-crossed-clause-refused g c =
     let p = err_from_is_err_and c.from_residual.result c.from_residual.ensures.1 in
-    let P : List (List Captured) → Type 0 = λ cs. IsHaltOf (ideally_sent c.args.tables.now cs) c.in_err-crossed.field-0.0 in
+    let P : List (List Captured) → Type 0 =
+    λ cs. IsHaltOf (ideally_sent c.args.tables.now cs) c.in_err-crossed.field-0.0 in
     rw (p.1, p.2) (subst P c.as_slice.ensures c.in_err-crossed.ensures.refused)

@@ -19,15 +19,24 @@ aim_of tables captures sent = Crossing tables captures sent
 pub returns-in_err-tables-clause-judges : goal.returns-in_err-tables-clause-judges
 returns-in_err-tables-clause-judges g c = λ r.
     let p = err_from_is_err_and c.from_residual.result c.from_residual.ensures.1 in
-    rw (p.1, p.2) (tables_halt r aim_of c.args.config (g.F.Files.space c.args.files.now) (g.F.Files.space c.read_configuration.new.files) (g.F.Files.space c.read_configuration.new.files) _ _ c.in_err-tables.field-0.0
+    rw (p.1, p.2) (tables_halt r aim_of c.args.config (g.F.Files.space c.args.files.now)
+    (g.F.Files.space c.read_configuration.new.files) (g.F.Files.space c.read_configuration.new.files) _ _
+    c.in_err-tables.field-0.0
     (λ name u. (tt, u.1)) c.in_err-tables.ensures.judges)
 
 pub returns-in_err-captures-clause-judges : goal.returns-in_err-captures-clause-judges
 returns-in_err-captures-clause-judges g c = λ r.
     let p = err_from_is_err_and c.from_residual-in_err-captures.result c.from_residual-in_err-captures.ensures.1 in
     rw (p.1, p.2)
-    (captures_halt r aim_of c.args.config (g.F.Files.space c.args.files.now) (g.F.Files.space c.read_configuration.new.files) (g.F.Files.space c.stream_inputs.new.files) _ _ _ c.in_ok-tables.tables c.in_err-captures.field-0.0
-    (λ name u. (tt, fails_after g.F.Files.space g.F.Files.may_fail g.F.Files.keeps (Reads name) c.args.files.now c.read_configuration.new.files c.stream_inputs.new.files g.met.F.Files.lasts c.in_ok-tables.ensures.judges.uncounted c.read_configuration.ensures.kept u))
+    (captures_halt r aim_of c.args.config (g.F.Files.space c.args.files.now)
+    (g.F.Files.space c.read_configuration.new.files) (g.F.Files.space c.stream_inputs.new.files) _ _ _
+    c.in_ok-tables.tables c.in_err-captures.field-0.0
+    (λ name u. (
+      tt,
+      fails_after g.F.Files.space g.F.Files.may_fail g.F.Files.keeps (Reads name) c.args.files.now
+          c.read_configuration.new.files c.stream_inputs.new.files g.met.F.Files.lasts
+          c.in_ok-tables.ensures.judges.uncounted c.read_configuration.ensures.kept u,
+    ))
     c.in_ok-tables.ensures.judges (c.in_err-captures.ensures.judges r))
 
 pub returns-clause-judges : goal.returns-clause-judges
@@ -35,8 +44,11 @@ returns-clause-judges g c = λ r.
     let t = c.in_ok-tables.tables in
     let captures = c.in_ok-captures.captures in
     let is : IsCrossing t captures c.in_ok-cross.field-0 = c.in_ok-cross.ensures.crossing in
-    captures_plan r aim_of c.args.config (g.F.Files.space c.args.files.now) (g.F.Files.space c.read_configuration.new.files) (g.F.Files.space c.stream_inputs.new.files) _ _ _ t captures is.sent c.in_ok-cross.field-0
-    c.in_ok-tables.ensures.judges (c.in_ok-captures.ensures.judges r) is.is_sent (is.records, is.keeps_up.runs, is.written)
+    captures_plan r aim_of c.args.config (g.F.Files.space c.args.files.now)
+    (g.F.Files.space c.read_configuration.new.files) (g.F.Files.space c.stream_inputs.new.files) _ _ _ t captures
+    is.sent c.in_ok-cross.field-0
+    c.in_ok-tables.ensures.judges (c.in_ok-captures.ensures.judges r) is.is_sent
+    (is.records, is.keeps_up.runs, is.written)
 
 pub returns-clause-names : goal.returns-clause-names
 returns-clause-names g c = all_any c.in_ok-cross.field-0.writes
@@ -45,7 +57,9 @@ pub returns-clause-emulates : goal.returns-clause-emulates
 returns-clause-emulates g c = λ r.
     let t = c.in_ok-tables.tables in
     let captures = c.in_ok-captures.captures in
-    emulates t captures c.in_ok-cross.field-0 c.in_ok-cross.ensures.crossing r c.args.config _ _ (g.F.Files.space c.args.files.now) (g.F.Files.space c.read_configuration.new.files) (g.F.Files.space c.stream_inputs.new.files)
+    emulates t captures c.in_ok-cross.field-0 c.in_ok-cross.ensures.crossing r c.args.config _ _
+    (g.F.Files.space c.args.files.now) (g.F.Files.space c.read_configuration.new.files)
+    (g.F.Files.space c.stream_inputs.new.files)
     c.in_ok-tables.ensures.judges (c.in_ok-captures.ensures.judges r)
 
 pub returns-clause-kept : goal.returns-clause-kept
@@ -55,7 +69,9 @@ pub returns-in_err-cross-clause-judges : goal.returns-in_err-cross-clause-judges
 returns-in_err-cross-clause-judges g c = λ r.
     let p = err_from_is_err_and c.from_residual-in_err-cross.result c.from_residual-in_err-cross.ensures.1 in
     rw (p.1, p.2)
-    (run_halts r aim_of c.args.config (g.F.Files.space c.args.files.now) (g.F.Files.space c.read_configuration.new.files) (g.F.Files.space c.stream_inputs.new.files) _ _ _ c.in_ok-tables.tables c.in_ok-captures.captures c.in_err-cross.field-0.0
+    (run_halts r aim_of c.args.config (g.F.Files.space c.args.files.now)
+    (g.F.Files.space c.read_configuration.new.files) (g.F.Files.space c.stream_inputs.new.files) _ _ _
+    c.in_ok-tables.tables c.in_ok-captures.captures c.in_err-cross.field-0.0
     c.in_ok-tables.ensures.judges (c.in_ok-captures.ensures.judges r) c.in_err-cross.ensures.refused)
 
 -- whatever it comes to, reading leaves the file space closed and its contents as they are
@@ -63,13 +79,15 @@ pub returns-in_err-captures-clause-closed : goal.returns-in_err-captures-clause-
 returns-in_err-captures-clause-closed g c = (c.stream_inputs.ensures.judges from_front).closed
 
 pub returns-in_err-captures-clause-told : goal.returns-in_err-captures-clause-told
-returns-in_err-captures-clause-told g c = (c.stream_inputs.ensures.judges from_front).told ∙ c.read_configuration.ensures.judges.told
+returns-in_err-captures-clause-told g c =
+    (c.stream_inputs.ensures.judges from_front).told ∙ c.read_configuration.ensures.judges.told
 
 pub returns-in_err-cross-clause-closed : goal.returns-in_err-cross-clause-closed
 returns-in_err-cross-clause-closed g c = (c.stream_inputs.ensures.judges from_front).closed
 
 pub returns-in_err-cross-clause-told : goal.returns-in_err-cross-clause-told
-returns-in_err-cross-clause-told g c = (c.stream_inputs.ensures.judges from_front).told ∙ c.read_configuration.ensures.judges.told
+returns-in_err-cross-clause-told g c =
+    (c.stream_inputs.ensures.judges from_front).told ∙ c.read_configuration.ensures.judges.told
 
 pub returns-clause-closed : goal.returns-clause-closed
 returns-clause-closed g c = (c.stream_inputs.ensures.judges from_front).closed

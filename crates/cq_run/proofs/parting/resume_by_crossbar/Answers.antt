@@ -1,4 +1,5 @@
 use Rattle.std.proofs.lemmas.Result.{err_from_is_err_and}
+use Rattle.cq_simulate.specs.FabricRuns.{unpacked_run}
 use Rattle.cq_run.proofs.Stopped.{reportable, resume_halt, resume_refused, resumed_by, taken_up}
 use Rattle.cq_run.proofs.parting.resume_by_crossbar.Goals as goal
 
@@ -24,13 +25,15 @@ returns-clause-given g c = record {
 pub returns-clause-resumed : goal.returns-clause-resumed
 returns-clause-resumed g c =
     resumed_by c.args.tables.now c.args.captures.now c.in_ok-schedule.schedule c.in_ok-schedule.ensures.schedule
-    c.args.text.now c.in_ok-taken.taken c.in_ok-taken.ensures.read c.in_ok-resumed.resumed c.in_ok-resumed.ensures.run
+    c.args.text.now c.in_ok-taken.taken c.in_ok-taken.ensures.read (unpacked_run c.in_ok-resumed.resumed)
+    c.in_ok-resumed.ensures.run
     c.t0.result c.t0.ensures c.requires.tables c.requires.captures
 
 pub returns-clause-reportable : goal.returns-clause-reportable
 returns-clause-reportable g c =
     reportable c.args.tables.now c.args.captures.now c.in_ok-schedule.schedule c.in_ok-schedule.ensures.schedule
-    c.args.text.now c.in_ok-taken.taken c.in_ok-taken.ensures.read c.in_ok-resumed.resumed c.in_ok-resumed.ensures.run
+    c.args.text.now c.in_ok-taken.taken c.in_ok-taken.ensures.read (unpacked_run c.in_ok-resumed.resumed)
+    c.in_ok-resumed.ensures.run
     c.requires.tables c.requires.captures
 
 -- ## Want of memory, a text that is refused, and a tag fault

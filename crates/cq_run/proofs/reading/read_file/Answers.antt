@@ -8,7 +8,8 @@ use Rattle.cq_run.proofs.reading.read_file.Goals as goal
 
 pub returns-in-Err-Fault-clause-halts : goal.returns-in-Err-Fault-clause-halts
 returns-in-Err-Fault-clause-halts g c = λ r.
-    let P : List ℕ → Type 0 = λ n. Fails g.F.Files.space g.F.Files.may_fail g.F.Files.keeps (Reads n) c.args.files.now c.read_whole.new.files in (
+    let P : List ℕ → Type 0 =
+    λ n. Fails g.F.Files.space g.F.Files.may_fail g.F.Files.keeps (Reads n) c.args.files.now c.read_whole.new.files in (
       c.in-Err-Fault.ensures.whole.fault (ap Err c.in-Err-Fault.field-0-is),
       (refl, subst P c.text.ensures (c.in-Err-Fault.ensures.why (ap Err c.in-Err-Fault.field-0-is))),
       capture_is_to_read r (g.F.Files.space c.args.files.now).told c.args.name c.args.input c.args.limit,
@@ -17,7 +18,8 @@ returns-in-Err-Fault-clause-halts g c = λ r.
 pub returns-in-Ok-clause-file : goal.returns-in-Ok-clause-file
 returns-in-Ok-clause-file g c =
     let whole = c.in-Ok.ensures.whole in
-    let P : List ℕ → Type 0 = λ n. IfSome (g.F.Files.space c.args.files.now).told (λ m. get m n ≡ Some c.in-Ok.bytes.items) in
+    let P : List ℕ → Type 0 =
+    λ n. IfSome (g.F.Files.space c.args.files.now).told (λ m. get m n ≡ Some c.in-Ok.bytes.items) in
     record { short = omega (arith, whole.short, c.in-Ok.bytes.ok); whole = subst P c.text.ensures whole.whole }
 
 pub returns-in-Ok-clause-uncounted : goal.returns-in-Ok-clause-uncounted

@@ -8,13 +8,21 @@ pub returns-in_err-bytes-clause-judges : goal.returns-in_err-bytes-clause-judges
 returns-in_err-bytes-clause-judges g c = λ r.
     let p = err_from_is_err_and c.from_residual.result c.from_residual.ensures.1 in
     rw (p.1, p.2)
-    record { ok = tt; halt = c.in_err-bytes.ensures.halts r; closed = c.read_file.ensures.closed; told = c.read_file.ensures.told; uncounted = tt }
+    record {
+      ok = tt;
+      halt = c.in_err-bytes.ensures.halts r;
+      closed = c.read_file.ensures.closed;
+      told = c.read_file.ensures.told;
+      uncounted = tt;
+    }
 
 pub returns-in-Ok-clause-judges : goal.returns-in-Ok-clause-judges
 returns-in-Ok-clause-judges g c = λ r.
     let file = c.in_ok-bytes.ensures.file in
     record {
-      ok = capture_is r c.args.name c.args.input c.args.limit c.in_ok-bytes.bytes.items file.short (g.F.Files.space c.args.files.now).told c.in-Ok.capture file.whole c.in-Ok.ensures.spelt;
+      ok =
+          capture_is r c.args.name c.args.input c.args.limit c.in_ok-bytes.bytes.items file.short
+          (g.F.Files.space c.args.files.now).told c.in-Ok.capture file.whole c.in-Ok.ensures.spelt;
       halt = tt;
       closed = c.read_file.ensures.closed;
       told = c.read_file.ensures.told;
@@ -27,7 +35,8 @@ returns-in-Err-clause-judges g c = λ r.
     record {
       ok = tt;
       halt = rw c.unreadable.ensures
-          (capture_halts r c.args.name c.args.input c.args.limit c.in_ok-bytes.bytes.items file.short InTurn _ (g.F.Files.space c.args.files.now) (g.F.Files.space c.read_file.new.files)
+          (capture_halts r c.args.name c.args.input c.args.limit c.in_ok-bytes.bytes.items file.short InTurn _
+          (g.F.Files.space c.args.files.now) (g.F.Files.space c.read_file.new.files)
           (fault_of c.in-Err.refusal) file.whole c.in-Err.ensures.faulty c.in_ok-bytes.ensures.uncounted);
       closed = c.read_file.ensures.closed;
       told = c.read_file.ensures.told;

@@ -55,7 +55,8 @@ returns-in-Err-Fault-clause-judges g c =
       halt = (
         c.in-Err-Fault.ensures.whole.fault (ap Err c.in-Err-Fault.field-0-is),
         (asked, subst P c.text-2.ensures (c.in-Err-Fault.ensures.why (ap Err c.in-Err-Fault.field-0-is))),
-        text_is_to_read (Audit c.args.long) c.args.name.now (g.F.Files.space c.args.files.now).told c.in_ok-asked.asked asked,
+        text_is_to_read (Audit c.args.long) c.args.name.now (g.F.Files.space c.args.files.now).told c.in_ok-asked.asked
+            asked,
       );
       closed = c.read_whole.ensures.whole.closed;
       told = c.read_whole.ensures.whole.told;

@@ -12,7 +12,8 @@ returns-in_err-put_pieces g c =
     puts_as _ _ _ _ _
     (line_after (codes "capture of input ") _ (decimal c.args.input) (codes ": ") (fault_text c.args.fault)
     (front_is _ _ _ _ c.digits-count.ensures.count c.digits-count.ensures.text ∙ ap decimal c.from.ensures))
-    (puts_cut _ (line (fault_text c.args.fault)) (sunk c.args.sink.now) (sunk c.put_pieces.new.sink) c.from_residual.result c.from_residual.ensures.0
+    (puts_cut _ (line (fault_text c.args.fault)) (sunk c.args.sink.now) (sunk c.put_pieces.new.sink)
+    c.from_residual.result c.from_residual.ensures.0
     c.in_err-put_pieces.ensures.bytes c.in_err-put_pieces.ensures.cause.later c.in_err-put_pieces.ensures.cause.failed)
 
 pub returns : goal.returns
@@ -21,5 +22,6 @@ returns g c =
     puts_as _ _ _ _ _
     (line_after (codes "capture of input ") _ (decimal c.args.input) (codes ": ") (fault_text c.args.fault)
     (front_is _ _ _ _ c.digits-count.ensures.count c.digits-count.ensures.text ∙ ap decimal c.from.ensures))
-    (puts_then _ (line (fault_text c.args.fault)) (sunk c.args.sink.now) (sunk c.put_pieces.new.sink) (sunk c.say_fault.new.sink) c.say_fault.result
+    (puts_then _ (line (fault_text c.args.fault)) (sunk c.args.sink.now) (sunk c.put_pieces.new.sink)
+    (sunk c.say_fault.new.sink) c.say_fault.result
     c.in_ok-put_pieces.ensures.bytes c.in_ok-put_pieces.ensures.cause.uncounted c.say_fault.ensures)

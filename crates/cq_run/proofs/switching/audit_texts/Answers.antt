@@ -41,7 +41,7 @@ audit_log-requires-clause-ranked g c =
     let came = c.in_ok-schedule.schedule.came in
     let P : List (Option ℕ) → Type 0 = λ limits. IsOk (whole_limited_run limits (machines_of t.setup) came
     (empty_limited (ports_of t.setup) (openings_of t.setup))) in
-    subst P (sym c.as_slice.ensures) (ranks_fit t came c.in_ok-ideal.ideal.sent.items c.in_ok-ideal.ensures.sent)
+    subst P (sym c.as_slice.ensures) (ranks_fit t came c.in_ok-ideal.ideal.items c.in_ok-ideal.ensures.sent)
 
 -- ## Want of memory, and a tag fault
 
@@ -72,7 +72,7 @@ returns-in_err-audit_log-clause-halted g c =
     rw (p.1, p.2)
     (log_denied t c.args.captures.now came c.args.trace.now c.args.log.now
     (ap (λ s. s.came) c.in_ok-schedule.ensures.schedule)
-    c.in_ok-ideal.ideal.sent.items c.in_ok-ideal.ensures.sent c.in_err-audit_log.field-0.0
+    c.in_ok-ideal.ideal.items c.in_ok-ideal.ensures.sent c.in_err-audit_log.field-0.0
     (subst P c.as_slice.ensures c.in_err-audit_log.ensures.no))
 
 pub returns-clause-halted : goal.returns-clause-halted
@@ -83,8 +83,8 @@ returns-clause-halted g c =
     rw c.denied.ensures
     (trace_denied t c.args.captures.now came c.args.trace.now c.args.log.now
     (ap (λ s. s.came) c.in_ok-schedule.ensures.schedule)
-    c.in_ok-ideal.ideal.sent.items c.in_ok-ideal.ensures.sent (subst P c.as_slice.ensures c.in_ok-audit_log.ensures.yes)
-    c.deref.result.now c.in-Some.line (c.deref.ensures.value ∙ c.in_ok-text.ensures ∙ ap trace_of c.items.ensures)
+    c.in_ok-ideal.ideal.items c.in_ok-ideal.ensures.sent (subst P c.as_slice.ensures c.in_ok-audit_log.ensures.yes)
+    c.deref.result.now c.in-Some.line (c.deref.ensures.value ∙ c.in_ok-text.ensures ∙ ap trace_of c.as_slice-2.ensures)
     c.in-Some.ensures)
 
 pub returns-in-None-clause-passed : goal.returns-in-None-clause-passed
@@ -94,6 +94,6 @@ returns-in-None-clause-passed g c =
     let P : List (Option ℕ) → Type 0 = λ limits. IsYes t.setup limits came c.args.log.now in
     both_passed t c.args.captures.now came c.args.trace.now c.args.log.now
     (ap (λ s. s.came) c.in_ok-schedule.ensures.schedule)
-    c.in_ok-ideal.ideal.sent.items c.in_ok-ideal.ensures.sent (subst P c.as_slice.ensures c.in_ok-audit_log.ensures.yes)
+    c.in_ok-ideal.ideal.items c.in_ok-ideal.ensures.sent (subst P c.as_slice.ensures c.in_ok-audit_log.ensures.yes)
     c.deref.result.now c.in_ok-schedule.ensures.traffic (c.deref.ensures.value ∙ c.in_ok-text.ensures
-    ∙ ap trace_of c.items.ensures) c.in-None.ensures
+    ∙ ap trace_of c.as_slice-2.ensures) c.in-None.ensures
