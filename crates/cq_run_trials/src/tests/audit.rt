@@ -5,7 +5,7 @@ ghost use Rattle.cq_prefs.specs.FirstCells.{orders_of};
 ghost use Rattle.cq_audit.specs.Phase.{AreOfPhase};
 
 use cq_audit::{LogRefusal, PhaseFault, audit_trace, part, read_log, stable_told};
-use cq_base::{Cell, CellId, Key, Port, Queued, Transfer};
+use cq_base::{Cell, CellId, Key, NoMemory, Port, Queued, Transfer};
 use cq_list::InputList;
 use cq_prefs::Offers;
 use std::alloc::Global;
@@ -14,6 +14,14 @@ use std::test::Fail;
 const LOG: &[u8] = b"0 1 0 0 0 0\n0 2 1 0 0 0\n";
 
 const TRACE: &[u8] = b"0 0 0 0 0\n1 0 1 0 0\n";
+
+// Whether a log is read as these transfers.
+fn is_read_as(alloc: Global, log: &[u8], told: &[Transfer]) -> bool {
+    match read_log(alloc, log, 2) {
+        Ok(note) => note.as_slice() == told,
+        Err(_) => false,
+    }
+}
 
 #[test]
 fn the_log_of_two_cells_for_one_output_is_read(rt: HostRuntime) {
@@ -28,10 +36,7 @@ fn the_log_of_two_cells_for_one_output_is_read(rt: HostRuntime) {
             index: 0,
         },
     };
-    match read_log(rt.alloc(), LOG, 2) {
-        Ok(note) => assert_eq!(rt; note.as_slice(), &[crossing(1, 0), crossing(2, 1)][..]),
-        Err(_) => assert!(rt; false),
-    }
+    assert!(rt; is_read_as(rt.alloc(), LOG, &[crossing(1, 0), crossing(2, 1)]));
 }
 
 // The line at fault, or 0 where there is none.
@@ -58,7 +63,7 @@ fn a_log_is_refused_at_its_first_wrong_line(rt: HostRuntime) {
         (b"0 1 0 0 0 -\n", Some(1)),
     ];
     for (log, line) in cases {
-        assert_eq!(rt; fault(alloc, log), line);
+        assert!(rt; fault(alloc, log) == line, "{log:?}");
     }
 }
 
@@ -72,7 +77,7 @@ fn a_trace_differs_in_its_first_line_that_is_other(rt: HostRuntime) {
         (b"0 0 0 0 0\n1 0 1 0 0\n2 0 0 1 0\n", Some(3)),
     ];
     for (trace, line) in cases {
-        assert_eq!(rt; audit_trace(trace, TRACE), line);
+        assert!(rt; audit_trace(trace, TRACE) == line, "{trace:?}");
     }
 }
 
@@ -86,7 +91,7 @@ fn first_of(input: Port) -> CellId {
 }
 
 // The list of an input of two, with one cell, which is for output 0.
-fn one_waits(alloc: Global, input: Port) -> Result<InputList, Fail>
+fn one_waits(alloc: Global, input: Port) -> Result<InputList, NoMemory>
     ensures { IfOk result (λ list. list.outputs ≡ 2) }
 {
     let mut list = InputList::new(alloc, 2, 1)?;
@@ -140,40 +145,42 @@ fn verdict(lists: &[InputList], offers: &Offers, lines: &[Transfer]) -> Option<P
     }
 }
 
+// Whether a phase of two inputs, in each of which a cell for output zero waits, is refused at its first wrong line, or at
+// its first pair that is not settled.
+fn phases_are_told(alloc: Global) -> Result<bool, NoMemory> {
+    let lists = [one_waits(alloc, 0)?, one_waits(alloc, 1)?];
+    let mut offers = Offers::new(alloc, 2)?;
+    offers.fill(&lists);
+    let first = crossing(0, 0);
+    let second = crossing(1, 0);
+    let unsettled = Some(PhaseFault::Blocking(0, 0));
+    Ok(
+        verdict(&lists, &offers, &[first]) == None
+            && verdict(&lists, &offers, &[]) == unsettled
+            && verdict(&lists, &offers, &[second]) == unsettled
+            && verdict(&lists, &offers, &[crossing(0, 1)]) == Some(PhaseFault::WrongLine(0))
+            && verdict(&lists, &offers, &[first, second]) == Some(PhaseFault::WrongLine(1)),
+    )
+}
+
 #[test]
 fn a_phase_is_refused_at_its_first_wrong_line_or_first_unsettled_pair(
     rt: HostRuntime,
 ) -> Result<(), Fail> {
-    let lists = [one_waits(rt.alloc(), 0)?, one_waits(rt.alloc(), 1)?];
-    let mut offers = Offers::new(rt.alloc(), 2)?;
-    offers.fill(&lists);
-    let first = crossing(0, 0);
-    let second = crossing(1, 0);
-    assert_eq!(rt; verdict(&lists, &offers, &[first]), None);
-    assert_eq!(rt;
-        verdict(&lists, &offers, &[]),
-        Some(PhaseFault::Blocking(0, 0))
-    );
-    assert_eq!(rt;
-        verdict(&lists, &offers, &[second]),
-        Some(PhaseFault::Blocking(0, 0))
-    );
-    assert_eq!(rt;
-        verdict(&lists, &offers, &[crossing(0, 1)]),
-        Some(PhaseFault::WrongLine(0))
-    );
-    assert_eq!(rt;
-        verdict(&lists, &offers, &[first, second]),
-        Some(PhaseFault::WrongLine(1))
-    );
+    assert!(rt; phases_are_told(rt.alloc())?);
     Ok(())
 }
 
 #[test]
 fn the_lines_of_a_phase_stand_at_the_front(rt: HostRuntime) {
     let lines = [crossing(0, 0), crossing(1, 1)];
-    let (first, behind) = part(&lines, 0, 1);
-    assert_eq!(rt; (first.len(), behind.len()), (2, 0));
-    let (second, behind) = part(&lines, 0, 2);
-    assert_eq!(rt; (second.len(), behind.len()), (0, 2));
+    for (phase, first, behind) in [(1, 2, 0), (2, 0, 2)] {
+        assert!(rt; parts_into(&lines, phase, first, behind), "{phase}");
+    }
+}
+
+// Whether so many lines are of the phase, and so many stand behind them.
+fn parts_into(lines: &[Transfer], phase: u8, first: usize, behind: usize) -> bool {
+    let (of_phase, others) = part(lines, 0, phase);
+    of_phase.len() == first && others.len() == behind
 }

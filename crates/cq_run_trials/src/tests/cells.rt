@@ -1,39 +1,55 @@
 //! Captures, and the slots in which their cells arrive.
-use super::given::{capture_of, one_port, three_ports};
-use cq_cells::{Nearby, Schedule, cells_of};
+ghost use Rattle.std.specs.Prelude.{◌≡◌};
+
+use super::given::{Come, captures_of, one_port, three_ports};
+use cq_base::{Arrivals, NoMemory, Port, Slot};
+use cq_cells::{Coming, Schedule, cells_of};
 use std::alloc::Global;
 use std::test::Fail;
 use std::thread::Threads;
 
 #[test]
-fn a_packet_has_as_many_cells_as_it_needs(rt: HostRuntime) -> Result<(), Fail> {
-    assert_eq!(rt; cells_of(0, 64), 1);
-    assert_eq!(rt; cells_of(64, 64), 1);
-    assert_eq!(rt; cells_of(65, 64), 2);
-    assert_eq!(rt; cells_of(128, 64), 2);
-    assert_eq!(rt; cells_of(262_144, 64), 4096);
-    assert_eq!(rt; cells_of(60, 65_535), 1);
-    Ok(())
+fn a_packet_has_as_many_cells_as_it_needs(rt: HostRuntime) {
+    let cases = [
+        (0, 64, 1),
+        (64, 64, 1),
+        (65, 64, 2),
+        (128, 64, 2),
+        (262_144, 64, 4096),
+        (60, 65_535, 1),
+    ];
+    for (length, cell_bytes, cells) in cases {
+        assert!(rt;
+            cells_of(length, cell_bytes) == cells,
+            "{length} {cell_bytes}"
+        );
+    }
 }
 
-// What is seen of the cell that arrives in a slot: its packet, its number, where its piece begins, how long it is,
-// and whether it is the last.
-fn seen_at_one_port<R: Threads + Sync>(
+// Of the cell that arrives in a slot its packet, its number, where its piece begins, how long it is, and whether it is
+// the last.
+type Piece = (u32, u32, u32, u32, bool);
+
+// Whether this arrives in a slot where these packets come to one port.
+fn arrives_at_one_port<R: Threads + Sync>(
     rt: &R,
     alloc: Global,
-    packets: &[(u32, u8, u8)],
-    slot: u64,
-) -> Result<Option<(u32, u32, u32, u32, bool)>, Fail> {
+    packets: &[Come],
+    slot: Slot,
+    piece: Option<Piece>,
+) -> Result<bool, NoMemory> {
     let tables = one_port(alloc)?;
-    let captures = [capture_of(alloc, packets)?];
+    let captures = captures_of(alloc, &[packets])?;
+    if captures.len() != 1 {
+        return Ok(false);
+    }
     let schedule = Schedule::of(rt, alloc, &captures, &tables)?;
     let cell = schedule.cell_at(slot, 0);
-    Ok(cell.map(|c| (c.id.packet, c.id.index, c.at, c.len, c.last)))
+    Ok(cell.map(|c| (c.id.packet, c.id.index, c.at, c.len, c.last)) == piece)
 }
 
 #[test]
 fn cells_arrive_one_a_slot_from_the_slot_of_their_stamp_on(rt: HostRuntime) -> Result<(), Fail> {
-    let alloc = rt.alloc();
     let together = [(0, 64, 0), (0, 65, 0), (0, 128, 0)];
     let turned = [(2048, 60, 0), (0, 60, 0)];
     let crowded = [(0, 200, 0), (512, 60, 0)];
@@ -53,89 +69,120 @@ fn cells_arrive_one_a_slot_from_the_slot_of_their_stamp_on(rt: HostRuntime) -> R
         (&crowded[..], 4, Some((1, 0, 0, 60, true))),
         (&[], 0, None),
     ];
-    for (packets, slot, seen) in cases {
-        assert_eq!(rt;
-            seen_at_one_port(&rt, alloc, packets, slot)?,
-            seen,
+    for (packets, slot, piece) in cases {
+        assert!(rt;
+            arrives_at_one_port(&rt, rt.alloc(), packets, slot, piece)?,
             "{packets:?} {slot}"
         );
     }
     Ok(())
 }
 
+// Of the cell that arrives at each of three inputs its packet and its output.
+type AtThree = [Option<(u32, Port)>; 3];
+
+fn arrive(arrivals: &Arrivals, told: AtThree) -> bool {
+    (0..3_u16).all(|input| {
+        let cell = arrivals.at(input);
+        cell.map(|c| (c.id.packet, c.output)) == told[input as usize]
+    })
+}
+
+// Whether these arrive in slot after slot, where a slot is looked up and where it is filled in place.
+fn arrive_in_turn(schedule: &Schedule, slots: &[(Slot, AtThree)]) -> bool {
+    let mut coming = Coming::none();
+    slots.iter().all(|(slot, told)| {
+        schedule.arrive(*slot, &mut coming);
+        arrive(&schedule.arrivals_at(*slot), *told) && arrive(coming.arrivals(), *told)
+    })
+}
+
+// Whether four cells, two of them of input two, arrive up to slot two, three for output zero and one for output one.
+fn has_counts(schedule: &Schedule) -> bool
+    requires { schedule.now.ports ≡ 3 }
+{
+    (schedule.t0(), schedule.total(), schedule.end()) == (1024, 4, 2)
+        && (schedule.from_input(0), schedule.from_input(2)) == (1, 2)
+        && (
+            schedule.to_output(0),
+            schedule.to_output(1),
+            schedule.to_output(2),
+        ) == (3, 1, 0)
+}
+
+// Whether at three ports these arrive in slot after slot, and as many in all.
+fn arrive_at_three_ports<R: Threads + Sync>(
+    rt: &R,
+    alloc: Global,
+    slots: &[(Slot, AtThree)],
+) -> Result<bool, NoMemory> {
+    let tables = three_ports(alloc)?;
+    let inputs: [&[Come]; 3] = [
+        &[(1024, 60, 0)],
+        &[(1024, 60, 0)],
+        &[(1024, 60, 0), (1536, 60, 1)],
+    ];
+    let captures = captures_of(alloc, &inputs)?;
+    if captures.len() != 3 {
+        return Ok(false);
+    }
+    let schedule = Schedule::of(rt, alloc, &captures, &tables)?;
+    Ok(arrive_in_turn(&schedule, slots) && has_counts(&schedule))
+}
+
 #[test]
 fn each_input_has_its_own_packets(rt: HostRuntime) -> Result<(), Fail> {
-    let alloc = rt.alloc();
-    let tables = three_ports(alloc)?;
-    let captures = [
-        capture_of(alloc, &[(1024, 60, 0)])?,
-        capture_of(alloc, &[(1024, 60, 0)])?,
-        capture_of(alloc, &[(1024, 60, 0), (1536, 60, 1)])?,
-    ];
-    let schedule = Schedule::of(&rt, alloc, &captures, &tables)?;
-    let cases = [
+    let slots = [
         (0, [Some((0, 0)), Some((0, 0)), Some((0, 0))]),
         (1, [None, None, Some((1, 1))]),
         (2, [None, None, None]),
         (0, [Some((0, 0)), Some((0, 0)), Some((0, 0))]),
     ];
-    let mut near = Nearby::nowhere();
-    for (slot, seen) in cases {
-        let looked_up = [
-            schedule.arrivals_at(slot),
-            schedule.arrivals_near(slot, &mut near),
-        ];
-        for arrivals in looked_up {
-            for input in 0..3 {
-                let cell = arrivals.at(input);
-                assert_eq!(rt;
-                    cell.map(|c| (c.id.packet, c.output)),
-                    seen[input as usize],
-                    "{slot} {input}"
-                );
-            }
-        }
-    }
-    assert_eq!(rt;
-        (schedule.t0(), schedule.total(), schedule.end()),
-        (1024, 4, 2)
-    );
-    assert_eq!(rt; (schedule.from_input(0), schedule.from_input(2)), (1, 2));
-    assert_eq!(rt;
-        (
-            schedule.to_output(0),
-            schedule.to_output(1),
-            schedule.to_output(2)
-        ),
-        (3, 1, 0)
-    );
+    assert!(rt; arrive_at_three_ports(&rt, rt.alloc(), &slots)?);
     Ok(())
+}
+
+// Packets of one stamp, every third of which goes to output one.
+fn many_packets(alloc: Global) -> Result<Vec<Come>, NoMemory> {
+    let mut packets = Vec::new(alloc);
+    for k in 0..16_384_u32 {
+        packets.push((0, 6, (k % 3) as u8))?;
+    }
+    Ok(packets)
+}
+
+// Whether each of many packets goes to its own output: these in their slots, and so many in all.
+fn many_are_routed<R: Threads + Sync>(
+    rt: &R,
+    alloc: Global,
+    slots: &[(Slot, Port)],
+) -> Result<bool, NoMemory> {
+    let tables = three_ports(alloc)?;
+    let packets = many_packets(alloc)?;
+    let captures = captures_of(alloc, &[packets.as_slice(), &[], &[]])?;
+    if captures.len() != 3 {
+        return Ok(false);
+    }
+    let schedule = Schedule::of(rt, alloc, &captures, &tables)?;
+    let cells = (schedule.total(), schedule.end());
+    let outputs = (schedule.to_output(0), schedule.to_output(1));
+    Ok(cells == (16384, 16384) && outputs == (10923, 5461) && are_for(&schedule, slots))
+}
+
+// Whether the cells that arrive at input zero in these slots are for these outputs.
+fn are_for(schedule: &Schedule, slots: &[(Slot, Port)]) -> bool
+    requires { schedule.now.ports ≡ 3 }
+{
+    slots.iter().all(|(slot, output)| {
+        let cell = schedule.cell_at(*slot, 0);
+        cell.map(|c| c.output) == Some(*output)
+    })
 }
 
 // A capture this long is split among threads.
 #[test]
 fn each_of_many_packets_has_its_own_route(rt: HostRuntime) -> Result<(), Fail> {
-    let alloc = rt.alloc();
-    let tables = three_ports(alloc)?;
-    let mut packets = Vec::new(alloc);
-    for k in 0..16_384_u32 {
-        packets.push((0, 6, (k % 3) as u8))?;
-    }
-    let captures = [
-        capture_of(alloc, &packets)?,
-        capture_of(alloc, &[])?,
-        capture_of(alloc, &[])?,
-    ];
-    let schedule = Schedule::of(&rt, alloc, &captures, &tables)?;
-    assert_eq!(rt; (schedule.total(), schedule.end()), (16384, 16384));
-    assert_eq!(rt;
-        (schedule.to_output(0), schedule.to_output(1)),
-        (10923, 5461)
-    );
     let slots = [(0, 0), (1, 1), (8191, 1), (8192, 0), (16382, 0), (16383, 0)];
-    for (slot, output) in slots {
-        let cell = schedule.cell_at(slot, 0);
-        assert_eq!(rt; cell.map(|c| c.output), Some(output), "{slot}");
-    }
+    assert!(rt; many_are_routed(&rt, rt.alloc(), &slots)?);
     Ok(())
 }

@@ -15,9 +15,22 @@ const HEADER: [u8; 24] = [
 // More than a capture here has.
 const MANY: usize = 1_048_576;
 
-/// A capture of packets, each with its stamp in nanoseconds, its captured length, and the last byte of the address to
-/// which it goes. On the wire each has four bytes more.
-pub fn capture_of(alloc: Global, packets: &[(u32, u8, u8)]) -> Result<Capture, PcapRefusal> {
+/// Of a packet that comes its stamp in nanoseconds, its captured length, and the last byte of the address to which it
+/// goes. On the wire it has four bytes more.
+pub type Come = (u32, u8, u8);
+
+/// The captures of what comes to each input. One that is refused is left out.
+pub fn captures_of(alloc: Global, inputs: &[&[Come]]) -> Result<Vec<Capture>, NoMemory> {
+    let mut captures = Vec::new(alloc);
+    for packets in inputs {
+        if let Ok(capture) = capture_of(alloc, packets) {
+            captures.push(capture)?;
+        }
+    }
+    Ok(captures)
+}
+
+fn capture_of(alloc: Global, packets: &[Come]) -> Result<Capture, PcapRefusal> {
     let mut bytes = Vec::from_slice(alloc, &HEADER).map_err(NoMemory::from)?;
     for (stamp, length, to) in packets {
         put_packet(&mut bytes, *stamp, *length, *to)?;

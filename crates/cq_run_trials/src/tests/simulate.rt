@@ -2,35 +2,65 @@
 ghost use Rattle.std.specs.Prelude.{◌≡◌, ◌<◌, IfOk, length};
 ghost use Rattle.cq_route.specs.Tables.{AreTables, ports_of};
 
-use super::given::{capture_of, one_port, three_ports};
-use cq_base::{ClassRow, Departure, Kind, NoMemory, Port, Sequence, TagFault};
+use super::given::{Come, captures_of, one_port, three_ports};
+use cq_base::{ClassRow, Departure, Kind, NoMemory, Port, Sequence, TagFault, Transfer};
 use cq_cells::Schedule;
 use cq_crew::OpenGate;
 use cq_pcap::{Capture, OutPacket};
 use cq_route::Tables;
 use cq_simulate::{
-    FabricRun, Refused, RunRefusal, packets_of, packets_of_all, run_fabric, run_ideal,
+    FabricRun, IdealRun, Refused, RunRefusal, packets_of, packets_of_all, run_fabric, run_ideal,
+    run_ideal_packed,
 };
 use std::alloc::Global;
 use std::test::Fail;
 use std::thread::Threads;
 
-// The three ports, where one cell fills output zero.
+/// Of a departure the slot, the output, and the cell by input, packet and number.
+type Sent = (u64, u16, u16, u32, u32);
+
+/// Of a transfer the slot, the phase, the input, the output and the packet.
+type Crossed = (u64, u8, u16, u16, u32);
+
+/// Of a packet that leaves the stamp, the length on the wire, and how many bytes were captured.
+type Left = (u128, u32, usize);
+
+/// The switch of a trial.
+#[derive(Clone, Copy)]
+enum Switch {
+    OnePort,
+    /// One fair port, where each cell costs all that a rank can hold.
+    DearPort,
+    ThreePorts,
+    /// The three ports, where one cell fills output zero.
+    ThreeLimitedPorts,
+}
+
+impl Switch {
+    fn tables(self, alloc: Global) -> Result<Tables, NoMemory>
+        ensures in_range { IfOk result (λ tables. AreTables tables) }
+    {
+        match self {
+            Switch::OnePort => one_port(alloc),
+            Switch::DearPort => dear_port(alloc),
+            Switch::ThreePorts => three_ports(alloc),
+            Switch::ThreeLimitedPorts => three_limited_ports(alloc),
+        }
+    }
+}
+
 #[tactic(auto, unfolding(cq_route::specs::Plain::plain_tables))]
 fn three_limited_ports(alloc: Global) -> Result<Tables, NoMemory>
     ensures in_range { IfOk result (λ tables. AreTables tables) }
-    ensures ports { IfOk result (λ tables. ports_of tables.setup ≡ 3) }
 {
     let mut tables = three_ports(alloc)?;
     tables.limits = Sequence::of(Vec::from_array(alloc, [Some(1), None, None])?);
     Ok(tables)
 }
 
-// One fair port, where each cell costs all that a rank can hold.
 #[tactic(auto, unfolding(cq_route::specs::Plain::plain_tables))]
 fn dear_port(alloc: Global) -> Result<Tables, NoMemory>
     ensures in_range { IfOk result (λ tables. AreTables tables) }
-    ensures ports { IfOk result (λ tables. ports_of tables.setup ≡ 1) }
 {
     let class = ClassRow {
         level: 0,
@@ -43,32 +73,80 @@ fn dear_port(alloc: Global) -> Result<Tables, NoMemory>
     Ok(tables)
 }
 
-// Of each departure the slot, the output, and the cell by input, packet and number.
-fn lines_of(
-    alloc: Global,
-    departures: &[Departure],
-) -> Result<Vec<(u64, u16, u16, u32, u32)>, NoMemory> {
-    let mut lines = Vec::new(alloc);
-    for d in departures {
-        let id = d.queued.cell.id;
-        lines.push((d.slot, d.output, id.input, id.packet, id.index))?;
-    }
-    Ok(lines)
+/// What a switch is to show.
+#[derive(Clone, Copy)]
+enum Shown<'a> {
+    /// The ideal switch and the fabric take so many slots, and these cells leave.
+    Trace(u64, &'a [Sent]),
+    /// Both stop at this fault.
+    Fault(TagFault),
+    /// The fabric makes so many proposals, and these cells cross it.
+    Log(u64, &'a [Crossed]),
+    /// The fabric refuses these.
+    Refused(&'a [Refused]),
+    /// These packets leave the output, both where they are put together for it alone and where those of all outputs
+    /// are in one pass.
+    Packets(Port, &'a [Left]),
 }
 
-// What a run comes to: its slots, and its departures.
-fn trace_of<R: Threads + Sync>(
+// Whether a switch shows this, where these packets come to its inputs.
+fn is_shown<R: Threads + Sync>(
+    rt: &R,
+    alloc: Global,
+    switch: Switch,
+    inputs: &[&[Come]],
+    shown: Shown,
+) -> Result<bool, NoMemory> {
+    let tables = switch.tables(alloc)?;
+    let captures = captures_of(alloc, inputs)?;
+    if captures.len() != tables.setup.kinds.as_slice().len() {
+        return Ok(false);
+    }
+    match is_seen(rt, alloc, &tables, &captures, shown) {
+        Ok(seen) => Ok(seen),
+        Err(RunRefusal::NoMemory) => Err(NoMemory),
+        Err(RunRefusal::Tag(_)) => Ok(false),
+    }
+}
+
+// Whether it is seen in these captures.
+fn is_seen<R: Threads + Sync>(
     rt: &R,
     alloc: Global,
     tables: &Tables,
     captures: &[Capture],
-) -> Result<(u64, Vec<(u64, u16, u16, u32, u32)>), RunRefusal>
+    shown: Shown,
+) -> Result<bool, RunRefusal>
+    requires tables { AreTables tables.now }
+    requires captures { length captures.now ≡ ports_of tables.now.setup }
+{
+    match shown {
+        Shown::Trace(slots, sent) => Ok(
+            sends_ideally(rt, alloc, tables, captures, slots, sent)?
+                && sends(rt, alloc, tables, captures, slots, sent)?,
+        ),
+        Shown::Fault(fault) => Ok(stops(rt, alloc, tables, captures, fault)),
+        Shown::Log(proposals, log) => crosses(rt, alloc, tables, captures, proposals, log),
+        Shown::Refused(refused) => refuses(rt, alloc, tables, captures, refused),
+        Shown::Packets(output, left) => Ok(
+            puts_together(rt, alloc, tables, captures, output, left)?
+                && puts_all_together(rt, alloc, tables, captures, output, left)?,
+        ),
+    }
+}
+
+// The run of the ideal switch.
+fn ideal<R: Threads + Sync>(
+    rt: &R,
+    alloc: Global,
+    tables: &Tables,
+    captures: &[Capture],
+) -> Result<IdealRun, RunRefusal>
     requires tables { AreTables tables.now }
     requires captures { length captures.now ≡ ports_of tables.now.setup }
 {
     let schedule = Schedule::of(rt, alloc, captures, tables)?;
-    let run = run_ideal(alloc, tables, &schedule)?;
-    Ok((run.slots, lines_of(alloc, run.sent.items())?))
+    run_ideal(alloc, tables, &schedule)
 }
 
 // The run of the fabric.
@@ -85,66 +163,92 @@ fn crossed<R: Threads + Sync>(
     run_fabric(rt, alloc, tables, &schedule, &OpenGate)
 }
 
-// What the fabric refuses.
-fn refused_of<R: Threads + Sync>(
+fn sends_ideally<R: Threads + Sync>(
     rt: &R,
     alloc: Global,
     tables: &Tables,
     captures: &[Capture],
-) -> Result<Vec<Refused>, RunRefusal>
+    slots: u64,
+    sent: &[Sent],
+) -> Result<bool, RunRefusal>
     requires tables { AreTables tables.now }
     requires captures { length captures.now ≡ ports_of tables.now.setup }
 {
-    let run = crossed(rt, alloc, tables, captures)?;
-    Ok(run.refused)
+    let run = ideal(rt, alloc, tables, captures)?;
+    Ok(run.slots == slots && are_sent(run.sent.items(), sent))
 }
 
-// What the fabric sends: its slots, and its departures.
-fn fabric_trace_of<R: Threads + Sync>(
+fn sends<R: Threads + Sync>(
     rt: &R,
     alloc: Global,
     tables: &Tables,
     captures: &[Capture],
-) -> Result<(u64, Vec<(u64, u16, u16, u32, u32)>), RunRefusal>
+    slots: u64,
+    sent: &[Sent],
+) -> Result<bool, RunRefusal>
     requires tables { AreTables tables.now }
     requires captures { length captures.now ≡ ports_of tables.now.setup }
 {
     let run = crossed(rt, alloc, tables, captures)?;
-    Ok((run.figures.slots, lines_of(alloc, run.sent.items())?))
+    Ok(run.figures.slots == slots && are_sent(run.sent.items(), sent))
 }
 
-// What crosses the fabric: the proposals, and of each transfer the slot, the phase, the input, the output and the
-// packet.
-fn log_of<R: Threads + Sync>(
+// Whether both switches stop at this fault.
+fn stops<R: Threads + Sync>(
     rt: &R,
     alloc: Global,
     tables: &Tables,
     captures: &[Capture],
-) -> Result<(u64, Vec<(u64, u8, u16, u16, u32)>), RunRefusal>
+    fault: TagFault,
+) -> bool
+    requires tables { AreTables tables.now }
+    requires captures { length captures.now ≡ ports_of tables.now.setup }
+{
+    let told = Some(RunRefusal::Tag(fault));
+    ideal(rt, alloc, tables, captures).err() == told
+        && crossed(rt, alloc, tables, captures).err() == told
+}
+
+fn crosses<R: Threads + Sync>(
+    rt: &R,
+    alloc: Global,
+    tables: &Tables,
+    captures: &[Capture],
+    proposals: u64,
+    log: &[Crossed],
+) -> Result<bool, RunRefusal>
     requires tables { AreTables tables.now }
     requires captures { length captures.now ≡ ports_of tables.now.setup }
 {
     let run = crossed(rt, alloc, tables, captures)?;
-    let mut lines = Vec::new(alloc);
-    for t in run.note.items() {
-        lines
-            .push((t.slot, t.phase, t.input, t.output, t.id.packet))
-            .map_err(NoMemory::from)?;
-    }
-    Ok((run.figures.proposals, lines))
+    Ok(run.figures.proposals == proposals && have_crossed(run.note.items(), log))
 }
 
-// The packets that leave an output: of each the stamp, the length on the wire, and how many bytes were captured.
-fn packets_at<R: Threads + Sync>(
+fn refuses<R: Threads + Sync>(
+    rt: &R,
+    alloc: Global,
+    tables: &Tables,
+    captures: &[Capture],
+    refused: &[Refused],
+) -> Result<bool, RunRefusal>
+    requires tables { AreTables tables.now }
+    requires captures { length captures.now ≡ ports_of tables.now.setup }
+{
+    let run = crossed(rt, alloc, tables, captures)?;
+    Ok(run.refused.as_slice() == refused)
+}
+
+// Whether these packets leave the output, where they are put together for it alone.
+fn puts_together<R: Threads + Sync>(
     rt: &R,
     alloc: Global,
     tables: &Tables,
     captures: &[Capture],
     output: Port,
-) -> Result<Vec<(u128, u32, usize)>, RunRefusal>
+    left: &[Left],
+) -> Result<bool, RunRefusal>
     requires tables { AreTables tables.now }
     requires captures { length captures.now ≡ ports_of tables.now.setup }
-    requires output { output < ports_of tables.now.setup }
 {
     let schedule = Schedule::of(rt, alloc, captures, tables)?;
     let run = run_ideal(alloc, tables, &schedule)?;
@@ -156,169 +260,165 @@ fn packets_at<R: Threads + Sync>(
         tables,
         schedule.t0(),
     )?;
-    Ok(seen_of(alloc, &packets)?)
+    Ok(have_left(&packets, left))
 }
 
-// The same, where the packets of all outputs are put together in one pass.
-fn packets_in_one_pass<R: Threads + Sync>(
+// Whether they do where the packets of all outputs are put together in one pass.
+fn puts_all_together<R: Threads + Sync>(
     rt: &R,
     alloc: Global,
     tables: &Tables,
     captures: &[Capture],
     output: Port,
-) -> Result<Vec<(u128, u32, usize)>, RunRefusal>
+    left: &[Left],
+) -> Result<bool, RunRefusal>
     requires tables { AreTables tables.now }
     requires captures { length captures.now ≡ ports_of tables.now.setup }
-    requires output { output < ports_of tables.now.setup }
 {
     let schedule = Schedule::of(rt, alloc, captures, tables)?;
-    let run = run_ideal(alloc, tables, &schedule)?;
-    let places = packets_of_all(alloc, run.sent, captures, tables, schedule.t0())?;
+    let sent = run_ideal_packed(alloc, tables, &schedule)?;
+    let places = packets_of_all(alloc, sent, captures, tables, schedule.t0())?;
     match places.get(output as usize) {
-        Some(place) => Ok(seen_of(alloc, &place.packets)?),
-        None => Ok(Vec::new(alloc)),
+        Some(place) => Ok(have_left(&place.packets, left)),
+        None => Ok(false),
     }
 }
 
-// The stamp of each packet, its original length, and how many bytes of it were captured.
-fn seen_of(alloc: Global, packets: &[OutPacket]) -> Result<Vec<(u128, u32, usize)>, NoMemory> {
-    let mut seen = Vec::new(alloc);
-    for p in packets {
-        seen.push((p.stamp, p.original, p.body.as_slice().len()))?;
-    }
-    Ok(seen)
+fn are_sent(departures: &[Departure], sent: &[Sent]) -> bool {
+    departures.len() == sent.len()
+        && departures
+            .iter()
+            .zip(sent)
+            .all(|(d, told)| sent_of(d) == *told)
+}
+
+fn sent_of(departure: &Departure) -> Sent {
+    let id = departure.queued.cell.id;
+    (
+        departure.slot,
+        departure.output,
+        id.input,
+        id.packet,
+        id.index,
+    )
+}
+
+fn have_crossed(transfers: &[Transfer], log: &[Crossed]) -> bool {
+    transfers.len() == log.len()
+        && transfers
+            .iter()
+            .zip(log)
+            .all(|(t, told)| crossed_of(t) == *told)
+}
+
+fn crossed_of(t: &Transfer) -> Crossed {
+    (t.slot, t.phase, t.input, t.output, t.id.packet)
+}
+
+fn have_left(packets: &[OutPacket], left: &[Left]) -> bool {
+    packets.len() == left.len()
+        && packets
+            .iter()
+            .zip(left)
+            .all(|(p, told)| left_of(p) == *told)
+}
+
+fn left_of(packet: &OutPacket) -> Left {
+    (packet.stamp, packet.original, packet.body.as_slice().len())
 }
 
 #[test]
 fn one_line_passes_as_it_came(rt: HostRuntime) -> Result<(), Fail> {
-    let alloc = rt.alloc();
-    let tables = one_port(alloc)?;
-    let captures = [capture_of(alloc, &[(0, 64, 0), (0, 65, 0), (0, 128, 0)])?];
-    let seen = packets_at(&rt, alloc, &tables, &captures, 0);
+    let together = [(0, 64, 0), (0, 65, 0), (0, 128, 0)];
     let left = [(0, 68, 64), (1024, 69, 65), (2048, 132, 128)];
-    assert_eq!(rt; seen.as_deref(), Ok(&left[..]));
-    let seen = packets_in_one_pass(&rt, alloc, &tables, &captures, 0);
-    assert_eq!(rt; seen.as_deref(), Ok(&left[..]));
-
-    let none = [capture_of(alloc, &[])?];
-    let seen = trace_of(&rt, alloc, &tables, &none);
-    assert_eq!(rt; seen, Ok((0, Vec::new(alloc))));
+    let cases = [
+        (&together[..], Shown::Packets(0, &left)),
+        (&[], Shown::Trace(0, &[])),
+    ];
+    for (packets, shown) in cases {
+        assert!(rt;
+            is_shown(&rt, rt.alloc(), Switch::OnePort, &[packets], shown)?,
+            "{packets:?}"
+        );
+    }
     Ok(())
 }
 
 #[test]
 fn cells_wait_for_their_output_after_the_last_has_arrived(rt: HostRuntime) -> Result<(), Fail> {
-    let alloc = rt.alloc();
-    let tables = three_ports(alloc)?;
-    let captures = [
-        capture_of(alloc, &[(0, 60, 0)])?,
-        capture_of(alloc, &[(0, 60, 0)])?,
-        capture_of(alloc, &[(0, 60, 0), (512, 60, 1)])?,
-    ];
+    let inputs: [&[Come]; 3] = [&[(0, 60, 0)], &[(0, 60, 0)], &[(0, 60, 0), (512, 60, 1)]];
     let trace = [
         (0, 0, 0, 0, 0),
         (1, 0, 1, 0, 0),
         (1, 1, 2, 1, 0),
         (2, 0, 2, 0, 0),
     ];
-    let seen = trace_of(&rt, alloc, &tables, &captures);
-    assert_eq!(rt; seen.map(|(slots, _)| slots), Ok(3));
-    let seen = trace_of(&rt, alloc, &tables, &captures);
-    assert_eq!(rt; seen.map(|(_, lines)| lines).as_deref(), Ok(&trace[..]));
-
     let log = [
         (0, 1, 0, 0, 0),
         (0, 2, 1, 0, 0),
         (1, 1, 2, 1, 1),
         (1, 2, 2, 0, 0),
     ];
-    let seen = fabric_trace_of(&rt, alloc, &tables, &captures);
-    assert_eq!(rt; seen.map(|(slots, _)| slots), Ok(3));
-    let seen = fabric_trace_of(&rt, alloc, &tables, &captures);
-    assert_eq!(rt; seen.map(|(_, lines)| lines).as_deref(), Ok(&trace[..]));
-    let seen = log_of(&rt, alloc, &tables, &captures);
-    assert_eq!(rt; seen.map(|(proposals, _)| proposals), Ok(7));
-    let seen = log_of(&rt, alloc, &tables, &captures);
-    assert_eq!(rt; seen.map(|(_, lines)| lines).as_deref(), Ok(&log[..]));
-
     let first = [(0, 64, 60), (512, 64, 60), (1024, 64, 60)];
-    let seen = packets_at(&rt, alloc, &tables, &captures, 0);
-    assert_eq!(rt; seen.as_deref(), Ok(&first[..]));
-    let seen = packets_at(&rt, alloc, &tables, &captures, 1);
-    assert_eq!(rt; seen.as_deref(), Ok(&[(512, 64, 60)][..]));
-    let seen = packets_at(&rt, alloc, &tables, &captures, 2);
-    assert_eq!(rt; seen.as_deref(), Ok(&[][..]));
-
-    let seen = packets_in_one_pass(&rt, alloc, &tables, &captures, 0);
-    assert_eq!(rt; seen.as_deref(), Ok(&first[..]));
-    let seen = packets_in_one_pass(&rt, alloc, &tables, &captures, 1);
-    assert_eq!(rt; seen.as_deref(), Ok(&[(512, 64, 60)][..]));
-    let seen = packets_in_one_pass(&rt, alloc, &tables, &captures, 2);
-    assert_eq!(rt; seen.as_deref(), Ok(&[][..]));
+    let all_shown = [
+        Shown::Trace(3, &trace),
+        Shown::Log(7, &log),
+        Shown::Packets(0, &first),
+        Shown::Packets(1, &[(512, 64, 60)]),
+        Shown::Packets(2, &[]),
+    ];
+    for shown in all_shown {
+        assert!(rt; is_shown(&rt, rt.alloc(), Switch::ThreePorts, &inputs, shown)?);
+    }
     Ok(())
 }
 
 #[test]
 fn packets_leave_by_their_last_cells(rt: HostRuntime) -> Result<(), Fail> {
-    let alloc = rt.alloc();
-    let tables = three_ports(alloc)?;
-    let captures = [
-        capture_of(alloc, &[(1000, 200, 0)])?,
-        capture_of(alloc, &[(1000, 60, 0)])?,
-        capture_of(alloc, &[])?,
-    ];
-    let left = [(1512, 64, 60), (3048, 204, 200)];
-    let seen = packets_at(&rt, alloc, &tables, &captures, 0);
-    assert_eq!(rt; seen.as_deref(), Ok(&left[..]));
+    let inputs: [&[Come]; 3] = [&[(1000, 200, 0)], &[(1000, 60, 0)], &[]];
+    let shown = Shown::Packets(0, &[(1512, 64, 60), (3048, 204, 200)]);
+    assert!(rt; is_shown(&rt, rt.alloc(), Switch::ThreePorts, &inputs, shown)?);
     Ok(())
 }
 
 #[test]
 fn a_rank_that_does_not_fit_stops_the_run(rt: HostRuntime) -> Result<(), Fail> {
-    let alloc = rt.alloc();
-    let tables = dear_port(alloc)?;
-    let fault = RunRefusal::Tag(TagFault {
+    let fault = TagFault {
         slot: 1,
         input: 0,
         output: 0,
-    });
-    let together = [capture_of(alloc, &[(0, 60, 0), (512, 60, 0)])?];
-    let seen = trace_of(&rt, alloc, &tables, &together);
-    assert_eq!(rt; seen.map(|(slots, _)| slots), Err(fault));
-    let seen = fabric_trace_of(&rt, alloc, &tables, &together);
-    assert_eq!(rt; seen.map(|(slots, _)| slots), Err(fault));
-    let apart = [capture_of(alloc, &[(0, 60, 0), (1024, 60, 0)])?];
-    let seen = trace_of(&rt, alloc, &tables, &apart);
-    assert_eq!(rt; seen.map(|(slots, _)| slots), Ok(3));
+    };
+    let apart = [(0, 0, 0, 0, 0), (2, 0, 0, 1, 0)];
+    let cases = [(512, Shown::Fault(fault)), (1024, Shown::Trace(3, &apart))];
+    for (stamp, shown) in cases {
+        let packets = [(0, 60, 0), (stamp, 60, 0)];
+        assert!(rt;
+            is_shown(&rt, rt.alloc(), Switch::DearPort, &[&packets], shown)?,
+            "{stamp}"
+        );
+    }
     Ok(())
 }
 
 #[test]
 fn a_packet_that_finds_its_output_full_is_refused_whole(rt: HostRuntime) -> Result<(), Fail> {
-    let alloc = rt.alloc();
-    let tables = three_limited_ports(alloc)?;
     // The two cells of input 1 come in slots 0 and 1, and output 0 is empty in slot 1. The run goes on to slot 5, in
     // which the next packet finds room.
-    let captures = [
-        capture_of(alloc, &[(0, 60, 0)])?,
-        capture_of(alloc, &[(0, 128, 0), (2560, 60, 0)])?,
-        capture_of(alloc, &[])?,
-    ];
-    let trace = [(0, 0, 0, 0, 0), (5, 0, 1, 1, 0)];
-    let seen = trace_of(&rt, alloc, &tables, &captures);
-    assert_eq!(rt; seen.map(|(_, lines)| lines).as_deref(), Ok(&trace[..]));
-    let seen = fabric_trace_of(&rt, alloc, &tables, &captures);
-    assert_eq!(rt; seen.map(|(_, lines)| lines).as_deref(), Ok(&trace[..]));
-    let seen = packets_at(&rt, alloc, &tables, &captures, 0);
-    assert_eq!(rt; seen.as_deref(), Ok(&[(0, 64, 60), (2560, 64, 60)][..]));
+    let inputs: [&[Come]; 3] = [&[(0, 60, 0)], &[(0, 128, 0), (2560, 60, 0)], &[]];
     let refused = Refused {
         output: 0,
         limit: 1,
         packets: 1,
         cells: 2,
     };
-    let seen = refused_of(&rt, alloc, &tables, &captures);
-    assert_eq!(rt; seen.as_deref(), Ok(&[refused][..]));
+    let all_shown = [
+        Shown::Trace(6, &[(0, 0, 0, 0, 0), (5, 0, 1, 1, 0)]),
+        Shown::Packets(0, &[(0, 64, 60), (2560, 64, 60)]),
+        Shown::Refused(&[refused]),
+    ];
+    for shown in all_shown {
+        assert!(rt; is_shown(&rt, rt.alloc(), Switch::ThreeLimitedPorts, &inputs, shown)?);
+    }
     Ok(())
 }
 
@@ -326,16 +426,8 @@ fn a_packet_that_finds_its_output_full_is_refused_whole(rt: HostRuntime) -> Resu
 fn the_slots_end_with_the_last_departure_where_the_rest_is_refused(
     rt: HostRuntime,
 ) -> Result<(), Fail> {
-    let alloc = rt.alloc();
-    let tables = three_limited_ports(alloc)?;
-    let captures = [
-        capture_of(alloc, &[(0, 60, 0)])?,
-        capture_of(alloc, &[(0, 200, 0)])?,
-        capture_of(alloc, &[])?,
-    ];
-    let seen = trace_of(&rt, alloc, &tables, &captures);
-    assert_eq!(rt; seen.map(|(slots, _)| slots), Ok(1));
-    let seen = fabric_trace_of(&rt, alloc, &tables, &captures);
-    assert_eq!(rt; seen.map(|(slots, _)| slots), Ok(1));
+    let inputs: [&[Come]; 3] = [&[(0, 60, 0)], &[(0, 200, 0)], &[]];
+    let shown = Shown::Trace(1, &[(0, 0, 0, 0, 0)]);
+    assert!(rt; is_shown(&rt, rt.alloc(), Switch::ThreeLimitedPorts, &inputs, shown)?);
     Ok(())
 }

@@ -38,8 +38,9 @@ fn disk_before(alloc: Global) -> Result<Disk, NoMemory> {
     Ok(disk)
 }
 
-/// Whether the written names before the one at fault are whole, that one is as before where it was not
-/// begun, empty where nothing was moved, and whole where it was not ended, and those after it are as before.
+/// Whether each name holds what it should where writing fails at one: all where it comes earlier, what it held where it comes
+/// later. The one itself holds what it held where it was not begun, nothing where no byte went in, and all where only its end
+/// failed.
 fn is_written(disk: &Disk, done: &Disk, at: u64, step: u64) -> bool {
     PLACES.iter().skip(READ).all(|(first, name, _, _)| {
         let wanted = if at < *first || at == *first && step == 0 {

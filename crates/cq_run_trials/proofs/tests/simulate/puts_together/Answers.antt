@@ -4,7 +4,7 @@ use Rattle.cq_cells.specs.Schedule.{arrivals}
 use Rattle.cq_simulate.specs.IdealRuns.{ideal_departures}
 use Rattle.cq_simulate.specs.Packets.{LeaveWhole}
 use Rattle.cq_simulate.proofs.Departed.{left_in_packets}
-use Rattle.cq_run_trials.proofs.tests.simulate.packets_at.Goals as goal
+use Rattle.cq_run_trials.proofs.tests.simulate.puts_together.Goals as goal
 
 pub packets_of-requires-clause-whole : goal.packets_of-requires-clause-whole
 packets_of-requires-clause-whole g c =
