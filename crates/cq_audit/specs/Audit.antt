@@ -36,7 +36,8 @@ refusal_of slot f = phase_refusal slot f.phase f.fault
 -- ## Of transfers that were read
 
 -- why these transfers are not those of a stable run; that a line cannot be read is said of the log
-abbrev pub IsNoOf : List (Option ℕ) → List Machine → List Arrival → Marked Fabric → List Transfer → AuditRefusal → Type 0
+abbrev pub IsNoOf : List (Option ℕ) → List Machine → List Arrival → Marked Fabric → List Transfer → AuditRefusal →
+    Type 0
 IsNoOf limits ms came start note (Line n) = ⊥
 IsNoOf limits ms came start note (Wrong slot phase i) = IsFaultAt limits ms came start note slot phase (WrongLine i)
 IsNoOf limits ms came start note (Blocking slot phase i j) =

@@ -43,8 +43,8 @@ pub record ReplayView : Type 0 where
 abbrev pub ports_in : ReplayView → ℕ
 ports_in v = length v.fixed
 
--- Before this slot it is in step with an ideal switch: there is a state of one with which it agrees. And it counts right what its
--- outputs hold.
+-- Before this slot it is in step with an ideal switch: there is a state of one with which it agrees. And it counts
+-- right what its outputs hold.
 pub record IsInStep (ms : List Machine) (next : ℕ) (v : ReplayView) : Type 0 where
   pub machines : AreForOneSwitch ms
   pub ports : length v.fabric.state.inputs ≡ length ms
@@ -67,8 +67,8 @@ HasBufferRoom cells v = (j : ℕ) → j < ports_in v →
 
 -- ## A slot
 
--- It was one slot of the fabric, with stable matchings, whose transfers the lines tell. The lines behind it are left. Then it
--- is in step again.
+-- It was one slot of the fabric, with stable matchings, whose transfers the lines tell. The lines behind it are left.
+-- Then it is in step again.
 pub record SlotReplayed (ms : List Machine) (slot : ℕ) (cells : List (Option Cell)) (lines rest : List Transfer)
     (old new : ReplayView) (note note' : RoomView Transfer) : Type 0 where
   pub of_slot : LimitedRecord
@@ -92,8 +92,8 @@ pub record IsFirstFault (limits : List (Option ℕ)) (ms : List Machine) (slot :
   pub arrive : Arrives ms slot (fabric_admission limits cells old).cells ranked old.state arrived
   pub wrong : IsPhaseFault arrived.inputs (in_phase slot 1 lines) fault
 
--- the lines of the first phase are the transfers of a stable matching, the outputs have sent, and the lines of the second phase
--- have this fault
+-- the lines of the first phase are the transfers of a stable matching, the outputs have sent, and the lines of the
+-- second phase have this fault
 pub record IsSecondFault (limits : List (Option ℕ)) (ms : List Machine) (slot : ℕ) (cells : List (Option Cell))
     (lines : List Transfer) (old : Marked Fabric) (fault : PhaseFault) : Type 0 where
   pub ranked : List (Option Queued)

@@ -25,8 +25,8 @@ abbrev pub FirstIsLeast : List Transfer → Type 0
 FirstIsLeast [] = Unit {0}
 FirstIsLeast (t ∷ lines) = AllByRecursion (λ u. t.slot ≤ u.slot) lines
 
--- no cell arrives from this slot on up to the other, and there is no line of these slots; and if the other is later, there are
--- cells still to come
+-- no cell arrives from this slot on up to the other, and there is no line of these slots; and if the other is later,
+-- there are cells still to come
 pub record IsStill (came : List Arrival) (lines : List Transfer) (slot next : ℕ) : Type 0 where
   pub late : slot ≤ next
   pub none : (t : ℕ) → slot ≤ t → t < next → arriving came t ≡ no_arrivals
@@ -43,8 +43,8 @@ pub record HasRested (ms : List Machine) (slot next : ℕ) (old new : ReplayView
   pub from_inputs : new.from_inputs ≡ old.from_inputs
   pub to_outputs : new.to_outputs ≡ old.to_outputs
 
--- The fabric has had no slot and holds no cell, there is room for all cells that arrive and for all lines, the lines are in
--- order, and the ideal switch has no tag fault.
+-- The fabric has had no slot and holds no cell, there is room for all cells that arrive and for all lines, the lines
+-- are in order, and the ideal switch has no tag fault.
 pub record IsReady (ms : List Machine) (came : List Arrival) (lines : List Transfer) (v : ReplayView)
     (note : RoomView Transfer) : Type 0 where
   pub in_step : IsInStep ms 0 v

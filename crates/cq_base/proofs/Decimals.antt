@@ -9,7 +9,8 @@ use Rattle.cq_base.specs.Decimal.{decimal}
 
 pub decimal_above : (n : ℕ) → 0 < n → decimal n ≡ map (λ d. 48 + d) (digits_of 10 n)
 unfolding decimal
-decimal_above n h = let e : eqb n 0 ≡ false = grind arith in ap (λ b. map (λ d. 48 + d) (cond b (0 ∷ []) (digits_of 10 n))) e
+decimal_above n h =
+    let e : eqb n 0 ≡ false = grind arith in ap (λ b. map (λ d. 48 + d) (cond b (0 ∷ []) (digits_of 10 n))) e
 
 pub decimal_small : (n : ℕ) → n < 10 → decimal n ≡ (48 + n % 10) ∷ []
 unfolding decimal
@@ -17,13 +18,16 @@ decimal_small zero h = refl
 decimal_small (suc k) h =
     let a : 0 < suc k = omega arith in
     let z : suc k / 10 ≡ 0 = omega arith in
-    decimal_above (suc k) a ∙ ap (map (λ d. 48 + d)) (digits_of_step 10 (suc k) (lit≤ tt) a ∙ ap (λ q. digits_of 10 q ++ (suc k % 10) ∷ []) z)
+    decimal_above (suc k) a
+    ∙ ap (map (λ d. 48 + d)) (digits_of_step 10 (suc k) (lit≤ tt) a
+    ∙ ap (λ q. digits_of 10 q ++ (suc k % 10) ∷ []) z)
 
 pub decimal_more : (n : ℕ) → 10 ≤ n → decimal n ≡ decimal (n / 10) ++ (48 + n % 10) ∷ []
 decimal_more n h =
     let a : 0 < n = omega arith in
     let b : 0 < n / 10 = omega arith in
-    decimal_above n a ∙ ap (map (λ d. 48 + d)) (digits_of_step 10 n (lit≤ tt) a) ∙ map-append _ _ _ ∙ ap (λ ys. ys ++ (48 + n % 10) ∷ []) (sym (decimal_above (n / 10) b))
+    decimal_above n a ∙ ap (map (λ d. 48 + d)) (digits_of_step 10 n (lit≤ tt) a) ∙ map-append _ _ _
+    ∙ ap (λ ys. ys ++ (48 + n % 10) ∷ []) (sym (decimal_above (n / 10) b))
 
 -- a number below a power of ten has no more digits than the power says
 pub length-decimal-le : (most n : ℕ) → 1 ≤ most → n < 10 ^ most → length (decimal n) ≤ most
@@ -32,13 +36,19 @@ length-decimal-le most zero some below = some
 length-decimal-le most (suc k) some below =
     let a : 0 < suc k = omega arith in
     let e = ap length (decimal_above (suc k) a) in
-    omega (arith, e, length-map (digits_of 10 (suc k)) (λ d. 48 + d), length-digits_of-le 10 most (suc k) (lit≤ tt) below)
+    omega (
+      arith,
+      e,
+      length-map (digits_of 10 (suc k)) (λ d. 48 + d),
+      length-digits_of-le 10 most (suc k) (lit≤ tt) below,
+    )
 
 pub length-decimal : (n : ℕ) → n < 2 ^ 128 → length (decimal n) ≤ 39
 length-decimal n h = let below : n < 10 ^ 39 = omega arith in length-decimal-le 39 n (lit≤ tt) below
 
 pub length-decimal_more : (n : ℕ) → 10 ≤ n → length (decimal n) ≡ length (decimal (n / 10)) + 1
-length-decimal_more n h = let e = ap length (decimal_more n h) in omega (arith, e, length-append (decimal (n / 10)) ((48 + n % 10) ∷ []))
+length-decimal_more n h =
+    let e = ap length (decimal_more n h) in omega (arith, e, length-append (decimal (n / 10)) ((48 + n % 10) ∷ []))
 
 -- a write right behind the first list is a write at the front of the second
 set-append_seam : (xs ys : List ℕ) (v : ℕ) → set (xs ++ ys) (length xs) v ≡ xs ++ set ys 0 v
@@ -54,12 +64,15 @@ pub one_digit : (n : ℕ) (to : List ℕ) → n < 10 → 0 < length to → set t
 one_digit n to h k = first_set to (48 + n % 10) k ∙ ap (λ ds. ds ++ drop 1 to) (sym (decimal_small n h))
 
 -- the digits after the last one was written behind the others
-pub one_more_digit : (n count : ℕ) (to mid : List ℕ) → 10 ≤ n → count ≡ length (decimal (n / 10)) → count < length to → mid ≡ decimal (n / 10) ++ drop count to → set mid count (48 + n % 10) ≡ decimal n ++ drop (count + 1) to
+pub one_more_digit : (n count : ℕ) (to mid : List ℕ) → 10 ≤ n → count ≡ length (decimal (n / 10)) →
+    count < length to → mid ≡ decimal (n / 10) ++ drop count to →
+    set mid count (48 + n % 10) ≡ decimal n ++ drop (count + 1) to
 one_more_digit n count to mid h c k m =
     let r : 0 < length (drop count to) = omega (arith, length-drop count to) in
     ap (λ ys. set ys count (48 + n % 10)) m
     ∙ ap (λ i. set (decimal (n / 10) ++ drop count to) i (48 + n % 10)) c
     ∙ set-append_seam (decimal (n / 10)) (drop count to) (48 + n % 10)
-    ∙ ap (λ ys. decimal (n / 10) ++ ys) (first_set (drop count to) (48 + n % 10) r ∙ ap (λ ys. (48 + n % 10) ∷ ys) (drop-drop 1 count to))
+    ∙ ap (λ ys. decimal (n / 10) ++ ys) (first_set (drop count to) (48 + n % 10) r
+    ∙ ap (λ ys. (48 + n % 10) ∷ ys) (drop-drop 1 count to))
     ∙ sym (append_assoc (decimal (n / 10)) ((48 + n % 10) ∷ []) (drop (count + 1) to))
     ∙ ap (λ ds. ds ++ drop (count + 1) to) (sym (decimal_more n h))

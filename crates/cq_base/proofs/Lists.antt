@@ -1,8 +1,9 @@
--- Lists of waiting cells. First what a place shows: what holds of all cells holds at each place, and what holds of each
--- cell and each after it holds of two places in their order. Then the first cell that passes a test: where it stands,
--- and that taking it out, or putting a cell in, keeps what holds of all cells and of each two. Last the rule of arrival:
--- a cell that goes in at the least of the three places stands after every more urgent cell for its output, for these
--- stand below its cushion, and before every less urgent one, for the first of these is one of the three places.
+-- Lists of waiting cells. First what a place shows: what holds of all cells holds at each place, and what holds of
+-- each cell and each after it holds of two places in their order. Then the first cell that passes a test: where it
+-- stands, and that taking it out, or putting a cell in, keeps what holds of all cells and of each two. Last the rule
+-- of arrival: a cell that goes in at the least of the three places stands after every more urgent cell for its
+-- output, for these stand below its cushion, and before every less urgent one, for the first of these is one of the
+-- three places.
 use Rattle.std.proofs.Common.{◌≡◌, ◌≢◌, ℕ, zero, suc, ◌+◌, ◌<◌, ◌≤◌, ltb, Bool, true, false, not, cond, List, [], ◌∷◌, length, get_or, Option, None, Some, refl, sym, ap, ◌∙◌, subst, ⊎_elim, arith}
 use Rattle.std.specs.Prelude.{◌&&◌, slice_get, remove, position, unwrap_or, insert}
 use Rattle.std.specs.List.{AllByRecursion, position_or_len}
@@ -18,24 +19,29 @@ use Rattle.cq_base.proofs.Keys.{key_laws}
 
 -- ## What a place shows
 
-pub all_at : {X : Type 0} (P : X → Type 0) (xs : List X) (t : ℕ) (c : X) → AllByRecursion P xs → slice_get xs t ≡ Some c → P c
+pub all_at : {X : Type 0} (P : X → Type 0) (xs : List X) (t : ℕ) (c : X) → AllByRecursion P xs →
+    slice_get xs t ≡ Some c → P c
 all_at P [] t c a h = cc
 all_at P (x ∷ xs) zero c a h = let same : x ≡ c = cc in subst P same a.0
 all_at P (x ∷ xs) (suc t) c a h = all_at P xs t c a.1 h
 
-pub all_by : {X : Type 0} (P : X → Type 0) (xs : List X) → ((t : ℕ) (c : X) → slice_get xs t ≡ Some c → P c) → AllByRecursion P xs
+pub all_by : {X : Type 0} (P : X → Type 0) (xs : List X) → ((t : ℕ) (c : X) → slice_get xs t ≡ Some c → P c) →
+    AllByRecursion P xs
 all_by P [] f = tt
 all_by P (x ∷ xs) f = (f zero x refl, all_by P xs (λ t c h. f (suc t) c h))
 
 -- one place shows one cell
-same_shown : {X : Type 0} (xs : List X) (s t : ℕ) (a b : X) → s ≡ t → slice_get xs s ≡ Some a → slice_get xs t ≡ Some b → a ≡ b
+same_shown : {X : Type 0} (xs : List X) (s t : ℕ) (a b : X) → s ≡ t → slice_get xs s ≡ Some a →
+    slice_get xs t ≡ Some b → a ≡ b
 same_shown xs s t a b e at_s at_t = same_Some a b (sym at_s ∙ ap (slice_get xs) e ∙ at_t)
 
 -- of two places the relation holds in their order
-pub each_pair_at : (R : Queued → Queued → Type 0) (xs : List Queued) (s t : ℕ) (a b : Queued) → EachPair R xs → slice_get xs s ≡ Some a → slice_get xs t ≡ Some b → s < t → R a b
+pub each_pair_at : (R : Queued → Queued → Type 0) (xs : List Queued) (s t : ℕ) (a b : Queued) → EachPair R xs →
+    slice_get xs s ≡ Some a → slice_get xs t ≡ Some b → s < t → R a b
 each_pair_at R [] s t a b e h k l = cc
 each_pair_at R (x ∷ xs) zero zero a b e h k l = absurd (omega arith)
-each_pair_at R (x ∷ xs) zero (suc t) a b e h k l = let same : x ≡ a = cc in subst (λ y. R y b) same (all_at (R x) xs t b e.0 k)
+each_pair_at R (x ∷ xs) zero (suc t) a b e h k l =
+    let same : x ≡ a = cc in subst (λ y. R y b) same (all_at (R x) xs t b e.0 k)
 each_pair_at R (x ∷ xs) (suc s) zero a b e h k l = absurd (omega arith)
 each_pair_at R (x ∷ xs) (suc s) (suc t) a b e h k l = each_pair_at R xs s t a b e.1 h k (omega arith)
 
@@ -44,18 +50,22 @@ each_pair_at R (x ∷ xs) (suc s) (suc t) a b e h k l = each_pair_at R xs s t a 
 pub first_here : {X : Type 0} (p : X → Bool) (x : X) (xs : List X) → p x ≡ true → position_or_len p (x ∷ xs) ≡ 0
 first_here p x xs e = ap (λ b. cond (not b) (1 + position_or_len p xs) 0) e
 
-pub first_later : {X : Type 0} (p : X → Bool) (x : X) (xs : List X) → p x ≡ false → position_or_len p (x ∷ xs) ≡ 1 + position_or_len p xs
+pub first_later : {X : Type 0} (p : X → Bool) (x : X) (xs : List X) → p x ≡ false →
+    position_or_len p (x ∷ xs) ≡ 1 + position_or_len p xs
 first_later p x xs e = ap (λ b. cond (not b) (1 + position_or_len p xs) 0) e
 
 first_step : {X : Type 0} (p : X → Bool) (x : X) (xs : List X) → position_or_len p (x ∷ xs) ≤ 1 + position_or_len p xs
-first_step p x xs = let n = position_or_len p xs in cond_both (not (p x)) (1 + n) 0 (λ m. m ≤ 1 + n) (λ _. omega arith) (λ _. omega arith)
+first_step p x xs =
+    let n = position_or_len p xs in
+    cond_both (not (p x)) (1 + n) 0 (λ m. m ≤ 1 + n) (λ _. omega arith) (λ _. omega arith)
 
 pub first_inside : {X : Type 0} (p : X → Bool) (xs : List X) → position_or_len p xs ≤ length xs
 first_inside p [] = omega arith
 first_inside p (x ∷ xs) = let step = first_step p x xs in let rest = first_inside p xs in omega arith
 
 -- what passes stands no earlier
-pub first_le : {X : Type 0} (p : X → Bool) (xs : List X) (t : ℕ) (c : X) → slice_get xs t ≡ Some c → p c ≡ true → position_or_len p xs ≤ t
+pub first_le : {X : Type 0} (p : X → Bool) (xs : List X) (t : ℕ) (c : X) → slice_get xs t ≡ Some c → p c ≡ true →
+    position_or_len p xs ≤ t
 first_le p [] t c h e = cc
 first_le p (x ∷ xs) zero c h e =
     let same : c ≡ x = cc in
@@ -65,7 +75,8 @@ first_le p (x ∷ xs) (suc t) c h e =
     let step = first_step p x xs in omega arith
 
 -- the place that a search found, or the length
-pub place_found : {X : Type 0} (p : X → Bool) (xs : List X) (o : Option ℕ) (n : ℕ) → o ≡ position p xs → n ≡ unwrap_or o (length xs) → n ≡ position_or_len p xs
+pub place_found : {X : Type 0} (p : X → Bool) (xs : List X) (o : Option ℕ) (n : ℕ) → o ≡ position p xs →
+    n ≡ unwrap_or o (length xs) → n ≡ position_or_len p xs
 place_found p xs o n e f =
     let at = position_or_len p xs in
     f ∙ ap (λ v. unwrap_or v (length xs)) e
@@ -76,17 +87,23 @@ position-none : {X : Type 0} (p : X → Bool) (xs : List X) → position p xs �
 position-none p xs h =
     let at = position_or_len p xs in
     let none : Option ℕ = None in
-    cond_both (ltb at (length xs)) (Some at) none (λ o. o ≡ none → length xs ≤ at) (λ _ e. absurd (let P : ⊥ = cc in P)) (λ no _. ltb-false at (length xs) no) h
+    cond_both (ltb at (length xs)) (Some at) none (λ o. o ≡ none → length xs ≤ at)
+    (λ _ e. absurd (let P : ⊥ = cc in P)) (λ no _. ltb-false at (length xs) no) h
 
 -- ## The first cell for an output taken out
 
-pub all_left : (P : Queued → Type 0) (j : ℕ) (xs : List Queued) → AllByRecursion P xs → AllByRecursion P (without_first j xs)
+pub all_left : (P : Queued → Type 0) (j : ℕ) (xs : List Queued) → AllByRecursion P xs →
+    AllByRecursion P (without_first j xs)
 all_left P j [] a = tt
-all_left P j (x ∷ xs) a = cond_both (is_for j x) xs (x ∷ without_first j xs) (AllByRecursion P) (λ _. a.1) (λ _. (a.0, all_left P j xs a.1))
+all_left P j (x ∷ xs) a =
+    cond_both (is_for j x) xs (x ∷ without_first j xs) (AllByRecursion P) (λ _. a.1) (λ _. (a.0, all_left P j xs a.1))
 
-pub each_pair_left : (R : Queued → Queued → Type 0) (j : ℕ) (xs : List Queued) → EachPair R xs → EachPair R (without_first j xs)
+pub each_pair_left : (R : Queued → Queued → Type 0) (j : ℕ) (xs : List Queued) → EachPair R xs →
+    EachPair R (without_first j xs)
 each_pair_left R j [] e = tt
-each_pair_left R j (x ∷ xs) e = cond_both (is_for j x) xs (x ∷ without_first j xs) (EachPair R) (λ _. e.1) (λ _. (all_left (R x) j xs e.0, each_pair_left R j xs e.1))
+each_pair_left R j (x ∷ xs) e =
+    cond_both (is_for j x) xs (x ∷ without_first j xs) (EachPair R) (λ _. e.1)
+    (λ _. (all_left (R x) j xs e.0, each_pair_left R j xs e.1))
 
 without_is : (j : ℕ) (xs : List Queued) → without_first j xs ≡ remove xs (place_for j xs)
 without_is j [] = refl
@@ -94,46 +111,62 @@ without_is j (x ∷ xs) =
     cond_both (is_for j x) xs (x ∷ without_first j xs) (λ l. l ≡ remove (x ∷ xs) (place_for j (x ∷ xs)))
     (λ e. ap (remove (x ∷ xs)) (sym (first_here (is_for j) x xs e)))
     (λ e.
-    let place : suc (place_for j xs) ≡ place_for j (x ∷ xs) = let later = first_later (is_for j) x xs e in omega arith in
+    let place : suc (place_for j xs) ≡ place_for j (x ∷ xs) =
+    let later = first_later (is_for j) x xs e in omega arith in
     ap (λ l. x ∷ l) (without_is j xs) ∙ ap (remove (x ∷ xs)) place)
 
 none_left : (j : ℕ) (xs : List Queued) → first_for j xs ≡ None → without_first j xs ≡ xs
 none_left j [] h = refl
 none_left j (x ∷ xs) h = go (is_for j x) h (none_left j xs)
   where
-    go : (b : Bool) → cond b (Some x) (first_for j xs) ≡ None → (first_for j xs ≡ None → without_first j xs ≡ xs) → cond b xs (x ∷ without_first j xs) ≡ x ∷ xs
+    go : (b : Bool) → cond b (Some x) (first_for j xs) ≡ None → (first_for j xs ≡ None → without_first j xs ≡ xs) →
+        cond b xs (x ∷ without_first j xs) ≡ x ∷ xs
     go true e rest = cc
     go false e rest = ap (λ l. x ∷ l) (rest e)
 
 -- what is left where a search for the first cell for the output found none
-pub taken_none : (j : ℕ) (xs : List Queued) → position (is_for j) xs ≡ None → (None ≡ first_for j xs) × (xs ≡ without_first j xs)
+pub taken_none : (j : ℕ) (xs : List Queued) → position (is_for j) xs ≡ None →
+    (None ≡ first_for j xs) × (xs ≡ without_first j xs)
 taken_none j xs h =
-    let none : first_for j xs ≡ None = find_at (is_for j) xs ∙ slice_get_past xs (place_for j xs) (position-none (is_for j) xs h) in
+    let none : first_for j xs ≡ None =
+    find_at (is_for j) xs ∙ slice_get_past xs (place_for j xs) (position-none (is_for j) xs h) in
     (sym none, sym (none_left j xs none))
 
 -- what is left where it found one, and the cell at its place was removed
-pub taken_some : (j : ℕ) (xs : List Queued) (i : ℕ) (x : Queued) → position (is_for j) xs ≡ Some i → x ≡ get_or xs i x → (Some x ≡ first_for j xs) × (remove xs i ≡ without_first j xs)
+pub taken_some : (j : ℕ) (xs : List Queued) (i : ℕ) (x : Queued) → position (is_for j) xs ≡ Some i →
+    x ≡ get_or xs i x → (Some x ≡ first_for j xs) × (remove xs i ≡ without_first j xs)
 taken_some j xs i x h shown =
     let first = cond_some (ltb (place_for j xs) (length xs)) (place_for j xs) i h in
-    let inside : i < length xs = let l = ltb-true _ _ first.0 in omega arith in
-    (ap Some shown ∙ sym (slice_get-get_or xs i x inside) ∙ ap (slice_get xs) (sym first.1) ∙ sym (find_at (is_for j) xs), ap (remove xs) (sym first.1) ∙ sym (without_is j xs))
+    let inside : i < length xs = let l = ltb-true _ _ first.0 in omega arith in (
+      ap Some shown ∙ sym (slice_get-get_or xs i x inside) ∙ ap (slice_get xs) (sym first.1)
+          ∙ sym (find_at (is_for j) xs),
+      ap (remove xs) (sym first.1) ∙ sym (without_is j xs),
+    )
 
 -- ## A cell inserted at a place
 
-pub all_insert : (P : Queued → Type 0) (xs : List Queued) (p : ℕ) (n : Queued) → P n → AllByRecursion P xs → AllByRecursion P (insert xs p n)
+pub all_insert : (P : Queued → Type 0) (xs : List Queued) (p : ℕ) (n : Queued) → P n → AllByRecursion P xs →
+    AllByRecursion P (insert xs p n)
 all_insert P xs zero n q a = (q, a)
 all_insert P [] (suc p) n q a = (q, tt)
 all_insert P (x ∷ xs) (suc p) n q a = (a.0, all_insert P xs p n q a.1)
 
-each_pair_insert : (R : Queued → Queued → Type 0) (xs : List Queued) (p : ℕ) (n : Queued) → EachPair R xs → ((s : ℕ) (x : Queued) → slice_get xs s ≡ Some x → s < p → R x n) → ((s : ℕ) (x : Queued) → slice_get xs s ≡ Some x → p ≤ s → R n x) → EachPair R (insert xs p n)
+each_pair_insert : (R : Queued → Queued → Type 0) (xs : List Queued) (p : ℕ) (n : Queued) → EachPair R xs →
+    ((s : ℕ) (x : Queued) → slice_get xs s ≡ Some x → s < p → R x n) →
+    ((s : ℕ) (x : Queued) → slice_get xs s ≡ Some x → p ≤ s → R n x) → EachPair R (insert xs p n)
 each_pair_insert R xs zero n e before after = (all_by (R n) xs (λ s c h. after s c h (omega arith)), e)
 each_pair_insert R [] (suc p) n e before after = (tt, tt)
-each_pair_insert R (x ∷ xs) (suc p) n e before after =
-    (all_insert (R x) xs p n (before zero x refl (omega arith)) e.0, each_pair_insert R xs p n e.1 (λ s y h l. before (suc s) y h (omega arith)) (λ s y h l. after (suc s) y h (omega arith)))
+each_pair_insert R (x ∷ xs) (suc p) n e before after = (
+  all_insert (R x) xs p n (before zero x refl (omega arith)) e.0,
+  each_pair_insert R xs p n e.1 (λ s y h l. before (suc s) y h (omega arith))
+      (λ s y h l. after (suc s) y h (omega arith)),
+)
 
-pub keys_differ_insert : (xs : List Queued) (p : ℕ) (n : Queued) → KeysDiffer xs → HasOtherKey n xs → KeysDiffer (insert xs p n)
+pub keys_differ_insert : (xs : List Queued) (p : ℕ) (n : Queued) → KeysDiffer xs → HasOtherKey n xs →
+    KeysDiffer (insert xs p n)
 keys_differ_insert xs p n differ other =
-    each_pair_insert _ xs p n differ (λ s x h l. all_at (λ y. y.key ≢ n.key) xs s x other h) (λ s x h l e. all_at (λ y. y.key ≢ n.key) xs s x other h (sym e))
+    each_pair_insert _ xs p n differ (λ s x h l. all_at (λ y. y.key ≢ n.key) xs s x other h)
+    (λ s x h l e. all_at (λ y. y.key ≢ n.key) xs s x other h (sym e))
 
 -- ## An arriving cell keeps the order of the cells for its output
 
@@ -141,14 +174,16 @@ keys_differ_insert xs p n differ other =
 after_other : (a b : Key) → is_before a b ≡ false → a ≢ b → is_before b a ≡ true
 after_other a b h ne = ⊎_elim (λ e. e) (λ e. absurd (ne (key_laws.alike a b h e))) (cases_Bool (is_before b a))
 
-module _ (cushion : ℕ) (n : Queued) (xs : List Queued) (order : KeepsOrder xs) (other : HasOtherKey n xs) (ahead : MoreUrgentAhead cushion n xs) where
+module _ (cushion : ℕ) (n : Queued) (xs : List Queued) (order : KeepsOrder xs) (other : HasOtherKey n xs)
+    (ahead : MoreUrgentAhead cushion n xs) where
   is_later : Queued → Bool
   is_later x = is_for n.cell.output x && is_before n.key x.key
 
   differs : (s : ℕ) (x : Queued) → slice_get xs s ≡ Some x → x.key ≢ n.key
   differs s x at = all_at (λ y. y.key ≢ n.key) xs s x other at
 
-  before_arrival : (s : ℕ) (x : Queued) → slice_get xs s ≡ Some x → s < place_of_arrival cushion n xs → x.cell.output ≡ n.cell.output → IsBefore x n
+  before_arrival : (s : ℕ) (x : Queued) → slice_get xs s ≡ Some x → s < place_of_arrival cushion n xs →
+      x.cell.output ≡ n.cell.output → IsBefore x n
   unfolding is_later
   before_arrival s x at l e =
       ⊎_elim (λ t. t)
@@ -158,7 +193,8 @@ module _ (cushion : ℕ) (n : Queued) (xs : List Queued) (order : KeepsOrder xs)
       absurd (omega arith))
       (cases_Bool (is_before x.key n.key))
 
-  after_arrival : (s : ℕ) (x : Queued) → slice_get xs s ≡ Some x → place_of_arrival cushion n xs ≤ s → n.cell.output ≡ x.cell.output → IsBefore n x
+  after_arrival : (s : ℕ) (x : Queued) → slice_get xs s ≡ Some x → place_of_arrival cushion n xs ≤ s →
+      n.cell.output ≡ x.cell.output → IsBefore n x
   unfolding is_later
   after_arrival s x at l e =
       ⊎_elim (λ t. t)
@@ -169,12 +205,15 @@ module _ (cushion : ℕ) (n : Queued) (xs : List Queued) (order : KeepsOrder xs)
       let later_le : place_of_later n xs ≤ s = omega arith in
       let first : Queued = get_or xs (place_of_later n xs) x in
       let first_inside : place_of_later n xs < length xs = omega arith in
-      let at_first : slice_get xs (place_of_later n xs) ≡ Some first = slice_get-get_or xs (place_of_later n xs) x first_inside in
+      let at_first : slice_get xs (place_of_later n xs) ≡ Some first =
+      slice_get-get_or xs (place_of_later n xs) x first_inside in
       let passes = and_parts _ _ (passes_at_first is_later xs x first_inside) in
       let out = eqb-true first.cell.output n.cell.output passes.0 in
       ⊎_elim
-      (λ lt. key_laws.on n.key first.key x.key passes.1 (each_pair_at _ xs (place_of_later n xs) s first x order at_first at lt (out ∙ e)))
-      (λ ge. subst (λ (y : Queued). is_before n.key y.key ≡ true) (same_shown xs (place_of_later n xs) s first x (omega arith) at_first at) passes.1)
+      (λ lt. key_laws.on n.key first.key x.key passes.1 (each_pair_at _ xs (place_of_later n xs) s first x order
+      at_first at lt (out ∙ e)))
+      (λ ge. subst (λ (y : Queued). is_before n.key y.key ≡ true)
+      (same_shown xs (place_of_later n xs) s first x (omega arith) at_first at) passes.1)
       (cases_lt (place_of_later n xs) s))
       (cases_Bool (is_before n.key x.key))
 
@@ -186,13 +225,17 @@ module _ (cushion : ℕ) (n : Queued) (xs : List Queued) (order : KeepsOrder xs)
 -- no older cell has its key
 pub other_key_newest : (c : Queued) (xs : List Queued) → ArrivedBefore c.key.slot xs → HasOtherKey c xs
 other_key_newest c xs before =
-    all_by _ xs (λ t x at e. let older = all_at (λ y. y.key.slot < c.key.slot) xs t x before at in let same = ap (λ (k : Key). k.slot) e in omega arith)
+    all_by _ xs (λ t x at e. let older = all_at (λ y. y.key.slot < c.key.slot) xs t x before at in
+    let same = ap (λ (k : Key). k.slot) e in
+    omega arith)
 
 -- a cushion that is no less than any place
 pub ahead_of_end : (cushion : ℕ) (c : Queued) (xs : List Queued) → length xs ≤ cushion → MoreUrgentAhead cushion c xs
 ahead_of_end cushion c xs l place x at _ _ = let inside = slice_get_within xs place x at in omega arith
 
 -- all arrived before the next slot
-pub arrived_newest : (cushion : ℕ) (c : Queued) (xs : List Queued) → ArrivedBefore c.key.slot xs → ArrivedBefore (c.key.slot + 1) (with_arrival cushion c xs)
+pub arrived_newest : (cushion : ℕ) (c : Queued) (xs : List Queued) → ArrivedBefore c.key.slot xs →
+    ArrivedBefore (c.key.slot + 1) (with_arrival cushion c xs)
 arrived_newest cushion c xs before =
-    all_insert _ xs (place_of_arrival cushion c xs) c (omega arith) (all_by _ xs (λ t x at. let older = all_at (λ y. y.key.slot < c.key.slot) xs t x before at in omega arith))
+    all_insert _ xs (place_of_arrival cushion c xs) c (omega arith) (all_by _ xs
+    (λ t x at. let older = all_at (λ y. y.key.slot < c.key.slot) xs t x before at in omega arith))

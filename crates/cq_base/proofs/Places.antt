@@ -1,6 +1,6 @@
 -- What stands at the places of arrivals. Where no cell came every place answers none, inside the list and beyond it,
--- so there is no cell of which anything is asked. And what is read at a place, if it is a cell, stands at its own input,
--- also where it was put there in place of another.
+-- so there is no cell of which anything is asked. And what is read at a place, if it is a cell, stands at its own
+-- input, also where it was put there in place of another.
 use Rattle.std.proofs.Common.{◌≡◌, ◌≢◌, ◌<◌, ℕ, List, get_or, set, Option, None, Some, Bor, refl, sym, ap, ◌∙◌, subst, ⊎_elim, length-set, get_or-set_same, get_or-set_other, arith}
 use Rattle.std.specs.Prelude.{IfSome, unwrap_or}
 use Rattle.std.specs.Option.{option_copied, option_flatten, option_map}
@@ -23,20 +23,25 @@ no_arrivals_are =
     let none : Option Cell = None in
     record {
       places = length-replicate 64 none;
-      own_input = λ input cell at. absurd (let clash : none ≡ Some cell = sym (arrival_at-no_arrivals input) ∙ at in cc);
+      own_input =
+          λ input cell at. absurd (let clash : none ≡ Some cell = sym (arrival_at-no_arrivals input) ∙ at in cc);
     }
 
 -- a cell that stands at a place has come to that input
-own_at : (input : ℕ) (cells : List (Option Cell)) (o : Option Cell) → AreArrivals cells → o ≡ arrival_at cells input → IfSome o (λ cell. cell.id.input ≡ input)
+own_at : (input : ℕ) (cells : List (Option Cell)) (o : Option Cell) → AreArrivals cells → o ≡ arrival_at cells input →
+    IfSome o (λ cell. cell.id.input ≡ input)
 own_at input cells None are is = tt
 own_at input cells (Some cell) are is = are.own_input input cell (sym is)
 
-option_flatten-copied : (found : Option (Bor (Option Cell))) → option_flatten (option_copied found) ≡ unwrap_or (option_map (λ b. b.now) found) None
+option_flatten-copied : (found : Option (Bor (Option Cell))) →
+    option_flatten (option_copied found) ≡ unwrap_or (option_map (λ b. b.now) found) None
 option_flatten-copied None = refl
 option_flatten-copied (Some b) = refl
 
 -- what was read at a place and then copied is a cell of that input
-pub own_read : (input : ℕ) (cells : List (Option Cell)) (found : Option (Bor (Option Cell))) (o : Option Cell) → AreArrivals cells → ((d : Option Cell) → unwrap_or (option_map (λ b. b.now) found) d ≡ get_or cells input d) → o ≡ option_flatten (option_copied found) → IfSome o (λ cell. cell.id.input ≡ input)
+pub own_read : (input : ℕ) (cells : List (Option Cell)) (found : Option (Bor (Option Cell))) (o : Option Cell) →
+    AreArrivals cells → ((d : Option Cell) → unwrap_or (option_map (λ b. b.now) found) d ≡ get_or cells input d) →
+    o ≡ option_flatten (option_copied found) → IfSome o (λ cell. cell.id.input ≡ input)
 own_read input cells found o are read is =
     let none : Option Cell = None in
     own_at input cells o are (is ∙ option_flatten-copied found ∙ read none ∙ sym (unwrap_or-slice_get cells input none))

@@ -80,4 +80,6 @@ with_arrival cushion c xs = insert xs (place_of_arrival cushion c xs) c
 
 -- each more urgent cell for the same output stands at a place below the cushion
 abbrev pub MoreUrgentAhead : ℕ → Queued → List Queued → Type 0
-MoreUrgentAhead cushion c xs = (place : ℕ) (x : Queued) → slice_get xs place ≡ Some x → x.cell.output ≡ c.cell.output → IsBefore x c → place < cushion
+MoreUrgentAhead cushion c xs =
+    (place : ℕ) (x : Queued) → slice_get xs place ≡ Some x → x.cell.output ≡ c.cell.output → IsBefore x c →
+    place < cushion

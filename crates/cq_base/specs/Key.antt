@@ -6,14 +6,15 @@ use Rattle.std.specs.Ordering.{nat_cmp, ordering_then, is_lt}
 use Rattle.std.specs.Cmp.{IsTotalOrder, nat_cmp_total, on_total, then_total}
 use Rattle.cq_base.specs.declared.key.Key.{Key}
 
--- how the keys compare: where their levels are the same by their ranks, where these are the same by their slots, and where
--- these are the same by their inputs
+-- how the keys compare: where their levels are the same by their ranks, where these are the same by their slots, and
+-- where these are the same by their inputs
 abbrev pub key_cmp : Key → Key → Ordering
 key_cmp a b =
     ordering_then (nat_cmp a.level b.level)
     (ordering_then (nat_cmp a.rank b.rank) (ordering_then (nat_cmp a.slot b.slot) (nat_cmp a.input b.input)))
 
--- it is a total order, since numbers are in order and a comparison by one part and then by another is total where both are
+-- it is a total order, since numbers are in order and a comparison by one part and then by another is total where
+-- both are
 pub keys_total : IsTotalOrder key_cmp
 keys_total =
     then_total (on_total (λ k. k.level) nat_cmp_total)

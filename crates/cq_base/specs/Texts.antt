@@ -13,7 +13,8 @@ line_of (n ∷ m ∷ ns) = decimal n ++ 32 ∷ line_of (m ∷ ns)
 
 -- a departure: its slot, its output, and the cell that left, by its input, its packet and its number there
 abbrev pub trace_line : Departure → List ℕ
-trace_line d = line_of (d.slot ∷ d.output ∷ d.queued.cell.id.input ∷ d.queued.cell.id.packet ∷ d.queued.cell.id.index ∷ [])
+trace_line d =
+    line_of (d.slot ∷ d.output ∷ d.queued.cell.id.input ∷ d.queued.cell.id.packet ∷ d.queued.cell.id.index ∷ [])
 
 -- one line a departure
 unfoldable pub trace_of : List Departure → List ℕ

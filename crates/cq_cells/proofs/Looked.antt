@@ -1,4 +1,5 @@
--- A slot is looked up in a line. The packets of a line arrive one after another, so of all packets only the last that has begun can have a cell in the slot, and that is the cell as many places on as slots have gone by since.
+-- A slot is looked up in a line. The packets of a line arrive one after another, so of all packets only the last that
+-- has begun can have a cell in the slot, and that is the cell as many places on as slots have gone by since.
 use Rattle.std.proofs.Common.{◌≡◌, ◌≢◌, ℕ, zero, suc, ◌+◌, ◌-◌, ◌<◌, ◌≤◌, eqb, leb, Bool, true, false, List, length, map, slice_index_or, None, Some, refl, ap, ◌∙◌, inl, inr, subst, arith, tests}
 use Rattle.std.specs.List.{range_with_len, find}
 use Rattle.std.specs.List.Sorted.{IsPartitionPoint, IsNonDecreasingBy}
@@ -19,14 +20,16 @@ abbrev pub piece : ℕ → (ℕ → Cell) → ℕ → Arrival
 piece s f j = record { slot = s + j; cell = f j }
 
 -- none of them arrives in another slot
-none_in : (s : ℕ) (f : ℕ → Cell) (i n slot : ℕ) → ((j : ℕ) → i ≤ j → j < i + n → s + j ≢ slot) → find (is_in slot) (map (piece s f) (range_with_len i n)) ≡ None
+none_in : (s : ℕ) (f : ℕ → Cell) (i n slot : ℕ) → ((j : ℕ) → i ≤ j → j < i + n → s + j ≢ slot) →
+    find (is_in slot) (map (piece s f) (range_with_len i n)) ≡ None
 none_in s f i zero slot h = refl
 none_in s f i (suc n) slot h =
     let other : eqb (s + i) slot ≡ false = ne_eqb (s + i) slot (h i (omega arith) (omega arith)) in
     rw other (none_in s f (i + 1) n slot (λ j b e. h j (omega arith) (omega arith)))
 
 -- one of them arrives in its own
-found_in : (s : ℕ) (f : ℕ → Cell) (i n slot j : ℕ) → i ≤ j → j < i + n → s + j ≡ slot → find (is_in slot) (map (piece s f) (range_with_len i n)) ≡ Some (piece s f j)
+found_in : (s : ℕ) (f : ℕ → Cell) (i n slot j : ℕ) → i ≤ j → j < i + n → s + j ≡ slot →
+    find (is_in slot) (map (piece s f) (range_with_len i n)) ≡ Some (piece s f j)
 found_in s f i zero slot j from to e = absurd (omega arith)
 found_in s f i (suc n) slot j from to e =
     elim (cases_eq i j) [
@@ -39,17 +42,27 @@ found_in s f i (suc n) slot j from to e =
     ]
 
 -- a packet has no cell before its start
-row_later : (input cell_bytes k : ℕ) (row : Row) (slot : ℕ) → slot < row.start → find (is_in slot) (row_arrivals input cell_bytes k row) ≡ None
-row_later input cell_bytes k row slot h = none_in row.start (row_cell input cell_bytes k row) 0 row.cells slot (λ j b e p. omega arith)
+row_later : (input cell_bytes k : ℕ) (row : Row) (slot : ℕ) → slot < row.start →
+    find (is_in slot) (row_arrivals input cell_bytes k row) ≡ None
+row_later input cell_bytes k row slot h =
+    none_in row.start (row_cell input cell_bytes k row) 0 row.cells slot (λ j b e p. omega arith)
 
 -- nor after its end
-row_over : (input cell_bytes k : ℕ) (row : Row) (slot : ℕ) → row.start + row.cells ≤ slot → find (is_in slot) (row_arrivals input cell_bytes k row) ≡ None
-row_over input cell_bytes k row slot h = none_in row.start (row_cell input cell_bytes k row) 0 row.cells slot (λ j b e p. omega arith)
+row_over : (input cell_bytes k : ℕ) (row : Row) (slot : ℕ) → row.start + row.cells ≤ slot →
+    find (is_in slot) (row_arrivals input cell_bytes k row) ≡ None
+row_over input cell_bytes k row slot h =
+    none_in row.start (row_cell input cell_bytes k row) 0 row.cells slot (λ j b e p. omega arith)
 
-pub begun_from_partition : (rows : List Row) (slot n : ℕ) → n ≤ length rows → IsPartitionPoint (λ row. leb row.start slot ≡ true) (λ row. leb row.start slot ≡ false) rows n → IsBegun rows slot n
+pub begun_from_partition : (rows : List Row) (slot n : ℕ) → n ≤ length rows →
+    IsPartitionPoint (λ row. leb row.start slot ≡ true) (λ row. leb row.start slot ≡ false) rows n →
+    IsBegun rows slot n
 begun_from_partition rows slot n few p = record {
-  before = λ k h. let test = p.0 k (record { start = 0; cells = 0; output = 0; class = 0; len = 0 }) (omega arith) h in grind (arith, tests, test);
-  after = λ k b h. let test = p.1 k (record { start = 0; cells = 0; output = 0; class = 0; len = 0 }) b h in grind (arith, tests, test);
+  before =
+      λ k h. let test = p.0 k (record { start = 0; cells = 0; output = 0; class = 0; len = 0 }) (omega arith) h in
+      grind (arith, tests, test);
+  after =
+      λ k b h. let test = p.1 k (record { start = 0; cells = 0; output = 0; class = 0; len = 0 }) b h in
+      grind (arith, tests, test);
 }
 
 -- a row of nothing
@@ -58,11 +71,13 @@ no_row = record { start = 0; cells = 0; output = 0; class = 0; len = 0 }
 
 -- the last of so many has begun, and the one after it has not
 pub begun_beside : (rows : List Row) (slot n : ℕ) → IsNonDecreasingBy (λ row. row.start) rows → n ≤ length rows →
-    (0 < n → (row_at rows (n - 1)).start ≤ slot) → (n < length rows → slot < (row_at rows n).start) → IsBegun rows slot n
+    (0 < n → (row_at rows (n - 1)).start ≤ slot) → (n < length rows → slot < (row_at rows n).start) →
+    IsBegun rows slot n
 begun_beside rows slot n rise few last next = record {
   before = λ k h.
       let some : 0 < n = omega arith in
-      let up : (row_at rows k).start ≤ (row_at rows (n - 1)).start = rise k (n - 1) no_row (omega arith) (omega arith) in
+      let up : (row_at rows k).start ≤ (row_at rows (n - 1)).start =
+      rise k (n - 1) no_row (omega arith) (omega arith) in
       let begun : (row_at rows (n - 1)).start ≤ slot = last some in
       omega arith;
   after = λ k b h.
@@ -73,10 +88,12 @@ begun_beside rows slot n rise few last next = record {
 }
 
 -- the starts rise
-pub starts_rise : (cell_bytes : ℕ) (rows : List Row) → AreRows cell_bytes rows → IsNonDecreasingBy (λ row. row.start) rows
+pub starts_rise : (cell_bytes : ℕ) (rows : List Row) → AreRows cell_bytes rows →
+    IsNonDecreasingBy (λ row. row.start) rows
 starts_rise cell_bytes rows r i j d b h =
     elim (cases_eq i j) [
-      | inl same ↦ let P : ℕ → Type 0 = λ k. (slice_index_or rows i d).start ≤ (slice_index_or rows k d).start in subst P same (omega arith)
+      | inl same ↦ let P : ℕ → Type 0 = λ k. (slice_index_or rows i d).start ≤ (slice_index_or rows k d).start in
+          subst P same (omega arith)
       | inr other ↦
           let ended = r.apart i j (omega arith) h in
           let first : slice_index_or rows i d ≡ row_at rows i = get_or_default rows i d no_row (omega arith) in
@@ -85,16 +102,22 @@ starts_rise cell_bytes rows r i j d b h =
     ]
 
 -- before the first packet nothing arrives
-pub line_none : (input cell_bytes : ℕ) (rows : List Row) (slot : ℕ) → IsBegun rows slot 0 → find (is_in slot) (line_arrivals input cell_bytes rows) ≡ None
+pub line_none : (input cell_bytes : ℕ) (rows : List Row) (slot : ℕ) → IsBegun rows slot 0 →
+    find (is_in slot) (line_arrivals input cell_bytes rows) ≡ None
 unfolding line_arrivals
 line_none input cell_bytes rows slot b =
-    find_none (is_in slot) (λ k. row_arrivals input cell_bytes k (row_at rows k)) 0 (length rows) (λ k f t. row_later input cell_bytes k (row_at rows k) slot (b.after k f (omega arith)))
+    find_none (is_in slot) (λ k. row_arrivals input cell_bytes k (row_at rows k)) 0 (length rows)
+    (λ k f t. row_later input cell_bytes k (row_at rows k) slot (b.after k f (omega arith)))
 
 -- later it is a cell of the last packet that has begun, if any
-line_at : (input cell_bytes : ℕ) (rows : List Row) (slot k : ℕ) → AreRows cell_bytes rows → k < length rows → IsBegun rows slot (k + 1) → find (is_in slot) (line_arrivals input cell_bytes rows) ≡ find (is_in slot) (row_arrivals input cell_bytes k (row_at rows k))
+line_at : (input cell_bytes : ℕ) (rows : List Row) (slot k : ℕ) → AreRows cell_bytes rows → k < length rows →
+    IsBegun rows slot (k + 1) →
+    find (is_in slot) (line_arrivals input cell_bytes rows)
+    ≡ find (is_in slot) (row_arrivals input cell_bytes k (row_at rows k))
 unfolding line_arrivals
 line_at input cell_bytes rows slot k r inside b =
-    find_only (is_in slot) (λ j. row_arrivals input cell_bytes j (row_at rows j)) 0 (length rows) k (omega arith) (omega arith)
+    find_only (is_in slot) (λ j. row_arrivals input cell_bytes j (row_at rows j)) 0 (length rows) k (omega arith)
+    (omega arith)
     (λ j f t other. elim (cases_order j k) [
       | inl same ↦ absurd (other same)
       | inr apart ↦ elim apart [
@@ -107,10 +130,18 @@ line_at input cell_bytes rows slot k r inside b =
     ])
 
 -- it has ended
-pub line_over : (input cell_bytes : ℕ) (rows : List Row) (slot k : ℕ) → AreRows cell_bytes rows → k < length rows → IsBegun rows slot (k + 1) → (row_at rows k).start + (row_at rows k).cells ≤ slot → find (is_in slot) (line_arrivals input cell_bytes rows) ≡ None
-line_over input cell_bytes rows slot k r inside b over = line_at input cell_bytes rows slot k r inside b ∙ row_over input cell_bytes k (row_at rows k) slot over
+pub line_over : (input cell_bytes : ℕ) (rows : List Row) (slot k : ℕ) → AreRows cell_bytes rows → k < length rows →
+    IsBegun rows slot (k + 1) → (row_at rows k).start + (row_at rows k).cells ≤ slot →
+    find (is_in slot) (line_arrivals input cell_bytes rows) ≡ None
+line_over input cell_bytes rows slot k r inside b over =
+    line_at input cell_bytes rows slot k r inside b ∙ row_over input cell_bytes k (row_at rows k) slot over
 
 -- it has not
-pub line_found : (input cell_bytes : ℕ) (rows : List Row) (slot k i : ℕ) → AreRows cell_bytes rows → k < length rows → IsBegun rows slot (k + 1) → (row_at rows k).start + i ≡ slot → i < (row_at rows k).cells → find (is_in slot) (line_arrivals input cell_bytes rows) ≡ Some (piece (row_at rows k).start (row_cell input cell_bytes k (row_at rows k)) i)
+pub line_found : (input cell_bytes : ℕ) (rows : List Row) (slot k i : ℕ) → AreRows cell_bytes rows → k < length rows →
+    IsBegun rows slot (k + 1) → (row_at rows k).start + i ≡ slot → i < (row_at rows k).cells →
+    find (is_in slot) (line_arrivals input cell_bytes rows)
+    ≡ Some (piece (row_at rows k).start (row_cell input cell_bytes k (row_at rows k)) i)
 line_found input cell_bytes rows slot k i r inside b here few =
-    line_at input cell_bytes rows slot k r inside b ∙ found_in (row_at rows k).start (row_cell input cell_bytes k (row_at rows k)) 0 (row_at rows k).cells slot i (omega arith) (omega arith) here
+    line_at input cell_bytes rows slot k r inside b
+    ∙ found_in (row_at rows k).start (row_cell input cell_bytes k (row_at rows k)) 0 (row_at rows k).cells slot i
+    (omega arith) (omega arith) here

@@ -11,10 +11,12 @@ use Rattle.std.proofs.lemmas.List.{get_or-set_same, get_or-set_other, length-set
 -- the numbers up to the next one
 pub range_more : (a n : ℕ) → range_with_len a (n + 1) ≡ range_with_len a n ++ (a + n) ∷ []
 range_more a n =
-    sym (map-id (range_with_len a (n + 1))) ∙ map-range_with_len_more (λ j. j) a n (a + n) refl ∙ ap (λ ns. ns ++ (a + n) ∷ []) (map-id (range_with_len a n))
+    sym (map-id (range_with_len a (n + 1))) ∙ map-range_with_len_more (λ j. j) a n (a + n) refl
+    ∙ ap (λ ns. ns ++ (a + n) ∷ []) (map-id (range_with_len a n))
 
 -- two functions that agree on the numbers make the same list
-pub flat_same : {X : Type 0} (f g : ℕ → List X) (a n : ℕ) → ((j : ℕ) → a ≤ j → j < a + n → f j ≡ g j) → flat_map f (range_with_len a n) ≡ flat_map g (range_with_len a n)
+pub flat_same : {X : Type 0} (f g : ℕ → List X) (a n : ℕ) → ((j : ℕ) → a ≤ j → j < a + n → f j ≡ g j) →
+    flat_map f (range_with_len a n) ≡ flat_map g (range_with_len a n)
 flat_same f g a zero h = refl
 flat_same f g a (suc n) h =
     let here : f a ≡ g a = h a (omega arith) (omega arith) in
@@ -27,21 +29,27 @@ or_none None = refl
 or_none (Some x) = refl
 
 -- nothing is found where no number has it
-pub find_none : {X : Type 0} (p : X → Bool) (f : ℕ → List X) (a n : ℕ) → ((j : ℕ) → a ≤ j → j < a + n → find p (f j) ≡ None) → find p (flat_map f (range_with_len a n)) ≡ None
+pub find_none : {X : Type 0} (p : X → Bool) (f : ℕ → List X) (a n : ℕ) →
+    ((j : ℕ) → a ≤ j → j < a + n → find p (f j) ≡ None) → find p (flat_map f (range_with_len a n)) ≡ None
 find_none p f a zero h = refl
 find_none p f a (suc n) h =
     let here : find p (f a) ≡ None = h a (omega arith) (omega arith) in
-    find-append p (f a) (flat_map f (range_with_len (a + 1) n)) ∙ ap (λ o. option_or o (find p (flat_map f (range_with_len (a + 1) n)))) here ∙ find_none p f (a + 1) n (λ j b e. h j (omega arith) (omega arith))
+    find-append p (f a) (flat_map f (range_with_len (a + 1) n))
+    ∙ ap (λ o. option_or o (find p (flat_map f (range_with_len (a + 1) n)))) here
+    ∙ find_none p f (a + 1) n (λ j b e. h j (omega arith) (omega arith))
 
 -- what is found at the one number that can have it
-pub find_only : {X : Type 0} (p : X → Bool) (f : ℕ → List X) (a n k : ℕ) → a ≤ k → k < a + n → ((j : ℕ) → a ≤ j → j < a + n → j ≢ k → find p (f j) ≡ None) → find p (flat_map f (range_with_len a n)) ≡ find p (f k)
+pub find_only : {X : Type 0} (p : X → Bool) (f : ℕ → List X) (a n k : ℕ) → a ≤ k → k < a + n →
+    ((j : ℕ) → a ≤ j → j < a + n → j ≢ k → find p (f j) ≡ None) →
+    find p (flat_map f (range_with_len a n)) ≡ find p (f k)
 find_only p f a zero k from to h = absurd (omega arith)
 find_only {X = X} p f a (suc n) k from to h =
     let rest : List X = flat_map f (range_with_len (a + 1) n) in
     elim (cases_eq a k) [
       | inl here ↦
           find-append p (f a) rest
-          ∙ ap (λ o. option_or (find p (f a)) o) (find_none p f (a + 1) n (λ j b e. h j (omega arith) (omega arith) (omega arith)))
+          ∙ ap (λ o. option_or (find p (f a)) o) (find_none p f (a + 1) n
+          (λ j b e. h j (omega arith) (omega arith) (omega arith)))
           ∙ or_none (find p (f a))
           ∙ ap (λ j. find p (f j)) here
       | inr other ↦
@@ -51,13 +59,17 @@ find_only {X = X} p f a (suc n) k from to h =
     ]
 
 -- one value that is written among those of the numbers
-pub set_one : {X : Type 0} (f g : ℕ → X) (n i : ℕ) (y : X) → i < n → g i ≡ y → ((j : ℕ) → j < n → j ≢ i → g j ≡ f j) → set (map f (range_with_len 0 n)) i y ≡ map g (range_with_len 0 n)
+pub set_one : {X : Type 0} (f g : ℕ → X) (n i : ℕ) (y : X) → i < n → g i ≡ y → ((j : ℕ) → j < n → j ≢ i → g j ≡ f j) →
+    set (map f (range_with_len 0 n)) i y ≡ map g (range_with_len 0 n)
 set_one f g n i y inside own others =
-    fill_by_all g (set (map f (range_with_len 0 n)) i y) n y (length-set (map f (range_with_len 0 n)) i y ∙ length-map-range_with_len f 0 n)
+    fill_by_all g (set (map f (range_with_len 0 n)) i y) n y (length-set (map f (range_with_len 0 n)) i y
+    ∙ length-map-range_with_len f 0 n)
     (λ k h. elim (cases_eq k i) [
       | inl same ↦
           let fits : i < length (map f (range_with_len 0 n)) = omega (arith, length-map-range_with_len f 0 n) in
-          ap (λ j. get_or (set (map f (range_with_len 0 n)) i y) j y) same ∙ get_or-set_same (map f (range_with_len 0 n)) i y y fits ∙ sym own ∙ ap g (sym same)
+          ap (λ j. get_or (set (map f (range_with_len 0 n)) i y) j y) same
+          ∙ get_or-set_same (map f (range_with_len 0 n)) i y y fits ∙ sym own ∙ ap g (sym same)
       | inr other ↦
-          get_or-set_other (map f (range_with_len 0 n)) i k y y other ∙ get_or-map-range_with_len f 0 n k k y h (omega arith) ∙ sym (others k h other)
+          get_or-set_other (map f (range_with_len 0 n)) i k y y other
+          ∙ get_or-map-range_with_len f 0 n k k y h (omega arith) ∙ sym (others k h other)
     ])

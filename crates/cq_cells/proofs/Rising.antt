@@ -1,4 +1,6 @@
--- The cells of an input arrive one after another: those of a packet in consecutive slots, and those of the next packet after them. Cells of two inputs have nothing to do with each other. So each arrival of the list is later than those before it at its input.
+-- The cells of an input arrive one after another: those of a packet in consecutive slots, and those of the next
+-- packet after them. Cells of two inputs have nothing to do with each other. So each arrival of the list is later
+-- than those before it at its input.
 use Rattle.std.proofs.Common.{◌≡◌, ℕ, zero, suc, ◌+◌, ◌*◌, ◌^◌, ◌<◌, ◌≤◌, List, [], ◌∷◌, ◌++◌, length, map, filter, flat_map, refl, sym, ap, ◌∙◌, arith}
 use Rattle.std.specs.List.{AllByRecursion, AllPairs, range_with_len}
 use Rattle.std.proofs.lemmas.List.{length-append}
@@ -20,37 +22,53 @@ use Rattle.cq_cells.proofs.Owned.{AllFrom, counted, end_of-append}
 use Rattle.cq_cells.proofs.Packets.{few_by, early_by, ends_before}
 
 -- what holds of two lists' items holds of all
-pub all_append : (P : Arrival → Type 0) (xs ys : List Arrival) → AllByRecursion P xs → AllByRecursion P ys → AllByRecursion P (xs ++ ys)
+pub all_append : (P : Arrival → Type 0) (xs ys : List Arrival) → AllByRecursion P xs → AllByRecursion P ys →
+    AllByRecursion P (xs ++ ys)
 all_append P [] ys a b = b
 all_append P (x ∷ xs) ys a b = (a.0, all_append P xs ys a.1 b)
 
 -- what holds for each number holds of all
-pub all_flat : (P : Arrival → Type 0) (f : ℕ → List Arrival) (a n : ℕ) → ((k : ℕ) → a ≤ k → k < a + n → AllByRecursion P (f k)) → AllByRecursion P (flat_map f (range_with_len a n))
+pub all_flat : (P : Arrival → Type 0) (f : ℕ → List Arrival) (a n : ℕ) →
+    ((k : ℕ) → a ≤ k → k < a + n → AllByRecursion P (f k)) → AllByRecursion P (flat_map f (range_with_len a n))
 all_flat P f a zero h = tt
-all_flat P f a (suc n) h = all_append P (f a) (flat_map f (range_with_len (a + 1) n)) (h a (omega arith) (omega arith)) (all_flat P f (a + 1) n (λ k b e. h k (omega arith) (omega arith)))
+all_flat P f a (suc n) h =
+    all_append P (f a) (flat_map f (range_with_len (a + 1) n)) (h a (omega arith) (omega arith))
+    (all_flat P f (a + 1) n (λ k b e. h k (omega arith) (omega arith)))
 
-all_pieces : (P : Arrival → Type 0) (s : ℕ) (f : ℕ → Cell) (a n : ℕ) → ((k : ℕ) → P (piece s f k)) → AllByRecursion P (map (piece s f) (range_with_len a n))
+all_pieces : (P : Arrival → Type 0) (s : ℕ) (f : ℕ → Cell) (a n : ℕ) → ((k : ℕ) → P (piece s f k)) →
+    AllByRecursion P (map (piece s f) (range_with_len a n))
 all_pieces P s f a zero h = tt
 all_pieces P s f a (suc n) h = (h a, all_pieces P s f (a + 1) n h)
 
-pub all_each : (P Q : Arrival → Type 0) (xs : List Arrival) → ((a : Arrival) → P a → Q a) → AllByRecursion P xs → AllByRecursion Q xs
+pub all_each : (P Q : Arrival → Type 0) (xs : List Arrival) → ((a : Arrival) → P a → Q a) → AllByRecursion P xs →
+    AllByRecursion Q xs
 all_each P Q [] h a = tt
 all_each P Q (x ∷ xs) h a = (h x a.0, all_each P Q xs h a.1)
 
 -- the arrivals of an input come to it
-pub own_input : (t : Tables) (captures : List (List Captured)) (input : ℕ) → AllFrom input (arrivals_at t captures input)
+pub own_input : (t : Tables) (captures : List (List Captured)) (input : ℕ) →
+    AllFrom input (arrivals_at t captures input)
 unfolding arrivals_at cell_of
 own_input t captures input =
-    all_flat (λ (a : Arrival). a.cell.id.input ≡ input) (arrivals_of t captures input) 0 (length (packets_of captures input))
-    (λ k b h. all_pieces (λ (a : Arrival). a.cell.id.input ≡ input) (start t captures input k) (cell_of t captures input k) 0 (cells t captures input k) (λ i. refl))
+    all_flat (λ (a : Arrival). a.cell.id.input ≡ input) (arrivals_of t captures input) 0
+    (length (packets_of captures input))
+    (λ k b h. all_pieces (λ (a : Arrival). a.cell.id.input ≡ input) (start t captures input k)
+    (cell_of t captures input k) 0 (cells t captures input k) (λ i. refl))
 
 -- in range
-input_in_range : (t : Tables) (captures : List (List Captured)) (input : ℕ) → AreTables t → input < ports_of t.setup → AllByRecursion (IsInRange (ports_of t.setup) (classes_of t.setup)) (arrivals_at t captures input)
+input_in_range : (t : Tables) (captures : List (List Captured)) (input : ℕ) → AreTables t → input < ports_of t.setup →
+    AllByRecursion (IsInRange (ports_of t.setup) (classes_of t.setup)) (arrivals_at t captures input)
 unfolding arrivals_at cell_of
 input_in_range t captures input a inside =
-    all_flat (IsInRange (ports_of t.setup) (classes_of t.setup)) (arrivals_of t captures input) 0 (length (packets_of captures input))
-    (λ k b h. all_pieces (IsInRange (ports_of t.setup) (classes_of t.setup)) (start t captures input k) (cell_of t captures input k) 0 (cells t captures input k)
-    (λ i. record { input = inside; output = route_output t input (packet_at captures input k).body a; class = route_class t input (packet_at captures input k).body a }))
+    all_flat (IsInRange (ports_of t.setup) (classes_of t.setup)) (arrivals_of t captures input) 0
+    (length (packets_of captures input))
+    (λ k b h. all_pieces (IsInRange (ports_of t.setup) (classes_of t.setup)) (start t captures input k)
+    (cell_of t captures input k) 0 (cells t captures input k)
+    (λ i. record {
+      input = inside;
+      output = route_output t input (packet_at captures input k).body a;
+      class = route_class t input (packet_at captures input k).body a;
+    }))
 
 -- the slots rise, from this one or a later one on
 abbrev Rises : ℕ → List Arrival → Type 0
@@ -62,24 +80,34 @@ rises_from [] t u h r = tt
 rises_from (a ∷ came) t u h r = let b : u ≤ a.slot = r.0 in (omega arith, r.1)
 
 -- cells in consecutive slots, and then cells that come later
-rises_pieces : (s : ℕ) (f : ℕ → Cell) (i n : ℕ) (rest : List Arrival) → Rises (s + (i + n)) rest → Rises (s + i) (map (piece s f) (range_with_len i n) ++ rest)
+rises_pieces : (s : ℕ) (f : ℕ → Cell) (i n : ℕ) (rest : List Arrival) → Rises (s + (i + n)) rest →
+    Rises (s + i) (map (piece s f) (range_with_len i n) ++ rest)
 rises_pieces s f i zero rest r = rises_from rest (s + i) (s + (i + 0)) (omega arith) r
-rises_pieces s f i (suc n) rest r =
-    (omega arith, rises_from _ (s + i + 1) (s + (i + 1)) (omega arith) (rises_pieces s f (i + 1) n rest (rises_from rest (s + (i + 1 + n)) (s + (i + suc n)) (omega arith) r)))
+rises_pieces s f i (suc n) rest r = (
+  omega arith,
+  rises_from _ (s + i + 1) (s + (i + 1)) (omega arith) (rises_pieces s f (i + 1) n rest
+      (rises_from rest (s + (i + 1 + n)) (s + (i + suc n)) (omega arith) r)),
+)
 
-packets_rise : (t : Tables) (captures : List (List Captured)) (input k n : ℕ) → Rises (start t captures input k) (flat_map (arrivals_of t captures input) (range_with_len k n))
+packets_rise : (t : Tables) (captures : List (List Captured)) (input k n : ℕ) →
+    Rises (start t captures input k) (flat_map (arrivals_of t captures input) (range_with_len k n))
 packets_rise t captures input k zero = tt
 packets_rise t captures input k (suc n) =
-    let later : Rises (start t captures input (k + 1)) (flat_map (arrivals_of t captures input) (range_with_len (k + 1) n)) = packets_rise t captures input (k + 1) n in
+    let later : Rises (start t captures input (k + 1))
+    (flat_map (arrivals_of t captures input) (range_with_len (k + 1) n)) =
+    packets_rise t captures input (k + 1) n in
     rises_from _ (start t captures input k) (start t captures input k + 0) (omega arith)
-    (rises_pieces (start t captures input k) (cell_of t captures input k) 0 (cells t captures input k) _ (rises_from _ (start t captures input k + (0 + cells t captures input k)) (start t captures input (k + 1)) (omega (arith, ends_before t captures input k (k + 1) (omega arith))) later))
+    (rises_pieces (start t captures input k) (cell_of t captures input k) 0 (cells t captures input k) _
+    (rises_from _ (start t captures input k + (0 + cells t captures input k)) (start t captures input (k + 1))
+    (omega (arith, ends_before t captures input k (k + 1) (omega arith))) later))
 
 -- each is later than those before it
 abbrev EachLater : List Arrival → Type 0
 EachLater [] = Unit {0}
 EachLater (a ∷ came) = AllByRecursion (IsLater a) came × EachLater came
 
-later_all : (a : Arrival) (came : List Arrival) (slot : ℕ) → a.slot < slot → Rises slot came → AllByRecursion (IsLater a) came
+later_all : (a : Arrival) (came : List Arrival) (slot : ℕ) → a.slot < slot → Rises slot came →
+    AllByRecursion (IsLater a) came
 later_all a [] slot h r = tt
 later_all a (b ∷ came) slot h r =
     let from : slot ≤ b.slot = r.0 in
@@ -91,46 +119,64 @@ later_rising [] slot r = tt
 later_rising (a ∷ came) slot r = (later_all a came (a.slot + 1) (omega arith) r.1, later_rising came (a.slot + 1) r.1)
 
 -- the arrivals of other inputs follow
-later_append : (i : ℕ) (xs ys : List Arrival) → EachLater xs → EachLater ys → AllFrom i xs → AllByRecursion (λ (b : Arrival). i < b.cell.id.input) ys → EachLater (xs ++ ys)
+later_append : (i : ℕ) (xs ys : List Arrival) → EachLater xs → EachLater ys → AllFrom i xs →
+    AllByRecursion (λ (b : Arrival). i < b.cell.id.input) ys → EachLater (xs ++ ys)
 later_append i [] ys l m own others = m
 later_append i (x ∷ xs) ys l m own others =
-    let its : x.cell.id.input ≡ i = own.0 in
-    (all_append (IsLater x) xs ys l.0 (all_each (λ (b : Arrival). i < b.cell.id.input) (IsLater x) ys (λ b h e. absurd (omega arith)) others), later_append i xs ys l.1 m own.1 others)
+    let its : x.cell.id.input ≡ i = own.0 in (
+      all_append (IsLater x) xs ys l.0 (all_each (λ (b : Arrival). i < b.cell.id.input) (IsLater x) ys
+          (λ b h e. absurd (omega arith)) others),
+      later_append i xs ys l.1 m own.1 others,
+    )
 
-inputs_after : (t : Tables) (captures : List (List Captured)) (i a n : ℕ) → i < a → AllByRecursion (λ (b : Arrival). i < b.cell.id.input) (flat_map (arrivals_at t captures) (range_with_len a n))
+inputs_after : (t : Tables) (captures : List (List Captured)) (i a n : ℕ) → i < a →
+    AllByRecursion (λ (b : Arrival). i < b.cell.id.input) (flat_map (arrivals_at t captures) (range_with_len a n))
 inputs_after t captures i a n h =
     all_flat (λ (b : Arrival). i < b.cell.id.input) (arrivals_at t captures) a n
-    (λ k f e. all_each (λ (b : Arrival). b.cell.id.input ≡ k) (λ (b : Arrival). i < b.cell.id.input) (arrivals_at t captures k) (λ b same. omega arith) (own_input t captures k))
+    (λ k f e. all_each (λ (b : Arrival). b.cell.id.input ≡ k) (λ (b : Arrival). i < b.cell.id.input)
+    (arrivals_at t captures k) (λ b same. omega arith) (own_input t captures k))
 
 line_later : (t : Tables) (captures : List (List Captured)) (input : ℕ) → EachLater (arrivals_at t captures input)
 unfolding arrivals_at
-line_later t captures input = later_rising _ (start t captures input 0) (packets_rise t captures input 0 (length (packets_of captures input)))
+line_later t captures input =
+    later_rising _ (start t captures input 0) (packets_rise t captures input 0 (length (packets_of captures input)))
 
-lines_later : (t : Tables) (captures : List (List Captured)) (a n : ℕ) → EachLater (flat_map (arrivals_at t captures) (range_with_len a n))
+lines_later : (t : Tables) (captures : List (List Captured)) (a n : ℕ) →
+    EachLater (flat_map (arrivals_at t captures) (range_with_len a n))
 lines_later t captures a zero = tt
 lines_later t captures a (suc n) =
-    later_append a (arrivals_at t captures a) (flat_map (arrivals_at t captures) (range_with_len (a + 1) n)) (line_later t captures a) (lines_later t captures (a + 1) n) (own_input t captures a) (inputs_after t captures a (a + 1) n (omega arith))
+    later_append a (arrivals_at t captures a) (flat_map (arrivals_at t captures) (range_with_len (a + 1) n))
+    (line_later t captures a) (lines_later t captures (a + 1) n) (own_input t captures a)
+    (inputs_after t captures a (a + 1) n (omega arith))
 
 pairs_later : (came : List Arrival) → EachLater came → AllPairs IsLater came
 pairs_later [] l = λ i j d b h. absurd (omega arith)
 pairs_later (a ∷ came) l = AllPairs-cons IsLater a came (All-from_recursion (IsLater a) came l.0) (pairs_later came l.1)
 
-pub traffic_is : (t : Tables) (captures : List (List Captured)) → AreTables t → length captures ≡ ports_of t.setup → IsTraffic (ports_of t.setup) (classes_of t.setup) (arrivals t captures)
+pub traffic_is : (t : Tables) (captures : List (List Captured)) → AreTables t → length captures ≡ ports_of t.setup →
+    IsTraffic (ports_of t.setup) (classes_of t.setup) (arrivals t captures)
 unfolding arrivals
 traffic_is t captures a ports = record {
-  in_range = all_flat (IsInRange (ports_of t.setup) (classes_of t.setup)) (arrivals_at t captures) 0 (length captures) (λ k b h. input_in_range t captures k a (omega arith));
+  in_range =
+      all_flat (IsInRange (ports_of t.setup) (classes_of t.setup)) (arrivals_at t captures) 0 (length captures)
+      (λ k b h. input_in_range t captures k a (omega arith));
   one_by_one = pairs_later _ (lines_later t captures 0 (length captures));
 }
 
 -- a line is short
-line_few : (t : Tables) (captures : List (List Captured)) (input : ℕ) → 1 ≤ t.cell_bytes → IsRecorded (packets_of captures input) → (length (arrivals_at t captures input) ≤ 2 ^ 28) × (end_of (arrivals_at t captures input) ≤ 2 ^ 63 + 2 ^ 28)
+line_few : (t : Tables) (captures : List (List Captured)) (input : ℕ) → 1 ≤ t.cell_bytes →
+    IsRecorded (packets_of captures input) →
+    (length (arrivals_at t captures input) ≤ 2 ^ 28) × (end_of (arrivals_at t captures input) ≤ 2 ^ 63 + 2 ^ 28)
 unfolding arrivals_at
 line_few t captures input some r =
     let few = few_by t captures input (length (packets_of captures input)) some r (omega arith) in
     let early = early_by t captures input (length (packets_of captures input)) r (omega arith) in
     (few, omega arith)
 
-lines_few : (t : Tables) (captures : List (List Captured)) (a n : ℕ) → 1 ≤ t.cell_bytes → ((i : ℕ) → i < a + n → IsRecorded (packets_of captures i)) → (length (flat_map (arrivals_at t captures) (range_with_len a n)) ≤ n * 2 ^ 28) × (end_of (flat_map (arrivals_at t captures) (range_with_len a n)) ≤ 2 ^ 63 + 2 ^ 28)
+lines_few : (t : Tables) (captures : List (List Captured)) (a n : ℕ) → 1 ≤ t.cell_bytes →
+    ((i : ℕ) → i < a + n → IsRecorded (packets_of captures i)) →
+    (length (flat_map (arrivals_at t captures) (range_with_len a n)) ≤ n * 2 ^ 28)
+    × (end_of (flat_map (arrivals_at t captures) (range_with_len a n)) ≤ 2 ^ 63 + 2 ^ 28)
 lines_few t captures a zero some r = (omega arith, omega arith)
 lines_few t captures a (suc n) some r =
     let first = line_few t captures a some (r a (omega arith)) in
@@ -139,7 +185,8 @@ lines_few t captures a (suc n) some r =
     let ys : List Arrival = flat_map (arrivals_at t captures) (range_with_len (a + 1) n) in
     (omega (arith, length-append xs ys), omega (arith, end_of-append xs ys))
 
-pub short_is : (t : Tables) (captures : List (List Captured)) → AreTables t → length captures ≡ ports_of t.setup → ((i : ℕ) → i < length captures → IsRecorded (packets_of captures i)) → IsShort (arrivals t captures)
+pub short_is : (t : Tables) (captures : List (List Captured)) → AreTables t → length captures ≡ ports_of t.setup →
+    ((i : ℕ) → i < length captures → IsRecorded (packets_of captures i)) → IsShort (arrivals t captures)
 unfolding arrivals enough
 short_is t captures a ports r =
     let few = lines_few t captures 0 (length captures) a.cell_bytes.0 (λ i h. r i (omega arith)) in
@@ -147,13 +194,17 @@ short_is t captures a ports r =
     omega arith
 
 -- the lines of the inputs
-pub own_lines : (t : Tables) (captures : List (List Captured)) (a n : ℕ) → AreOwn a (map (arrivals_at t captures) (range_with_len a n))
+pub own_lines : (t : Tables) (captures : List (List Captured)) (a n : ℕ) →
+    AreOwn a (map (arrivals_at t captures) (range_with_len a n))
 own_lines t captures a zero = tt
 own_lines t captures a (suc n) = (own_input t captures a, own_lines t captures (a + 1) n)
 
-pub all_lines : (t : Tables) (captures : List (List Captured)) (lines : List (List Arrival)) → lines ≡ map (arrivals_at t captures) (range_with_len 0 (length captures)) → all_of lines ≡ arrivals t captures
+pub all_lines : (t : Tables) (captures : List (List Captured)) (lines : List (List Arrival)) →
+    lines ≡ map (arrivals_at t captures) (range_with_len 0 (length captures)) → all_of lines ≡ arrivals t captures
 unfolding arrivals
-all_lines t captures lines e = ap (λ (ls : List (List Arrival)). all_of ls) e ∙ flat_map-map (λ (line : List Arrival). line) (arrivals_at t captures) (range_with_len 0 (length captures))
+all_lines t captures lines e =
+    ap (λ (ls : List (List Arrival)). all_of ls) e
+    ∙ flat_map-map (λ (line : List Arrival). line) (arrivals_at t captures) (range_with_len 0 (length captures))
 
 -- so the arrivals at an input are those of its line
 pub at_input : (t : Tables) (captures : List (List Captured)) (input : ℕ) → input < length captures →

@@ -21,15 +21,22 @@ reduce-append (m ∷ ms) [] = ap (λ ns. Some (fold min m ns)) (append-nil ms)
 reduce-append (m ∷ ms) (n ∷ ns) = ap (λ k. Some k) (fold-append min m ms (n ∷ ns) ∙ fold_min (fold min m ms) n ns)
 
 -- row by row the stamps are those of the packets
-pub map-rows_from : (place : ℕ) (ps : List Captured) → map (λ (row : PacketRow). row.stamp) (rows_from place ps) ≡ map (λ (p : Captured). p.stamp) ps
+pub map-rows_from : (place : ℕ) (ps : List Captured) →
+    map (λ (row : PacketRow). row.stamp) (rows_from place ps) ≡ map (λ (p : Captured). p.stamp) ps
 map-rows_from place [] = refl
 map-rows_from place (p ∷ ps) = ap (λ (ns : List ℕ). p.stamp ∷ ns) (map-rows_from (place + 16 + length p.body) ps)
 
 -- the stamps of one capture more
-pub stamps_more : (captures : List (List Captured)) (i : ℕ) (d : List Captured) → i < length captures → reduce min (stamps_of (take (i + 1) captures)) ≡ earlier (reduce min (stamps_of (take i captures))) (reduce min (map (λ p. p.stamp) (slice_index_or captures i d)))
+pub stamps_more : (captures : List (List Captured)) (i : ℕ) (d : List Captured) → i < length captures →
+    reduce min (stamps_of (take (i + 1) captures))
+    ≡ earlier (reduce min (stamps_of (take i captures))) (reduce min
+    (map (λ p. p.stamp) (slice_index_or captures i d)))
 stamps_more captures i d h =
     ap (λ (cs : List (List Captured)). reduce min (stamps_of cs)) (take_more captures i d h)
-    ∙ ap (λ (ns : List ℕ). reduce min ns) (flat_map-append (λ (ps : List Captured). map (λ p. p.stamp) ps) (take i captures) (slice_index_or captures i d ∷ []) ∙ ap (λ ns. stamps_of (take i captures) ++ ns) (append-nil (map (λ p. p.stamp) (slice_index_or captures i d))))
+    ∙ ap (λ (ns : List ℕ). reduce min ns) (flat_map-append (λ (ps : List Captured). map (λ p. p.stamp) ps)
+    (take i captures) (slice_index_or captures i d ∷ [])
+    ∙ ap (λ ns. stamps_of (take i captures) ++ ns) (append-nil
+    (map (λ p. p.stamp) (slice_index_or captures i d))))
     ∙ reduce-append (stamps_of (take i captures)) (map (λ p. p.stamp) (slice_index_or captures i d))
 
 pub length-rows_from : (place : ℕ) (ps : List Captured) → length (rows_from place ps) ≡ length ps
@@ -41,13 +48,15 @@ pub record IsRowOf (p : Captured) (row : PacketRow) : Type 0 where
   pub stamp : row.stamp ≡ p.stamp
   pub len : row.len ≡ length p.body
 
-pub row_is_of : (place : ℕ) (ps : List Captured) (k : ℕ) (d : PacketRow) (e : Captured) → k < length ps → IsRowOf (slice_index_or ps k e) (slice_index_or (rows_from place ps) k d)
+pub row_is_of : (place : ℕ) (ps : List Captured) (k : ℕ) (d : PacketRow) (e : Captured) → k < length ps →
+    IsRowOf (slice_index_or ps k e) (slice_index_or (rows_from place ps) k d)
 row_is_of place [] k d e h = absurd (omega arith)
 row_is_of place (p ∷ ps) zero d e h = record { stamp = refl; len = refl }
 row_is_of place (p ∷ ps) (suc k) d e h = row_is_of (place + 16 + length p.body) ps k d e (omega arith)
 
 -- what holds of the packet at a place holds of packet k
-pub at_packet : (P : Captured → Type 0) (ps : List Captured) (k : ℕ) (e : Captured) → k < length ps → IfSome (slice_get ps k) P → P (slice_index_or ps k e)
+pub at_packet : (P : Captured → Type 0) (ps : List Captured) (k : ℕ) (e : Captured) → k < length ps →
+    IfSome (slice_get ps k) P → P (slice_index_or ps k e)
 at_packet P [] k e h i = absurd (omega arith)
 at_packet P (p ∷ ps) zero e h i = i
 at_packet P (p ∷ ps) (suc k) e h i = at_packet P ps k e (omega arith) i

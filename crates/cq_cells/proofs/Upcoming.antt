@@ -1,6 +1,6 @@
--- The next slot with an arrival. At one input the packets that have arrived whole before a slot stand first. Of the others
--- the first one begins first, and its cells come one a slot. So the slot itself has a cell where that packet has begun, and
--- else the slot in which it begins is the next one. Of several inputs the earliest counts.
+-- The next slot with an arrival. At one input the packets that have arrived whole before a slot stand first. Of the
+-- others the first one begins first, and its cells come one a slot. So the slot itself has a cell where that packet
+-- has begun, and else the slot in which it begins is the next one. Of several inputs the earliest counts.
 use Rattle.std.proofs.Common.{◌≡◌, ℕ, zero, suc, ◌+◌, ◌-◌, ◌<◌, ◌≤◌, max, min, leb, Bool, true, false, List, [], ◌∷◌, ◌++◌, length, map, flat_map, slice_index_or, Option, Some, None, ap, sym, ◌∙◌, inl, inr, subst, arith, tests}
 use Rattle.std.specs.List.{AllByRecursion, range_with_len}
 use Rattle.std.specs.List.Sorted.{IsPartitionPoint, IsPartitionedBy}
@@ -24,7 +24,8 @@ has_ended slot row = leb row.cells (slot - row.start)
 
 module _ (cell_bytes : ℕ) (rows : List Row) (are : AreRows cell_bytes rows) where
   some_cells : (k : ℕ) → k < length rows → 0 < (row_at rows k).cells
-  some_cells k inside = let cut = are.cut k inside in let some = cells_above (row_at rows k).len cell_bytes in omega arith
+  some_cells k inside =
+      let cut = are.cut k inside in let some = cells_above (row_at rows k).len cell_bytes in omega arith
 
   ended_by : (slot k : ℕ) (d : Row) → k < length rows → has_ended slot (slice_index_or rows k d) ≡ true →
       (row_at rows k).start + (row_at rows k).cells ≤ slot
@@ -46,7 +47,8 @@ module _ (cell_bytes : ℕ) (rows : List Row) (are : AreRows cell_bytes rows) wh
   pub parted_by_end : (slot : ℕ) → IsPartitionedBy (has_ended slot) rows
   parted_by_end slot i j d le inside test =
       elim (cases_eq i j) [
-        | inl same ↦ let P : ℕ → Type 0 = λ k. has_ended slot (slice_index_or rows k d) ≡ true in subst P (sym same) test
+        | inl same ↦ let P : ℕ → Type 0 = λ k. has_ended slot (slice_index_or rows k d) ≡ true in
+            subst P (sym same) test
         | inr other ↦
             let ended = ended_by slot j d inside test in
             let apart = are.apart i j (omega arith) inside in
@@ -57,7 +59,8 @@ module _ (cell_bytes : ℕ) (rows : List Row) (are : AreRows cell_bytes rows) wh
       ]
 
   pub ended_from_partition : (slot n : ℕ) → n ≤ length rows →
-      IsPartitionPoint (λ row. has_ended slot row ≡ true) (λ row. has_ended slot row ≡ false) rows n → IsEnded rows slot n
+      IsPartitionPoint (λ row. has_ended slot row ≡ true) (λ row. has_ended slot row ≡ false) rows n →
+      IsEnded rows slot n
   ended_from_partition slot n few point = record {
     before = λ k h. ended_by slot k no_row (omega arith) (point.0 k no_row (omega arith) h);
     after = λ k b h. not_ended_by slot k no_row h (point.1 k no_row b h);
@@ -79,7 +82,8 @@ arrives_flat : (slot : ℕ) (f : ℕ → List Arrival) (a n k : ℕ) → a ≤ k
 arrives_flat slot f a zero k from to at = absurd (omega arith)
 arrives_flat slot f a (suc n) k from to at =
     elim (cases_eq k a) [
-      | inl same ↦ arrives_first slot (f a) (flat_map f (range_with_len (a + 1) n)) (subst (λ (j : ℕ). ArrivesIn slot (f j)) same at)
+      | inl same ↦ arrives_first slot (f a) (flat_map f (range_with_len (a + 1) n))
+          (subst (λ (j : ℕ). ArrivesIn slot (f j)) same at)
       | inr other ↦ arrives_second slot (f a) (flat_map f (range_with_len (a + 1) n))
           (arrives_flat slot f (a + 1) n k (omega arith) (omega arith) at)
     ]
@@ -105,7 +109,8 @@ module _ (input cell_bytes : ℕ) (rows : List Row) (from n : ℕ) (ended : IsEn
   pub line_done : length rows ≡ n → AllByRecursion (λ a. a.slot < from) (line_arrivals input cell_bytes rows)
   unfolding line_arrivals
   line_done all =
-      all_flat (λ (a : Arrival). a.slot < from) (λ (k : ℕ). row_arrivals input cell_bytes k (row_at rows k)) 0 (length rows)
+      all_flat (λ (a : Arrival). a.slot < from) (λ (k : ℕ). row_arrivals input cell_bytes k (row_at rows k)) 0
+      (length rows)
       (λ k low high.
       let before = ended.before k (omega arith) in
       each_piece (λ (a : Arrival). a.slot < from) (row_at rows k).start (row_cell input cell_bytes k (row_at rows k)) 0
@@ -122,7 +127,8 @@ module _ (input cell_bytes : ℕ) (rows : List Row) (from n : ℕ) (ended : IsEn
       record {
         late = omega arith;
         arrives = arrives_flat slot cells 0 (length rows) n (omega arith) (omega arith)
-            (arrives_piece slot (row_at rows n).start (row_cell input cell_bytes n (row_at rows n)) 0 (row_at rows n).cells
+            (arrives_piece slot (row_at rows n).start (row_cell input cell_bytes n (row_at rows n)) 0
+            (row_at rows n).cells
             (slot - (row_at rows n).start) (omega arith) (omega arith) (omega arith));
         none_before = all_flat P cells 0 (length rows) (λ k low high.
             each_piece P (row_at rows k).start (row_cell input cell_bytes k (row_at rows k)) 0 (row_at rows k).cells
@@ -136,7 +142,8 @@ module _ (input cell_bytes : ℕ) (rows : List Row) (from n : ℕ) (ended : IsEn
           elim (cases_lt k n) [
             | inl before ↦ let over = ended.before k before in absurd (omega arith)
             | inr after ↦ elim (cases_eq n k) [
-              | inl same ↦ subst (λ (j : ℕ). from ≤ (row_at rows j).start + i → slot ≤ (row_at rows j).start + i) same (λ had. omega arith) at
+              | inl same ↦ subst (λ (j : ℕ). from ≤ (row_at rows j).start + i → slot ≤ (row_at rows j).start + i) same
+                  (λ had. omega arith) at
               | inr other ↦ let apart = are.apart n k (omega arith) within in omega arith
             ]
           ]
@@ -146,7 +153,8 @@ module _ (input cell_bytes : ℕ) (rows : List Row) (from n : ℕ) (ended : IsEn
 all_earlier : (from t : ℕ) (xs : List Arrival) → AllByRecursion (λ a. a.slot < from) xs →
     AllByRecursion (λ a. from ≤ a.slot → t ≤ a.slot) xs
 all_earlier from t xs all =
-    all_each (λ (a : Arrival). a.slot < from) (λ (a : Arrival). from ≤ a.slot → t ≤ a.slot) xs (λ a early late. absurd (omega arith)) all
+    all_each (λ (a : Arrival). a.slot < from) (λ (a : Arrival). from ≤ a.slot → t ≤ a.slot) xs
+    (λ a early late. absurd (omega arith)) all
 
 all_as_late : (from s t : ℕ) (xs : List Arrival) → t ≤ s → AllByRecursion (λ a. from ≤ a.slot → s ≤ a.slot) xs →
     AllByRecursion (λ a. from ≤ a.slot → t ≤ a.slot) xs
@@ -154,18 +162,21 @@ all_as_late from s t xs le all =
     all_each (λ (a : Arrival). from ≤ a.slot → s ≤ a.slot) (λ (a : Arrival). from ≤ a.slot → t ≤ a.slot) xs
     (λ a had late. let as_late = had late in omega arith) all
 
-pub next_of_both : (from : ℕ) (xs ys : List Arrival) (s t : Option ℕ) → IsNextArrival xs from s → IsNextArrival ys from t →
+pub next_of_both : (from : ℕ) (xs ys : List Arrival) (s t : Option ℕ) → IsNextArrival xs from s →
+    IsNextArrival ys from t →
     IsNextArrival (xs ++ ys) from (earlier s t)
 next_of_both from xs ys None None first second = all_append (λ (a : Arrival). a.slot < from) xs ys first second
 next_of_both from xs ys None (Some t) first second = record {
   late = second.late;
   arrives = arrives_second t xs ys second.arrives;
-  none_before = all_append (λ (a : Arrival). from ≤ a.slot → t ≤ a.slot) xs ys (all_earlier from t xs first) second.none_before;
+  none_before =
+      all_append (λ (a : Arrival). from ≤ a.slot → t ≤ a.slot) xs ys (all_earlier from t xs first) second.none_before;
 }
 next_of_both from xs ys (Some s) None first second = record {
   late = first.late;
   arrives = arrives_first s xs ys first.arrives;
-  none_before = all_append (λ (a : Arrival). from ≤ a.slot → s ≤ a.slot) xs ys first.none_before (all_earlier from s ys second);
+  none_before =
+      all_append (λ (a : Arrival). from ≤ a.slot → s ≤ a.slot) xs ys first.none_before (all_earlier from s ys second);
 }
 next_of_both from xs ys (Some s) (Some t) first second = record {
   late = let a = first.late in let b = second.late in omega arith;

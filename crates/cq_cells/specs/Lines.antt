@@ -20,7 +20,8 @@ row_cell input cell_bytes k row i = record {
 
 -- the arrivals of packet k, by its row
 abbrev pub row_arrivals : ℕ → ℕ → ℕ → Row → List Arrival
-row_arrivals input cell_bytes k row = map (λ i. record { slot = row.start + i; cell = row_cell input cell_bytes k row i }) (range_with_len 0 row.cells)
+row_arrivals input cell_bytes k row =
+    map (λ i. record { slot = row.start + i; cell = row_cell input cell_bytes k row i }) (range_with_len 0 row.cells)
 
 -- row k, or one without cells where there is none
 abbrev pub row_at : List Row → ℕ → Row
@@ -28,15 +29,18 @@ row_at rows k = slice_index_or rows k (record { start = 0; cells = 0; output = 0
 
 -- the arrivals of a line
 unfoldable pub line_arrivals : ℕ → ℕ → List Row → List Arrival
-line_arrivals input cell_bytes rows = flat_map (λ k. row_arrivals input cell_bytes k (row_at rows k)) (range_with_len 0 (length rows))
+line_arrivals input cell_bytes rows =
+    flat_map (λ k. row_arrivals input cell_bytes k (row_at rows k)) (range_with_len 0 (length rows))
 
--- rows that can be looked up: their packets are cut by the rule, and each begins where the one before it has ended, or later
+-- rows that can be looked up: their packets are cut by the rule, and each begins where the one before it has ended,
+-- or later
 pub record AreRows (cell_bytes : ℕ) (rows : List Row) : Type 0 where
   pub some : 1 ≤ cell_bytes
   pub few : length rows < 2 ^ 32
   pub small : (k : ℕ) → k < length rows → (row_at rows k).cells < 2 ^ 32
   pub cut : (k : ℕ) → k < length rows → (row_at rows k).cells ≡ cells_of (row_at rows k).len cell_bytes
-  pub apart : (j k : ℕ) → j < k → k < length rows → (row_at rows j).start + (row_at rows j).cells ≤ (row_at rows k).start
+  pub apart : (j k : ℕ) → j < k → k < length rows →
+      (row_at rows j).start + (row_at rows j).cells ≤ (row_at rows k).start
 
 -- the packets below place n have begun in the slot, and no other has
 pub record IsBegun (rows : List Row) (slot n : ℕ) : Type 0 where
@@ -69,4 +73,5 @@ pub record AreCounted (lines : List (List Arrival)) (total end : ℕ) (to_output
 
 -- the counts of the cells for each output, after those of these arrivals were added
 abbrev pub AreAdded : List Arrival → List ℕ → List ℕ → Type 0
-AreAdded came old new = (j : ℕ) → j < length old → slice_index_or new j 0 ≡ slice_index_or old j 0 + number_of (is_to j) came
+AreAdded came old new =
+    (j : ℕ) → j < length old → slice_index_or new j 0 ≡ slice_index_or old j 0 + number_of (is_to j) came

@@ -50,12 +50,15 @@ stamp_slot t captures input k = ((packet_at captures input k).stamp - first_stam
 unfoldable pub cells : Tables → List (List Captured) → ℕ → ℕ → ℕ
 cells t captures input k = cells_of (length (packet_at captures input k).body) t.cell_bytes
 
--- the slot in which packet k begins to arrive: that of its stamp, or a later one while the packet before it still arrives
+-- the slot in which packet k begins to arrive: that of its stamp, or a later one while the packet before it still
+-- arrives
 unfoldable pub start : Tables → List (List Captured) → ℕ → ℕ → ℕ
 start t captures input zero = stamp_slot t captures input zero
-start t captures input (suc k) = max (stamp_slot t captures input (suc k)) (start t captures input k + cells t captures input k)
+start t captures input (suc k) =
+    max (stamp_slot t captures input (suc k)) (start t captures input k + cells t captures input k)
 
--- cell i of packet k: the piece of the captured frame from i * cell_bytes up to the next piece, or to the frame's end, on the packet's route
+-- cell i of packet k: the piece of the captured frame from i * cell_bytes up to the next piece, or to the frame's
+-- end, on the packet's route
 unfoldable pub cell_of : Tables → List (List Captured) → ℕ → ℕ → ℕ → Cell
 cell_of t captures input k i = record {
   id = record { input = input; packet = k; index = i };
@@ -68,11 +71,14 @@ cell_of t captures input k i = record {
 
 -- the arrivals of packet k: its cells in consecutive slots, from its start on
 abbrev pub arrivals_of : Tables → List (List Captured) → ℕ → ℕ → List Arrival
-arrivals_of t captures input k = map (λ i. record { slot = start t captures input k + i; cell = cell_of t captures input k i }) (range_with_len 0 (cells t captures input k))
+arrivals_of t captures input k =
+    map (λ i. record { slot = start t captures input k + i; cell = cell_of t captures input k i })
+    (range_with_len 0 (cells t captures input k))
 
 -- the arrivals at an input, packet after packet
 unfoldable pub arrivals_at : Tables → List (List Captured) → ℕ → List Arrival
-arrivals_at t captures input = flat_map (arrivals_of t captures input) (range_with_len 0 (length (packets_of captures input)))
+arrivals_at t captures input =
+    flat_map (arrivals_of t captures input) (range_with_len 0 (length (packets_of captures input)))
 
 -- all arrivals, input after input
 unfoldable pub arrivals : Tables → List (List Captured) → List Arrival

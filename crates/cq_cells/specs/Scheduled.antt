@@ -13,4 +13,5 @@ pub record Scheduled : Type 0 where
 
 -- the schedule of captures, one for each port
 abbrev pub schedule_of : Tables → List (List Captured) → Scheduled
-schedule_of t captures = record { first_stamp = first_stamp captures; ports = length captures; came = arrivals t captures }
+schedule_of t captures =
+    record { first_stamp = first_stamp captures; ports = length captures; came = arrivals t captures }

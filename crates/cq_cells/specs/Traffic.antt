@@ -14,7 +14,8 @@ pub record IsInRange (ports classes : ℕ) (a : Arrival) : Type 0 where
 abbrev pub IsLater : Arrival → Arrival → Type 0
 IsLater a b = a.cell.id.input ≡ b.cell.id.input → a.slot < b.slot
 
--- the cells that arrive at a switch of so many ports and classes: each is in range, and those of one input arrive one after another, in the order of the list
+-- the cells that arrive at a switch of so many ports and classes: each is in range, and those of one input arrive one
+-- after another, in the order of the list
 pub record IsTraffic (ports classes : ℕ) (came : List Arrival) : Type 0 where
   pub in_range : AllByRecursion (IsInRange ports classes) came
   pub one_by_one : AllPairs IsLater came

@@ -9,7 +9,9 @@ use Rattle.cq_pair.specs.Progress.{Progress, IsReached}
 use Rattle.cq_pair.proofs.Reached.{made-most}
 use Rattle.cq_crew.specs.Settling.{IsBestPhase}
 
-pub best-closed : (o : Orders) (l : LedgerState) (s : SeatState) (phase : Phase) → l.offers ≡ o → IsSeatOf l s → IsFew s.view → IsInputBest l.offers phase.matching → phase.proposals ≡ proposals l.offers phase.matching → phase.proposals ≡ s.view.made →
+pub best-closed : (o : Orders) (l : LedgerState) (s : SeatState) (phase : Phase) → l.offers ≡ o → IsSeatOf l s →
+    IsFew s.view → IsInputBest l.offers phase.matching → phase.proposals ≡ proposals l.offers phase.matching →
+    phase.proposals ≡ s.view.made →
     IsBestPhase o phase
 best-closed o l s phase same of few is_best counted made =
     let P : Orders → Type 0 = λ x. s.view.made ≤ ports x * ports x in
@@ -21,7 +23,9 @@ best-closed o l s phase same of few is_best counted made =
       few = omega arith;
     }
 
-pub best-settled : (o : Orders) → AreOffers o → (c : Progress) (phase : Phase) → phase.matching ≡ c.matching → phase.proposals ≡ c.made → IsReached o c → IsInputBest o c.matching → c.made ≡ proposals o c.matching → IsBestPhase o phase
+pub best-settled : (o : Orders) → AreOffers o → (c : Progress) (phase : Phase) → phase.matching ≡ c.matching →
+    phase.proposals ≡ c.made → IsReached o c → IsInputBest o c.matching → c.made ≡ proposals o c.matching →
+    IsBestPhase o phase
 best-settled o v c phase matching made reached is_best counted =
     let most = made-most o v c reached in
     let Q : Partners → Type 0 = λ m. IsInputBest o m in

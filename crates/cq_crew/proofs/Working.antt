@@ -40,7 +40,12 @@ pub grows-refused : (v : View) (i : ℕ) → Grows v (claim_refused v i)
 grows-refused v i = record { claims = λ q h. h; seen = λ q h. bit-left v.seen (2 ^ i) q h; made = omega arith }
 
 pub grows-joined : (v w : View) → Grows v (joined v w)
-grows-joined v w = record { claims = λ q h. bit-left v.claims w.claims q h; seen = λ q h. bit-left v.seen w.seen q h; made = omega arith }
+grows-joined v w =
+    record {
+      claims = λ q h. bit-left v.claims w.claims q h;
+      seen = λ q h. bit-left v.seen w.seen q h;
+      made = omega arith;
+    }
 
 -- ## What was tried
 
@@ -74,11 +79,13 @@ tried-around v w k n g above below i low high = go (cases_lt i k)
 
 -- ## Seats with an empty hand
 
-pub idle-after : (l : LedgerState) (u : View) (s t : SeatState) → IsIdleAfter l u s → IsIdleAfter l s.view t → IsIdleAfter l u t
+pub idle-after : (l : LedgerState) (u : View) (s t : SeatState) → IsIdleAfter l u s → IsIdleAfter l s.view t →
+    IsIdleAfter l u t
 idle-after l u s t a b = record { seat = b.seat; hand = b.hand; grows = grows-after u s.view t.view a.grows b.grows }
 
 -- a claim that found the input unclaimed, and the proposals after it
-pub idle-taken : (l : LedgerState) (v u : View) (s : SeatState) (i : ℕ) → u ≡ claim_taken v i → IsSeatOf l s → s.view.hand ≡ None → ProposesFor u s.view → IsIdleAfter l v s × HasTried s.view i
+pub idle-taken : (l : LedgerState) (v u : View) (s : SeatState) (i : ℕ) → u ≡ claim_taken v i → IsSeatOf l s →
+    s.view.hand ≡ None → ProposesFor u s.view → IsIdleAfter l v s × HasTried s.view i
 idle-taken l v u s i is of empty proposes =
     let P : View → Type 0 = λ x. Grows v x in
     let Q : View → Type 0 = λ x. HasTried x i in
@@ -88,17 +95,25 @@ idle-taken l v u s i is of empty proposes =
     (record { seat = of; hand = empty; grows = grows-after v u s.view first rest }, tried-grown u s.view rest i here)
 
 -- a claim that found it claimed
-pub idle-refused : (l : LedgerState) (v : View) (s : SeatState) (i : ℕ) → v.hand ≡ None → s.view ≡ claim_refused v i → IsSeatOf l s → IsIdleAfter l v s × HasTried s.view i
+pub idle-refused : (l : LedgerState) (v : View) (s : SeatState) (i : ℕ) → v.hand ≡ None → s.view ≡ claim_refused v i →
+    IsSeatOf l s → IsIdleAfter l v s × HasTried s.view i
 idle-refused l v s i empty is of =
     let P : View → Type 0 = λ x. Grows v x in
-    let Q : View → Type 0 = λ x. HasTried x i in
-    (record { seat = of; hand = ap (λ (x : View). x.hand) is ∙ empty; grows = subst P (sym is) (grows-refused v i) }, subst Q (sym is) (inr (bit-or_same v.seen i)))
+    let Q : View → Type 0 = λ x. HasTried x i in (
+      record { seat = of; hand = ap (λ (x : View). x.hand) is ∙ empty; grows = subst P (sym is) (grows-refused v i) },
+      subst Q (sym is) (inr (bit-or_same v.seen i)),
+    )
 
 -- a join of another seat
-pub idle-joined : (l : LedgerState) (v w : View) (s t : SeatState) → IsIdleAfter l v s → IsSeatOf l t → t.view ≡ joined s.view w → IsIdleAfter l v t
+pub idle-joined : (l : LedgerState) (v w : View) (s t : SeatState) → IsIdleAfter l v s → IsSeatOf l t →
+    t.view ≡ joined s.view w → IsIdleAfter l v t
 idle-joined l v w s t a of is =
     let P : View → Type 0 = λ x. Grows s.view x in
-    record { seat = of; hand = ap (λ (x : View). x.hand) is; grows = grows-after v s.view t.view a.grows (subst P (sym is) (grows-joined s.view w)) }
+    record {
+      seat = of;
+      hand = ap (λ (x : View). x.hand) is;
+      grows = grows-after v s.view t.view a.grows (subst P (sym is) (grows-joined s.view w));
+    }
 
 pub tried-joined : (v w x : View) (n : ℕ) → x ≡ joined v w → HaveTried v 0 n → HaveTried x 0 n
 tried-joined v w x n is tried i low high =
@@ -118,16 +133,23 @@ begun-first v worker is = ap (λ (o : Option ℕ). first_tried o worker) is
 -- ## A whole work
 
 -- both halves of the inputs
-pub worked : (l : LedgerState) (u : View) (s t : SeatState) (k n : ℕ) → n ≡ ports l.offers → IsIdleAfter l u s → HaveTried s.view k n → IsIdleAfter l s.view t → HaveTried t.view 0 k → HasWorked l u t
+pub worked : (l : LedgerState) (u : View) (s t : SeatState) (k n : ℕ) → n ≡ ports l.offers → IsIdleAfter l u s →
+    HaveTried s.view k n → IsIdleAfter l s.view t → HaveTried t.view 0 k → HasWorked l u t
 worked l u s t k n is a above b below =
     let P : ℕ → Type 0 = λ m. HaveTried t.view 0 m in
     record { idle = idle-after l u s t a b; tried = subst P is (tried-around s.view t.view k n b.grows above below) }
 
-pub worked-joined : (l : LedgerState) (v w : View) (s t : SeatState) → HasWorked l v s → IsSeatOf l t → t.view ≡ joined s.view w → HasWorked l v t
-worked-joined l v w s t a of is = record { idle = idle-joined l v w s t a.idle of is; tried = tried-joined s.view w t.view (ports l.offers) is a.tried }
+pub worked-joined : (l : LedgerState) (v w : View) (s t : SeatState) → HasWorked l v s → IsSeatOf l t →
+    t.view ≡ joined s.view w → HasWorked l v t
+worked-joined l v w s t a of is =
+    record {
+      idle = idle-joined l v w s t a.idle of is;
+      tried = tried-joined s.view w t.view (ports l.offers) is a.tried;
+    }
 
 -- one claimed input more
-pub claimed-next : (v : View) (n : ℕ) → ((i : ℕ) → i < n → HasClaimed v i) → HasClaimed v n → (i : ℕ) → i < n + 1 → HasClaimed v i
+pub claimed-next : (v : View) (n : ℕ) → ((i : ℕ) → i < n → HasClaimed v i) → HasClaimed v n → (i : ℕ) → i < n + 1 →
+    HasClaimed v i
 claimed-next v n before here i high = go (cases_eq i n)
   where
     go : (i ≡ n) ⊎ (i ≢ n) → HasClaimed v i
@@ -137,12 +159,14 @@ claimed-next v n before here i high = go (cases_eq i n)
 -- ## Proposals
 
 -- a hand shows an input where it has one
-pub hand-some : (hand : Option (ℕ × ℕ)) (shown : Option ℕ) (input : ℕ) → shown ≡ option_map (λ (h : ℕ × ℕ). h.0) hand → shown ≡ Some input → IsSome hand
+pub hand-some : (hand : Option (ℕ × ℕ)) (shown : Option ℕ) (input : ℕ) →
+    shown ≡ option_map (λ (h : ℕ × ℕ). h.0) hand → shown ≡ Some input → IsSome hand
 hand-some None shown input e f = absurd (let g : None ≡ Some input = sym e ∙ f in let P : ⊥ = cc in P)
 hand-some (Some h) shown input e f = refl
 
 -- what is told of a proposal: the input that the hand shows, and the answer
-pub hand-told : (hand : Option (ℕ × ℕ)) (shown : Option ℕ) (input : ℕ) (answer : Outcome) → shown ≡ option_map (λ (h : ℕ × ℕ). h.0) hand
+pub hand-told : (hand : Option (ℕ × ℕ)) (shown : Option ℕ) (input : ℕ) (answer : Outcome) →
+    shown ≡ option_map (λ (h : ℕ × ℕ). h.0) hand
     → shown ≡ Some input → option_map {U = ℕ × Outcome} (λ (h : ℕ × ℕ). (h.0, answer)) hand ≡ Some (input, answer)
 hand-told None shown input answer e f = absurd (let g : None ≡ Some input = sym e ∙ f in let P : ⊥ = cc in P)
 hand-told (Some h) shown input answer e f =
@@ -150,14 +174,16 @@ hand-told (Some h) shown input answer e f =
     let same : h.0 ≡ input = cc is in
     ap (λ (i : ℕ). let o : Option (ℕ × Outcome) = Some (i, answer) in o) same
 
-pub hand-none : (hand : Option (ℕ × ℕ)) (shown : Option ℕ) → shown ≡ option_map (λ (h : ℕ × ℕ). h.0) hand → shown ≡ None → hand ≡ None
+pub hand-none : (hand : Option (ℕ × ℕ)) (shown : Option ℕ) → shown ≡ option_map (λ (h : ℕ × ℕ). h.0) hand →
+    shown ≡ None → hand ≡ None
 hand-none None shown e f = refl
 hand-none (Some h) shown e f = absurd (let g : Some h.0 ≡ None = sym e ∙ f in let P : ⊥ = cc in P)
 
 pub proposes-same : (v : View) → ProposesFor v v
 proposes-same v = record { claims = refl; seen = refl; began = refl; made = omega arith }
 
-pub proposes-next : (u v w : View) (answer : Outcome) → ProposesFor u v → IsSome v.hand → ((i p : ℕ) → v.hand ≡ Some (i, p) → IsProposed v i p answer w) → ProposesFor u w
+pub proposes-next : (u v w : View) (answer : Outcome) → ProposesFor u v → IsSome v.hand →
+    ((i p : ℕ) → v.hand ≡ Some (i, p) → IsProposed v i p answer w) → ProposesFor u w
 proposes-next u v w answer before some is = go v.hand refl some
   where
     go : (hand : Option (ℕ × ℕ)) → v.hand ≡ hand → IsSome hand → ProposesFor u w
@@ -176,7 +202,8 @@ proposes-next u v w answer before some is = go v.hand refl some
 less_left : (most a b : ℕ) → b ≡ a + 1 → b ≤ most → most - b < most - a
 less_left most a b e h = omega arith
 
-pub proposals-left : (l : LedgerState) (s t : SeatState) → IsSeatOf l t → t.view.made ≡ s.view.made + 1 → IsFew t.view → ports l.offers * ports l.offers - t.view.made < ports l.offers * ports l.offers - s.view.made
+pub proposals-left : (l : LedgerState) (s t : SeatState) → IsSeatOf l t → t.view.made ≡ s.view.made + 1 →
+    IsFew t.view → ports l.offers * ports l.offers - t.view.made < ports l.offers * ports l.offers - s.view.made
 proposals-left l s t of made few =
     let P : Orders → Type 0 = λ o. t.view.made ≤ ports o * ports o in
     less_left (ports l.offers * ports l.offers) s.view.made t.view.made made (subst P of.offers few)

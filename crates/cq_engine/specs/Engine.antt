@@ -87,9 +87,10 @@ abbrev pub answer_to : Result Ranking TagFault → Result (Unit {0}) TagFault
 answer_to (Ok r) = Ok tt
 answer_to (Err fault) = Err fault
 
--- what a slot did: it was one slot of the fabric with limits, with the input-best matchings, and its departures, its transfers,
--- its record and its refused cells were added to what was there
-pub record SlotDone (ms : List Machine) (slot : ℕ) (cells : List (Option Cell)) (old new : EngineView) (sent sent' : RoomView Departure) (note note' : RoomView Transfer) : Type 0 where
+-- what a slot did: it was one slot of the fabric with limits, with the input-best matchings, and its departures, its
+-- transfers, its record and its refused cells were added to what was there
+pub record SlotDone (ms : List Machine) (slot : ℕ) (cells : List (Option Cell)) (old new : EngineView)
+    (sent sent' : RoomView Departure) (note note' : RoomView Transfer) : Type 0 where
   pub record_of : LimitedRecord
   pub is_slot : LimitedFabricSlot IsInputBest old.limits ms slot cells (marked_fabric old) record_of (marked_fabric new)
   pub departed : sent'.items ≡ sent.items ++ departures_in slot record_of.of_slot.gone
@@ -109,8 +110,8 @@ pub record AreWorkers (workers : ℕ) : Type 0 where
   pub some : 1 ≤ workers
   pub few : workers ≤ 64
 
--- the fabric is in step with an ideal switch: there is a state of one with which it agrees before this slot. And its figures are
--- of its ports
+-- the fabric is in step with an ideal switch: there is a state of one with which it agrees before this slot. And its
+-- figures are of its ports
 pub record IsInStep (ms : List Machine) (next : ℕ) (x : Figures) (f : Fabric) : Type 0 where
   pub machines : AreForOneSwitch ms
   pub ports : length f.inputs ≡ length ms
@@ -120,13 +121,15 @@ pub record IsInStep (ms : List Machine) (next : ℕ) (x : Figures) (f : Fabric) 
   pub outputs : length x.outputs ≡ length ms
   pub counts : CountsFit next x
 
--- where a slot looks at the arriving cells alone, each cell that waits has more slack than the least that the figures have
+-- where a slot looks at the arriving cells alone, each cell that waits has more slack than the least that the figures
+-- have
 abbrev pub IsSeen : Look → Figures → Fabric → Type 0
 IsSeen look.Arriving x f = HasMoreSlack x f
 IsSeen look.All x f = ⊤
 
 -- what holds of an engine that is not stopped, and looks at these cells in its next slot
-pub record IsRunning (ms : List Machine) (next : ℕ) (looks : Look) (x : Figures) (f : Fabric) (limiter : LimiterView) : Type 0 where
+pub record IsRunning (ms : List Machine) (next : ℕ) (looks : Look) (x : Figures) (f : Fabric) (limiter : LimiterView)
+    : Type 0 where
   pub in_step : IsInStep ms next x f
   pub seen : IsSeen looks x f
   pub ranks : length f.ranks ≡ length ms
@@ -146,11 +149,12 @@ frozen_of e = record {
   buffers = e.fabric.buffers;
 }
 
--- An engine with these machines, limits and rooms can go on from this state: it has what each port has, its fabric is one that
--- a fabric can go on from, its cells are of their inputs, each rank state is of its machine's size, what was refused is counted
--- for each output with a limit, and no port has counted more cells than there were slots. Each list has room for its cells, and
--- each buffer for all cells that its output holds.
-pub record CanGoOn (ms : List Machine) (limits : List (Option ℕ)) (from_inputs to_outputs : List ℕ) (x : Frozen) : Type 0 where
+-- An engine with these machines, limits and rooms can go on from this state: it has what each port has, its fabric is
+-- one that a fabric can go on from, its cells are of their inputs, each rank state is of its machine's size, what was
+-- refused is counted for each output with a limit, and no port has counted more cells than there were slots. Each
+-- list has room for its cells, and each buffer for all cells that its output holds.
+pub record CanGoOn (ms : List Machine) (limits : List (Option ℕ)) (from_inputs to_outputs : List ℕ) (x : Frozen) :
+    Type 0 where
   pub ports : HasPorts (length ms) x
   pub sound : IsSoundFabric x.next (fabric_in x)
   pub own : AreOwn (length ms) (class_count ms) (fabric_in x)

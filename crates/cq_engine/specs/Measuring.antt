@@ -1,6 +1,5 @@
--- Only proofs use this.
--- What one slot adds to the figures of an input and of an output. The slack that is added is that of the cell that arrived, or,
--- where the cells that waited before were not looked at yet, the least of all.
+-- Only proofs use this. What one slot adds to the figures of an input and of an output. The slack that is added is
+-- that of the cell that arrived, or, where the cells that waited before were not looked at yet, the least of all.
 use Rattle.std.specs.Prelude.{ℕ, ◌+◌, ◌-◌, ◌==◌, min, max, if◌then◌else◌, length, [], Option, is_some}
 use Rattle.std.specs.List.{position_or_len, reduce}
 use Rattle.std.specs.Option.{option_map}
@@ -16,7 +15,9 @@ use Rattle.cq_engine.specs.declared.measure.Look.TheVariants as look
 
 -- the slack of the cell that came to input i, if one did
 abbrev pub arriving_slack : Queues → ℕ → Option Queued → Option ℕ
-arriving_slack q i came = option_map (λ c. cushion c.key (list_of q.buffers c.cell.output) - position_or_len (λ x. x.key.slot == c.key.slot) (list_of q.inputs i)) came
+arriving_slack q i came =
+    option_map (λ c. cushion c.key (list_of q.buffers c.cell.output)
+    - position_or_len (λ x. x.key.slot == c.key.slot) (list_of q.inputs i)) came
 
 -- the slack that is seen at input i, if a cell is looked at there
 abbrev pub slack_seen : Look → Queues → ℕ → Option Queued → Option ℕ

@@ -15,8 +15,8 @@ pub record CameFor (came : List (Option Queued)) (j : ℕ) (c : Queued) : Type 0
   pub at : came_to came input ≡ Some c
   pub output : c.cell.output ≡ j
 
--- of so many outputs each sends the cell that came for it to one of the first inputs, if one did: so no two of these cells are
--- for one output
+-- of so many outputs each sends the cell that came for it to one of the first inputs, if one did: so no two of these
+-- cells are for one output
 pub record AreSent (inputs outputs : ℕ) (came gone : List (Option Queued)) : Type 0 where
   pub each : (i : ℕ) (c : Queued) → i < inputs → came_to came i ≡ Some c → came_to gone c.cell.output ≡ Some c
   pub only : (j : ℕ) (c : Queued) → j < outputs → came_to gone j ≡ Some c → CameFor came j c

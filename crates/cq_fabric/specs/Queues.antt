@@ -28,8 +28,8 @@ buffer_room buffer = length buffer.cells + buffer.spare
 abbrev pub fabric_of : Queues → List (List ℕ) → Fabric
 fabric_of q ranks = record { inputs = q.inputs; buffers = q.buffers; ranks = ranks }
 
--- the cell goes into the list of input i: there is room, it is for one of the outputs, its key is new, and the more urgent
--- cells for its output stand below its cushion
+-- the cell goes into the list of input i: there is room, it is for one of the outputs, its key is new, and the more
+-- urgent cells for its output stand below its cushion
 pub record FitsList (q : Queues) (i : ℕ) (c : Queued) : Type 0 where
   pub inside : i < length q.inputs
   pub output : c.cell.output < length q.inputs
@@ -72,7 +72,12 @@ list_at lists i = slice_index_or lists i no_list
 -- a list after a cell came to it, or none, over these buffers
 abbrev pub list_with : List (List Queued) → Option Queued → Waiting → Waiting
 list_with buffers None list = list
-list_with buffers (Some c) list = record { cells = with_arrival (cushion c.key (list_of buffers c.cell.output)) c list.cells; outputs = list.outputs; spare = list.spare - 1 }
+list_with buffers (Some c) list =
+    record {
+      cells = with_arrival (cushion c.key (list_of buffers c.cell.output)) c list.cells;
+      outputs = list.outputs;
+      spare = list.spare - 1;
+    }
 
 -- the cell goes into the list, over these buffers
 pub record Fits (buffers : List (List Queued)) (list : Waiting) (c : Queued) : Type 0 where
@@ -84,7 +89,8 @@ pub record Fits (buffers : List (List Queued)) (list : Waiting) (c : Queued) : T
 
 -- each cell that came goes into the list of its input
 abbrev pub FitEach : List (List Queued) → List (Option Queued) → List Waiting → Type 0
-FitEach buffers came lists = (i : ℕ) (c : Queued) → i < length lists → came_to came i ≡ Some c → Fits buffers (list_at lists i) c
+FitEach buffers came lists =
+    (i : ℕ) (c : Queued) → i < length lists → came_to came i ≡ Some c → Fits buffers (list_at lists i) c
 
 -- the first cell of a buffer
 abbrev pub front_of : Buffered → Option Queued
@@ -92,7 +98,8 @@ front_of buffer = slice_get buffer.cells 0
 
 -- the buffer without its first cell
 abbrev pub popped : Buffered → Buffered
-popped buffer = record { cells = drop 1 buffer.cells; spare = buffer.spare + (if is_some (front_of buffer) then 1 else 0) }
+popped buffer =
+    record { cells = drop 1 buffer.cells; spare = buffer.spare + (if is_some (front_of buffer) then 1 else 0) }
 
 -- there are as many lists as buffers, 64 at most, each list is for as many outputs, and so are the offers
 pub record AreSquare (lists : List Waiting) (buffers : List Buffered) (offers : ℕ) : Type 0 where

@@ -1,6 +1,8 @@
 -- What stands at an offset of a frame stands at the front of the bytes from there on.
 --
--- So a field is read from the bytes that are left when what comes before it is left out. Each tag that is left out moves the offset on by four bytes, first from 12, and then from 16 if there was one at 12. That is the offset of the type that is read.
+-- So a field is read from the bytes that are left when what comes before it is left out. Each tag that is left out
+-- moves the offset on by four bytes, first from 12, and then from 16 if there was one at 12. That is the offset of
+-- the type that is read.
 use Rattle.std.proofs.Common.{◌≡◌, ℕ, ◌+◌, if◌then◌else◌, List, drop, refl, ap, ◌∙◌, arith}
 use Rattle.std.proofs.lemmas.Bool.Decides.{nat_tests}
 use Rattle.std.proofs.lemmas.List.{drop-drop, get_or-drop, length-drop}
@@ -23,14 +25,17 @@ abbrev tag_len : List ℕ → ℕ → ℕ
 tag_len bytes at = if has_tag_at bytes at then 4 else 0
 
 -- one tag is left out
-without_tag : (bytes left after : List ℕ) (n : ℕ) → left ≡ drop n bytes → after ≡ drop (tag_len left 0) left → after ≡ drop (n + tag_len bytes n) bytes
+without_tag : (bytes left after : List ℕ) (n : ℕ) → left ≡ drop n bytes → after ≡ drop (tag_len left 0) left →
+    after ≡ drop (n + tag_len bytes n) bytes
 without_tag bytes left after n e h = grind (arith, has_tag_at-drop, drop-drop {A = ℕ})
 
 -- where two tags lead to
 two_tags : (bytes : List ℕ) (n : ℕ) → n ≡ 12 + tag_len bytes 12 → n + tag_len bytes n ≡ type_offset bytes
 two_tags bytes n e = grind arith
 
-pub without_tags : (bytes left once twice : List ℕ) → left ≡ drop 12 bytes → once ≡ drop (if has_tag_at left 0 then 4 else 0) left → twice ≡ drop (if has_tag_at once 0 then 4 else 0) once → twice ≡ drop (type_offset bytes) bytes
+pub without_tags : (bytes left once twice : List ℕ) → left ≡ drop 12 bytes →
+    once ≡ drop (if has_tag_at left 0 then 4 else 0) left → twice ≡ drop (if has_tag_at once 0 then 4 else 0) once →
+    twice ≡ drop (type_offset bytes) bytes
 without_tags bytes left once twice all first second =
     without_tag bytes once twice (12 + tag_len bytes 12) (without_tag bytes left once 12 all first) second
     ∙ ap (λ n. drop n bytes) (two_tags bytes (12 + tag_len bytes 12) refl)

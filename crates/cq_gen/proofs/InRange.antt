@@ -49,7 +49,11 @@ tables_in_range ports range =
       addresses_differ =
           all_pairs_counted (λ (a b : AddressRow). a.mac ≢ b.mac) soak_address ports
           (λ i j l e. let same : i ≡ j = ap (λ (mac : List ℕ). get_or mac 5 0) e in omega arith);
-      outputs = all_counted (λ (row : AddressRow). row.output < ports_of (soak_setup ports)) soak_address ports (λ k l. omega arith);
-      inputs = all_counted (λ (row : RuleRow). IfSome row.input (λ input. input < ports_of (soak_setup ports))) soak_rule 8 (λ k l. tt);
+      outputs =
+          all_counted (λ (row : AddressRow). row.output < ports_of (soak_setup ports)) soak_address ports
+          (λ k l. omega arith);
+      inputs =
+          all_counted (λ (row : RuleRow). IfSome row.input (λ input. input < ports_of (soak_setup ports))) soak_rule 8
+          (λ k l. tt);
       rule_classes = all_counted (λ (row : RuleRow). row.class < 8) soak_rule 8 (λ k l. l);
     }

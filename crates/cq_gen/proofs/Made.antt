@@ -8,18 +8,24 @@ use Rattle.cq_gen.specs.Packets.{packets_to, soak_captures}
 use Rattle.cq_gen.proofs.Counted.{all_counted}
 use Rattle.cq_gen.proofs.Small.{length-packets_to}
 
-module _ (ports slots : ℕ) (words drawn : List ℕ) (captures : List (List Captured)) (same : words ≡ drawn) (each : captures ≡ map (packets_to words ports slots) (range_with_len 0 ports)) where
+module _ (ports slots : ℕ) (words drawn : List ℕ) (captures : List (List Captured)) (same : words ≡ drawn)
+    (each : captures ≡ map (packets_to words ports slots) (range_with_len 0 ports)) where
   pub captures_of_draws : captures ≡ map (packets_to drawn ports slots) (range_with_len 0 ports)
   captures_of_draws = each ∙ ap (λ (ws : List ℕ). map (packets_to ws ports slots) (range_with_len 0 ports)) same
 
   pub captures_count : length captures ≡ ports
-  captures_count = ap (λ (cs : List (List Captured)). length cs) each ∙ length-map-range_with_len (packets_to words ports slots) 0 ports
+  captures_count =
+      ap (λ (cs : List (List Captured)). length cs) each
+      ∙ length-map-range_with_len (packets_to words ports slots) 0 ports
 
   pub captures_lengths : All (λ packets. length packets ≡ slots) captures
   captures_lengths =
       let P : List (List Captured) → Type 0 = All (λ packets. length packets ≡ slots) in
-      subst P (sym each) (all_counted (λ (packets : List Captured). length packets ≡ slots) (packets_to words ports slots) ports (λ input l. length-packets_to words ports slots input))
+      subst P (sym each) (all_counted (λ (packets : List Captured). length packets ≡ slots)
+      (packets_to words ports slots) ports (λ input l. length-packets_to words ports slots input))
 
-pub captures_made : (seed ports slots : ℕ) (captures : List (List Captured)) → captures ≡ map (packets_to (first_draws seed (slots * ports)) ports slots) (range_with_len 0 ports) → captures ≡ soak_captures seed ports slots
+pub captures_made : (seed ports slots : ℕ) (captures : List (List Captured)) →
+    captures ≡ map (packets_to (first_draws seed (slots * ports)) ports slots) (range_with_len 0 ports) →
+    captures ≡ soak_captures seed ports slots
 unfolding soak_captures
 captures_made seed ports slots captures e = e

@@ -1,4 +1,5 @@
--- Made packets are small: each fits a record, and all records of an input fit a file. So the file that is written is read again as the same packets, and no fault of a file can come.
+-- Made packets are small: each fits a record, and all records of an input fit a file. So the file that is written is
+-- read again as the same packets, and no fault of a file can come.
 use Rattle.std.proofs.Common.{◌≡◌, ℕ, ◌+◌, ◌*◌, ◌<◌, ◌≤◌, ◌^◌, List, [], ◌∷◌, ◌++◌, length, map, false, All, Ok, Err, IfSome, refl, ap, sym, subst, ◌∙◌, arith, length-append}
 use Rattle.std.proofs.lemmas.List.{length-map}
 use Rattle.std.proofs.lemmas.List.Elements.{All-from_recursion}
@@ -28,14 +29,17 @@ packet_small : (ports slot input word : ℕ) → slot < 20000 → IsSmall (packe
 unfolding packet_of frame_of
 packet_small ports slot input word early = record { stamp = omega arith; original = refl; body = refl }
 
-packets_small : (words : List ℕ) (ports slots input : ℕ) → slots ≤ 20000 → AllByRecursion IsSmall (packets_to words ports slots input)
+packets_small : (words : List ℕ) (ports slots input : ℕ) → slots ≤ 20000 →
+    AllByRecursion IsSmall (packets_to words ports slots input)
 unfolding packets_to
 packets_small words ports slots input few =
-    all_by_counted IsSmall (λ slot. packet_of ports slot input (draw_for words ports slot input)) 0 slots (λ slot early. packet_small ports slot input (draw_for words ports slot input) (omega arith))
+    all_by_counted IsSmall (λ slot. packet_of ports slot input (draw_for words ports slot input)) 0 slots
+    (λ slot early. packet_small ports slot input (draw_for words ports slot input) (omega arith))
 
 pub length-packets_to : (words : List ℕ) (ports slots input : ℕ) → length (packets_to words ports slots input) ≡ slots
 unfolding packets_to
-length-packets_to words ports slots input = length-map-range_with_len (λ slot. packet_of ports slot input (draw_for words ports slot input)) 0 slots
+length-packets_to words ports slots input =
+    length-map-range_with_len (λ slot. packet_of ports slot input (draw_for words ports slot input)) 0 slots
 
 -- ## What is written of small packets
 
@@ -46,7 +50,8 @@ writable (p ∷ ps) small =
     let body : length p.body ≡ 60 = small.0.body in
     (record { stamp = small.0.stamp; original = omega arith; body = omega arith }, writable ps small.1)
 
-short : (ps : List OutPacket) → AllByRecursion IsSmall (map read_again ps) → AllByRecursion (λ p. length p.body ≤ 262144) ps
+short : (ps : List OutPacket) → AllByRecursion IsSmall (map read_again ps) →
+    AllByRecursion (λ p. length p.body ≤ 262144) ps
 short [] small = tt
 short (p ∷ ps) small = let body : length p.body ≡ 60 = small.0.body in (omega arith, short ps small.1)
 
@@ -68,7 +73,8 @@ length-written ps = length-append written_header (spelt ps)
 
 -- ## The packets of an input
 
-module _ (words : List ℕ) (ports slots input : ℕ) (few : slots ≤ 20000) (ps : List OutPacket) (made : map read_again ps ≡ packets_to words ports slots input) where
+module _ (words : List ℕ) (ports slots input : ℕ) (few : slots ≤ 20000) (ps : List OutPacket)
+    (made : map read_again ps ≡ packets_to words ports slots input) where
   small : AllByRecursion IsSmall (map read_again ps)
   small = subst (AllByRecursion IsSmall) (sym made) (packets_small words ports slots input few)
 
@@ -77,14 +83,18 @@ module _ (words : List ℕ) (ports slots input : ℕ) (few : slots ≤ 20000) (p
 
   pub file_small : (bytes : List ℕ) → bytes ≡ written ps → length bytes ≤ 2 ^ 28
   file_small bytes wrote =
-      let count : length ps ≡ slots = sym (length-map ps read_again) ∙ ap length made ∙ length-packets_to words ports slots input in
+      let count : length ps ≡ slots =
+      sym (length-map ps read_again) ∙ ap length made ∙ length-packets_to words ports slots input in
       omega (arith, ap length wrote, length-written ps, length-spelt ps small)
 
   pub file_read : (bytes : List ℕ) → bytes ≡ written ps → packets_of bytes ≡ Ok (packets_to words ports slots input)
-  file_read bytes wrote = ap packets_of wrote ∙ spelt_is_read (written ps) (map read_again ps) (written_is_spelt ps (writable ps small)) ∙ ap Ok made
+  file_read bytes wrote =
+      ap packets_of wrote ∙ spelt_is_read (written ps) (map read_again ps) (written_is_spelt ps (writable ps small))
+      ∙ ap Ok made
 
 -- a file that is read has no fault, so a refusal is want of memory
-pub only_memory : (bytes : List ℕ) (packets : List Captured) (why : PcapRefusal) → packets_of bytes ≡ Ok packets → IfSome (fault_of why) (λ fault. packets_of bytes ≡ Err fault) → why ≡ refusal.NoMemory
+pub only_memory : (bytes : List ℕ) (packets : List Captured) (why : PcapRefusal) → packets_of bytes ≡ Ok packets →
+    IfSome (fault_of why) (λ fault. packets_of bytes ≡ Err fault) → why ≡ refusal.NoMemory
 only_memory bytes packets refusal.NoHeader read unread = absurd (let P : ⊥ = cc in P)
 only_memory bytes packets refusal.Magic read unread = absurd (let P : ⊥ = cc in P)
 only_memory bytes packets refusal.Version read unread = absurd (let P : ⊥ = cc in P)
@@ -95,5 +105,6 @@ only_memory bytes packets (refusal.LongRecord offset len) read unread = absurd (
 only_memory bytes packets refusal.NoMemory read unread = refl
 
 -- and what is read is the packets
-pub same_packets : (bytes : List ℕ) (read packets : List Captured) → packets_of bytes ≡ Ok packets → packets_of bytes ≡ Ok read → read ≡ packets
+pub same_packets : (bytes : List ℕ) (read packets : List Captured) → packets_of bytes ≡ Ok packets →
+    packets_of bytes ≡ Ok read → read ≡ packets
 same_packets bytes read packets e f = let both : Ok read ≡ Ok packets = sym f ∙ e in cc

@@ -12,12 +12,14 @@ output_address output = 2 ∷ 0 ∷ 0 ∷ 0 ∷ 0 ∷ output ∷ []
 abbrev pub input_address : ℕ → List ℕ
 input_address input = 2 ∷ 0 ∷ 0 ∷ 0 ∷ 1 ∷ input ∷ []
 
--- an Ethernet frame of 60 bytes with a tag of this priority (IEEE 802.1Q) and an EtherType for local experiments (IEEE 802), and zeros
+-- an Ethernet frame of 60 bytes with a tag of this priority (IEEE 802.1Q) and an EtherType for local experiments
+-- (IEEE 802), and zeros
 unfoldable pub frame_of : ℕ → ℕ → ℕ → List ℕ
 frame_of output input priority =
     output_address output ++ input_address input ++ 0x81 ∷ 0 ∷ (priority * 32) ∷ 0 ∷ 0x88 ∷ 0xb5 ∷ replicate 42 0
 
--- the packet that a word makes: to the output that is the word modulo the number of ports, with the word's top three bits as its priority, captured whole when its slot of 512 nanoseconds begins
+-- the packet that a word makes: to the output that is the word modulo the number of ports, with the word's top three
+-- bits as its priority, captured whole when its slot of 512 nanoseconds begins
 unfoldable pub packet_of : ℕ → ℕ → ℕ → ℕ → Captured
 packet_of ports slot input word =
     record { stamp = slot * 512; original = 60; body = frame_of (word % ports) input (word / 2 ^ 29) }

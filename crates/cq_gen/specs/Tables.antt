@@ -21,7 +21,8 @@ soak_class class = record { level = 0; priority = 7 - class; cost = 1 + class }
 
 -- eight classes, and a discipline for each port
 abbrev pub soak_setup : ℕ → Setup
-soak_setup ports = record { classes = map soak_class (range_with_len 0 8); kinds = map soak_kind (range_with_len 0 ports) }
+soak_setup ports =
+    record { classes = map soak_class (range_with_len 0 8); kinds = map soak_kind (range_with_len 0 ports) }
 
 -- a port without files
 abbrev pub soak_port : PortRow
@@ -35,7 +36,8 @@ soak_address output = record { mac = output_address output; output = output }
 abbrev pub soak_rule : ℕ → RuleRow
 soak_rule class = record { input = None; pcp = Some class; ether_type = None; dscp = None; class = class }
 
--- an address for each output, a rule for each priority, two workers, and every other figure by default; no file is named
+-- an address for each output, a rule for each priority, two workers, and every other figure by default; no file is
+-- named
 unfoldable pub soak_tables : ℕ → Tables
 soak_tables ports = record {
   cell_bytes = 64;

@@ -1,6 +1,6 @@
--- Admission, input by input. The mark of an input after a slot says what became of its arrival, and without a first cell it is
--- the mark of before. So what is admitted arrives; and where no mark is up and no output has a limit all is admitted, as where
--- nothing arrives.
+-- Admission, input by input. The mark of an input after a slot says what became of its arrival, and without a first
+-- cell it is the mark of before. So what is admitted arrives; and where no mark is up and no output has a limit all
+-- is admitted, as where nothing arrives.
 use Rattle.std.proofs.Common.{◌≡◌, ℕ, zero, suc, Bool, true, false, List, [], ◌∷◌, length, replicate, Option, Some, None, refl, sym, ap, ◌∙◌}
 use Rattle.std.specs.Prelude.{slice_index_or}
 use Rattle.std.proofs.lemmas.Bool.{cond_both}

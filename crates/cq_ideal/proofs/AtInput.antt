@@ -1,6 +1,6 @@
--- The cells that arrive at an input, slot by slot, are its arrivals in their order. In a slot the input's place shows what is found
--- there; and the arrivals at one input rise in their slots, so where the first is taken off the list every later slot shows the
--- same.
+-- The cells that arrive at an input, slot by slot, are its arrivals in their order. In a slot the input's place shows
+-- what is found there; and the arrivals at one input rise in their slots, so where the first is taken off the list
+-- every later slot shows the same.
 use Rattle.std.proofs.Common.{◌≡◌, ℕ, zero, suc, ◌+◌, ◌<◌, List, [], ◌∷◌, ◌++◌, map, Option, None, refl, sym, ap, ◌∙◌, ⊎_elim, arith}
 use Rattle.std.specs.Prelude.{◌==◌}
 use Rattle.std.specs.List.{AllByRecursion, cons_option, filter, range_with_len}
@@ -49,24 +49,28 @@ module _ (i : ℕ) (inside : i < 64) where
       joined (λ t. found came t i) 0 slots ≡ came_at i came
   in_order slots [] before rise = joined_none (λ t. found [] t i) 0 slots (λ t l. found_none [] t i tt)
   in_order slots (a ∷ came) before rise =
-      let rest = in_order slots came before.1 (λ s t x y at_s at_t l. rise (suc s) (suc t) x y at_s at_t (omega arith)) in
+      let rest =
+      in_order slots came before.1 (λ s t x y at_s at_t l. rise (suc s) (suc t) x y at_s at_t (omega arith)) in
       let others = filter (λ (x : Arrival). x.cell.id.input == i) came in
       ⊎_elim
       (λ same.
       let later : AllByRecursion (λ b. b.cell.id.input ≡ i → a.slot < b.slot) came =
       all_by (λ b. b.cell.id.input ≡ i → a.slot < b.slot) came
       (λ t b at e. rise zero (suc t) a b refl at (omega arith) (same ∙ sym e)) in
-      joined_more (λ t. found (a ∷ came) t i) (λ t. found came t i) a.slot 0 slots (omega arith) (let l = before.0 in omega arith)
+      joined_more (λ t. found (a ∷ came) t i) (λ t. found came t i) a.slot 0 slots (omega arith)
+      (let l = before.0 in omega arith)
       (λ t l. other_slot a came t i (λ e. omega arith) ∙ no_earlier a came t later (omega arith))
       (λ t l. no_earlier a came t later (omega arith))
       (λ t l. other_slot a came t i (λ e. omega arith))
       ∙ ap (λ (l : List Cell). l ++ joined (λ t. found came t i) 0 slots) (found_here a came a.slot i refl same)
       ∙ ap (λ (l : List Cell). a.cell ∷ l) rest
-      ∙ sym (ap (map (λ (x : Arrival). x.cell)) (cond-true (a.cell.id.input == i) (a ∷ others) others (eq-eqb a.cell.id.input i same))))
+      ∙ sym (ap (map (λ (x : Arrival). x.cell)) (cond-true (a.cell.id.input == i) (a ∷ others) others
+      (eq-eqb a.cell.id.input i same))))
       (λ ne.
       joined_same (λ t. found (a ∷ came) t i) (λ t. found came t i) 0 slots (λ t l. other_input a came t i ne)
       ∙ rest
-      ∙ sym (ap (map (λ (x : Arrival). x.cell)) (cond-false (a.cell.id.input == i) (a ∷ others) others (ne_eqb a.cell.id.input i ne))))
+      ∙ sym (ap (map (λ (x : Arrival). x.cell)) (cond-false (a.cell.id.input == i) (a ∷ others) others
+      (ne_eqb a.cell.id.input i ne))))
       (cases_eq a.cell.id.input i)
 
   pub come_in_order : (came : List Arrival) → RiseByInput came → cells_at i (traffic_of came) ≡ came_at i came
@@ -74,4 +78,5 @@ module _ (i : ℕ) (inside : i < 64) where
   come_in_order came rise =
       cells_from came 0 (enough came)
       ∙ in_order (enough came) came
-      (all_from (λ a. a.slot < end_of came) (λ a. a.slot < enough came) (λ a l. omega arith) came (before_end came)) rise
+      (all_from (λ a. a.slot < end_of came) (λ a. a.slot < enough came) (λ a l. omega arith) came (before_end came))
+      rise

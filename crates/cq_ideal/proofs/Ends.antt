@@ -1,5 +1,6 @@
--- Where the run of the ideal switch ends. As many slots as are enough end with empty lists, so there is a least number of slots
--- after which no cell is to come and none waits, and it is not greater. From there on the slots send nothing.
+-- Where the run of the ideal switch ends. As many slots as are enough end with empty lists, so there is a least
+-- number of slots after which no cell is to come and none waits, and it is not greater. From there on the slots send
+-- nothing.
 use Rattle.std.proofs.Common.{◌≡◌, ℕ, zero, suc, ◌+◌, ◌-◌, ◌<◌, ◌≤◌, Bool, true, false, List, [], ◌∷◌, ◌++◌, length, get_or, Result, Ok, Err, refl, sym, ap, ◌∙◌, subst, ⊎_elim, arith}
 use Rattle.std.specs.Prelude.{All, IfOk, IsOkAnd, ◌==◌, nat_le}
 use Rattle.std.specs.List.{list_all, position_or_len, range_with_len}

@@ -1,5 +1,5 @@
--- Slots that are enough for a run are enough with limits: no more cells are admitted in a slot than come, and there are as many
--- slots.
+-- Slots that are enough for a run are enough with limits: no more cells are admitted in a slot than come, and there
+-- are as many slots.
 use Rattle.std.proofs.Common.{◌≡◌, ℕ, zero, suc, ◌≤◌, Bool, true, false, List, [], ◌∷◌, length, Option, Some, None, Result, Ok, Err, refl, sym, ap, subst, arith}
 use Rattle.std.specs.Prelude.{All, IfOk}
 use Rattle.cq_base.specs.declared.cell.Cell.{Cell}
@@ -88,4 +88,5 @@ limited_empty_at_end limits ms ports ranks came =
     let none = waiting-empty ports in
     let over = empties ms (admitted_in ran.admissions) 0 (end_of came) start.state quiet (omega arith) in
     none_wait ran.after.state.lists
-    (subst (λ (x : Result Ran TagFault). IfOk x (λ end. waiting end.after.lists ≡ 0)) (is_run_of limits ms 0 (traffic_of came) start ran is) over))
+    (subst (λ (x : Result Ran TagFault). IfOk x (λ end. waiting end.after.lists ≡ 0))
+    (is_run_of limits ms 0 (traffic_of came) start ran is) over))

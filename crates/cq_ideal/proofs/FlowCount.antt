@@ -28,7 +28,8 @@ total_none f a (suc n) z = let here = z a in let rest = total_none f (a + 1) n z
 total_same : (f g : ℕ → ℕ) (a n : ℕ) → ((t : ℕ) → a ≤ t → f t ≡ g t) → total f a n ≡ total g a n
 unfolding total
 total_same f g a zero e = refl
-total_same f g a (suc n) e = let here = e a (omega arith) in let rest = total_same f g (a + 1) n (λ t l. e t (omega arith)) in omega arith
+total_same f g a (suc n) e =
+    let here = e a (omega arith) in let rest = total_same f g (a + 1) n (λ t l. e t (omega arith)) in omega arith
 
 -- one more at one place at most
 total_more : (f g : ℕ → ℕ) (s a n : ℕ) → ((t : ℕ) → t ≢ s → f t ≡ g t) → f s ≤ g s + 1 → total f a n ≤ total g a n + 1
@@ -44,11 +45,13 @@ total_more f g s a (suc n) e le =
 
 -- ## The cells of one slot
 
-length-listed : (o : Option Cell) (cells : List Cell) → length (cell_listed o ++ cells) ≡ length (cell_listed o) + length cells
+length-listed : (o : Option Cell) (cells : List Cell) →
+    length (cell_listed o ++ cells) ≡ length (cell_listed o) + length cells
 length-listed None cells = omega arith
 length-listed (Some cell) cells = omega arith
 
-count_total : (came : List Arrival) (t a n : ℕ) → length (present (map (arriving_at came t) (range_with_len a n))) ≡ total (λ k. length (found came t k)) a n
+count_total : (came : List Arrival) (t a n : ℕ) →
+    length (present (map (arriving_at came t) (range_with_len a n))) ≡ total (λ k. length (found came t k)) a n
 unfolding total found
 count_total came t a zero = refl
 count_total came t a (suc n) =
@@ -64,7 +67,9 @@ module _ (inputs : ℕ) (are : inputs ≡ 64) where
 
   count_in_slot : (came : List Arrival) (t : ℕ) → length (present (arriving came t)) ≡ in_slot came t
   unfolding in_slot
-  count_in_slot came t = ap (λ (cells : List (Option Cell)). length (present cells)) (arriving_is came t inputs are) ∙ count_total came t 0 inputs
+  count_in_slot came t =
+      ap (λ (cells : List (Option Cell)). length (present cells)) (arriving_is came t inputs are)
+      ∙ count_total came t 0 inputs
 
   -- an arrival adds one cell at most to its slot
   in_slot-cons : (a : Arrival) (came : List Arrival) → in_slot (a ∷ came) a.slot ≤ in_slot came a.slot + 1
@@ -76,36 +81,49 @@ module _ (inputs : ℕ) (are : inputs ≡ 64) where
 
   no_more_than : (came : List Arrival) (n : ℕ) → total (in_slot came) 0 n ≤ length came
   unfolding in_slot
-  no_more_than [] n = let none = total_none (in_slot []) 0 n (λ t. total_none (λ k. length (found [] t k)) 0 inputs (λ k. ap length (found_none [] t k tt))) in omega arith
+  no_more_than [] n =
+      let none = total_none (in_slot []) 0 n
+      (λ t. total_none (λ k. length (found [] t k)) 0 inputs (λ k. ap length (found_none [] t k tt))) in
+      omega arith
   no_more_than (a ∷ came) n =
       let more = total_more (in_slot (a ∷ came)) (in_slot came) a.slot 0 n
-      (λ t ne. total_same (λ k. length (found (a ∷ came) t k)) (λ k. length (found came t k)) 0 inputs (λ k l. ap length (other_slot a came t k (λ e. ne (sym e)))))
+      (λ t ne. total_same (λ k. length (found (a ∷ came) t k)) (λ k. length (found came t k)) 0 inputs
+      (λ k l. ap length (other_slot a came t k (λ e. ne (sym e)))))
       (in_slot-cons a came) in
       let rest = no_more_than came n in omega arith
 
-  count_from : (came : List Arrival) (a n : ℕ) → come_count (map (arriving came) (range_with_len a n)) ≡ total (in_slot came) a n
+  count_from : (came : List Arrival) (a n : ℕ) →
+      come_count (map (arriving came) (range_with_len a n)) ≡ total (in_slot came) a n
   unfolding come_count total
   count_from came a zero = refl
   count_from came a (suc n) = let here = count_in_slot came a in let rest = count_from came (a + 1) n in omega arith
 
   -- ## The end of the arrivals
 
-  none_from : (came : List Arrival) (end t : ℕ) → AllByRecursion (λ a. a.slot < end) came → end ≤ t → length (present (arriving came t)) ≡ 0
+  none_from : (came : List Arrival) (end t : ℕ) → AllByRecursion (λ a. a.slot < end) came → end ≤ t →
+      length (present (arriving came t)) ≡ 0
   unfolding in_slot
   none_from came end t before le =
       count_in_slot came t
       ∙ total_none (λ k. length (found came t k)) 0 inputs
-      (λ k. ap length (found_none came t k (all_from (λ a. a.slot < end) (λ a. a.slot ≡ t → a.cell.id.input ≡ k → ⊥) (λ a l e f. absurd (omega arith)) came before)))
+      (λ k. ap length (found_none came t k (all_from (λ a. a.slot < end) (λ a. a.slot ≡ t → a.cell.id.input ≡ k → ⊥)
+      (λ a l e f. absurd (omega arith)) came before)))
 
-  quiet_from : (came : List Arrival) (end e a n : ℕ) → AllByRecursion (λ x. x.slot < end) came → end ≤ a + e → QuietAfter e (map (arriving came) (range_with_len a n))
+  quiet_from : (came : List Arrival) (end e a n : ℕ) → AllByRecursion (λ x. x.slot < end) came → end ≤ a + e →
+      QuietAfter e (map (arriving came) (range_with_len a n))
   unfolding none_from
   quiet_from came end e a zero before le = tt
-  quiet_from came end zero a (suc n) before le = (none_from came end a before (omega arith), quiet_from came end zero (a + 1) n before (omega arith))
+  quiet_from came end zero a (suc n) before le =
+      (none_from came end a before (omega arith), quiet_from came end zero (a + 1) n before (omega arith))
   quiet_from came end (suc e) a (suc n) before le = quiet_from came end e (a + 1) n before (omega arith)
 
 pub before_end : (came : List Arrival) → AllByRecursion (λ a. a.slot < end_of came) came
 before_end [] = tt
-before_end (a ∷ came) = (omega arith, all_from (λ x. x.slot < end_of came) (λ x. x.slot < max (a.slot + 1) (end_of came)) (λ x l. omega arith) came (before_end came))
+before_end (a ∷ came) = (
+  omega arith,
+  all_from (λ x. x.slot < end_of came) (λ x. x.slot < max (a.slot + 1) (end_of came)) (λ x l. omega arith)
+      came (before_end came),
+)
 
 pub none_after : (came : List Arrival) (t : ℕ) → end_of came ≤ t → length (present (arriving came t)) ≡ 0
 none_after came t le = none_from 64 refl came (end_of came) t (before_end came) le
@@ -117,11 +135,15 @@ quiet_at_end came = quiet_from 64 refl came (end_of came) (end_of came) 0 (enoug
 -- in any number of slots
 pub come_count-first : (came : List Arrival) (n : ℕ) →
     come_count (map (arriving came) (range_with_len 0 n)) ≤ length came
-come_count-first came n = let count = count_from 64 refl came 0 n in let few = no_more_than 64 refl came n in omega arith
+come_count-first came n =
+    let count = count_from 64 refl came 0 n in let few = no_more_than 64 refl came n in omega arith
 
 pub come_count-traffic_of : (came : List Arrival) → come_count (traffic_of came) ≤ length came
 unfolding traffic_of
-come_count-traffic_of came = let count = count_from 64 refl came 0 (enough came) in let few = no_more_than 64 refl came (enough came) in omega arith
+come_count-traffic_of came =
+    let count = count_from 64 refl came 0 (enough came) in
+    let few = no_more_than 64 refl came (enough came) in
+    omega arith
 
 pub length-traffic_of : (came : List Arrival) → length (traffic_of came) ≡ end_of came + length came
 unfolding traffic_of enough

@@ -44,8 +44,11 @@ unfolding admission
 each_slot Q keeps limits marks [] [] judged all = tt
 each_slot Q keeps limits marks [] (a ∷ admissions) judged all = absurd judged
 each_slot Q keeps limits marks (cells ∷ traffic) [] judged all = absurd judged
-each_slot Q keeps limits marks (cells ∷ traffic) (a ∷ admissions) judged all =
-    (subst (λ (x : Admission). Q x.cells) (sym judged.0.1) (keeps (marks_after limits judged.0.0 marks cells) cells all.0), each_slot Q keeps limits a.marks traffic admissions judged.1 all.1)
+each_slot Q keeps limits marks (cells ∷ traffic) (a ∷ admissions) judged all = (
+  subst (λ (x : Admission). Q x.cells) (sym judged.0.1) (keeps (marks_after limits judged.0.0 marks cells) cells
+      all.0),
+  each_slot Q keeps limits a.marks traffic admissions judged.1 all.1,
+)
 
 pub all_kept : (P : Cell → Type 0) (marks : List Bool) (cells : List (Option Cell)) → AllByRecursion P (present cells) →
     AllByRecursion P (present (admitted marks cells))
@@ -64,7 +67,8 @@ module _ (i c j : ℕ) where
   unfolding of_flow
   other cell cells ne =
       cond-false (is_of_flow i c j cell) (cell ∷ filter (is_of_flow i c j) cells) (filter (is_of_flow i c j) cells)
-      (and_right (cell.output == j) (cell.id.input == i && cell.class == c) (and_left (cell.id.input == i) (cell.class == c) (ne_eqb cell.id.input i ne)))
+      (and_right (cell.output == j) (cell.id.input == i && cell.class == c)
+      (and_left (cell.id.input == i) (cell.class == c) (ne_eqb cell.id.input i ne)))
 
   none_past : (a : ℕ) (cells : List (Option Cell)) → StandAt a cells → i < a → of_flow i c j (present cells) ≡ []
   unfolding of_flow other
@@ -126,12 +130,16 @@ unfolding traffic_of enough
 came_at_input ms ports openings came runs i c j =
     came_in_order i c j (enough came) came
     (all_from (IsForSwitch ms ports) (λ a. a.cell.id.input < 64) (λ a for. for.input) came runs.for_switch)
-    (all_from (λ a. a.slot < end_of came) (λ a. a.slot < end_of came + length came) (λ a l. omega arith) came (before_end came))
+    (all_from (λ a. a.slot < end_of came) (λ a. a.slot < end_of came + length came) (λ a l. omega arith) came
+    (before_end came))
     runs.rise
 
 -- ## The law
 
-module _ (limits : List (Option ℕ)) (ms : List Machine) (ports : ℕ) (openings : List (List ℕ)) (came : List Arrival) (ran : LimitedRan) (runs : IsRunnable ms ports openings came) (is : limited_run limits ms 0 (traffic_of came) (empty_limited ports openings) ≡ Ok ran) (i : ℕ) (packets : AreOfPackets 0 (cells_at i (traffic_of came))) where
+module _ (limits : List (Option ℕ)) (ms : List Machine) (ports : ℕ) (openings : List (List ℕ)) (came : List Arrival)
+    (ran : LimitedRan) (runs : IsRunnable ms ports openings came)
+    (is : limited_run limits ms 0 (traffic_of came) (empty_limited ports openings) ≡ Ok ran) (i : ℕ)
+    (packets : AreOfPackets 0 (cells_at i (traffic_of came))) where
   marks : List Bool
   marks = marks_down ports
 

@@ -1,6 +1,7 @@
--- Flows in a run with limits that goes on from any state, and leaves nothing. Of each flow what waits in the state leaves first,
--- in the order of the output's list, and then what is admitted of what comes, in its order. What is admitted are the cells of
--- whole packets; those of the packet that goes on are admitted where the mark of its input is down.
+-- Flows in a run with limits that goes on from any state, and leaves nothing. Of each flow what waits in the state
+-- leaves first, in the order of the output's list, and then what is admitted of what comes, in its order. What is
+-- admitted are the cells of whole packets; those of the packet that goes on are admitted where the mark of its input
+-- is down.
 use Rattle.std.proofs.Common.{◌≡◌, ◌∙◌, ℕ, ◌<◌, Bool, List, [], ◌++◌, length, filter, Option, Ok, sym, ap}
 use Rattle.std.specs.Prelude.{All, slice_index_or}
 use Rattle.std.specs.List.{AllByRecursion}
@@ -38,7 +39,8 @@ module _ (limits : List (Option ℕ)) (ms : List Machine) (slot : ℕ) (traffic 
 
   module _ (i next : ℕ) (packets : AreOfPackets next (cells_at i traffic)) where
     -- what is admitted of what comes to the input
-    pub whole_on : TakenOrRefused next (mark_at old.marks i) (cells_at i traffic) (cells_at i (admitted_in ran.admissions))
+    pub whole_on : TakenOrRefused next (mark_at old.marks i) (cells_at i traffic)
+        (cells_at i (admitted_in ran.admissions))
         (refused_here limits i traffic ran.admissions)
     whole_on = taken_or_refused limits i next old.marks traffic ran.admissions each_judged packets
 

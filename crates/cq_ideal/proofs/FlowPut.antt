@@ -1,7 +1,8 @@
--- A cell put into a list that stands in order. The list is one in which no cell is more urgent than one before it. A cell
--- is put before the first cell that is less urgent than it, so the list stays in order. And where no cell of some kind is
--- less urgent than a new one of that kind, none of them stands behind it: the first cell behind it is less urgent, and so
--- is each that follows. So of that kind the new cell is the last, and of any other kind the list shows what it showed.
+-- A cell put into a list that stands in order. The list is one in which no cell is more urgent than one before it. A
+-- cell is put before the first cell that is less urgent than it, so the list stays in order. And where no cell of
+-- some kind is less urgent than a new one of that kind, none of them stands behind it: the first cell behind it is
+-- less urgent, and so is each that follows. So of that kind the new cell is the last, and of any other kind the list
+-- shows what it showed.
 use Rattle.std.proofs.Common.{◌≡◌, ◌+◌, Bool, true, false, cond, List, [], ◌∷◌, ◌++◌, length, refl, sym, ap, ◌∙◌, subst, ⊎_elim, arith}
 use Rattle.std.specs.List.{AllByRecursion, filter}
 use Rattle.std.proofs.lemmas.Bool.{cond_both, cases_Bool, both_ways, false_from_ne_true, cond-true, cond-false}
@@ -15,23 +16,31 @@ use Rattle.cq_base.proofs.Keys.{key_laws}
 abbrev pub NoLater : Queued → Queued → Type 0
 NoLater a b = is_before b.key a.key ≡ false
 
-pub all_from : {X : Type 0} (P Q : X → Type 0) → ((x : X) → P x → Q x) → (xs : List X) → AllByRecursion P xs → AllByRecursion Q xs
+pub all_from : {X : Type 0} (P Q : X → Type 0) → ((x : X) → P x → Q x) → (xs : List X) → AllByRecursion P xs →
+    AllByRecursion Q xs
 all_from P Q f [] a = tt
 all_from P Q f (x ∷ xs) a = (f x a.0, all_from P Q f xs a.1)
 
-pub all_put : (P : Queued → Type 0) (n : Queued) (xs : List Queued) → P n → AllByRecursion P xs → AllByRecursion P (put n xs)
+pub all_put : (P : Queued → Type 0) (n : Queued) (xs : List Queued) → P n → AllByRecursion P xs →
+    AllByRecursion P (put n xs)
 all_put P n [] p a = (p, tt)
-all_put P n (x ∷ xs) p a = cond_both (is_before n.key x.key) (n ∷ x ∷ xs) (x ∷ put n xs) (AllByRecursion P) (λ _. (p, a)) (λ _. (a.0, all_put P n xs p a.1))
+all_put P n (x ∷ xs) p a =
+    cond_both (is_before n.key x.key) (n ∷ x ∷ xs) (x ∷ put n xs) (AllByRecursion P) (λ _. (p, a))
+    (λ _. (a.0, all_put P n xs p a.1))
 
 pub length_put : (n : Queued) (xs : List Queued) → length (put n xs) ≡ length xs + 1
 length_put n [] = refl
-length_put n (x ∷ xs) = cond_both (is_before n.key x.key) (n ∷ x ∷ xs) (x ∷ put n xs) (λ l. length l ≡ length (x ∷ xs) + 1) (λ _. omega arith) (λ _. let rest = length_put n xs in omega arith)
+length_put n (x ∷ xs) =
+    cond_both (is_before n.key x.key) (n ∷ x ∷ xs) (x ∷ put n xs) (λ l. length l ≡ length (x ∷ xs) + 1)
+    (λ _. omega arith) (λ _. let rest = length_put n xs in omega arith)
 
 -- what is before a cell is before each that is not more urgent than that one
 before_later : (n x y : Key) → is_before n x ≡ true → is_before y x ≡ false → is_before n y ≡ true
 before_later n x y h k =
     ⊎_elim (λ e. e)
-    (λ no. ⊎_elim (λ back. absurd (both_ways (is_before y x) k (key_laws.on y n x back h))) (λ alike. absurd (both_ways (is_before y x) k (subst (λ (z : Key). is_before z x ≡ true) (key_laws.alike n y no alike) h))) (cases_Bool (is_before y n)))
+    (λ no. ⊎_elim (λ back. absurd (both_ways (is_before y x) k (key_laws.on y n x back h)))
+    (λ alike. absurd (both_ways (is_before y x) k (subst (λ (z : Key). is_before z x ≡ true)
+    (key_laws.alike n y no alike) h))) (cases_Bool (is_before y n)))
     (cases_Bool (is_before n y))
 
 -- the list stays in order
@@ -39,7 +48,14 @@ pub in_order_put : (n : Queued) (xs : List Queued) → EachPair NoLater xs → E
 in_order_put n [] e = (tt, tt)
 in_order_put n (x ∷ xs) e =
     cond_both (is_before n.key x.key) (n ∷ x ∷ xs) (x ∷ put n xs) (EachPair NoLater)
-    (λ h. ((key_laws.one_way n.key x.key h, all_from (NoLater x) (NoLater n) (λ y k. key_laws.one_way n.key y.key (before_later n.key x.key y.key h k)) xs e.0), e))
+    (λ h. (
+      (
+        key_laws.one_way n.key x.key h,
+        all_from (NoLater x) (NoLater n)
+            (λ y k. key_laws.one_way n.key y.key (before_later n.key x.key y.key h k)) xs e.0,
+      ),
+      e,
+    ))
     (λ h. (all_put (NoLater x) n xs h e.0, in_order_put n xs e.1))
 
 -- ## What a list shows of one kind
@@ -58,21 +74,29 @@ module _ (p : Queued → Bool) (n : Queued) where
       (λ _. ap (λ l. cond (p x) (x ∷ l) l) (filter-put_other xs h))
 
   -- none of the kind stands behind a cell that the new one is before
-  none_behind : (x : Queued) (xs : List Queued) → is_before n.key x.key ≡ true → AllByRecursion (NoLater x) xs → AllByRecursion (λ y. p y ≡ true → NoLater y n) xs → AllByRecursion (λ y. p y ≡ false) xs
+  none_behind : (x : Queued) (xs : List Queued) → is_before n.key x.key ≡ true → AllByRecursion (NoLater x) xs →
+      AllByRecursion (λ y. p y ≡ true → NoLater y n) xs → AllByRecursion (λ y. p y ≡ false) xs
   none_behind x [] h a b = tt
-  none_behind x (y ∷ xs) h a b = (false_from_ne_true (p y) (λ e. both_ways (is_before n.key y.key) (b.0 e) (before_later n.key x.key y.key h a.0)), none_behind x xs h a.1 b.1)
+  none_behind x (y ∷ xs) h a b = (
+    false_from_ne_true (p y) (λ e. both_ways (is_before n.key y.key) (b.0 e)
+        (before_later n.key x.key y.key h a.0)),
+    none_behind x xs h a.1 b.1,
+  )
 
   -- a new cell of the kind, of which none is less urgent
-  pub filter-put : (xs : List Queued) → p n ≡ true → EachPair NoLater xs → AllByRecursion (λ x. p x ≡ true → NoLater x n) xs → filter p (put n xs) ≡ filter p xs ++ n ∷ []
+  pub filter-put : (xs : List Queued) → p n ≡ true → EachPair NoLater xs →
+      AllByRecursion (λ x. p x ≡ true → NoLater x n) xs → filter p (put n xs) ≡ filter p xs ++ n ∷ []
   filter-put [] h e a = cond-true (p n) (n ∷ []) [] h
   filter-put (x ∷ xs) h e a =
       cond_both (is_before n.key x.key) (n ∷ x ∷ xs) (x ∷ put n xs) (λ l. filter p l ≡ filter p (x ∷ xs) ++ n ∷ [])
       (λ b.
       let other : p x ≡ false = false_from_ne_true (p x) (λ k. both_ways (is_before n.key x.key) (a.0 k) b) in
       let none : filter p (x ∷ xs) ≡ [] = filter_none p (x ∷ xs) (other, none_behind x xs b e.0 a.1) in
-      cond-true (p n) (n ∷ filter p (x ∷ xs)) (filter p (x ∷ xs)) h ∙ ap (λ l. n ∷ l) none ∙ sym (ap (λ l. l ++ n ∷ []) none))
+      cond-true (p n) (n ∷ filter p (x ∷ xs)) (filter p (x ∷ xs)) h ∙ ap (λ l. n ∷ l) none
+      ∙ sym (ap (λ l. l ++ n ∷ []) none))
       (λ _.
       let rest = filter-put xs h e.1 a.1 in
-      cond_both (p x) (x ∷ filter p xs) (filter p xs) (λ l. cond (p x) (x ∷ filter p (put n xs)) (filter p (put n xs)) ≡ l ++ n ∷ [])
+      cond_both (p x) (x ∷ filter p xs) (filter p xs) (λ l. cond (p x) (x ∷ filter p (put n xs)) (filter p (put n xs))
+      ≡ l ++ n ∷ [])
       (λ k. cond-true (p x) (x ∷ filter p (put n xs)) (filter p (put n xs)) k ∙ ap (λ l. x ∷ l) rest)
       (λ k. cond-false (p x) (x ∷ filter p (put n xs)) (filter p (put n xs)) k ∙ rest))

@@ -1,6 +1,6 @@
--- The arrivals of a slot at one output, ranked and put into its list from input to input. A cell for the output is put
--- behind all that wait of its flow, and a cell for another output changes neither the list nor the machine's state here.
--- So of each flow the list shows what it showed before, and then what arrives of it.
+-- The arrivals of a slot at one output, ranked and put into its list from input to input. A cell for the output is
+-- put behind all that wait of its flow, and a cell for another output changes neither the list nor the machine's
+-- state here. So of each flow the list shows what it showed before, and then what arrives of it.
 use Rattle.std.proofs.Common.{◌≡◌, ℕ, ◌+◌, ◌<◌, ◌^◌, Bool, true, false, cond, List, [], ◌∷◌, ◌++◌, length, Option, Some, None, Result, Ok, Err, refl, sym, ap, ◌∙◌, subst, ⊎_elim, arith}
 use Rattle.std.specs.Prelude.{◌&&◌, ◌==◌, nat_lt, slice_index_or, slice_set}
 use Rattle.std.specs.List.{AllByRecursion}
@@ -22,13 +22,16 @@ present (None ∷ cells) = present cells
 present (Some cell ∷ cells) = cell ∷ present cells
 
 -- what came of the inputs from this one on, where no rank was too great
-after_ok : (P : Ranking → Type 0) (o : Option Queued) (x : Result Ranking TagFault) (r : Ranking) → after_input o x ≡ Ok r → ((rest : Ranking) → x ≡ Ok rest → P (record { came = o ∷ rest.came; ranks = rest.ranks })) → P r
+after_ok : (P : Ranking → Type 0) (o : Option Queued) (x : Result Ranking TagFault) (r : Ranking) →
+    after_input o x ≡ Ok r →
+    ((rest : Ranking) → x ≡ Ok rest → P (record { came = o ∷ rest.came; ranks = rest.ranks })) → P r
 after_ok P o (Ok rest) r h f =
     let made : Ranking = record { came = o ∷ rest.came; ranks = rest.ranks } in
     let same : made ≡ r = cc in subst P same (f rest refl)
 after_ok P o (Err fault) r h f = absurd (let P : ⊥ = cc in P)
 
-fits_ok : (b : Bool) (x : Result Ranking TagFault) (fault : TagFault) (r : Ranking) → cond b x (Err fault) ≡ Ok r → x ≡ Ok r
+fits_ok : (b : Bool) (x : Result Ranking TagFault) (fault : TagFault) (r : Ranking) → cond b x (Err fault) ≡ Ok r →
+    x ≡ Ok r
 fits_ok true x fault r h = h
 fits_ok false x fault r h = absurd (let P : ⊥ = cc in P)
 
@@ -56,7 +59,11 @@ module _ (ms : List Machine) (j slot : ℕ) (laws : KeepsLaws (machine_at ms j))
   abbrev given_in : List (List ℕ) → Cell → List (List ℕ)
   given_in ranks cell = slice_set ranks cell.output (state_given ranks cell)
 
-  module _ (cell : Cell) (come : List Cell) (input : ℕ) (ranks : List (List ℕ)) (xs : List Queued) (rest : Ranking) (inside : j < length ranks) (stands : Stands (machine_at ms j) (slice_index_or ranks j []) slot input xs) (go : (xs' : List Queued) → Stands (machine_at ms j) (slice_index_or (given_in ranks cell) j []) slot (input + 1) xs' → Filled come xs' (put_all j rest.came xs') (given_in ranks cell) rest.ranks) where
+  module _ (cell : Cell) (come : List Cell) (input : ℕ) (ranks : List (List ℕ)) (xs : List Queued) (rest : Ranking)
+      (inside : j < length ranks) (stands : Stands (machine_at ms j) (slice_index_or ranks j []) slot input xs)
+      (go : (xs' : List Queued) →
+      Stands (machine_at ms j) (slice_index_or (given_in ranks cell) j []) slot (input + 1) xs' →
+      Filled come xs' (put_all j rest.came xs') (given_in ranks cell) rest.ranks) where
     new_cell : Queued
     new_cell = keyed cell (level_in cell) (ranked_in ranks cell) slot input
 
@@ -68,14 +75,22 @@ module _ (ms : List Machine) (j slot : ℕ) (laws : KeepsLaws (machine_at ms j))
     unfolding of_flow FilledByOne new_cell
     elsewhere ne =
         let other : is_for j new_cell ≡ false = ne_eqb cell.output j ne in
-        let kept : slice_index_or (given_in ranks cell) j [] ≡ slice_index_or ranks j [] = get_or-set_other ranks cell.output j (state_given ranks cell) [] (λ e. ne (sym e)) in
-        let f = go xs (subst (λ (s : List ℕ). Stands (machine_at ms j) s slot (input + 1) xs) (sym kept) (stands_on (machine_at ms j) laws (slice_index_or ranks j []) slot input xs stands)) in
-        let out : is_of_flow i c j cell ≡ false = and_left (cell.output == j) (cell.id.input == i && cell.class == c) other in
-        subst (λ (l : List Queued). Filled (cell ∷ come) xs (put_all j rest.came l) ranks rest.ranks) (sym (cond-false (is_for j new_cell) (put new_cell xs) xs other))
+        let kept : slice_index_or (given_in ranks cell) j [] ≡ slice_index_or ranks j [] =
+        get_or-set_other ranks cell.output j (state_given ranks cell) [] (λ e. ne (sym e)) in
+        let f =
+        go xs (subst (λ (s : List ℕ). Stands (machine_at ms j) s slot (input + 1) xs) (sym kept)
+        (stands_on (machine_at ms j) laws (slice_index_or ranks j []) slot input xs stands)) in
+        let out : is_of_flow i c j cell ≡ false =
+        and_left (cell.output == j) (cell.id.input == i && cell.class == c) other in
+        subst (λ (l : List Queued). Filled (cell ∷ come) xs (put_all j rest.came l) ranks rest.ranks)
+        (sym (cond-false (is_for j new_cell) (put new_cell xs) xs other))
         (record {
           stands = f.stands;
           ports = f.ports ∙ length-set ranks cell.output (state_given ranks cell);
-          shows = f.shows ∙ ap (λ l. shown i c xs ++ l) (sym (cond-false (is_of_flow i c j cell) (cell ∷ of_flow i c j come) (of_flow i c j come) out));
+          shows =
+              f.shows
+              ∙ ap (λ l. shown i c xs ++ l) (sym (cond-false (is_of_flow i c j cell) (cell ∷ of_flow i c j come)
+              (of_flow i c j come) out));
         })
 
     -- a cell for this output
@@ -84,19 +99,29 @@ module _ (ms : List Machine) (j slot : ℕ) (laws : KeepsLaws (machine_at ms j))
     here e known =
         let state : List ℕ = slice_index_or ranks j [] in
         let ours : is_for j new_cell ≡ true = eq-eqb cell.output j e in
-        let level_is : new_cell.key.level ≡ (machine_at ms j).level cell.class = ap (λ (o : ℕ). (machine_at ms o).level cell.class) e in
-        let rank_is : new_cell.key.rank ≡ (machine_at ms j).ranked state cell.class = ap (λ (o : ℕ). (machine_at ms o).ranked (slice_index_or ranks o []) cell.class) e in
+        let level_is : new_cell.key.level ≡ (machine_at ms j).level cell.class =
+        ap (λ (o : ℕ). (machine_at ms o).level cell.class) e in
+        let rank_is : new_cell.key.rank ≡ (machine_at ms j).ranked state cell.class =
+        ap (λ (o : ℕ). (machine_at ms o).ranked (slice_index_or ranks o []) cell.class) e in
         let given : slice_index_or (given_in ranks cell) j [] ≡ (machine_at ms j).given state cell.class =
-        ap (λ (o : ℕ). slice_index_or (slice_set ranks o ((machine_at ms o).given (slice_index_or ranks o []) cell.class)) j []) e ∙ get_or-set_same ranks j ((machine_at ms j).given state cell.class) [] inside in
-        let put_in = stands_put (machine_at ms j) laws state slot input xs stands new_cell known level_is rank_is refl refl in
-        let f = go (put new_cell xs) (subst (λ (s : List ℕ). Stands (machine_at ms j) s slot (input + 1) (put new_cell xs)) (sym given) put_in) in
-        subst (λ (l : List Queued). Filled (cell ∷ come) xs (put_all j rest.came l) ranks rest.ranks) (sym (cond-true (is_for j new_cell) (put new_cell xs) xs ours))
+        ap (λ (o : ℕ). slice_index_or
+        (slice_set ranks o ((machine_at ms o).given (slice_index_or ranks o []) cell.class)) j []) e
+        ∙ get_or-set_same ranks j ((machine_at ms j).given state cell.class) [] inside in
+        let put_in =
+        stands_put (machine_at ms j) laws state slot input xs stands new_cell known level_is rank_is refl refl in
+        let f =
+        go (put new_cell xs) (subst
+        (λ (s : List ℕ). Stands (machine_at ms j) s slot (input + 1) (put new_cell xs)) (sym given)
+        put_in) in
+        subst (λ (l : List Queued). Filled (cell ∷ come) xs (put_all j rest.came l) ranks rest.ranks)
+        (sym (cond-true (is_for j new_cell) (put new_cell xs) xs ours))
         (record {
           stands = f.stands;
           ports = f.ports ∙ length-set ranks cell.output (state_given ranks cell);
           shows =
               f.shows
-              ∙ ap (λ l. l ++ of_flow i c j come) (shown-put (machine_at ms j) laws state slot input xs stands new_cell known level_is rank_is refl refl i c j e)
+              ∙ ap (λ l. l ++ of_flow i c j come) (shown-put (machine_at ms j) laws state slot input xs stands
+              new_cell known level_is rank_is refl refl i c j e)
               ∙ append_assoc (shown i c xs) (of_flow i c j (cell ∷ [])) (of_flow i c j come)
               ∙ ap (λ l. shown i c xs ++ l) (of_flow-cons i c j cell come);
         })
@@ -105,24 +130,45 @@ module _ (ms : List Machine) (j slot : ℕ) (laws : KeepsLaws (machine_at ms j))
     of_either are = ⊎_elim (λ e. here e (are e)) (λ ne. elsewhere ne) (cases_eq cell.output j)
 
   -- an input with a cell, and then the inputs after it
-  filled_one : (cell : Cell) (come : List Cell) (input : ℕ) (ranks : List (List ℕ)) (xs : List Queued) (r : Ranking) (fits : Bool) (fault : TagFault) (x : Result Ranking TagFault) → cond fits (after_input (Some (keyed cell (level_in cell) (ranked_in ranks cell) slot input)) x) (Err fault) ≡ Ok r → j < length ranks → Stands (machine_at ms j) (slice_index_or ranks j []) slot input xs → (cell.output ≡ j → cell.class < (machine_at ms j).classes) → ((xs' : List Queued) (rest : Ranking) → x ≡ Ok rest → Stands (machine_at ms j) (slice_index_or (given_in ranks cell) j []) slot (input + 1) xs' → Filled come xs' (put_all j rest.came xs') (given_in ranks cell) rest.ranks) → Filled (cell ∷ come) xs (put_all j r.came xs) ranks r.ranks
+  filled_one : (cell : Cell) (come : List Cell) (input : ℕ) (ranks : List (List ℕ)) (xs : List Queued) (r : Ranking)
+      (fits : Bool) (fault : TagFault) (x : Result Ranking TagFault) →
+      cond fits (after_input (Some (keyed cell (level_in cell) (ranked_in ranks cell) slot input)) x) (Err fault)
+      ≡ Ok r → j < length ranks → Stands (machine_at ms j) (slice_index_or ranks j []) slot input xs →
+      (cell.output ≡ j → cell.class < (machine_at ms j).classes) →
+      ((xs' : List Queued) (rest : Ranking) → x ≡ Ok rest →
+      Stands (machine_at ms j) (slice_index_or (given_in ranks cell) j []) slot (input + 1) xs' →
+      Filled come xs' (put_all j rest.came xs') (given_in ranks cell) rest.ranks) →
+      Filled (cell ∷ come) xs (put_all j r.came xs) ranks r.ranks
   unfolding FilledByOne new_cell
   filled_one cell come input ranks xs r fits fault x h inside stands are go =
       let some : Option Queued = Some (keyed cell (level_in cell) (ranked_in ranks cell) slot input) in
-      after_ok (λ q. Filled (cell ∷ come) xs (put_all j q.came xs) ranks q.ranks) some x r (fits_ok fits (after_input some x) fault r h)
+      after_ok (λ q. Filled (cell ∷ come) xs (put_all j q.came xs) ranks q.ranks) some x r
+      (fits_ok fits (after_input some x) fault r h)
       (λ rest is. of_either cell come input ranks xs rest inside stands (λ xs' s. go xs' rest is s) are)
 
   -- from input to input
-  pub filled_from : (cells : List (Option Cell)) (input : ℕ) (ranks : List (List ℕ)) (xs : List Queued) (r : Ranking) → ranking ms slot input cells ranks ≡ Ok r → j < length ranks → Stands (machine_at ms j) (slice_index_or ranks j []) slot input xs → AreOfClasses (machine_at ms j) j (present cells) → Filled (present cells) xs (put_all j r.came xs) ranks r.ranks
+  pub filled_from : (cells : List (Option Cell)) (input : ℕ) (ranks : List (List ℕ)) (xs : List Queued) (r : Ranking)
+      → ranking ms slot input cells ranks ≡ Ok r → j < length ranks →
+      Stands (machine_at ms j) (slice_index_or ranks j []) slot input xs →
+      AreOfClasses (machine_at ms j) j (present cells) → Filled (present cells) xs (put_all j r.came xs) ranks r.ranks
   unfolding of_flow
   filled_from [] input ranks xs r h inside stands are =
       let made : Ranking = record { came = []; ranks = ranks } in
       let same : made ≡ r = cc in
       subst (λ (q : Ranking). Filled [] xs (put_all j q.came xs) ranks q.ranks) same
-      (record { stands = stands_next (machine_at ms j) laws (slice_index_or ranks j []) slot input xs stands; ports = refl; shows = sym (append-nil (shown i c xs)) })
+      (record {
+        stands = stands_next (machine_at ms j) laws (slice_index_or ranks j []) slot input xs stands;
+        ports = refl;
+        shows = sym (append-nil (shown i c xs));
+      })
   filled_from (None ∷ cells) input ranks xs r h inside stands are =
-      after_ok (λ q. Filled (present cells) xs (put_all j q.came xs) ranks q.ranks) None (ranking ms slot (input + 1) cells ranks) r h
-      (λ rest is. filled_from cells (input + 1) ranks xs rest is inside (stands_on (machine_at ms j) laws (slice_index_or ranks j []) slot input xs stands) are)
+      after_ok (λ q. Filled (present cells) xs (put_all j q.came xs) ranks q.ranks) None
+      (ranking ms slot (input + 1) cells ranks) r h
+      (λ rest is. filled_from cells (input + 1) ranks xs rest is inside
+      (stands_on (machine_at ms j) laws (slice_index_or ranks j []) slot input xs stands) are)
   filled_from (Some cell ∷ cells) input ranks xs r h inside stands are =
-      filled_one cell (present cells) input ranks xs r (nat_lt (ranked_in ranks cell) (2 ^ 128)) (record { slot = slot; input = input; output = cell.output }) (ranking ms slot (input + 1) cells (given_in ranks cell)) h inside stands are.0
-      (λ xs' rest is stands'. filled_from cells (input + 1) (given_in ranks cell) xs' rest is (let same = length-set ranks cell.output (state_given ranks cell) in omega arith) stands' are.1)
+      filled_one cell (present cells) input ranks xs r (nat_lt (ranked_in ranks cell) (2 ^ 128))
+      (record { slot = slot; input = input; output = cell.output })
+      (ranking ms slot (input + 1) cells (given_in ranks cell)) h inside stands are.0
+      (λ xs' rest is stands'. filled_from cells (input + 1) (given_in ranks cell) xs' rest is
+      (let same = length-set ranks cell.output (state_given ranks cell) in omega arith) stands' are.1)

@@ -1,7 +1,7 @@
--- A whole run at one output. What a list shows of a flow, and then what is still to come of it, is what the output still
--- sends of it, and then what its list shows at the end: slot by slot. And where there are slots enough after the last
--- arrival the list is empty at the end, since in each of them it gets shorter by one cell. What is
--- no port sends nothing.
+-- A whole run at one output. What a list shows of a flow, and then what is still to come of it, is what the output
+-- still sends of it, and then what its list shows at the end: slot by slot. And where there are slots enough after
+-- the last arrival the list is empty at the end, since in each of them it gets shorter by one cell. What is no port
+-- sends nothing.
 use Rattle.std.proofs.Common.{◌≡◌, ℕ, zero, suc, ◌+◌, ◌-◌, ◌<◌, ◌≤◌, Bool, true, false, cond, List, [], ◌∷◌, ◌++◌, length, map, Option, Some, None, Result, Ok, Err, refl, sym, ap, ◌∙◌, subst, arith}
 use Rattle.std.specs.Prelude.{◌&&◌, ◌==◌, slice_index_or}
 use Rattle.std.specs.List.{AllByRecursion, filter}
@@ -23,7 +23,8 @@ use Rattle.cq_ideal.proofs.FlowSlot.{listed, Served, served, slot_ports}
 -- ## What an output sends
 
 module _ (i c j slot : ℕ) where
-  none_left : (gone : List (Option Queued)) (a : ℕ) → j < a → filter (leaves_in_flow i c j) (departures_from slot a gone) ≡ []
+  none_left : (gone : List (Option Queued)) (a : ℕ) → j < a →
+      filter (leaves_in_flow i c j) (departures_from slot a gone) ≡ []
   none_left [] a l = refl
   none_left (None ∷ gone) a l = none_left gone (a + 1) (omega arith)
   none_left (Some q ∷ gone) a l =
@@ -33,11 +34,14 @@ module _ (i c j slot : ℕ) where
       let rest : List Departure = filter (leaves_in_flow i c j) (departures_from slot (a + 1) gone) in
       cond-false (leaves_in_flow i c j d) (d ∷ rest) rest out ∙ none_left gone (a + 1) (omega arith)
 
-  one_left : (b : Bool) (d : Departure) → map (λ (x : Departure). x.queued.cell) (cond b (d ∷ []) []) ≡ map (λ (x : Queued). x.cell) (cond b (d.queued ∷ []) [])
+  one_left : (b : Bool) (d : Departure) →
+      map (λ (x : Departure). x.queued.cell) (cond b (d ∷ []) [])
+      ≡ map (λ (x : Queued). x.cell) (cond b (d.queued ∷ []) [])
   one_left true d = refl
   one_left false d = refl
 
-  left_from : (gone : List (Option Queued)) (a k : ℕ) → a + k ≡ j → left_in_flow i c j (departures_from slot a gone) ≡ shown i c (listed (slice_index_or gone k None))
+  left_from : (gone : List (Option Queued)) (a k : ℕ) → a + k ≡ j →
+      left_in_flow i c j (departures_from slot a gone) ≡ shown i c (listed (slice_index_or gone k None))
   left_from [] a k e = refl
   left_from (None ∷ gone) a zero e = ap (map (λ (x : Departure). x.queued.cell)) (none_left gone (a + 1) (omega arith))
   left_from (None ∷ gone) a (suc k) e = left_from gone (a + 1) k (omega arith)
@@ -45,7 +49,8 @@ module _ (i c j slot : ℕ) where
       let d : Departure = record { slot = slot; output = a; queued = q } in
       let here : (a == j) ≡ true = eq-eqb a j (omega arith) in
       let of : leaves_in_flow i c j d ≡ is_kind i c q = ap (λ (t : Bool). t && is_kind i c q) here in
-      ap (λ (l : List Departure). map (λ (x : Departure). x.queued.cell) (cond (leaves_in_flow i c j d) (d ∷ l) l)) (none_left gone (a + 1) (omega arith))
+      ap (λ (l : List Departure). map (λ (x : Departure). x.queued.cell) (cond (leaves_in_flow i c j d) (d ∷ l) l))
+      (none_left gone (a + 1) (omega arith))
       ∙ one_left (leaves_in_flow i c j d) d
       ∙ ap (λ (b : Bool). map (λ (x : Queued). x.cell) (cond b (q ∷ []) [])) of
   left_from (Some q ∷ gone) a (suc k) e =
@@ -53,14 +58,18 @@ module _ (i c j slot : ℕ) where
       let other : (a == j) ≡ false = ne_eqb a j (λ same. omega arith) in
       let out : leaves_in_flow i c j d ≡ false = and_left (a == j) (is_kind i c q) other in
       let rest : List Departure = filter (leaves_in_flow i c j) (departures_from slot (a + 1) gone) in
-      ap (map (λ (x : Departure). x.queued.cell)) (cond-false (leaves_in_flow i c j d) (d ∷ rest) rest out) ∙ left_from gone (a + 1) k (omega arith)
+      ap (map (λ (x : Departure). x.queued.cell)) (cond-false (leaves_in_flow i c j d) (d ∷ rest) rest out)
+      ∙ left_from gone (a + 1) k (omega arith)
 
-  left_later : (gone : List (Option Queued)) (ds : List Departure) → left_in_flow i c j (departures_in slot gone ++ ds) ≡ shown i c (listed (slice_index_or gone j None)) ++ left_in_flow i c j ds
+  left_later : (gone : List (Option Queued)) (ds : List Departure) →
+      left_in_flow i c j (departures_in slot gone ++ ds)
+      ≡ shown i c (listed (slice_index_or gone j None)) ++ left_in_flow i c j ds
   unfolding departures_in
   left_later gone ds =
       let here : List Departure = departures_from slot 0 gone in
       ap (map (λ (x : Departure). x.queued.cell)) (filter-append (leaves_in_flow i c j) here ds)
-      ∙ map-append (λ (x : Departure). x.queued.cell) (filter (leaves_in_flow i c j) here) (filter (leaves_in_flow i c j) ds)
+      ∙ map-append (λ (x : Departure). x.queued.cell) (filter (leaves_in_flow i c j) here)
+      (filter (leaves_in_flow i c j) ds)
       ∙ ap (λ (l : List Cell). l ++ left_in_flow i c j ds) (left_from gone 0 j (omega arith))
 
 -- ## What is to come
@@ -82,35 +91,53 @@ QuietAfter zero (cells ∷ traffic) = (length (present cells) ≡ 0) × QuietAft
 QuietAfter (suc e) (cells ∷ traffic) = QuietAfter e traffic
 
 -- a list that gets what comes and then loses one cell is empty once the slots are over
-pub drained : (e : ℕ) (cells : List (Option Cell)) (traffic : List (List (Option Cell))) (before after end : ℕ) → QuietAfter e (cells ∷ traffic) → before + come_count (cells ∷ traffic) + e ≤ length (cells ∷ traffic) → after ≤ before + length (present cells) - 1 → ((e' : ℕ) → QuietAfter e' traffic → after + come_count traffic + e' ≤ length traffic → end ≡ 0) → end ≡ 0
+pub drained : (e : ℕ) (cells : List (Option Cell)) (traffic : List (List (Option Cell))) (before after end : ℕ) →
+    QuietAfter e (cells ∷ traffic) → before + come_count (cells ∷ traffic) + e ≤ length (cells ∷ traffic) →
+    after ≤ before + length (present cells) - 1 →
+    ((e' : ℕ) → QuietAfter e' traffic → after + come_count traffic + e' ≤ length traffic → end ≡ 0) → end ≡ 0
 unfolding come_count
-drained zero cells traffic before after end quiet enough less go = let none : length (present cells) ≡ 0 = quiet.0 in let total = quiet_count traffic quiet.1 in go zero quiet.1 (omega arith)
+drained zero cells traffic before after end quiet enough less go =
+    let none : length (present cells) ≡ 0 = quiet.0 in
+    let total = quiet_count traffic quiet.1 in
+    go zero quiet.1 (omega arith)
   where
     quiet_count : (traffic : List (List (Option Cell))) → QuietAfter zero traffic → come_count traffic ≡ 0
     quiet_count [] q = refl
-    quiet_count (cells ∷ traffic) q = let rest = quiet_count traffic q.1 in let here : length (present cells) ≡ 0 = q.0 in omega arith
+    quiet_count (cells ∷ traffic) q =
+        let rest = quiet_count traffic q.1 in let here : length (present cells) ≡ 0 = q.0 in omega arith
 drained (suc e) cells traffic before after end quiet enough less go = go e quiet (omega arith)
 
 goes_on : List Machine → ℕ → List (List (Option Cell)) → Result Sent TagFault → Result Ran TagFault
-goes_on ms slot traffic x = elim x [ Ok sent ↦ then_ran sent.gone (ideal_run ms (slot + 1) traffic sent.after) | Err fault ↦ Err fault ]
+goes_on ms slot traffic x =
+    elim x [ Ok sent ↦ then_ran sent.gone (ideal_run ms (slot + 1) traffic sent.after) | Err fault ↦ Err fault ]
 
-then_ok : (P : Ran → Type 0) (gone : List (Option Queued)) (x : Result Ran TagFault) (ran : Ran) → then_ran gone x ≡ Ok ran → ((rest : Ran) → x ≡ Ok rest → P (record { gone = gone ∷ rest.gone; after = rest.after })) → P ran
+then_ok : (P : Ran → Type 0) (gone : List (Option Queued)) (x : Result Ran TagFault) (ran : Ran) →
+    then_ran gone x ≡ Ok ran →
+    ((rest : Ran) → x ≡ Ok rest → P (record { gone = gone ∷ rest.gone; after = rest.after })) → P ran
 then_ok P gone (Ok rest) ran h f =
     let made : Ran = record { gone = gone ∷ rest.gone; after = rest.after } in
     let same : made ≡ ran = cc in subst P same (f rest refl)
 then_ok P gone (Err fault) ran h f = absurd (let P : ⊥ = cc in P)
 
-run_ok : (P : Ran → Type 0) (ms : List Machine) (slot : ℕ) (traffic : List (List (Option Cell))) (x : Result Sent TagFault) (ran : Ran) → goes_on ms slot traffic x ≡ Ok ran → ((sent : Sent) (rest : Ran) → x ≡ Ok sent → ideal_run ms (slot + 1) traffic sent.after ≡ Ok rest → P (record { gone = sent.gone ∷ rest.gone; after = rest.after })) → P ran
+run_ok : (P : Ran → Type 0) (ms : List Machine) (slot : ℕ) (traffic : List (List (Option Cell)))
+    (x : Result Sent TagFault) (ran : Ran) → goes_on ms slot traffic x ≡ Ok ran →
+    ((sent : Sent) (rest : Ran) → x ≡ Ok sent → ideal_run ms (slot + 1) traffic sent.after ≡ Ok rest →
+    P (record { gone = sent.gone ∷ rest.gone; after = rest.after })) → P ran
 unfolding goes_on
-run_ok P ms slot traffic (Ok sent) ran h f = then_ok P sent.gone (ideal_run ms (slot + 1) traffic sent.after) ran h (λ rest is. f sent rest refl is)
+run_ok P ms slot traffic (Ok sent) ran h f =
+    then_ok P sent.gone (ideal_run ms (slot + 1) traffic sent.after) ran h (λ rest is. f sent rest refl is)
 run_ok P ms slot traffic (Err fault) ran h f = absurd (let P : ⊥ = cc in P)
 
 module _ (ms : List Machine) (j : ℕ) (laws : KeepsLaws (machine_at ms j)) (i c : ℕ) where
   -- what a run over these slots made of the flow and of the output's list
   pub record Passed (slot : ℕ) (traffic : List (List (Option Cell))) (state : IdealState) (ran : Ran) : Type 0 where
-    pub shows : shown i c (slice_index_or state.lists j []) ++ flow_came i c j traffic ≡ left_in_flow i c j (departures_of slot ran.gone) ++ shown i c (slice_index_or ran.after.lists j [])
+    pub shows : shown i c (slice_index_or state.lists j []) ++ flow_came i c j traffic
+        ≡ left_in_flow i c j (departures_of slot ran.gone) ++ shown i c (slice_index_or ran.after.lists j [])
 
-  passed_step : (slot : ℕ) (cells : List (Option Cell)) (traffic : List (List (Option Cell))) (state : IdealState) (sent : Sent) (rest : Ran) → Served ms j slot laws i c (present cells) state sent → Passed (slot + 1) traffic sent.after rest → Passed slot (cells ∷ traffic) state (record { gone = sent.gone ∷ rest.gone; after = rest.after })
+  passed_step : (slot : ℕ) (cells : List (Option Cell)) (traffic : List (List (Option Cell))) (state : IdealState)
+      (sent : Sent) (rest : Ran) → Served ms j slot laws i c (present cells) state sent →
+      Passed (slot + 1) traffic sent.after rest →
+      Passed slot (cells ∷ traffic) state (record { gone = sent.gone ∷ rest.gone; after = rest.after })
   unfolding flow_came come_count departures_of
   passed_step slot cells traffic state sent rest s p =
       let now : List Cell = shown i c (slice_index_or state.lists j []) in
@@ -128,10 +155,15 @@ module _ (ms : List Machine) (j : ℕ) (laws : KeepsLaws (machine_at ms j)) (i c
             ∙ append_assoc gone next later
             ∙ ap (λ (l : List Cell). gone ++ l) p.shows
             ∙ sym (append_assoc gone left end)
-            ∙ ap (λ (l : List Cell). l ++ end) (sym (left_later i c j slot sent.gone (departures_of (slot + 1) rest.gone)));
+            ∙ ap (λ (l : List Cell). l ++ end) (sym (left_later i c j slot sent.gone
+            (departures_of (slot + 1) rest.gone)));
       }
 
-  pub passed : (traffic : List (List (Option Cell))) (slot : ℕ) (state : IdealState) (ran : Ran) → ideal_run ms slot traffic state ≡ Ok ran → j < length state.lists → j < length state.ranks → Stands (machine_at ms j) (slice_index_or state.ranks j []) slot 0 (slice_index_or state.lists j []) → AllByRecursion (λ cells. AreOfClasses (machine_at ms j) j (present cells)) traffic → Passed slot traffic state ran
+  pub passed : (traffic : List (List (Option Cell))) (slot : ℕ) (state : IdealState) (ran : Ran) →
+      ideal_run ms slot traffic state ≡ Ok ran → j < length state.lists → j < length state.ranks →
+      Stands (machine_at ms j) (slice_index_or state.ranks j []) slot 0 (slice_index_or state.lists j []) →
+      AllByRecursion (λ cells. AreOfClasses (machine_at ms j) j (present cells)) traffic →
+      Passed slot traffic state ran
   unfolding ideal_run goes_on flow_came come_count departures_of
   passed [] slot state ran h in_lists in_ranks stands are =
       let made : Ran = record { gone = []; after = state } in
@@ -141,23 +173,29 @@ module _ (ms : List Machine) (j : ℕ) (laws : KeepsLaws (machine_at ms j)) (i c
       run_ok (Passed slot (cells ∷ traffic) state) ms slot traffic (ideal_slot ms slot cells state) ran h
       (λ sent rest slot_is rest_is.
       let s = served ms j slot laws i c cells state sent slot_is in_lists in_ranks stands are.0 in
-      let p = passed traffic (slot + 1) sent.after rest rest_is (let ports = s.ports in omega arith) (let states = s.states in omega arith) s.stands are.1 in
+      let p =
+      passed traffic (slot + 1) sent.after rest rest_is (let ports = s.ports in omega arith)
+      (let states = s.states in omega arith) s.stands are.1 in
       passed_step slot cells traffic state sent rest s p)
 
 -- where there is no such port nothing leaves it
-pub no_port : (ms : List Machine) (i c j : ℕ) (traffic : List (List (Option Cell))) (slot : ℕ) (state : IdealState) (ran : Ran) → ideal_run ms slot traffic state ≡ Ok ran → length state.lists ≤ j → left_in_flow i c j (departures_of slot ran.gone) ≡ []
+pub no_port : (ms : List Machine) (i c j : ℕ) (traffic : List (List (Option Cell))) (slot : ℕ) (state : IdealState)
+    (ran : Ran) → ideal_run ms slot traffic state ≡ Ok ran → length state.lists ≤ j →
+    left_in_flow i c j (departures_of slot ran.gone) ≡ []
 unfolding ideal_run goes_on departures_of
 no_port ms i c j [] slot state ran h outside =
     let made : Ran = record { gone = []; after = state } in
     let same : made ≡ ran = cc in
     subst (λ (r : Ran). left_in_flow i c j (departures_of slot r.gone) ≡ []) same refl
 no_port ms i c j (cells ∷ traffic) slot state ran h outside =
-    run_ok (λ r. left_in_flow i c j (departures_of slot r.gone) ≡ []) ms slot traffic (ideal_slot ms slot cells state) ran h
+    run_ok (λ r. left_in_flow i c j (departures_of slot r.gone) ≡ []) ms slot traffic (ideal_slot ms slot cells state)
+    ran h
     (λ sent rest slot_is rest_is.
     let none : Option Queued = None in
     let ports = slot_ports ms slot cells state sent slot_is in
     let gone_are : length sent.gone ≡ length state.lists = ports.0 in
     let lists_are : length sent.after.lists ≡ length state.lists = ports.1 in
     left_later i c j slot sent.gone (departures_of (slot + 1) rest.gone)
-    ∙ ap (λ (o : Option Queued). shown i c (listed o) ++ left_in_flow i c j (departures_of (slot + 1) rest.gone)) (get_or_past sent.gone j none (omega arith))
+    ∙ ap (λ (o : Option Queued). shown i c (listed o) ++ left_in_flow i c j (departures_of (slot + 1) rest.gone))
+    (get_or_past sent.gone j none (omega arith))
     ∙ no_port ms i c j traffic (slot + 1) sent.after rest rest_is (omega arith))

@@ -1,6 +1,6 @@
--- One slot at one output. After its arrivals the output sends the first cell of its list, and a sending lowers no floor;
--- where it sends nothing its list is empty. So what is known of the list stays known. And what the list showed of a flow,
--- and then what arrived of it, is what the output sent of it, and then what the list shows afterwards.
+-- One slot at one output. After its arrivals the output sends the first cell of its list, and a sending lowers no
+-- floor; where it sends nothing its list is empty. So what is known of the list stays known. And what the list showed
+-- of a flow, and then what arrived of it, is what the output sent of it, and then what the list shows afterwards.
 use Rattle.std.proofs.Common.{◌≡◌, ℕ, ◌+◌, ◌<◌, Bool, true, false, cond, List, [], ◌∷◌, ◌++◌, length, map, drop, Option, Some, None, Result, Ok, Err, refl, sym, ap, ◌∙◌, subst, arith}
 use Rattle.std.specs.Prelude.{slice_get, slice_index_or}
 use Rattle.std.specs.List.{filter}
@@ -23,17 +23,28 @@ listed (Some q) = q ∷ []
 
 -- ## What is left of a list
 
-stands_sent : (m : Machine) (laws : KeepsLaws m) (state : List ℕ) (slot : ℕ) (ys : List Queued) → Stands m state slot 0 ys → Stands m (told m state (slice_get ys 0)) slot 0 (drop 1 ys)
+stands_sent : (m : Machine) (laws : KeepsLaws m) (state : List ℕ) (slot : ℕ) (ys : List Queued) →
+    Stands m state slot 0 ys → Stands m (told m state (slice_get ys 0)) slot 0 (drop 1 ys)
 stands_sent m laws state slot [] stands = record { size = laws.idle_length state stands.size; order = tt; waited = tt }
 stands_sent m laws state slot (y ∷ ys) stands = record {
   size = laws.sent_length state y.key.level y.key.rank stands.size;
   order = stands.order.1;
   waited = all_from (HasWaited m state slot 0) (HasWaited m (m.sent state y.key.level y.key.rank) slot 0)
-      (λ x w. record { level = w.level; rank = let l = laws.sent_floor state y.key.level y.key.rank x.cell.class stands.size w.class in let r = w.rank in omega arith; class = w.class; came = w.came; before = w.before })
+      (λ x w. record {
+        level = w.level;
+        rank = let l = laws.sent_floor state y.key.level y.key.rank x.cell.class stands.size w.class in
+            let r = w.rank in
+            omega arith;
+        class = w.class;
+        came = w.came;
+        before = w.before;
+      })
       ys stands.waited.1;
 }
 
-first_shown : (b : Bool) (y : Queued) (zs : List Queued) → map (λ (x : Queued). x.cell) (cond b (y ∷ zs) zs) ≡ map (λ (x : Queued). x.cell) (cond b (y ∷ []) []) ++ map (λ (x : Queued). x.cell) zs
+first_shown : (b : Bool) (y : Queued) (zs : List Queued) →
+    map (λ (x : Queued). x.cell) (cond b (y ∷ zs) zs)
+    ≡ map (λ (x : Queued). x.cell) (cond b (y ∷ []) []) ++ map (λ (x : Queued). x.cell) zs
 first_shown true y zs = refl
 first_shown false y zs = refl
 
@@ -43,37 +54,76 @@ shown_sent i c (y ∷ ys) = first_shown (is_kind i c y) y (filter (is_kind i c) 
 
 -- ## What stands at one output after the slot
 
-filled_at : (came : List (Option Queued)) (lists : List (List Queued)) (j : ℕ) → j < length lists → slice_index_or (filled came lists) j [] ≡ put_all j came (slice_index_or lists j [])
+filled_at : (came : List (Option Queued)) (lists : List (List Queued)) (j : ℕ) → j < length lists →
+    slice_index_or (filled came lists) j [] ≡ put_all j came (slice_index_or lists j [])
 unfolding filled
-filled_at came lists j inside = get_or-map-range_with_len (λ (k : ℕ). put_all k came (slice_index_or lists k [])) 0 (length lists) j j [] inside (omega arith)
+filled_at came lists j inside =
+    get_or-map-range_with_len (λ (k : ℕ). put_all k came (slice_index_or lists k [])) 0 (length lists) j j [] inside
+    (omega arith)
 
 length-filled : (came : List (Option Queued)) (lists : List (List Queued)) → length (filled came lists) ≡ length lists
 unfolding filled
-length-filled came lists = length-map-range_with_len (λ (k : ℕ). put_all k came (slice_index_or lists k [])) 0 (length lists)
+length-filled came lists =
+    length-map-range_with_len (λ (k : ℕ). put_all k came (slice_index_or lists k [])) 0 (length lists)
 
-told_at : (ms : List Machine) (gone : List (Option Queued)) (ranks : List (List ℕ)) (j : ℕ) → j < length ranks → slice_index_or (all_told ms gone ranks) j [] ≡ told (machine_at ms j) (slice_index_or ranks j []) (slice_index_or gone j None)
+told_at : (ms : List Machine) (gone : List (Option Queued)) (ranks : List (List ℕ)) (j : ℕ) → j < length ranks →
+    slice_index_or (all_told ms gone ranks) j []
+    ≡ told (machine_at ms j) (slice_index_or ranks j []) (slice_index_or gone j None)
 unfolding all_told
-told_at ms gone ranks j inside = get_or-map-range_with_len (λ (k : ℕ). told (machine_at ms k) (slice_index_or ranks k []) (slice_index_or gone k None)) 0 (length ranks) j j [] inside (omega arith)
+told_at ms gone ranks j inside =
+    get_or-map-range_with_len
+    (λ (k : ℕ). told (machine_at ms k) (slice_index_or ranks k []) (slice_index_or gone k None)) 0 (length ranks)
+    j j [] inside (omega arith)
 
-length-all_told : (ms : List Machine) (gone : List (Option Queued)) (ranks : List (List ℕ)) → length (all_told ms gone ranks) ≡ length ranks
+length-all_told : (ms : List Machine) (gone : List (Option Queued)) (ranks : List (List ℕ)) →
+    length (all_told ms gone ranks) ≡ length ranks
 unfolding all_told
-length-all_told ms gone ranks = length-map-range_with_len (λ (k : ℕ). told (machine_at ms k) (slice_index_or ranks k []) (slice_index_or gone k None)) 0 (length ranks)
+length-all_told ms gone ranks =
+    length-map-range_with_len
+    (λ (k : ℕ). told (machine_at ms k) (slice_index_or ranks k []) (slice_index_or gone k None)) 0 (length ranks)
 
-sends_ok : (P : Sent → Type 0) (ms : List Machine) (old : IdealState) (x : Result Ranking TagFault) (sent : Sent) → ideal_sends ms old x ≡ Ok sent → ((r : Ranking) → x ≡ Ok r → P (record { gone = fronts (filled r.came old.lists); after = record { lists = rests (filled r.came old.lists); ranks = all_told ms (fronts (filled r.came old.lists)) r.ranks } })) → P sent
+sends_ok : (P : Sent → Type 0) (ms : List Machine) (old : IdealState) (x : Result Ranking TagFault) (sent : Sent) →
+    ideal_sends ms old x ≡ Ok sent →
+    ((r : Ranking) → x ≡ Ok r →
+    P (record {
+      gone = fronts (filled r.came old.lists);
+      after = record {
+        lists = rests (filled r.came old.lists);
+        ranks = all_told ms (fronts (filled r.came old.lists)) r.ranks;
+      };
+    })) → P sent
 sends_ok P ms old (Ok r) sent h f =
-    let made : Sent = record { gone = fronts (filled r.came old.lists); after = record { lists = rests (filled r.came old.lists); ranks = all_told ms (fronts (filled r.came old.lists)) r.ranks } } in
+    let made : Sent =
+    record {
+      gone = fronts (filled r.came old.lists);
+      after = record {
+        lists = rests (filled r.came old.lists);
+        ranks = all_told ms (fronts (filled r.came old.lists)) r.ranks;
+      };
+    } in
     let same : made ≡ sent = cc in subst P same (f r refl)
 sends_ok P ms old (Err fault) sent h f = absurd (let P : ⊥ = cc in P)
 
 module _ (ms : List Machine) (j slot : ℕ) (laws : KeepsLaws (machine_at ms j)) (i c : ℕ) where
   -- what a slot made of the output's list, where these cells came to the switch
   pub record Served (come : List Cell) (old : IdealState) (sent : Sent) : Type 0 where
-    pub stands : Stands (machine_at ms j) (slice_index_or sent.after.ranks j []) (slot + 1) 0 (slice_index_or sent.after.lists j [])
+    pub stands : Stands (machine_at ms j) (slice_index_or sent.after.ranks j []) (slot + 1) 0
+        (slice_index_or sent.after.lists j [])
     pub states : length sent.after.ranks ≡ length old.ranks
     pub ports : length sent.after.lists ≡ length old.lists
-    pub shows : shown i c (slice_index_or old.lists j []) ++ of_flow i c j come ≡ shown i c (listed (slice_index_or sent.gone j None)) ++ shown i c (slice_index_or sent.after.lists j [])
+    pub shows : shown i c (slice_index_or old.lists j []) ++ of_flow i c j come
+        ≡ shown i c (listed (slice_index_or sent.gone j None)) ++ shown i c (slice_index_or sent.after.lists j [])
 
-  served_from : (come : List Cell) (old : IdealState) (r : Ranking) → j < length old.lists → j < length old.ranks → Filled ms j slot laws i c come (slice_index_or old.lists j []) (put_all j r.came (slice_index_or old.lists j [])) old.ranks r.ranks → Served come old (record { gone = fronts (filled r.came old.lists); after = record { lists = rests (filled r.came old.lists); ranks = all_told ms (fronts (filled r.came old.lists)) r.ranks } })
+  served_from : (come : List Cell) (old : IdealState) (r : Ranking) → j < length old.lists → j < length old.ranks →
+      Filled ms j slot laws i c come (slice_index_or old.lists j [])
+      (put_all j r.came (slice_index_or old.lists j [])) old.ranks r.ranks →
+      Served come old (record {
+        gone = fronts (filled r.came old.lists);
+        after = record {
+          lists = rests (filled r.came old.lists);
+          ranks = all_told ms (fronts (filled r.came old.lists)) r.ranks;
+        };
+      })
   served_from come old r in_lists in_ranks f =
       let lists : List (List Queued) = filled r.came old.lists in
       let none : Option Queued = None in
@@ -85,37 +135,54 @@ module _ (ms : List Machine) (j slot : ℕ) (laws : KeepsLaws (machine_at ms j))
       let states : length r.ranks ≡ length old.ranks = f.ports in
       let inside_ranks : j < length r.ranks = omega arith in
       let here : slice_index_or lists j [] ≡ ys = filled_at r.came old.lists j in_lists in
-      let gone : slice_index_or (fronts lists) j none ≡ slice_get ys 0 = get_or-map (λ (zs : List Queued). slice_get zs 0) lists j nil none inside ∙ ap (λ (zs : List Queued). slice_get zs 0) here in
-      let left : slice_index_or (rests lists) j nil ≡ drop 1 ys = get_or-map (λ (zs : List Queued). drop 1 zs) lists j nil nil inside ∙ ap (λ (zs : List Queued). drop 1 zs) here in
-      let state : slice_index_or (all_told ms (fronts lists) r.ranks) j [] ≡ told (machine_at ms j) (slice_index_or r.ranks j []) (slice_get ys 0) =
-      told_at ms (fronts lists) r.ranks j inside_ranks ∙ ap (told (machine_at ms j) (slice_index_or r.ranks j [])) gone in
+      let gone : slice_index_or (fronts lists) j none ≡ slice_get ys 0 =
+      get_or-map (λ (zs : List Queued). slice_get zs 0) lists j nil none inside
+      ∙ ap (λ (zs : List Queued). slice_get zs 0) here in
+      let left : slice_index_or (rests lists) j nil ≡ drop 1 ys =
+      get_or-map (λ (zs : List Queued). drop 1 zs) lists j nil nil inside
+      ∙ ap (λ (zs : List Queued). drop 1 zs) here in
+      let state : slice_index_or (all_told ms (fronts lists) r.ranks) j []
+      ≡ told (machine_at ms j) (slice_index_or r.ranks j []) (slice_get ys 0) =
+      told_at ms (fronts lists) r.ranks j inside_ranks
+      ∙ ap (told (machine_at ms j) (slice_index_or r.ranks j [])) gone in
       let kept = stands_sent (machine_at ms j) laws (slice_index_or r.ranks j []) (slot + 1) ys f.stands in
       record {
         stands =
-            subst (λ (zs : List Queued). Stands (machine_at ms j) (slice_index_or (all_told ms (fronts lists) r.ranks) j []) (slot + 1) 0 zs) (sym left)
+            subst (λ (zs : List Queued). Stands (machine_at ms j)
+            (slice_index_or (all_told ms (fronts lists) r.ranks) j []) (slot + 1) 0 zs) (sym left)
             (subst (λ (s : List ℕ). Stands (machine_at ms j) s (slot + 1) 0 (drop 1 ys)) (sym state) kept);
         states = length-all_told ms (fronts lists) r.ranks ∙ states;
         ports = length-map lists (λ (zs : List Queued). drop 1 zs) ∙ many;
         shows =
             sym f.shows ∙ shown_sent i c ys
             ∙ ap (λ (o : Option Queued). shown i c (listed o) ++ shown i c (drop 1 ys)) (sym gone)
-            ∙ ap (λ (zs : List Queued). shown i c (listed (slice_index_or (fronts lists) j none)) ++ shown i c zs) (sym left);
+            ∙ ap (λ (zs : List Queued). shown i c (listed (slice_index_or (fronts lists) j none)) ++ shown i c zs)
+            (sym left);
       }
 
-  pub served : (cells : List (Option Cell)) (old : IdealState) (sent : Sent) → ideal_slot ms slot cells old ≡ Ok sent → j < length old.lists → j < length old.ranks → Stands (machine_at ms j) (slice_index_or old.ranks j []) slot 0 (slice_index_or old.lists j []) → AreOfClasses (machine_at ms j) j (present cells) → Served (present cells) old sent
+  pub served : (cells : List (Option Cell)) (old : IdealState) (sent : Sent) →
+      ideal_slot ms slot cells old ≡ Ok sent → j < length old.lists → j < length old.ranks →
+      Stands (machine_at ms j) (slice_index_or old.ranks j []) slot 0 (slice_index_or old.lists j []) →
+      AreOfClasses (machine_at ms j) j (present cells) → Served (present cells) old sent
   unfolding ideal_slot
   served cells old sent h in_lists in_ranks stands are =
       sends_ok (λ s. Served (present cells) old s) ms old (ranking ms slot 0 cells old.ranks) sent h
-      (λ r is. served_from (present cells) old r in_lists in_ranks (filled_from ms j slot laws i c cells 0 old.ranks (slice_index_or old.lists j []) r is in_ranks stands are))
+      (λ r is. served_from (present cells) old r in_lists in_ranks (filled_from ms j slot laws i c cells 0 old.ranks
+      (slice_index_or old.lists j []) r is in_ranks stands are))
 
 -- ## The ports
 
 -- each slot has an entry for each port and keeps their number
-pub slot_ports : (ms : List Machine) (slot : ℕ) (cells : List (Option Cell)) (old : IdealState) (sent : Sent) → ideal_slot ms slot cells old ≡ Ok sent → (length sent.gone ≡ length old.lists) × (length sent.after.lists ≡ length old.lists)
+pub slot_ports : (ms : List Machine) (slot : ℕ) (cells : List (Option Cell)) (old : IdealState) (sent : Sent) →
+    ideal_slot ms slot cells old ≡ Ok sent →
+    (length sent.gone ≡ length old.lists) × (length sent.after.lists ≡ length old.lists)
 unfolding ideal_slot
 slot_ports ms slot cells old sent h =
-    sends_ok (λ s. (length s.gone ≡ length old.lists) × (length s.after.lists ≡ length old.lists)) ms old (ranking ms slot 0 cells old.ranks) sent h
+    sends_ok (λ s. (length s.gone ≡ length old.lists) × (length s.after.lists ≡ length old.lists)) ms old
+    (ranking ms slot 0 cells old.ranks) sent h
     (λ r is.
     let lists : List (List Queued) = filled r.came old.lists in
-    let many : length lists ≡ length old.lists = length-filled r.came old.lists in
-    (length-map lists (λ (zs : List Queued). slice_get zs 0) ∙ many, length-map lists (λ (zs : List Queued). drop 1 zs) ∙ many))
+    let many : length lists ≡ length old.lists = length-filled r.came old.lists in (
+      length-map lists (λ (zs : List Queued). slice_get zs 0) ∙ many,
+      length-map lists (λ (zs : List Queued). drop 1 zs) ∙ many,
+    ))

@@ -1,8 +1,8 @@
--- What stands in the list of an output while arrivals are put into it. Each cell that waits has its class's level and a rank
--- no greater than its class's floor, and it came in an earlier slot, or in this one at an earlier input. A new cell of a class
--- gets a rank no less than the floor, which becomes the floor, and no other class's floor falls. So the new cell is not more
--- urgent than any waiting cell of its class, and it is put behind all of them: of each flow the list shows what it showed
--- before, and then the new cell, if it is of the flow.
+-- What stands in the list of an output while arrivals are put into it. Each cell that waits has its class's level and
+-- a rank no greater than its class's floor, and it came in an earlier slot, or in this one at an earlier input. A new
+-- cell of a class gets a rank no less than the floor, which becomes the floor, and no other class's floor falls. So
+-- the new cell is not more urgent than any waiting cell of its class, and it is put behind all of them: of each flow
+-- the list shows what it showed before, and then the new cell, if it is of the flow.
 use Rattle.std.proofs.Common.{◌≡◌, ℕ, ◌+◌, ◌<◌, ◌≤◌, eqb, ltb, Bool, true, false, cond, List, [], ◌∷◌, ◌++◌, length, map, refl, sym, ap, ◌∙◌, subst, ⊎_elim, arith}
 use Rattle.std.specs.Prelude.{◌&&◌, ◌==◌}
 use Rattle.std.specs.List.{AllByRecursion, filter}
@@ -20,11 +20,13 @@ use Rattle.cq_ideal.proofs.FlowPut.{NoLater, all_from, all_put, in_order_put, fi
 
 -- ## Keys that are not the lesser
 
-no_less_then : (x y : ℕ) (p : Ordering) → y ≤ x → (x ≡ y → is_lt p ≡ false) → is_lt (ordering_then (nat_cmp x y) p) ≡ false
+no_less_then : (x y : ℕ) (p : Ordering) → y ≤ x → (x ≡ y → is_lt p ≡ false) →
+    is_lt (ordering_then (nat_cmp x y) p) ≡ false
 no_less_then x y p le f =
     cond_both (ltb x y) Less (cond (eqb x y) Equal Greater) (λ o. is_lt (ordering_then o p) ≡ false)
     (λ lt. absurd (let l = ltb-true x y lt in omega arith))
-    (λ _. cond_both (eqb x y) Equal Greater (λ o. is_lt (ordering_then o p) ≡ false) (λ e. f (eqb-true x y e)) (λ _. refl))
+    (λ _. cond_both (eqb x y) Equal Greater (λ o. is_lt (ordering_then o p) ≡ false) (λ e. f (eqb-true x y e))
+    (λ _. refl))
 
 no_less : (x y : ℕ) → y ≤ x → is_lt (nat_cmp x y) ≡ false
 no_less x y le =
@@ -79,22 +81,35 @@ unfoldable pub of_flow : ℕ → ℕ → ℕ → List Cell → List Cell
 of_flow i c j cells = filter (is_of_flow i c j) cells
 
 -- the first cell's part of the flow, and then the rest's
-pub of_flow-cons : (i c j : ℕ) (cell : Cell) (cells : List Cell) → of_flow i c j (cell ∷ []) ++ of_flow i c j cells ≡ of_flow i c j (cell ∷ cells)
+pub of_flow-cons : (i c j : ℕ) (cell : Cell) (cells : List Cell) →
+    of_flow i c j (cell ∷ []) ++ of_flow i c j cells ≡ of_flow i c j (cell ∷ cells)
 unfolding of_flow
 of_flow-cons i c j cell cells =
-    cond_both (is_of_flow i c j cell) (cell ∷ []) [] (λ l. l ++ filter (is_of_flow i c j) cells ≡ cond (is_of_flow i c j cell) (cell ∷ filter (is_of_flow i c j) cells) (filter (is_of_flow i c j) cells))
-    (λ e. sym (cond-true (is_of_flow i c j cell) (cell ∷ filter (is_of_flow i c j) cells) (filter (is_of_flow i c j) cells) e))
-    (λ e. sym (cond-false (is_of_flow i c j cell) (cell ∷ filter (is_of_flow i c j) cells) (filter (is_of_flow i c j) cells) e))
+    cond_both (is_of_flow i c j cell) (cell ∷ []) [] (λ l. l ++ filter (is_of_flow i c j) cells
+    ≡ cond (is_of_flow i c j cell) (cell ∷ filter (is_of_flow i c j) cells) (filter (is_of_flow i c j) cells))
+    (λ e. sym (cond-true (is_of_flow i c j cell) (cell ∷ filter (is_of_flow i c j) cells)
+    (filter (is_of_flow i c j) cells) e))
+    (λ e. sym (cond-false (is_of_flow i c j cell) (cell ∷ filter (is_of_flow i c j) cells)
+    (filter (is_of_flow i c j) cells) e))
 
 -- ## One cell more
 
-module _ (m : Machine) (laws : KeepsLaws m) (state : List ℕ) (slot input : ℕ) (xs : List Queued) (stands : Stands m state slot input xs) where
+module _ (m : Machine) (laws : KeepsLaws m) (state : List ℕ) (slot input : ℕ) (xs : List Queued)
+    (stands : Stands m state slot input xs) where
   -- at an input with no arrival for the output
   pub stands_on : Stands m state slot (input + 1) xs
   stands_on = record {
     size = stands.size;
     order = stands.order;
-    waited = all_from (HasWaited m state slot input) (HasWaited m state slot (input + 1)) (λ x w. record { level = w.level; rank = w.rank; class = w.class; came = w.came; before = λ e. let b = w.before e in omega arith }) xs stands.waited;
+    waited =
+        all_from (HasWaited m state slot input) (HasWaited m state slot (input + 1))
+        (λ x w. record {
+          level = w.level;
+          rank = w.rank;
+          class = w.class;
+          came = w.came;
+          before = λ e. let b = w.before e in omega arith;
+        }) xs stands.waited;
   }
 
   -- at the next slot
@@ -102,16 +117,27 @@ module _ (m : Machine) (laws : KeepsLaws m) (state : List ℕ) (slot input : ℕ
   stands_next = record {
     size = stands.size;
     order = stands.order;
-    waited = all_from (HasWaited m state slot input) (HasWaited m state (slot + 1) 0) (λ x w. record { level = w.level; rank = w.rank; class = w.class; came = let s = w.came in omega arith; before = λ e. let s = w.came in absurd (omega arith) }) xs stands.waited;
+    waited =
+        all_from (HasWaited m state slot input) (HasWaited m state (slot + 1) 0) (λ x w. record {
+          level = w.level;
+          rank = w.rank;
+          class = w.class;
+          came = let s = w.came in omega arith;
+          before = λ e. let s = w.came in absurd (omega arith);
+        }) xs stands.waited;
   }
 
-  module _ (n : Queued) (known : n.cell.class < m.classes) (level_is : n.key.level ≡ m.level n.cell.class) (rank_is : n.key.rank ≡ m.ranked state n.cell.class) (slot_is : n.key.slot ≡ slot) (input_is : n.key.input ≡ input) where
+  module _ (n : Queued) (known : n.cell.class < m.classes) (level_is : n.key.level ≡ m.level n.cell.class)
+      (rank_is : n.key.rank ≡ m.ranked state n.cell.class) (slot_is : n.key.slot ≡ slot)
+      (input_is : n.key.input ≡ input) where
     -- no floor falls
     no_lower : (d : ℕ) → d < m.classes → m.floor state d ≤ m.floor (m.given state n.cell.class) d
     no_lower d l =
         ⊎_elim
         (λ same. subst (λ (e : ℕ). m.floor state e ≤ m.floor (m.given state n.cell.class) e) same
-        (let above = laws.above state n.cell.class stands.size known in let is = laws.given_floor state n.cell.class stands.size known in omega arith))
+        (let above = laws.above state n.cell.class stands.size known in
+        let is = laws.given_floor state n.cell.class stands.size known in
+        omega arith))
         (λ other. laws.other_floor state n.cell.class d stands.size known l other)
         (cases_eq n.cell.class d)
 
@@ -123,19 +149,34 @@ module _ (m : Machine) (laws : KeepsLaws m) (state : List ℕ) (slot input : ℕ
       order = in_order_put n xs stands.order;
       waited =
           all_put (HasWaited m (m.given state n.cell.class) slot (input + 1)) n xs
-          (record { level = level_is; rank = let is = laws.given_floor state n.cell.class stands.size known in omega arith; class = known; came = omega arith; before = λ _. omega arith })
+          (record {
+            level = level_is;
+            rank = let is = laws.given_floor state n.cell.class stands.size known in omega arith;
+            class = known;
+            came = omega arith;
+            before = λ _. omega arith;
+          })
           (all_from (HasWaited m state slot input) (HasWaited m (m.given state n.cell.class) slot (input + 1))
-          (λ x w. record { level = w.level; rank = let l = no_lower x.cell.class w.class in let r = w.rank in omega arith; class = w.class; came = w.came; before = λ e. let b = w.before e in omega arith })
+          (λ x w. record {
+            level = w.level;
+            rank = let l = no_lower x.cell.class w.class in let r = w.rank in omega arith;
+            class = w.class;
+            came = w.came;
+            before = λ e. let b = w.before e in omega arith;
+          })
           xs stands.waited);
     }
 
     -- no waiting cell of its class is less urgent
     class_no_later : (x : Queued) → x.cell.class ≡ n.cell.class → HasWaited m state slot input x → NoLater x n
     class_no_later x same w =
-        let above : m.floor state n.cell.class ≤ m.ranked state n.cell.class = laws.above state n.cell.class stands.size known in
-        let rank : x.key.rank ≤ m.floor state n.cell.class = subst (λ (d : ℕ). x.key.rank ≤ m.floor state d) same w.rank in
+        let above : m.floor state n.cell.class ≤ m.ranked state n.cell.class =
+        laws.above state n.cell.class stands.size known in
+        let rank : x.key.rank ≤ m.floor state n.cell.class =
+        subst (λ (d : ℕ). x.key.rank ≤ m.floor state d) same w.rank in
         let came : x.key.slot ≤ slot = w.came in
-        no_later_from x n (w.level ∙ ap m.level same ∙ sym level_is) (omega arith) (omega arith) (λ e. let b : x.key.input < input = w.before (sym e ∙ slot_is) in omega arith)
+        no_later_from x n (w.level ∙ ap m.level same ∙ sym level_is) (omega arith) (omega arith)
+        (λ e. let b : x.key.input < input = w.before (sym e ∙ slot_is) in omega arith)
 
     -- each flow's cells are those from before, and then the new one if it is of the flow
     pub shown-put : (i c j : ℕ) → n.cell.output ≡ j → shown i c (put n xs) ≡ shown i c xs ++ of_flow i c j (n.cell ∷ [])
@@ -143,10 +184,14 @@ module _ (m : Machine) (laws : KeepsLaws m) (state : List ℕ) (slot input : ℕ
     shown-put i c j here =
         ⊎_elim
         (λ k.
-        let class_is : n.cell.class ≡ c = eqb-true n.cell.class c (and_parts (n.cell.id.input == i) (n.cell.class == c) k).1 in
+        let class_is : n.cell.class ≡ c =
+        eqb-true n.cell.class c (and_parts (n.cell.id.input == i) (n.cell.class == c) k).1 in
         let behind = all_from (HasWaited m state slot input) (λ x. is_kind i c x ≡ true → NoLater x n)
-        (λ x w e. class_no_later x (eqb-true x.cell.class c (and_parts (x.cell.id.input == i) (x.cell.class == c) e).1 ∙ sym class_is) w) xs stands.waited in
-        let of : is_of_flow i c j n.cell ≡ true = and_from (n.cell.output == j) (is_kind i c n) (eq-eqb n.cell.output j here) k in
+        (λ x w e. class_no_later x
+        (eqb-true x.cell.class c (and_parts (x.cell.id.input == i) (x.cell.class == c) e).1 ∙ sym class_is) w)
+        xs stands.waited in
+        let of : is_of_flow i c j n.cell ≡ true =
+        and_from (n.cell.output == j) (is_kind i c n) (eq-eqb n.cell.output j here) k in
         ap (map (λ x. x.cell)) (filter-put (is_kind i c) n xs k stands.order behind)
         ∙ map-append (λ x. x.cell) (filter (is_kind i c) xs) (n ∷ [])
         ∙ ap (λ l. shown i c xs ++ l) (sym (cond-true (is_of_flow i c j n.cell) (n.cell ∷ []) [] of)))

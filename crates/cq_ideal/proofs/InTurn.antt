@@ -47,7 +47,8 @@ none_beyond ports class_count input cells for beyond k cell at =
 
 -- ## All inputs
 
-pub record InTurn (M : List ℕ → Machine) (slot : ℕ) (cells : List (Option Cell)) (first : RanksView) (input : ℕ) (ranks : RanksView) (came : List (Option Queued)) : Type 0 where
+pub record InTurn (M : List ℕ → Machine) (slot : ℕ) (cells : List (Option Cell)) (first : RanksView) (input : ℕ)
+    (ranks : RanksView) (came : List (Option Queued)) : Type 0 where
   pub fixed : ranks.fixed ≡ first.fixed
   pub many : length ranks.states ≡ length first.states
   pub places : 0 < input → length cells ≡ 64
@@ -143,7 +144,8 @@ in_turn_last M slot class_count cells first input ranks came so_far for some pas
     (λ i inside. get_or-drop input came i none ∙ so_far.later (input + i) (omega arith) ∙ sym (none_in left i)) in
     sym so_far.ranked
     ∙ ap (after_inputs (take input came))
-    (none_ranked ms slot input (drop input cells) ranks.states (none_beyond (length first.fixed) class_count input cells for past))
+    (none_ranked ms slot input (drop input cells) ranks.states (none_beyond (length first.fixed) class_count input
+    cells for past))
     ∙ after_inputs-ok (take input came) (record { came = replicate left none; ranks = ranks.states })
     ∙ ap (λ (l : List (Option Queued)). Ok (record { came = l; ranks = ranks.states }))
     (ap (λ l. take input came ++ l) (sym behind) ∙ take-append-drop input came)

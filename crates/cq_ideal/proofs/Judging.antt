@@ -1,5 +1,6 @@
--- Arrivals that are judged one after another. The marks so far, and then those of judging what is left, are those of judging all.
--- And what the outputs hold so far, with those that are still to be admitted, is what they hold at the end.
+-- Arrivals that are judged one after another. The marks so far, and then those of judging what is left, are those of
+-- judging all. And what the outputs hold so far, with those that are still to be admitted, is what they hold at the
+-- end.
 use Rattle.std.proofs.Common.{◌≡◌, ℕ, zero, suc, ◌+◌, ◌<◌, ◌≤◌, eqb, Bool, true, false, cond, List, [], ◌∷◌, ◌++◌, length, take, drop, set, get_or, Option, Some, None, refl, sym, ap, ◌∙◌, subst, inl, inr, arith, get_or-set_same, get_or-set_other}
 use Rattle.std.proofs.lemmas.Bool.{cases_Bool, eqb-true, eq-eqb}
 use Rattle.std.proofs.lemmas.List.{append-nil, drop_all, drop_more, drop-set-lt, get_or-drop, length-set, set-get_or, take_all}

@@ -1,6 +1,7 @@
--- In the last slot of a run a cell departs. After the slot before it the run was not over: a cell was still to come, and it comes
--- in the last slot, or one waited. So in the last slot the list of some output is not empty once the arrivals are in it, and that
--- output sends. No departure is of a later slot, so one more than the slot of the last departure is the number of slots.
+-- In the last slot of a run a cell departs. After the slot before it the run was not over: a cell was still to come,
+-- and it comes in the last slot, or one waited. So in the last slot the list of some output is not empty once the
+-- arrivals are in it, and that output sends. No departure is of a later slot, so one more than the slot of the last
+-- departure is the number of slots.
 use Rattle.std.proofs.Common.{◌≡◌, ℕ, zero, suc, ◌+◌, ◌<◌, ◌≤◌, eqb, Bool, cond, List, [], ◌∷◌, ◌++◌, length, map, Option, Some, None, Result, Ok, refl, sym, ap, ◌∙◌, subst, ⊎_elim, arith}
 use Rattle.std.specs.Prelude.{IsOkAnd, max}
 use Rattle.std.specs.List.{AllByRecursion, range_with_len}

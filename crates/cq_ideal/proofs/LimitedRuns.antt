@@ -1,5 +1,6 @@
--- A run with limits is the run without limits of the admitted arrivals: both step through the same slots, and end at the same
--- fault. Where no output has a limit all arrivals are admitted, so it is the run without limits of all arrivals.
+-- A run with limits is the run without limits of the admitted arrivals: both step through the same slots, and end at
+-- the same fault. Where no output has a limit all arrivals are admitted, so it is the run without limits of all
+-- arrivals.
 use Rattle.std.proofs.Common.{◌≡◌, ℕ, zero, suc, ◌+◌, Bool, List, [], ◌∷◌, map, replicate, Option, None, Result, Ok, Err, refl, sym, ap, ◌∙◌, subst}
 use Rattle.std.specs.List.{AllByRecursion}
 use Rattle.cq_base.specs.declared.cell.Cell.{Cell}
@@ -28,7 +29,10 @@ none_refused_ran marks traffic (Err fault) = Err fault
 module _ (limits : List (Option ℕ)) (ms : List Machine) where
   goes_on : ℕ → List (List (Option Cell)) → Result LimitedSent TagFault → Result LimitedRan TagFault
   goes_on slot traffic x =
-      elim x [ Ok sent ↦ then_limited sent (limited_run limits ms (slot + 1) traffic sent.after) | Err fault ↦ Err fault ]
+      elim x [
+        | Ok sent ↦ then_limited sent (limited_run limits ms (slot + 1) traffic sent.after)
+        | Err fault ↦ Err fault
+      ]
 
   admitted_later : ℕ → List (List (Option Cell)) → Result LimitedSent TagFault → List (List (Option Cell))
   admitted_later slot traffic x =
@@ -124,8 +128,11 @@ module _ (limits : List (Option ℕ)) (ms : List Machine) where
       (λ sent rest is more.
       let a = ideal_admission limits cells old in
       let its = its_admission a (ideal_slot ms slot a.cells old.state) sent is in
-      let stay : sent.after.marks ≡ sent.admission.marks = its.1 ∙ ap (λ (x : Admission). x.marks) (sym its.0) in
-      ((ideal_held old.state, its.0), subst (λ (marks : List Bool). AreJudged limits marks traffic rest.admissions) stay (judged (slot + 1) traffic sent.after rest more)))
+      let stay : sent.after.marks ≡ sent.admission.marks = its.1 ∙ ap (λ (x : Admission). x.marks) (sym its.0) in (
+        (ideal_held old.state, its.0),
+        subst (λ (marks : List Bool). AreJudged limits marks traffic rest.admissions) stay
+            (judged (slot + 1) traffic sent.after rest more),
+      ))
 
   -- what was admitted is what its admissions say
   pub admitted_are : (slot : ℕ) (traffic : List (List (Option Cell))) (old : Marked IdealState) (ran : LimitedRan) →
@@ -138,7 +145,9 @@ module _ (limits : List (Option ℕ)) (ms : List Machine) where
   admitted_are slot (cells ∷ traffic) old ran h =
       slot_ok (λ y. admitted_traffic limits ms slot (cells ∷ traffic) old ≡ admitted_in y.admissions) slot traffic
       (limited_slot limits ms slot cells old) ran h
-      (λ sent rest is more. admitted_step slot cells traffic old sent is ∙ ap (λ (l : List (List (Option Cell))). sent.admission.cells ∷ l) (admitted_are (slot + 1) traffic sent.after rest more))
+      (λ sent rest is more. admitted_step slot cells traffic old sent is
+      ∙ ap (λ (l : List (List (Option Cell))). sent.admission.cells ∷ l)
+      (admitted_are (slot + 1) traffic sent.after rest more))
 
   -- so it is the run without limits of these
   pub is_run_of : (slot : ℕ) (traffic : List (List (Option Cell))) (old : Marked IdealState) (ran : LimitedRan) →
@@ -160,7 +169,8 @@ module _ (limits : List (Option ℕ)) (ms : List Machine) where
         then_run ms slot (admitted_later slot traffic (with_admission a x)) x ≡ then_run ms slot traffic x
     unfolding admitted_later then_run
     all_later slot traffic a (Ok sent) stay rest =
-        ap (λ (m : List Bool). then_ran sent.gone (ideal_run ms (slot + 1) (admitted_traffic limits ms (slot + 1) traffic (marked m sent.after)) sent.after)) stay
+        ap (λ (m : List Bool). then_ran sent.gone (ideal_run ms (slot + 1)
+        (admitted_traffic limits ms (slot + 1) traffic (marked m sent.after)) sent.after)) stay
         ∙ ap (then_ran sent.gone) (rest sent.after)
     all_later slot traffic a (Err fault) stay rest = refl
 

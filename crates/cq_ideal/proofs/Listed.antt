@@ -1,5 +1,5 @@
--- The list of one output among those of all. What stands at its place is read through all lists and all rooms, and a call
--- that changes it changes these at its place alone.
+-- The list of one output among those of all. What stands at its place is read through all lists and all rooms, and a
+-- call that changes it changes these at its place alone.
 use Rattle.std.proofs.Common.{◌≡◌, ℕ, zero, suc, ◌+◌, ◌<◌, ◌≤◌, ◌^◌, eqb, Bool, true, List, [], ◌∷◌, ◌++◌, length, map, get_or, set, take, replicate, refl, sym, ap, ◌∙◌, subst, arith}
 use Rattle.std.specs.Prelude.{All, IsTrue, ◌↔◌}
 use Rattle.std.specs.List.{list_all}
@@ -18,7 +18,8 @@ cells_in q = q.cells
 abbrev room_in : QueueView → ℕ
 room_in q = q.room
 
-module _ (items : List QueueView) (o : ℕ) (q : QueueView) (v : QueuesView) (inside : o < length v.lists) (is : q ≡ get_or items o q) (view_is : record { lists = map cells_in items; rooms = map room_in items } ≡ v) where
+module _ (items : List QueueView) (o : ℕ) (q : QueueView) (v : QueuesView) (inside : o < length v.lists)
+    (is : q ≡ get_or items o q) (view_is : record { lists = map cells_in items; rooms = map room_in items } ≡ v) where
   lists_are : map cells_in items ≡ v.lists
   lists_are = ap (λ (w : QueuesView). w.lists) view_is
 
@@ -40,7 +41,8 @@ module _ (items : List QueueView) (o : ℕ) (q : QueueView) (v : QueuesView) (in
   pub room_few : All IsWithin items → q.room < 2 ^ 64
   room_few held = subst (λ (s : QueueView). s.room < 2 ^ 64) (sym is) (held o q here).1
 
-  pub lists_after : (s : QueueView) (x y : List Queued) → s.cells ≡ x → x ≡ y → map cells_in (set items o s) ≡ set v.lists o y
+  pub lists_after : (s : QueueView) (x y : List Queued) → s.cells ≡ x → x ≡ y →
+      map cells_in (set items o s) ≡ set v.lists o y
   lists_after s x y e f = map-set cells_in items o s ∙ ap (λ l. set l o s.cells) lists_are ∙ ap (set v.lists o) (e ∙ f)
 
   pub rooms_after : (s : QueueView) → s.room ≡ q.room → map room_in (set items o s) ≡ v.rooms
@@ -80,7 +82,9 @@ empty_within items n e few k d inside =
     let items_long = length-map items cells_in in
     let none : List Queued = [] in
     let count = length-replicate n none in
-    let nothing : (get_or items k d).cells ≡ none = sym (get_or-map cells_in items k d none inside) ∙ ap (λ l. get_or l k none) e ∙ get_or-replicate n k none none (omega arith) in
+    let nothing : (get_or items k d).cells ≡ none =
+    sym (get_or-map cells_in items k d none inside) ∙ ap (λ l. get_or l k none) e
+    ∙ get_or-replicate n k none none (omega arith) in
     let zero = ap length nothing in
     (omega arith, few k d inside)
 
@@ -118,7 +122,9 @@ nil_of (c ∷ cells) e = absurd (let n = eqb-true (length (c ∷ cells)) 0 e in 
 of_nil : (cells : List Queued) → cells ≡ [] → none_in cells ≡ true
 of_nil cells e = eq-eqb (length cells) 0 (ap length e)
 
-pub none_wait : (items : List QueueView) (lists : List (List Queued)) (b : Bool) → b ≡ list_all (λ q. eqb (length q.cells) 0) items → map cells_in items ≡ lists → IsTrue b ↔ All (λ cells. cells ≡ []) lists
+pub none_wait : (items : List QueueView) (lists : List (List Queued)) (b : Bool) →
+    b ≡ list_all (λ q. eqb (length q.cells) 0) items → map cells_in items ≡ lists →
+    IsTrue b ↔ All (λ cells. cells ≡ []) lists
 none_wait items lists b e l =
     let is : b ≡ list_all none_in lists = e ∙ sym (list_all-map none_in cells_in items) ∙ ap (list_all none_in) l in (
       λ t k d inside. nil_of (get_or lists k d) (AllPass-from_list_all none_in lists (sym is ∙ t) k d inside),

@@ -1,6 +1,6 @@
 -- That keys are apart. What waits arrived before the next slot, and what comes in this slot has the slot and its own
--- input in its key. So no cell that comes has the key of one that waits, nor that of another that comes; and what is left
--- when the outputs have sent arrived before the slot that follows.
+-- input in its key. So no cell that comes has the key of one that waits, nor that of another that comes; and what is
+-- left when the outputs have sent arrived before the slot that follows.
 use Rattle.std.proofs.Common.{◌≡◌, ℕ, zero, suc, ◌+◌, ◌<◌, ◌≤◌, cond, List, [], ◌∷◌, length, get_or, drop, replicate, Option, Some, None, Ok, refl, sym, ap, subst, inl, inr, arith}
 use Rattle.std.specs.List.{AllByRecursion}
 use Rattle.std.proofs.lemmas.Bool.{cases_lt, cond_both}

@@ -1,5 +1,5 @@
--- A run over some slots and then others sends what the first send, and then what the others send from where those ended. And
--- slots in which nothing comes, from a state in which nothing waits, send nothing and meet no fault.
+-- A run over some slots and then others sends what the first send, and then what the others send from where those
+-- ended. And slots in which nothing comes, from a state in which nothing waits, send nothing and meet no fault.
 use Rattle.std.proofs.Common.{◌≡◌, ℕ, zero, suc, ◌+◌, ◌≤◌, List, [], ◌∷◌, ◌++◌, length, map, replicate, Option, None, Some, Result, Ok, Err, refl, sym, ap, ◌∙◌, subst, arith, append_assoc}
 use Rattle.std.specs.List.{range_with_len}
 use Rattle.std.proofs.lemmas.List.{nil_from_length}

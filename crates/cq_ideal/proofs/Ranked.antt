@@ -1,5 +1,5 @@
--- The machine of one output among those of all. What stands at its place is read through the lists of all numbers and of
--- all states, and a call that changes it changes these at its place alone.
+-- The machine of one output among those of all. What stands at its place is read through the lists of all numbers and
+-- of all states, and a call that changes it changes these at its place alone.
 use Rattle.std.proofs.Common.{◌≡◌, ℕ, ◌<◌, List, [], length, map, get_or, set, sym, ap, ◌∙◌, arith, length-set}
 use Rattle.std.proofs.lemmas.List.{get_or-map, length-map, map-set}
 use Rattle.std.proofs.Math.Seq.{map-set_same}
@@ -15,7 +15,9 @@ as_many F S items v view_is =
     ∙ sym (length-map items F)
     ∙ ap (λ (w : RanksView). length w.fixed) view_is
 
-module _ {R : Type 0} (F S : R → List ℕ) (M : List ℕ → Machine) (items : List R) (o : ℕ) (r : R) (v : RanksView) (inside : o < length v.fixed) (is : r ≡ get_or items o r) (view_is : record { fixed = map F items; states = map S items } ≡ v) where
+module _ {R : Type 0} (F S : R → List ℕ) (M : List ℕ → Machine) (items : List R) (o : ℕ) (r : R) (v : RanksView)
+    (inside : o < length v.fixed) (is : r ≡ get_or items o r)
+    (view_is : record { fixed = map F items; states = map S items } ≡ v) where
   fixed_is : map F items ≡ v.fixed
   fixed_is = ap (λ (w : RanksView). w.fixed) view_is
 
@@ -34,7 +36,8 @@ module _ {R : Type 0} (F S : R → List ℕ) (M : List ℕ → Machine) (items :
   state_seen = ap (λ l. get_or l o []) (sym states_is) ∙ get_or-map S items o r [] here ∙ ap S (sym is)
 
   -- what a machine in its state gives
-  pub seen : {Y : Type 0} (f : Machine → List ℕ → Y) → f (M (F r)) (S r) ≡ f (machine_at (map M v.fixed) o) (get_or v.states o [])
+  pub seen : {Y : Type 0} (f : Machine → List ℕ → Y) →
+      f (M (F r)) (S r) ≡ f (machine_at (map M v.fixed) o) (get_or v.states o [])
   seen f = ap (λ m. f m (S r)) (sym machine_seen) ∙ ap (f (machine_at (map M v.fixed) o)) (sym state_seen)
 
   pub fixed_after : (s : R) → F s ≡ F r → map F (set items o s) ≡ v.fixed

@@ -1,5 +1,6 @@
--- Counts of what is refused. A count over two lists is the sum of the counts over each, so counts add up slot by slot, output by
--- output. And an arriving cell is admitted or refused by the mark of its input, so it is counted once.
+-- Counts of what is refused. A count over two lists is the sum of the counts over each, so counts add up slot by
+-- slot, output by output. And an arriving cell is admitted or refused by the mark of its input, so it is counted
+-- once.
 use Rattle.std.proofs.Common.{◌≡◌, ℕ, zero, suc, ◌+◌, eqb, Bool, true, false, cond, List, [], ◌∷◌, ◌++◌, length, filter, replicate, Option, Some, None, refl, sym, ap, ◌∙◌, append_assoc, arith}
 use Rattle.std.specs.List.{enumerate_from, filter_map}
 use Rattle.std.specs.Option.{option_map}

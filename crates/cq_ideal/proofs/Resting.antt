@@ -1,5 +1,6 @@
--- Slots in which nothing waits and nothing comes. Such a slot sends nothing, and only tells each machine that its output was
--- idle. A machine that keeps the laws is not changed by a second idle slot, so that many such slots do what one does.
+-- Slots in which nothing waits and nothing comes. Such a slot sends nothing, and only tells each machine that its
+-- output was idle. A machine that keeps the laws is not changed by a second idle slot, so that many such slots do
+-- what one does.
 use Rattle.std.proofs.Common.{◌≡◌, ℕ, zero, suc, ◌+◌, ◌-◌, ◌<◌, ◌≤◌, List, [], ◌∷◌, length, map, get_or, set, replicate, Option, Some, None, Result, Ok, refl, sym, ap, ◌∙◌, inl, inr, subst, arith}
 use Rattle.std.proofs.lemmas.Bool.{cases_eq}
 use Rattle.std.proofs.lemmas.List.{ext_get_or, get_or-map, length-replicate}
@@ -54,7 +55,8 @@ all_empty s n empty long =
 
 -- what each output sends from these lists, once the machines are told of this
 abbrev sent_from : List Machine → List (List ℕ) → List (List Queued) → List (Option Queued) → Result Sent TagFault
-sent_from ms ranks lists gone = Ok (record { gone = gone; after = record { lists = lists; ranks = all_told ms gone ranks } })
+sent_from ms ranks lists gone =
+    Ok (record { gone = gone; after = record { lists = lists; ranks = all_told ms gone ranks } })
 
 module _ (ms : List Machine) (n : ℕ) where
   quiet_slot : (slot : ℕ) (ranks : List (List ℕ)) →
@@ -69,7 +71,8 @@ module _ (ms : List Machine) (n : ℕ) where
       ∙ ap (λ (lists : List (List Queued)). sent_from ms ranks lists (replicate n None)) (sym (nothing_left n))
 
   quiet_run : (count slot : ℕ) (ranks : List (List ℕ)) → all_idle ms n ranks ≡ ranks →
-      ideal_run ms slot (replicate count no_arrivals) (empty_ideal n ranks) ≡ Ok (nothing_sent count n (empty_ideal n ranks))
+      ideal_run ms slot (replicate count no_arrivals) (empty_ideal n ranks)
+      ≡ Ok (nothing_sent count n (empty_ideal n ranks))
   unfolding ideal_run
   quiet_run zero slot ranks same = refl
   quiet_run (suc count) slot ranks same =
@@ -81,7 +84,8 @@ module _ (ms : List Machine) (n : ℕ) where
   -- so many slots are as one, where a second one changes nothing
   pub rested_run : (count slot : ℕ) (ranks rested : List (List ℕ)) → 0 < count → rested ≡ all_idle ms n ranks →
       all_idle ms n rested ≡ rested →
-      ideal_run ms slot (replicate count no_arrivals) (empty_ideal n ranks) ≡ Ok (nothing_sent count n (empty_ideal n rested))
+      ideal_run ms slot (replicate count no_arrivals) (empty_ideal n ranks)
+      ≡ Ok (nothing_sent count n (empty_ideal n rested))
   unfolding ideal_run
   rested_run zero slot ranks rested some is again = absurd (omega arith)
   rested_run (suc count) slot ranks rested some is again =
@@ -102,10 +106,12 @@ idle_at ms n ranks j inside =
 pub record Resting (M : List ℕ → Machine) (first_fixed first_states : List (List ℕ)) (output : ℕ)
     (fixed states : List (List ℕ)) : Type 0 where
   pub same : fixed ≡ first_fixed
-  pub told_so_far : states ≡ changed_to (all_idle (map M first_fixed) (length first_fixed) first_states) first_states output
+  pub told_so_far : states
+      ≡ changed_to (all_idle (map M first_fixed) (length first_fixed) first_states) first_states output
   pub sized : (j : ℕ) → j < output → length (get_or first_states j []) ≡ (machine_at (map M first_fixed) j).size
 
-module _ (M : List ℕ → Machine) (first_fixed first_states : List (List ℕ)) (long : length first_states ≡ length first_fixed) where
+module _ (M : List ℕ → Machine) (first_fixed first_states : List (List ℕ))
+    (long : length first_states ≡ length first_fixed) where
   ms : List Machine
   ms = map M first_fixed
 
@@ -137,7 +143,8 @@ module _ (M : List ℕ → Machine) (first_fixed first_states : List (List ℕ))
         same = kept ∙ so_far.same;
         told_so_far =
             now
-            ∙ ap (λ l. set l output (told (machine_at (map M fixed) output) (get_or states output []) None)) so_far.told_so_far
+            ∙ ap (λ l. set l output (told (machine_at (map M fixed) output) (get_or states output []) None))
+            so_far.told_so_far
             ∙ next_place idle first_states output _ [] many within as_told;
         sized = λ j below. elim (cases_eq j output) [
           | inl at ↦ subst (λ (k : ℕ). length (get_or first_states k []) ≡ (machine_at ms k).size) (sym at)
@@ -146,7 +153,8 @@ module _ (M : List ℕ → Machine) (first_fixed first_states : List (List ℕ))
         ];
       }
 
-  pub resting_last : (output : ℕ) (fixed states : List (List ℕ)) → Resting M first_fixed first_states output fixed states →
+  pub resting_last : (output : ℕ) (fixed states : List (List ℕ)) →
+      Resting M first_fixed first_states output fixed states →
       length first_fixed ≤ output → states ≡ all_idle (map M first_fixed) (length first_fixed) first_states
   unfolding ms ports idle
   resting_last output fixed states so_far end =
@@ -154,7 +162,8 @@ module _ (M : List ℕ → Machine) (first_fixed first_states : List (List ℕ))
       ∙ at_end idle first_states output (length-told ms (replicate ports None) first_states) (omega arith)
 
   -- a second idle slot changes nothing
-  pub resting_again : (output : ℕ) (fixed states : List (List ℕ)) → Resting M first_fixed first_states output fixed states →
+  pub resting_again : (output : ℕ) (fixed states : List (List ℕ)) →
+      Resting M first_fixed first_states output fixed states →
       length first_fixed ≤ output → ((numbers : List ℕ) → KeepsLaws (M numbers)) →
       all_idle (map M first_fixed) (length first_fixed) states ≡ states
   unfolding ms ports idle

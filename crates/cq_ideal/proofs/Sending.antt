@@ -1,6 +1,6 @@
--- The walk over the outputs. Behind this output all is as the slot leaves it, and from it on as the slot found it: that is
--- so for the lists and for the states of the machines. What is sent so far, and then the departures of the outputs from
--- this one on, are all departures of the slot.
+-- The walk over the outputs. Behind this output all is as the slot leaves it, and from it on as the slot found it:
+-- that is so for the lists and for the states of the machines. What is sent so far, and then the departures of the
+-- outputs from this one on, are all departures of the slot.
 use Rattle.std.proofs.Common.{◌≡◌, ℕ, ◌+◌, ◌<◌, ◌≤◌, List, [], ◌∷◌, ◌++◌, length, map, get_or, set, take, drop, Option, Some, None, refl, sym, ap, ◌∙◌, arith, append_assoc, length-append, length-set}
 use Rattle.std.specs.Prelude.{slice_get}
 use Rattle.std.proofs.lemmas.List.{get_or-map, length-drop, length-map, length-take, length-take-le, get_or_at, set_at, take_more, drop_more, take_all, drop_all, append-nil}
@@ -17,12 +17,14 @@ use Rattle.cq_ideal.specs.Parts.{RanksView, QueuesView, list_at}
 abbrev pub changed_to : {X : Type 0} → List X → List X → ℕ → List X
 changed_to new old j = take j new ++ drop j old
 
-pub at_place : {X : Type 0} (new old : List X) (j : ℕ) (d : X) → length new ≡ length old → j < length old → get_or (changed_to new old j) j d ≡ get_or old j d
+pub at_place : {X : Type 0} (new old : List X) (j : ℕ) (d : X) → length new ≡ length old → j < length old →
+    get_or (changed_to new old j) j d ≡ get_or old j d
 at_place new old j d same inside =
     ap (λ l. get_or (take j new ++ l) j d) (drop_more old j d inside)
     ∙ get_or_at (take j new) (get_or old j d) (drop (j + 1) old) d j (length-take-le j new (omega arith))
 
-pub next_place : {X : Type 0} (new old : List X) (j : ℕ) (y d : X) → length new ≡ length old → j < length old → y ≡ get_or new j d → set (changed_to new old j) j y ≡ changed_to new old (j + 1)
+pub next_place : {X : Type 0} (new old : List X) (j : ℕ) (y d : X) → length new ≡ length old → j < length old →
+    y ≡ get_or new j d → set (changed_to new old j) j y ≡ changed_to new old (j + 1)
 next_place new old j y d same inside is =
     ap (λ l. set (take j new ++ l) j y) (drop_more old j d inside)
     ∙ set_at (take j new) (get_or old j d) (drop (j + 1) old) y j (length-take-le j new (omega arith))
@@ -44,39 +46,64 @@ length-changed new old j same =
     let rest = length-drop j old in
     omega arith
 
-pub at_end : {X : Type 0} (new old : List X) (j : ℕ) → length new ≡ length old → length old ≤ j → changed_to new old j ≡ new
-at_end new old j same end = ap (λ l. take j new ++ l) (drop_all j old end) ∙ append-nil (take j new) ∙ take_all j new (omega arith)
+pub at_end : {X : Type 0} (new old : List X) (j : ℕ) → length new ≡ length old → length old ≤ j →
+    changed_to new old j ≡ new
+at_end new old j same end =
+    ap (λ l. take j new ++ l) (drop_all j old end) ∙ append-nil (take j new) ∙ take_all j new (omega arith)
 
 -- ## The walk
 
-pub record Sending (M : List ℕ → Machine) (slot : ℕ) (first_ranks : RanksView) (first_queues : QueuesView) (first_sent : RoomView Departure) (output : ℕ) (ranks : RanksView) (queues : QueuesView) (sent : RoomView Departure) : Type 0 where
+pub record Sending (M : List ℕ → Machine) (slot : ℕ) (first_ranks : RanksView) (first_queues : QueuesView)
+    (first_sent : RoomView Departure) (output : ℕ) (ranks : RanksView) (queues : QueuesView)
+    (sent : RoomView Departure) : Type 0 where
   pub fixed : ranks.fixed ≡ first_ranks.fixed
   pub rooms : queues.rooms ≡ first_queues.rooms
   pub long : length queues.lists ≡ length first_queues.lists
-  pub states : ranks.states ≡ changed_to (all_told (map M first_ranks.fixed) (fronts first_queues.lists) first_ranks.states) first_ranks.states output
+  pub states : ranks.states
+      ≡ changed_to (all_told (map M first_ranks.fixed) (fronts first_queues.lists) first_ranks.states)
+      first_ranks.states output
   pub lists : queues.lists ≡ changed_to (rests first_queues.lists) first_queues.lists output
-  pub items : sent.items ++ departures_from slot output (drop output (fronts first_queues.lists)) ≡ first_sent.items ++ departures_in slot (fronts first_queues.lists)
+  pub items : sent.items ++ departures_from slot output (drop output (fronts first_queues.lists))
+      ≡ first_sent.items ++ departures_in slot (fronts first_queues.lists)
   pub spare : sent.spare + length sent.items ≡ first_sent.spare + length first_sent.items
   pub room : length first_queues.lists ≤ sent.spare + output
 
-pub length-told : (ms : List Machine) (gone : List (Option Queued)) (ranks : List (List ℕ)) → length (all_told ms gone ranks) ≡ length ranks
+pub length-told : (ms : List Machine) (gone : List (Option Queued)) (ranks : List (List ℕ)) →
+    length (all_told ms gone ranks) ≡ length ranks
 unfolding all_told
-length-told ms gone ranks = length-map-range_with_len (λ j. told (machine_at ms j) (get_or ranks j []) (get_or gone j None)) 0 (length ranks)
+length-told ms gone ranks =
+    length-map-range_with_len (λ j. told (machine_at ms j) (get_or ranks j []) (get_or gone j None)) 0 (length ranks)
 
-pub told_at : (ms : List Machine) (gone : List (Option Queued)) (ranks : List (List ℕ)) (j : ℕ) → j < length ranks → get_or (all_told ms gone ranks) j [] ≡ told (machine_at ms j) (get_or ranks j []) (get_or gone j None)
+pub told_at : (ms : List Machine) (gone : List (Option Queued)) (ranks : List (List ℕ)) (j : ℕ) → j < length ranks →
+    get_or (all_told ms gone ranks) j [] ≡ told (machine_at ms j) (get_or ranks j []) (get_or gone j None)
 unfolding all_told
-told_at ms gone ranks j inside = get_or-map-range_with_len (λ j. told (machine_at ms j) (get_or ranks j []) (get_or gone j None)) 0 (length ranks) j j [] inside (omega arith)
+told_at ms gone ranks j inside =
+    get_or-map-range_with_len (λ j. told (machine_at ms j) (get_or ranks j []) (get_or gone j None)) 0 (length ranks)
+    j j [] inside (omega arith)
 
-pub sending_first : (M : List ℕ → Machine) (slot : ℕ) (ranks : RanksView) (queues : QueuesView) (sent : RoomView Departure) → length queues.lists ≤ sent.spare → Sending M slot ranks queues sent 0 ranks queues sent
+pub sending_first : (M : List ℕ → Machine) (slot : ℕ) (ranks : RanksView) (queues : QueuesView)
+    (sent : RoomView Departure) → length queues.lists ≤ sent.spare →
+    Sending M slot ranks queues sent 0 ranks queues sent
 unfolding departures_in
-sending_first M slot ranks queues sent room = record { fixed = refl; rooms = refl; long = refl; states = refl; lists = refl; items = refl; spare = refl; room = omega arith }
+sending_first M slot ranks queues sent room =
+    record {
+      fixed = refl;
+      rooms = refl;
+      long = refl;
+      states = refl;
+      lists = refl;
+      items = refl;
+      spare = refl;
+      room = omega arith;
+    }
 
 -- what is put at the end of what was sent
 abbrev pub one_sent : ℕ → ℕ → Option Queued → List Departure
 one_sent slot output None = []
 one_sent slot output (Some q) = record { slot = slot; output = output; queued = q } ∷ []
 
-one_departs : (slot j : ℕ) (gone : Option Queued) (rest : List (Option Queued)) → departures_from slot j (gone ∷ rest) ≡ one_sent slot j gone ++ departures_from slot (j + 1) rest
+one_departs : (slot j : ℕ) (gone : Option Queued) (rest : List (Option Queued)) →
+    departures_from slot j (gone ∷ rest) ≡ one_sent slot j gone ++ departures_from slot (j + 1) rest
 one_departs slot j None rest = refl
 one_departs slot j (Some q) rest = refl
 
@@ -84,25 +111,47 @@ length-one : (slot j : ℕ) (gone : Option Queued) → length (one_sent slot j g
 length-one slot j None = omega arith
 length-one slot j (Some q) = omega arith
 
-pub sending_next : (M : List ℕ → Machine) (slot : ℕ) (first_ranks : RanksView) (first_queues : QueuesView) (first_sent : RoomView Departure) (output : ℕ) (ranks : RanksView) (queues : QueuesView) (sent : RoomView Departure) (gone : Option Queued) (ranks_new : RanksView) (queues_new : QueuesView) (sent_new : RoomView Departure) → Sending M slot first_ranks first_queues first_sent output ranks queues sent → output < length first_queues.lists → length first_ranks.states ≡ length first_queues.lists → gone ≡ slice_get (list_at queues.lists output) 0 → queues_new.lists ≡ set queues.lists output (drop 1 (list_at queues.lists output)) → queues_new.rooms ≡ queues.rooms → ranks_new.fixed ≡ ranks.fixed → ranks_new.states ≡ set ranks.states output (told (machine_at (map M ranks.fixed) output) (get_or ranks.states output []) gone) → sent_new.items ≡ sent.items ++ one_sent slot output gone → sent_new.spare + length (one_sent slot output gone) ≡ sent.spare → Sending M slot first_ranks first_queues first_sent (output + 1) ranks_new queues_new sent_new
-sending_next M slot first_ranks first_queues first_sent output ranks queues sent gone ranks_new queues_new sent_new so_far inside as_many is lists rooms fixed states items spare =
+pub sending_next : (M : List ℕ → Machine) (slot : ℕ) (first_ranks : RanksView) (first_queues : QueuesView)
+    (first_sent : RoomView Departure) (output : ℕ) (ranks : RanksView) (queues : QueuesView)
+    (sent : RoomView Departure) (gone : Option Queued) (ranks_new : RanksView) (queues_new : QueuesView)
+    (sent_new : RoomView Departure) → Sending M slot first_ranks first_queues first_sent output ranks queues sent →
+    output < length first_queues.lists → length first_ranks.states ≡ length first_queues.lists →
+    gone ≡ slice_get (list_at queues.lists output) 0 →
+    queues_new.lists ≡ set queues.lists output (drop 1 (list_at queues.lists output)) →
+    queues_new.rooms ≡ queues.rooms → ranks_new.fixed ≡ ranks.fixed →
+    ranks_new.states
+    ≡ set ranks.states output (told (machine_at (map M ranks.fixed) output) (get_or ranks.states output []) gone)
+    → sent_new.items ≡ sent.items ++ one_sent slot output gone →
+    sent_new.spare + length (one_sent slot output gone) ≡ sent.spare →
+    Sending M slot first_ranks first_queues first_sent (output + 1) ranks_new queues_new sent_new
+sending_next M slot first_ranks first_queues first_sent output ranks queues sent gone ranks_new queues_new sent_new
+    so_far inside as_many is lists rooms fixed states items spare =
     let ms = map M first_ranks.fixed in
     let old = first_queues.lists in
     let none : Option Queued = None in
     let new_states = all_told ms (fronts old) first_ranks.states in
-    let here : list_at queues.lists output ≡ list_at old output = ap (λ l. get_or l output []) so_far.lists ∙ at_place (rests old) old output [] (length-map old (λ xs. drop 1 xs)) inside in
-    let front : gone ≡ get_or (fronts old) output none = is ∙ ap (λ (xs : List Queued). slice_get xs 0) here ∙ sym (get_or-map (λ (xs : List Queued). slice_get xs 0) old output [] none inside) in
-    let rest : drop 1 (list_at queues.lists output) ≡ get_or (rests old) output [] = ap (drop 1) here ∙ sym (get_or-map (λ (xs : List Queued). drop 1 xs) old output [] [] inside) in
+    let here : list_at queues.lists output ≡ list_at old output =
+    ap (λ l. get_or l output []) so_far.lists
+    ∙ at_place (rests old) old output [] (length-map old (λ xs. drop 1 xs)) inside in
+    let front : gone ≡ get_or (fronts old) output none =
+    is ∙ ap (λ (xs : List Queued). slice_get xs 0) here
+    ∙ sym (get_or-map (λ (xs : List Queued). slice_get xs 0) old output [] none inside) in
+    let rest : drop 1 (list_at queues.lists output) ≡ get_or (rests old) output [] =
+    ap (drop 1) here ∙ sym (get_or-map (λ (xs : List Queued). drop 1 xs) old output [] [] inside) in
     let within : output < length first_ranks.states = omega arith in
     let many = length-told ms (fronts old) first_ranks.states in
-    let state : get_or ranks.states output [] ≡ get_or first_ranks.states output [] = ap (λ l. get_or l output []) so_far.states ∙ at_place new_states first_ranks.states output [] many within in
-    let now_told : told (machine_at (map M ranks.fixed) output) (get_or ranks.states output []) gone ≡ get_or new_states output [] =
+    let state : get_or ranks.states output [] ≡ get_or first_ranks.states output [] =
+    ap (λ l. get_or l output []) so_far.states ∙ at_place new_states first_ranks.states output [] many within in
+    let now_told : told (machine_at (map M ranks.fixed) output) (get_or ranks.states output []) gone
+    ≡ get_or new_states output [] =
     ap (λ f. told (machine_at (map M f) output) (get_or ranks.states output []) gone) so_far.fixed
     ∙ ap (λ s. told (machine_at ms output) s gone) state
     ∙ ap (told (machine_at ms output) (get_or first_ranks.states output [])) front
     ∙ sym (told_at ms (fronts old) first_ranks.states output within) in
     let fronts_long = length-map old (λ (xs : List Queued). slice_get xs 0) in
-    let more : drop output (fronts old) ≡ gone ∷ drop (output + 1) (fronts old) = drop_more (fronts old) output none (omega arith) ∙ ap (λ (p : Option Queued). p ∷ drop (output + 1) (fronts old)) (sym front) in
+    let more : drop output (fronts old) ≡ gone ∷ drop (output + 1) (fronts old) =
+    drop_more (fronts old) output none (omega arith)
+    ∙ ap (λ (p : Option Queued). p ∷ drop (output + 1) (fronts old)) (sym front) in
     let later = departures_from slot (output + 1) (drop (output + 1) (fronts old)) in
     let count = so_far.spare in
     let long = ap length items in
@@ -113,36 +162,54 @@ sending_next M slot first_ranks first_queues first_sent output ranks queues sent
       fixed = fixed ∙ so_far.fixed;
       rooms = rooms ∙ so_far.rooms;
       long = ap length lists ∙ length-set queues.lists output (drop 1 (list_at queues.lists output)) ∙ so_far.long;
-      states = states ∙ ap (λ l. set l output (told (machine_at (map M ranks.fixed) output) (get_or ranks.states output []) gone)) so_far.states ∙ next_place new_states first_ranks.states output _ [] many within now_told;
-      lists = lists ∙ ap (λ l. set l output (drop 1 (list_at queues.lists output))) so_far.lists ∙ next_place (rests old) old output _ [] (length-map old (λ xs. drop 1 xs)) inside rest;
+      states =
+          states
+          ∙ ap (λ l. set l output (told (machine_at (map M ranks.fixed) output) (get_or ranks.states output [])
+          gone)) so_far.states
+          ∙ next_place new_states first_ranks.states output _ [] many within now_told;
+      lists =
+          lists ∙ ap (λ l. set l output (drop 1 (list_at queues.lists output))) so_far.lists
+          ∙ next_place (rests old) old output _ [] (length-map old (λ xs. drop 1 xs)) inside rest;
       items =
           ap (λ l. l ++ later) items
           ∙ append_assoc sent.items (one_sent slot output gone) later
-          ∙ ap (λ l. sent.items ++ l) (sym (one_departs slot output gone (drop (output + 1) (fronts old))) ∙ ap (departures_from slot output) (sym more))
+          ∙ ap (λ l. sent.items ++ l) (sym (one_departs slot output gone (drop (output + 1) (fronts old)))
+          ∙ ap (departures_from slot output) (sym more))
           ∙ so_far.items;
       spare = omega arith;
       room = omega arith;
     }
 
 -- what the slot leaves
-pub record AreSent (M : List ℕ → Machine) (slot : ℕ) (first_ranks : RanksView) (first_queues : QueuesView) (first_sent : RoomView Departure) (ranks : RanksView) (queues : QueuesView) (sent : RoomView Departure) : Type 0 where
-  pub states : ranks.states ≡ all_told (map M first_ranks.fixed) (fronts first_queues.lists) first_ranks.states
-  pub lists : queues.lists ≡ rests first_queues.lists
-  pub items : sent.items ≡ first_sent.items ++ departures_in slot (fronts first_queues.lists)
-  pub spare : sent.spare + length (departures_in slot (fronts first_queues.lists)) ≡ first_sent.spare
+pub record AreSent (M : List ℕ → Machine) (slot : ℕ) (first_ranks : RanksView) (first_queues : QueuesView)
+    (first_sent : RoomView Departure) (ranks : RanksView) (queues : QueuesView) (sent : RoomView Departure) : Type 0
+  where
+    pub states : ranks.states ≡ all_told (map M first_ranks.fixed) (fronts first_queues.lists) first_ranks.states
+    pub lists : queues.lists ≡ rests first_queues.lists
+    pub items : sent.items ≡ first_sent.items ++ departures_in slot (fronts first_queues.lists)
+    pub spare : sent.spare + length (departures_in slot (fronts first_queues.lists)) ≡ first_sent.spare
 
-pub sending_last : (M : List ℕ → Machine) (slot : ℕ) (first_ranks : RanksView) (first_queues : QueuesView) (first_sent : RoomView Departure) (output : ℕ) (ranks : RanksView) (queues : QueuesView) (sent : RoomView Departure) → Sending M slot first_ranks first_queues first_sent output ranks queues sent → length first_queues.lists ≤ output → length first_ranks.states ≡ length first_queues.lists → AreSent M slot first_ranks first_queues first_sent ranks queues sent
+pub sending_last : (M : List ℕ → Machine) (slot : ℕ) (first_ranks : RanksView) (first_queues : QueuesView)
+    (first_sent : RoomView Departure) (output : ℕ) (ranks : RanksView) (queues : QueuesView)
+    (sent : RoomView Departure) → Sending M slot first_ranks first_queues first_sent output ranks queues sent →
+    length first_queues.lists ≤ output → length first_ranks.states ≡ length first_queues.lists →
+    AreSent M slot first_ranks first_queues first_sent ranks queues sent
 sending_last M slot first_ranks first_queues first_sent output ranks queues sent so_far end as_many =
     let ms = map M first_ranks.fixed in
     let old = first_queues.lists in
     let fronts_long = length-map old (λ (xs : List Queued). slice_get xs 0) in
     let none_left : drop output (fronts old) ≡ [] = drop_all output (fronts old) (omega arith) in
-    let items : sent.items ≡ first_sent.items ++ departures_in slot (fronts old) = sym (append-nil sent.items) ∙ ap (λ l. sent.items ++ departures_from slot output l) (sym none_left) ∙ so_far.items in
+    let items : sent.items ≡ first_sent.items ++ departures_in slot (fronts old) =
+    sym (append-nil sent.items) ∙ ap (λ l. sent.items ++ departures_from slot output l) (sym none_left)
+    ∙ so_far.items in
     let long = ap length items in
     let longer = length-append first_sent.items (departures_in slot (fronts old)) in
     let count = so_far.spare in
     record {
-      states = so_far.states ∙ at_end (all_told ms (fronts old) first_ranks.states) first_ranks.states output (length-told ms (fronts old) first_ranks.states) (omega arith);
+      states =
+          so_far.states
+          ∙ at_end (all_told ms (fronts old) first_ranks.states) first_ranks.states output
+          (length-told ms (fronts old) first_ranks.states) (omega arith);
       lists = so_far.lists ∙ at_end (rests old) old output (length-map old (λ xs. drop 1 xs)) end;
       items = items;
       spare = omega arith;

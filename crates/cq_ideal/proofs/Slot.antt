@@ -21,7 +21,10 @@ use Rattle.cq_ideal.proofs.Spare.{came_for}
 -- what a slot leaves once the cells are in the lists
 abbrev pub sent_from : List Machine → IdealState → Sent
 sent_from ms s =
-    record { gone = fronts s.lists; after = record { lists = rests s.lists; ranks = all_told ms (fronts s.lists) s.ranks } }
+    record {
+      gone = fronts s.lists;
+      after = record { lists = rests s.lists; ranks = all_told ms (fronts s.lists) s.ranks };
+    }
 
 pub nothing_done : {S : Type 0} (r : Result S TagFault) (fault : TagFault) (P : S → Type 0) → r ≡ Err fault → IfOk r P
 nothing_done (Ok s) fault P e = absurd (let clash : ⊥ = cc in clash)
@@ -33,8 +36,11 @@ done {S} r s P e p = let Q : Result S TagFault → Type 0 = λ r. IfOk r P in su
 pub same_state : (s t : IdealState) → s.lists ≡ t.lists → s.ranks ≡ t.ranks → s ≡ t
 same_state s t lists ranks = λ k. record { lists = lists k; ranks = ranks k }
 
-module _ (M : List ℕ → Machine) (slot : ℕ) (cells : List (Option Cell)) (v : IdealSwitch) (ranks : RanksView) (queues : QueuesView) (fixed : ranks.fixed ≡ v.fixed) (state : state_of ranks queues ≡ v.state) where
-  slot_is : ideal_slot (map M v.fixed) slot cells v.state ≡ ideal_sends (map M ranks.fixed) (state_of ranks queues) (ranking (map M ranks.fixed) slot 0 cells ranks.states)
+module _ (M : List ℕ → Machine) (slot : ℕ) (cells : List (Option Cell)) (v : IdealSwitch) (ranks : RanksView)
+    (queues : QueuesView) (fixed : ranks.fixed ≡ v.fixed) (state : state_of ranks queues ≡ v.state) where
+  slot_is : ideal_slot (map M v.fixed) slot cells v.state
+      ≡ ideal_sends (map M ranks.fixed) (state_of ranks queues)
+      (ranking (map M ranks.fixed) slot 0 cells ranks.states)
   unfolding ideal_slot
   slot_is =
       ap (λ s. ideal_slot (map M v.fixed) slot cells s) (sym state)
@@ -48,7 +54,8 @@ module _ (M : List ℕ → Machine) (slot : ℕ) (cells : List (Option Cell)) (v
   slot_ok ranks_new queues_new came ok lists same =
       slot_is
       ∙ ap (ideal_sends (map M ranks.fixed) (state_of ranks queues)) ok
-      ∙ ap (λ (l : List (List Queued)). Ok (sent_from (map M ranks.fixed) (record { lists = l; ranks = ranks_new.states }))) (sym lists)
+      ∙ ap (λ (l : List (List Queued)). Ok (sent_from (map M ranks.fixed)
+      (record { lists = l; ranks = ranks_new.states }))) (sym lists)
       ∙ ap (λ f. Ok (sent_from (map M f) (state_of ranks_new queues_new))) (sym same)
 
   pub slot_fault : (fault : TagFault) → ranking (map M ranks.fixed) slot 0 cells ranks.states ≡ Err fault →

@@ -1,5 +1,6 @@
--- How the cells of a slot are taken in. The definition puts them all into the lists; the code puts one after another. Putting the
--- first cell, and then the others, is putting them all, and where a list has room for all of them it has for each in turn.
+-- How the cells of a slot are taken in. The definition puts them all into the lists; the code puts one after another.
+-- Putting the first cell, and then the others, is putting them all, and where a list has room for all of them it has
+-- for each in turn.
 use Rattle.std.proofs.Common.{◌≡◌, ◌≢◌, ℕ, zero, suc, ◌+◌, ◌<◌, ◌≤◌, eqb, Bool, true, false, cond, List, [], ◌∷◌, length, map, get_or, drop, Option, Some, None, refl, sym, ap, ◌∙◌, subst, inl, inr, arith, length-set, get_or-set_same, get_or-set_other}
 use Rattle.std.specs.Prelude.{IfSome}
 use Rattle.std.specs.List.{range_with_len}
@@ -44,7 +45,8 @@ one_put q lists j inside = elim (cases_Bool (is_for j q)) [
       (sym (get_or-set_same lists q.cell.output (put q (list_at lists q.cell.output)) [] inside))
   | inr other ↦
       ap (λ b. cond b (put q (list_at lists j)) (list_at lists j)) other
-      ∙ sym (get_or-set_other lists q.cell.output j (put q (list_at lists q.cell.output)) [] (λ e. absurd (let clash : true ≡ false = sym (eq-eqb q.cell.output j (sym e)) ∙ other in cc)))
+      ∙ sym (get_or-set_other lists q.cell.output j (put q (list_at lists q.cell.output)) []
+      (λ e. absurd (let clash : true ≡ false = sym (eq-eqb q.cell.output j (sym e)) ∙ other in cc)))
 ]
 
 filled_some : (q : Queued) (came : List (Option Queued)) (lists : List (List Queued)) → q.cell.output < length lists →
@@ -161,8 +163,8 @@ from_input cells input o places inside is =
     drop_more cells input none (omega arith) ∙ ap (λ p. p ∷ drop (input + 1) cells)
     (sym (is ∙ unwrap_or-slice_get cells input none))
 
--- What was put in so far, and then the cells of the inputs from this one on, is all that is put in; and there is room for the
--- cells of these, and each has its own key.
+-- What was put in so far, and then the cells of the inputs from this one on, is all that is put in; and there is room
+-- for the cells of these, and each has its own key.
 pub record Putting (came : List (Option Queued)) (first : QueuesView) (input : ℕ) (queues : QueuesView) : Type 0 where
   pub rooms : queues.rooms ≡ first.rooms
   pub long : length queues.lists ≡ length first.lists

@@ -1,7 +1,7 @@
--- One slot of the ideal switch by its numbers of cells. Each arriving cell is put into one list, so all lists together get
--- as many cells as arrive, and each list as many as arrive for its output. A list that is not empty sends one cell. So what
--- waits and what is sent are together what waited and what arrived, and unless nothing waits after the slot fewer cells
--- wait than waited and arrived.
+-- One slot of the ideal switch by its numbers of cells. Each arriving cell is put into one list, so all lists
+-- together get as many cells as arrive, and each list as many as arrive for its output. A list that is not empty
+-- sends one cell. So what waits and what is sent are together what waited and what arrived, and unless nothing waits
+-- after the slot fewer cells wait than waited and arrived.
 use Rattle.std.proofs.Common.{◌≡◌, ◌≢◌, ℕ, zero, suc, ◌+◌, ◌-◌, ◌<◌, ◌≤◌, ◌^◌, Bool, true, false, cond, List, [], ◌∷◌, length, map, drop, get_or, Option, Some, None, Result, Ok, Err, refl, sym, ap, ◌∙◌, subst, ⊎_elim, arith}
 use Rattle.std.specs.Prelude.{nat_lt, slice_index_or, slice_set}
 use Rattle.std.specs.List.{range_with_len}
@@ -34,10 +34,12 @@ total_none f a (suc n) z = let here = z a in let rest = total_none f (a + 1) n z
 pub total_same : (f g : ℕ → ℕ) (a n : ℕ) → ((t : ℕ) → a ≤ t → f t ≡ g t) → total f a n ≡ total g a n
 unfolding total
 total_same f g a zero e = refl
-total_same f g a (suc n) e = let here = e a (omega arith) in let rest = total_same f g (a + 1) n (λ t l. e t (omega arith)) in omega arith
+total_same f g a (suc n) e =
+    let here = e a (omega arith) in let rest = total_same f g (a + 1) n (λ t l. e t (omega arith)) in omega arith
 
 -- so many more at one place at most
-pub total_more : (f g : ℕ → ℕ) (s d a n : ℕ) → ((t : ℕ) → t ≢ s → f t ≡ g t) → f s ≤ g s + d → total f a n ≤ total g a n + d
+pub total_more : (f g : ℕ → ℕ) (s d a n : ℕ) → ((t : ℕ) → t ≢ s → f t ≡ g t) → f s ≤ g s + d →
+    total f a n ≤ total g a n + d
 unfolding total
 total_more f g s d a zero e le = omega arith
 total_more f g s d a (suc n) e le =
@@ -66,7 +68,8 @@ unfolding waiting total
 waiting-map f a zero = refl
 waiting-map f a (suc n) = let rest = waiting-map f (a + 1) n in omega arith
 
-total_put : (came : List (Option Queued)) (f : ℕ → List Queued) (a n : ℕ) → total (λ j. length (put_all j came (f j))) a n ≤ total (λ j. length (f j)) a n + count_here came
+total_put : (came : List (Option Queued)) (f : ℕ → List Queued) (a n : ℕ) →
+    total (λ j. length (put_all j came (f j))) a n ≤ total (λ j. length (f j)) a n + count_here came
 unfolding count_here
 total_put [] f a n = omega arith
 total_put (None ∷ came) f a n = total_put came f a n
@@ -76,7 +79,9 @@ total_put (Some q ∷ came) f a n =
     let more : total (λ j. length (g j)) a n ≤ total (λ j. length (f j)) a n + 1 =
     total_more (λ j. length (g j)) (λ j. length (f j)) q.cell.output 1 a n
     (λ t ne. ap length (cond-false (is_for t q) (put q (f t)) (f t) (ne_eqb q.cell.output t (λ e. ne (sym e)))))
-    (cond_both (is_for q.cell.output q) (put q (f q.cell.output)) (f q.cell.output) (λ xs. length xs ≤ length (f q.cell.output) + 1) (λ _. let l = length_put q (f q.cell.output) in omega arith) (λ _. omega arith)) in
+    (cond_both (is_for q.cell.output q) (put q (f q.cell.output)) (f q.cell.output)
+    (λ xs. length xs ≤ length (f q.cell.output) + 1)
+    (λ _. let l = length_put q (f q.cell.output) in omega arith) (λ _. omega arith)) in
     omega arith
 
 filled_none : (lists : List (List Queued)) → filled [] lists ≡ lists
@@ -84,10 +89,12 @@ unfolding filled
 filled_none lists =
     ext_get_or [] (filled [] lists) lists (length-map-range_with_len (λ (j : ℕ). get_or lists j []) 0 (length lists))
     (λ i inside.
-    let here : i < length lists = let l = length-map-range_with_len (λ (j : ℕ). get_or lists j []) 0 (length lists) in omega arith in
+    let here : i < length lists =
+    let l = length-map-range_with_len (λ (j : ℕ). get_or lists j []) 0 (length lists) in omega arith in
     get_or-map-range_with_len (λ (j : ℕ). get_or lists j []) 0 (length lists) i i [] here (omega arith))
 
-waiting-filled : (came : List (Option Queued)) (lists : List (List Queued)) → waiting (filled came lists) ≤ waiting lists + count_here came
+waiting-filled : (came : List (Option Queued)) (lists : List (List Queued)) →
+    waiting (filled came lists) ≤ waiting lists + count_here came
 unfolding filled
 waiting-filled came lists =
     let f = λ (j : ℕ). slice_index_or lists j [] in
@@ -98,7 +105,8 @@ waiting-filled came lists =
     omega arith
 
 -- what is sent of the lists, and what is left of them
-sent_of_waiting : (slot j : ℕ) (lists : List (List Queued)) → length (departures_from slot j (fronts lists)) + waiting (rests lists) ≡ waiting lists
+sent_of_waiting : (slot j : ℕ) (lists : List (List Queued)) →
+    length (departures_from slot j (fronts lists)) + waiting (rests lists) ≡ waiting lists
 unfolding waiting
 sent_of_waiting slot j [] = refl
 sent_of_waiting slot j ([] ∷ lists) = let rest = sent_of_waiting slot (j + 1) lists in omega arith
@@ -118,7 +126,8 @@ one_of_all (xs ∷ lists) zero = omega arith
 one_of_all (xs ∷ lists) (suc j) = let rest = one_of_all lists j in omega arith
 
 -- where a cell waits some list has one
-pub some_waits : (lists : List (List Queued)) → 0 < waiting lists → (j : ℕ) × (j < length lists) × (0 < length (slice_index_or lists j []))
+pub some_waits : (lists : List (List Queued)) → 0 < waiting lists →
+    (j : ℕ) × (j < length lists) × (0 < length (slice_index_or lists j []))
 unfolding waiting
 some_waits [] some = absurd (omega arith)
 some_waits ([] ∷ lists) some = let rest = some_waits lists (omega arith) in (suc rest.0, omega (arith, rest.1), rest.2)
@@ -136,7 +145,8 @@ count_here-cells [] = refl
 count_here-cells (None ∷ came) = count_here-cells came
 count_here-cells (Some q ∷ came) = let rest = count_here-cells came in omega arith
 
-length-put_all : (j : ℕ) (came : List (Option Queued)) (xs : List Queued) → length (put_all j came xs) ≡ length xs + count_for j (map cell_here came)
+length-put_all : (j : ℕ) (came : List (Option Queued)) (xs : List Queued) →
+    length (put_all j came xs) ≡ length xs + count_for j (map cell_here came)
 unfolding cell_here
 length-put_all j [] xs = omega arith
 length-put_all j (None ∷ came) xs = length-put_all j came xs
@@ -149,17 +159,21 @@ length-put_all j (Some q ∷ came) xs =
 
 -- ## The ranking keeps the cells
 
-after_ok : (P : Ranking → Type 0) (o : Option Queued) (x : Result Ranking TagFault) (r : Ranking) → after_input o x ≡ Ok r → ((rest : Ranking) → x ≡ Ok rest → P (record { came = o ∷ rest.came; ranks = rest.ranks })) → P r
+after_ok : (P : Ranking → Type 0) (o : Option Queued) (x : Result Ranking TagFault) (r : Ranking) →
+    after_input o x ≡ Ok r →
+    ((rest : Ranking) → x ≡ Ok rest → P (record { came = o ∷ rest.came; ranks = rest.ranks })) → P r
 after_ok P o (Ok rest) r h f =
     let made : Ranking = record { came = o ∷ rest.came; ranks = rest.ranks } in
     let same : made ≡ r = cc in subst P same (f rest refl)
 after_ok P o (Err fault) r h f = absurd (let P : ⊥ = cc in P)
 
-fits_ok : (b : Bool) (x : Result Ranking TagFault) (fault : TagFault) (r : Ranking) → cond b x (Err fault) ≡ Ok r → x ≡ Ok r
+fits_ok : (b : Bool) (x : Result Ranking TagFault) (fault : TagFault) (r : Ranking) → cond b x (Err fault) ≡ Ok r →
+    x ≡ Ok r
 fits_ok true x fault r h = h
 fits_ok false x fault r h = absurd (let P : ⊥ = cc in P)
 
-ranked_cells : (ms : List Machine) (slot input : ℕ) (cells : List (Option Cell)) (ranks : List (List ℕ)) (r : Ranking) → ranking ms slot input cells ranks ≡ Ok r → map cell_here r.came ≡ cells
+ranked_cells : (ms : List Machine) (slot input : ℕ) (cells : List (Option Cell)) (ranks : List (List ℕ)) (r : Ranking)
+    → ranking ms slot input cells ranks ≡ Ok r → map cell_here r.came ≡ cells
 unfolding cell_here
 ranked_cells ms slot input [] ranks r h =
     let made : Ranking = record { came = []; ranks = ranks } in
@@ -169,11 +183,14 @@ ranked_cells ms slot input (None ∷ cells) ranks r h =
     (λ rest is. ap (λ (l : List (Option Cell)). None ∷ l) (ranked_cells ms slot (input + 1) cells ranks rest is))
 ranked_cells ms slot input (Some cell ∷ cells) ranks r h =
     let rank = (machine_at ms cell.output).ranked (slice_index_or ranks cell.output []) cell.class in
-    let given = slice_set ranks cell.output ((machine_at ms cell.output).given (slice_index_or ranks cell.output []) cell.class) in
+    let given =
+    slice_set ranks cell.output ((machine_at ms cell.output).given (slice_index_or ranks cell.output [])
+    cell.class) in
     let q = keyed cell ((machine_at ms cell.output).level cell.class) rank slot input in
     let rest = ranking ms slot (input + 1) cells given in
     after_ok (λ r. map cell_here r.came ≡ Some cell ∷ cells) (Some q) rest r
-    (fits_ok (nat_lt rank (2 ^ 128)) (after_input (Some q) rest) (record { slot = slot; input = input; output = cell.output }) r h)
+    (fits_ok (nat_lt rank (2 ^ 128)) (after_input (Some q) rest)
+    (record { slot = slot; input = input; output = cell.output }) r h)
     (λ rest is. ap (λ (l : List (Option Cell)). Some cell ∷ l) (ranked_cells ms slot (input + 1) cells given rest is))
 
 -- ## One slot
@@ -181,77 +198,122 @@ ranked_cells ms slot input (Some cell ∷ cells) ranks r h =
 -- what a slot makes of the numbers of cells
 pub record Counted (slot : ℕ) (cells : List (Option Cell)) (old : IdealState) (sent : Sent) : Type 0 where
   pub ports : length sent.after.lists ≡ length old.lists
-  pub each : (j : ℕ) → j < length old.lists → length (slice_index_or sent.after.lists j []) ≤ length (slice_index_or old.lists j []) + count_for j cells
-  pub all : length (departures_in slot sent.gone) + waiting sent.after.lists ≤ waiting old.lists + length (present cells)
+  pub each : (j : ℕ) → j < length old.lists →
+      length (slice_index_or sent.after.lists j []) ≤ length (slice_index_or old.lists j []) + count_for j cells
+  pub all : length (departures_in slot sent.gone) + waiting sent.after.lists
+      ≤ waiting old.lists + length (present cells)
   pub fewer : waiting sent.after.lists ≤ waiting old.lists + length (present cells) - 1
   -- where a cell waits or comes for an output, one departs
-  pub departs : (j : ℕ) → j < length old.lists → 0 < length (slice_index_or old.lists j []) + count_for j cells → 0 < length (departures_in slot sent.gone)
+  pub departs : (j : ℕ) → j < length old.lists → 0 < length (slice_index_or old.lists j []) + count_for j cells →
+      0 < length (departures_in slot sent.gone)
 
 length-filled : (came : List (Option Queued)) (lists : List (List Queued)) → length (filled came lists) ≡ length lists
 unfolding filled
-length-filled came lists = length-map-range_with_len (λ (k : ℕ). put_all k came (slice_index_or lists k [])) 0 (length lists)
+length-filled came lists =
+    length-map-range_with_len (λ (k : ℕ). put_all k came (slice_index_or lists k [])) 0 (length lists)
 
-filled_at : (came : List (Option Queued)) (lists : List (List Queued)) (j : ℕ) → j < length lists → slice_index_or (filled came lists) j [] ≡ put_all j came (slice_index_or lists j [])
+filled_at : (came : List (Option Queued)) (lists : List (List Queued)) (j : ℕ) → j < length lists →
+    slice_index_or (filled came lists) j [] ≡ put_all j came (slice_index_or lists j [])
 unfolding filled
-filled_at came lists j inside = get_or-map-range_with_len (λ (k : ℕ). put_all k came (slice_index_or lists k [])) 0 (length lists) j j [] inside (omega arith)
+filled_at came lists j inside =
+    get_or-map-range_with_len (λ (k : ℕ). put_all k came (slice_index_or lists k [])) 0 (length lists) j j [] inside
+    (omega arith)
 
 drop_one : (xs : List Queued) → length (drop 1 xs) ≤ length xs
 drop_one [] = omega arith
 drop_one (x ∷ xs) = omega arith
 
-counted_sent : (ms : List Machine) (slot : ℕ) (cells : List (Option Cell)) (old : IdealState) (r : Ranking) → map cell_here r.came ≡ cells → Counted slot cells old (record { gone = fronts (filled r.came old.lists); after = record { lists = rests (filled r.came old.lists); ranks = all_told ms (fronts (filled r.came old.lists)) r.ranks } })
+counted_sent : (ms : List Machine) (slot : ℕ) (cells : List (Option Cell)) (old : IdealState) (r : Ranking) →
+    map cell_here r.came ≡ cells →
+    Counted slot cells old (record {
+      gone = fronts (filled r.came old.lists);
+      after = record {
+        lists = rests (filled r.came old.lists);
+        ranks = all_told ms (fronts (filled r.came old.lists)) r.ranks;
+      };
+    })
 unfolding departures_in
 counted_sent ms slot cells old r same =
     let lists = filled r.came old.lists in
     let long : length lists ≡ length old.lists = length-filled r.came old.lists in
-    let came : count_here r.came ≡ length (present cells) = count_here-cells r.came ∙ ap (λ (l : List (Option Cell)). length (present l)) same in
+    let came : count_here r.came ≡ length (present cells) =
+    count_here-cells r.came ∙ ap (λ (l : List (Option Cell)). length (present l)) same in
     let full : waiting lists ≤ waiting old.lists + count_here r.came = waiting-filled r.came old.lists in
-    let sent : length (departures_from slot 0 (fronts lists)) + waiting (rests lists) ≡ waiting lists = sent_of_waiting slot 0 lists in
+    let sent : length (departures_from slot 0 (fronts lists)) + waiting (rests lists) ≡ waiting lists =
+    sent_of_waiting slot 0 lists in
     let less : waiting (rests lists) ≤ waiting lists - 1 = less_waiting lists in
     record {
       ports = length-map lists (λ (xs : List Queued). drop 1 xs) ∙ long;
       each = λ j inside.
-          let here : slice_index_or (rests lists) j [] ≡ drop 1 (slice_index_or lists j []) = get_or-map (λ (xs : List Queued). drop 1 xs) lists j [] [] (omega arith) in
+          let here : slice_index_or (rests lists) j [] ≡ drop 1 (slice_index_or lists j []) =
+          get_or-map (λ (xs : List Queued). drop 1 xs) lists j [] [] (omega arith) in
           let at = filled_at r.came old.lists j inside in
           let put = length-put_all j r.came (slice_index_or old.lists j []) in
           let count : count_for j (map cell_here r.came) ≡ count_for j cells = ap (count_for j) same in
           let shorter = drop_one (slice_index_or lists j []) in
-          let e1 : length (slice_index_or (rests lists) j []) ≡ length (drop 1 (slice_index_or lists j [])) = ap length here in
-          let e2 : length (slice_index_or lists j []) ≡ length (put_all j r.came (slice_index_or old.lists j [])) = ap length at in
+          let e1 : length (slice_index_or (rests lists) j []) ≡ length (drop 1 (slice_index_or lists j [])) =
+          ap length here in
+          let e2 : length (slice_index_or lists j []) ≡ length (put_all j r.came (slice_index_or old.lists j [])) =
+          ap length at in
           omega arith;
       all = omega arith;
       fewer = omega arith;
       departs = λ j inside some.
-          let at : length (slice_index_or lists j []) ≡ length (put_all j r.came (slice_index_or old.lists j [])) = ap length (filled_at r.came old.lists j inside) in
+          let at : length (slice_index_or lists j []) ≡ length (put_all j r.came (slice_index_or old.lists j [])) =
+          ap length (filled_at r.came old.lists j inside) in
           let put = length-put_all j r.came (slice_index_or old.lists j []) in
           let count : count_for j (map cell_here r.came) ≡ count_for j cells = ap (count_for j) same in
           let one = one_of_all lists j in
           omega arith;
     }
 
-sends_ok : (P : Sent → Type 0) (ms : List Machine) (old : IdealState) (x : Result Ranking TagFault) (sent : Sent) → ideal_sends ms old x ≡ Ok sent → ((r : Ranking) → x ≡ Ok r → P (record { gone = fronts (filled r.came old.lists); after = record { lists = rests (filled r.came old.lists); ranks = all_told ms (fronts (filled r.came old.lists)) r.ranks } })) → P sent
+sends_ok : (P : Sent → Type 0) (ms : List Machine) (old : IdealState) (x : Result Ranking TagFault) (sent : Sent) →
+    ideal_sends ms old x ≡ Ok sent →
+    ((r : Ranking) → x ≡ Ok r →
+    P (record {
+      gone = fronts (filled r.came old.lists);
+      after = record {
+        lists = rests (filled r.came old.lists);
+        ranks = all_told ms (fronts (filled r.came old.lists)) r.ranks;
+      };
+    })) → P sent
 sends_ok P ms old (Ok r) sent h f =
-    let made : Sent = record { gone = fronts (filled r.came old.lists); after = record { lists = rests (filled r.came old.lists); ranks = all_told ms (fronts (filled r.came old.lists)) r.ranks } } in
+    let made : Sent =
+    record {
+      gone = fronts (filled r.came old.lists);
+      after = record {
+        lists = rests (filled r.came old.lists);
+        ranks = all_told ms (fronts (filled r.came old.lists)) r.ranks;
+      };
+    } in
     let same : made ≡ sent = cc in subst P same (f r refl)
 sends_ok P ms old (Err fault) sent h f = absurd (let P : ⊥ = cc in P)
 
-pub counted : (ms : List Machine) (slot : ℕ) (cells : List (Option Cell)) (old : IdealState) (sent : Sent) → ideal_slot ms slot cells old ≡ Ok sent → Counted slot cells old sent
+pub counted : (ms : List Machine) (slot : ℕ) (cells : List (Option Cell)) (old : IdealState) (sent : Sent) →
+    ideal_slot ms slot cells old ≡ Ok sent → Counted slot cells old sent
 unfolding ideal_slot
 counted ms slot cells old sent h =
     sends_ok (Counted slot cells old) ms old (ranking ms slot 0 cells old.ranks) sent h
     (λ r is. counted_sent ms slot cells old r (ranked_cells ms slot 0 cells old.ranks r is))
 
 -- a slot in which no cell comes meets no fault
-none_faulty : (ms : List Machine) (slot input : ℕ) (cells : List (Option Cell)) (ranks : List (List ℕ)) → length (present cells) ≡ 0 → (r : Ranking) × (ranking ms slot input cells ranks ≡ Ok r)
+none_faulty : (ms : List Machine) (slot input : ℕ) (cells : List (Option Cell)) (ranks : List (List ℕ)) →
+    length (present cells) ≡ 0 → (r : Ranking) × (ranking ms slot input cells ranks ≡ Ok r)
 none_faulty ms slot input [] ranks none = (record { came = []; ranks = ranks }, refl)
 none_faulty ms slot input (None ∷ cells) ranks none =
     let rest = none_faulty ms slot (input + 1) cells ranks none in
     (record { came = None ∷ rest.0.came; ranks = rest.0.ranks }, ap (after_input None) rest.1)
 none_faulty ms slot input (Some cell ∷ cells) ranks none = absurd (omega arith)
 
-pub quiet_slot : (ms : List Machine) (slot : ℕ) (cells : List (Option Cell)) (old : IdealState) → length (present cells) ≡ 0 → (sent : Sent) × (ideal_slot ms slot cells old ≡ Ok sent)
+pub quiet_slot : (ms : List Machine) (slot : ℕ) (cells : List (Option Cell)) (old : IdealState) →
+    length (present cells) ≡ 0 → (sent : Sent) × (ideal_slot ms slot cells old ≡ Ok sent)
 unfolding ideal_slot
 quiet_slot ms slot cells old none =
     let r = none_faulty ms slot 0 cells old.ranks none in
-    let lists = filled r.0.came old.lists in
-    (record { gone = fronts lists; after = record { lists = rests lists; ranks = all_told ms (fronts lists) r.0.ranks } }, ap (ideal_sends ms old) r.1)
+    let lists = filled r.0.came old.lists in (
+      record {
+        gone = fronts lists;
+        after = record { lists = rests lists; ranks = all_told ms (fronts lists) r.0.ranks };
+      },
+      ap (ideal_sends ms old) r.1,
+    )

@@ -1,6 +1,6 @@
--- Which of a slot's arrivals are taken in where outputs have limits, and which are refused. A packet is refused whole, by
--- what its output holds as its first cell arrives: a mark at its input then stays up to its last cell. Admission stands
--- ahead of the ranking: a refused cell gets no rank.
+-- Which of a slot's arrivals are taken in where outputs have limits, and which are refused. A packet is refused
+-- whole, by what its output holds as its first cell arrives: a mark at its input then stays up to its last cell.
+-- Admission stands ahead of the ranking: a refused cell gets no rank.
 use Rattle.std.specs.Prelude.{◌≡◌, ℕ, ◌+◌, ◌==◌, nat_le, Bool, true, false, if◌then◌else◌, List, [], ◌∷◌, map, replicate, Option, Some, None, slice_set, slice_index_or}
 use Rattle.cq_base.specs.declared.cell.Cell.{Cell}
 use Rattle.cq_base.specs.Arrivals.{arrival_at}
@@ -18,8 +18,8 @@ is_first cell = cell.id.index == 0
 abbrev pub is_full_at : List (Option ℕ) → List ℕ → ℕ → Bool
 is_full_at limits held j = is_full (slice_index_or limits j None) (slice_index_or held j 0)
 
--- The mark of an input after its arrival of the slot. The first cell of a packet puts it up where the cell's output is full,
--- and down where it is not; nothing else moves it.
+-- The mark of an input after its arrival of the slot. The first cell of a packet puts it up where the cell's output
+-- is full, and down where it is not; nothing else moves it.
 abbrev pub mark_after : List (Option ℕ) → List ℕ → Bool → Option Cell → Bool
 mark_after limits held mark None = mark
 mark_after limits held mark (Some cell) = if is_first cell then is_full_at limits held cell.output else mark
@@ -30,8 +30,8 @@ held_after true held cell = held
 held_after false held None = held
 held_after false held (Some cell) = slice_set held cell.output (slice_index_or held cell.output 0 + 1)
 
--- The marks after a slot, whose arrivals are judged in order of input: what an output holds takes in the cells that were
--- admitted for it ahead of this one.
+-- The marks after a slot, whose arrivals are judged in order of input: what an output holds takes in the cells that
+-- were admitted for it ahead of this one.
 abbrev pub marks_after : List (Option ℕ) → List ℕ → List Bool → List (Option Cell) → List Bool
 marks_after limits held [] cells = []
 marks_after limits held (mark ∷ marks) [] = mark ∷ marks
@@ -59,7 +59,8 @@ pub record Admission : Type 0 where
   pub refused : List Cell
   pub marks : List Bool
 
--- the arrivals of a slot are judged by the limits of the outputs, by how many cells each of them holds, and by the marks
+-- the arrivals of a slot are judged by the limits of the outputs, by how many cells each of them holds, and by the
+-- marks
 unfoldable pub admission : List (Option ℕ) → List ℕ → List Bool → List (Option Cell) → Admission
 admission limits held marks cells =
     let after = marks_after limits held marks cells in

@@ -1,5 +1,5 @@
--- Every packet leaves or is refused, once. What is refused at an input are the packets that are not admitted, with all their
--- cells, so those that left and those that were refused are together all that came.
+-- Every packet leaves or is refused, once. What is refused at an input are the packets that are not admitted, with
+-- all their cells, so those that left and those that were refused are together all that came.
 use Rattle.std.specs.Prelude.{◌≡◌, ℕ, ◌<◌, ◌==◌, Bool, not, List, filter, Option, None, Ok, slice_index_or}
 use Rattle.std.specs.List.{AllPairs}
 use Rattle.cq_base.specs.Arriving.{Arrival}
@@ -13,17 +13,19 @@ use Rattle.cq_ideal.specs.LimitedIdeal.{LimitedRan, empty_limited}
 use Rattle.cq_ideal.specs.Refused.{cells_refused, refused_in}
 use Rattle.cq_ideal.specs.WholePackets.{AreOfPackets, came_at}
 
--- At input i some packets are taken in. Of each flow from there exactly their cells left, in the order in which they came, and
--- all cells of the others were refused, in that order too.
+-- At input i some packets are taken in. Of each flow from there exactly their cells left, in the order in which they
+-- came, and all cells of the others were refused, in that order too.
 pub record LeaveOrAreRefused (came : List Arrival) (gone : List Departure) (refused : List Cell) (i : ℕ) : Type 0 where
   pub is_taken : ℕ → Bool
   pub left : (c j : ℕ) → left_in_flow i c j gone ≡ filter (λ cell. is_taken cell.id.packet) (came_in_flow i c j came)
-  pub others : filter (λ cell. cell.id.input == i) refused ≡ filter (λ cell. not (is_taken cell.id.packet)) (came_at i came)
+  pub others : filter (λ cell. cell.id.input == i) refused
+      ≡ filter (λ cell. not (is_taken cell.id.packet)) (came_at i came)
 
 -- the cells of one packet are for one output
 abbrev pub KeepTheirOutput : List Arrival → Type 0
 KeepTheirOutput came =
-    AllPairs (λ a b. a.cell.id.input ≡ b.cell.id.input → a.cell.id.packet ≡ b.cell.id.packet → a.cell.output ≡ b.cell.output) came
+    AllPairs (λ a b. a.cell.id.input ≡ b.cell.id.input → a.cell.id.packet ≡ b.cell.id.packet →
+    a.cell.output ≡ b.cell.output) came
 
 -- So it is in a whole run that meets no tag fault, whatever the limits.
 abbrev pub EachLeavesOrIsRefused : Type 0

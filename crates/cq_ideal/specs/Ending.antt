@@ -19,9 +19,10 @@ arriving_from came slot n = map (arriving came) (range_with_len slot n)
 abbrev pub first_slots : List Arrival → ℕ → List (List (Option Cell))
 first_slots came n = arriving_from came 0 n
 
--- A run ends after n slots, in this state: no later slot has an arrival, nothing waits, and both hold after no fewer slots.
--- `After m s` says that the state after m slots is s, and `IsEmpty s` that nothing waits in it.
-pub record IsEnd {S : Type 0} (came : List Arrival) (After : ℕ → S → Type 0) (IsEmpty : S → Type 0) (n : ℕ) (end : S) : Type 0 where
+-- A run ends after n slots, in this state: no later slot has an arrival, nothing waits, and both hold after no fewer
+-- slots. `After m s` says that the state after m slots is s, and `IsEmpty s` that nothing waits in it.
+pub record IsEnd {S : Type 0} (came : List Arrival) (After : ℕ → S → Type 0) (IsEmpty : S → Type 0) (n : ℕ) (end : S)
+    : Type 0 where
   pub after : After n end
   pub all_came : end_of came ≤ n
   pub empty : IsEmpty end
@@ -49,7 +50,8 @@ is_over came n (Err fault) = false
 
 -- the least number of slots after which that is so
 unfoldable pub slots_of_run : List Machine → List Arrival → IdealState → ℕ
-slots_of_run ms came start = position_or_len (λ n. is_over came n (ideal_run ms 0 (first_slots came n) start)) (range_with_len 0 (enough came))
+slots_of_run ms came start =
+    position_or_len (λ n. is_over came n (ideal_run ms 0 (first_slots came n) start)) (range_with_len 0 (enough came))
 
 -- the whole run: the slots up to its end, or the first tag fault
 unfoldable pub whole_ideal_run : List Machine → List Arrival → IdealState → Result Ran TagFault

@@ -31,7 +31,9 @@ pub record IsForSwitch (ms : List Machine) (ports : ℕ) (a : Arrival) : Type 0 
 
 -- of two arrivals at one input the later one in the list is of a later slot
 abbrev pub RiseByInput : List Arrival → Type 0
-RiseByInput came = (s t : ℕ) (a b : Arrival) → slice_get came s ≡ Some a → slice_get came t ≡ Some b → s < t → a.cell.id.input ≡ b.cell.id.input → a.slot < b.slot
+RiseByInput came =
+    (s t : ℕ) (a b : Arrival) → slice_get came s ≡ Some a → slice_get came t ≡ Some b → s < t →
+    a.cell.id.input ≡ b.cell.id.input → a.slot < b.slot
 
 -- What a run begins with: machines that keep their laws, a state of its machine's size for each port, and arrivals that
 -- the switch can take, at most one at an input in a slot.
@@ -45,4 +47,6 @@ pub record IsRunnable (ms : List Machine) (ports : ℕ) (openings : List (List �
 -- In a run that ends without a tag fault each flow's cells leave in the order in which they came, and none is lost.
 abbrev pub FlowsLeaveAsTheyCame : Type 0
 FlowsLeaveAsTheyCame =
-    (ms : List Machine) (ports : ℕ) (openings : List (List ℕ)) (came : List Arrival) (ran : Ran) → IsRunnable ms ports openings came → ideal_run ms 0 (traffic_of came) (empty_ideal ports openings) ≡ Ok ran → (i c j : ℕ) → left_in_flow i c j (departures_of 0 ran.gone) ≡ came_in_flow i c j came
+    (ms : List Machine) (ports : ℕ) (openings : List (List ℕ)) (came : List Arrival) (ran : Ran) →
+    IsRunnable ms ports openings came → ideal_run ms 0 (traffic_of came) (empty_ideal ports openings) ≡ Ok ran →
+    (i c j : ℕ) → left_in_flow i c j (departures_of 0 ran.gone) ≡ came_in_flow i c j came

@@ -62,7 +62,10 @@ pub record HaveLeft (slot : ℕ) (gone : List (Option Queued)) (before after : R
   pub items : after.items ≡ before.items ++ departures_in slot gone
   pub spare : after.spare + length (departures_in slot gone) ≡ before.spare
 
--- Each cell that came lowers the spare of the list of its output by one, and each that was sent raises that of its output's
--- list by one.
+-- Each cell that came lowers the spare of the list of its output by one, and each that was sent raises that of its
+-- output's list by one.
 abbrev pub SpareFollows : List (Option Cell) → List (Option Queued) → IdealSwitch → IdealSwitch → Type 0
-SpareFollows cells gone before after = (j : ℕ) → j < length before.rooms → spare_at after j + count_for j cells ≡ spare_at before j + (if is_some (slice_index_or gone j None) then 1 else 0)
+SpareFollows cells gone before after =
+    (j : ℕ) → j < length before.rooms →
+    spare_at after j + count_for j cells
+    ≡ spare_at before j + (if is_some (slice_index_or gone j None) then 1 else 0)

@@ -25,7 +25,10 @@ then_ran gone (Err fault) = Err fault
 unfoldable pub ideal_run : List Machine → ℕ → List (List (Option Cell)) → IdealState → Result Ran TagFault
 ideal_run ms slot [] state = Ok (record { gone = []; after = state })
 ideal_run ms slot (cells ∷ traffic) state =
-    elim (ideal_slot ms slot cells state) [ Ok sent ↦ then_ran sent.gone (ideal_run ms (slot + 1) traffic sent.after) | Err fault ↦ Err fault ]
+    elim (ideal_slot ms slot cells state) [
+      | Ok sent ↦ then_ran sent.gone (ideal_run ms (slot + 1) traffic sent.after)
+      | Err fault ↦ Err fault
+    ]
 
 -- nothing waits, and the rank machines are in these states
 abbrev pub empty_ideal : ℕ → List (List ℕ) → IdealState

@@ -1,5 +1,5 @@
--- One slot of the ideal output-queued switch (Chuang, Goel, McKeown and Prabhakar 1999): it has a list for each output and
--- nothing else.
+-- One slot of the ideal output-queued switch (Chuang, Goel, McKeown and Prabhakar 1999): it has a list for each
+-- output and nothing else.
 use Rattle.std.specs.Prelude.{ℕ, ◌+◌, if◌then◌else◌, List, [], ◌∷◌, length, map, Option, Some, None, Result, Ok, Err, slice_get, slice_index_or, drop}
 use Rattle.std.specs.List.{range_with_len}
 use Rattle.cq_base.specs.declared.cell.Cell.{Cell}
@@ -35,7 +35,9 @@ rests lists = map (λ xs. drop 1 xs) lists
 
 -- the rank states after each output sent this cell, or none
 unfoldable pub all_told : List Machine → List (Option Queued) → List (List ℕ) → List (List ℕ)
-all_told ms gone ranks = map (λ j. told (machine_at ms j) (slice_index_or ranks j []) (slice_index_or gone j None)) (range_with_len 0 (length ranks))
+all_told ms gone ranks =
+    map (λ j. told (machine_at ms j) (slice_index_or ranks j []) (slice_index_or gone j None))
+    (range_with_len 0 (length ranks))
 
 -- what a slot comes to: the cell that each output sent, if it sent one, and the state after it
 pub record Sent : Type 0 where
@@ -47,7 +49,10 @@ abbrev pub ideal_sends : List Machine → IdealState → Result Ranking TagFault
 ideal_sends ms old (Err fault) = Err fault
 ideal_sends ms old (Ok r) =
     let lists = filled r.came old.lists in
-    Ok (record { gone = fronts lists; after = record { lists = rests lists; ranks = all_told ms (fronts lists) r.ranks } })
+    Ok (record {
+      gone = fronts lists;
+      after = record { lists = rests lists; ranks = all_told ms (fronts lists) r.ranks };
+    })
 
 -- one slot with these arrivals
 unfoldable pub ideal_slot : List Machine → ℕ → List (Option Cell) → IdealState → Result Sent TagFault
@@ -57,7 +62,8 @@ ideal_slot ms slot cells old = ideal_sends ms old (ranking ms slot 0 cells old.r
 abbrev pub departures_from : ℕ → ℕ → List (Option Queued) → List Departure
 departures_from slot j [] = []
 departures_from slot j (None ∷ gone) = departures_from slot (j + 1) gone
-departures_from slot j (Some q ∷ gone) = record { slot = slot; output = j; queued = q } ∷ departures_from slot (j + 1) gone
+departures_from slot j (Some q ∷ gone) =
+    record { slot = slot; output = j; queued = q } ∷ departures_from slot (j + 1) gone
 
 -- the departures of a slot
 unfoldable pub departures_in : ℕ → List (Option Queued) → List Departure

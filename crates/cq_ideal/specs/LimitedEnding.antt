@@ -1,5 +1,6 @@
--- Where the run of the ideal switch ends where outputs have limits. What arrives in its last slot may be refused, so no cell
--- need depart there: its slots are those up to the last arrival, or up to the last departure where that is later.
+-- Where the run of the ideal switch ends where outputs have limits. What arrives in its last slot may be refused, so
+-- no cell need depart there: its slots are those up to the last arrival, or up to the last departure where that is
+-- later.
 use Rattle.std.specs.Prelude.{◌≡◌, ℕ, List, Option, Result, Ok, Err, IsOkAnd}
 use Rattle.std.specs.List.{position_or_len, range_with_len}
 use Rattle.cq_base.specs.Arriving.{Arrival, enough}

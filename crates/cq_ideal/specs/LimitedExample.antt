@@ -1,5 +1,5 @@
--- A worked run of the ideal switch with limits: three ports, first come, first served, of which output 0 has limit 1. All cells
--- are for output 0.
+-- A worked run of the ideal switch with limits: three ports, first come, first served, of which output 0 has limit 1.
+-- All cells are for output 0.
 use Rattle.std.specs.Prelude.{ℕ, Bool, true, false, List, [], ◌∷◌, Option, Some, None}
 use Rattle.cq_base.specs.declared.cell.Cell.{Cell}
 use Rattle.cq_base.specs.declared.setup.ClassRow.{ClassRow}
@@ -64,13 +64,18 @@ discard_slots =
     ∷ (None ∷ Some next_packet ∷ Some admitted_second ∷ [])
     ∷ (Some late_packet ∷ None ∷ None ∷ []) ∷ []
 
--- In slot 0 the cell of input 0 fills output 0, so that the packet of input 1 is refused. In slot 1 its second cell is refused
--- too, though output 0 holds nothing, and the packet of input 2 is admitted. In slot 2 output 0 holds nothing again: the next
--- packet of input 1 is admitted, and so is the second cell of input 2, though output 0 is full by then. That cell still waits as
--- slot 3 begins, so that the late packet of input 0 is refused. At the end a mark is up, and nothing waits.
+-- In slot 0 the cell of input 0 fills output 0, so that the packet of input 1 is refused. In slot 1 its second cell
+-- is refused too, though output 0 holds nothing, and the packet of input 2 is admitted. In slot 2 output 0 holds
+-- nothing again: the next packet of input 1 is admitted, and so is the second cell of input 2, though output 0 is
+-- full by then. That cell still waits as slot 3 begins, so that the late packet of input 0 is refused. At the end a
+-- mark is up, and nothing waits.
 abbrev pub discard_admissions : List Admission
 discard_admissions =
-    record { cells = Some early_packet ∷ None ∷ None ∷ []; refused = refused_first ∷ []; marks = false ∷ true ∷ false ∷ [] }
+    record {
+      cells = Some early_packet ∷ None ∷ None ∷ [];
+      refused = refused_first ∷ [];
+      marks = false ∷ true ∷ false ∷ [];
+    }
     ∷ record {
       cells = None ∷ None ∷ Some admitted_first ∷ [];
       refused = refused_second ∷ [];

@@ -1,4 +1,5 @@
--- The ideal switch where outputs have limits: what is admitted of a slot's arrivals goes through the slot without limits.
+-- The ideal switch where outputs have limits: what is admitted of a slot's arrivals goes through the slot without
+-- limits.
 use Rattle.std.specs.Prelude.{◌≡◌, ℕ, ◌+◌, List, [], ◌∷◌, length, map, replicate, All, IfOk, Option, None, Result, Ok, Err}
 use Rattle.cq_base.specs.declared.cell.Cell.{Cell}
 use Rattle.cq_base.specs.declared.cell.Queued.{Queued}
@@ -35,8 +36,8 @@ unfoldable pub limited_slot : List (Option ℕ) → List Machine → ℕ → Lis
 limited_slot limits ms slot cells old =
     let a = ideal_admission limits cells old in with_admission a (ideal_slot ms slot a.cells old.state)
 
--- what came of a run: per slot the admission, and per slot and output the cell that was sent, if one was, and the state at
--- its end
+-- what came of a run: per slot the admission, and per slot and output the cell that was sent, if one was, and the
+-- state at its end
 pub record LimitedRan : Type 0 where
   pub admissions : List Admission
   pub gone : List (List (Option Queued))

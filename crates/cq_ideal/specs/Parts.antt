@@ -68,8 +68,8 @@ pub record FitTogether (ms : List Machine) (ranks : RanksView) (queues : QueuesV
 abbrev pub HaveArrived : ℕ → List (List Queued) → Type 0
 HaveArrived slot lists = (j : ℕ) → ArrivedBefore slot (list_at lists j)
 
--- the parts fit, each cell that waits arrived before the next slot, and while the switch runs its outputs hold the cells
--- of its lists
+-- the parts fit, each cell that waits arrived before the next slot, and while the switch runs its outputs hold the
+-- cells of its lists
 pub record AreParts (ms : List Machine) (ranks : RanksView) (queues : QueuesView) (limiter : LimiterView) (next : ℕ)
     (stopped : Bool) : Type 0 where
   pub fit : FitTogether ms ranks queues

@@ -21,8 +21,8 @@ abbrev pub keyed : Cell → ℕ → ℕ → ℕ → ℕ → Queued
 keyed cell level rank slot input =
     record { cell = cell; key = record { level = level; rank = rank; slot = slot; input = input } }
 
--- The cells of a slot are ranked in order of input, here from this input on, each by its output's machine, and each has the
--- level of its class. The first rank that does not fit 128 bits is the tag fault of the slot.
+-- The cells of a slot are ranked in order of input, here from this input on, each by its output's machine, and each
+-- has the level of its class. The first rank that does not fit 128 bits is the tag fault of the slot.
 abbrev pub ranking : List Machine → ℕ → ℕ → List (Option Cell) → List (List ℕ) → Result Ranking TagFault
 ranking ms slot input [] ranks = Ok (record { came = []; ranks = ranks })
 ranking ms slot input (None ∷ cells) ranks = after_input None (ranking ms slot (input + 1) cells ranks)

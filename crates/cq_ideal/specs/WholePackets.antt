@@ -30,20 +30,21 @@ abbrev pub CellsComeInOrder : Type 0
 CellsComeInOrder =
     (i : ℕ) (came : List Arrival) → i < 64 → RiseByInput came → cells_at i (traffic_of came) ≡ came_at i came
 
--- The cells are those of packets of rising numbers, from this number on, each with its first cell first; ahead of them may
--- stand the rest of the packet before.
+-- The cells are those of packets of rising numbers, from this number on, each with its first cell first; ahead of
+-- them may stand the rest of the packet before.
 abbrev pub AreOfPackets : ℕ → List Cell → Type 0
 AreOfPackets next [] = Unit {0}
 AreOfPackets next (cell ∷ cells) =
-    (((cell.id.packet + 1 ≡ next) × (is_first cell ≡ false)) ⊎ ((next ≤ cell.id.packet) × (is_first cell ≡ true))) × AreOfPackets (cell.id.packet + 1) cells
+    (((cell.id.packet + 1 ≡ next) × (is_first cell ≡ false)) ⊎ ((next ≤ cell.id.packet) × (is_first cell ≡ true)))
+    × AreOfPackets (cell.id.packet + 1) cells
 
 -- of these cells the others are all that belong to some of the packets
 pub record AreWholePackets (came taken : List Cell) : Type 0 where
   pub is_taken : ℕ → Bool
   pub are : taken ≡ filter (λ cell. is_taken cell.id.packet) came
 
--- Whatever the outputs hold as the arrivals are judged, of the cells that come to an input those that are admitted are all cells
--- of some of the packets.
+-- Whatever the outputs hold as the arrivals are judged, of the cells that come to an input those that are admitted
+-- are all cells of some of the packets.
 abbrev pub WholePacketsAreAdmitted : Type 0
 WholePacketsAreAdmitted =
     (limits : List (Option ℕ)) (marks : List Bool) (traffic : List (List (Option Cell))) (i : ℕ)

@@ -1,5 +1,5 @@
--- Both switches act alike, whatever the limits: with stable matchings, and so with input-best ones. From empty states on they
--- refuse as much at each output, since their admissions are the same.
+-- Both switches act alike, whatever the limits: with stable matchings, and so with input-best ones. From empty states
+-- on they refuse as much at each output, since their admissions are the same.
 use Rattle.std.proofs.Common.{◌≡◌, ℕ, List, Option, Result, Ok, sym, ap, ◌∙◌}
 use Rattle.std.specs.List.{AllByRecursion}
 use Rattle.cq_base.specs.declared.cell.Cell.{Cell}

@@ -1,7 +1,7 @@
--- What arrivals keep. The cells that come have the slot that begins, which no older cell has, and the inputs at which they come,
--- which all differ: so no key is twice. Each older cell for the same output in the list has slack 1 at least, so where it is
--- more urgent than the new cell it stands below the new cell's cushion: so the insertion keeps the order. And the cells for
--- each output are those that were there and those that came for it.
+-- What arrivals keep. The cells that come have the slot that begins, which no older cell has, and the inputs at which
+-- they come, which all differ: so no key is twice. Each older cell for the same output in the list has slack 1 at
+-- least, so where it is more urgent than the new cell it stands below the new cell's cushion: so the insertion keeps
+-- the order. And the cells for each output are those that were there and those that came for it.
 use Rattle.std.proofs.Common.{◌≡◌, ◌≢◌, ℕ, ◌+◌, ◌<◌, ◌⊎◌, List, length, Option, Some, None, refl, sym, ap, ◌∙◌, subst, inl, inr, ⊎_elim, arith}
 use Rattle.std.proofs.lemmas.Option.{same_Some}
 use Rattle.cq_base.specs.declared.key.Key.{Key}
@@ -30,7 +30,8 @@ pub record Keyed (slot ports : ℕ) (came : List (Option Queued)) : Type 0 where
 abbrev pub CameFor : List (Option Queued) → ℕ → Queued → Type 0
 CameFor came j c = (k : ℕ) × (came_to came k ≡ Some c) × (c.cell.output ≡ j)
 
-module _ (ms : List Machine) (slot : ℕ) (cells : List (Option Cell)) (came : List (Option Queued)) (old new : Fabric) (arrive : Arrives ms slot cells came old new) (keyed : Keyed slot (length old.inputs) came) where
+module _ (ms : List Machine) (slot : ℕ) (cells : List (Option Cell)) (came : List (Option Queued)) (old new : Fabric)
+    (arrive : Arrives ms slot cells came old new) (keyed : Keyed slot (length old.inputs) came) where
   came_or_was : (q : Option Queued) (xs : List Queued) (c : Queued) → IsAmong c (list_arrived old q xs) →
       (q ≡ Some c) ⊎ IsAmong c xs
   came_or_was None xs c h = inr h
@@ -84,8 +85,10 @@ module _ (ms : List Machine) (slot : ℕ) (cells : List (Option Cell)) (came : L
         record {
           waiting = λ i k c d a b e.
               ⊎_elim
-              (λ x. ⊎_elim (λ y. came_same i k c d x y e) (λ y. absurd (new_old i c d x (sound.early.waiting k d y) e)) (arrived_from k d b))
-              (λ x. ⊎_elim (λ y. absurd (new_old k d c y (sound.early.waiting i c x) (sym e))) (λ y. sound.apart.waiting i k c d x y e) (arrived_from k d b))
+              (λ x. ⊎_elim (λ y. came_same i k c d x y e)
+              (λ y. absurd (new_old i c d x (sound.early.waiting k d y) e)) (arrived_from k d b))
+              (λ x. ⊎_elim (λ y. absurd (new_old k d c y (sound.early.waiting i c x) (sym e)))
+              (λ y. sound.apart.waiting i k c d x y e) (arrived_from k d b))
               (arrived_from i c a);
           between = λ i j c d a b e.
               ⊎_elim (λ x. new_old i c d x (sound.early.crossed j d (in_buffer j d b)) e)
@@ -117,7 +120,12 @@ module _ (ms : List Machine) (slot : ℕ) (cells : List (Option Cell)) (came : L
 
     pub arrived_sound : Sound (slot + 1) new
     arrived_sound =
-        record { fabric = arrived_fabric sound.fabric; order = arrived_order; apart = arrived_apart; early = arrived_early }
+        record {
+          fabric = arrived_fabric sound.fabric;
+          order = arrived_order;
+          apart = arrived_apart;
+          early = arrived_early;
+        }
 
     pub arrived_slack : HasSlack 0 new
     arrived_slack i t c at =
@@ -134,6 +142,7 @@ module _ (ms : List Machine) (slot : ℕ) (cells : List (Option Cell)) (came : L
     pub has_arrived : (j : ℕ) (c : Queued) → HasFor old j c ⊎ CameFor came j c → HasFor new j c
     has_arrived j c h =
         ⊎_elim
-        (λ was. ⊎_elim (λ w. inl (w.0, arrived_keeps w.0 c w.1, w.2)) (λ b. inr (subst (λ l. IsAmong c (list_of l j)) (sym arrive.buffers) b)) was)
+        (λ was. ⊎_elim (λ w. inl (w.0, arrived_keeps w.0 c w.1, w.2))
+        (λ b. inr (subst (λ l. IsAmong c (list_of l j)) (sym arrive.buffers) b)) was)
         (λ r. inl (r.0, arrived_new r.0 c r.1, r.2))
         h

@@ -23,7 +23,8 @@ rising_rest (x ∷ xs) r = r.1
 pub length_rests : (lists : List (List Queued)) → length (rests lists) ≡ length lists
 length_rests lists = length-map lists (λ xs. drop 1 xs)
 
-module _ (ms : List Machine) (gone : List (Option Queued)) (slot : ℕ) (old new : Fabric) (depart : Departs ms gone old new) where
+module _ (ms : List Machine) (gone : List (Option Queued)) (slot : ℕ) (old new : Fabric)
+    (depart : Departs ms gone old new) where
   pub sent_buffer : (j : ℕ) → buffer new j ≡ drop 1 (buffer old j)
   sent_buffer j = ap (λ b. list_of b j) depart.buffers ∙ rest_of old.buffers j
 
@@ -38,7 +39,9 @@ module _ (ms : List Machine) (gone : List (Option Queued)) (slot : ℕ) (old new
   sent_fabric fabric =
       record {
         square = ap length depart.buffers ∙ length_rests old.buffers ∙ fabric.square ∙ sym (ap length depart.inputs);
-        outputs = λ i c h. subst (λ n. c.cell.output < n) (sym (ap length depart.inputs)) (fabric.outputs i c (same_input i c h));
+        outputs =
+            λ i c h. subst (λ n. c.cell.output < n) (sym (ap length depart.inputs))
+            (fabric.outputs i c (same_input i c h));
         own = λ j c h. fabric.own j c (was_crossed j c h);
         rising = λ j. subst IsRising (sym (sent_buffer j)) (rising_rest (buffer old j) (fabric.rising j));
       }
@@ -54,7 +57,11 @@ module _ (ms : List Machine) (gone : List (Option Queued)) (slot : ℕ) (old new
 
   sent_early : Early slot old → Early slot new
   unfolding was_crossed same_input
-  sent_early early = record { waiting = λ i c h. early.waiting i c (same_input i c h); crossed = λ j c h. early.crossed j c (was_crossed j c h) }
+  sent_early early =
+      record {
+        waiting = λ i c h. early.waiting i c (same_input i c h);
+        crossed = λ j c h. early.crossed j c (was_crossed j c h);
+      }
 
   pub sent_sound : Sound slot old → Sound slot new
   sent_sound sound =

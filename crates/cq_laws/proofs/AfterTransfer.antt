@@ -1,5 +1,6 @@
--- What the transfer of a stable matching keeps. Each cell is where it was or has crossed to its output, and the first cell for
--- an output that a list gave is in it no more: so no key is twice, and the cells for each output stay the same.
+-- What the transfer of a stable matching keeps. Each cell is where it was or has crossed to its output, and the first
+-- cell for an output that a list gave is in it no more: so no key is twice, and the cells for each output stay the
+-- same.
 use Rattle.std.proofs.Common.{◌≡◌, ◌≢◌, ℕ, ◌+◌, ◌<◌, ◌⊎◌, List, Option, Some, None, sym, ap, ◌∙◌, subst, ⊎_elim, arith}
 use Rattle.std.proofs.lemmas.Bool.{cases_lt, eqb-true}
 use Rattle.cq_base.specs.declared.cell.Queued.{Queued}
@@ -38,7 +39,8 @@ order_taken : (p : Option ℕ) (xs : List Queued) → KeepsOrder xs → KeepsOrd
 order_taken None xs e = e
 order_taken (Some k) xs e = each_pair_left _ k xs e
 
-module _ (old new : Fabric) (m : Partners) (fabric : IsFabric old) (order : ListsKeepOrder old) (apart : Apart old) (stable : IsStable (orders_of old.inputs) m) (moves : Transfers m old new) where
+module _ (old new : Fabric) (m : Partners) (fabric : IsFabric old) (order : ListsKeepOrder old) (apart : Apart old)
+    (stable : IsStable (orders_of old.inputs) m) (moves : Transfers m old new) where
   are : AreOrdersOf old.inputs (orders_of old.inputs)
   are = orders_are old apart
 
@@ -72,10 +74,13 @@ module _ (old new : Fabric) (m : Partners) (fabric : IsFabric old) (order : List
             (λ y. moved_waits i y.0 j c d a y.1 y.2 e) (from_buffer j d b);
         crossed = λ j l c d a b e.
             ⊎_elim
-            (λ x. ⊎_elim (λ y. apart.crossed j l c d x y e) (λ y. absurd (apart.between y.0 j d c (from_first l (input old y.0) d y.2).0 x (sym e))) (from_buffer l d b))
+            (λ x. ⊎_elim (λ y. apart.crossed j l c d x y e)
+            (λ y. absurd (apart.between y.0 j d c (from_first l (input old y.0) d y.2).0 x (sym e)))
+            (from_buffer l d b))
             (λ x. ⊎_elim
             (λ y. absurd (apart.between x.0 l c d (from_first j (input old x.0) c x.2).0 y e))
-            (λ y. (apart.waiting x.0 y.0 c d (from_first j (input old x.0) c x.2).0 (from_first l (input old y.0) d y.2).0 e).1)
+            (λ y. (apart.waiting x.0 y.0 c d (from_first j (input old x.0) c x.2).0
+            (from_first l (input old y.0) d y.2).0 e).1)
             (from_buffer l d b))
             (from_buffer j c a);
       }
@@ -93,12 +98,14 @@ module _ (old new : Fabric) (m : Partners) (fabric : IsFabric old) (order : List
             (λ r.
             let f = partner_offers old new (orders_of old.inputs) m order fabric are stable moves r.0 j r.1 in
             subst IsRising (sym (moves.moves.given r.0 j f.0 r.1 f.1))
-            (rising_put f.0 (buffer old j) (fabric.rising j) (λ d k e. apart.between r.0 j f.0 d (from_first j (input old r.0) f.0 f.1).0 k e)))
+            (rising_put f.0 (buffer old j) (fabric.rising j) (λ d k e. apart.between r.0 j f.0 d
+            (from_first j (input old r.0) f.0 f.1).0 k e)))
             (λ none. subst IsRising (sym (moves.moves.kept j none)) (fabric.rising j))
             (sender m j);
       }
 
-module _ (slot : ℕ) (old new : Fabric) (m : Partners) (sound : Sound slot old) (stable : IsStable (orders_of old.inputs) m) (moves : Transfers m old new) where
+module _ (slot : ℕ) (old new : Fabric) (m : Partners) (sound : Sound slot old)
+    (stable : IsStable (orders_of old.inputs) m) (moves : Transfers m old new) where
   moved_early : Early slot new
   moved_early =
       record {

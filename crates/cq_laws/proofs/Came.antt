@@ -1,5 +1,5 @@
--- What ranking gives, as the fabric sees it: each cell that came has the slot, the input at which it came, and is the one that
--- arrived there.
+-- What ranking gives, as the fabric sees it: each cell that came has the slot, the input at which it came, and is the
+-- one that arrived there.
 use Rattle.std.proofs.Common.{◌≡◌, ℕ, List, Option, Some, Ok, arith}
 use Rattle.cq_base.specs.declared.cell.Cell.{Cell}
 use Rattle.cq_base.specs.declared.cell.Queued.{Queued}

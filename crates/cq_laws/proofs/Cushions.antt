@@ -1,5 +1,6 @@
--- Cushions. A cell more in a buffer raises by one the cushion of each less urgent key and lowers none, and a cell less lowers
--- a cushion by one at most. A cushion that is not 0 shows a more urgent cell, and a greater key has no smaller cushion.
+-- Cushions. A cell more in a buffer raises by one the cushion of each less urgent key and lowers none, and a cell
+-- less lowers a cushion by one at most. A cushion that is not 0 shows a more urgent cell, and a greater key has no
+-- smaller cushion.
 use Rattle.std.proofs.Common.{◌≡◌, ℕ, ◌+◌, ◌<◌, ◌≤◌, Bool, true, false, List, [], ◌∷◌, length, refl, ap, inl, inr, ⊎_elim, arith}
 use Rattle.std.specs.Prelude.{filter}
 use Rattle.std.proofs.lemmas.Bool.{cond_both, cases_Bool}
@@ -25,7 +26,8 @@ bit_le : (b : Bool) → bit b ≤ 1
 bit_le true = omega arith
 bit_le false = omega arith
 
-pub cushion_cons : (k : Key) (x : Queued) (xs : List Queued) → cushion k (x ∷ xs) ≡ bit (is_before x.key k) + cushion k xs
+pub cushion_cons : (k : Key) (x : Queued) (xs : List Queued) →
+    cushion k (x ∷ xs) ≡ bit (is_before x.key k) + cushion k xs
 cushion_cons k x xs =
     let rest = filter (λ y. is_before y.key k) xs in
     cond_both (is_before x.key k) (x ∷ rest) rest (λ l. length l ≡ bit (is_before x.key k) + length rest)
@@ -36,25 +38,30 @@ cushion_cons k x xs =
 pub cushion_tail : (k : Key) (x : Queued) (xs : List Queued) → cushion k (x ∷ xs) ≤ 1 + cushion k xs
 cushion_tail k x xs = omega (arith, cushion_cons k x xs, bit_le (is_before x.key k))
 
-pub cushion_put : (k : Key) (c : Queued) (xs : List Queued) → cushion k (put c xs) ≡ bit (is_before c.key k) + cushion k xs
+pub cushion_put : (k : Key) (c : Queued) (xs : List Queued) →
+    cushion k (put c xs) ≡ bit (is_before c.key k) + cushion k xs
 cushion_put k c [] = cushion_cons k c []
 cushion_put k c (x ∷ xs) =
-    cond_both (is_before c.key x.key) (c ∷ x ∷ xs) (x ∷ put c xs) (λ l. cushion k l ≡ bit (is_before c.key k) + cushion k (x ∷ xs))
+    cond_both (is_before c.key x.key) (c ∷ x ∷ xs) (x ∷ put c xs) (λ l. cushion k l
+    ≡ bit (is_before c.key k) + cushion k (x ∷ xs))
     (λ _. cushion_cons k c (x ∷ xs))
     (λ _. omega (arith, cushion_cons k x (put c xs), cushion_cons k x xs, cushion_put k c xs))
 
 pub cushion_grows : (k : Key) (c : Queued) (xs : List Queued) → cushion k xs ≤ cushion k (put c xs)
 cushion_grows k c xs = omega (arith, cushion_put k c xs)
 
-pub cushion_grows_by_one : (k : Key) (c : Queued) (xs : List Queued) → is_before c.key k ≡ true → cushion k (put c xs) ≡ 1 + cushion k xs
+pub cushion_grows_by_one : (k : Key) (c : Queued) (xs : List Queued) → is_before c.key k ≡ true →
+    cushion k (put c xs) ≡ 1 + cushion k xs
 cushion_grows_by_one k c xs e = omega (arith, cushion_put k c xs, bit_true (is_before c.key k) e)
 
 -- a cushion that is not 0 has a cell
-pub cushion_has : (k : Key) (xs : List Queued) → 0 < cushion k xs → (x : Queued) × IsAmong x xs × (is_before x.key k ≡ true)
+pub cushion_has : (k : Key) (xs : List Queued) → 0 < cushion k xs →
+    (x : Queued) × IsAmong x xs × (is_before x.key k ≡ true)
 cushion_has k [] h = absurd (omega arith)
 cushion_has k (x ∷ xs) h =
     ⊎_elim (λ e. (x, inl refl, e))
-    (λ e. let r = cushion_has k xs (omega (arith, cushion_cons k x xs, bit_false (is_before x.key k) e)) in (r.0, inr r.1, r.2))
+    (λ e. let r = cushion_has k xs (omega (arith, cushion_cons k x xs, bit_false (is_before x.key k) e)) in
+    (r.0, inr r.1, r.2))
     (cases_Bool (is_before x.key k))
 
 -- a greater key has no smaller cushion
@@ -65,6 +72,8 @@ cushion_rises k l (x ∷ xs) h =
     let both = cushion_cons k x xs in
     let both' = cushion_cons l x xs in
     ⊎_elim
-    (λ e. let b = bit_true (is_before x.key k) e in let b' = bit_true (is_before x.key l) (key_laws.on x.key k l e h) in omega arith)
+    (λ e. let b = bit_true (is_before x.key k) e in
+    let b' = bit_true (is_before x.key l) (key_laws.on x.key k l e h) in
+    omega arith)
     (λ e. let b = bit_false (is_before x.key k) e in omega arith)
     (cases_Bool (is_before x.key k))

@@ -1,7 +1,7 @@
--- The fabric and the ideal switch end after the same slot. In the same slots both runs agree, also after fewer slots, and states
--- that agree are empty together. So the least number of slots after which the one is over is that of the other. In the last slot
--- a cell departs, as it does in the ideal switch, so the figures tell the number of slots. And what goes on behind the end is
--- quiet slots.
+-- The fabric and the ideal switch end after the same slot. In the same slots both runs agree, also after fewer slots,
+-- and states that agree are empty together. So the least number of slots after which the one is over is that of the
+-- other. In the last slot a cell departs, as it does in the ideal switch, so the figures tell the number of slots.
+-- And what goes on behind the end is quiet slots.
 use Rattle.std.proofs.Common.{◌≡◌, ℕ, ◌+◌, ◌-◌, ◌<◌, ◌≤◌, Bool, true, false, cond, List, [], ◌∷◌, ◌++◌, length, take, drop, map, replicate, Option, Some, None, Result, Ok, Err, refl, sym, ap, ◌∙◌, subst, ⊎_elim, arith}
 use Rattle.std.specs.Prelude.{IsOkAnd, filter, fold, is_some, max}
 use Rattle.std.specs.List.{AllByRecursion, list_any}

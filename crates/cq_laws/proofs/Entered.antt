@@ -1,6 +1,7 @@
--- What lists and buffers ask for. In a state that agrees with an ideal one each cell that waits is of an earlier slot, so a cell
--- that comes has another key; and each has slack 1, so that the more urgent cells for an output stand below the cushion of one
--- that comes. All keys differ in each state of a slot, so the cells that cross have keys that are new in their buffers.
+-- What lists and buffers ask for. In a state that agrees with an ideal one each cell that waits is of an earlier
+-- slot, so a cell that comes has another key; and each has slack 1, so that the more urgent cells for an output stand
+-- below the cushion of one that comes. All keys differ in each state of a slot, so the cells that cross have keys
+-- that are new in their buffers.
 use Rattle.std.proofs.Common.{◌≡◌, ℕ, ◌+◌, List, length, Option, Some, Ok, sym, ap, arith}
 use Rattle.cq_base.specs.Arrivals.{arrival_at}
 use Rattle.cq_base.specs.Cells.{cushion, is_for}

@@ -1,6 +1,6 @@
--- How far a slack falls. An arriving cell goes in at its cushion or ahead of it; no other cell of the list goes back by more
--- than a place, and no buffer changes. A departure takes one cell from a buffer, so it lowers each cushion by one at most, and
--- no input thread changes.
+-- How far a slack falls. An arriving cell goes in at its cushion or ahead of it; no other cell of the list goes back
+-- by more than a place, and no buffer changes. A departure takes one cell from a buffer, so it lowers each cushion by
+-- one at most, and no input thread changes.
 use Rattle.std.proofs.Common.{◌≡◌, ℕ, zero, suc, ◌+◌, ◌≤◌, ◌⊎◌, List, [], ◌∷◌, Option, Some, None, refl, sym, ap, ◌∙◌, inl, inr, ⊎_elim, arith, drop}
 use Rattle.std.specs.Prelude.{slice_get}
 use Rattle.cq_base.specs.declared.key.Key.{Key}
@@ -16,16 +16,21 @@ use Rattle.cq_laws.specs.Slack.{ArrivesWithSlack, Falls, EachFalls, EachArrivesO
 use Rattle.cq_laws.proofs.Members.{inserted_at}
 use Rattle.cq_laws.proofs.Cushions.{cushion_tail}
 
-module _ (ms : List Machine) (slot : ℕ) (cells : List (Option Cell)) (came : List (Option Queued)) (old new : Fabric) (arrive : Arrives ms slot cells came old new) where
+module _ (ms : List Machine) (slot : ℕ) (cells : List (Option Cell)) (came : List (Option Queued)) (old new : Fabric)
+    (arrive : Arrives ms slot cells came old new) where
   same_cushion : (c : Queued) → cushion_of new c ≡ cushion_of old c
   same_cushion c = ap (λ b. cushion c.key (list_of b c.cell.output)) arrive.buffers
 
-  fall : (i t : ℕ) (c : Queued) (q : Option Queued) → came_to came i ≡ q → slice_get (list_arrived old q (input old i)) t ≡ Some c → ArrivesWithSlack came new i t c ⊎ Falls 1 old new i t c
+  fall : (i t : ℕ) (c : Queued) (q : Option Queued) → came_to came i ≡ q →
+      slice_get (list_arrived old q (input old i)) t ≡ Some c →
+      ArrivesWithSlack came new i t c ⊎ Falls 1 old new i t c
   fall i t c None e at = let same = same_cushion c in inr (record { before = t; stood = at; fallen = omega arith })
   fall i t c (Some n) e at =
       let same = same_cushion c in
       ⊎_elim
-      (λ r. let is = ap (cushion_of old) r.1 in let le = r.0 in inl (record { arrived = e ∙ ap Some r.1; within = omega arith }))
+      (λ r. let is = ap (cushion_of old) r.1 in
+      let le = r.0 in
+      inl (record { arrived = e ∙ ap Some r.1; within = omega arith }))
       (λ r. let le = r.2 in inr (record { before = r.0; stood = r.1; fallen = omega arith }))
       (inserted_at (input old i) (place_of_arrival (cushion_of old n) n (input old i)) t n c at).was
 
@@ -41,7 +46,8 @@ cushion_rest : (k : Key) (xs : List Queued) → cushion k xs ≤ 1 + cushion k (
 cushion_rest k [] = omega arith
 cushion_rest k (x ∷ xs) = cushion_tail k x xs
 
-pub departures_fall : (ms : List Machine) (gone : List (Option Queued)) (old new : Fabric) → Departs ms gone old new → EachFalls 1 old new
+pub departures_fall : (ms : List Machine) (gone : List (Option Queued)) (old new : Fabric) → Departs ms gone old new →
+    EachFalls 1 old new
 departures_fall ms gone old new depart i t c at =
     let j = c.cell.output in
     let is : buffer new j ≡ drop 1 (buffer old j) = ap (λ b. list_of b j) depart.buffers ∙ rest_of old.buffers j in

@@ -1,6 +1,6 @@
--- Why the outputs send the same cells. The ideal list of an output covers the fabric's buffer: it has the cells of the buffer and
--- others that still wait at the inputs, and each of those comes after a cell of the buffer. So the first cells of both are the
--- same, and when they have left, what is left is covered again.
+-- Why the outputs send the same cells. The ideal list of an output covers the fabric's buffer: it has the cells of
+-- the buffer and others that still wait at the inputs, and each of those comes after a cell of the buffer. So the
+-- first cells of both are the same, and when they have left, what is left is covered again.
 use Rattle.std.proofs.Common.{◌≡◌, ℕ, zero, suc, ◌⊎◌, List, [], ◌∷◌, length, Some, refl, sym, ap, ◌∙◌, subst, inl, inr, ⊎_elim, arith, drop}
 use Rattle.std.specs.Prelude.{slice_get}
 use Rattle.std.proofs.lemmas.Bool.{true≢false}
@@ -12,7 +12,8 @@ use Rattle.cq_prefs.specs.FirstCells.{list_of}
 use Rattle.cq_laws.specs.Fabric.{IsAmong}
 use Rattle.cq_laws.proofs.Members.{all_among}
 
-pub same_fronts : (more bs : List (List Queued)) → length more ≡ length bs → ((j : ℕ) → slice_get (list_of more j) 0 ≡ slice_get (list_of bs j) 0) → fronts more ≡ fronts bs
+pub same_fronts : (more bs : List (List Queued)) → length more ≡ length bs →
+    ((j : ℕ) → slice_get (list_of more j) 0 ≡ slice_get (list_of bs j) 0) → fronts more ≡ fronts bs
 same_fronts [] [] n h = refl
 same_fronts [] (b ∷ bs) n h = absurd (omega arith)
 same_fronts (a ∷ more) [] n h = absurd (omega arith)
@@ -23,7 +24,8 @@ same_fronts (a ∷ more) (b ∷ bs) n h =
 never_both : (a b : Queued) → IsBefore a b → IsBefore b a → ⊥
 never_both a b h k = true≢false (sym k ∙ key_laws.one_way a.key b.key h)
 
--- Two rising lists, where the first has the cells of the second and others that wait, each behind a more urgent one of the second.
+-- Two rising lists, where the first has the cells of the second and others that wait, each behind a more urgent one
+-- of the second.
 module _ (Waits : Queued → Type 0) where
   pub record Covers (full buf : List Queued) : Type 0 where
     pub up : IsRising full
@@ -33,9 +35,12 @@ module _ (Waits : Queued → Type 0) where
     pub behind : (c : Queued) → Waits c → (d : Queued) × IsAmong d buf × IsBefore d c
 
   -- no cell of the second is before the front of the first
-  none_before : (a : Queued) (more buf : List Queued) → Covers (a ∷ more) buf → (d : Queued) → IsAmong d buf → IsBefore d a → ⊥
+  none_before : (a : Queued) (more buf : List Queued) → Covers (a ∷ more) buf → (d : Queued) → IsAmong d buf →
+      IsBefore d a → ⊥
   none_before a more buf h d k l =
-      ⊎_elim (λ e. let self : IsBefore a a = subst (λ (x : Queued). IsBefore x a) (sym e) l in never_both a a self self) (λ m. never_both d a l (all_among (IsBefore a) more d h.up.0 m)) (h.back d (inr k))
+      ⊎_elim
+      (λ e. let self : IsBefore a a = subst (λ (x : Queued). IsBefore x a) (sym e) l in never_both a a self self)
+      (λ m. never_both d a l (all_among (IsBefore a) more d h.up.0 m)) (h.back d (inr k))
 
   front_not_waiting : (a : Queued) (more buf : List Queued) → Covers (a ∷ more) buf → Waits a → ⊥
   front_not_waiting a more buf h w = let d = h.behind a w in none_before a more buf h d.0 d.1 d.2
@@ -45,7 +50,9 @@ module _ (Waits : Queued → Type 0) where
 
   one_front : (a b : Queued) (more bs : List Queued) → Covers (a ∷ more) (b ∷ bs) → a ≡ b
   one_front a b more bs h =
-      ⊎_elim (λ e. sym e) (λ k. absurd (none_before a more (b ∷ bs) h b (inl refl) (all_among (IsBefore b) bs a h.up'.0 k))) (front_there a more (b ∷ bs) h)
+      ⊎_elim (λ e. sym e)
+      (λ k. absurd (none_before a more (b ∷ bs) h b (inl refl) (all_among (IsBefore b) bs a h.up'.0 k)))
+      (front_there a more (b ∷ bs) h)
 
   pub fronts_agree : (full buf : List Queued) → Covers full buf → slice_get full 0 ≡ slice_get buf 0
   fronts_agree [] [] h = refl
@@ -53,24 +60,33 @@ module _ (Waits : Queued → Type 0) where
   fronts_agree (a ∷ more) [] h = absurd (front_there a more [] h)
   fronts_agree (a ∷ more) (b ∷ bs) h = ap Some (one_front a b more bs h)
 
-  pub rest_to : (full buf : List Queued) → Covers full buf → (c : Queued) → IsAmong c (drop 1 full) → Waits c ⊎ IsAmong c (drop 1 buf)
+  pub rest_to : (full buf : List Queued) → Covers full buf → (c : Queued) → IsAmong c (drop 1 full) →
+      Waits c ⊎ IsAmong c (drop 1 buf)
   rest_to [] buf h c k = absurd k
   rest_to (a ∷ more) [] h c k = h.to c (inr k)
   rest_to (a ∷ more) (b ∷ bs) h c k =
       ⊎_elim (λ w. inl w)
       (λ m. ⊎_elim
-      (λ e. let same = one_front a b more bs h ∙ e in let lt = all_among (IsBefore a) more c h.up.0 k in let self : IsBefore c c = subst (λ (x : Queued). IsBefore x c) same lt in absurd (never_both c c self self))
+      (λ e. let same = one_front a b more bs h ∙ e in
+      let lt = all_among (IsBefore a) more c h.up.0 k in
+      let self : IsBefore c c = subst (λ (x : Queued). IsBefore x c) same lt in
+      absurd (never_both c c self self))
       (λ n. inr n) m)
       (h.to c (inr k))
 
-  pub rest_back : (full buf : List Queued) → Covers full buf → (c : Queued) → Waits c ⊎ IsAmong c (drop 1 buf) → IsAmong c (drop 1 full)
+  pub rest_back : (full buf : List Queued) → Covers full buf → (c : Queued) → Waits c ⊎ IsAmong c (drop 1 buf) →
+      IsAmong c (drop 1 full)
   rest_back [] [] h c k = h.back c k
   rest_back [] (b ∷ bs) h c k = absurd (h.back b (inr (inl refl)))
   rest_back (a ∷ more) [] h c k = absurd (front_there a more [] h)
   rest_back (a ∷ more) (b ∷ bs) h c k =
       ⊎_elim
-      (λ w. ⊎_elim (λ e. absurd (front_not_waiting a more (b ∷ bs) h (subst Waits (sym e) w))) (λ m. m) (h.back c (inl w)))
+      (λ w. ⊎_elim (λ e. absurd (front_not_waiting a more (b ∷ bs) h (subst Waits (sym e) w))) (λ m. m)
+      (h.back c (inl w)))
       (λ m. ⊎_elim
-      (λ e. let same = sym (one_front a b more bs h) ∙ e in let lt = all_among (IsBefore b) bs c h.up'.0 m in let self : IsBefore c c = subst (λ (x : Queued). IsBefore x c) same lt in absurd (never_both c c self self))
+      (λ e. let same = sym (one_front a b more bs h) ∙ e in
+      let lt = all_among (IsBefore b) bs c h.up'.0 m in
+      let self : IsBefore c c = subst (λ (x : Queued). IsBefore x c) same lt in
+      absurd (never_both c c self self))
       (λ n. n) (h.back c (inr (inr m))))
       k

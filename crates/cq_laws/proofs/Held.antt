@@ -1,7 +1,8 @@
--- Where a fabric agrees with an ideal switch, each output holds as many cells in the one as in the other. Write the cells of the
--- fabric for an output as one list: those of the first input, of the second and so on, and those of its buffer. No cell is twice
--- in it, since no key is, and none is twice in the ideal list, whose keys rise. The two lists have the same members, and of two
--- lists without repeats with the same members neither is longer: take a member of the first off both, and go on.
+-- Where a fabric agrees with an ideal switch, each output holds as many cells in the one as in the other. Write the
+-- cells of the fabric for an output as one list: those of the first input, of the second and so on, and those of its
+-- buffer. No cell is twice in it, since no key is, and none is twice in the ideal list, whose keys rise. The two
+-- lists have the same members, and of two lists without repeats with the same members neither is longer: take a
+-- member of the first off both, and go on.
 use Rattle.std.proofs.Common.{◌≡◌, ℕ, zero, suc, ◌+◌, ◌<◌, ◌≤◌, ◌⊎◌, Bool, true, List, [], ◌∷◌, ◌++◌, length, map, filter, refl, sym, ap, ◌∙◌, subst, inl, inr, ⊎_elim, arith}
 use Rattle.std.specs.List.{flat_map, range_with_len}
 use Rattle.std.proofs.lemmas.Bool.{cond_both, eqb-true, eq-eqb}
@@ -74,8 +75,10 @@ filter_once p (x ∷ xs) once =
 append_once : (xs ys : List Queued) → HasNoRepeat xs → HasNoRepeat ys →
     ((c : Queued) → IsAmong c xs → IsAmong c ys → ⊥) → HasNoRepeat (xs ++ ys)
 append_once [] ys x y apart = y
-append_once (c ∷ xs) ys x y apart =
-    (λ h. ⊎_elim (λ l. x.0 l) (λ r. apart c (inl refl) r) (among_append c xs ys h), append_once xs ys x.1 y (λ d l r. apart d (inr l) r))
+append_once (c ∷ xs) ys x y apart = (
+  λ h. ⊎_elim (λ l. x.0 l) (λ r. apart c (inl refl) r) (among_append c xs ys h),
+  append_once xs ys x.1 y (λ d l r. apart d (inr l) r),
+)
 
 -- the list with one of its members taken off
 record Without (c : Queued) (ys : List Queued) : Type 0 where
@@ -103,7 +106,8 @@ no_longer (x ∷ xs) ys once to =
     let off = take_off x ys (to x (inl refl)) in
     let less = off.one_less in
     let rest = no_longer xs off.rest once.1
-    (λ c h. ⊎_elim (λ e. absurd (once.0 (subst (λ d. IsAmong d xs) (sym e) h))) (λ k. k) (off.others c (to c (inr h)))) in
+    (λ c h. ⊎_elim (λ e. absurd (once.0 (subst (λ d. IsAmong d xs) (sym e) h))) (λ k. k)
+    (off.others c (to c (inr h)))) in
     omega arith
 
 as_long : (xs ys : List Queued) → HasNoRepeat xs → HasNoRepeat ys → ((c : Queued) → IsAmong c xs → IsAmong c ys) →
@@ -151,7 +155,9 @@ module _ (j : ℕ) where
       append_once (filter (is_for j) cells) (waits lists)
       (filter_once (is_for j) cells (in_order_once cells (order zero)))
       (waits_once lists (λ i. order (suc i)) (λ i k c a b. let e = apart (suc i) (suc k) c a b in omega arith))
-      (λ c l r. let at = waits_at lists c r in let e = apart zero (suc at.0) c (among_filter (is_for j) c cells l).0 at.1 in absurd (omega arith))
+      (λ c l r. let at = waits_at lists c r in
+      let e = apart zero (suc at.0) c (among_filter (is_for j) c cells l).0 at.1 in
+      absurd (omega arith))
 
   pub to_cells : (f : Fabric) (c : Queued) → HasFor f j c → IsAmong c (cells_for j f)
   to_cells f c h =

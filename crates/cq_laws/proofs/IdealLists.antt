@@ -1,5 +1,5 @@
--- The lists of the ideal switch after arrivals. The list of an output has what it had and what came for it, and no key twice, so
--- it stays in the order of keys.
+-- The lists of the ideal switch after arrivals. The list of an output has what it had and what came for it, and no
+-- key twice, so it stays in the order of keys.
 use Rattle.std.proofs.Common.{◌≡◌, ◌≢◌, ℕ, zero, suc, ◌<◌, ◌⊎◌, cond, List, [], ◌∷◌, length, Option, Some, None, refl, sym, ap, ◌∙◌, subst, inl, inr, ⊎_elim, arith}
 use Rattle.std.proofs.lemmas.Bool.{cases_lt, cond_both, eqb-true, eq-eqb, ne_eqb, true≢false}
 use Rattle.std.proofs.lemmas.Option.{same_Some}
@@ -14,25 +14,34 @@ use Rattle.cq_laws.specs.Phases.{came_to}
 use Rattle.cq_laws.proofs.Members.{among_put, put_new, put_old, rising_put}
 use Rattle.cq_laws.proofs.AfterArrivals.{CameFor}
 
-pub among_put_all : (j : ℕ) (came : List (Option Queued)) (xs : List Queued) (c : Queued) → IsAmong c (put_all j came xs) → IsAmong c xs ⊎ CameFor came j c
+pub among_put_all : (j : ℕ) (came : List (Option Queued)) (xs : List Queued) (c : Queued) →
+    IsAmong c (put_all j came xs) → IsAmong c xs ⊎ CameFor came j c
 among_put_all j [] xs c h = inl h
 among_put_all j (None ∷ came) xs c h = ⊎_elim (λ k. inl k) (λ r. inr (suc r.0, r.1, r.2)) (among_put_all j came xs c h)
 among_put_all j (Some q ∷ came) xs c h =
     ⊎_elim
     (λ k.
     cond_both (is_for j q) (put q xs) xs (λ l. IsAmong c l → IsAmong c xs ⊎ CameFor (Some q ∷ came) j c)
-    (λ e m. ⊎_elim (λ same. inr (zero, ap Some same, ap (λ (x : Queued). x.cell.output) (sym same) ∙ eqb-true q.cell.output j e)) (λ n. inl n) (among_put c q xs m))
+    (λ e m. ⊎_elim (λ same. inr (
+      zero,
+      ap Some same,
+      ap (λ (x : Queued). x.cell.output) (sym same) ∙ eqb-true q.cell.output j e,
+    )) (λ n. inl n)
+    (among_put c q xs m))
     (λ _ m. inl m) k)
     (λ r. inr (suc r.0, r.1, r.2))
     (among_put_all j came (cond (is_for j q) (put q xs) xs) c h)
 
-pub put_all_keeps : (j : ℕ) (came : List (Option Queued)) (xs : List Queued) (c : Queued) → IsAmong c xs → IsAmong c (put_all j came xs)
+pub put_all_keeps : (j : ℕ) (came : List (Option Queued)) (xs : List Queued) (c : Queued) → IsAmong c xs →
+    IsAmong c (put_all j came xs)
 put_all_keeps j [] xs c h = h
 put_all_keeps j (None ∷ came) xs c h = put_all_keeps j came xs c h
 put_all_keeps j (Some q ∷ came) xs c h =
-    put_all_keeps j came (cond (is_for j q) (put q xs) xs) c (cond_both (is_for j q) (put q xs) xs (IsAmong c) (λ _. put_old c q xs h) (λ _. h))
+    put_all_keeps j came (cond (is_for j q) (put q xs) xs) c (cond_both (is_for j q) (put q xs) xs (IsAmong c)
+    (λ _. put_old c q xs h) (λ _. h))
 
-pub put_all_new : (j : ℕ) (came : List (Option Queued)) (xs : List Queued) (c : Queued) (k : ℕ) → came_to came k ≡ Some c → c.cell.output ≡ j → IsAmong c (put_all j came xs)
+pub put_all_new : (j : ℕ) (came : List (Option Queued)) (xs : List Queued) (c : Queued) (k : ℕ) →
+    came_to came k ≡ Some c → c.cell.output ≡ j → IsAmong c (put_all j came xs)
 put_all_new j [] xs c k e out = cc
 put_all_new j (None ∷ came) xs c zero e out = cc
 put_all_new j (None ∷ came) xs c (suc k) e out = put_all_new j came xs c k e out
@@ -51,33 +60,44 @@ NewTo came xs = (k : ℕ) (q d : Queued) → came_to came k ≡ Some q → IsAmo
 abbrev CameOnce : List (Option Queued) → Type 0
 CameOnce came = (k l : ℕ) (q r : Queued) → came_to came k ≡ Some q → came_to came l ≡ Some r → q.key ≡ r.key → k ≡ l
 
-pub rising_put_all : (j : ℕ) (came : List (Option Queued)) (xs : List Queued) → IsRising xs → NewTo came xs → CameOnce came → IsRising (put_all j came xs)
+pub rising_put_all : (j : ℕ) (came : List (Option Queued)) (xs : List Queued) → IsRising xs → NewTo came xs →
+    CameOnce came → IsRising (put_all j came xs)
 rising_put_all j [] xs r new once = r
-rising_put_all j (None ∷ came) xs r new once = rising_put_all j came xs r (λ k. new (suc k)) (λ k l q s a b e. let n = once (suc k) (suc l) q s a b e in omega arith)
+rising_put_all j (None ∷ came) xs r new once =
+    rising_put_all j came xs r (λ k. new (suc k)) (λ k l q s a b e. let n = once (suc k) (suc l) q s a b e in
+    omega arith)
 rising_put_all j (Some q ∷ came) xs r new once =
     rising_put_all j came (cond (is_for j q) (put q xs) xs)
     (cond_both (is_for j q) (put q xs) xs IsRising (λ _. rising_put q xs r (λ d h. new zero q d refl h)) (λ _. r))
     (cond_both (is_for j q) (put q xs) xs (NewTo came)
-    (λ _ k s d a h e. ⊎_elim (λ same. let no : suc k ≡ zero = once (suc k) zero s q a refl (e ∙ ap (λ (x : Queued). x.key) (sym same)) in absurd (omega arith)) (λ m. new (suc k) s d a m e) (among_put d q xs h))
+    (λ _ k s d a h e. ⊎_elim (λ same. let no : suc k
+    ≡ zero = once (suc k) zero s q a refl (e ∙ ap (λ (x : Queued). x.key) (sym same)) in
+    absurd (omega arith)) (λ m. new (suc k) s d a m e) (among_put d q xs h))
     (λ _ k. new (suc k)))
     (λ k l s t a b e. let n = once (suc k) (suc l) s t a b e in omega arith)
 
-put_all_none : (j : ℕ) (came : List (Option Queued)) (xs : List Queued) → ((k : ℕ) (q : Queued) → came_to came k ≡ Some q → q.cell.output ≢ j) → put_all j came xs ≡ xs
+put_all_none : (j : ℕ) (came : List (Option Queued)) (xs : List Queued) →
+    ((k : ℕ) (q : Queued) → came_to came k ≡ Some q → q.cell.output ≢ j) → put_all j came xs ≡ xs
 put_all_none j [] xs none = refl
 put_all_none j (None ∷ came) xs none = put_all_none j came xs (λ k. none (suc k))
 put_all_none j (Some q ∷ came) xs none =
-    ap (put_all j came) (ap (λ b. cond b (put q xs) xs) (ne_eqb q.cell.output j (none zero q refl))) ∙ put_all_none j came xs (λ k. none (suc k))
+    ap (put_all j came) (ap (λ b. cond b (put q xs) xs) (ne_eqb q.cell.output j (none zero q refl)))
+    ∙ put_all_none j came xs (λ k. none (suc k))
 
-pub length_after : (came : List (Option Queued)) (lists : List (List Queued)) → length (filled came lists) ≡ length lists
+pub length_after : (came : List (Option Queued)) (lists : List (List Queued)) →
+    length (filled came lists) ≡ length lists
 unfolding filled
 length_after came lists = length-map-range_with_len (λ j. put_all j came (list_of lists j)) 0 (length lists)
 
-pub list_after : (came : List (Option Queued)) (lists : List (List Queued)) → ((k : ℕ) (q : Queued) → came_to came k ≡ Some q → q.cell.output < length lists) → (j : ℕ) → list_of (filled came lists) j ≡ put_all j came (list_of lists j)
+pub list_after : (came : List (Option Queued)) (lists : List (List Queued)) →
+    ((k : ℕ) (q : Queued) → came_to came k ≡ Some q → q.cell.output < length lists) → (j : ℕ) →
+    list_of (filled came lists) j ≡ put_all j came (list_of lists j)
 unfolding filled
 list_after came lists inside j =
     ⊎_elim
     (λ lt. get_or-map-range_with_len (λ j. put_all j came (list_of lists j)) 0 (length lists) j j [] lt (omega arith))
     (λ ge.
     let none = put_all_none j came [] (λ k q e out. let lt = inside k q e in absurd (omega arith)) in
-    get_or_past (filled came lists) j [] (omega (arith, length_after came lists)) ∙ sym none ∙ ap (put_all j came) (sym (get_or_past lists j [] ge)))
+    get_or_past (filled came lists) j [] (omega (arith, length_after came lists)) ∙ sym none
+    ∙ ap (put_all j came) (sym (get_or_past lists j [] ge)))
     (cases_lt j (length lists))

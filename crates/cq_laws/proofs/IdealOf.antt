@@ -1,8 +1,9 @@
--- The one ideal switch with which a sound fabric is in step. Cells whose keys differ are put in the order of their keys, one after
--- the other: each new one is before or behind every other, so the list rises, and it has the same members. So the lists made of
--- the cells that the fabric has for each output rise and have these cells: that is agreement. And of two lists that rise and have
--- the same members, the first of the one is a member of the other and no later than its first, and the other way round. So their
--- firsts are one, and without them the lists have the same members again: they are one list.
+-- The one ideal switch with which a sound fabric is in step. Cells whose keys differ are put in the order of their
+-- keys, one after the other: each new one is before or behind every other, so the list rises, and it has the same
+-- members. So the lists made of the cells that the fabric has for each output rise and have these cells: that is
+-- agreement. And of two lists that rise and have the same members, the first of the one is a member of the other and
+-- no later than its first, and the other way round. So their firsts are one, and without them the lists have the same
+-- members again: they are one list.
 use Rattle.std.proofs.Common.{◌≡◌, ◌≢◌, ℕ, ◌<◌, ◌≤◌, List, [], ◌∷◌, length, refl, sym, ap, ◌∙◌, subst, inl, inr, ⊎_elim, arith}
 use Rattle.std.proofs.lemmas.Bool.{cases_lt, true≢false}
 use Rattle.std.proofs.lemmas.List.{ext_get_or, get_or_past}
@@ -83,7 +84,8 @@ same_rising [] (y ∷ ys) r s to back = absurd (back y (inl refl))
 same_rising (x ∷ xs) [] r s to back = absurd (to x (inl refl))
 same_rising (x ∷ xs) (y ∷ ys) r s to back =
     let e : x ≡ y = same_first x y xs ys r s (to x (inl refl)) (back y (inl refl)) in
-    let rest : xs ≡ ys = same_rising xs ys r.1 s.1 (same_rest x y xs ys e r.0 to) (same_rest y x ys xs (sym e) s.0 back) in
+    let rest : xs ≡ ys =
+    same_rising xs ys r.1 s.1 (same_rest x y xs ys e r.0 to) (same_rest y x ys xs (sym e) s.0 back) in
     ap (λ (c : Queued). c ∷ xs) e ∙ ap (λ (l : List Queued). y ∷ l) rest
 
 -- ## The cells of a fabric for an output
@@ -131,7 +133,8 @@ list_is f fabric j =
     ⊎_elim (λ inside. list_inside f j inside)
     (λ past.
     let ports = ports_of f in
-    let none : cells_for j f ≡ [] = no_member (cells_for j f) (λ c h. none_past f fabric j c past (from_cells j f c h)) in
+    let none : cells_for j f ≡ [] =
+    no_member (cells_for j f) (λ c h. none_past f fabric j c past (from_cells j f c h)) in
     get_or_past (ideal_of f).lists j [] (omega arith) ∙ ap in_order (sym none))
     (cases_lt j (length f.inputs))
 
@@ -147,7 +150,8 @@ agrees_of slot f sound =
       ports = ports_of f;
       ranks = ranks_of f;
       rising = λ j.
-          let differ : KeysDiffer (cells_for j f) = keys_differ (cells_for j f) (cells_once j f sound.fabric sound.order apart)
+          let differ : KeysDiffer (cells_for j f) =
+          keys_differ (cells_for j f) (cells_once j f sound.fabric sound.order apart)
           (λ c d a b e. same_cell f apart j j c d (from_cells j f c a) (from_cells j f d b) e) in
           subst IsRising (sym (list_is f sound.fabric j)) (rising_in_order (cells_for j f) differ);
       same = λ j c. (

@@ -17,7 +17,8 @@ module _ (ms : List Machine) (n : ℕ) where
   unfolding idled all_told told_idle
   length-idled ranks = length-map-range_with_len (told_idle ranks) 0 (length ranks)
 
-  idled_at : (ranks : List (List ℕ)) (j : ℕ) → j < length ranks → slice_index_or (idled ms n ranks) j [] ≡ (machine_at ms j).idle (slice_index_or ranks j [])
+  idled_at : (ranks : List (List ℕ)) (j : ℕ) → j < length ranks →
+      slice_index_or (idled ms n ranks) j [] ≡ (machine_at ms j).idle (slice_index_or ranks j [])
   unfolding idled all_told told_idle
   idled_at ranks j inside =
       get_or-map-range_with_len (told_idle ranks) 0 (length ranks) j j [] inside (omega arith)
@@ -30,7 +31,8 @@ module _ (ms : List Machine) (n : ℕ) where
         laws = λ j inside. keep.laws j (omega arith);
         sized = λ j inside.
             let inside' : j < length ranks = omega arith in
-            ap length (idled_at ranks j inside') ∙ (keep.laws j inside').idle_length (slice_index_or ranks j []) (keep.sized j inside');
+            ap length (idled_at ranks j inside')
+            ∙ (keep.laws j inside').idle_length (slice_index_or ranks j []) (keep.sized j inside');
       }
 
   idled_twice : (ranks : List (List ℕ)) → KeepLaws ms ranks → idled ms n (idled ms n ranks) ≡ idled ms n ranks
@@ -45,8 +47,10 @@ module _ (ms : List Machine) (n : ℕ) where
       ∙ (keep.laws j inside').idle_once (slice_index_or ranks j []) (keep.sized j inside')
       ∙ sym (idled_at ranks j inside'))
 
-  pub idled_once : (count : ℕ) (ranks : List (List ℕ)) → KeepLaws ms ranks → idled_for ms (count + 1) n ranks ≡ idled ms n ranks
+  pub idled_once : (count : ℕ) (ranks : List (List ℕ)) → KeepLaws ms ranks →
+      idled_for ms (count + 1) n ranks ≡ idled ms n ranks
   idled_once zero ranks keep = refl
   idled_once (suc count) ranks keep =
       let next : suc count + 1 ≡ suc (count + 1) = omega arith in
-      ap (λ k. idled_for ms k n ranks) next ∙ idled_once count (idled ms n ranks) (still_keep ranks keep) ∙ idled_twice ranks keep
+      ap (λ k. idled_for ms k n ranks) next ∙ idled_once count (idled ms n ranks) (still_keep ranks keep)
+      ∙ idled_twice ranks keep

@@ -41,7 +41,11 @@ module _ (ms : List Machine) where
         LimitedFabricSlot IsInputBest limits ms slot cells f r g →
         LimitedFabricSlot IsStable limits ms slot cells f r g
     stable_limited_slot slot cells f g r s =
-        record { admits = s.admits; runs = stable_slot slot r.admission.cells f.state g.state r.of_slot s.runs; marks = s.marks }
+        record {
+          admits = s.admits;
+          runs = stable_slot slot r.admission.cells f.state g.state r.of_slot s.runs;
+          marks = s.marks;
+        }
 
     pub stable_limited_run : (slot : ℕ) (traffic : List (List (Option Cell))) (f g : Marked Fabric)
         (rs : List LimitedRecord) → LimitedFabricRun IsInputBest limits ms slot traffic f rs g →

@@ -9,7 +9,8 @@ use Rattle.cq_laws.specs.FabricSlot.{FabricSlot}
 use Rattle.cq_laws.specs.FabricRun.{RunsGoOn, IsFault}
 use Rattle.cq_laws.specs.SlotBySlot.{RunBy, StopBy, GoOn}
 
-module _ {S R : Type 0} (Step : ℕ → List (Option Cell) → S → R → S → Type 0) (Fault : ℕ → List (Option Cell) → S → TagFault → Type 0) where
+module _ {S R : Type 0} (Step : ℕ → List (Option Cell) → S → R → S → Type 0)
+    (Fault : ℕ → List (Option Cell) → S → TagFault → Type 0) where
   joined : (slot : ℕ) (before after : List (List (Option Cell))) (f m g : S) (rs ss : List R) →
       RunBy Step slot before f rs m → RunBy Step (slot + length before) after m ss g →
       RunBy Step slot (before ++ after) f (rs ++ ss) g
@@ -31,8 +32,12 @@ module _ {S R : Type 0} (Step : ℕ → List (Option Cell) → S → R → S →
   stopped slot [] after f m (r ∷ rs) ss fault x y = absurd x
   stopped slot (cells ∷ before) after f m [] ss fault x y = absurd x
   stopped slot (cells ∷ before) after f m (r ∷ rs) ss fault x y =
-      let here : slot + length (cells ∷ before) ≡ slot + 1 + length before = omega arith in
-      (x.0, x.1, stopped (slot + 1) before after x.0 m rs ss fault x.2 (subst (λ n. StopBy Step Fault n after m ss fault) here y))
+      let here : slot + length (cells ∷ before) ≡ slot + 1 + length before = omega arith in (
+        x.0,
+        x.1,
+        stopped (slot + 1) before after x.0 m rs ss fault x.2
+            (subst (λ n. StopBy Step Fault n after m ss fault) here y),
+      )
 
   pub all_go_on : GoOn Step Fault
   all_go_on =

@@ -1,5 +1,5 @@
--- What is kept of a run is kept of its parts: the departures and the transfers of two runs on end are those of the first and then
--- those of the second.
+-- What is kept of a run is kept of its parts: the departures and the transfers of two runs on end are those of the
+-- first and then those of the second.
 use Rattle.std.proofs.Common.{◌≡◌, ℕ, suc, ◌+◌, List, [], ◌∷◌, ◌++◌, length, Option, refl, ap, ◌∙◌, arith}
 use Rattle.std.proofs.lemmas.List.{append-nil, map-append}
 use Rattle.std.proofs.lemmas.List.Concat.{flat_map-append}

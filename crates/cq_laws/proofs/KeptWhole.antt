@@ -1,5 +1,5 @@
--- What each phase keeps of a fabric: that it is one, and that each output has one rank state. Ranking, and what the machines are
--- told at the end of a slot, keep the number of states; a transfer leaves them as they are.
+-- What each phase keeps of a fabric: that it is one, and that each output has one rank state. Ranking, and what the
+-- machines are told at the end of a slot, keep the number of states; a transfer leaves them as they are.
 use Rattle.std.proofs.Common.{◌≡◌, ℕ, List, length, Option, sym, ap, ◌∙◌}
 use Rattle.std.proofs.lemmas.List.FromFn.{length-map-range_with_len}
 use Rattle.cq_base.specs.declared.cell.Cell.{Cell}

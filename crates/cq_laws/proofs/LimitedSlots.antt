@@ -1,6 +1,6 @@
--- One slot with limits, from states that agree. Each output holds equally many cells in both, so both judge the arrivals alike.
--- What is admitted is for the ports, as the arrivals are, and goes through the slot without limits: there both send the same or
--- have the same fault, and the states agree again.
+-- One slot with limits, from states that agree. Each output holds equally many cells in both, so both judge the
+-- arrivals alike. What is admitted is for the ports, as the arrivals are, and goes through the slot without limits:
+-- there both send the same or have the same fault, and the states agree again.
 use Rattle.std.proofs.Common.{◌≡◌, ℕ, ◌↔◌, Bool, List, length, Option, Result, Ok, Err, sym, ap, ◌∙◌, subst}
 use Rattle.cq_base.specs.declared.cell.Cell.{Cell}
 use Rattle.cq_base.specs.declared.cell.TagFault.{TagFault}
@@ -19,7 +19,8 @@ use Rattle.cq_laws.specs.Slack.{HasSlack}
 use Rattle.cq_laws.proofs.Held.{hold_as_many}
 use Rattle.cq_laws.proofs.OneSlot.{same_fault, same_slot, slack_arrived, ports_kept}
 
-module _ (limits : List (Option ℕ)) (slot : ℕ) (cells : List (Option Cell)) (f : Marked Fabric) (ideal : Marked IdealState) (agrees : LimitedAgrees slot f ideal) where
+module _ (limits : List (Option ℕ)) (slot : ℕ) (cells : List (Option Cell)) (f : Marked Fabric)
+    (ideal : Marked IdealState) (agrees : LimitedAgrees slot f ideal) where
   pub same_admission : fabric_admission limits cells f ≡ ideal_admission limits cells ideal
   same_admission =
       ap (λ held. admission limits held f.marks cells) (hold_as_many slot f.state ideal.state agrees.states)
@@ -45,10 +46,14 @@ same_limited_fault limits ms slot cells f ideal fault agrees =
     let a = fabric_admission limits cells f in
     let here = same_fault ms slot a.cells f.state ideal.state fault agrees.states in
     let faults = with_fault a (ideal_slot ms slot a.cells ideal.state) fault in
-    subst (λ (x : Admission). (with_admission x (ideal_slot ms slot x.cells ideal.state) ≡ Err fault) ↔ (ranking ms slot 0 a.cells f.state.ranks ≡ Err fault)) (same_admission limits slot cells f ideal agrees)
+    subst (λ (x : Admission). (with_admission x (ideal_slot ms slot x.cells ideal.state) ≡ Err fault)
+    ↔ (ranking ms slot 0 a.cells f.state.ranks ≡ Err fault)) (same_admission limits slot cells f ideal agrees)
     (λ h. here.0 (faults.0 h), λ h. faults.1 (here.1 h))
 
-module _ (limits : List (Option ℕ)) (ms : List Machine) (slot class_count : ℕ) (cells : List (Option Cell)) (f g : Marked Fabric) (ideal : Marked IdealState) (r : LimitedRecord) (agrees : LimitedAgrees slot f ideal) (come : AreForPorts (length f.state.inputs) class_count cells) (step : LimitedFabricSlot IsStable limits ms slot cells f r g) where
+module _ (limits : List (Option ℕ)) (ms : List Machine) (slot class_count : ℕ) (cells : List (Option Cell))
+    (f g : Marked Fabric) (ideal : Marked IdealState) (r : LimitedRecord) (agrees : LimitedAgrees slot f ideal)
+    (come : AreForPorts (length f.state.inputs) class_count cells)
+    (step : LimitedFabricSlot IsStable limits ms slot cells f r g) where
   come_admitted : AreForPorts (length f.state.inputs) class_count r.admission.cells
   come_admitted =
       subst (λ (a : Admission). AreForPorts (length f.state.inputs) class_count a.cells) (sym step.admits)
@@ -59,17 +64,20 @@ module _ (limits : List (Option ℕ)) (ms : List Machine) (slot class_count : �
 
   pub limited_ports_kept : length g.state.inputs ≡ length f.state.inputs
   limited_ports_kept =
-      ports_kept ms slot class_count r.admission.cells f.state g.state ideal.state r.of_slot agrees.states come_admitted step.runs
+      ports_kept ms slot class_count r.admission.cells f.state g.state ideal.state r.of_slot agrees.states
+      come_admitted step.runs
 
   pub limited_slack_arrived : HasSlack 0 r.of_slot.arrived
   limited_slack_arrived =
-      slack_arrived ms slot class_count r.admission.cells f.state g.state ideal.state r.of_slot agrees.states come_admitted step.runs
+      slack_arrived ms slot class_count r.admission.cells f.state g.state ideal.state r.of_slot agrees.states
+      come_admitted step.runs
 
   pub same_limited_slot : ActsAlike limits ms slot cells ideal r g
   unfolding limited_slot
   same_limited_slot =
       let one =
-      same_slot ms slot class_count r.admission.cells f.state g.state ideal.state r.of_slot agrees.states come_admitted step.runs in
+      same_slot ms slot class_count r.admission.cells f.state g.state ideal.state r.of_slot agrees.states
+      come_admitted step.runs in
       record {
         next = record { state = one.next; marks = r.admission.marks };
         sent =

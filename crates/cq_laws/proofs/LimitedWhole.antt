@@ -1,5 +1,5 @@
--- Whole runs with limits, slot by slot from states that agree, and the runs without limits that they are: those of the arrivals
--- that the ideal switch admits, which are those that the fabric admits.
+-- Whole runs with limits, slot by slot from states that agree, and the runs without limits that they are: those of
+-- the arrivals that the ideal switch admits, which are those that the fabric admits.
 use Rattle.std.proofs.Common.{◌≡◌, ℕ, ◌+◌, Bool, List, [], ◌∷◌, length, Option, Err, refl, sym, ap, ◌∙◌, subst, arith}
 use Rattle.std.specs.List.{AllByRecursion}
 use Rattle.cq_base.specs.declared.cell.Cell.{Cell}
@@ -24,12 +24,14 @@ use Rattle.cq_laws.proofs.WholeRuns.{empty_agree, traffic_for_empty}
 
 module _ (limits : List (Option ℕ)) (ms : List Machine) (class_count : ℕ) where
   -- the states agree, and what still arrives is for the ports
-  pub record Stands (slot : ℕ) (traffic : List (List (Option Cell))) (f : Marked Fabric) (ideal : Marked IdealState) : Type 0 where
+  pub record Stands (slot : ℕ) (traffic : List (List (Option Cell))) (f : Marked Fabric) (ideal : Marked IdealState) :
+      Type 0 where
     pub agrees : LimitedAgrees slot f ideal
     pub come : AllByRecursion (AreForPorts (length f.state.inputs) class_count) traffic
 
   -- after a slot they stand so again
-  record Went (slot : ℕ) (cells : List (Option Cell)) (traffic : List (List (Option Cell))) (ideal : Marked IdealState) (r : LimitedRecord) (g : Marked Fabric) : Type 0 where
+  record Went (slot : ℕ) (cells : List (Option Cell)) (traffic : List (List (Option Cell)))
+      (ideal : Marked IdealState) (r : LimitedRecord) (g : Marked Fabric) : Type 0 where
     alike : ActsAlike limits ms slot cells ideal r g
     slack : HasSlack 0 r.of_slot.arrived
     stands : Stands (slot + 1) traffic g alike.next
@@ -43,7 +45,11 @@ module _ (limits : List (Option ℕ)) (ms : List Machine) (class_count : ℕ) wh
       record {
         alike = one;
         slack = limited_slack_arrived limits ms slot class_count cells f g ideal r s.agrees s.come.0 step;
-        stands = record { agrees = one.agrees; come = subst (λ n. AllByRecursion (AreForPorts n class_count) traffic) (sym ports) s.come.1 };
+        stands =
+            record {
+              agrees = one.agrees;
+              come = subst (λ n. AllByRecursion (AreForPorts n class_count) traffic) (sym ports) s.come.1;
+            };
       }
 
   -- ## They act alike
@@ -141,8 +147,10 @@ fabric_judged MayChoose limits ms slot [] f g [] run = tt
 fabric_judged MayChoose limits ms slot [] f g (r ∷ rs) run = absurd run
 fabric_judged MayChoose limits ms slot (cells ∷ traffic) f g [] run = absurd run
 fabric_judged MayChoose limits ms slot (cells ∷ traffic) f g (r ∷ rs) run =
-    let rest = fabric_judged MayChoose limits ms (slot + 1) traffic run.0 g rs run.2 in
-    ((fabric_held f.state, run.1.admits), subst (λ (marks : List Bool). AreJudged limits marks traffic (admissions_in rs)) run.1.marks rest)
+    let rest = fabric_judged MayChoose limits ms (slot + 1) traffic run.0 g rs run.2 in (
+      (fabric_held f.state, run.1.admits),
+      subst (λ (marks : List Bool). AreJudged limits marks traffic (admissions_in rs)) run.1.marks rest,
+    )
 
 pub limited_empty_agree : (ports : ℕ) (ranks : List (List ℕ)) →
     LimitedAgrees 0 (empty_limited_fabric ports ranks) (empty_limited ports ranks)

@@ -1,6 +1,6 @@
--- The cells of a list, as members and by their places. First what a place shows of a member, then where the first cell for an
--- output stands, then what becomes of the members where that cell is taken out, where a cell is put in the order of keys, and
--- where one is inserted at a place.
+-- The cells of a list, as members and by their places. First what a place shows of a member, then where the first
+-- cell for an output stands, then what becomes of the members where that cell is taken out, where a cell is put in
+-- the order of keys, and where one is inserted at a place.
 use Rattle.std.proofs.Common.{◌≡◌, ◌≢◌, ℕ, zero, suc, ◌<◌, ◌≤◌, ◌⊎◌, Bool, true, false, cond, List, [], ◌∷◌, Some, refl, sym, ap, ◌∙◌, subst, inl, inr, ⊎_elim, arith}
 use Rattle.std.specs.Prelude.{slice_get, find, insert}
 use Rattle.std.specs.List.{AllByRecursion, position_or_len}
@@ -41,7 +41,8 @@ pub record IsFirst (p : Queued → Bool) (xs : List Queued) (c : Queued) : Type 
   pub at : slice_get xs place ≡ Some c
   pub passes : p c ≡ true
 
-first_in : (p : Queued → Bool) (x : Queued) (xs : List Queued) (c : Queued) (b : Bool) → p x ≡ b → cond b (Some x) (find p xs) ≡ Some c → (find p xs ≡ Some c → IsFirst p xs c) → IsFirst p (x ∷ xs) c
+first_in : (p : Queued → Bool) (x : Queued) (xs : List Queued) (c : Queued) (b : Bool) → p x ≡ b →
+    cond b (Some x) (find p xs) ≡ Some c → (find p xs ≡ Some c → IsFirst p xs c) → IsFirst p (x ∷ xs) c
 first_in p x xs c true e h rest =
     let same : x ≡ c = cc in
     record { place = zero; is = sym (first_here p x xs e); at = ap Some same; passes = ap p (sym same) ∙ e }
@@ -56,7 +57,8 @@ first_at p [] c h = cc
 first_at p (x ∷ xs) c h = first_in p x xs c (p x) refl h (λ k. first_at p xs c k)
 
 -- where one passes, there is a first
-pub first_of : (p : Queued → Bool) (xs : List Queued) (c : Queued) → IsAmong c xs → p c ≡ true → (f : Queued) × (find p xs ≡ Some f)
+pub first_of : (p : Queued → Bool) (xs : List Queued) (c : Queued) → IsAmong c xs → p c ≡ true →
+    (f : Queued) × (find p xs ≡ Some f)
 first_of p [] c h e = absurd h
 first_of p (x ∷ xs) c h e =
     cond_both (p x) (Some x) (find p xs) (λ o. (f : Queued) × (o ≡ Some f)) (λ _. (x, refl))
@@ -71,7 +73,9 @@ pub record StoodAt (j : ℕ) (xs : List Queued) (t : ℕ) (c : Queued) : Type 0 
   pub moved : place_for j xs ≤ t → place ≡ suc t
   pub stayed : t < place_for j xs → place ≡ t
 
-left_in : (j : ℕ) (x : Queued) (xs : List Queued) (t : ℕ) (c : Queued) (b : Bool) → is_for j x ≡ b → slice_get (cond b xs (x ∷ without_first j xs)) t ≡ Some c → ((s : ℕ) → slice_get (without_first j xs) s ≡ Some c → StoodAt j xs s c) → StoodAt j (x ∷ xs) t c
+left_in : (j : ℕ) (x : Queued) (xs : List Queued) (t : ℕ) (c : Queued) (b : Bool) → is_for j x ≡ b →
+    slice_get (cond b xs (x ∷ without_first j xs)) t ≡ Some c →
+    ((s : ℕ) → slice_get (without_first j xs) s ≡ Some c → StoodAt j xs s c) → StoodAt j (x ∷ xs) t c
 left_in j x xs t c true e h rest =
     let here = first_here (is_for j) x xs e in
     record { place = suc t; at = h; moved = λ _. refl; stayed = λ l. absurd (omega arith) }
@@ -83,18 +87,26 @@ left_in j x xs (suc t) c false e h rest =
     let r = rest t h in
     let moved = r.moved in
     let stayed = r.stayed in
-    record { place = suc r.place; at = r.at; moved = λ l. ap suc (moved (omega arith)); stayed = λ l. ap suc (stayed (omega arith)) }
+    record {
+      place = suc r.place;
+      at = r.at;
+      moved = λ l. ap suc (moved (omega arith));
+      stayed = λ l. ap suc (stayed (omega arith));
+    }
 
-pub left_at : (j : ℕ) (xs : List Queued) (t : ℕ) (c : Queued) → slice_get (without_first j xs) t ≡ Some c → StoodAt j xs t c
+pub left_at : (j : ℕ) (xs : List Queued) (t : ℕ) (c : Queued) → slice_get (without_first j xs) t ≡ Some c →
+    StoodAt j xs t c
 left_at j [] t c h = cc
 left_at j (x ∷ xs) t c h = left_in j x xs t c (is_for j x) refl h (λ s k. left_at j xs s c k)
 
 -- a cell of the list is left, or it is the first
-pub left_or_first : (j : ℕ) (xs : List Queued) (c : Queued) → IsAmong c xs → IsAmong c (without_first j xs) ⊎ (first_for j xs ≡ Some c)
+pub left_or_first : (j : ℕ) (xs : List Queued) (c : Queued) → IsAmong c xs →
+    IsAmong c (without_first j xs) ⊎ (first_for j xs ≡ Some c)
 left_or_first j [] c h = absurd h
 left_or_first j (x ∷ xs) c h = go (is_for j x) (left_or_first j xs c)
   where
-    go : (b : Bool) → (IsAmong c xs → IsAmong c (without_first j xs) ⊎ (first_for j xs ≡ Some c)) → IsAmong c (cond b xs (x ∷ without_first j xs)) ⊎ (cond b (Some x) (first_for j xs) ≡ Some c)
+    go : (b : Bool) → (IsAmong c xs → IsAmong c (without_first j xs) ⊎ (first_for j xs ≡ Some c)) →
+        IsAmong c (cond b xs (x ∷ without_first j xs)) ⊎ (cond b (Some x) (first_for j xs) ≡ Some c)
     go true rest = ⊎_elim (λ e. inr (ap Some e)) (λ k. inl k) h
     go false rest = ⊎_elim (λ e. inl (inl e)) (λ k. ⊎_elim (λ l. inl (inr l)) (λ f. inr f) (rest k)) h
 
@@ -115,7 +127,9 @@ among_put d c (x ∷ xs) h =
 
 pub put_new : (c : Queued) (xs : List Queued) → IsAmong c (put c xs)
 put_new c [] = inl refl
-put_new c (x ∷ xs) = cond_both (is_before c.key x.key) (c ∷ x ∷ xs) (x ∷ put c xs) (IsAmong c) (λ _. inl refl) (λ _. inr (put_new c xs))
+put_new c (x ∷ xs) =
+    cond_both (is_before c.key x.key) (c ∷ x ∷ xs) (x ∷ put c xs) (IsAmong c) (λ _. inl refl)
+    (λ _. inr (put_new c xs))
 
 pub put_old : (d c : Queued) (xs : List Queued) → IsAmong d xs → IsAmong d (put c xs)
 put_old d c [] h = absurd h
@@ -124,34 +138,47 @@ put_old d c (x ∷ xs) h =
     (λ _. inr h)
     (λ _. ⊎_elim (λ e. inl e) (λ k. inr (put_old d c xs k)) h)
 
-all_put : (P : Queued → Type 0) (c : Queued) (xs : List Queued) → P c → AllByRecursion P xs → AllByRecursion P (put c xs)
-all_put P c xs p a = all_from P (put c xs) (λ d k. ⊎_elim (λ e. subst P e p) (λ m. all_among P xs d a m) (among_put d c xs k))
+all_put : (P : Queued → Type 0) (c : Queued) (xs : List Queued) → P c → AllByRecursion P xs →
+    AllByRecursion P (put c xs)
+all_put P c xs p a =
+    all_from P (put c xs) (λ d k. ⊎_elim (λ e. subst P e p) (λ m. all_among P xs d a m) (among_put d c xs k))
 
 -- a key that differs and is not before the other is after it
 pub after_other : (a b : Key) → is_before a b ≡ false → a ≢ b → is_before b a ≡ true
 after_other a b h ne = ⊎_elim (λ e. e) (λ e. absurd (ne (key_laws.alike a b h e))) (cases_Bool (is_before b a))
 
-pub rising_put : (c : Queued) (xs : List Queued) → IsRising xs → ((d : Queued) → IsAmong d xs → c.key ≢ d.key) → IsRising (put c xs)
+pub rising_put : (c : Queued) (xs : List Queued) → IsRising xs → ((d : Queued) → IsAmong d xs → c.key ≢ d.key) →
+    IsRising (put c xs)
 rising_put c [] r ne = (tt, tt)
 rising_put c (x ∷ xs) r ne =
     cond_both (is_before c.key x.key) (c ∷ x ∷ xs) (x ∷ put c xs) IsRising
-    (λ e. (all_from (IsBefore c) (x ∷ xs) (λ d k. ⊎_elim (λ s. subst (IsBefore c) s e) (λ m. key_laws.on c.key x.key d.key e (all_among (IsBefore x) xs d r.0 m)) k), r))
-    (λ e. (all_put (IsBefore x) c xs (after_other c.key x.key e (ne x (inl refl))) r.0, rising_put c xs r.1 (λ d k. ne d (inr k))))
+    (λ e. (
+      all_from (IsBefore c) (x ∷ xs) (λ d k. ⊎_elim (λ s. subst (IsBefore c) s e)
+          (λ m. key_laws.on c.key x.key d.key e (all_among (IsBefore x) xs d r.0 m)) k),
+      r,
+    ))
+    (λ e. (
+      all_put (IsBefore x) c xs (after_other c.key x.key e (ne x (inl refl))) r.0,
+      rising_put c xs r.1 (λ d k. ne d (inr k)),
+    ))
 
 -- ## A cell inserted at a place
 
--- what stands in a list after an insertion: the new cell no later than its place, each other no more than one place later
+-- what stands in a list after an insertion: the new cell no later than its place, each other no more than one place
+-- later
 pub record Inserted (n : Queued) (p : ℕ) (xs : List Queued) (t : ℕ) (c : Queued) : Type 0 where
   pub was : ((t ≤ p) × (n ≡ c)) ⊎ ((s : ℕ) × (slice_get xs s ≡ Some c) × (t ≤ suc s))
 
-pub inserted_at : (xs : List Queued) (p t : ℕ) (n c : Queued) → slice_get (insert xs p n) t ≡ Some c → Inserted n p xs t c
+pub inserted_at : (xs : List Queued) (p t : ℕ) (n c : Queued) → slice_get (insert xs p n) t ≡ Some c →
+    Inserted n p xs t c
 inserted_at xs zero zero n c h = record { was = inl (omega arith, cc) }
 inserted_at xs zero (suc t) n c h = record { was = inr (t, h, omega arith) }
 inserted_at [] (suc p) zero n c h = record { was = inl (omega arith, cc) }
 inserted_at [] (suc p) (suc t) n c h = cc
 inserted_at (x ∷ xs) (suc p) zero n c h = record { was = inr (zero, h, omega arith) }
 inserted_at (x ∷ xs) (suc p) (suc t) n c h =
-    ⊎_elim (λ k. let le = k.0 in record { was = inl (omega arith, k.1) }) (λ k. let le = k.2 in record { was = inr (suc k.0, k.1, omega arith) }) (inserted_at xs p t n c h).was
+    ⊎_elim (λ k. let le = k.0 in record { was = inl (omega arith, k.1) })
+    (λ k. let le = k.2 in record { was = inr (suc k.0, k.1, omega arith) }) (inserted_at xs p t n c h).was
 
 pub insert_new : (xs : List Queued) (p : ℕ) (n : Queued) → IsAmong n (insert xs p n)
 insert_new xs zero n = inl refl
@@ -166,4 +193,5 @@ insert_old (x ∷ xs) (suc p) n c h = ⊎_elim (λ e. inl e) (λ k. inr (insert_
 pub among_insert : (xs : List Queued) (p : ℕ) (n c : Queued) → IsAmong c (insert xs p n) → (n ≡ c) ⊎ IsAmong c xs
 among_insert xs zero n c h = h
 among_insert [] (suc p) n c h = h
-among_insert (x ∷ xs) (suc p) n c h = ⊎_elim (λ e. inr (inl e)) (λ k. ⊎_elim (λ e. inl e) (λ m. inr (inr m)) (among_insert xs p n c k)) h
+among_insert (x ∷ xs) (suc p) n c h =
+    ⊎_elim (λ e. inr (inl e)) (λ k. ⊎_elim (λ e. inl e) (λ m. inr (inr m)) (among_insert xs p n c k)) h

@@ -4,7 +4,8 @@ use Rattle.cq_base.specs.declared.cell.Cell.{Cell}
 use Rattle.cq_base.specs.declared.cell.TagFault.{TagFault}
 use Rattle.cq_laws.specs.SlotBySlot.{RunBy, StopBy, IsOneRun}
 
-module _ {S R : Type 0} (Step : ℕ → List (Option Cell) → S → R → S → Type 0) (Fault : ℕ → List (Option Cell) → S → TagFault → Type 0) where
+module _ {S R : Type 0} (Step : ℕ → List (Option Cell) → S → R → S → Type 0)
+    (Fault : ℕ → List (Option Cell) → S → TagFault → Type 0) where
   -- a slot has one record and one end, or one fault
   pub record LeavesNoChoice : Type 0 where
     pub slot : (slot : ℕ) (cells : List (Option Cell)) (f g h : S) (r s : R) → Step slot cells f r g →

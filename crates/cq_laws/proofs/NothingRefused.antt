@@ -1,5 +1,5 @@
--- Where nothing is refused a slot with limits is the slot without, and no mark moves; so it is with runs. Nothing is refused where
--- no output has a limit and no mark is up, nor where nothing arrives.
+-- Where nothing is refused a slot with limits is the slot without, and no mark moves; so it is with runs. Nothing is
+-- refused where no output has a limit and no mark is up, nor where nothing arrives.
 use Rattle.std.proofs.Common.{◌≡◌, ℕ, ◌+◌, Bool, List, [], ◌∷◌, replicate, zero, suc, Option, refl, sym, ap, ◌∙◌, subst}
 use Rattle.std.specs.List.{AllByRecursion}
 use Rattle.cq_base.specs.declared.cell.Cell.{Cell}
@@ -16,92 +16,107 @@ use Rattle.cq_laws.specs.FabricSlot.{SlotRecord, FabricSlot}
 use Rattle.cq_laws.specs.Holding.{fabric_held}
 use Rattle.cq_laws.specs.LimitedFabric.{LimitedRecord, LimitedFabricSlot, LimitedFabricRun, LimitedFabricStops, IsLimitedFault, fabric_admission, slots_in, passed}
 
-module _ (MayChoose : Orders → Partners → Type 0) (limits : List (Option ℕ)) (ms : List Machine) (marks : List Bool) where
-  -- ## One slot
+module _ (MayChoose : Orders → Partners → Type 0) (limits : List (Option ℕ)) (ms : List Machine) (marks : List Bool)
+  where
+    -- ## One slot
 
-  module _ (slot : ℕ) (cells : List (Option Cell)) (f : Fabric) (none : RefusesNone limits marks cells) where
-    is_nothing : fabric_admission limits cells (marked marks f) ≡ nothing_refused marks cells
-    is_nothing = none (fabric_held f)
+    module _ (slot : ℕ) (cells : List (Option Cell)) (f : Fabric) (none : RefusesNone limits marks cells) where
+      is_nothing : fabric_admission limits cells (marked marks f) ≡ nothing_refused marks cells
+      is_nothing = none (fabric_held f)
 
-    pub slot_without : (r : LimitedRecord) (g : Marked Fabric) →
-        LimitedFabricSlot MayChoose limits ms slot cells (marked marks f) r g →
-        FabricSlot MayChoose ms slot cells f r.of_slot g.state × (r.admission ≡ nothing_refused marks cells) ×
+      pub slot_without : (r : LimitedRecord) (g : Marked Fabric) →
+          LimitedFabricSlot MayChoose limits ms slot cells (marked marks f) r g →
+          FabricSlot MayChoose ms slot cells f r.of_slot g.state × (r.admission ≡ nothing_refused marks cells) ×
+          (g ≡ marked marks g.state)
+      slot_without r g step =
+          let is = step.admits ∙ is_nothing in
+          let stay : g.marks ≡ marks = step.marks ∙ ap (λ (a : Admission). a.marks) is in (
+            subst (λ (a : Admission). FabricSlot MayChoose ms slot a.cells f r.of_slot g.state) is step.runs,
+            is,
+            λ k. record { state = g.state; marks = stay k },
+          )
+
+      pub slot_with : (r : SlotRecord) (g : Fabric) → FabricSlot MayChoose ms slot cells f r g →
+          LimitedFabricSlot MayChoose limits ms slot cells (marked marks f)
+          (record { admission = nothing_refused marks cells; of_slot = r }) (marked marks g)
+      slot_with r g step = record { admits = sym is_nothing; runs = step; marks = refl }
+
+      fault_without : (fault : TagFault) → IsLimitedFault limits ms slot cells (marked marks f) fault →
+          IsFault ms slot cells f fault
+      fault_without fault h = subst (λ (a : Admission). IsFault ms slot a.cells f fault) is_nothing h
+
+      fault_with : (fault : TagFault) → IsFault ms slot cells f fault →
+          IsLimitedFault limits ms slot cells (marked marks f) fault
+      fault_with fault h = subst (λ (a : Admission). IsFault ms slot a.cells f fault) (sym is_nothing) h
+
+    -- ## Runs
+
+    -- nothing is refused in any slot
+    abbrev None_in : List (List (Option Cell)) → Type 0
+    None_in traffic = AllByRecursion (RefusesNone limits marks) traffic
+
+    same_records : (a : Admission) (r : LimitedRecord) (rs ss : List LimitedRecord) → r.admission ≡ a → rs ≡ ss →
+        r ∷ rs ≡ record { admission = a; of_slot = r.of_slot } ∷ ss
+    same_records a r rs ss e f = λ k. record { admission = e k; of_slot = r.of_slot } ∷ f k
+
+    pub run_without : (slot : ℕ) (traffic : List (List (Option Cell))) (f : Fabric) (rs : List LimitedRecord)
+        (g : Marked Fabric) → None_in traffic →
+        LimitedFabricRun MayChoose limits ms slot traffic (marked marks f) rs g →
+        FabricRun MayChoose ms slot traffic f (slots_in rs) g.state × (rs ≡ passed marks traffic (slots_in rs)) ×
         (g ≡ marked marks g.state)
-    slot_without r g step =
-        let is = step.admits ∙ is_nothing in
-        let stay : g.marks ≡ marks = step.marks ∙ ap (λ (a : Admission). a.marks) is in (
-          subst (λ (a : Admission). FabricSlot MayChoose ms slot a.cells f r.of_slot g.state) is step.runs,
-          is,
-          λ k. record { state = g.state; marks = stay k },
+    run_without slot [] f [] g none run =
+        (ap (λ (h : Marked Fabric). h.state) run, refl, run ∙ ap (λ (h : Marked Fabric). marked marks h.state) (sym run))
+    run_without slot [] f (r ∷ rs) g none run = absurd run
+    run_without slot (cells ∷ traffic) f [] g none run = absurd run
+    run_without slot (cells ∷ traffic) f (r ∷ rs) g none run =
+        let one = slot_without slot cells f none.0 r run.0 run.1 in
+        let rest = run_without (slot + 1) traffic run.0.state rs g none.1
+        (subst (λ (h : Marked Fabric). LimitedFabricRun MayChoose limits ms (slot + 1) traffic h rs g) one.2 run.2) in (
+          (run.0.state, one.0, rest.0),
+          same_records (nothing_refused marks cells) r rs (passed marks traffic (slots_in rs)) one.1 rest.1,
+          rest.2,
         )
 
-    pub slot_with : (r : SlotRecord) (g : Fabric) → FabricSlot MayChoose ms slot cells f r g →
-        LimitedFabricSlot MayChoose limits ms slot cells (marked marks f)
-        (record { admission = nothing_refused marks cells; of_slot = r }) (marked marks g)
-    slot_with r g step = record { admits = sym is_nothing; runs = step; marks = refl }
+    pub run_with : (slot : ℕ) (traffic : List (List (Option Cell))) (f g : Fabric) (rs : List SlotRecord) →
+        None_in traffic → FabricRun MayChoose ms slot traffic f rs g →
+        LimitedFabricRun MayChoose limits ms slot traffic (marked marks f) (passed marks traffic rs) (marked marks g)
+    run_with slot [] f g [] none run = ap (marked marks) run
+    run_with slot [] f g (r ∷ rs) none run = absurd run
+    run_with slot (cells ∷ traffic) f g [] none run = absurd run
+    run_with slot (cells ∷ traffic) f g (r ∷ rs) none run = (
+      marked marks run.0,
+      slot_with slot cells f none.0 r run.0 run.1,
+      run_with (slot + 1) traffic run.0 g rs none.1 run.2,
+    )
 
-    fault_without : (fault : TagFault) → IsLimitedFault limits ms slot cells (marked marks f) fault →
-        IsFault ms slot cells f fault
-    fault_without fault h = subst (λ (a : Admission). IsFault ms slot a.cells f fault) is_nothing h
+    pub stop_without : (slot : ℕ) (traffic : List (List (Option Cell))) (f : Fabric) (rs : List LimitedRecord)
+        (fault : TagFault) → None_in traffic →
+        LimitedFabricStops MayChoose limits ms slot traffic (marked marks f) rs fault →
+        FabricStops MayChoose ms slot traffic f (slots_in rs) fault
+    stop_without slot [] f rs fault none run = absurd run
+    stop_without slot (cells ∷ traffic) f [] fault none run = fault_without slot cells f none.0 fault run
+    stop_without slot (cells ∷ traffic) f (r ∷ rs) fault none run =
+        let one = slot_without slot cells f none.0 r run.0 run.1 in (
+          run.0.state,
+          one.0,
+          stop_without (slot + 1) traffic run.0.state rs fault none.1 (subst
+              (λ (h : Marked Fabric). LimitedFabricStops MayChoose limits ms (slot + 1) traffic h rs fault)
+              one.2 run.2),
+        )
 
-    fault_with : (fault : TagFault) → IsFault ms slot cells f fault →
-        IsLimitedFault limits ms slot cells (marked marks f) fault
-    fault_with fault h = subst (λ (a : Admission). IsFault ms slot a.cells f fault) (sym is_nothing) h
+    pub stop_with : (slot : ℕ) (traffic : List (List (Option Cell))) (f : Fabric) (rs : List SlotRecord)
+        (fault : TagFault) → None_in traffic → FabricStops MayChoose ms slot traffic f rs fault →
+        LimitedFabricStops MayChoose limits ms slot traffic (marked marks f) (passed marks traffic rs) fault
+    stop_with slot [] f rs fault none run = absurd run
+    stop_with slot (cells ∷ traffic) f [] fault none run = fault_with slot cells f none.0 fault run
+    stop_with slot (cells ∷ traffic) f (r ∷ rs) fault none run = (
+      marked marks run.0,
+      slot_with slot cells f none.0 r run.0 run.1,
+      stop_with (slot + 1) traffic run.0 rs fault none.1 run.2,
+    )
 
-  -- ## Runs
+    -- ## Slots without arrivals
 
-  -- nothing is refused in any slot
-  abbrev None_in : List (List (Option Cell)) → Type 0
-  None_in traffic = AllByRecursion (RefusesNone limits marks) traffic
-
-  same_records : (a : Admission) (r : LimitedRecord) (rs ss : List LimitedRecord) → r.admission ≡ a → rs ≡ ss →
-      r ∷ rs ≡ record { admission = a; of_slot = r.of_slot } ∷ ss
-  same_records a r rs ss e f = λ k. record { admission = e k; of_slot = r.of_slot } ∷ f k
-
-  pub run_without : (slot : ℕ) (traffic : List (List (Option Cell))) (f : Fabric) (rs : List LimitedRecord)
-      (g : Marked Fabric) → None_in traffic →
-      LimitedFabricRun MayChoose limits ms slot traffic (marked marks f) rs g →
-      FabricRun MayChoose ms slot traffic f (slots_in rs) g.state × (rs ≡ passed marks traffic (slots_in rs)) ×
-      (g ≡ marked marks g.state)
-  run_without slot [] f [] g none run =
-      (ap (λ (h : Marked Fabric). h.state) run, refl, run ∙ ap (λ (h : Marked Fabric). marked marks h.state) (sym run))
-  run_without slot [] f (r ∷ rs) g none run = absurd run
-  run_without slot (cells ∷ traffic) f [] g none run = absurd run
-  run_without slot (cells ∷ traffic) f (r ∷ rs) g none run =
-      let one = slot_without slot cells f none.0 r run.0 run.1 in
-      let rest = run_without (slot + 1) traffic run.0.state rs g none.1
-      (subst (λ (h : Marked Fabric). LimitedFabricRun MayChoose limits ms (slot + 1) traffic h rs g) one.2 run.2) in
-      ((run.0.state, one.0, rest.0), same_records (nothing_refused marks cells) r rs (passed marks traffic (slots_in rs)) one.1 rest.1, rest.2)
-
-  pub run_with : (slot : ℕ) (traffic : List (List (Option Cell))) (f g : Fabric) (rs : List SlotRecord) →
-      None_in traffic → FabricRun MayChoose ms slot traffic f rs g →
-      LimitedFabricRun MayChoose limits ms slot traffic (marked marks f) (passed marks traffic rs) (marked marks g)
-  run_with slot [] f g [] none run = ap (marked marks) run
-  run_with slot [] f g (r ∷ rs) none run = absurd run
-  run_with slot (cells ∷ traffic) f g [] none run = absurd run
-  run_with slot (cells ∷ traffic) f g (r ∷ rs) none run =
-      (marked marks run.0, slot_with slot cells f none.0 r run.0 run.1, run_with (slot + 1) traffic run.0 g rs none.1 run.2)
-
-  pub stop_without : (slot : ℕ) (traffic : List (List (Option Cell))) (f : Fabric) (rs : List LimitedRecord)
-      (fault : TagFault) → None_in traffic →
-      LimitedFabricStops MayChoose limits ms slot traffic (marked marks f) rs fault →
-      FabricStops MayChoose ms slot traffic f (slots_in rs) fault
-  stop_without slot [] f rs fault none run = absurd run
-  stop_without slot (cells ∷ traffic) f [] fault none run = fault_without slot cells f none.0 fault run
-  stop_without slot (cells ∷ traffic) f (r ∷ rs) fault none run =
-      let one = slot_without slot cells f none.0 r run.0 run.1 in
-      (run.0.state, one.0, stop_without (slot + 1) traffic run.0.state rs fault none.1 (subst (λ (h : Marked Fabric). LimitedFabricStops MayChoose limits ms (slot + 1) traffic h rs fault) one.2 run.2))
-
-  pub stop_with : (slot : ℕ) (traffic : List (List (Option Cell))) (f : Fabric) (rs : List SlotRecord)
-      (fault : TagFault) → None_in traffic → FabricStops MayChoose ms slot traffic f rs fault →
-      LimitedFabricStops MayChoose limits ms slot traffic (marked marks f) (passed marks traffic rs) fault
-  stop_with slot [] f rs fault none run = absurd run
-  stop_with slot (cells ∷ traffic) f [] fault none run = fault_with slot cells f none.0 fault run
-  stop_with slot (cells ∷ traffic) f (r ∷ rs) fault none run =
-      (marked marks run.0, slot_with slot cells f none.0 r run.0 run.1, stop_with (slot + 1) traffic run.0 rs fault none.1 run.2)
-
-  -- ## Slots without arrivals
-
-  pub none_come : (count : ℕ) → None_in (replicate count no_arrivals)
-  none_come zero = tt
-  none_come (suc count) = (no_arrivals_refuse_none limits marks, none_come count)
+    pub none_come : (count : ℕ) → None_in (replicate count no_arrivals)
+    none_come zero = tt
+    none_come (suc count) = (no_arrivals_refuse_none limits marks, none_come count)

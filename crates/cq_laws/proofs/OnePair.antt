@@ -1,5 +1,5 @@
--- Offers in which an input and an output are each other's first, and every other input has that output only, if any: their pair
--- alone is the input-best matching, for in every stable one they are a pair. And what its transfer moves.
+-- Offers in which an input and an output are each other's first, and every other input has that output only, if any:
+-- their pair alone is the input-best matching, for in every stable one they are a pair. And what its transfer moves.
 use Rattle.std.proofs.Common.{◌≡◌, ◌≢◌, ℕ, ◌<◌, ◌≤◌, List, [], length, Option, Some, None, refl, sym, ap, ◌∙◌, subst, inl, inr, ⊎_elim, arith, set}
 use Rattle.std.proofs.lemmas.Bool.{cases_lt, cases_eq}
 use Rattle.std.proofs.lemmas.Option.{same_Some}
@@ -39,7 +39,9 @@ module _ (m : Partners) (i j : ℕ) (only : IsOnlyPair m i j) where
         ⊎_elim (λ e. e)
         (λ ne. ⊎_elim
         (λ (better : HasBetterOutput o n i j). let place = first.place in absurd (omega arith))
-        (λ (better : HasBetterInput o n i j). let lt = better.2 in let position = first.position in absurd (omega arith))
+        (λ (better : HasBetterInput o n i j). let lt = better.2 in
+        let position = first.position in
+        absurd (omega arith))
         (stable.settled i j first.offered ne))
         (is_partner (partner_of n i) j)
 
@@ -47,7 +49,8 @@ module _ (m : Partners) (i j : ℕ) (only : IsOnlyPair m i j) where
     other_output l ne h =
         let mine : partner_place o m i ≡ 0 = ap (depth (outputs_of o i)) only.pair ∙ first.place in
         ⊎_elim (λ lt. (let P : partner_place o m i < place_of o i l = omega arith in P))
-        (λ ge. let place = first.place in absurd (ne (sym (same_at_place (outputs_of o i) j l (omega arith) first.offered))))
+        (λ ge. let place = first.place in
+        absurd (ne (sym (same_at_place (outputs_of o i) j l (omega arith) first.offered))))
         (cases_lt 0 (place_of o i l))
 
     other_input : (k : ℕ) → k ≢ i → IsOffered o k j → HasBetterInput o m k j
@@ -65,19 +68,24 @@ module _ (m : Partners) (i j : ℕ) (only : IsOnlyPair m i j) where
         record {
           matching = record {
             size = size;
-            offered = λ k l e. let is = is_pair k l e in subst (λ a. IsOffered o a l) (sym is.0) (subst (IsOffered o i) (sym is.1) first.offered);
+            offered =
+                λ k l e. let is = is_pair k l e in
+                subst (λ a. IsOffered o a l) (sym is.0) (subst (IsOffered o i) (sym is.1) first.offered);
             once = λ k a l e f. (is_pair k l e).0 ∙ sym (is_pair a l f).0;
           };
           settled = λ k l h ne.
               ⊎_elim
-              (λ is. inl (subst (λ a. HasBetterOutput o m a l) (sym is) (other_output l (λ same. ne (ap (partner_of m) is ∙ only.pair ∙ ap Some (sym same))) (subst (λ a. IsOffered o a l) is h))))
+              (λ is. inl (subst (λ a. HasBetterOutput o m a l) (sym is) (other_output l
+              (λ same. ne (ap (partner_of m) is ∙ only.pair ∙ ap Some (sym same)))
+              (subst (λ a. IsOffered o a l) is h))))
               (λ other.
               let same = first.others k l other h in
               inr (subst (HasBetterInput o m k) (sym same) (other_input k other (subst (IsOffered o k) same h))))
               (cases_eq k i);
         }
 
-    no_later : (n : Partners) → IsStable o n → (k : ℕ) → k ≢ i → (p : Option ℕ) → partner_of n k ≡ p → length (outputs_of o k) ≤ depth (outputs_of o k) p
+    no_later : (n : Partners) → IsStable o n → (k : ℕ) → k ≢ i → (p : Option ℕ) → partner_of n k ≡ p →
+        length (outputs_of o k) ≤ depth (outputs_of o k) p
     no_later n stable k other None e = omega arith
     no_later n stable k other (Some l) e =
         let same = first.others k l other (stable.matching.offered k l e) in
@@ -89,14 +97,20 @@ module _ (m : Partners) (i j : ℕ) (only : IsOnlyPair m i j) where
           stable = pair_stable;
           best = λ n stable k.
               ⊎_elim
-              (λ is. let mine : partner_place o m k ≡ 0 = ap (partner_place o m) is ∙ ap (depth (outputs_of o i)) only.pair ∙ first.place in omega arith)
+              (λ is. let mine : partner_place o m k
+              ≡ 0 = ap (partner_place o m) is ∙ ap (depth (outputs_of o i)) only.pair ∙ first.place in
+              omega arith)
               (λ other.
-              let mine : partner_place o m k ≡ length (outputs_of o k) = ap (depth (outputs_of o k)) (only.others k other) in
+              let mine : partner_place o m k ≡ length (outputs_of o k) =
+              ap (depth (outputs_of o k)) (only.others k other) in
               let bound = no_later n stable k other (partner_of n k) refl in omega arith)
               (cases_eq k i);
         }
 
-  pub pair_moves : (c : Queued) (lists buffers : List (List Queued)) → first_for j (list_of lists i) ≡ Some c → i < length lists → j < length buffers → Moves m lists buffers (set lists i (without_first j (list_of lists i))) (set buffers j (put c (list_of buffers j)))
+  pub pair_moves : (c : Queued) (lists buffers : List (List Queued)) → first_for j (list_of lists i) ≡ Some c →
+      i < length lists → j < length buffers →
+      Moves m lists buffers (set lists i (without_first j (list_of lists i)))
+      (set buffers j (put c (list_of buffers j)))
   pair_moves c lists buffers front inside inside' =
       let taken = without_first j (list_of lists i) in
       let given = put c (list_of buffers j) in
@@ -104,13 +118,19 @@ module _ (m : Partners) (i j : ℕ) (only : IsOnlyPair m i j) where
         ports = (length-set lists i taken, length-set buffers j given);
         taken = λ k.
             ⊎_elim
-            (λ is. subst (λ a. list_of (set lists i taken) a ≡ list_taken (partner_of m a) (list_of lists a)) (sym is) (get_or-set_same lists i taken [] inside ∙ ap (λ p. list_taken p (list_of lists i)) (sym only.pair)))
-            (λ other. get_or-set_other lists i k taken [] other ∙ ap (λ p. list_taken p (list_of lists k)) (sym (only.others k other)))
+            (λ is. subst (λ a. list_of (set lists i taken) a ≡ list_taken (partner_of m a) (list_of lists a)) (sym is)
+            (get_or-set_same lists i taken [] inside
+            ∙ ap (λ p. list_taken p (list_of lists i)) (sym only.pair)))
+            (λ other. get_or-set_other lists i k taken [] other
+            ∙ ap (λ p. list_taken p (list_of lists k)) (sym (only.others k other)))
             (cases_eq k i);
         given = λ k l d e f.
             let is = is_pair k l e in
-            let here : first_for j (list_of lists i) ≡ Some d = ap (λ a. first_for a (list_of lists i)) (sym is.1) ∙ ap (λ a. first_for l (list_of lists a)) (sym is.0) ∙ f in
+            let here : first_for j (list_of lists i) ≡ Some d =
+            ap (λ a. first_for a (list_of lists i)) (sym is.1)
+            ∙ ap (λ a. first_for l (list_of lists a)) (sym is.0) ∙ f in
             let same : c ≡ d = same_Some c d (sym front ∙ here) in
-            subst (λ a. list_of (set buffers j given) a ≡ put d (list_of buffers a)) (sym is.1) (get_or-set_same buffers j given [] inside' ∙ ap (λ x. put x (list_of buffers j)) same);
+            subst (λ a. list_of (set buffers j given) a ≡ put d (list_of buffers a)) (sym is.1)
+            (get_or-set_same buffers j given [] inside' ∙ ap (λ x. put x (list_of buffers j)) same);
         kept = λ l free. get_or-set_other buffers j l given [] (λ e. free i (only.pair ∙ ap Some (sym e)));
       }

@@ -1,7 +1,7 @@
--- One slot of the ideal switch and of the fabric, from states that agree. The slack is 1 at least before the slot, 0 after the
--- arrivals, 1 after the first transfer, 0 after the departures, and 1 again after the second transfer. After the first transfer
--- each cell that still waits at an input has slack 1, so it comes after a cell that its output has: the ideal list covers the
--- buffer, both send the same cell, and the states agree again.
+-- One slot of the ideal switch and of the fabric, from states that agree. The slack is 1 at least before the slot, 0
+-- after the arrivals, 1 after the first transfer, 0 after the departures, and 1 again after the second transfer.
+-- After the first transfer each cell that still waits at an input has slack 1, so it comes after a cell that its
+-- output has: the ideal list covers the buffer, both send the same cell, and the states agree again.
 use Rattle.std.proofs.Common.{◌≡◌, ℕ, ◌+◌, ◌<◌, ◌↔◌, List, length, Option, Some, Result, Ok, Err, sym, ap, ◌∙◌, subst, inl, inr, ⊎_elim, arith, drop}
 use Rattle.cq_base.specs.declared.cell.Cell.{Cell}
 use Rattle.cq_base.specs.declared.key.Key.{Key}
@@ -32,14 +32,19 @@ use Rattle.cq_laws.proofs.Fronts.{same_fronts, Covers, fronts_agree, rest_to, re
 
 -- ## The same tag fault
 
-sends_fault : (ms : List Machine) (ideal : IdealState) (x : Result Ranking TagFault) (fault : TagFault) → (ideal_sends ms ideal x ≡ Err fault) ↔ (x ≡ Err fault)
+sends_fault : (ms : List Machine) (ideal : IdealState) (x : Result Ranking TagFault) (fault : TagFault) →
+    (ideal_sends ms ideal x ≡ Err fault) ↔ (x ≡ Err fault)
 sends_fault ms ideal (Ok r) fault = (λ h. cc, λ h. cc)
 sends_fault ms ideal (Err e) fault = (λ h. cc, λ h. cc)
 
-pub same_fault : (ms : List Machine) (slot : ℕ) (cells : List (Option Cell)) (f : Fabric) (ideal : IdealState) (fault : TagFault) → Agrees slot f ideal → (ideal_slot ms slot cells ideal ≡ Err fault) ↔ (ranking ms slot 0 cells f.ranks ≡ Err fault)
+pub same_fault : (ms : List Machine) (slot : ℕ) (cells : List (Option Cell)) (f : Fabric) (ideal : IdealState)
+    (fault : TagFault) → Agrees slot f ideal →
+    (ideal_slot ms slot cells ideal ≡ Err fault) ↔ (ranking ms slot 0 cells f.ranks ≡ Err fault)
 unfolding ideal_slot
 same_fault ms slot cells f ideal fault agrees =
-    subst (λ ranks. (ideal_sends ms ideal (ranking ms slot 0 cells ideal.ranks) ≡ Err fault) ↔ (ranking ms slot 0 cells ranks ≡ Err fault)) (sym agrees.ranks) (sends_fault ms ideal (ranking ms slot 0 cells ideal.ranks) fault)
+    subst (λ ranks. (ideal_sends ms ideal (ranking ms slot 0 cells ideal.ranks) ≡ Err fault)
+    ↔ (ranking ms slot 0 cells ranks ≡ Err fault)) (sym agrees.ranks)
+    (sends_fault ms ideal (ranking ms slot 0 cells ideal.ranks) fault)
 
 -- ## The same departures
 
@@ -48,7 +53,8 @@ abbrev WaitsFor : Fabric → ℕ → Queued → Type 0
 WaitsFor f j c = (i : ℕ) × IsAmong c (input f i) × (c.cell.output ≡ j)
 
 -- with slack 1 each such cell comes after one in the buffer
-behind_one : (f : Fabric) → HasSlack 1 f → (j : ℕ) (c : Queued) → WaitsFor f j c → (d : Queued) × IsAmong d (buffer f j) × IsBefore d c
+behind_one : (f : Fabric) → HasSlack 1 f → (j : ℕ) (c : Queued) → WaitsFor f j c →
+    (d : Queued) × IsAmong d (buffer f j) × IsBefore d c
 behind_one f slack j c w =
     let at = at_among (input f w.0) c w.1 in
     let more = slack w.0 at.0 c at.1 in
@@ -56,11 +62,21 @@ behind_one f slack j c w =
     (d.0, subst (λ n. IsAmong d.0 (buffer f n)) w.2 d.1, d.2)
 
 pub sound_from : (slot : ℕ) (f : Fabric) (ideal : IdealState) → Agrees slot f ideal → Sound slot f
-sound_from slot f ideal agrees = record { fabric = agrees.fabric; order = agrees.order; apart = apart_from f agrees.differ; early = early_from slot f agrees.earlier }
+sound_from slot f ideal agrees =
+    record {
+      fabric = agrees.fabric;
+      order = agrees.order;
+      apart = apart_from f agrees.differ;
+      early = early_from slot f agrees.earlier;
+    }
 
-module _ (ms : List Machine) (slot class_count : ℕ) (cells : List (Option Cell)) (f f' : Fabric) (ideal : IdealState) (r : SlotRecord) (agrees : Agrees slot f ideal) (come : AreForPorts (length f.inputs) class_count cells) (step : FabricSlot IsStable ms slot cells f r f') where
+module _ (ms : List Machine) (slot class_count : ℕ) (cells : List (Option Cell)) (f f' : Fabric) (ideal : IdealState)
+    (r : SlotRecord) (agrees : Agrees slot f ideal) (come : AreForPorts (length f.inputs) class_count cells)
+    (step : FabricSlot IsStable ms slot cells f r f') where
   pub keyed : Keyed slot (length f.inputs) r.came
-  keyed = keyed_from ms slot (length f.inputs) class_count cells f.ranks (record { came = r.came; ranks = r.arrived.ranks }) step.arrive.ranked come
+  keyed =
+      keyed_from ms slot (length f.inputs) class_count cells f.ranks
+      (record { came = r.came; ranks = r.arrived.ranks }) step.arrive.ranked come
 
   pub old_sound : Sound slot f
   old_sound = sound_from slot f ideal agrees
@@ -152,8 +168,10 @@ module _ (ms : List Machine) (slot class_count : ℕ) (cells : List (Option Cell
   same_gone : fronts lists ≡ r.gone
   unfolding full
   same_gone =
-      let lengths : length lists ≡ length r.filled.buffers = as_many ∙ sym still_as_many ∙ sym filled_sound.fabric.square in
-      same_fronts lists r.filled.buffers lengths (λ j. fronts_agree (WaitsFor r.filled j) (full j) (buffer r.filled j) (covers j)) ∙ sym step.depart.sent
+      let lengths : length lists ≡ length r.filled.buffers =
+      as_many ∙ sym still_as_many ∙ sym filled_sound.fabric.square in
+      same_fronts lists r.filled.buffers lengths (λ j. fronts_agree (WaitsFor r.filled j) (full j) (buffer r.filled j)
+      (covers j)) ∙ sym step.depart.sent
 
   after : IdealState
   after = record { lists = rests lists; ranks = all_told ms (fronts lists) r.arrived.ranks }

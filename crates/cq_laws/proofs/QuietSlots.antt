@@ -1,5 +1,5 @@
--- Where no cell waits and none comes, nothing is offered: the matching of nobody is the only one, nothing moves, and no figure
--- changes. Only the rank machines are told that their outputs were idle.
+-- Where no cell waits and none comes, nothing is offered: the matching of nobody is the only one, nothing moves, and
+-- no figure changes. Only the rank machines are told that their outputs were idle.
 use Rattle.std.proofs.Common.{◌≡◌, ℕ, zero, suc, ◌+◌, ◌-◌, ◌<◌, false, cond, List, [], ◌∷◌, ◌++◌, length, map, Option, Some, None, refl, sym, ap, ◌∙◌, subst, arith}
 use Rattle.std.specs.Prelude.{All, max, min, is_some, slice_index_or, filter_map, replicate, sum, fold}
 use Rattle.std.specs.List.{range_with_len, enumerate_from, list_any, reduce, cons_option}
@@ -62,7 +62,9 @@ module _ (n : ℕ) where
       record {
         stable = nobody_is_stable;
         best = λ m stable i.
-            let place : partner_place o (replicate n None) i ≡ 0 = ap (depth (outputs_of o i)) (none_at n i) ∙ ap length (no_outputs i) in omega arith;
+            let place : partner_place o (replicate n None) i ≡ 0 =
+            ap (depth (outputs_of o i)) (none_at n i) ∙ ap length (no_outputs i) in
+            omega arith;
       }
 
   nothing_spent : (i : ℕ) → spent (outputs_of o i) (partner_of (replicate n None) i) ≡ 0
@@ -73,7 +75,8 @@ module _ (n : ℕ) where
   none_proposed =
       let count = ports o in
       let zeros = sum_by-replicate (λ (x : ℕ). x) count 0 in
-      ap sum (map-constant (λ i. spent (outputs_of o i) (partner_of (replicate n None) i)) 0 nothing_spent 0 count) ∙ zeros ∙ omega arith
+      ap sum (map-constant (λ i. spent (outputs_of o i) (partner_of (replicate n None) i)) 0 nothing_spent 0 count)
+      ∙ zeros ∙ omega arith
 
 pub nobody_best : (n : ℕ) → IsInputBest (orders_of (replicate n [])) (replicate n None)
 unfolding o
@@ -93,7 +96,9 @@ nothing_moves n f =
 
 -- ## The slot, and slots on end
 
-pub quiet : (ms : List Machine) (slot n : ℕ) (ranks : List (List ℕ)) → FabricSlot IsInputBest ms slot no_arrivals (empty_fabric n ranks) (quiet_slot ms slot n ranks) (empty_fabric n (idled ms n ranks))
+pub quiet : (ms : List Machine) (slot n : ℕ) (ranks : List (List ℕ)) →
+    FabricSlot IsInputBest ms slot no_arrivals (empty_fabric n ranks) (quiet_slot ms slot n ranks)
+    (empty_fabric n (idled ms n ranks))
 unfolding quiet_slot idled
 quiet ms slot n ranks =
     record {
@@ -111,9 +116,12 @@ quiet ms slot n ranks =
       finish = nothing_moves n (empty_fabric n (idled ms n ranks));
     }
 
-pub quiet_run : (ms : List Machine) (count slot n : ℕ) (ranks : List (List ℕ)) → FabricRun IsInputBest ms slot (replicate count no_arrivals) (empty_fabric n ranks) (quiet_slots ms count slot n ranks) (empty_fabric n (idled_for ms count n ranks))
+pub quiet_run : (ms : List Machine) (count slot n : ℕ) (ranks : List (List ℕ)) →
+    FabricRun IsInputBest ms slot (replicate count no_arrivals) (empty_fabric n ranks)
+    (quiet_slots ms count slot n ranks) (empty_fabric n (idled_for ms count n ranks))
 quiet_run ms zero slot n ranks = refl
-quiet_run ms (suc count) slot n ranks = (empty_fabric n (idled ms n ranks), quiet ms slot n ranks, quiet_run ms count (slot + 1) n (idled ms n ranks))
+quiet_run ms (suc count) slot n ranks =
+    (empty_fabric n (idled ms n ranks), quiet ms slot n ranks, quiet_run ms count (slot + 1) n (idled ms n ranks))
 
 -- ## Nothing crosses, and no figure changes
 
@@ -125,9 +133,11 @@ none_cross : (n slot phase : ℕ) → transfers_of (replicate n None) (replicate
 unfolding transfers_of
 none_cross n slot phase =
     let nobody : Partners = replicate n None in
-    filter_map-none (λ i. noted slot phase i (list_of (replicate n []) i) (partner_of nobody i)) (λ i. ap (noted slot phase i (list_of (replicate n []) i)) (none_at n i)) (range_with_len 0 (length nobody))
+    filter_map-none (λ i. noted slot phase i (list_of (replicate n []) i) (partner_of nobody i))
+    (λ i. ap (noted slot phase i (list_of (replicate n []) i)) (none_at n i)) (range_with_len 0 (length nobody))
 
-pub quiet_transfers : (ms : List Machine) (slot n : ℕ) (ranks : List (List ℕ)) → transfers_in (quiet_slot ms slot n ranks) ≡ []
+pub quiet_transfers : (ms : List Machine) (slot n : ℕ) (ranks : List (List ℕ)) →
+    transfers_in (quiet_slot ms slot n ranks) ≡ []
 unfolding transfers_in quiet_slot
 quiet_transfers ms slot n ranks =
     ap (λ l. l ++ transfers_of (replicate n None) (replicate n []) slot 2) (none_cross n slot 1) ∙ none_cross n slot 2
@@ -144,46 +154,59 @@ quiet_sends : (ms : List Machine) (slot n : ℕ) (ranks : List (List ℕ)) → s
 unfolding quiet_slot
 quiet_sends ms slot n ranks = none_sends n
 
-same_by_place : {X : Type 0} (g : ℕ → X → X) → ((i : ℕ) (x : X) → g i x ≡ x) → (n : ℕ) (xs : List X) → map (λ (at : ℕ × X). g at.0 at.1) (enumerate_from n xs) ≡ xs
+same_by_place : {X : Type 0} (g : ℕ → X → X) → ((i : ℕ) (x : X) → g i x ≡ x) → (n : ℕ) (xs : List X) →
+    map (λ (at : ℕ × X). g at.0 at.1) (enumerate_from n xs) ≡ xs
 same_by_place g same n [] = refl
 same_by_place g same n (x ∷ xs) = λ k. same n x k ∷ same_by_place g same (n + 1) xs k
 
 no_slacks : (n i : ℕ) (ranks : List (List ℕ)) → slacks (empty_fabric n ranks) i ≡ []
 unfolding slacks
-no_slacks n i ranks = ap (λ l. map (λ at. cushion_of (empty_fabric n ranks) at.1 - at.0) (enumerate_from 0 l)) (empty_list n i)
+no_slacks n i ranks =
+    ap (λ l. map (λ at. cushion_of (empty_fabric n ranks) at.1 - at.0) (enumerate_from 0 l)) (empty_list n i)
 
 either-none : (f : ℕ → ℕ → ℕ) (o : Option ℕ) → either_by f o None ≡ o
 either-none f None = refl
 either-none f (Some x) = refl
 
-same_input : (ms : List Machine) (slot n : ℕ) (ranks : List (List ℕ)) (i : ℕ) (x : InputFigures) → input_after (quiet_slot ms slot n ranks) i x ≡ x
+same_input : (ms : List Machine) (slot n : ℕ) (ranks : List (List ℕ)) (i : ℕ) (x : InputFigures) →
+    input_after (quiet_slot ms slot n ranks) i x ≡ x
 unfolding input_after quiet_slot
 same_input ms slot n ranks i x =
-    let came : x.cells + cond (is_some (came_to (replicate 64 None) i)) 1 0 ≡ x.cells = ap (λ o. x.cells + cond (is_some o) 1 0) (none_at 64 i) ∙ omega arith in
+    let came : x.cells + cond (is_some (came_to (replicate 64 None) i)) 1 0 ≡ x.cells =
+    ap (λ o. x.cells + cond (is_some o) 1 0) (none_at 64 i) ∙ omega arith in
     let long = ap length (empty_list n i) in
     let longest : max x.longest (length (list_of (replicate n []) i)) ≡ x.longest = omega arith in
     let slack = ap (λ l. either_by min x.slack (reduce min l)) (no_slacks n i ranks) ∙ either-none min x.slack in
     λ k. record { cells = came k; longest = longest k; slack = slack k }
 
-same_output : (ms : List Machine) (slot n : ℕ) (ranks : List (List ℕ)) (j : ℕ) (x : OutputFigures) → output_after (quiet_slot ms slot n ranks) j x ≡ x
+same_output : (ms : List Machine) (slot n : ℕ) (ranks : List (List ℕ)) (j : ℕ) (x : OutputFigures) →
+    output_after (quiet_slot ms slot n ranks) j x ≡ x
 unfolding output_after quiet_slot
 same_output ms slot n ranks j x =
-    let sent : x.cells + cond (is_some (slice_index_or (no_cells n) j None)) 1 0 ≡ x.cells = ap (λ (o : Option Queued). x.cells + cond (is_some o) 1 0) (none_at n j) ∙ omega arith in
-    let wait = ap (λ (o : Option Queued). either_by max x.wait (option_map (λ q. slot - q.key.slot) o)) (none_at n j) ∙ either-none max x.wait in
+    let sent : x.cells + cond (is_some (slice_index_or (no_cells n) j None)) 1 0 ≡ x.cells =
+    ap (λ (o : Option Queued). x.cells + cond (is_some o) 1 0) (none_at n j) ∙ omega arith in
+    let wait =
+    ap (λ (o : Option Queued). either_by max x.wait (option_map (λ q. slot - q.key.slot) o)) (none_at n j)
+    ∙ either-none max x.wait in
     λ k. record { cells = sent k; wait = wait k }
 
-no_proposals : (ms : List Machine) (slot n : ℕ) (ranks : List (List ℕ)) → proposals_in (quiet_slot ms slot n ranks) ≡ 0 ∷ 0 ∷ []
+no_proposals : (ms : List Machine) (slot n : ℕ) (ranks : List (List ℕ)) →
+    proposals_in (quiet_slot ms slot n ranks) ≡ 0 ∷ 0 ∷ []
 unfolding proposals_in quiet_slot
 no_proposals ms slot n ranks = λ k. none_proposed n k ∷ none_proposed n k ∷ []
 
-pub quiet_figures : (ms : List Machine) (slot n : ℕ) (ranks : List (List ℕ)) (x : Figures) → figures_after x (quiet_slot ms slot n ranks) ≡ x
+pub quiet_figures : (ms : List Machine) (slot n : ℕ) (ranks : List (List ℕ)) (x : Figures) →
+    figures_after x (quiet_slot ms slot n ranks) ≡ x
 unfolding figures_after
 quiet_figures ms slot n ranks x =
     let r = quiet_slot ms slot n ranks in
     let none = no_proposals ms slot n ranks in
-    let slots : cond (sends r) (max x.slots (r.slot + 1)) x.slots ≡ x.slots = ap (λ b. cond b (max x.slots (r.slot + 1)) x.slots) (quiet_sends ms slot n ranks) in
-    let proposals : x.proposals + sum (proposals_in r) ≡ x.proposals = ap (λ l. x.proposals + sum l) none ∙ omega arith in
-    let most : max x.most (fold max 0 (proposals_in r)) ≡ x.most = ap (λ l. max x.most (fold max 0 l)) none ∙ omega arith in
+    let slots : cond (sends r) (max x.slots (r.slot + 1)) x.slots ≡ x.slots =
+    ap (λ b. cond b (max x.slots (r.slot + 1)) x.slots) (quiet_sends ms slot n ranks) in
+    let proposals : x.proposals + sum (proposals_in r) ≡ x.proposals =
+    ap (λ l. x.proposals + sum l) none ∙ omega arith in
+    let most : max x.most (fold max 0 (proposals_in r)) ≡ x.most =
+    ap (λ l. max x.most (fold max 0 l)) none ∙ omega arith in
     let inputs = same_by_place (input_after r) (same_input ms slot n ranks) 0 x.inputs in
     let outputs = same_by_place (output_after r) (same_output ms slot n ranks) 0 x.outputs in
     λ k. record { slots = slots k; proposals = proposals k; most = most k; inputs = inputs k; outputs = outputs k }
@@ -193,12 +216,15 @@ quiet_figures ms slot n ranks x =
 all_none : (lists : List (List Queued)) → All (λ cells. cells ≡ []) lists → lists ≡ replicate (length lists) []
 all_none lists empty =
     let none : List Queued = [] in
-    ext_get_or none lists (replicate (length lists) none) (sym (length-replicate (length lists) none)) (λ i lt. empty i none lt ∙ sym (empty_list (length lists) i))
+    ext_get_or none lists (replicate (length lists) none) (sym (length-replicate (length lists) none))
+    (λ i lt. empty i none lt ∙ sym (empty_list (length lists) i))
 
-pub empty_is : (f : Fabric) → IsEmptyFabric f → length f.buffers ≡ length f.inputs → f ≡ empty_fabric (length f.inputs) f.ranks
+pub empty_is : (f : Fabric) → IsEmptyFabric f → length f.buffers ≡ length f.inputs →
+    f ≡ empty_fabric (length f.inputs) f.ranks
 empty_is f empty square =
     let inputs = all_none f.inputs empty.inputs in
-    let buffers : f.buffers ≡ replicate (length f.inputs) [] = all_none f.buffers empty.buffers ∙ ap (λ n. replicate n []) square in
+    let buffers : f.buffers ≡ replicate (length f.inputs) [] =
+    all_none f.buffers empty.buffers ∙ ap (λ n. replicate n []) square in
     λ k. record { inputs = inputs k; buffers = buffers k; ranks = f.ranks }
 
 -- ## Many such slots
@@ -208,22 +234,28 @@ no_departures zero slot j = refl
 no_departures (suc n) slot j = no_departures n slot (j + 1)
 
 module _ (ms : List Machine) (n : ℕ) where
-  pub quiet_transfers_of_run : (count slot : ℕ) (ranks : List (List ℕ)) → transfers_of_run (quiet_slots ms count slot n ranks) ≡ []
+  pub quiet_transfers_of_run : (count slot : ℕ) (ranks : List (List ℕ)) →
+      transfers_of_run (quiet_slots ms count slot n ranks) ≡ []
   unfolding transfers_of_run
   quiet_transfers_of_run zero slot ranks = refl
   quiet_transfers_of_run (suc count) slot ranks =
-      ap (λ l. l ++ transfers_of_run (quiet_slots ms count (slot + 1) n (idled ms n ranks))) (quiet_transfers ms slot n ranks)
+      ap (λ l. l ++ transfers_of_run (quiet_slots ms count (slot + 1) n (idled ms n ranks)))
+      (quiet_transfers ms slot n ranks)
       ∙ quiet_transfers_of_run count (slot + 1) (idled ms n ranks)
 
-  pub quiet_departures : (count slot : ℕ) (ranks : List (List ℕ)) → departures_of slot (gone_in (quiet_slots ms count slot n ranks)) ≡ []
+  pub quiet_departures : (count slot : ℕ) (ranks : List (List ℕ)) →
+      departures_of slot (gone_in (quiet_slots ms count slot n ranks)) ≡ []
   unfolding departures_of departures_in quiet_slot
   quiet_departures zero slot ranks = refl
   quiet_departures (suc count) slot ranks =
-      ap (λ l. l ++ departures_of (slot + 1) (gone_in (quiet_slots ms count (slot + 1) n (idled ms n ranks)))) (no_departures n slot 0)
+      ap (λ l. l ++ departures_of (slot + 1) (gone_in (quiet_slots ms count (slot + 1) n (idled ms n ranks))))
+      (no_departures n slot 0)
       ∙ quiet_departures count (slot + 1) (idled ms n ranks)
 
-  pub quiet_figures_of_run : (count slot : ℕ) (ranks : List (List ℕ)) (x : Figures) → fold figures_after x (quiet_slots ms count slot n ranks) ≡ x
+  pub quiet_figures_of_run : (count slot : ℕ) (ranks : List (List ℕ)) (x : Figures) →
+      fold figures_after x (quiet_slots ms count slot n ranks) ≡ x
   quiet_figures_of_run zero slot ranks x = refl
   quiet_figures_of_run (suc count) slot ranks x =
-      ap (λ (y : Figures). fold figures_after y (quiet_slots ms count (slot + 1) n (idled ms n ranks))) (quiet_figures ms slot n ranks x)
+      ap (λ (y : Figures). fold figures_after y (quiet_slots ms count (slot + 1) n (idled ms n ranks)))
+      (quiet_figures ms slot n ranks x)
       ∙ quiet_figures_of_run count (slot + 1) (idled ms n ranks) x

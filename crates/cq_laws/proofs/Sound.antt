@@ -1,6 +1,7 @@
--- What each phase keeps of a fabric state, said by members: the state is a fabric's, the cells for one output stand in order in
--- each input's list, no key is twice, and every cell is from before a slot. That no key is twice is said of two cells at
--- inputs, of one at an input and one that has crossed, and of two that have crossed; by their places it is the same.
+-- What each phase keeps of a fabric state, said by members: the state is a fabric's, the cells for one output stand
+-- in order in each input's list, no key is twice, and every cell is from before a slot. That no key is twice is said
+-- of two cells at inputs, of one at an input and one that has crossed, and of two that have crossed; by their places
+-- it is the same.
 use Rattle.std.proofs.Common.{◌≡◌, ◌≢◌, ℕ, ◌<◌, List, Some, refl, sym, ap, ◌∙◌, ⊎_elim, arith}
 use Rattle.std.specs.Prelude.{slice_get}
 use Rattle.std.proofs.lemmas.Bool.{cases_lt, true≢false}
@@ -16,7 +17,8 @@ use Rattle.cq_laws.specs.Places.{Waiting, Crossed, NoKeyTwice, AllBefore}
 use Rattle.cq_laws.proofs.Members.{among_at, at_among, first_at}
 
 pub record Apart (f : Fabric) : Type 0 where
-  pub waiting : (i k : ℕ) (c d : Queued) → IsAmong c (input f i) → IsAmong d (input f k) → c.key ≡ d.key → (i ≡ k) × (c ≡ d)
+  pub waiting : (i k : ℕ) (c d : Queued) → IsAmong c (input f i) → IsAmong d (input f k) → c.key ≡ d.key →
+      (i ≡ k) × (c ≡ d)
   pub between : (i j : ℕ) (c d : Queued) → IsAmong c (input f i) → IsAmong d (buffer f j) → c.key ≢ d.key
   pub crossed : (j l : ℕ) (c d : Queued) → IsAmong c (buffer f j) → IsAmong d (buffer f l) → c.key ≡ d.key → c ≡ d
 
@@ -32,14 +34,16 @@ pub record Sound (slot : ℕ) (f : Fabric) : Type 0 where
 
 -- ## From places to members
 
-waiting_same : (f : Fabric) (i k s t : ℕ) (c d : Queued) → slice_get (input f i) s ≡ Some c → slice_get (input f k) t ≡ Some d → Waiting i s ≡ Waiting k t → (i ≡ k) × (c ≡ d)
+waiting_same : (f : Fabric) (i k s t : ℕ) (c d : Queued) → slice_get (input f i) s ≡ Some c →
+    slice_get (input f k) t ≡ Some d → Waiting i s ≡ Waiting k t → (i ≡ k) × (c ≡ d)
 waiting_same f i k s t c d a b e =
     let one : i ≡ k = cc in
     let two : s ≡ t = cc in
     let lists : slice_get (input f i) s ≡ slice_get (input f k) t = cc in
     (one, same_Some c d (sym a ∙ lists ∙ b))
 
-crossed_same : (f : Fabric) (i k s t : ℕ) (c d : Queued) → slice_get (buffer f i) s ≡ Some c → slice_get (buffer f k) t ≡ Some d → Crossed i s ≡ Crossed k t → c ≡ d
+crossed_same : (f : Fabric) (i k s t : ℕ) (c d : Queued) → slice_get (buffer f i) s ≡ Some c →
+    slice_get (buffer f k) t ≡ Some d → Crossed i s ≡ Crossed k t → c ≡ d
 crossed_same f i k s t c d a b e =
     let one : i ≡ k = cc in
     let two : s ≡ t = cc in
@@ -52,9 +56,18 @@ other_place i s j t e = cc
 pub apart_from : (f : Fabric) → NoKeyTwice f → Apart f
 apart_from f differ =
     record {
-      waiting = λ i k c d a b e. let p = at_among (input f i) c a in let q = at_among (input f k) d b in waiting_same f i k p.0 q.0 c d p.1 q.1 (differ (Waiting i p.0) (Waiting k q.0) c d p.1 q.1 e);
-      between = λ i j c d a b e. let p = at_among (input f i) c a in let q = at_among (buffer f j) d b in other_place i p.0 j q.0 (differ (Waiting i p.0) (Crossed j q.0) c d p.1 q.1 e);
-      crossed = λ j l c d a b e. let p = at_among (buffer f j) c a in let q = at_among (buffer f l) d b in crossed_same f j l p.0 q.0 c d p.1 q.1 (differ (Crossed j p.0) (Crossed l q.0) c d p.1 q.1 e);
+      waiting =
+          λ i k c d a b e. let p = at_among (input f i) c a in
+          let q = at_among (input f k) d b in
+          waiting_same f i k p.0 q.0 c d p.1 q.1 (differ (Waiting i p.0) (Waiting k q.0) c d p.1 q.1 e);
+      between =
+          λ i j c d a b e. let p = at_among (input f i) c a in
+          let q = at_among (buffer f j) d b in
+          other_place i p.0 j q.0 (differ (Waiting i p.0) (Crossed j q.0) c d p.1 q.1 e);
+      crossed =
+          λ j l c d a b e. let p = at_among (buffer f j) c a in
+          let q = at_among (buffer f l) d b in
+          crossed_same f j l p.0 q.0 c d p.1 q.1 (differ (Crossed j p.0) (Crossed l q.0) c d p.1 q.1 e);
     }
 
 pub early_from : (slot : ℕ) (f : Fabric) → AllBefore slot f → Early slot f
@@ -70,13 +83,16 @@ pub not_before_itself : (c : Queued) → IsBefore c c → ⊥
 not_before_itself c h = true≢false (sym h ∙ key_laws.never_itself c.key)
 
 -- where no cell is related to itself, none stands at two places
-one_place : (R : Queued → Queued → Type 0) (xs : List Queued) (s t : ℕ) (c : Queued) → (R c c → ⊥) → EachPair R xs → slice_get xs s ≡ Some c → slice_get xs t ≡ Some c → s ≡ t
+one_place : (R : Queued → Queued → Type 0) (xs : List Queued) (s t : ℕ) (c : Queued) → (R c c → ⊥) → EachPair R xs →
+    slice_get xs s ≡ Some c → slice_get xs t ≡ Some c → s ≡ t
 one_place R xs s t c never e a b =
     ⊎_elim (λ lt. absurd (never (each_pair_at R xs s t c c e a b lt)))
     (λ ge. ⊎_elim (λ lt. absurd (never (each_pair_at R xs t s c c e b a lt))) (λ ge'. omega arith) (cases_lt t s))
     (cases_lt s t)
 
-pub one_in_order : (xs : List Queued) (s t : ℕ) (c : Queued) → EachPair (λ a b. a.cell.output ≡ b.cell.output → IsBefore a b) xs → slice_get xs s ≡ Some c → slice_get xs t ≡ Some c → s ≡ t
+pub one_in_order : (xs : List Queued) (s t : ℕ) (c : Queued) →
+    EachPair (λ a b. a.cell.output ≡ b.cell.output → IsBefore a b) xs → slice_get xs s ≡ Some c →
+    slice_get xs t ≡ Some c → s ≡ t
 one_in_order xs s t c order a b = one_place _ xs s t c (λ n. not_before_itself c (n refl)) order a b
 
 pub differ_from : (f : Fabric) → IsFabric f → ListsKeepOrder f → Apart f → NoKeyTwice f
@@ -85,8 +101,10 @@ differ_from f fabric order apart (Waiting i s) (Waiting k t) c d a b e =
     let b' : slice_get (input f i) t ≡ Some c = ap (λ n. slice_get (input f n) t) r.0 ∙ b ∙ ap Some (sym r.1) in
     let st = one_in_order (input f i) s t c (order i) a b' in
     let it = r.0 in cc
-differ_from f fabric order apart (Waiting i s) (Crossed j t) c d a b e = absurd (apart.between i j c d (among_at (input f i) s c a) (among_at (buffer f j) t d b) e)
-differ_from f fabric order apart (Crossed j t) (Waiting i s) c d a b e = absurd (apart.between i j d c (among_at (input f i) s d b) (among_at (buffer f j) t c a) (sym e))
+differ_from f fabric order apart (Waiting i s) (Crossed j t) c d a b e =
+    absurd (apart.between i j c d (among_at (input f i) s c a) (among_at (buffer f j) t d b) e)
+differ_from f fabric order apart (Crossed j t) (Waiting i s) c d a b e =
+    absurd (apart.between i j d c (among_at (input f i) s d b) (among_at (buffer f j) t c a) (sym e))
 differ_from f fabric order apart (Crossed j s) (Crossed l t) c d a b e =
     let in_j = among_at (buffer f j) s c a in
     let in_l = among_at (buffer f l) t d b in
@@ -104,7 +122,9 @@ all_before slot f early (Crossed j t) c at = early.crossed j c (among_at (buffer
 pub firsts_differ : (f : Fabric) → Apart f → FirstKeysDiffer f.inputs
 firsts_differ f apart j i k c d a b e =
     let p = first_at (is_for j) (input f i) c a in
-    let q = first_at (is_for j) (input f k) d b in (apart.waiting i k c d (among_at (input f i) p.place c p.at) (among_at (input f k) q.place d q.at) e).0
+    let q =
+    first_at (is_for j) (input f k) d b in
+    (apart.waiting i k c d (among_at (input f i) p.place c p.at) (among_at (input f k) q.place d q.at) e).0
 
 pub orders_are : (f : Fabric) → Apart f → AreOrdersOf f.inputs (orders_of f.inputs)
 orders_are f apart = are_orders f.inputs (firsts_differ f apart)

@@ -106,7 +106,8 @@ offer_of : (lists : List (List Queued)) (m : Partners) → IsStable (orders_of l
 offer_of lists m stable i j e = ((is_output_order (list_of lists i)).offered j).0 (subst (λ l. IsListed l j)
     (outputs_at lists i) (stable.matching.offered i j e))
 
-pub transfers_tell : (lists : List (List Queued)) (m n : Partners) (slot phase : ℕ) → IsStable (orders_of lists) m → IsStable (orders_of lists) n →
+pub transfers_tell : (lists : List (List Queued)) (m n : Partners) (slot phase : ℕ) → IsStable (orders_of lists) m →
+    IsStable (orders_of lists) n →
     transfers_of m lists slot phase ≡ transfers_of n lists slot phase → m ≡ n
 unfolding transfers_of
 transfers_tell lists m n slot phase stable_m stable_n e =

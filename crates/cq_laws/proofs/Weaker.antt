@@ -4,7 +4,9 @@ use Rattle.cq_base.specs.declared.cell.Cell.{Cell}
 use Rattle.cq_base.specs.declared.cell.TagFault.{TagFault}
 use Rattle.cq_laws.specs.SlotBySlot.{RunBy, StopBy}
 
-module _ {S R : Type 0} (Step Step' : ℕ → List (Option Cell) → S → R → S → Type 0) (Fault : ℕ → List (Option Cell) → S → TagFault → Type 0) (each : (slot : ℕ) (cells : List (Option Cell)) (f g : S) (r : R) → Step slot cells f r g → Step' slot cells f r g) where
+module _ {S R : Type 0} (Step Step' : ℕ → List (Option Cell) → S → R → S → Type 0)
+    (Fault : ℕ → List (Option Cell) → S → TagFault → Type 0) (each : (slot : ℕ) (cells : List (Option Cell)) (f g : S)
+    (r : R) → Step slot cells f r g → Step' slot cells f r g) where
   pub each_run : (slot : ℕ) (traffic : List (List (Option Cell))) (f g : S) (rs : List R) →
       RunBy Step slot traffic f rs g → RunBy Step' slot traffic f rs g
   each_run slot [] f g [] run = run

@@ -1,5 +1,5 @@
--- Whole runs, slot by slot from states that agree. The empty states agree, so what holds of agreeing states holds from the first
--- slot on.
+-- Whole runs, slot by slot from states that agree. The empty states agree, so what holds of agreeing states holds
+-- from the first slot on.
 use Rattle.std.proofs.Common.{◌≡◌, ℕ, zero, suc, ◌+◌, ◌↔◌, List, [], ◌∷◌, length, Option, Some, None, Result, Ok, Err, refl, sym, ap, ◌∙◌, subst, inl, inr, ⊎_elim, arith}
 use Rattle.std.specs.Prelude.{All, slice_get, replicate}
 use Rattle.std.specs.List.{AllByRecursion}
@@ -24,20 +24,30 @@ use Rattle.cq_laws.specs.Agreement.{Agrees, RunsAlike}
 use Rattle.cq_laws.proofs.OneSlot.{same_fault, same_slot, slack_arrived, ports_kept}
 
 goes_on : List Machine → ℕ → List (List (Option Cell)) → Result Sent TagFault → Result Ran TagFault
-goes_on ms slot traffic x = elim x [ Ok sent ↦ then_ran sent.gone (ideal_run ms (slot + 1) traffic sent.after) | Err fault ↦ Err fault ]
+goes_on ms slot traffic x =
+    elim x [ Ok sent ↦ then_ran sent.gone (ideal_run ms (slot + 1) traffic sent.after) | Err fault ↦ Err fault ]
 
 module _ (ms : List Machine) (class_count : ℕ) where
-  pub same_run : (slot : ℕ) (traffic : List (List (Option Cell))) (f g : Fabric) (ideal : IdealState) (rs : List SlotRecord) → Agrees slot f ideal → AllByRecursion (AreForPorts (length f.inputs) class_count) traffic → FabricRun IsStable ms slot traffic f rs g → RunsAlike ms slot traffic ideal rs g
+  pub same_run : (slot : ℕ) (traffic : List (List (Option Cell))) (f g : Fabric) (ideal : IdealState)
+      (rs : List SlotRecord) → Agrees slot f ideal →
+      AllByRecursion (AreForPorts (length f.inputs) class_count) traffic → FabricRun IsStable ms slot traffic f rs g →
+      RunsAlike ms slot traffic ideal rs g
   unfolding goes_on ideal_run
   same_run slot [] f g ideal [] agrees come run =
       let here : slot ≡ slot + 0 = omega arith in
-      record { after = ideal; ran = refl; agrees = subst (λ n. Agrees n g ideal) here (subst (λ h. Agrees slot h ideal) (sym run) agrees) }
+      record {
+        after = ideal;
+        ran = refl;
+        agrees = subst (λ n. Agrees n g ideal) here (subst (λ h. Agrees slot h ideal) (sym run) agrees);
+      }
   same_run slot [] f g ideal (r ∷ rs) agrees come run = absurd run
   same_run slot (cells ∷ traffic) f g ideal [] agrees come run = absurd run
   same_run slot (cells ∷ traffic) f g ideal (r ∷ rs) agrees come run =
       let one = same_slot ms slot class_count cells f run.0 ideal r agrees come.0 run.1 in
       let ports = ports_kept ms slot class_count cells f run.0 ideal r agrees come.0 run.1 in
-      let rest = same_run (slot + 1) traffic run.0 g one.next rs one.agrees (subst (λ n. AllByRecursion (AreForPorts n class_count) traffic) (sym ports) come.1) run.2 in
+      let rest =
+      same_run (slot + 1) traffic run.0 g one.next rs one.agrees
+      (subst (λ n. AllByRecursion (AreForPorts n class_count) traffic) (sym ports) come.1) run.2 in
       let here : slot + 1 + length traffic ≡ slot + length (cells ∷ traffic) = omega arith in
       record {
         after = rest.after;
@@ -45,7 +55,10 @@ module _ (ms : List Machine) (class_count : ℕ) where
         agrees = subst (λ n. Agrees n g rest.after) here rest.agrees;
       }
 
-  pub same_stop : (slot : ℕ) (traffic : List (List (Option Cell))) (f : Fabric) (ideal : IdealState) (rs : List SlotRecord) (fault : TagFault) → Agrees slot f ideal → AllByRecursion (AreForPorts (length f.inputs) class_count) traffic → FabricStops IsStable ms slot traffic f rs fault → ideal_run ms slot traffic ideal ≡ Err fault
+  pub same_stop : (slot : ℕ) (traffic : List (List (Option Cell))) (f : Fabric) (ideal : IdealState)
+      (rs : List SlotRecord) (fault : TagFault) → Agrees slot f ideal →
+      AllByRecursion (AreForPorts (length f.inputs) class_count) traffic →
+      FabricStops IsStable ms slot traffic f rs fault → ideal_run ms slot traffic ideal ≡ Err fault
   unfolding goes_on ideal_run
   same_stop slot [] f ideal rs fault agrees come run = absurd run
   same_stop slot (cells ∷ traffic) f ideal [] fault agrees come run =
@@ -54,10 +67,14 @@ module _ (ms : List Machine) (class_count : ℕ) where
       let one = same_slot ms slot class_count cells f run.0 ideal r agrees come.0 run.1 in
       let ports = ports_kept ms slot class_count cells f run.0 ideal r agrees come.0 run.1 in
       ap (goes_on ms slot traffic) one.sent
-      ∙ ap (then_ran r.gone) (same_stop (slot + 1) traffic run.0 one.next rs fault one.agrees (subst (λ n. AllByRecursion (AreForPorts n class_count) traffic) (sym ports) come.1) run.2)
+      ∙ ap (then_ran r.gone) (same_stop (slot + 1) traffic run.0 one.next rs fault one.agrees
+      (subst (λ n. AllByRecursion (AreForPorts n class_count) traffic) (sym ports) come.1) run.2)
 
   -- after the arrivals of each slot no input thread is greater than its cushion
-  pub run_slack : (slot : ℕ) (traffic : List (List (Option Cell))) (f g : Fabric) (ideal : IdealState) (rs : List SlotRecord) → Agrees slot f ideal → AllByRecursion (AreForPorts (length f.inputs) class_count) traffic → FabricRun IsStable ms slot traffic f rs g → AllByRecursion (λ r. HasSlack 0 r.arrived) rs
+  pub run_slack : (slot : ℕ) (traffic : List (List (Option Cell))) (f g : Fabric) (ideal : IdealState)
+      (rs : List SlotRecord) → Agrees slot f ideal →
+      AllByRecursion (AreForPorts (length f.inputs) class_count) traffic → FabricRun IsStable ms slot traffic f rs g →
+      AllByRecursion (λ r. HasSlack 0 r.arrived) rs
   run_slack slot [] f g ideal [] agrees come run = tt
   run_slack slot [] f g ideal (r ∷ rs) agrees come run = absurd run
   run_slack slot (cells ∷ traffic) f g ideal [] agrees come run = absurd run
@@ -65,7 +82,8 @@ module _ (ms : List Machine) (class_count : ℕ) where
       let one = same_slot ms slot class_count cells f run.0 ideal r agrees come.0 run.1 in
       let ports = ports_kept ms slot class_count cells f run.0 ideal r agrees come.0 run.1 in (
         slack_arrived ms slot class_count cells f run.0 ideal r agrees come.0 run.1,
-        run_slack (slot + 1) traffic run.0 g one.next rs one.agrees (subst (λ n. AllByRecursion (AreForPorts n class_count) traffic) (sym ports) come.1) run.2,
+        run_slack (slot + 1) traffic run.0 g one.next rs one.agrees
+            (subst (λ n. AllByRecursion (AreForPorts n class_count) traffic) (sym ports) come.1) run.2,
       )
 
 -- ## States that agree are empty together
@@ -80,12 +98,14 @@ none_among (x ∷ xs) c e h = cc
 
 -- each list of lists is empty, by its place
 all_empty : (lists : List (List Queued)) → All (λ cells. cells ≡ []) lists → (i : ℕ) → list_of lists i ≡ []
-all_empty lists empty i = ⊎_elim (λ inside. empty i [] inside) (λ past. get_or_past lists i [] past) (cases_lt i (length lists))
+all_empty lists empty i =
+    ⊎_elim (λ inside. empty i [] inside) (λ past. get_or_past lists i [] past) (cases_lt i (length lists))
 
 each_empty : (lists : List (List Queued)) → ((i : ℕ) → list_of lists i ≡ []) → All (λ cells. cells ≡ []) lists
 each_empty lists empty i d inside = get_or_default lists i d [] inside ∙ empty i
 
-pub empty_together : (slot : ℕ) (f : Fabric) (ideal : IdealState) → Agrees slot f ideal → IsEmptyFabric f ↔ IsEmptyIdeal ideal
+pub empty_together : (slot : ℕ) (f : Fabric) (ideal : IdealState) → Agrees slot f ideal →
+    IsEmptyFabric f ↔ IsEmptyIdeal ideal
 empty_together slot f ideal agrees = (
   λ empty. each_empty ideal.lists (λ j. no_members (list_of ideal.lists j) (λ c h.
       ⊎_elim
@@ -93,8 +113,13 @@ empty_together slot f ideal agrees = (
       (λ b. none_among (buffer f j) c (all_empty f.buffers empty.buffers j) b)
       ((agrees.same j c).0 h))),
   λ empty. record {
-    inputs = each_empty f.inputs (λ i. no_members (input f i) (λ c h. none_among (list_of ideal.lists c.cell.output) c (all_empty ideal.lists empty c.cell.output) ((agrees.same c.cell.output c).1 (inl (i, h, refl)))));
-    buffers = each_empty f.buffers (λ j. no_members (buffer f j) (λ c h. none_among (list_of ideal.lists j) c (all_empty ideal.lists empty j) ((agrees.same j c).1 (inr h))));
+    inputs =
+        each_empty f.inputs (λ i. no_members (input f i) (λ c h. none_among (list_of ideal.lists c.cell.output) c
+        (all_empty ideal.lists empty c.cell.output)
+        ((agrees.same c.cell.output c).1 (inl (i, h, refl)))));
+    buffers =
+        each_empty f.buffers (λ j. no_members (buffer f j) (λ c h. none_among (list_of ideal.lists j) c
+        (all_empty ideal.lists empty j) ((agrees.same j c).1 (inr h))));
   },
 )
 
@@ -127,18 +152,35 @@ module _ (ports : ℕ) (ranks : List (List ℕ)) where
     ports = refl;
     ranks = refl;
     rising = λ j. subst IsRising (sym (empty_list ports j)) tt;
-    same = λ j c. (λ h. absurd (no_cell j c h), λ h. ⊎_elim (λ w. absurd (no_cell w.0 c w.1)) (λ b. absurd (no_cell j c b)) h);
+    same =
+        λ j c. (
+          λ h. absurd (no_cell j c h),
+          λ h. ⊎_elim (λ w. absurd (no_cell w.0 c w.1)) (λ b. absurd (no_cell j c b)) h,
+        );
     order = λ i. subst KeepsOrder (sym (empty_list ports i)) tt;
     differ = λ p q c d a b e. absurd (nowhere p c a);
     earlier = λ p c h. absurd (nowhere p c h);
     slack = λ i t c h. absurd (no_place i t c h);
   }
 
-  pub traffic_for_empty : (class_count : ℕ) (traffic : List (List (Option Cell))) → AllByRecursion (AreForPorts ports class_count) traffic → AllByRecursion (AreForPorts (length (empty_fabric ports ranks).inputs) class_count) traffic
-  traffic_for_empty class_count traffic h = subst (λ n. AllByRecursion (AreForPorts n class_count) traffic) (sym (length-replicate ports [])) h
+  pub traffic_for_empty : (class_count : ℕ) (traffic : List (List (Option Cell))) →
+      AllByRecursion (AreForPorts ports class_count) traffic →
+      AllByRecursion (AreForPorts (length (empty_fabric ports ranks).inputs) class_count) traffic
+  traffic_for_empty class_count traffic h =
+      subst (λ n. AllByRecursion (AreForPorts n class_count) traffic) (sym (length-replicate ports [])) h
 
-  pub run_from_empty : (ms : List Machine) (class_count : ℕ) (traffic : List (List (Option Cell))) (rs : List SlotRecord) (g : Fabric) → AllByRecursion (AreForPorts ports class_count) traffic → FabricRun IsStable ms 0 traffic (empty_fabric ports ranks) rs g → RunsAlike ms 0 traffic (empty_ideal ports ranks) rs g
-  run_from_empty ms class_count traffic rs g come run = same_run ms class_count 0 traffic (empty_fabric ports ranks) g (empty_ideal ports ranks) rs empty_agree (traffic_for_empty class_count traffic come) run
+  pub run_from_empty : (ms : List Machine) (class_count : ℕ) (traffic : List (List (Option Cell)))
+      (rs : List SlotRecord) (g : Fabric) → AllByRecursion (AreForPorts ports class_count) traffic →
+      FabricRun IsStable ms 0 traffic (empty_fabric ports ranks) rs g →
+      RunsAlike ms 0 traffic (empty_ideal ports ranks) rs g
+  run_from_empty ms class_count traffic rs g come run =
+      same_run ms class_count 0 traffic (empty_fabric ports ranks) g (empty_ideal ports ranks) rs empty_agree
+      (traffic_for_empty class_count traffic come) run
 
-  pub stop_from_empty : (ms : List Machine) (class_count : ℕ) (traffic : List (List (Option Cell))) (rs : List SlotRecord) (fault : TagFault) → AllByRecursion (AreForPorts ports class_count) traffic → FabricStops IsStable ms 0 traffic (empty_fabric ports ranks) rs fault → ideal_run ms 0 traffic (empty_ideal ports ranks) ≡ Err fault
-  stop_from_empty ms class_count traffic rs fault come run = same_stop ms class_count 0 traffic (empty_fabric ports ranks) (empty_ideal ports ranks) rs fault empty_agree (traffic_for_empty class_count traffic come) run
+  pub stop_from_empty : (ms : List Machine) (class_count : ℕ) (traffic : List (List (Option Cell)))
+      (rs : List SlotRecord) (fault : TagFault) → AllByRecursion (AreForPorts ports class_count) traffic →
+      FabricStops IsStable ms 0 traffic (empty_fabric ports ranks) rs fault →
+      ideal_run ms 0 traffic (empty_ideal ports ranks) ≡ Err fault
+  stop_from_empty ms class_count traffic rs fault come run =
+      same_stop ms class_count 0 traffic (empty_fabric ports ranks) (empty_ideal ports ranks) rs fault empty_agree
+      (traffic_for_empty class_count traffic come) run

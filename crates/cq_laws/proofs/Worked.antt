@@ -11,11 +11,13 @@ use Rattle.cq_laws.specs.Records.{transfers_in, transfers_of_run, gone_in}
 use Rattle.cq_laws.specs.Measures.{figures_of, input_figures, output_figures, slacks, proposals_in}
 use Rattle.cq_laws.specs.Example.{from_input2, for_output1, three_slots, three, three_empty, worked_records, worked_transfers, worked_figures}
 
-pub departs : ideal_run first_come_all 0 three_slots (empty_ideal 3 three_empty) ≡ Ok (record { gone = gone_in worked_records; after = empty_ideal 3 three_empty })
+pub departs : ideal_run first_come_all 0 three_slots (empty_ideal 3 three_empty)
+    ≡ Ok (record { gone = gone_in worked_records; after = empty_ideal 3 three_empty })
 unfolding ideal_run ideal_slot filled all_told is_before
 departs = refl
 
-pub goes_ahead : list_arrived (three [] [] (from_input2 ∷ []) [] [] []) (Some for_output1) (from_input2 ∷ []) ≡ for_output1 ∷ from_input2 ∷ []
+pub goes_ahead : list_arrived (three [] [] (from_input2 ∷ []) [] [] []) (Some for_output1) (from_input2 ∷ [])
+    ≡ for_output1 ∷ from_input2 ∷ []
 unfolding is_before
 goes_ahead = refl
 

@@ -1,5 +1,5 @@
--- That the worked records are the run with input-best matchings: in each phase in which a cell crosses, its input and its output
--- are each other's first, and all other inputs have cells for that output only.
+-- That the worked records are the run with input-best matchings: in each phase in which a cell crosses, its input and
+-- its output are each other's first, and all other inputs have cells for that output only.
 use Rattle.std.proofs.Common.{◌≡◌, ◌≢◌, ℕ, zero, suc, [], ◌∷◌, Some, None, refl, sym, ⊎_elim, arith}
 use Rattle.std.specs.Prelude.{slice_index_or}
 use Rattle.cq_base.specs.Key.{is_before}
@@ -192,17 +192,28 @@ arrived2 (suc zero) = refl
 arrived2 (suc (suc zero)) = refl
 arrived2 (suc (suc (suc i))) = refl
 
-worked0 : FabricSlot IsInputBest first_come_all 0 (Some (lone_cell 0 0 0) ∷ Some (lone_cell 1 0 0) ∷ Some (lone_cell 2 0 0) ∷ []) none_left slot0 after0
+worked0 : FabricSlot IsInputBest first_come_all 0
+    (Some (lone_cell 0 0 0) ∷ Some (lone_cell 1 0 0) ∷ Some (lone_cell 2 0 0) ∷ []) none_left slot0 after0
 unfolding all_told
 worked0 =
     record {
       numbered = refl;
       arrive = record { ranked = refl; ports = refl; lists = arrived0; buffers = refl };
       first_chosen = best0;
-      fill = record { moves = pair_moves slot0.first 0 0 only0 from_input0 slot0.arrived.inputs slot0.arrived.buffers refl (omega arith) (omega arith); ranks = refl };
+      fill =
+          record {
+            moves = pair_moves slot0.first 0 0 only0 from_input0 slot0.arrived.inputs slot0.arrived.buffers
+                refl (omega arith) (omega arith);
+            ranks = refl;
+          };
       depart = record { sent = refl; buffers = refl; inputs = refl; ranks = refl };
       second_chosen = best1;
-      finish = record { moves = pair_moves slot0.second 1 0 only1 from_input1 slot0.sent.inputs slot0.sent.buffers refl (omega arith) (omega arith); ranks = refl };
+      finish =
+          record {
+            moves = pair_moves slot0.second 1 0 only1 from_input1 slot0.sent.inputs slot0.sent.buffers refl
+                (omega arith) (omega arith);
+            ranks = refl;
+          };
     }
 
 worked1 : FabricSlot IsInputBest first_come_all 1 (None ∷ None ∷ Some (lone_cell 2 1 1) ∷ []) after0 slot1 after1
@@ -212,10 +223,20 @@ worked1 =
       numbered = refl;
       arrive = record { ranked = refl; ports = refl; lists = arrived1; buffers = refl };
       first_chosen = best2;
-      fill = record { moves = pair_moves slot1.first 2 1 only2 for_output1 slot1.arrived.inputs slot1.arrived.buffers refl (omega arith) (omega arith); ranks = refl };
+      fill =
+          record {
+            moves = pair_moves slot1.first 2 1 only2 for_output1 slot1.arrived.inputs slot1.arrived.buffers
+                refl (omega arith) (omega arith);
+            ranks = refl;
+          };
       depart = record { sent = refl; buffers = refl; inputs = refl; ranks = refl };
       second_chosen = best3;
-      finish = record { moves = pair_moves slot1.second 2 0 only3 from_input2 slot1.sent.inputs slot1.sent.buffers refl (omega arith) (omega arith); ranks = refl };
+      finish =
+          record {
+            moves = pair_moves slot1.second 2 0 only3 from_input2 slot1.sent.inputs slot1.sent.buffers refl
+                (omega arith) (omega arith);
+            ranks = refl;
+          };
     }
 
 worked2 : FabricSlot IsInputBest first_come_all 2 (None ∷ None ∷ None ∷ []) after1 slot2 none_left
@@ -231,5 +252,6 @@ worked2 =
       finish = nothing_moves 3 none_left;
     }
 
-pub runs : FabricRun IsInputBest first_come_all 0 three_slots (empty_fabric 3 three_empty) worked_records (empty_fabric 3 three_empty)
+pub runs : FabricRun IsInputBest first_come_all 0 three_slots (empty_fabric 3 three_empty) worked_records
+    (empty_fabric 3 three_empty)
 runs = (after0, worked0, (after1, worked1, (none_left, worked2, refl)))

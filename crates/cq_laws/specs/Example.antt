@@ -1,5 +1,5 @@
--- A worked run over three ports, each first come, first served. In slot 0 a cell comes to each input for output 0; in slot 1 one
--- more comes to input 2, for output 1.
+-- A worked run over three ports, each first come, first served. In slot 0 a cell comes to each input for output 0; in
+-- slot 1 one more comes to input 2, for output 1.
 use Rattle.std.specs.Prelude.{ℕ, true, List, [], ◌∷◌, Option, Some, None}
 use Rattle.cq_base.specs.declared.cell.Cell.{Cell}
 use Rattle.cq_base.specs.declared.cell.Queued.{Queued}
@@ -12,7 +12,14 @@ use Rattle.cq_laws.specs.FabricSlot.{SlotRecord}
 -- the only cell of a packet
 abbrev pub lone_cell : ℕ → ℕ → ℕ → Cell
 lone_cell input packet output =
-    record { id = record { input = input; packet = packet; index = 0 }; output = output; class = 0; last = true; at = 0; len = 60 }
+    record {
+      id = record { input = input; packet = packet; index = 0 };
+      output = output;
+      class = 0;
+      last = true;
+      at = 0;
+      len = 60;
+    }
 
 -- the cell of input 0, for output 0
 abbrev pub from_input0 : Queued
@@ -33,11 +40,13 @@ for_output1 = keyed (lone_cell 2 1 1) 0 0 1 2
 -- what arrives in the three slots
 abbrev pub three_slots : List (List (Option Cell))
 three_slots =
-    (Some (lone_cell 0 0 0) ∷ Some (lone_cell 1 0 0) ∷ Some (lone_cell 2 0 0) ∷ []) ∷ (None ∷ None ∷ Some (lone_cell 2 1 1) ∷ []) ∷ (None ∷ None ∷ None ∷ []) ∷ []
+    (Some (lone_cell 0 0 0) ∷ Some (lone_cell 1 0 0) ∷ Some (lone_cell 2 0 0) ∷ [])
+    ∷ (None ∷ None ∷ Some (lone_cell 2 1 1) ∷ []) ∷ (None ∷ None ∷ None ∷ []) ∷ []
 
 -- lists and buffers of three ports, whose rank machines have nothing to remember
 abbrev pub three : List Queued → List Queued → List Queued → List Queued → List Queued → List Queued → Fabric
-three in0 in1 in2 out0 out1 out2 = record { inputs = in0 ∷ in1 ∷ in2 ∷ []; buffers = out0 ∷ out1 ∷ out2 ∷ []; ranks = [] ∷ [] ∷ [] ∷ [] }
+three in0 in1 in2 out0 out1 out2 =
+    record { inputs = in0 ∷ in1 ∷ in2 ∷ []; buffers = out0 ∷ out1 ∷ out2 ∷ []; ranks = [] ∷ [] ∷ [] ∷ [] }
 
 -- the cell of input 0 crosses and is sent, then that of input 1 crosses
 abbrev pub slot0 : SlotRecord
@@ -84,22 +93,32 @@ slot2 =
 -- the transfer of the only cell of a packet
 abbrev pub crossing : ℕ → ℕ → ℕ → ℕ → ℕ → Transfer
 crossing slot phase input output packet =
-    record { slot = slot; phase = phase; input = input; output = output; id = record { input = input; packet = packet; index = 0 } }
+    record {
+      slot = slot;
+      phase = phase;
+      input = input;
+      output = output;
+      id = record { input = input; packet = packet; index = 0 };
+    }
 
 -- what crosses
 abbrev pub worked_transfers : List Transfer
 worked_transfers = crossing 0 1 0 0 0 ∷ crossing 0 2 1 0 0 ∷ crossing 1 1 2 1 1 ∷ crossing 1 2 2 0 0 ∷ []
 
--- the cell of input 1 waits one slot, the older one of input 2 two. Each matching takes as many proposals as inputs that have
--- a cell, while they all have it for the same output: 3 and 2 in slot 0, then 1 and 1
+-- the cell of input 1 waits one slot, the older one of input 2 two. Each matching takes as many proposals as inputs
+-- that have a cell, while they all have it for the same output: 3 and 2 in slot 0, then 1 and 1
 abbrev pub worked_figures : Figures
 worked_figures =
     record {
       slots = 3;
       proposals = 7;
       most = 3;
-      inputs = record { cells = 1; longest = 1; slack = Some 0 } ∷ record { cells = 1; longest = 1; slack = Some 0 } ∷ record { cells = 2; longest = 2; slack = Some 0 } ∷ [];
-      outputs = record { cells = 3; wait = Some 2 } ∷ record { cells = 1; wait = Some 0 } ∷ record { cells = 0; wait = None } ∷ [];
+      inputs =
+          record { cells = 1; longest = 1; slack = Some 0 } ∷ record { cells = 1; longest = 1; slack = Some 0 }
+          ∷ record { cells = 2; longest = 2; slack = Some 0 } ∷ [];
+      outputs =
+          record { cells = 3; wait = Some 2 } ∷ record { cells = 1; wait = Some 0 }
+          ∷ record { cells = 0; wait = None } ∷ [];
     }
 
 -- the records of the run

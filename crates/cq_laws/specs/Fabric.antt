@@ -1,12 +1,12 @@
--- The state of the fabric (Chuang, Goel, McKeown and Prabhakar 1999): cells wait at the inputs, and cells that have crossed
--- wait at the outputs.
+-- The state of the fabric (Chuang, Goel, McKeown and Prabhakar 1999): cells wait at the inputs, and cells that have
+-- crossed wait at the outputs.
 use Rattle.std.specs.Prelude.{◌≡◌, ℕ, ◌<◌, ◌⊎◌, List, [], ◌∷◌, length, All, replicate}
 use Rattle.cq_base.specs.declared.cell.Queued.{Queued}
 use Rattle.cq_base.specs.Cells.{IsRising, KeepsOrder, cushion}
 use Rattle.cq_prefs.specs.FirstCells.{list_of}
 
--- per input the list of its cells, per output the buffer of its cells in the order of their keys, and per output the state
--- of its rank machine
+-- per input the list of its cells, per output the buffer of its cells in the order of their keys, and per output the
+-- state of its rank machine
 pub record Fabric : Type 0 where
   pub inputs : List (List Queued)
   pub buffers : List (List Queued)
@@ -25,8 +25,8 @@ abbrev pub IsAmong : Queued → List Queued → Type 0
 IsAmong c [] = ⊥
 IsAmong c (x ∷ xs) = (x ≡ c) ⊎ IsAmong c xs
 
--- there are as many outputs as inputs, each cell is for one of them, and the cells of a buffer are for its output and stand
--- in the order of their keys
+-- there are as many outputs as inputs, each cell is for one of them, and the cells of a buffer are for its output and
+-- stand in the order of their keys
 pub record IsFabric (f : Fabric) : Type 0 where
   pub square : length f.buffers ≡ length f.inputs
   pub outputs : (i : ℕ) (c : Queued) → IsAmong c (input f i) → c.cell.output < length f.inputs

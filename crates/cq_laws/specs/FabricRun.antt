@@ -15,12 +15,14 @@ use Rattle.cq_laws.specs.Records.{gone_in, transfers_of_run}
 use Rattle.cq_laws.specs.SlotBySlot.{RunBy, StopBy, WholeBy}
 
 -- one record a slot, from this slot on, each from the state in which the one before it ended
-abbrev pub FabricRun : (Orders → Partners → Type 0) → List Machine → ℕ → List (List (Option Cell)) → Fabric → List SlotRecord → Fabric → Type 0
+abbrev pub FabricRun : (Orders → Partners → Type 0) → List Machine → ℕ → List (List (Option Cell)) → Fabric →
+    List SlotRecord → Fabric → Type 0
 FabricRun MayChoose ms slot traffic old rs new = RunBy (FabricSlot MayChoose ms) slot traffic old rs new
 
--- the whole run over all cells that arrive, from slot 0 on: one record a slot, up to the last in which a cell arrives, waits or
--- leaves
-abbrev pub WholeRun : (Orders → Partners → Type 0) → List Machine → List Arrival → Fabric → List SlotRecord → Fabric → Type 0
+-- the whole run over all cells that arrive, from slot 0 on: one record a slot, up to the last in which a cell
+-- arrives, waits or leaves
+abbrev pub WholeRun : (Orders → Partners → Type 0) → List Machine → List Arrival → Fabric → List SlotRecord → Fabric →
+    Type 0
 WholeRun MayChoose ms came start rs end = WholeBy (FabricSlot MayChoose ms) IsEmptyFabric came start rs end
 
 -- the first rank that does not fit is the tag fault of the slot
@@ -28,23 +30,29 @@ abbrev pub IsFault : List Machine → ℕ → List (Option Cell) → Fabric → 
 IsFault ms slot cells f fault = ranking ms slot 0 cells f.ranks ≡ Err fault
 
 -- the records of some slots, and then a slot with a tag fault
-abbrev pub FabricStops : (Orders → Partners → Type 0) → List Machine → ℕ → List (List (Option Cell)) → Fabric → List SlotRecord → TagFault → Type 0
-FabricStops MayChoose ms slot traffic old rs fault = StopBy (FabricSlot MayChoose ms) (IsFault ms) slot traffic old rs fault
+abbrev pub FabricStops : (Orders → Partners → Type 0) → List Machine → ℕ → List (List (Option Cell)) → Fabric →
+    List SlotRecord → TagFault → Type 0
+FabricStops MayChoose ms slot traffic old rs fault =
+    StopBy (FabricSlot MayChoose ms) (IsFault ms) slot traffic old rs fault
 
 -- runs on end are a run: where one ended another goes on, or one slot more, or a run that stops
 pub record RunsGoOn (MayChoose : Orders → Partners → Type 0) : Type 0 where
-  pub run : (ms : List Machine) (slot : ℕ) (before after : List (List (Option Cell))) (f g h : Fabric) (rs ss : List SlotRecord) →
+  pub run : (ms : List Machine) (slot : ℕ) (before after : List (List (Option Cell))) (f g h : Fabric)
+      (rs ss : List SlotRecord) →
       FabricRun MayChoose ms slot before f rs g → FabricRun MayChoose ms (slot + length before) after g ss h →
       FabricRun MayChoose ms slot (before ++ after) f (rs ++ ss) h
-  pub slot : (ms : List Machine) (slot : ℕ) (before : List (List (Option Cell))) (cells : List (Option Cell)) (f g h : Fabric) (rs : List SlotRecord) (r : SlotRecord) →
+  pub slot : (ms : List Machine) (slot : ℕ) (before : List (List (Option Cell))) (cells : List (Option Cell))
+      (f g h : Fabric) (rs : List SlotRecord) (r : SlotRecord) →
       FabricRun MayChoose ms slot before f rs g → FabricSlot MayChoose ms (slot + length before) cells g r h →
       FabricRun MayChoose ms slot (before ++ cells ∷ []) f (rs ++ r ∷ []) h
-  pub stop : (ms : List Machine) (slot : ℕ) (before after : List (List (Option Cell))) (f g : Fabric) (rs ss : List SlotRecord) (fault : TagFault) →
+  pub stop : (ms : List Machine) (slot : ℕ) (before after : List (List (Option Cell))) (f g : Fabric)
+      (rs ss : List SlotRecord) (fault : TagFault) →
       FabricRun MayChoose ms slot before f rs g → FabricStops MayChoose ms (slot + length before) after g ss fault →
       FabricStops MayChoose ms slot (before ++ after) f (rs ++ ss) fault
 
 -- the first of these records are the whole run, and the others add no departure, no transfer and nothing to the figures
-pub record BeginsWhole (MayChoose : Orders → Partners → Type 0) (ms : List Machine) (came : List Arrival) (start : Fabric) (rs : List SlotRecord) : Type 0 where
+pub record BeginsWhole (MayChoose : Orders → Partners → Type 0) (ms : List Machine) (came : List Arrival)
+    (start : Fabric) (rs : List SlotRecord) : Type 0 where
   pub slots : ℕ
   pub end : Fabric
   pub whole : WholeRun MayChoose ms came start (take slots rs) end

@@ -9,9 +9,9 @@ use Rattle.cq_prefs.specs.FirstCells.{orders_of}
 use Rattle.cq_laws.specs.Fabric.{Fabric, IsWholeFabric}
 use Rattle.cq_laws.specs.Phases.{Arrives, Transfers, Departs}
 
--- what is recorded of a slot: the cells that arrived, with their keys, by input; the state after the arrivals; the first
--- matching, and the state after its transfer; the cells that were sent, by output, and the state after that; and the second
--- matching
+-- what is recorded of a slot: the cells that arrived, with their keys, by input; the state after the arrivals; the
+-- first matching, and the state after its transfer; the cells that were sent, by output, and the state after that;
+-- and the second matching
 pub record SlotRecord : Type 0 where
   pub slot : ℕ
   pub came : List (Option Queued)
@@ -23,7 +23,8 @@ pub record SlotRecord : Type 0 where
   pub second : Partners
 
 -- one slot, in which each of the two matchings is one that may be chosen for the offers of its moment
-pub record FabricSlot (MayChoose : Orders → Partners → Type 0) (ms : List Machine) (slot : ℕ) (cells : List (Option Cell)) (old : Fabric) (r : SlotRecord) (new : Fabric) : Type 0 where
+pub record FabricSlot (MayChoose : Orders → Partners → Type 0) (ms : List Machine) (slot : ℕ)
+    (cells : List (Option Cell)) (old : Fabric) (r : SlotRecord) (new : Fabric) : Type 0 where
   pub numbered : r.slot ≡ slot
   pub arrive : Arrives ms slot cells r.came old r.arrived
   pub first_chosen : MayChoose (orders_of r.arrived.inputs) r.first

@@ -1,4 +1,5 @@
--- What clauses see of a fabric that stands still: its state with the marks, and what it is that a fabric can go on from.
+-- What clauses see of a fabric that stands still: its state with the marks, and what it is that a fabric can go on
+-- from.
 use Rattle.std.specs.Prelude.{◌≡◌, ℕ, ◌<◌, List, length, map, Option, [], ◌∷◌}
 use Rattle.std.specs.List.{enumerate_from, filter_map, range_with_len}
 use Rattle.std.specs.Option.{option_map}
@@ -23,8 +24,8 @@ marked_in x = record { state = fabric_in x; marks = x.marks }
 
 -- ## What a fabric can go on from
 
--- each list and each buffer stands in order, each cell that waits at an input has slack 1 at least, no key is twice, and every
--- cell arrived before this slot
+-- each list and each buffer stands in order, each cell that waits at an input has slack 1 at least, no key is twice,
+-- and every cell arrived before this slot
 pub record IsSoundFabric (next : ℕ) (f : Fabric) : Type 0 where
   pub fabric : IsFabric f
   pub order : ListsKeepOrder f
@@ -32,11 +33,13 @@ pub record IsSoundFabric (next : ℕ) (f : Fabric) : Type 0 where
   pub differ : NoKeyTwice f
   pub earlier : AllBefore next f
 
--- each cell is of one of so many inputs and classes, and the cells of a list and their keys are of its input. That each is for
--- one of the outputs, and those of a buffer for its output, a fabric's state says.
+-- each cell is of one of so many inputs and classes, and the cells of a list and their keys are of its input. That
+-- each is for one of the outputs, and those of a buffer for its output, a fabric's state says.
 pub record AreOwn (ports classes : ℕ) (f : Fabric) : Type 0 where
-  pub listed : (i : ℕ) (c : Queued) → IsAmong c (input f i) → (c.cell.id.input ≡ i) × (c.key.input ≡ i) × (c.cell.class < classes)
-  pub buffered : (j : ℕ) (c : Queued) → IsAmong c (buffer f j) → (c.cell.id.input < ports) × (c.key.input ≡ c.cell.id.input) × (c.cell.class < classes)
+  pub listed : (i : ℕ) (c : Queued) → IsAmong c (input f i) →
+      (c.cell.id.input ≡ i) × (c.key.input ≡ i) × (c.cell.class < classes)
+  pub buffered : (j : ℕ) (c : Queued) → IsAmong c (buffer f j) →
+      (c.cell.id.input < ports) × (c.key.input ≡ c.cell.id.input) × (c.cell.class < classes)
 
 -- there is one of each for each of so many ports
 pub record HasPorts (ports : ℕ) (x : Frozen) : Type 0 where
@@ -64,4 +67,5 @@ in_order (c ∷ cells) = put c (in_order cells)
 
 -- the state of the ideal switch that agrees with a fabric: per output all cells for it, in the order of their keys
 unfoldable pub ideal_of : Fabric → IdealState
-ideal_of f = record { lists = map (λ j. in_order (cells_for j f)) (range_with_len 0 (length f.inputs)); ranks = f.ranks }
+ideal_of f =
+    record { lists = map (λ j. in_order (cells_for j f)) (range_with_len 0 (length f.inputs)); ranks = f.ranks }

@@ -25,45 +25,60 @@ pub record LimitedAgrees (slot : ℕ) (f : Marked Fabric) (ideal : Marked IdealS
   pub marks : f.marks ≡ ideal.marks
 
 -- in this slot the ideal switch admits, refuses and sends what the record says, and then agrees with the fabric
-pub record ActsAlike (limits : List (Option ℕ)) (ms : List Machine) (slot : ℕ) (cells : List (Option Cell)) (ideal : Marked IdealState) (r : LimitedRecord) (f : Marked Fabric) : Type 0 where
+pub record ActsAlike (limits : List (Option ℕ)) (ms : List Machine) (slot : ℕ) (cells : List (Option Cell))
+    (ideal : Marked IdealState) (r : LimitedRecord) (f : Marked Fabric) : Type 0 where
   pub next : Marked IdealState
-  pub sent : limited_slot limits ms slot cells ideal ≡ Ok (record { admission = r.admission; gone = r.of_slot.gone; after = next })
+  pub sent : limited_slot limits ms slot cells ideal
+      ≡ Ok (record { admission = r.admission; gone = r.of_slot.gone; after = next })
   pub agrees : LimitedAgrees (slot + 1) f next
 
 -- in the slots from this one on it admits, refuses and sends what these records say, and then agrees with the fabric
-pub record LimitedRunsAlike (limits : List (Option ℕ)) (ms : List Machine) (slot : ℕ) (traffic : List (List (Option Cell))) (ideal : Marked IdealState) (rs : List LimitedRecord) (f : Marked Fabric) : Type 0 where
+pub record LimitedRunsAlike (limits : List (Option ℕ)) (ms : List Machine) (slot : ℕ)
+    (traffic : List (List (Option Cell))) (ideal : Marked IdealState) (rs : List LimitedRecord) (f : Marked Fabric) :
+    Type 0 where
   pub after : Marked IdealState
-  pub ran : limited_run limits ms slot traffic ideal ≡ Ok (record { admissions = admissions_in rs; gone = gone_in (slots_in rs); after = after })
+  pub ran : limited_run limits ms slot traffic ideal
+      ≡ Ok (record { admissions = admissions_in rs; gone = gone_in (slots_in rs); after = after })
   pub agrees : LimitedAgrees (slot + length traffic) f after
 
--- Whatever the limits: from states that agree both switches act alike in a slot, or have the same tag fault, and so they do over
--- whole runs.
-pub record ActAlike (MayChoose : Orders → Partners → Type 0) (limits : List (Option ℕ)) (ms : List Machine) : Type 0 where
-  pub slot : (slot class_count : ℕ) (cells : List (Option Cell)) (f g : Marked Fabric) (ideal : Marked IdealState) (r : LimitedRecord) →
-      LimitedAgrees slot f ideal → AreForPorts (length f.state.inputs) class_count cells →
-      LimitedFabricSlot MayChoose limits ms slot cells f r g → ActsAlike limits ms slot cells ideal r g
-  pub fault : (slot : ℕ) (cells : List (Option Cell)) (f : Marked Fabric) (ideal : Marked IdealState) (fault : TagFault) →
-      LimitedAgrees slot f ideal →
-      (limited_slot limits ms slot cells ideal ≡ Err fault) ↔ IsLimitedFault limits ms slot cells f fault
-  pub run : (slot class_count : ℕ) (traffic : List (List (Option Cell))) (f g : Marked Fabric) (ideal : Marked IdealState) (rs : List LimitedRecord) →
-      LimitedAgrees slot f ideal → AllByRecursion (AreForPorts (length f.state.inputs) class_count) traffic →
-      LimitedFabricRun MayChoose limits ms slot traffic f rs g → LimitedRunsAlike limits ms slot traffic ideal rs g
-  pub stop : (slot class_count : ℕ) (traffic : List (List (Option Cell))) (f : Marked Fabric) (ideal : Marked IdealState) (rs : List LimitedRecord) (fault : TagFault) →
-      LimitedAgrees slot f ideal → AllByRecursion (AreForPorts (length f.state.inputs) class_count) traffic →
-      LimitedFabricStops MayChoose limits ms slot traffic f rs fault → limited_run limits ms slot traffic ideal ≡ Err fault
+-- Whatever the limits: from states that agree both switches act alike in a slot, or have the same tag fault, and so
+-- they do over whole runs.
+pub record ActAlike (MayChoose : Orders → Partners → Type 0) (limits : List (Option ℕ)) (ms : List Machine) : Type 0
+  where
+    pub slot : (slot class_count : ℕ) (cells : List (Option Cell)) (f g : Marked Fabric) (ideal : Marked IdealState)
+        (r : LimitedRecord) →
+        LimitedAgrees slot f ideal → AreForPorts (length f.state.inputs) class_count cells →
+        LimitedFabricSlot MayChoose limits ms slot cells f r g → ActsAlike limits ms slot cells ideal r g
+    pub fault : (slot : ℕ) (cells : List (Option Cell)) (f : Marked Fabric) (ideal : Marked IdealState)
+        (fault : TagFault) →
+        LimitedAgrees slot f ideal →
+        (limited_slot limits ms slot cells ideal ≡ Err fault) ↔ IsLimitedFault limits ms slot cells f fault
+    pub run : (slot class_count : ℕ) (traffic : List (List (Option Cell))) (f g : Marked Fabric)
+        (ideal : Marked IdealState) (rs : List LimitedRecord) →
+        LimitedAgrees slot f ideal → AllByRecursion (AreForPorts (length f.state.inputs) class_count) traffic →
+        LimitedFabricRun MayChoose limits ms slot traffic f rs g → LimitedRunsAlike limits ms slot traffic ideal rs g
+    pub stop : (slot class_count : ℕ) (traffic : List (List (Option Cell))) (f : Marked Fabric)
+        (ideal : Marked IdealState) (rs : List LimitedRecord) (fault : TagFault) →
+        LimitedAgrees slot f ideal → AllByRecursion (AreForPorts (length f.state.inputs) class_count) traffic →
+        LimitedFabricStops MayChoose limits ms slot traffic f rs fault →
+        limited_run limits ms slot traffic ideal ≡ Err fault
 
--- So they do from states without cells and with all marks down on: the ideal run ends as that of the fabric does, or at the same
--- fault, and as many packets and cells are refused in both at each output.
-pub record ActAlikeFromEmpty (MayChoose : Orders → Partners → Type 0) (limits : List (Option ℕ)) (ms : List Machine) : Type 0 where
-  pub run : (ports class_count : ℕ) (ranks : List (List ℕ)) (traffic : List (List (Option Cell))) (rs : List LimitedRecord) (g : Marked Fabric) →
+-- So they do from states without cells and with all marks down on: the ideal run ends as that of the fabric does, or
+-- at the same fault, and as many packets and cells are refused in both at each output.
+pub record ActAlikeFromEmpty (MayChoose : Orders → Partners → Type 0) (limits : List (Option ℕ)) (ms : List Machine) :
+    Type 0 where
+  pub run : (ports class_count : ℕ) (ranks : List (List ℕ)) (traffic : List (List (Option Cell)))
+      (rs : List LimitedRecord) (g : Marked Fabric) →
       AllByRecursion (AreForPorts ports class_count) traffic →
       LimitedFabricRun MayChoose limits ms 0 traffic (empty_limited_fabric ports ranks) rs g →
       LimitedRunsAlike limits ms 0 traffic (empty_limited ports ranks) rs g
-  pub stop : (ports class_count : ℕ) (ranks : List (List ℕ)) (traffic : List (List (Option Cell))) (rs : List LimitedRecord) (fault : TagFault) →
+  pub stop : (ports class_count : ℕ) (ranks : List (List ℕ)) (traffic : List (List (Option Cell)))
+      (rs : List LimitedRecord) (fault : TagFault) →
       AllByRecursion (AreForPorts ports class_count) traffic →
       LimitedFabricStops MayChoose limits ms 0 traffic (empty_limited_fabric ports ranks) rs fault →
       limited_run limits ms 0 traffic (empty_limited ports ranks) ≡ Err fault
-  pub refused : (ports class_count : ℕ) (ranks : List (List ℕ)) (traffic : List (List (Option Cell))) (rs : List LimitedRecord) (g : Marked Fabric) (ran : LimitedRan) →
+  pub refused : (ports class_count : ℕ) (ranks : List (List ℕ)) (traffic : List (List (Option Cell)))
+      (rs : List LimitedRecord) (g : Marked Fabric) (ran : LimitedRan) →
       AllByRecursion (AreForPorts ports class_count) traffic →
       LimitedFabricRun MayChoose limits ms 0 traffic (empty_limited_fabric ports ranks) rs g →
       limited_run limits ms 0 traffic (empty_limited ports ranks) ≡ Ok ran →
@@ -71,8 +86,8 @@ pub record ActAlikeFromEmpty (MayChoose : Orders → Partners → Type 0) (limit
 
 -- ## Whole runs
 
--- The ideal switch ends after as many slots as these records are, and admits, refuses and sends what they say. Then both
--- agree.
+-- The ideal switch ends after as many slots as these records are, and admits, refuses and sends what they say. Then
+-- both agree.
 pub record LimitedEndsAlike (limits : List (Option ℕ)) (ms : List Machine) (came : List Arrival)
     (ideal : Marked IdealState) (rs : List LimitedRecord) (f : Marked Fabric) : Type 0 where
   pub after : Marked IdealState

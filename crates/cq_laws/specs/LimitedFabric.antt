@@ -1,5 +1,5 @@
--- The fabric where outputs have limits: what is admitted of a slot's arrivals goes through the slot without limits. It differs
--- from the ideal switch only in where it counts what an output holds.
+-- The fabric where outputs have limits: what is admitted of a slot's arrivals goes through the slot without limits.
+-- It differs from the ideal switch only in where it counts what an output holds.
 use Rattle.std.specs.Prelude.{◌≡◌, ℕ, Bool, List, [], ◌∷◌, map, Option}
 use Rattle.cq_base.specs.Arriving.{Arrival}
 use Rattle.cq_base.specs.declared.cell.Cell.{Cell}
@@ -24,22 +24,29 @@ pub record LimitedRecord : Type 0 where
   pub of_slot : SlotRecord
 
 -- one slot: the admitted cells go through it, and the admission says which marks are up after it
-pub record LimitedFabricSlot (MayChoose : Orders → Partners → Type 0) (limits : List (Option ℕ)) (ms : List Machine) (slot : ℕ) (cells : List (Option Cell)) (old : Marked Fabric) (r : LimitedRecord) (new : Marked Fabric) : Type 0 where
-  pub admits : r.admission ≡ fabric_admission limits cells old
-  pub runs : FabricSlot MayChoose ms slot r.admission.cells old.state r.of_slot new.state
-  pub marks : new.marks ≡ r.admission.marks
+pub record LimitedFabricSlot (MayChoose : Orders → Partners → Type 0) (limits : List (Option ℕ)) (ms : List Machine)
+    (slot : ℕ) (cells : List (Option Cell)) (old : Marked Fabric) (r : LimitedRecord) (new : Marked Fabric) : Type 0
+  where
+    pub admits : r.admission ≡ fabric_admission limits cells old
+    pub runs : FabricSlot MayChoose ms slot r.admission.cells old.state r.of_slot new.state
+    pub marks : new.marks ≡ r.admission.marks
 
 -- the first rank of an admitted cell that does not fit is the tag fault of the slot
 abbrev pub IsLimitedFault : List (Option ℕ) → List Machine → ℕ → List (Option Cell) → Marked Fabric → TagFault → Type 0
-IsLimitedFault limits ms slot cells old fault = IsFault ms slot (fabric_admission limits cells old).cells old.state fault
+IsLimitedFault limits ms slot cells old fault =
+    IsFault ms slot (fabric_admission limits cells old).cells old.state fault
 
 -- one record a slot, from this slot on, each from the state in which the one before it ended
-abbrev pub LimitedFabricRun : (Orders → Partners → Type 0) → List (Option ℕ) → List Machine → ℕ → List (List (Option Cell)) → Marked Fabric → List LimitedRecord → Marked Fabric → Type 0
-LimitedFabricRun MayChoose limits ms slot traffic old rs new = RunBy (LimitedFabricSlot MayChoose limits ms) slot traffic old rs new
+abbrev pub LimitedFabricRun : (Orders → Partners → Type 0) → List (Option ℕ) → List Machine → ℕ →
+    List (List (Option Cell)) → Marked Fabric → List LimitedRecord → Marked Fabric → Type 0
+LimitedFabricRun MayChoose limits ms slot traffic old rs new =
+    RunBy (LimitedFabricSlot MayChoose limits ms) slot traffic old rs new
 
 -- the records of some slots, and then a slot with a tag fault
-abbrev pub LimitedFabricStops : (Orders → Partners → Type 0) → List (Option ℕ) → List Machine → ℕ → List (List (Option Cell)) → Marked Fabric → List LimitedRecord → TagFault → Type 0
-LimitedFabricStops MayChoose limits ms slot traffic old rs fault = StopBy (LimitedFabricSlot MayChoose limits ms) (IsLimitedFault limits ms) slot traffic old rs fault
+abbrev pub LimitedFabricStops : (Orders → Partners → Type 0) → List (Option ℕ) → List Machine → ℕ →
+    List (List (Option Cell)) → Marked Fabric → List LimitedRecord → TagFault → Type 0
+LimitedFabricStops MayChoose limits ms slot traffic old rs fault =
+    StopBy (LimitedFabricSlot MayChoose limits ms) (IsLimitedFault limits ms) slot traffic old rs fault
 
 -- the whole run over all cells that arrive: one record a slot, up to the last in which a cell arrives, waits or leaves
 abbrev pub LimitedWholeRun : (Orders → Partners → Type 0) → List (Option ℕ) → List Machine → List Arrival →
@@ -70,4 +77,5 @@ IsRunOfRecorded MayChoose =
 abbrev pub passed : List Bool → List (List (Option Cell)) → List SlotRecord → List LimitedRecord
 passed marks [] rs = []
 passed marks (cells ∷ traffic) [] = []
-passed marks (cells ∷ traffic) (r ∷ rs) = record { admission = nothing_refused marks cells; of_slot = r } ∷ passed marks traffic rs
+passed marks (cells ∷ traffic) (r ∷ rs) =
+    record { admission = nothing_refused marks cells; of_slot = r } ∷ passed marks traffic rs

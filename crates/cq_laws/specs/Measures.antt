@@ -14,8 +14,8 @@ use Rattle.cq_laws.specs.FabricSlot.{SlotRecord}
 
 -- ## What one record says
 
--- the slack of each cell that waits at input i, from the first on. After arrivals no input thread exceeds its cushion, so that
--- nothing is cut off here
+-- the slack of each cell that waits at input i, from the first on. After arrivals no input thread exceeds its
+-- cushion, so that nothing is cut off here
 unfoldable pub slacks : Fabric → ℕ → List ℕ
 slacks f i = map (λ at. cushion_of f at.1 - at.0) (enumerate_from 0 (input f i))
 
@@ -116,13 +116,17 @@ no_figures ports =
 
 -- the slack with which a cell arrived at input i, if one did: in its list it is the only one of this slot
 unfoldable pub slack_on_arrival : ℕ → SlotRecord → Option ℕ
-slack_on_arrival i r = option_map (λ c. cushion_of r.arrived c - position_or_len (λ x. x.key.slot == r.slot) (input r.arrived i)) (came_to r.came i)
+slack_on_arrival i r =
+    option_map (λ c. cushion_of r.arrived c - position_or_len (λ x. x.key.slot == r.slot) (input r.arrived i))
+    (came_to r.came i)
 
 -- the least slack that the figures have for input i
 abbrev pub least_slack : Figures → ℕ → Option ℕ
 least_slack x i = option_and_then (λ y. y.slack) (slice_get x.inputs i)
 
--- the figures are of as many inputs, and each cell that waits has more slack than the least that they have for its input
+-- the figures are of as many inputs, and each cell that waits has more slack than the least that they have for its
+-- input
 pub record HasMoreSlack (x : Figures) (f : Fabric) : Type 0 where
   pub ports : length x.inputs ≡ length f.inputs
-  pub more : (i thread : ℕ) (c : Queued) → slice_get (input f i) thread ≡ Some c → (least : ℕ) × (least_slack x i ≡ Some least) × (least + thread < cushion_of f c)
+  pub more : (i thread : ℕ) (c : Queued) → slice_get (input f i) thread ≡ Some c →
+      (least : ℕ) × (least_slack x i ≡ Some least) × (least + thread < cushion_of f c)

@@ -20,7 +20,8 @@ list_arrived f None cells = cells
 list_arrived f (Some c) cells = with_arrival (cushion_of f c) c cells
 
 -- the cells that arrive are ranked as in the ideal switch, and each goes into the list of its input
-pub record Arrives (ms : List Machine) (slot : ℕ) (cells : List (Option Cell)) (came : List (Option Queued)) (old new : Fabric) : Type 0 where
+pub record Arrives (ms : List Machine) (slot : ℕ) (cells : List (Option Cell)) (came : List (Option Queued))
+    (old new : Fabric) : Type 0 where
   pub ranked : ranking ms slot 0 cells old.ranks ≡ Ok (record { came = came; ranks = new.ranks })
   pub ports : length new.inputs ≡ length old.inputs
   pub lists : (i : ℕ) → input new i ≡ list_arrived old (came_to came i) (input old i)
@@ -31,8 +32,8 @@ pub record Transfers (m : Partners) (old new : Fabric) : Type 0 where
   pub moves : Moves m old.inputs old.buffers new.inputs new.buffers
   pub ranks : new.ranks ≡ old.ranks
 
--- each output sends the first cell of its buffer, which is the most urgent there, or none where the buffer is empty, and its
--- rank machine is told as in the ideal switch
+-- each output sends the first cell of its buffer, which is the most urgent there, or none where the buffer is empty,
+-- and its rank machine is told as in the ideal switch
 pub record Departs (ms : List Machine) (gone : List (Option Queued)) (old new : Fabric) : Type 0 where
   pub sent : gone ≡ fronts old.buffers
   pub buffers : new.buffers ≡ rests old.buffers

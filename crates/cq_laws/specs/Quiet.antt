@@ -26,7 +26,8 @@ quiet_slot ms slot ports ranks =
 -- the records of so many such slots, from a slot on
 abbrev pub quiet_slots : List Machine → ℕ → ℕ → ℕ → List (List ℕ) → List SlotRecord
 quiet_slots ms zero slot ports ranks = []
-quiet_slots ms (suc count) slot ports ranks = quiet_slot ms slot ports ranks ∷ quiet_slots ms count (slot + 1) ports (idled ms ports ranks)
+quiet_slots ms (suc count) slot ports ranks =
+    quiet_slot ms slot ports ranks ∷ quiet_slots ms count (slot + 1) ports (idled ms ports ranks)
 
 -- and the states of the rank machines after them
 abbrev pub idled_for : List Machine → ℕ → ℕ → List (List ℕ) → List (List ℕ)

@@ -1,5 +1,6 @@
--- The slack of a waiting cell (Chuang, Goel, McKeown and Prabhakar 1999): its output cushion less its input thread, which is
--- how many cells stand ahead of it in its input's list. Nothing is subtracted here: both sides stand in one comparison.
+-- The slack of a waiting cell (Chuang, Goel, McKeown and Prabhakar 1999): its output cushion less its input thread,
+-- which is how many cells stand ahead of it in its input's list. Nothing is subtracted here: both sides stand in one
+-- comparison.
 use Rattle.std.specs.Prelude.{◌≡◌, ℕ, ◌+◌, ◌≤◌, ◌⊎◌, List, Option, Some, None, slice_get, slice_index_or}
 use Rattle.cq_base.specs.declared.cell.Queued.{Queued}
 use Rattle.cq_laws.specs.Fabric.{Fabric, input, cushion_of}

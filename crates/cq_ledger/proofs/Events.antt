@@ -24,7 +24,8 @@ pub start-shows : (o : Orders) → AreOffers o → ports o ≤ 64 → core_state
 unfolding start-keeps
 start-shows o v few = core_state-is o (first_words o) (blank o ∷ []) (start-keeps o v few)
 
-module _ (o : Orders) (words : List ℕ) (views : List View) (k : IsLedger o words views) (id : ℕ) (v : View) (at : Sits views id v) where
+module _ (o : Orders) (words : List ℕ) (views : List View) (k : IsLedger o words views) (id : ℕ) (v : View)
+    (at : Sits views id v) where
   abbrev s : State
   s = state_after o k.events
 
@@ -32,7 +33,8 @@ module _ (o : Orders) (words : List ℕ) (views : List View) (k : IsLedger o wor
   is = core_state-is o words views k
 
   -- the state shown is the one after the same events
-  as_before : (words' : List ℕ) (views' : List View) (k' : IsLedger o words' views') → state_after o k'.events ≡ s → core_state o words' views' ≡ core_state o words views
+  as_before : (words' : List ℕ) (views' : List View) (k' : IsLedger o words' views') → state_after o k'.events ≡ s →
+      core_state o words' views' ≡ core_state o words views
   as_before words' views' k' same = core_state-is o words' views' k' ∙ same ∙ sym is
 
   module _ (i p : ℕ) (hand : v.hand ≡ Some (i, p)) (same_offers : v.offers ≡ o) where
@@ -42,19 +44,25 @@ module _ (o : Orders) (words : List ℕ) (views : List View) (k : IsLedger o wor
     pub proposal-free : IsFree o (core_state o words views) i
     proposal-free = let P : State → Type 0 = λ t. IsFree o t i in subst P (sym is) (k.hands.free id i p v at hand)
 
-    pub proposal-shows : core_state o (words_proposed o words i p) (set views id (proposed v i p (get_or words (suc (output_at o i p)) 0))) ≡ propose o (core_state o words views) i
+    pub proposal-shows : core_state o (words_proposed o words i p) (set views id
+        (proposed v i p (get_or words (suc (output_at o i p)) 0))) ≡ propose o (core_state o words views) i
     unfolding propose-keeps
     proposal-shows =
         let k' = propose-keeps o words views k id i v at (hand ∙ ap (λ n. Some (i, n)) (sym here)) same_offers in
-        let P : ℕ → Type 0 = λ n. core_state o (words_proposed o words i n) (set views id (proposed v i n (get_or words (suc (output_at o i n)) 0))) ≡ propose o s i in
-        subst P here (core_state-is o (words_proposed o words i (next_place s i)) (set views id (proposed v i (next_place s i) (get_or words (suc (output_at o i (next_place s i))) 0))) k')
+        let P : ℕ → Type 0 =
+        λ n. core_state o (words_proposed o words i n) (set views id
+        (proposed v i n (get_or words (suc (output_at o i n)) 0))) ≡ propose o s i in
+        subst P here (core_state-is o (words_proposed o words i (next_place s i))
+        (set views id (proposed v i (next_place s i) (get_or words (suc (output_at o i (next_place s i))) 0)))
+        k')
         ∙ ap (λ t. propose o t i) (sym is)
 
     outcome-now : answer_of o i (next_place s i) (position_held s (next_output o s i)) ≡ outcome_of o s i
     unfolding answer_of outcome_of
     outcome-now = refl
 
-    pub proposal-outcome : answer_of o i p (get_or words (suc (output_at o i p)) 0) ≡ outcome_of o (core_state o words views) i
+    pub proposal-outcome : answer_of o i p (get_or words (suc (output_at o i p)) 0)
+        ≡ outcome_of o (core_state o words views) i
     proposal-outcome =
         let f = k.hands.free id i p v at hand in
         let r = output_in_range o k.offers i (next_output o s i) (next_output-offered o k.offers s i f.left) in
@@ -63,9 +71,12 @@ module _ (o : Orders) (words : List ℕ) (views : List View) (k : IsLedger o wor
         ∙ ap (λ t. outcome_of o t i) (sym is)
 
   module _ (i : ℕ) where
-    pub taken-shows : i < ports o → IsUnclaimed words i → v.hand ≡ None → v.offers ≡ o → core_state o (words_claimed words i) (set views id (claim_taken v i)) ≡ core_state o words views
+    pub taken-shows : i < ports o → IsUnclaimed words i → v.hand ≡ None → v.offers ≡ o →
+        core_state o (words_claimed words i) (set views id (claim_taken v i)) ≡ core_state o words views
     unfolding claim-keeps
-    taken-shows r clear empty same_offers = as_before (words_claimed words i) (set views id (claim_taken v i)) (claim-keeps o words views k id i v at r clear empty same_offers) refl
+    taken-shows r clear empty same_offers =
+        as_before (words_claimed words i) (set views id (claim_taken v i))
+        (claim-keeps o words views k id i v at r clear empty same_offers) refl
 
     -- a claim that finds the input claimed leaves the words as they are
     words-same : IsClaimed words i → words_claimed words i ≡ words
@@ -76,7 +87,8 @@ module _ (o : Orders) (words : List ℕ) (views : List View) (k : IsLedger o wor
         let P : List ℕ → Type 0 = λ l. IsLedger o l (set views id (claim_refused v i)) in
         subst P (sym (words-same claimed)) (refuse-keeps o words views k id i v at claimed)
 
-    pub refused-shows : IsClaimed words i → core_state o (words_claimed words i) (set views id (claim_refused v i)) ≡ core_state o words views
+    pub refused-shows : IsClaimed words i →
+        core_state o (words_claimed words i) (set views id (claim_refused v i)) ≡ core_state o words views
     unfolding refuse-keeps
     refused-shows claimed =
         ap (λ l. core_state o l (set views id (claim_refused v i))) (words-same claimed)
@@ -92,4 +104,5 @@ module _ (o : Orders) (words : List ℕ) (views : List View) (k : IsLedger o wor
       core_state o words (set (set views id (joined v u)) other spent) ≡ core_state o words views
   unfolding join-keeps
   join-shows other u apart at_other empty empty_other =
-      as_before words (set (set views id (joined v u)) other spent) (join-keeps o words views k id v at other u apart at_other empty empty_other) refl
+      as_before words (set (set views id (joined v u)) other spent)
+      (join-keeps o words views k id v at other u apart at_other empty empty_other) refl

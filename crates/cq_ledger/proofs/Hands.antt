@@ -10,18 +10,22 @@ use Rattle.cq_prefs.specs.declared.outcome.Outcome.TheVariants.{Held, Displaced,
 use Rattle.cq_ledger.specs.Steps.{hand_at, hand_after, output_at, answer_of}
 use Rattle.cq_prefs.proofs.Places.{get_or-place_in, same_at_place, output_in_range, position_of-at, inputs_at_most}
 
-pub holder-holds : (o : Orders) → AreOffers o → (s : State) → IsSound o s → (j : ℕ) → j < ports o → position_held s j ≢ ports o → Holds o s j (holder o s j)
+pub holder-holds : (o : Orders) → AreOffers o → (s : State) → IsSound o s → (j : ℕ) → j < ports o →
+    position_held s j ≢ ports o → Holds o s j (holder o s j)
 holder-holds o v s w j r n = go (w.held_in j r)
   where
     go : (position_held s j ≡ ports o) ⊎ (position_held s j < length (inputs_of o j)) → Holds o s j (holder o s j)
     go (inl e) = absurd (n e)
     go (inr l) = let a = position_of-at o v j (position_held s j) l in (sym a, omega arith)
 
-pub hand_at-shows : (o : Orders) (k p i q : ℕ) → hand_at o k p ≡ Some (i, q) → (k ≡ i) × (p ≡ q) × (p < length (outputs_of o k))
+pub hand_at-shows : (o : Orders) (k p i q : ℕ) → hand_at o k p ≡ Some (i, q) →
+    (k ≡ i) × (p ≡ q) × (p < length (outputs_of o k))
 unfolding hand_at
 hand_at-shows o k p i q h = go (ltb p (length (outputs_of o k))) refl h
   where
-    go : (b : Bool) → ltb p (length (outputs_of o k)) ≡ b → cond {A = Option (ℕ × ℕ)} b (Some (k, p)) None ≡ Some (i, q) → (k ≡ i) × (p ≡ q) × (p < length (outputs_of o k))
+    go : (b : Bool) → ltb p (length (outputs_of o k)) ≡ b →
+        cond {A = Option (ℕ × ℕ)} b (Some (k, p)) None ≡ Some (i, q) →
+        (k ≡ i) × (p ≡ q) × (p < length (outputs_of o k))
     go true e f = let x : (k, p) ≡ (i, q) = cc in (ap (λ (t : ℕ × ℕ). t.0) x, ap (λ (t : ℕ × ℕ). t.1) x, ltb-true _ _ e)
     go false e f = absurd (let P : ⊥ = cc in P)
 
@@ -38,11 +42,14 @@ unfolding answer_of hand_after
 hand-held o i p found e = rw (eq-eqb _ _ e) refl
 
 pub hand-displaced : (o : Orders) (i p found : ℕ) → found ≢ ports o → position_of o (output_at o i p) i < found →
-    hand_found o i p found ≡ hand_at o (get_or (inputs_of o (output_at o i p)) found 0) (place_of o (get_or (inputs_of o (output_at o i p)) found 0) (output_at o i p) + 1)
+    hand_found o i p found
+    ≡ hand_at o (get_or (inputs_of o (output_at o i p)) found 0) (place_of o
+    (get_or (inputs_of o (output_at o i p)) found 0) (output_at o i p) + 1)
 unfolding answer_of hand_after
 hand-displaced o i p found n h = rw (ne_eqb _ _ n, lt-ltb _ _ h) refl
 
-pub hand-rejected : (o : Orders) (i p found : ℕ) → found ≢ ports o → found ≤ position_of o (output_at o i p) i → hand_found o i p found ≡ hand_at o i (p + 1)
+pub hand-rejected : (o : Orders) (i p found : ℕ) → found ≢ ports o → found ≤ position_of o (output_at o i p) i →
+    hand_found o i p found ≡ hand_at o i (p + 1)
 unfolding answer_of hand_after
 hand-rejected o i p found n h = rw (ne_eqb _ _ n, le-ltb _ _ h) refl
 
@@ -76,11 +83,13 @@ module _ (o : Orders) (v : AreOffers o) (s : State) (w : IsSound o s) (i : ℕ) 
           taken here (cases_lt (position_of o j i) (position_held s j))
         where
           taken : Holds o t j k → (position_of o j i < position_held s j) ⊎ (position_held s j ≤ position_of o j i) → ⊥
-          taken here (inl l) = n (same_at_place (inputs_of o j) k i (let a = st.held_asked in let b = here.0 in omega arith) here.1)
+          taken here (inl l) =
+              n (same_at_place (inputs_of o j) k i (let a = st.held_asked in let b = here.0 in omega arith) here.1)
           taken here (inr l) = g.unheld j (let a = st.held_asked in let b = here.0 in omega arith, here.1)
 
   -- the one that is displaced is free now, at the place after this output
-  pub displaced_free : (k : ℕ) → Holds o s j k → position_of o j i < position_held s j → place_of o k j + 1 < length (outputs_of o k) → (IsFree o t k) × (next_place t k ≡ place_of o k j + 1) × (k ≢ i)
+  pub displaced_free : (k : ℕ) → Holds o s j k → position_of o j i < position_held s j →
+      place_of o k j + 1 < length (outputs_of o k) → (IsFree o t k) × (next_place t k ≡ place_of o k j + 1) × (k ≢ i)
   displaced_free k h l left =
       let apart : k ≢ i = λ e. let x = ap (λ n. position_of o j n) e in let y = h.0 in absurd (omega arith) in
       let place_now : next_place t k ≡ place_of o k j + 1 = st.others_stay k apart ∙ w.last k j h in (
@@ -104,7 +113,8 @@ module _ (o : Orders) (v : AreOffers o) (s : State) (w : IsSound o s) (i : ℕ) 
           apart (same_at_place (inputs_of o j) k i (let a = st.held_asked in let b = here.0 in omega arith) here.1)
 
   -- the one that is refused is free still
-  pub refused_free : position_held s j ≤ position_of o j i → next_place s i + 1 < length (outputs_of o i) → (IsFree o t i) × (next_place t i ≡ next_place s i + 1)
+  pub refused_free : position_held s j ≤ position_of o j i → next_place s i + 1 < length (outputs_of o i) →
+      (IsFree o t i) × (next_place t i ≡ next_place s i + 1)
   refused_free l left =
       (record { left = let a = st.moved_on in omega arith; unheld = λ q h. at q h (cases_eq q j) }, st.moved_on)
     where
@@ -124,7 +134,8 @@ module _ (o : Orders) (v : AreOffers o) (s : State) (w : IsSound o s) (i : ℕ) 
   pub hand-shows : (k q : ℕ) → hand_found o i (next_place s i) (position_held s j) ≡ Some (k, q) → IsHand k q
   hand-shows k q h = go (cases_lt (position_of o j i) (position_held s j))
     where
-      held : position_of o j i < position_held s j → (position_held s j ≡ ports o) ⊎ (position_held s j ≢ ports o) → IsHand k q
+      held : position_of o j i < position_held s j → (position_held s j ≡ ports o) ⊎ (position_held s j ≢ ports o) →
+          IsHand k q
       held l (inl e) = absurd (let a = hand-held o i (next_place s i) (position_held s j) e in let P : ⊥ = cc in P)
       held l (inr n) =
           let h' = sym (hand-displaced o i (next_place s i) (position_held s j) n l) ∙ h in
@@ -133,7 +144,11 @@ module _ (o : Orders) (v : AreOffers o) (s : State) (w : IsSound o s) (i : ℕ) 
           let d = displaced_free (holder o s j) hold l a.2 in
           let P : ℕ → Type 0 = λ n. IsFree o t n in
           let Q : ℕ → Type 0 = λ n. Holds o s j n in
-          record { free = subst P a.0 d.0; place_is = sym (ap (λ n. next_place t n) a.0) ∙ d.1 ∙ a.1; who = inr (subst Q a.0 hold) }
+          record {
+            free = subst P a.0 d.0;
+            place_is = sym (ap (λ n. next_place t n) a.0) ∙ d.1 ∙ a.1;
+            who = inr (subst Q a.0 hold);
+          }
 
       go : (position_of o j i < position_held s j) ⊎ (position_held s j ≤ position_of o j i) → IsHand k q
       go (inl l) = held l (cases_eq (position_held s j) (ports o))
@@ -142,45 +157,78 @@ module _ (o : Orders) (v : AreOffers o) (s : State) (w : IsSound o s) (i : ℕ) 
           let a = hand_at-shows o i (next_place s i + 1) k q h' in
           let d = refused_free l a.2 in
           let P : ℕ → Type 0 = λ n. IsFree o t n in
-          record { free = subst P a.0 d.0; place_is = sym (ap (λ n. next_place t n) a.0) ∙ d.1 ∙ a.1; who = inl (sym a.0) }
+          record {
+            free = subst P a.0 d.0;
+            place_is = sym (ap (λ n. next_place t n) a.0) ∙ d.1 ∙ a.1;
+            who = inl (sym a.0);
+          }
 
   -- who is free now is in the new hand, or was free before
-  pub free-before : (k : ℕ) → IsFree o t k → (hand_found o i (next_place s i) (position_held s j) ≡ Some (k, next_place t k)) ⊎ ((k ≢ i) × IsFree o s k)
+  pub free-before : (k : ℕ) → IsFree o t k →
+      (hand_found o i (next_place s i) (position_held s j) ≡ Some (k, next_place t k)) ⊎ ((k ≢ i) × IsFree o s k)
   free-before k g = go (cases_eq k i) (cases_lt (position_of o j i) (position_held s j))
     where
-      go : (k ≡ i) ⊎ (k ≢ i) → (position_of o j i < position_held s j) ⊎ (position_held s j ≤ position_of o j i) → (hand_found o i (next_place s i) (position_held s j) ≡ Some (k, next_place t k)) ⊎ ((k ≢ i) × IsFree o s k)
+      go : (k ≡ i) ⊎ (k ≢ i) → (position_of o j i < position_held s j) ⊎ (position_held s j ≤ position_of o j i) →
+          (hand_found o i (next_place s i) (position_held s j) ≡ Some (k, next_place t k)) ⊎ ((k ≢ i) × IsFree o s k)
       go (inl e) (inl l) =
-          absurd (g.unheld j (rw e (let a = st.held_asked in let P : position_held t j ≡ position_of o j i = omega arith in P, v.shown i j st.offered)))
+          absurd (g.unheld j (rw e (
+            let a = st.held_asked in
+                let P : position_held t j ≡ position_of o j i = omega arith in
+                P,
+            v.shown i j st.offered,
+          )))
       go (inl e) (inr l) =
-          let left : next_place s i + 1 < length (outputs_of o i) = let a = g.left in let b = st.moved_on in let P : ℕ → Type 0 = λ n. next_place t n < length (outputs_of o n) in let c : next_place t i < length (outputs_of o i) = subst P e a in omega arith in
-          inl (rw e (hand-rejected o i (next_place s i) (position_held s j) (taken_if l) l ∙ hand_at-left o i (next_place s i + 1) left ∙ ap (λ n. Some (i, n)) (sym st.moved_on)))
-      go (inr n) (inr l) = inr (n, record { left = let a = st.others_stay k n in let b = g.left in omega arith; unheld = λ q h. g.unheld q (same q (cases_eq q j) ∙ h.0, h.1) })
+          let left : next_place s i + 1 < length (outputs_of o i) =
+          let a = g.left in
+          let b = st.moved_on in
+          let P : ℕ → Type 0 = λ n. next_place t n < length (outputs_of o n) in
+          let c : next_place t i < length (outputs_of o i) = subst P e a in
+          omega arith in
+          inl (rw e (hand-rejected o i (next_place s i) (position_held s j) (taken_if l) l
+          ∙ hand_at-left o i (next_place s i + 1) left ∙ ap (λ n. Some (i, n)) (sym st.moved_on)))
+      go (inr n) (inr l) =
+          inr (
+            n,
+            record {
+              left = let a = st.others_stay k n in let b = g.left in omega arith;
+              unheld = λ q h. g.unheld q (same q (cases_eq q j) ∙ h.0, h.1);
+            },
+          )
         where
           same : (q : ℕ) → (q ≡ j) ⊎ (q ≢ j) → position_held t q ≡ position_held s q
           same q (inl e) = rw e (let a = st.held_asked in omega arith)
           same q (inr m) = st.held_other q m
-      go (inr n) (inl l) = decide (cases_eq (position_held s j) (position_of o j k)) (cases_lt (position_of o j k) (length (inputs_of o j)))
+      go (inr n) (inl l) =
+          decide (cases_eq (position_held s j) (position_of o j k))
+          (cases_lt (position_of o j k) (length (inputs_of o j)))
         where
           left : next_place s k < length (outputs_of o k)
           left = let a = st.others_stay k n in let b = g.left in omega arith
 
-          elsewhere : (Holds o s j k → ⊥) → (hand_found o i (next_place s i) (position_held s j) ≡ Some (k, next_place t k)) ⊎ ((k ≢ i) × IsFree o s k)
+          elsewhere : (Holds o s j k → ⊥) →
+              (hand_found o i (next_place s i) (position_held s j) ≡ Some (k, next_place t k))
+              ⊎ ((k ≢ i) × IsFree o s k)
           elsewhere apart = inr (n, record { left = left; unheld = λ q h. at q h (cases_eq q j) })
             where
               at : (q : ℕ) → Holds o s q k → (q ≡ j) ⊎ (q ≢ j) → ⊥
               at q h (inl e) = apart (let P : ℕ → Type 0 = λ m. Holds o s m k in subst P e h)
               at q h (inr m) = g.unheld q (st.held_other q m ∙ h.0, h.1)
 
-          decide : (position_held s j ≡ position_of o j k) ⊎ (position_held s j ≢ position_of o j k) → (position_of o j k < length (inputs_of o j)) ⊎ (length (inputs_of o j) ≤ position_of o j k) → (hand_found o i (next_place s i) (position_held s j) ≡ Some (k, next_place t k)) ⊎ ((k ≢ i) × IsFree o s k)
+          decide : (position_held s j ≡ position_of o j k) ⊎ (position_held s j ≢ position_of o j k) →
+              (position_of o j k < length (inputs_of o j)) ⊎ (length (inputs_of o j) ≤ position_of o j k) →
+              (hand_found o i (next_place s i) (position_held s j) ≡ Some (k, next_place t k))
+              ⊎ ((k ≢ i) × IsFree o s k)
           decide (inr m) x = elsewhere (λ h. m h.0)
           decide (inl e) (inr x) = elsewhere (λ h. let a = h.1 in absurd (omega arith))
           decide (inl e) (inl x) =
               let somebody : position_held s j ≢ ports o = λ z. let a = inputs_at_most o v j in absurd (omega arith) in
-              let who : holder o s j ≡ k = ap (λ m. get_or (inputs_of o j) m 0) e ∙ get_or-place_in (inputs_of o j) k x in
+              let who : holder o s j ≡ k =
+              ap (λ m. get_or (inputs_of o j) m 0) e ∙ get_or-place_in (inputs_of o j) k x in
               let now : next_place t k ≡ place_of o k j + 1 = st.others_stay k n ∙ w.last k j (e, x) in
               let H : ℕ → Type 0 = λ m. hand_at o m (place_of o m j + 1) ≡ Some (k, next_place t k) in
               inl (hand-displaced o i (next_place s i) (position_held s j) somebody l
-              ∙ subst H (sym who) (hand_at-left o k (place_of o k j + 1) (let a = g.left in omega arith) ∙ ap (λ m. Some (k, m)) (sym now)))
+              ∙ subst H (sym who) (hand_at-left o k (place_of o k j + 1) (let a = g.left in omega arith)
+              ∙ ap (λ m. Some (k, m)) (sym now)))
 
 -- a hand stands within its input's order
 pub hand_at-placed : (o : Orders) (i p : ℕ) (x : ℕ × ℕ) → hand_at o i p ≡ Some x → x.1 < length (outputs_of o x.0)
@@ -189,7 +237,8 @@ hand_at-placed o i p x h =
     let P : ℕ → Type 0 = λ n. p < length (outputs_of o n) in
     let b : p < length (outputs_of o x.0) = subst P a.0 a.2 in let c = a.1 in omega arith
 
-pub hand_after-placed : (o : Orders) (i p : ℕ) (answer : Outcome) (x : ℕ × ℕ) → hand_after o i p answer ≡ Some x → x.1 < length (outputs_of o x.0)
+pub hand_after-placed : (o : Orders) (i p : ℕ) (answer : Outcome) (x : ℕ × ℕ) → hand_after o i p answer ≡ Some x →
+    x.1 < length (outputs_of o x.0)
 unfolding hand_after
 hand_after-placed o i p Held x h = absurd (let P : ⊥ = cc in P)
 hand_after-placed o i p (Displaced k) x h = hand_at-placed o k (place_of o k (output_at o i p) + 1) x h

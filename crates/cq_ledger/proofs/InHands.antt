@@ -1,4 +1,5 @@
--- The place that is found for an input in the hands is that of a hand that has it, and where none is found no hand does.
+-- The place that is found for an input in the hands is that of a hand that has it, and where none is found no hand
+-- does.
 use Rattle.std.proofs.Common.{ℕ, zero, suc, ◌≡◌, List, [], ◌∷◌, Option, Some, None, refl, sym, ◌∙◌, ap}
 use mathlib.Core.Option.{some-injective, some-ne-none}
 use Rattle.std.specs.Prelude.{◌==◌}
@@ -19,20 +20,24 @@ in_hand-some (Some x) i p e =
 in_hand-has : (i p : ℕ) (h : Option (ℕ × ℕ)) → h ≡ Some (i, p) → place_in_hand h i ≡ Some p
 in_hand-has i p h e =
     ap (λ x. place_in_hand x i) e
-    ∙ cond_both (i == i) (Some p) None (λ r. r ≡ Some p) (λ _. refl) (λ not_here. absurd (true≢false (sym (eq-eqb i i refl) ∙ not_here)))
+    ∙ cond_both (i == i) (Some p) None (λ r. r ≡ Some p) (λ _. refl) (λ not_here. absurd
+    (true≢false (sym (eq-eqb i i refl) ∙ not_here)))
 
 -- ## All hands
 
-pub in_hands-some : (views : List View) (i p : ℕ) → place_in_hands views i ≡ Some p → (a : ℕ) × (v : View) × Sits views a v × (v.hand ≡ Some (i, p))
+pub in_hands-some : (views : List View) (i p : ℕ) → place_in_hands views i ≡ Some p →
+    (a : ℕ) × (v : View) × Sits views a v × (v.hand ≡ Some (i, p))
 in_hands-some [] i p e = absurd (let P : ⊥ = cc in P)
 in_hands-some (v ∷ views) i p e = go (in_hands-some views i p) (place_in_hand v.hand i) refl e
   where
-    go : (place_in_hands views i ≡ Some p → (a : ℕ) × (u : View) × Sits views a u × (u.hand ≡ Some (i, p))) → (h : Option ℕ) → place_in_hand v.hand i ≡ h → first_place h (place_in_hands views i) ≡ Some p →
+    go : (place_in_hands views i ≡ Some p → (a : ℕ) × (u : View) × Sits views a u × (u.hand ≡ Some (i, p))) →
+        (h : Option ℕ) → place_in_hand v.hand i ≡ h → first_place h (place_in_hands views i) ≡ Some p →
         (a : ℕ) × (u : View) × Sits (v ∷ views) a u × (u.hand ≡ Some (i, p))
     go later None f r = let x = later r in (suc x.0, x.1, x.2, x.3)
     go later (Some q) f r = (zero, v, refl, in_hand-some v.hand i p (f ∙ r))
 
-not_first : (v : View) (views : List View) (i : ℕ) → place_in_hands (v ∷ views) i ≡ None → (p : ℕ) → v.hand ≡ Some (i, p) → ⊥
+not_first : (v : View) (views : List View) (i : ℕ) → place_in_hands (v ∷ views) i ≡ None → (p : ℕ) →
+    v.hand ≡ Some (i, p) → ⊥
 not_first v views i e p h =
     let found = sym (ap (λ x. first_place x (place_in_hands views i)) (in_hand-has i p v.hand h)) ∙ e in
     absurd (let P : ⊥ = cc in P)
@@ -41,10 +46,12 @@ none_later : (h q : Option ℕ) → first_place h q ≡ None → q ≡ None
 none_later None q e = e
 none_later (Some p) q e = absurd (let P : ⊥ = cc in P)
 
-none_at : (views : List View) (i : ℕ) → place_in_hands views i ≡ None → (a : ℕ) (u : View) (p : ℕ) → Sits views a u → u.hand ≡ Some (i, p) → ⊥
+none_at : (views : List View) (i : ℕ) → place_in_hands views i ≡ None → (a : ℕ) (u : View) (p : ℕ) → Sits views a u →
+    u.hand ≡ Some (i, p) → ⊥
 none_at [] i e a u p at h = some-ne-none u (sym at)
 none_at (v ∷ views) i e zero u p at h = not_first v views i e p (ap (λ y. y.hand) (some-injective v u at) ∙ h)
-none_at (v ∷ views) i e (suc a) u p at h = none_at views i (none_later (place_in_hand v.hand i) (place_in_hands views i) e) a u p at h
+none_at (v ∷ views) i e (suc a) u p at h =
+    none_at views i (none_later (place_in_hand v.hand i) (place_in_hands views i) e) a u p at h
 
 pub in_hands-none : (views : List View) (i : ℕ) → place_in_hands views i ≡ None → IsInAHand views i → ⊥
 in_hands-none views i e x = none_at views i e x.0 x.1 x.2 x.3 x.4

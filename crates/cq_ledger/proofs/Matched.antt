@@ -80,7 +80,9 @@ module _ (o : Orders) (v : AreOffers o) (s : State) (w : IsSound o s) (m : Partn
             let same : n ≡ q = cc in
             let P : ℕ → Type 0 = λ z. Holds o s z k in
             rw d (omega arith, subst P same hold)
-        forth x q e (inr d) = let a = r.there x q (sym (get_or-set_other m k x (Some n) None d) ∙ e) in (let b = a.0 in omega arith, a.1)
+        forth x q e (inr d) =
+            let a = r.there x q (sym (get_or-set_other m k x (Some n) None d) ∙ e) in
+            (let b = a.0 in omega arith, a.1)
 
         fro : (x q : ℕ) → q < n + 1 → Holds o s q x → (q ≡ n) ⊎ (q ≢ n) → partner_of (set m k (Some n)) x ≡ Some q
         fro x q l h (inl d) =
@@ -93,23 +95,37 @@ module _ (o : Orders) (v : AreOffers o) (s : State) (w : IsSound o s) (m : Partn
             let apart : x ≢ k = λ e. (let a = ap (λ z. partner_of m z) e in let b = k_free.1 in let P : ⊥ = cc in P) in
             get_or-set_other m k x (Some n) None apart ∙ before
 
-pub reads_all : (o : Orders) → AreOffers o → (s : State) → IsSound o s → (m : Partners) → IsRead o s m (ports o) → m ≡ matching_of o s
+pub reads_all : (o : Orders) → AreOffers o → (s : State) → IsSound o s → (m : Partners) → IsRead o s m (ports o) →
+    m ≡ matching_of o s
 reads_all o v s w m r =
-    matching_of-is o v s w m r.size (λ k q e. (r.there k q e).1) (λ k q h. r.back k q (output_in_range o v k q (v.shown_back k q h.1)) h)
+    matching_of-is o v s w m r.size (λ k q e. (r.there k q e).1) (λ k q h. r.back k q
+    (output_in_range o v k q (v.shown_back k q h.1)) h)
 
-pub word-read : (o : Orders) (items : List ℕ) (s : State) → Shows o items s → (n x : ℕ) → n < ports o → get_elem? items (n + 1) ≡ some x → x ≡ position_held s n
-word-read o items s agree n x range e = sym (at_known items (n + 1) x 0 e).1 ∙ ap (λ m. get_or items m 0) (add-one n) ∙ agree n range
+pub word-read : (o : Orders) (items : List ℕ) (s : State) → Shows o items s → (n x : ℕ) → n < ports o →
+    get_elem? items (n + 1) ≡ some x → x ≡ position_held s n
+word-read o items s agree n x range e =
+    sym (at_known items (n + 1) x 0 e).1 ∙ ap (λ m. get_or items m 0) (add-one n) ∙ agree n range
 
-pub holder-read : (o : Orders) (s : State) → IsSound o s → (n x : ℕ) → n < ports o → x ≡ position_held s n → x ≢ ports o → (order : List ℕ) → order ≡ inputs_of o n → (x < length order) × (get_or order x 0 ≡ holder o s n)
-holder-read o s w n x range e apart order same = (go (w.held_in n range), ap (λ l. get_or l x 0) same ∙ ap (λ y. get_or (inputs_of o n) y 0) e)
+pub holder-read : (o : Orders) (s : State) → IsSound o s → (n x : ℕ) → n < ports o → x ≡ position_held s n →
+    x ≢ ports o → (order : List ℕ) → order ≡ inputs_of o n → (x < length order) × (get_or order x 0 ≡ holder o s n)
+holder-read o s w n x range e apart order same =
+    (go (w.held_in n range), ap (λ l. get_or l x 0) same ∙ ap (λ y. get_or (inputs_of o n) y 0) e)
   where
     go : (position_held s n ≡ ports o) ⊎ (position_held s n < length (inputs_of o n)) → x < length order
     go (inl p) = absurd (apart (e ∙ p))
     go (inr l) = let a = ap length same in omega arith
 
 -- the same at an input that was read
-pub read_free : (o : Orders) (v : AreOffers o) (s : State) (w : IsSound o s) (m : Partners) (n : ℕ) (r : IsRead o s m n) → n < ports o → position_held s n ≢ ports o → (input : ℕ) → input ≡ holder o s n → (input < length m) × (partner_of m input ≡ None)
-read_free o v s w m n r range apart input e = let P : ℕ → Type 0 = λ x. (x < length m) × (partner_of m x ≡ None) in subst P (sym e) (k_free o v s w m n r range apart)
+pub read_free : (o : Orders) (v : AreOffers o) (s : State) (w : IsSound o s) (m : Partners) (n : ℕ)
+    (r : IsRead o s m n) → n < ports o → position_held s n ≢ ports o → (input : ℕ) → input ≡ holder o s n →
+    (input < length m) × (partner_of m input ≡ None)
+read_free o v s w m n r range apart input e =
+    let P : ℕ → Type 0 = λ x. (x < length m) × (partner_of m x ≡ None) in
+    subst P (sym e) (k_free o v s w m n r range apart)
 
-pub read_more : (o : Orders) (v : AreOffers o) (s : State) (w : IsSound o s) (m : Partners) (n : ℕ) (r : IsRead o s m n) → n < ports o → position_held s n ≢ ports o → (input : ℕ) → input ≡ holder o s n → IsRead o s (set m input (Some n)) (n + 1)
-read_more o v s w m n r range apart input e = let P : ℕ → Type 0 = λ x. IsRead o s (set m x (Some n)) (n + 1) in subst P (sym e) (reads_more o v s w m n r range apart)
+pub read_more : (o : Orders) (v : AreOffers o) (s : State) (w : IsSound o s) (m : Partners) (n : ℕ)
+    (r : IsRead o s m n) → n < ports o → position_held s n ≢ ports o → (input : ℕ) → input ≡ holder o s n →
+    IsRead o s (set m input (Some n)) (n + 1)
+read_more o v s w m n r range apart input e =
+    let P : ℕ → Type 0 = λ x. IsRead o s (set m x (Some n)) (n + 1) in
+    subst P (sym e) (reads_more o v s w m n r range apart)

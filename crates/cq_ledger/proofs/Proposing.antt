@@ -1,6 +1,6 @@
--- A proposal keeps the rule, and is one event. The word of the output that is asked becomes the position that it holds
--- after the event. The new hand has the input that was displaced or rejected, if that is free: no other seat has it, since
--- it was held, or in this hand.
+-- A proposal keeps the rule, and is one event. The word of the output that is asked becomes the position that it
+-- holds after the event. The new hand has the input that was displaced or rejected, if that is free: no other seat
+-- has it, since it was held, or in this hand.
 use Rattle.std.proofs.Common.{ℕ, suc, ◌≡◌, ◌≢◌, ◌⊎◌, inl, inr, ◌<◌, min, List, ◌∷◌, length, get_or, set, Some, None, refl, sym, ◌∙◌, ap, arith, subst}
 use Rattle.std.specs.List.{sum_by}
 use Rattle.std.proofs.lemmas.Bool.{cases_eq}
@@ -18,7 +18,8 @@ use Rattle.cq_ledger.specs.declared.view.View.{View}
 use Rattle.cq_ledger.proofs.Hands.{hand_found, still_free, IsHand, hand-shows, free-before}
 use Rattle.cq_ledger.proofs.Views.{at_known, same_at, bit-lt}
 
-module _ (o : Orders) (words : List ℕ) (views : List View) (k : IsLedger o words views) (id i : ℕ) (v : View) (at_id : Sits views id v)
+module _ (o : Orders) (words : List ℕ) (views : List View) (k : IsLedger o words views) (id i : ℕ) (v : View)
+    (at_id : Sits views id v)
     (in_hand : v.hand ≡ Some (i, next_place (state_after o k.events) i)) (same_offers : v.offers ≡ o) where
   abbrev s : State
   s = state_after o k.events
@@ -54,7 +55,9 @@ module _ (o : Orders) (words : List ℕ) (views : List View) (k : IsLedger o wor
   views_now = set views id view_now
 
   pub hand_is : view_now.hand ≡ hand_found o i (next_place s i) (position_held s j)
-  hand_is = ap (λ x. hand_found x i (next_place s i) (get_or words (suc j) 0)) same_offers ∙ ap (λ n. hand_found o i (next_place s i) n) found_is
+  hand_is =
+      ap (λ x. hand_found x i (next_place s i) (get_or words (suc j) 0)) same_offers
+      ∙ ap (λ n. hand_found o i (next_place s i) n) found_is
 
   pub id_in_range : id < length views
   id_in_range = (at_known views id v v at_id).0
@@ -76,7 +79,13 @@ module _ (o : Orders) (words : List ℕ) (views : List View) (k : IsLedger o wor
   was b u a = go (at_set views id b view_now u a)
     where
       go : ((b ≡ id) × (view_now ≡ u)) ⊎ ((b ≢ id) × Sits views b u) → Was b u
-      go (inl x) = record { old = v; at_old = let P : ℕ → Type 0 = λ n. Sits views n v in subst P (sym x.0) at_id; claims = ap (λ y. y.claims) x.1; seen = ap (λ y. y.seen) x.1 }
+      go (inl x) =
+          record {
+            old = v;
+            at_old = let P : ℕ → Type 0 = λ n. Sits views n v in subst P (sym x.0) at_id;
+            claims = ap (λ y. y.claims) x.1;
+            seen = ap (λ y. y.seen) x.1;
+          }
       go (inr x) = record { old = u; at_old = x.1; claims = refl; seen = refl }
 
   pub still_set : (q : ℕ) → bit (claim_word words) q ≡ 1 → bit (claim_word words_now) q ≡ 1
@@ -90,16 +99,21 @@ module _ (o : Orders) (words : List ℕ) (views : List View) (k : IsLedger o wor
     where
       go : (q ≡ j) ⊎ (q ≢ j) → get_or words_now (suc q) 0 ≡ position_held t q
       go (inl e) =
-          let a : get_or words_now (suc j) 0 ≡ min (get_or words (suc j) 0) (position_of o j i) = get_or-set_same words (suc j) _ 0 (let x = k.size in let y = j_in_range in omega arith) in
+          let a : get_or words_now (suc j) 0 ≡ min (get_or words (suc j) 0) (position_of o j i) =
+          get_or-set_same words (suc j) _ 0 (let x = k.size in let y = j_in_range in omega arith) in
           let b = found_is in
           let c = st.held_asked in
           rw e (omega arith)
-      go (inr n) = let m : suc q ≢ suc j = λ e. n (omega arith) in get_or-set_other words (suc j) (suc q) _ 0 m ∙ k.positions q r ∙ sym (st.held_other q n)
+      go (inr n) =
+          let m : suc q ≢ suc j = λ e. n (omega arith) in
+          get_or-set_other words (suc j) (suc q) _ 0 m ∙ k.positions q r ∙ sym (st.held_other q n)
 
-  pub by_one_now : (q : ℕ) → bit (claim_word words_now) q ≡ 1 → (a : ℕ) × (u : View) × Sits views_now a u × (bit u.claims q ≡ 1)
+  pub by_one_now : (q : ℕ) → bit (claim_word words_now) q ≡ 1 →
+      (a : ℕ) × (u : View) × Sits views_now a u × (bit u.claims q ≡ 1)
   by_one_now q h = go (k.claims.by_one q (was_set q 1 h))
     where
-      go : (a : ℕ) × (u : View) × Sits views a u × (bit u.claims q ≡ 1) → (a : ℕ) × (u : View) × Sits views_now a u × (bit u.claims q ≡ 1)
+      go : (a : ℕ) × (u : View) × Sits views a u × (bit u.claims q ≡ 1) →
+          (a : ℕ) × (u : View) × Sits views_now a u × (bit u.claims q ≡ 1)
       go x = at (cases_eq x.0 id)
         where
           at : (x.0 ≡ id) ⊎ (x.0 ≢ id) → (a : ℕ) × (u : View) × Sits views_now a u × (bit u.claims q ≡ 1)
@@ -118,35 +132,46 @@ module _ (o : Orders) (words : List ℕ) (views : List View) (k : IsLedger o wor
   other_hand b q p u n a h e =
       n (k.hands.apart b id i p (next_place s i) u v a at_id (h ∙ ap (λ m. Some (m, p)) e) in_hand)
 
-  pub hand_free_now : (b q p : ℕ) (u : View) → Sits views_now b u → u.hand ≡ Some (q, p) → (IsFree o t q) × (next_place t q ≡ p) × (bit (claim_word words_now) q ≡ 1)
+  pub hand_free_now : (b q p : ℕ) (u : View) → Sits views_now b u → u.hand ≡ Some (q, p) →
+      (IsFree o t q) × (next_place t q ≡ p) × (bit (claim_word words_now) q ≡ 1)
   hand_free_now b q p u a h = go (at_set views id b view_now u a)
     where
       claimed : (q ≡ i) ⊎ Holds o s j q → bit (claim_word words_now) q ≡ 1
       claimed (inl e) = rw e (still_set i (k.hands.claimed id i (next_place s i) v at_id in_hand))
-      claimed (inr hold) = still_set q (let a = w.last q j hold in let b = bit-lt (claim_word words) q in set_unless (cases_eq (bit (claim_word words) q) 0))
+      claimed (inr hold) =
+          still_set q (let a = w.last q j hold in
+          let b = bit-lt (claim_word words) q in
+          set_unless (cases_eq (bit (claim_word words) q) 0))
         where
           set_unless : (bit (claim_word words) q ≡ 0) ⊎ (bit (claim_word words) q ≢ 0) → bit (claim_word words) q ≡ 1
           set_unless (inl z) = absurd (let a = w.last q j hold in let b = k.unclaimed q z in omega arith)
           set_unless (inr z) = let b = bit-lt (claim_word words) q in omega arith
 
-      go : ((b ≡ id) × (view_now ≡ u)) ⊎ ((b ≢ id) × Sits views b u) → (IsFree o t q) × (next_place t q ≡ p) × (bit (claim_word words_now) q ≡ 1)
+      go : ((b ≡ id) × (view_now ≡ u)) ⊎ ((b ≢ id) × Sits views b u) →
+          (IsFree o t q) × (next_place t q ≡ p) × (bit (claim_word words_now) q ≡ 1)
       go (inl x) = let m = my_hand u q p x.1 h in (m.free, m.place_is, claimed m.who)
       go (inr x) =
-          let n = other_hand b q p u x.0 x.1 h in
-          (still_free o k.offers s w i f q n (k.hands.free b q p u x.1 h), st.others_stay q n ∙ k.hands.place b q p u x.1 h, still_set q (k.hands.claimed b q p u x.1 h))
+          let n = other_hand b q p u x.0 x.1 h in (
+            still_free o k.offers s w i f q n (k.hands.free b q p u x.1 h),
+            st.others_stay q n ∙ k.hands.place b q p u x.1 h,
+            still_set q (k.hands.claimed b q p u x.1 h),
+          )
 
-  pub hands_apart_now : (b c q p r : ℕ) (x y : View) → Sits views_now b x → Sits views_now c y → x.hand ≡ Some (q, p) → y.hand ≡ Some (q, r) → b ≡ c
+  pub hands_apart_now : (b c q p r : ℕ) (x y : View) → Sits views_now b x → Sits views_now c y →
+      x.hand ≡ Some (q, p) → y.hand ≡ Some (q, r) → b ≡ c
   hands_apart_now b c q p r x y ax ay hx hy = go (at_set views id b view_now x ax) (at_set views id c view_now y ay)
     where
       -- my hand has no input of another hand
-      never : (b q p r : ℕ) (x y : View) → b ≢ id → Sits views b x → x.hand ≡ Some (q, p) → view_now ≡ y → y.hand ≡ Some (q, r) → ⊥
+      never : (b q p r : ℕ) (x y : View) → b ≢ id → Sits views b x → x.hand ≡ Some (q, p) → view_now ≡ y →
+          y.hand ≡ Some (q, r) → ⊥
       never b q p r x y n a h e g = who (my_hand y q r e g).who
         where
           who : (q ≡ i) ⊎ Holds o s j q → ⊥
           who (inl m) = other_hand b q p x n a h m
           who (inr hold) = (k.hands.free b q p x a h).unheld j hold
 
-      go : ((b ≡ id) × (view_now ≡ x)) ⊎ ((b ≢ id) × Sits views b x) → ((c ≡ id) × (view_now ≡ y)) ⊎ ((c ≢ id) × Sits views c y) → b ≡ c
+      go : ((b ≡ id) × (view_now ≡ x)) ⊎ ((b ≢ id) × Sits views b x) →
+          ((c ≡ id) × (view_now ≡ y)) ⊎ ((c ≢ id) × Sits views c y) → b ≡ c
       go (inl m) (inl n) = m.0 ∙ sym n.0
       go (inl m) (inr n) = absurd (never c q r p y x n.0 n.1 hy m.1 hx)
       go (inr m) (inl n) = absurd (never b q p r x y m.0 m.1 hx n.1 hy)
@@ -168,7 +193,8 @@ module _ (o : Orders) (words : List ℕ) (views : List View) (k : IsLedger o wor
               absurd (n (sym (ap (λ (y : ℕ × ℕ). y.0) pair)))
           at (inr m) = inr (x.0, x.1, x.2, set_else views id x.0 view_now m ∙ x.3, x.4)
 
-      go : (hand_found o i (next_place s i) (position_held s j) ≡ Some (q, next_place t q)) ⊎ ((q ≢ i) × IsFree o s q) → Waits words_now views_now q
+      go : (hand_found o i (next_place s i) (position_held s j) ≡ Some (q, next_place t q))
+          ⊎ ((q ≢ i) × IsFree o s q) → Waits words_now views_now q
       go (inl h) = inr (id, view_now, next_place t q, here, hand_is ∙ h)
       go (inr x) = old x.0 (k.hands.undropped q x.1)
 
@@ -182,13 +208,18 @@ module _ (o : Orders) (words : List ℕ) (views : List View) (k : IsLedger o wor
         size = length-set words (suc j) _ ∙ k.size;
         positions = shown_now;
         claims = record {
-          claimed = λ b q u a c. let x = was b u a in still_set q (k.claims.claimed b q x.old x.at_old (ap (λ n. bit n q) x.claims ∙ c));
+          claimed =
+              λ b q u a c. let x = was b u a in
+              still_set q (k.claims.claimed b q x.old x.at_old (ap (λ n. bit n q) x.claims ∙ c));
           by_one = by_one_now;
           apart = λ b c q x y ax ay hx hy.
               let m = was b x ax in let n = was c y ay in
-              k.claims.apart b c q m.old n.old m.at_old n.at_old (ap (λ z. bit z q) m.claims ∙ hx) (ap (λ z. bit z q) n.claims ∙ hy);
+              k.claims.apart b c q m.old n.old m.at_old n.at_old (ap (λ z. bit z q) m.claims ∙ hx)
+              (ap (λ z. bit z q) n.claims ∙ hy);
           in_range = λ q h. k.claims.in_range q (was_set q 1 h);
-          seen = λ b q u a c. let x = was b u a in still_set q (k.claims.seen b q x.old x.at_old (ap (λ n. bit n q) x.seen ∙ c));
+          seen =
+              λ b q u a c. let x = was b u a in
+              still_set q (k.claims.seen b q x.old x.at_old (ap (λ n. bit n q) x.seen ∙ c));
         };
         hands = record {
           free = λ b q p u a h. (hand_free_now b q p u a h).0;
@@ -203,7 +234,11 @@ module _ (o : Orders) (words : List ℕ) (views : List View) (k : IsLedger o wor
       }
     where
       fresh_now : (q : ℕ) → bit (claim_word words) q ≡ 0 → (q ≡ i) ⊎ (q ≢ i) → next_place t q ≡ 0
-      fresh_now q z (inl e) = absurd (let a = k.hands.claimed id i (next_place s i) v at_id in_hand in let b : bit (claim_word words) i ≡ 0 = (let P : ℕ → Type 0 = λ n. bit (claim_word words) n ≡ 0 in subst P e z) in omega arith)
+      fresh_now q z (inl e) =
+          absurd (let a = k.hands.claimed id i (next_place s i) v at_id in_hand in
+          let b : bit (claim_word words) i
+          ≡ 0 = (let P : ℕ → Type 0 = λ n. bit (claim_word words) n ≡ 0 in subst P e z) in
+          omega arith)
       fresh_now q z (inr n) = st.others_stay q n ∙ k.unclaimed q z
 
       made_now : sum_by (λ (y : View). y.made) views_now ≡ length (i ∷ k.events)
@@ -212,6 +247,11 @@ module _ (o : Orders) (words : List ℕ) (views : List View) (k : IsLedger o wor
           let b : (get_or views id v).made ≡ v.made = ap (λ y. y.made) (at_known views id v v at_id).1 in
           let c = k.made in omega arith
 
-      idle_now : (b : ℕ) (u : View) → u.claims ≡ 0 → ((b ≡ id) × (view_now ≡ u)) ⊎ ((b ≢ id) × Sits views b u) → (u.hand ≡ None) × (u.made ≡ 0)
-      idle_now b u c (inl x) = absurd (let a = (k.idle id v at_id (ap (λ y. y.claims) x.1 ∙ c)).0 in let h = in_hand in let P : ⊥ = cc in P)
+      idle_now : (b : ℕ) (u : View) → u.claims ≡ 0 → ((b ≡ id) × (view_now ≡ u)) ⊎ ((b ≢ id) × Sits views b u) →
+          (u.hand ≡ None) × (u.made ≡ 0)
+      idle_now b u c (inl x) =
+          absurd (let a = (k.idle id v at_id (ap (λ y. y.claims) x.1 ∙ c)).0 in
+          let h = in_hand in
+          let P : ⊥ = cc in
+          P)
       idle_now b u c (inr x) = k.idle b u x.1 c

@@ -10,7 +10,8 @@ use Rattle.cq_ledger.specs.Steps.{claim_refused}
 use Rattle.cq_ledger.specs.Views.{Waits, Sits, bit, claim_word}
 use Rattle.cq_ledger.proofs.Views.{at_known, same_at, bit-or_other}
 
-module _ (o : Orders) (words : List ℕ) (views : List View) (k : IsLedger o words views) (id i : ℕ) (v : View) (at_id : Sits views id v) (found : bit (claim_word words) i ≡ 1) where
+module _ (o : Orders) (words : List ℕ) (views : List View) (k : IsLedger o words views) (id i : ℕ) (v : View)
+    (at_id : Sits views id v) (found : bit (claim_word words) i ≡ 1) where
   abbrev view_now : View
   view_now = claim_refused v i
 
@@ -48,9 +49,18 @@ module _ (o : Orders) (words : List ℕ) (views : List View) (k : IsLedger o wor
         made = ap (λ y. y.made) x.1;
         seen = λ q h. seen_now q (cases_eq q i) (ap (λ (y : View). bit y.seen q) x.1 ∙ h);
       }
-      go (inr x) = record { old = u; at_old = x.1; claims = refl; hand = refl; made = refl; seen = λ q h. k.claims.seen b q u x.1 h }
+      go (inr x) =
+          record {
+            old = u;
+            at_old = x.1;
+            claims = refl;
+            hand = refl;
+            made = refl;
+            seen = λ q h. k.claims.seen b q u x.1 h;
+          }
 
-  pub now : (a : ℕ) (u : View) → Sits views a u → (x : View) × Sits views_now a x × (x.claims ≡ u.claims) × (x.hand ≡ u.hand)
+  pub now : (a : ℕ) (u : View) → Sits views a u →
+      (x : View) × Sits views_now a x × (x.claims ≡ u.claims) × (x.hand ≡ u.hand)
   now a u at = go (cases_eq a id)
     where
       go : (a ≡ id) ⊎ (a ≢ id) → (x : View) × Sits views_now a x × (x.claims ≡ u.claims) × (x.hand ≡ u.hand)
@@ -71,11 +81,16 @@ module _ (o : Orders) (words : List ℕ) (views : List View) (k : IsLedger o wor
         size = k.size;
         positions = k.positions;
         claims = record {
-          claimed = λ b q u a h. let x = was b u a in k.claims.claimed b q x.old x.at_old (ap (λ n. bit n q) x.claims ∙ h);
-          by_one = λ q h. let x = k.claims.by_one q h in let y = now x.0 x.1 x.2 in (x.0, y.0, y.1, ap (λ n. bit n q) y.2 ∙ x.3);
+          claimed =
+              λ b q u a h. let x = was b u a in k.claims.claimed b q x.old x.at_old (ap (λ n. bit n q) x.claims ∙ h);
+          by_one =
+              λ q h. let x = k.claims.by_one q h in
+              let y = now x.0 x.1 x.2 in
+              (x.0, y.0, y.1, ap (λ n. bit n q) y.2 ∙ x.3);
           apart = λ b c q x y ax ay hx hy.
               let m = was b x ax in let n = was c y ay in
-              k.claims.apart b c q m.old n.old m.at_old n.at_old (ap (λ z. bit z q) m.claims ∙ hx) (ap (λ z. bit z q) n.claims ∙ hy);
+              k.claims.apart b c q m.old n.old m.at_old n.at_old (ap (λ z. bit z q) m.claims ∙ hx)
+              (ap (λ z. bit z q) n.claims ∙ hy);
           in_range = k.claims.in_range;
           seen = λ b q u a h. (was b u a).seen q h;
         };
@@ -93,7 +108,10 @@ module _ (o : Orders) (words : List ℕ) (views : List View) (k : IsLedger o wor
             let a = sum_by-set (λ (y : View). y.made) views id view_now v id_in in
             let b : (get_or views id v).made ≡ v.made = ap (λ y. y.made) (at_known views id v v at_id).1 in
             let c = k.made in omega arith;
-        idle = λ b u a h. let x = was b u a in let y = k.idle b x.old x.at_old (x.claims ∙ h) in (sym x.hand ∙ y.0, sym x.made ∙ y.1);
+        idle =
+            λ b u a h. let x = was b u a in
+            let y = k.idle b x.old x.at_old (x.claims ∙ h) in
+            (sym x.hand ∙ y.0, sym x.made ∙ y.1);
       }
     where
       undropped_now : (q : ℕ) → Waits words views q → Waits words views_now q

@@ -19,7 +19,8 @@ pub only : (o : Orders) (x : View) (b : ℕ) (u : View) → Sits (x ∷ []) b u 
 only o x zero u e = mathlib.Core.Option.some-injective x u e
 only o x (suc b) u e = absurd (mathlib.Core.Option.some-ne-none u (sym e))
 
-unfoldable pub start-keeps : (o : Orders) → AreOffers o → ports o ≤ 64 → IsLedger o (0 ∷ replicate (ports o) (ports o)) (blank o ∷ [])
+unfoldable pub start-keeps : (o : Orders) → AreOffers o → ports o ≤ 64 →
+    IsLedger o (0 ∷ replicate (ports o) (ports o)) (blank o ∷ [])
 start-keeps o v few =
     record {
       offers = v;
@@ -29,11 +30,20 @@ start-keeps o v few =
       size = ap suc (length-replicate (ports o) (ports o));
       positions = λ j l. get_or-replicate (ports o) j (ports o) 0 l ∙ sym (held-start o j l);
       claims = record {
-        claimed = λ b q u a h. absurd (let e = ap (λ (y : View). bit y.claims q) (only o (blank o) b u a) in let z = bit-zero q in omega arith);
+        claimed =
+            λ b q u a h. absurd (let e = ap (λ (y : View). bit y.claims q) (only o (blank o) b u a) in
+            let z = bit-zero q in
+            omega arith);
         by_one = λ q h. absurd (let z = bit-zero q in omega arith);
-        apart = λ b c q x y ax ay hx hy. absurd (let e = ap (λ (y : View). bit y.claims q) (only o (blank o) b x ax) in let z = bit-zero q in omega arith);
+        apart =
+            λ b c q x y ax ay hx hy. absurd (let e = ap (λ (y : View). bit y.claims q) (only o (blank o) b x ax) in
+            let z = bit-zero q in
+            omega arith);
         in_range = λ q h. absurd (let z = bit-zero q in omega arith);
-        seen = λ b q u a h. absurd (let e = ap (λ (y : View). bit y.seen q) (only o (blank o) b u a) in let z = bit-zero q in omega arith);
+        seen =
+            λ b q u a h. absurd (let e = ap (λ (y : View). bit y.seen q) (only o (blank o) b u a) in
+            let z = bit-zero q in
+            omega arith);
       };
       hands = record {
         free = λ b q p u a h. absurd (no b q p u a h);
@@ -44,11 +54,16 @@ start-keeps o v few =
       };
       unclaimed = λ q h. next_place-start o q;
       made = refl;
-      idle = λ b u a h. let e = only o (blank o) b u a in (sym (ap (λ (y : View). y.hand) e), sym (ap (λ (y : View). y.made) e));
+      idle =
+          λ b u a h. let e = only o (blank o) b u a in
+          (sym (ap (λ (y : View). y.hand) e), sym (ap (λ (y : View). y.made) e));
     }
   where
     no : (b q p : ℕ) (u : View) → Sits (blank o ∷ []) b u → u.hand ≡ Some (q, p) → ⊥
-    no b q p u a h = let e : (blank o).hand ≡ u.hand = ap (λ (y : View). y.hand) (only o (blank o) b u a) in let P : ⊥ = cc (e, h) in P
+    no b q p u a h =
+        let e : (blank o).hand ≡ u.hand = ap (λ (y : View). y.hand) (only o (blank o) b u a) in
+        let P : ⊥ = cc (e, h) in
+        P
 
 module _ (o : Orders) (words : List ℕ) (views : List View) (k : IsLedger o words views) (other : Orders) where
   abbrev longer : List View
@@ -95,8 +110,11 @@ module _ (o : Orders) (words : List ℕ) (views : List View) (k : IsLedger o wor
         positions = k.positions;
         claims = record {
           claimed = λ b q u a h. k.claims.claimed b q u (with_claim b q u a h) h;
-          by_one = λ q h. let x = k.claims.by_one q h in (x.0, x.1, at_longer views (blank other ∷ []) x.0 x.1 x.2, x.3);
-          apart = λ b c q x y ax ay hx hy. k.claims.apart b c q x y (with_claim b q x ax hx) (with_claim c q y ay hy) hx hy;
+          by_one =
+              λ q h. let x = k.claims.by_one q h in (x.0, x.1, at_longer views (blank other ∷ []) x.0 x.1 x.2, x.3);
+          apart =
+              λ b c q x y ax ay hx hy. k.claims.apart b c q x y (with_claim b q x ax hx) (with_claim c q y ay hy) hx
+              hy;
           in_range = k.claims.in_range;
           seen = λ b q u a h. k.claims.seen b q u (with_seen b q u a h) h;
         };
@@ -104,7 +122,9 @@ module _ (o : Orders) (words : List ℕ) (views : List View) (k : IsLedger o wor
           free = λ b q p u a h. k.hands.free b q p u (with_hand b q p u a h) h;
           place = λ b q p u a h. k.hands.place b q p u (with_hand b q p u a h) h;
           claimed = λ b q p u a h. k.hands.claimed b q p u (with_hand b q p u a h) h;
-          apart = λ b c q p r x y ax ay hx hy. k.hands.apart b c q p r x y (with_hand b q p x ax hx) (with_hand c q r y ay hy) hx hy;
+          apart =
+              λ b c q p r x y ax ay hx hy. k.hands.apart b c q p r x y (with_hand b q p x ax hx)
+              (with_hand c q r y ay hy) hx hy;
           undropped = λ q g. undropped_now q (k.hands.undropped q g);
         };
         unclaimed = k.unclaimed;
@@ -121,12 +141,14 @@ module _ (o : Orders) (words : List ℕ) (views : List View) (k : IsLedger o wor
       idle_now b u (inr e) h = (sym (ap (λ (y : View). y.hand) e), sym (ap (λ (y : View). y.made) e))
 
 -- a split: the old view stays
-pub split-keeps : (o : Orders) (words : List ℕ) (views : List View) (k : IsLedger o words views) (id : ℕ) (v : View) → Sits views id v → IsLedger o words (set views id v ++ blank v.offers ∷ [])
+pub split-keeps : (o : Orders) (words : List ℕ) (views : List View) (k : IsLedger o words views) (id : ℕ) (v : View) →
+    Sits views id v → IsLedger o words (set views id v ++ blank v.offers ∷ [])
 split-keeps o words views k id v at =
     let P : List View → Type 0 = λ l. IsLedger o words (l ++ blank v.offers ∷ []) in
     subst P (sym (set_again views id v at)) (longer-keeps o words views k v.offers)
 
-module _ (o : Orders) (words : List ℕ) (views : List View) (k : IsLedger o words views) (id : ℕ) (v : View) (at_id : Sits views id v) (gone : ℕ) (w : View) (apart : gone ≢ id) (at_gone : Sits views gone w)
+module _ (o : Orders) (words : List ℕ) (views : List View) (k : IsLedger o words views) (id : ℕ) (v : View)
+    (at_id : Sits views id v) (gone : ℕ) (w : View) (apart : gone ≢ id) (at_gone : Sits views gone w)
     (empty : v.hand ≡ None) (empty_gone : w.hand ≡ None) where
   abbrev half : List View
   half = set views id (joined v w)
@@ -161,11 +183,13 @@ module _ (o : Orders) (words : List ℕ) (views : List View) (k : IsLedger o wor
   unfolding Kind
   kind b u a = outer (at_set half gone b spent u a)
     where
-      inner : b ≢ gone → ((b ≡ id) × (joined v w ≡ u)) ⊎ ((b ≢ id) × Sits views b u) → (spent ≡ u) ⊎ (((b ≡ id) × (joined v w ≡ u)) ⊎ ((b ≢ gone) × (b ≢ id) × Sits views b u))
+      inner : b ≢ gone → ((b ≡ id) × (joined v w ≡ u)) ⊎ ((b ≢ id) × Sits views b u) →
+          (spent ≡ u) ⊎ (((b ≡ id) × (joined v w ≡ u)) ⊎ ((b ≢ gone) × (b ≢ id) × Sits views b u))
       inner n (inl x) = inr (inl x)
       inner n (inr x) = inr (inr (n, x.0, x.1))
 
-      outer : ((b ≡ gone) × (spent ≡ u)) ⊎ ((b ≢ gone) × Sits half b u) → (spent ≡ u) ⊎ (((b ≡ id) × (joined v w ≡ u)) ⊎ ((b ≢ gone) × (b ≢ id) × Sits views b u))
+      outer : ((b ≡ gone) × (spent ≡ u)) ⊎ ((b ≢ gone) × Sits half b u) →
+          (spent ≡ u) ⊎ (((b ≡ id) × (joined v w ≡ u)) ⊎ ((b ≢ gone) × (b ≢ id) × Sits views b u))
       outer (inl x) = inl x.1
       outer (inr x) = inner x.0 (at_set views id b (joined v w) u x.1)
 
@@ -198,8 +222,10 @@ module _ (o : Orders) (words : List ℕ) (views : List View) (k : IsLedger o wor
 
   pub with_hand' : (b q p : ℕ) (u : View) → Kind b u → u.hand ≡ Some (q, p) → Sits views b u
   unfolding Kind
-  with_hand' b q p u (inl e) h = absurd (let f : spent.hand ≡ u.hand = ap (λ (y : View). y.hand) e in let P : ⊥ = cc (f, h) in P)
-  with_hand' b q p u (inr (inl x)) h = absurd (let f : (joined v w).hand ≡ u.hand = ap (λ (y : View). y.hand) x.1 in let P : ⊥ = cc (f, h) in P)
+  with_hand' b q p u (inl e) h =
+      absurd (let f : spent.hand ≡ u.hand = ap (λ (y : View). y.hand) e in let P : ⊥ = cc (f, h) in P)
+  with_hand' b q p u (inr (inl x)) h =
+      absurd (let f : (joined v w).hand ≡ u.hand = ap (λ (y : View). y.hand) x.1 in let P : ⊥ = cc (f, h) in P)
   with_hand' b q p u (inr (inr x)) h = x.2
 
   pub still_there : (a : ℕ) (u : View) → a ≢ id → a ≢ gone → Sits views a u → Sits whole a u
@@ -231,7 +257,9 @@ module _ (o : Orders) (words : List ℕ) (views : List View) (k : IsLedger o wor
           free = λ b q p u a h. k.hands.free b q p u (with_hand' b q p u (kind b u a) h) h;
           place = λ b q p u a h. k.hands.place b q p u (with_hand' b q p u (kind b u a) h) h;
           claimed = λ b q p u a h. k.hands.claimed b q p u (with_hand' b q p u (kind b u a) h) h;
-          apart = λ b c q p r x y ax ay hx hy. k.hands.apart b c q p r x y (with_hand' b q p x (kind b x ax) hx) (with_hand' c q r y (kind c y ay) hy) hx hy;
+          apart =
+              λ b c q p r x y ax ay hx hy. k.hands.apart b c q p r x y (with_hand' b q p x (kind b x ax) hx)
+              (with_hand' c q r y (kind c y ay) hy) hx hy;
           undropped = λ q g. undropped_now q (k.hands.undropped q g);
         };
         unclaimed = k.unclaimed;
@@ -239,10 +267,12 @@ module _ (o : Orders) (words : List ℕ) (views : List View) (k : IsLedger o wor
         idle = λ b u a h. idle_now b u (kind b u a) h;
       }
     where
-      by_one_now : (q : ℕ) → (a : ℕ) × (u : View) × Sits views a u × (bit u.claims q ≡ 1) → (a : ℕ) × (u : View) × Sits whole a u × (bit u.claims q ≡ 1)
+      by_one_now : (q : ℕ) → (a : ℕ) × (u : View) × Sits views a u × (bit u.claims q ≡ 1) →
+          (a : ℕ) × (u : View) × Sits whole a u × (bit u.claims q ≡ 1)
       by_one_now q x = go (cases_eq x.0 id) (cases_eq x.0 gone)
         where
-          go : (x.0 ≡ id) ⊎ (x.0 ≢ id) → (x.0 ≡ gone) ⊎ (x.0 ≢ gone) → (a : ℕ) × (u : View) × Sits whole a u × (bit u.claims q ≡ 1)
+          go : (x.0 ≡ id) ⊎ (x.0 ≢ id) → (x.0 ≡ gone) ⊎ (x.0 ≢ gone) →
+              (a : ℕ) × (u : View) × Sits whole a u × (bit u.claims q ≡ 1)
           go (inl e) f =
               let P : ℕ → Type 0 = λ m. Sits views m x.1 in
               let same : v ≡ x.1 = same_at views id v x.1 at_id (subst P e x.2) in
@@ -266,7 +296,8 @@ module _ (o : Orders) (words : List ℕ) (views : List View) (k : IsLedger o wor
           not_gone : x.0 ≢ gone
           not_gone e =
               let P : ℕ → Type 0 = λ m. Sits views m x.1 in
-              let h : w.hand ≡ Some (q, x.2) = ap (λ y. y.hand) (same_at views gone w x.1 at_gone (subst P e x.3)) ∙ x.4 in
+              let h : w.hand ≡ Some (q, x.2) =
+              ap (λ y. y.hand) (same_at views gone w x.1 at_gone (subst P e x.3)) ∙ x.4 in
               let Q : ⊥ = cc (h, empty_gone) in Q
 
       made_now : sum_by (λ (y : View). y.made) whole ≡ length k.events
@@ -274,7 +305,8 @@ module _ (o : Orders) (words : List ℕ) (views : List View) (k : IsLedger o wor
           let a = sum_by-set (λ (y : View). y.made) views id (joined v w) v id_in in
           let b : (get_or views id v).made ≡ v.made = ap (λ y. y.made) (at_known views id v v at_id).1 in
           let c = sum_by-set (λ (y : View). y.made) half gone spent w gone_in in
-          let d : (get_or half gone w).made ≡ w.made = ap (λ y. y.made) (at_known half gone w w (set_else views id gone (joined v w) apart ∙ at_gone)).1 in
+          let d : (get_or half gone w).made ≡ w.made =
+          ap (λ y. y.made) (at_known half gone w w (set_else views id gone (joined v w) apart ∙ at_gone)).1 in
           let e = k.made in omega arith
 
       idle_now : (b : ℕ) (u : View) → Kind b u → u.claims ≡ 0 → (u.hand ≡ None) × (u.made ≡ 0)
@@ -282,8 +314,14 @@ module _ (o : Orders) (words : List ℕ) (views : List View) (k : IsLedger o wor
       idle_now b u (inr (inr x)) h = k.idle b u x.2 h
       idle_now b u (inr (inl x)) h =
           let none : bit_or v.claims w.claims ≡ 0 = ap (λ (y : View). y.claims) x.1 ∙ h in
-          let left : v.claims ≡ 0 = no_bits v.claims (λ q e. let z = bit-zero q in let f = sym (bit-left v.claims w.claims q e) ∙ ap (λ n. bit n q) none in absurd (omega arith)) in
-          let right : w.claims ≡ 0 = no_bits w.claims (λ q e. let z = bit-zero q in let f = sym (bit-right v.claims w.claims q e) ∙ ap (λ n. bit n q) none in absurd (omega arith)) in
+          let left : v.claims ≡ 0 =
+          no_bits v.claims (λ q e. let z = bit-zero q in
+          let f = sym (bit-left v.claims w.claims q e) ∙ ap (λ n. bit n q) none in
+          absurd (omega arith)) in
+          let right : w.claims ≡ 0 =
+          no_bits w.claims (λ q e. let z = bit-zero q in
+          let f = sym (bit-right v.claims w.claims q e) ∙ ap (λ n. bit n q) none in
+          absurd (omega arith)) in
           let a = (k.idle id v at_id left).1 in
           let b = (k.idle gone w at_gone right).1 in
           let c : v.made + w.made ≡ u.made = ap (λ (y : View). y.made) x.1 in

@@ -9,7 +9,8 @@ use Rattle.std.proofs.lemmas.Nat.Bits.{bit_at_or, bit_at-pow_same, bit_at-pow_ot
 use Rattle.cq_ledger.specs.Views.{bit}
 
 -- a view that stands at a place of the list
-pub at_known : {A : Type 0} → (xs : List A) (i : ℕ) (a d : A) → get_elem? xs i ≡ some a → (i < length xs) × (get_or xs i d ≡ a)
+pub at_known : {A : Type 0} → (xs : List A) (i : ℕ) (a d : A) → get_elem? xs i ≡ some a →
+    (i < length xs) × (get_or xs i d ≡ a)
 at_known [] i a d e = absurd (some-ne-none a (sym e))
 at_known (x ∷ xs) zero a d e = (omega arith, some-injective x a e)
 at_known (x ∷ xs) (suc i) a d e = let r = at_known xs i a d e in (let z = r.0 in omega arith, r.1)

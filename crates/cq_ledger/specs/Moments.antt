@@ -40,8 +40,10 @@ pub record ShowsProposals (o : Orders) (words : List ℕ) (views : List View) : 
   pub word : (j : ℕ) → j < ports o → IsWord o j (slice_index words (suc j))
   pub one_place : (i : ℕ) → IsInOnePlace o words views (core_state o words views) i
   -- a hand's place is where its input proposes next, and within the input's order
-  pub hand : (a i p : ℕ) (v : View) → Sits views a v → v.hand ≡ Some (i, p) → (next_place (core_state o words views) i ≡ p) × (p < length (outputs_of o i))
+  pub hand : (a i p : ℕ) (v : View) → Sits views a v → v.hand ≡ Some (i, p) →
+      (next_place (core_state o words views) i ≡ p) × (p < length (outputs_of o i))
   -- an output that an input has asked holds it, or has the word of one that it prefers
-  pub asked : (i j : ℕ) → j < ports o → place_of o i j < next_place (core_state o words views) i → slice_index words (suc j) ≤ position_of o j i
+  pub asked : (i j : ℕ) → j < ports o → place_of o i j < next_place (core_state o words views) i →
+      slice_index words (suc j) ≤ position_of o j i
   -- no output holds one that it prefers to its partner in the matching that is best for the inputs
   pub not_passed : (i j : ℕ) → partner_of (best o) i ≡ Some j → position_of o j i ≤ slice_index words (suc j)

@@ -25,11 +25,13 @@ pub record AreHands (o : Orders) (s : State) (words : List ℕ) (views : List Vi
   pub place : (a i p : ℕ) (v : View) → Sits views a v → v.hand ≡ Some (i, p) → next_place s i ≡ p
   pub claimed : (a i p : ℕ) (v : View) → Sits views a v → v.hand ≡ Some (i, p) → IsClaimed words i
   -- it is in one hand
-  pub apart : (a b i p q : ℕ) (v w : View) → Sits views a v → Sits views b w → v.hand ≡ Some (i, p) → w.hand ≡ Some (i, q) → a ≡ b
+  pub apart : (a b i p q : ℕ) (v w : View) → Sits views a v → Sits views b w → v.hand ≡ Some (i, p) →
+      w.hand ≡ Some (i, q) → a ≡ b
   -- no free input is dropped
   pub undropped : (i : ℕ) → IsFree o s i → Waits words views i
 
--- the rule: the words and the hands show a state that proposals of free inputs reach, and the seats made those proposals
+-- the rule: the words and the hands show a state that proposals of free inputs reach, and the seats made those
+-- proposals
 pub record IsLedger (o : Orders) (words : List ℕ) (views : List View) : Type 0 where
   pub offers : AreOffers o
   pub few : ports o ≤ 64

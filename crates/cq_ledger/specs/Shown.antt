@@ -25,8 +25,8 @@ place_in_hands (v ∷ views) i = first_place (place_in_hand v.hand i) (place_in_
 abbrev pub output_of : Orders → List ℕ → ℕ → Option ℕ
 output_of o words i = keeper o (record { positions = drop 1 words; places = [] }) i
 
--- where input i proposes next, by the hand that has it, the output that holds it, and the claim bit: at its place in the
--- hand; or after the output; or first, where it is unclaimed; or else nowhere
+-- where input i proposes next, by the hand that has it, the output that holds it, and the claim bit: at its place in
+-- the hand; or after the output; or first, where it is unclaimed; or else nowhere
 abbrev pub next_by : Orders → ℕ → Option ℕ → Option ℕ → ℕ → ℕ
 next_by o i (Some p) output claimed = p
 next_by o i None (Some j) claimed = place_of o i j + 1
@@ -38,4 +38,5 @@ next_shown o words views i = next_by o i (place_in_hands views i) (output_of o w
 
 -- the state: the outputs' words are the positions, and each input proposes next where this says
 unfoldable pub core_state : Orders → List ℕ → List View → State
-core_state o words views = record { positions = drop 1 words; places = map (next_shown o words views) (range_with_len 0 (ports o)) }
+core_state o words views =
+    record { positions = drop 1 words; places = map (next_shown o words views) (range_with_len 0 (ports o)) }

@@ -73,14 +73,16 @@ output_at o i p = slice_index (outputs_of o i) p
 -- the words after input i proposed at place p: the output's word is the lesser of itself and the input's position
 abbrev pub words_proposed : Orders → List ℕ → ℕ → ℕ → List ℕ
 words_proposed o words i p =
-    slice_set words (suc (output_at o i p)) (min (slice_index words (suc (output_at o i p))) (position_of o (output_at o i p) i))
+    slice_set words (suc (output_at o i p)) (min (slice_index words (suc (output_at o i p)))
+    (position_of o (output_at o i p) i))
 
--- what the proposal comes to where the word was this one: the output held nobody, it held one that it prefers less, or it
--- keeps one that it prefers more
+-- what the proposal comes to where the word was this one: the output held nobody, it held one that it prefers less,
+-- or it keeps one that it prefers more
 unfoldable pub answer_of : Orders → ℕ → ℕ → ℕ → Outcome
 answer_of o i p found =
     if found == ports o then Held
-    else if nat_lt (position_of o (output_at o i p) i) found then Displaced (slice_index (inputs_of o (output_at o i p)) found)
+    else if nat_lt (position_of o (output_at o i p) i) found then Displaced
+    (slice_index (inputs_of o (output_at o i p)) found)
     else Rejected
 
 -- the hand after it: empty; or with the displaced input, at the place after this output; or with the same input, at its

@@ -1,5 +1,5 @@
--- What the words of a ledger and the views of its seats say. Word 0 has a bit for each input that is claimed. Word j + 1
--- is the least position that has proposed to output j, or the number of ports where nobody has.
+-- What the words of a ledger and the views of its seats say. Word 0 has a bit for each input that is claimed. Word j
+-- + 1 is the least position that has proposed to output j, or the number of ports where nobody has.
 use Rattle.std.specs.Prelude.{ℕ, ◌≡◌, ◌⊎◌, List, Some, slice_index}
 use Rattle.std.specs.Int.{bit_at}
 use mathlib.Core.Option.{some}

@@ -1,6 +1,6 @@
--- Blocks that are filled: each but the last has 16 places at least. This is told of each block by its own length, so it
--- stays where a block gets no shorter, where one of 16 places or more comes in, and where any block goes. There are never
--- many more blocks than a sixteenth of the places.
+-- Blocks that are filled: each but the last has 16 places at least. This is told of each block by its own length, so
+-- it stays where a block gets no shorter, where one of 16 places or more comes in, and where any block goes. There
+-- are never many more blocks than a sixteenth of the places.
 use Rattle.std.proofs.Common.{◌≡◌, ℕ, zero, suc, ◌+◌, ◌*◌, ◌<◌, ◌≤◌, List, [], ◌∷◌, ◌++◌, length, get_or, set, drop, take, ap, ◌∙◌, subst, arith, length-append, length-set, length-take, length-drop}
 use Rattle.std.specs.Prelude.{insert, remove}
 use Rattle.std.specs.List.{concat}

@@ -1,6 +1,6 @@
--- The place of the first cell with an id, looked for in one queue after another. The cells for the outputs so far that
--- have the id first stand somewhere, and those for the next output first stand somewhere: the first of both stands at the
--- lesser of the two places. In the end these are the cells for all outputs.
+-- The place of the first cell with an id, looked for in one queue after another. The cells for the outputs so far
+-- that have the id first stand somewhere, and those for the next output first stand somewhere: the first of both
+-- stands at the lesser of the two places. In the end these are the cells for all outputs.
 use Rattle.std.proofs.Common.{◌≡◌, ℕ, ◌+◌, ◌<◌, ◌≤◌, ltb, min, Bool, true, false, cond, List, [], ◌∷◌, length, Option, Some, None, refl, sym, ap, ◌∙◌, ⊎_elim, arith}
 use Rattle.std.specs.Prelude.{◌&&◌, position}
 use Rattle.std.specs.List.{AllByRecursion, position_or_len}

@@ -1,5 +1,6 @@
--- A queue of nodes that are linked, with one node more or less: it is linked again, and its cells are those of the queue
--- with the cell put in, or without its head. The other queues keep their nodes, for these have cells for other outputs.
+-- A queue of nodes that are linked, with one node more or less: it is linked again, and its cells are those of the
+-- queue with the cell put in, or without its head. The other queues keep their nodes, for these have cells for other
+-- outputs.
 use Rattle.std.proofs.Common.{◌≡◌, ◌≢◌, ℕ, zero, suc, ◌+◌, ◌<◌, ◌≤◌, eqb, true, cond, List, [], ◌∷◌, length, None, Some, refl, sym, ap, ◌∙◌, subst, arith}
 use Rattle.std.specs.Prelude.{insert, slice_get}
 use Rattle.std.specs.Option.{option_map}

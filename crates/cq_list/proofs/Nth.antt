@@ -1,6 +1,6 @@
--- The place of the item number k of those that pass a test. It is read one item at a time: an item that fails is passed
--- over, the first that passes is the answer for k = 0, and else leaves one less to look for. So it is the place at which
--- a second test is first met among those that pass the first.
+-- The place of the item number k of those that pass a test. It is read one item at a time: an item that fails is
+-- passed over, the first that passes is the answer for k = 0, and else leaves one less to look for. So it is the
+-- place at which a second test is first met among those that pass the first.
 use Rattle.std.proofs.Common.{◌≡◌, ◌≢◌, ℕ, ◌+◌, ◌-◌, ◌<◌, ◌≤◌, eqb, Bool, true, false, cond, List, [], ◌∷◌, ◌++◌, length, get_or, drop, map, refl, sym, ap, ◌∙◌, ⊎_elim, arith}
 use Rattle.std.specs.Prelude.{◌&&◌, filter}
 use Rattle.std.specs.List.{position_or_len}

@@ -1,5 +1,5 @@
--- A cell put into a queue whose cells rise in their keys: it goes in at the place of the first less urgent cell, and the
--- queue still rises, since a cell that has another key and is not before it is after it.
+-- A cell put into a queue whose cells rise in their keys: it goes in at the place of the first less urgent cell, and
+-- the queue still rises, since a cell that has another key and is not before it is after it.
 use Rattle.std.proofs.Common.{◌≡◌, ℕ, zero, suc, ◌+◌, Bool, true, false, not, List, [], ◌∷◌, length, Some, refl, sym, ap, ◌∙◌, subst, ⊎_elim, arith}
 use Rattle.std.specs.Prelude.{insert, slice_get}
 use Rattle.std.specs.List.{AllByRecursion, position_or_len}

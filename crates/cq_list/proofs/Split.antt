@@ -1,9 +1,9 @@
--- A list split into the sequence of its outputs and a queue for each output. Each queue is the list filtered, so what is
--- done to the list is seen in the queues through the filter.
+-- A list split into the sequence of its outputs and a queue for each output. Each queue is the list filtered, so what
+-- is done to the list is seen in the queues through the filter.
 --
 -- First, the split determines the list: the first place's output tells in which queue the first cell is the head, and
--- without that head the queues are those of the rest. So whoever keeps a split keeps the list, and the other lemmas need
--- not speak of the merged list at all.
+-- without that head the queues are those of the rest. So whoever keeps a split keeps the list, and the other lemmas
+-- need not speak of the merged list at all.
 --
 -- Then what arrives: a cell put into the list at a place goes into its own queue behind those of its cells that stand
 -- ahead of the place. Where the list keeps the order of its outputs' cells the queue is rising, and there is but one

@@ -1,5 +1,5 @@
--- A walk along a queue, node by node. Where it has come the rest of the chain begins at the place that it looks at, none
--- of the cells behind it is less urgent, and it knows the place of the last of them.
+-- A walk along a queue, node by node. Where it has come the rest of the chain begins at the place that it looks at,
+-- none of the cells behind it is less urgent, and it knows the place of the last of them.
 use Rattle.std.proofs.Common.{◌≡◌, ℕ, zero, suc, ◌+◌, ◌-◌, ◌<◌, ◌≤◌, Bool, true, false, List, [], ◌∷◌, length, drop, Some, sym, ap, ◌∙◌, arith, length-drop}
 use Rattle.std.specs.Prelude.{slice_get}
 use Rattle.std.specs.Option.{option_map}

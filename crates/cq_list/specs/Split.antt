@@ -11,8 +11,8 @@ Queues = ℕ → List Queued
 abbrev pub without_head : ℕ → Queues → Queues
 without_head j queues i = if j == i then drop 1 (queues i) else queues i
 
--- the list for which they stand, where the k-th place of output j stands for the k-th cell of j's queue: the first place
--- stands for the head of the queue of its output, and the other places for what is left without this head
+-- the list for which they stand, where the k-th place of output j stands for the k-th cell of j's queue: the first
+-- place stands for the head of the queue of its output, and the other places for what is left without this head
 abbrev pub merged : List ℕ → Queues → List Queued
 merged [] queues = []
 merged (j ∷ places) queues = take 1 (queues j) ++ merged places (without_head j queues)

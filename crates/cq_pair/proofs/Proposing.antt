@@ -1,5 +1,6 @@
--- The steps of one proposal put together: the input goes on to its next place, whom the output held is parted, and the
--- output takes the input. What is then shown is the state after the event, with its pairs, its free inputs and its count.
+-- The steps of one proposal put together: the input goes on to its next place, whom the output held is parted, and
+-- the output takes the input. What is then shown is the state after the event, with its pairs, its free inputs and
+-- its count.
 use Rattle.std.proofs.Common.{ℕ, ◌≡◌, ◌≢◌, ◌+◌, ◌*◌, ◌<◌, ◌≤◌, ◌∷◌, mul-le-mul, true, false, eqb, ltb, List, length, get_or, set, Some, None, refl, sym, ◌∙◌, ap, arith, subst}
 use Rattle.std.proofs.lemmas.Bool.{lt-ltb, le-ltb, eq-eqb, ne_eqb}
 use Rattle.std.proofs.lemmas.List.{get_or-set_other, length-set}
@@ -35,10 +36,12 @@ pub output_known : (o : Orders) (c : Progress) (i j p h : ℕ) → IsAsk o c i j
 output_known o c i j p h a = rw a.output (next_known o c i j p h a)
 
 -- the output does not hold the input already
-taken_less : (o : Orders) (c : Progress) (i j p h : ℕ) → IsAsk o c i j p h → p ≤ h → position_of o (next_output o c.state i) i < position_held c.state (next_output o c.state i)
+taken_less : (o : Orders) (c : Progress) (i j p h : ℕ) → IsAsk o c i j p h → p ≤ h →
+    position_of o (next_output o c.state i) i < position_held c.state (next_output o c.state i)
 taken_less o c i j p h a l =
     let shown = a.offers.shown i (next_output o c.state i) (asked_offered o a.offers c i a.free) in
-    let apart : position_held c.state (next_output o c.state i) ≢ position_of o (next_output o c.state i) i = λ e. a.free.unheld (next_output o c.state i) (e, shown) in
+    let apart : position_held c.state (next_output o c.state i) ≢ position_of o (next_output o c.state i) i =
+    λ e. a.free.unheld (next_output o c.state i) (e, shown) in
     let x = a.position in let y = a.held in omega arith
 
 -- there is one proposal more to make
@@ -54,28 +57,44 @@ state_from : (s t : State) → s.positions ≡ t.positions → s.places ≡ t.pl
 state_from s t e f = λ k. record { positions = e k; places = f k }
 
 -- after the input went on
-pub sizes : (o : Orders) (c : Progress) (i j p h : ℕ) → IsAsk o c i j p h → (d : Progress) → MovesOn o c d i → (length d.state.places ≡ ports o) × (length d.matching ≡ ports o)
+pub sizes : (o : Orders) (c : Progress) (i j p h : ℕ) → IsAsk o c i j p h → (d : Progress) → MovesOn o c d i →
+    (length d.state.places ≡ ports o) × (length d.matching ≡ ports o)
 sizes o c i j p h a d m = (
-  let e = ap length m.places in let f = length-set c.state.places i (next_place c.state i + 1) in let g = (sound o c i j p h a).inputs in omega arith,
+  let e =
+      ap length m.places in
+      let f =
+      length-set c.state.places i (next_place c.state i + 1) in
+      let g = (sound o c i j p h a).inputs in omega arith,
   ap length (m.matching ∙ a.reached.matching) ∙ (matching-of o a.offers c.state).size,
 )
 
 -- ## The output keeps whom it holds
 
-pub rejected : (o : Orders) (c : Progress) (i j p h : ℕ) → IsAsk o c i j p h → h < p → (d : Progress) → MovesOn o c d i → Proposed o c d i Rejected
+pub rejected : (o : Orders) (c : Progress) (i j p h : ℕ) → IsAsk o c i j p h → h < p → (d : Progress) →
+    MovesOn o c d i → Proposed o c d i Rejected
 unfolding outcome_of
 rejected o c i j p h a less d m =
     let x = a.position in
     let y = a.held in
     let w = sound o c i j p h a in
-    let more : position_held c.state (next_output o c.state i) ≤ position_of o (next_output o c.state i) i = omega arith in
+    let more : position_held c.state (next_output o c.state i) ≤ position_of o (next_output o c.state i) i =
+    omega arith in
     let most = inputs_at_most o a.offers (next_output o c.state i) in
     let shown = a.offers.shown i (next_output o c.state i) (asked_offered o a.offers c i a.free) in
-    let somebody : eqb (position_held c.state (next_output o c.state i)) (ports o) ≡ false = ne_eqb _ _ (λ e. omega arith) in
-    let keeps : ltb (position_of o (next_output o c.state i) i) (position_held c.state (next_output o c.state i)) ≡ false = le-ltb _ _ more in
-    let event : d.state ≡ propose o c.state i = state_from d.state (record { positions = c.state.positions; places = set c.state.places i (next_place c.state i + 1) }) m.positions m.places ∙ sym (state-refused o c.state i more) in
+    let somebody : eqb (position_held c.state (next_output o c.state i)) (ports o) ≡ false =
+    ne_eqb _ _ (λ e. omega arith) in
+    let keeps : ltb (position_of o (next_output o c.state i) i) (position_held c.state (next_output o c.state i))
+    ≡ false =
+    le-ltb _ _ more in
+    let event : d.state ≡ propose o c.state i =
+    state_from d.state
+    (record { positions = c.state.positions; places = set c.state.places i (next_place c.state i + 1) })
+    m.positions m.places ∙ sym (state-refused o c.state i more) in
     record {
-      reached = reached-step o a.offers c d i a.reached a.free event (m.matching ∙ a.reached.matching ∙ matching-refused o a.offers c.state w i a.free more) m.waiting m.made;
+      reached =
+          reached-step o a.offers c d i a.reached a.free event
+          (m.matching ∙ a.reached.matching ∙ matching-refused o a.offers c.state w i a.free more) m.waiting
+          m.made;
       event = event;
       made = m.made;
       answer = rw (somebody, keeps) refl;
@@ -83,9 +102,14 @@ rejected o c i j p h a less d m =
 
 -- ## The output takes the input
 
-taken : (o : Orders) (c : Progress) (i j p h : ℕ) → IsAsk o c i j p h → p ≤ h → (d e f : Progress) → MovesOn o c d i → e.state ≡ d.state → Takes o e f i j p → f.state ≡ propose o c.state i
+taken : (o : Orders) (c : Progress) (i j p h : ℕ) → IsAsk o c i j p h → p ≤ h → (d e f : Progress) → MovesOn o c d i →
+    e.state ≡ d.state → Takes o e f i j p → f.state ≡ propose o c.state i
 taken o c i j p h a l d e f m same t =
-    state_from f.state (record { positions = set c.state.positions (next_output o c.state i) (position_of o (next_output o c.state i) i); places = set c.state.places i (next_place c.state i + 1) })
+    state_from f.state (record {
+      positions = set c.state.positions (next_output o c.state i)
+          (position_of o (next_output o c.state i) i);
+      places = set c.state.places i (next_place c.state i + 1);
+    })
     (
     t.positions
     ∙ ap (λ s. set s.positions j p) same
@@ -97,20 +121,32 @@ taken o c i j p h a l d e f m same t =
     ∙ sym (state-taken o c.state i (taken_less o c i j p h a l))
 
 -- it held nobody
-pub free_input : (o : Orders) (c : Progress) (i j p h : ℕ) → IsAsk o c i j p h → (d : Progress) → MovesOn o c d i → (i < length d.matching) × IsFreeInput d.matching i
+pub free_input : (o : Orders) (c : Progress) (i j p h : ℕ) → IsAsk o c i j p h → (d : Progress) → MovesOn o c d i →
+    (i < length d.matching) × IsFreeInput d.matching i
 free_input o c i j p h a d m =
     let known = input_known o c i j p h a in
-    let e : d.matching ≡ matching_of o c.state = m.matching ∙ a.reached.matching in
-    (let z = (matching-of o a.offers c.state).size in let y = ap length e in omega arith, ap (λ l. partner_of l i) e ∙ partner-free o a.offers c.state i a.free)
+    let e : d.matching ≡ matching_of o c.state = m.matching ∙ a.reached.matching in (
+      let z = (matching-of o a.offers c.state).size in
+          let y = ap length e in
+          omega arith,
+      ap (λ l. partner_of l i) e ∙ partner-free o a.offers c.state i a.free,
+    )
 
-pub free_output : (o : Orders) (c : Progress) (i j p h : ℕ) → IsAsk o c i j p h → h ≡ ports o → (d : Progress) → MovesOn o c d i → (j < length d.matching) × IsFreeOutput d.matching j
+pub free_output : (o : Orders) (c : Progress) (i j p h : ℕ) → IsAsk o c i j p h → h ≡ ports o → (d : Progress) →
+    MovesOn o c d i → (j < length d.matching) × IsFreeOutput d.matching j
 free_output o c i j p h a nobody d m =
     let known = output_known o c i j p h a in
     let e : d.matching ≡ matching_of o c.state = m.matching ∙ a.reached.matching in
-    let empty : position_held c.state j ≡ ports o = ap (position_held c.state) a.output ∙ sym a.held ∙ nobody in
-    (let z = (matching-of o a.offers c.state).size in let y = ap length e in omega arith, λ k s. unheld-empty o a.offers c.state (sound o c i j p h a) j empty k (ap (λ l. partner_of l k) (sym e) ∙ s))
+    let empty : position_held c.state j ≡ ports o = ap (position_held c.state) a.output ∙ sym a.held ∙ nobody in (
+      let z = (matching-of o a.offers c.state).size in
+          let y = ap length e in
+          omega arith,
+      λ k s. unheld-empty o a.offers c.state (sound o c i j p h a) j empty k
+          (ap (λ l. partner_of l k) (sym e) ∙ s),
+    )
 
-pub holding : (o : Orders) (c : Progress) (i j p h : ℕ) → IsAsk o c i j p h → p ≤ h → h ≡ ports o → (d e : Progress) → MovesOn o c d i → Takes o d e i j p → Proposed o c e i Held
+pub holding : (o : Orders) (c : Progress) (i j p h : ℕ) → IsAsk o c i j p h → p ≤ h → h ≡ ports o → (d e : Progress) →
+    MovesOn o c d i → Takes o d e i j p → Proposed o c e i Held
 unfolding outcome_of
 holding o c i j p h a l nobody d e m t =
     let event = taken o c i j p h a l d d e m refl t in
@@ -130,61 +166,84 @@ holding o c i j p h a l nobody d e m t =
 
 -- ## It held another input
 
-other_held : (o : Orders) (c : Progress) (i j p h : ℕ) → IsAsk o c i j p h → h ≢ ports o → position_held c.state (next_output o c.state i) ≢ ports o
+other_held : (o : Orders) (c : Progress) (i j p h : ℕ) → IsAsk o c i j p h → h ≢ ports o →
+    position_held c.state (next_output o c.state i) ≢ ports o
 other_held o c i j p h a n e = n (a.held ∙ e)
 
-pub is_holder : (o : Orders) (c : Progress) (i j p h k : ℕ) (order : List ℕ) → IsAsk o c i j p h → order ≡ inputs_of o j → k ≡ get_or order h 0 → k ≡ holder o c.state (next_output o c.state i)
+pub is_holder : (o : Orders) (c : Progress) (i j p h k : ℕ) (order : List ℕ) → IsAsk o c i j p h →
+    order ≡ inputs_of o j → k ≡ get_or order h 0 → k ≡ holder o c.state (next_output o c.state i)
 is_holder o c i j p h k order a e f =
-    f ∙ ap (λ l. get_or l h 0) (e ∙ ap (inputs_of o) a.output) ∙ ap (λ n. get_or (inputs_of o (next_output o c.state i)) n 0) a.held
+    f ∙ ap (λ l. get_or l h 0) (e ∙ ap (inputs_of o) a.output)
+    ∙ ap (λ n. get_or (inputs_of o (next_output o c.state i)) n 0) a.held
 
-holds_other : (o : Orders) (c : Progress) (i j p h k : ℕ) → IsAsk o c i j p h → h ≢ ports o → k ≡ holder o c.state (next_output o c.state i) → Holds o c.state (next_output o c.state i) k
+holds_other : (o : Orders) (c : Progress) (i j p h k : ℕ) → IsAsk o c i j p h → h ≢ ports o →
+    k ≡ holder o c.state (next_output o c.state i) → Holds o c.state (next_output o c.state i) k
 holds_other o c i j p h k a n e =
     let P : ℕ → Type 0 = λ x. Holds o c.state (next_output o c.state i) x in
-    subst P (sym e) (holder-is o a.offers c.state (sound o c i j p h a) (next_output o c.state i) (next_known o c i j p h a) (other_held o c i j p h a n)).1
+    subst P (sym e) (holder-is o a.offers c.state (sound o c i j p h a) (next_output o c.state i)
+    (next_known o c i j p h a) (other_held o c i j p h a n)).1
 
-pub held_inside : (o : Orders) (c : Progress) (i j p h : ℕ) → IsAsk o c i j p h → h ≢ ports o → h < length (inputs_of o j)
+pub held_inside : (o : Orders) (c : Progress) (i j p h : ℕ) → IsAsk o c i j p h → h ≢ ports o →
+    h < length (inputs_of o j)
 held_inside o c i j p h a n =
-    let b = (holder-is o a.offers c.state (sound o c i j p h a) (next_output o c.state i) (next_known o c i j p h a) (other_held o c i j p h a n)).0 in
+    let b =
+    (holder-is o a.offers c.state (sound o c i j p h a) (next_output o c.state i) (next_known o c i j p h a)
+    (other_held o c i j p h a n)).0 in
     let e = ap (λ x. length (inputs_of o x)) a.output in
     let y = a.held in omega arith
 
-pub other_known : (o : Orders) (c : Progress) (i j p h k : ℕ) → IsAsk o c i j p h → h ≢ ports o → k ≡ holder o c.state (next_output o c.state i) → k < ports o
+pub other_known : (o : Orders) (c : Progress) (i j p h k : ℕ) → IsAsk o c i j p h → h ≢ ports o →
+    k ≡ holder o c.state (next_output o c.state i) → k < ports o
 other_known o c i j p h k a n e =
-    input_in_range o k (next_output o c.state i) (a.offers.shown_back k (next_output o c.state i) (holds_other o c i j p h k a n e).1)
+    input_in_range o k (next_output o c.state i) (a.offers.shown_back k (next_output o c.state i)
+    (holds_other o c i j p h k a n e).1)
 
-pub other_has_partner : (o : Orders) (c : Progress) (i j p h k : ℕ) → IsAsk o c i j p h → h ≢ ports o → k ≡ holder o c.state (next_output o c.state i) → (d : Progress) → MovesOn o c d i → partner_of d.matching k ≢ None
+pub other_has_partner : (o : Orders) (c : Progress) (i j p h k : ℕ) → IsAsk o c i j p h → h ≢ ports o →
+    k ≡ holder o c.state (next_output o c.state i) → (d : Progress) → MovesOn o c d i → partner_of d.matching k ≢ None
 other_has_partner o c i j p h k a n e d m none =
-    let had = partner-from o a.offers c.state (sound o c i j p h a) k (next_output o c.state i) (holds_other o c i j p h k a n e) in
+    let had =
+    partner-from o a.offers c.state (sound o c i j p h a) k (next_output o c.state i)
+    (holds_other o c i j p h k a n e) in
     let same = ap (λ l. partner_of l k) (m.matching ∙ a.reached.matching) in
     let P : ⊥ = cc in P
 
-parted : (o : Orders) (c : Progress) (i j p h k : ℕ) → IsAsk o c i j p h → k ≡ holder o c.state (next_output o c.state i) → (d e : Progress) → MovesOn o c d i → Parts o d e k →
+parted : (o : Orders) (c : Progress) (i j p h k : ℕ) → IsAsk o c i j p h →
+    k ≡ holder o c.state (next_output o c.state i) → (d e : Progress) → MovesOn o c d i → Parts o d e k →
     e.matching ≡ set (matching_of o c.state) (holder o c.state (next_output o c.state i)) None
 parted o c i j p h k a is d e m s =
     s.matching
     ∙ ap (λ l. set l k None) (m.matching ∙ a.reached.matching)
     ∙ ap (λ n. set (matching_of o c.state) n None) is
 
-pub free_input_then : (o : Orders) (c : Progress) (i j p h k : ℕ) → IsAsk o c i j p h → h ≢ ports o → k ≡ holder o c.state (next_output o c.state i) → (d e : Progress) → MovesOn o c d i → Parts o d e k →
+pub free_input_then : (o : Orders) (c : Progress) (i j p h k : ℕ) → IsAsk o c i j p h → h ≢ ports o →
+    k ≡ holder o c.state (next_output o c.state i) → (d e : Progress) → MovesOn o c d i → Parts o d e k →
     (i < length e.matching) × IsFreeInput e.matching i
 free_input_then o c i j p h k a n is d e m s =
     let f = free_input o c i j p h a d m in
-    let apart : i ≢ k = λ same. a.free.unheld (next_output o c.state i) (let P : ℕ → Type 0 = λ x. Holds o c.state (next_output o c.state i) x in subst P (sym same) (holds_other o c i j p h k a n is)) in (
+    let apart : i ≢ k =
+    λ same. a.free.unheld (next_output o c.state i) (let P : ℕ →
+    Type 0 = λ x. Holds o c.state (next_output o c.state i) x in
+    subst P (sym same) (holds_other o c i j p h k a n is)) in (
       let z = length-set d.matching k None in let y = f.0 in let x = ap length s.matching in omega arith,
       ap (λ l. partner_of l i) s.matching ∙ get_or-set_other d.matching k i None None apart ∙ f.1,
     )
 
-pub free_output_then : (o : Orders) (c : Progress) (i j p h k : ℕ) → IsAsk o c i j p h → h ≢ ports o → k ≡ holder o c.state (next_output o c.state i) → (d e : Progress) → MovesOn o c d i → Parts o d e k →
+pub free_output_then : (o : Orders) (c : Progress) (i j p h k : ℕ) → IsAsk o c i j p h → h ≢ ports o →
+    k ≡ holder o c.state (next_output o c.state i) → (d e : Progress) → MovesOn o c d i → Parts o d e k →
     (j < length e.matching) × IsFreeOutput e.matching j
 free_output_then o c i j p h k a n is d e m s =
     let known = output_known o c i j p h a in
     let q = parted o c i j p h k a is d e m s in (
-      let z = length-set (matching_of o c.state) (holder o c.state (next_output o c.state i)) None in let y = (matching-of o a.offers c.state).size in let x = ap length q in omega arith,
-      λ l t. unheld-parted o a.offers c.state (sound o c i j p h a) (next_output o c.state i) (next_known o c i j p h a) (other_held o c i j p h a n) l
+      let z =
+          length-set (matching_of o c.state) (holder o c.state (next_output o c.state i)) None in
+          let y = (matching-of o a.offers c.state).size in let x = ap length q in omega arith,
+      λ l t. unheld-parted o a.offers c.state (sound o c i j p h a) (next_output o c.state i)
+          (next_known o c i j p h a) (other_held o c i j p h a n) l
           (ap (λ r. partner_of r l) (sym q) ∙ t ∙ ap (λ r. Some r) a.output),
     )
 
-pub displaced : (o : Orders) (c : Progress) (i j p h k : ℕ) → IsAsk o c i j p h → p ≤ h → h ≢ ports o → k ≡ holder o c.state (next_output o c.state i) →
+pub displaced : (o : Orders) (c : Progress) (i j p h k : ℕ) → IsAsk o c i j p h → p ≤ h → h ≢ ports o →
+    k ≡ holder o c.state (next_output o c.state i) →
     (d e f : Progress) → MovesOn o c d i → Parts o d e k → Takes o e f i j p → Proposed o c f i (Displaced k)
 unfolding outcome_of
 displaced o c i j p h k a l n is d e f m s t =
@@ -193,7 +252,9 @@ displaced o c i j p h k a l n is d e f m s t =
     let other = other_held o c i j p h a n in
     let less = taken_less o c i j p h a l in
     let somebody : eqb (position_held c.state (next_output o c.state i)) (ports o) ≡ false = ne_eqb _ _ other in
-    let takes : ltb (position_of o (next_output o c.state i) i) (position_held c.state (next_output o c.state i)) ≡ true = lt-ltb _ _ less in
+    let takes : ltb (position_of o (next_output o c.state i) i) (position_held c.state (next_output o c.state i))
+    ≡ true =
+    lt-ltb _ _ less in
     let matching : f.matching ≡ matching_of o (propose o c.state i) =
     t.matching ∙ ap (λ r. set r i (Some j)) (parted o c i j p h k a is d e m s)
     ∙ ap (λ r. set (set (matching_of o c.state) (holder o c.state (next_output o c.state i)) None) i (Some r)) a.output

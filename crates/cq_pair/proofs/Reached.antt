@@ -1,5 +1,6 @@
--- What is reached by proposals. At the beginning the inputs that wait are those with an offer. Whoever stands in the list
--- of free inputs is free, and where the list is empty nobody is, so what is held is the matching best for the inputs.
+-- What is reached by proposals. At the beginning the inputs that wait are those with an offer. Whoever stands in the
+-- list of free inputs is free, and where the list is empty nobody is, so what is held is the matching best for the
+-- inputs.
 use Rattle.std.proofs.Common.{ℕ, ◌≡◌, ◌+◌, ◌*◌, ◌<◌, ◌≤◌, List, [], ◌∷◌, Option, None, length, get_or, replicate, sym, ◌∙◌, ap, arith, subst}
 use Rattle.std.specs.List.{range_with_len}
 use Rattle.std.proofs.lemmas.List.{length-replicate}
@@ -21,13 +22,16 @@ pub sound-reached : (o : Orders) → AreOffers o → (c : Progress) → IsReache
 sound-reached o v c r = rw r.state (sound-after o v r.events r.are_events)
 
 -- the numbers of ports
-pub free_known : (o : Orders) → AreOffers o → (c : Progress) → IsReached o c → (i : ℕ) → IsFree o c.state i → i < ports o
+pub free_known : (o : Orders) → AreOffers o → (c : Progress) → IsReached o c → (i : ℕ) → IsFree o c.state i →
+    i < ports o
 free_known o v c r i f = input_in_range o i _ (next_output-offered o v c.state i f.left)
 
-pub asked_known : (o : Orders) → AreOffers o → (c : Progress) → IsReached o c → (i : ℕ) → IsFree o c.state i → next_output o c.state i < ports o
+pub asked_known : (o : Orders) → AreOffers o → (c : Progress) → IsReached o c → (i : ℕ) → IsFree o c.state i →
+    next_output o c.state i < ports o
 asked_known o v c r i f = output_in_range o v i _ (next_output-offered o v c.state i f.left)
 
-pub asked_offered : (o : Orders) → AreOffers o → (c : Progress) → (i : ℕ) → IsFree o c.state i → IsOffered o i (next_output o c.state i)
+pub asked_offered : (o : Orders) → AreOffers o → (c : Progress) → (i : ℕ) → IsFree o c.state i →
+    IsOffered o i (next_output o c.state i)
 asked_offered o v c i f = next_output-offered o v c.state i f.left
 
 pub places_known : (o : Orders) → AreOffers o → (c : Progress) → IsReached o c → length c.state.places ≡ ports o
@@ -40,13 +44,15 @@ pub made-most : (o : Orders) → AreOffers o → (c : Progress) → IsReached o 
 made-most o v c r = rw r.made (events_at_most o v r.events r.are_events)
 
 pub waiting-reached : (o : Orders) → AreOffers o → (c : Progress) → IsReached o c → ShowsWaiting o c
-waiting-reached o v c r = r.free ∙ sym (waiting-free o v c.state) ∙ ap (waiting_inputs o c.state.places) (sym r.matching)
+waiting-reached o v c r =
+    r.free ∙ sym (waiting-free o v c.state) ∙ ap (waiting_inputs o c.state.places) (sym r.matching)
 
 -- ## The beginning
 
 matching-start : (o : Orders) → AreOffers o → replicate (ports o) None ≡ matching_of o (start o)
 matching-start o v =
-    matching_of-is o v (start o) (sound-start o v) (replicate (ports o) None) (length-replicate {A = Option ℕ} (ports o) None)
+    matching_of-is o v (start o) (sound-start o v) (replicate (ports o) None)
+    (length-replicate {A = Option ℕ} (ports o) None)
     (λ k q e. absurd (let gone = sym (nobody (ports o) k) ∙ e in let P : ⊥ = cc in P))
     (λ k q h.
     let r = output_in_range o v k q (v.shown_back k q h.1) in
@@ -54,14 +60,16 @@ matching-start o v =
     let b = inputs_at_most o v q in
     absurd (let x = h.0 in let y = h.1 in omega arith))
 
-pub start-shown : (o : Orders) (n : ℕ) (positions places : List ℕ) → n ≡ ports o → positions ≡ replicate n n → places ≡ replicate n 0 → record { positions = positions; places = places } ≡ start o
+pub start-shown : (o : Orders) (n : ℕ) (positions places : List ℕ) → n ≡ ports o → positions ≡ replicate n n →
+    places ≡ replicate n 0 → record { positions = positions; places = places } ≡ start o
 unfolding start
 start-shown o n positions places e a b =
     let x : positions ≡ replicate (ports o) (ports o) = a ∙ ap (λ (k : ℕ). replicate k k) e in
     let y : places ≡ replicate (ports o) 0 = b ∙ ap (λ (k : ℕ). let z : ℕ = 0 in replicate k z) e in
     λ i. record { positions = x i; places = y i }
 
-pub reached-begin : (o : Orders) → AreOffers o → (c : Progress) → c.state ≡ start o → c.matching ≡ replicate (ports o) None → ShowsWaiting o c → c.made ≡ 0 → IsReached o c
+pub reached-begin : (o : Orders) → AreOffers o → (c : Progress) → c.state ≡ start o →
+    c.matching ≡ replicate (ports o) None → ShowsWaiting o c → c.made ≡ 0 → IsReached o c
 reached-begin o v c state matching waiting made =
     let held : c.matching ≡ matching_of o c.state = matching ∙ matching-start o v ∙ ap (matching_of o) (sym state) in
     record {
@@ -75,7 +83,8 @@ reached-begin o v c state matching waiting made =
 
 -- ## One proposal more
 
-pub reached-step : (o : Orders) → AreOffers o → (c d : Progress) (i : ℕ) → IsReached o c → IsFree o c.state i → d.state ≡ propose o c.state i →
+pub reached-step : (o : Orders) → AreOffers o → (c d : Progress) (i : ℕ) → IsReached o c → IsFree o c.state i →
+    d.state ≡ propose o c.state i →
     d.matching ≡ matching_of o (propose o c.state i) → ShowsWaiting o d → d.made ≡ c.made + 1 → IsReached o d
 reached-step o v c d i r f state matching waiting made =
     let F : State → Type 0 = λ s. IsFree o s i in
@@ -91,26 +100,35 @@ reached-step o v c d i r f state matching waiting made =
 
 -- ## Who is shown as free
 
-pub free-shown : (o : Orders) → AreOffers o → (c : Progress) → IsReached o c → (k : ℕ) → k < length c.free → IsFree o c.state (get_or c.free k 0)
+pub free-shown : (o : Orders) → AreOffers o → (c : Progress) → IsReached o c → (k : ℕ) → k < length c.free →
+    IsFree o c.state (get_or c.free k 0)
 unfolding free_inputs
 free-shown o v c r k inside =
-    let passes = filter_passes (is_free o c.state) (range_with_len 0 (ports o)) k 0 (let e = ap length r.free in omega arith) in
-    free_if o v c.state (sound-reached o v c r) (get_or c.free k 0) (ap (λ l. is_free o c.state (get_or l k 0)) r.free ∙ passes)
+    let passes =
+    filter_passes (is_free o c.state) (range_with_len 0 (ports o)) k 0
+    (let e = ap length r.free in omega arith) in
+    free_if o v c.state (sound-reached o v c r) (get_or c.free k 0)
+    (ap (λ l. is_free o c.state (get_or l k 0)) r.free ∙ passes)
 
 quiet-reached : (o : Orders) → AreOffers o → (c : Progress) → IsReached o c → c.free ≡ [] → IsQuiescent o c.state
 unfolding free_inputs
 quiet-reached o v c r empty i f =
     let known = input_in_range o i _ (next_output-offered o v c.state i f.left) in
-    let there : Among i (free_inputs o c.state) = among_kept (is_free o c.state) (range_with_len 0 (ports o)) i (in_range 0 (ports o) i (omega arith) (omega arith)) (free_only_if o v c.state i f) in
+    let there : Among i (free_inputs o c.state) =
+    among_kept (is_free o c.state) (range_with_len 0 (ports o)) i
+    (in_range 0 (ports o) i (omega arith) (omega arith)) (free_only_if o v c.state i f) in
     let none : free_inputs o c.state ≡ [] = sym r.free ∙ empty in
     subst (Among i) none there
 
-pub best-reached : (o : Orders) → AreOffers o → (c : Progress) → IsReached o c → c.free ≡ [] → IsInputBest o c.matching × (c.made ≡ proposals o c.matching)
+pub best-reached : (o : Orders) → AreOffers o → (c : Progress) → IsReached o c → c.free ≡ [] →
+    IsInputBest o c.matching × (c.made ≡ proposals o c.matching)
 best-reached o v c r empty =
     let Q : State → Type 0 = λ s. IsQuiescent o s in
     let q : IsQuiescent o (state_after o r.events) = subst Q r.state (quiet-reached o v c r empty) in
-    let m : c.matching ≡ matching_of o (state_after o r.events) = r.matching ∙ ap (matching_of o) r.state in
-    (rw m (input_best-quiet o v r.events r.are_events q), r.made ∙ events-quiet o v r.events r.are_events q ∙ ap (proposals o) (sym m))
+    let m : c.matching ≡ matching_of o (state_after o r.events) = r.matching ∙ ap (matching_of o) r.state in (
+      rw m (input_best-quiet o v r.events r.are_events q),
+      r.made ∙ events-quiet o v r.events r.are_events q ∙ ap (proposals o) (sym m),
+    )
 
 pub size_reached : (o : Orders) (c : Progress) → AreOffers o → IsReached o c → length c.matching ≡ ports o
 size_reached o c v r = ap length r.matching ∙ (matching-of o v c.state).size

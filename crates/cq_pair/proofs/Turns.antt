@@ -1,6 +1,6 @@
--- What one proposal does to the pairs of those who are held. One that is refused leaves them. Otherwise the asked output
--- takes the input, and whom it held is parted. All others stay: no other output holds the input, since it was free, and
--- the input that is parted was held nowhere else.
+-- What one proposal does to the pairs of those who are held. One that is refused leaves them. Otherwise the asked
+-- output takes the input, and whom it held is parted. All others stay: no other output holds the input, since it was
+-- free, and the input that is parted was held nowhere else.
 use Rattle.std.proofs.Common.{ℕ, ◌≡◌, ◌≢◌, ◌⊎◌, inl, inr, ◌+◌, ◌<◌, ◌≤◌, min, List, length, set, Some, None, refl, sym, ◌∙◌, ap, arith, subst}
 use Rattle.std.proofs.lemmas.Bool.{cases_eq}
 use Rattle.std.proofs.lemmas.List.{get_or-set_same, get_or-set_other, set-get_or, length-set}
@@ -12,23 +12,39 @@ use Rattle.cq_prefs.proofs.Steps.{IsStep, step, sound-step}
 use Rattle.cq_prefs.proofs.Holding.{matching-of, matching_of-is, partner-holds, partner-from}
 
 -- a proposal that is refused changes no position that is held
-pub state-refused : (o : Orders) (s : State) (i : ℕ) → position_held s (next_output o s i) ≤ position_of o (next_output o s i) i →
+pub state-refused : (o : Orders) (s : State) (i : ℕ) →
+    position_held s (next_output o s i) ≤ position_of o (next_output o s i) i →
     propose o s i ≡ record { positions = s.positions; places = set s.places i (next_place s i + 1) }
 unfolding propose
 state-refused o s i h =
-    let e : set s.positions (next_output o s i) (min (position_held s (next_output o s i)) (position_of o (next_output o s i) i)) ≡ s.positions =
-    ap (λ x. set s.positions (next_output o s i) x) (let n : min (position_held s (next_output o s i)) (position_of o (next_output o s i) i) ≡ position_held s (next_output o s i) = omega arith in n) ∙ set-get_or s.positions (next_output o s i) 0 in
+    let e : set s.positions (next_output o s i) (min (position_held s (next_output o s i))
+    (position_of o (next_output o s i) i)) ≡ s.positions =
+    ap (λ x. set s.positions (next_output o s i) x) (let n : min (position_held s (next_output o s i))
+    (position_of o (next_output o s i) i) ≡ position_held s (next_output o s i) = omega arith in
+    n) ∙ set-get_or s.positions (next_output o s i) 0 in
     let P : List ℕ → State = λ ws. record { positions = ws; places = set s.places i (next_place s i + 1) } in ap P e
 
-pub state-taken : (o : Orders) (s : State) (i : ℕ) → position_of o (next_output o s i) i < position_held s (next_output o s i) →
-    propose o s i ≡ record { positions = set s.positions (next_output o s i) (position_of o (next_output o s i) i); places = set s.places i (next_place s i + 1) }
+pub state-taken : (o : Orders) (s : State) (i : ℕ) →
+    position_of o (next_output o s i) i < position_held s (next_output o s i) →
+    propose o s i
+    ≡ record {
+      positions = set s.positions (next_output o s i) (position_of o (next_output o s i) i);
+      places = set s.places i (next_place s i + 1);
+    }
 unfolding propose
 state-taken o s i h =
-    let P : ℕ → State = λ x. record { positions = set s.positions (next_output o s i) x; places = set s.places i (next_place s i + 1) } in
-    ap P (let n : min (position_held s (next_output o s i)) (position_of o (next_output o s i) i) ≡ position_of o (next_output o s i) i = omega arith in n)
+    let P : ℕ → State =
+    λ x. record {
+      positions = set s.positions (next_output o s i) x;
+      places = set s.places i (next_place s i + 1);
+    } in
+    ap P (let n : min (position_held s (next_output o s i)) (position_of o (next_output o s i) i)
+    ≡ position_of o (next_output o s i) i = omega arith in
+    n)
 
 -- the matching after a proposal that is refused
-pub matching-refused : (o : Orders) → AreOffers o → (s : State) → IsSound o s → (i : ℕ) → IsFree o s i → position_held s (next_output o s i) ≤ position_of o (next_output o s i) i →
+pub matching-refused : (o : Orders) → AreOffers o → (s : State) → IsSound o s → (i : ℕ) → IsFree o s i →
+    position_held s (next_output o s i) ≤ position_of o (next_output o s i) i →
     matching_of o s ≡ matching_of o (propose o s i)
 matching-refused o v s w i f h =
     matching_of-is o v (propose o s i) (sound-step o v s w i f) (matching_of o s) (matching-of o v s).size
@@ -43,12 +59,15 @@ matching-refused o v s w i f h =
         go (inr n) = (step o v s w i f).held_other q n
 
 -- a matching without the input that the asked output held, with the one that proposed
-pub matching-taken : (o : Orders) → AreOffers o → (s : State) → IsSound o s → (i : ℕ) → IsFree o s i → position_of o (next_output o s i) i < position_held s (next_output o s i) →
+pub matching-taken : (o : Orders) → AreOffers o → (s : State) → IsSound o s → (i : ℕ) → IsFree o s i →
+    position_of o (next_output o s i) i < position_held s (next_output o s i) →
     (m : Partners) → length m ≡ ports o →
-    ((k q : ℕ) → partner_of m k ≡ Some q → Holds o s q k × (q ≢ next_output o s i)) → ((k q : ℕ) → Holds o s q k → q ≢ next_output o s i → partner_of m k ≡ Some q) →
+    ((k q : ℕ) → partner_of m k ≡ Some q → Holds o s q k × (q ≢ next_output o s i)) →
+    ((k q : ℕ) → Holds o s q k → q ≢ next_output o s i → partner_of m k ≡ Some q) →
     set m i (Some (next_output o s i)) ≡ matching_of o (propose o s i)
 matching-taken o v s w i f h m size there back =
-    matching_of-is o v (propose o s i) (sound-step o v s w i f) (set m i (Some (next_output o s i))) (length-set m i _ ∙ size)
+    matching_of-is o v (propose o s i) (sound-step o v s w i f) (set m i (Some (next_output o s i)))
+    (length-set m i _ ∙ size)
     (λ k q e. forth k q (cases_eq k i) e)
     (λ k q a. fro k q (cases_eq q (next_output o s i)) a)
   where
@@ -61,17 +80,21 @@ matching-taken o v s w i f h m size there back =
     in_range : i < length m
     in_range = let a = input_in_range o i (next_output o s i) (step o v s w i f).offered in omega arith
 
-    forth : (k q : ℕ) → (k ≡ i) ⊎ (k ≢ i) → partner_of (set m i (Some (next_output o s i))) k ≡ Some q → Holds o (propose o s i) q k
+    forth : (k q : ℕ) → (k ≡ i) ⊎ (k ≢ i) → partner_of (set m i (Some (next_output o s i))) k ≡ Some q →
+        Holds o (propose o s i) q k
     forth k q (inl e) a =
         let b : partner_of (set m i (Some (next_output o s i))) i ≡ Some q = rw e at a in
-        let c : partner_of (set m i (Some (next_output o s i))) i ≡ Some (next_output o s i) = get_or-set_same m i (Some (next_output o s i)) None in_range in
+        let c : partner_of (set m i (Some (next_output o s i))) i ≡ Some (next_output o s i) =
+        get_or-set_same m i (Some (next_output o s i)) None in_range in
         let same : next_output o s i ≡ q = cc in
-        rw e (let P : ℕ → Type 0 = λ n. Holds o (propose o s i) n i in subst P same (now, v.shown i (next_output o s i) st.offered))
+        rw e (let P : ℕ → Type 0 = λ n. Holds o (propose o s i) n i in
+        subst P same (now, v.shown i (next_output o s i) st.offered))
     forth k q (inr n) a =
         let b = there k q (sym (get_or-set_other m i k (Some (next_output o s i)) None n) ∙ a) in
         (st.held_other q b.1 ∙ b.0.0, b.0.1)
 
-    fro : (k q : ℕ) → (q ≡ next_output o s i) ⊎ (q ≢ next_output o s i) → Holds o (propose o s i) q k → partner_of (set m i (Some (next_output o s i))) k ≡ Some q
+    fro : (k q : ℕ) → (q ≡ next_output o s i) ⊎ (q ≢ next_output o s i) → Holds o (propose o s i) q k →
+        partner_of (set m i (Some (next_output o s i))) k ≡ Some q
     fro k q (inl e) a =
         let P : ℕ → Type 0 = λ n. Holds o (propose o s i) n k in
         let b : Holds o (propose o s i) (next_output o s i) k = subst P e a in
@@ -83,25 +106,35 @@ matching-taken o v s w i f h m size there back =
         get_or-set_other m i k (Some (next_output o s i)) None apart ∙ back k q b n
 
 -- the output held nobody
-pub unheld-empty : (o : Orders) → AreOffers o → (s : State) → IsSound o s → (j : ℕ) → position_held s j ≡ ports o → (k : ℕ) → partner_of (matching_of o s) k ≢ Some j
-unheld-empty o v s w j e k h = let a = partner-holds o v s k j h in let b = a.0 in let c = a.1 in let d = inputs_at_most o v j in omega arith
+pub unheld-empty : (o : Orders) → AreOffers o → (s : State) → IsSound o s → (j : ℕ) → position_held s j ≡ ports o →
+    (k : ℕ) → partner_of (matching_of o s) k ≢ Some j
+unheld-empty o v s w j e k h =
+    let a = partner-holds o v s k j h in let b = a.0 in let c = a.1 in let d = inputs_at_most o v j in omega arith
 
-pub matching-empty : (o : Orders) → AreOffers o → (s : State) → IsSound o s → (i : ℕ) → IsFree o s i → position_of o (next_output o s i) i < position_held s (next_output o s i) → position_held s (next_output o s i) ≡ ports o →
+pub matching-empty : (o : Orders) → AreOffers o → (s : State) → IsSound o s → (i : ℕ) → IsFree o s i →
+    position_of o (next_output o s i) i < position_held s (next_output o s i) →
+    position_held s (next_output o s i) ≡ ports o →
     set (matching_of o s) i (Some (next_output o s i)) ≡ matching_of o (propose o s i)
 matching-empty o v s w i f h e =
     matching-taken o v s w i f h (matching_of o s) (matching-of o v s).size
-    (λ k q a. (partner-holds o v s k q a, λ same. unheld-empty o v s w (next_output o s i) e k (a ∙ ap (λ n. Some n) same)))
+    (λ k q a. (
+      partner-holds o v s k q a,
+      λ same. unheld-empty o v s w (next_output o s i) e k (a ∙ ap (λ n. Some n) same),
+    ))
     (λ k q a n. partner-from o v s w k q a)
 
-pub holder-is : (o : Orders) → AreOffers o → (s : State) → IsSound o s → (j : ℕ) → j < ports o → position_held s j ≢ ports o → (position_held s j < length (inputs_of o j)) × Holds o s j (holder o s j)
+pub holder-is : (o : Orders) → AreOffers o → (s : State) → IsSound o s → (j : ℕ) → j < ports o →
+    position_held s j ≢ ports o → (position_held s j < length (inputs_of o j)) × Holds o s j (holder o s j)
 holder-is o v s w j r n = go (w.held_in j r)
   where
-    go : (position_held s j ≡ ports o) ⊎ (position_held s j < length (inputs_of o j)) → (position_held s j < length (inputs_of o j)) × Holds o s j (holder o s j)
+    go : (position_held s j ≡ ports o) ⊎ (position_held s j < length (inputs_of o j)) →
+        (position_held s j < length (inputs_of o j)) × Holds o s j (holder o s j)
     go (inl e) = absurd (n e)
     go (inr l) = let a = position_of-at o v j (position_held s j) l in (l, (sym a, omega arith))
 
 -- the matching without the holder
-parted : (o : Orders) → AreOffers o → (s : State) → IsSound o s → (j : ℕ) → j < ports o → position_held s j ≢ ports o → (k q : ℕ) →
+parted : (o : Orders) → AreOffers o → (s : State) → IsSound o s → (j : ℕ) → j < ports o →
+    position_held s j ≢ ports o → (k q : ℕ) →
     partner_of (set (matching_of o s) (holder o s j) None) k ≡ Some q → Holds o s q k × (q ≢ j)
 parted o v s w j r n k q e = go (cases_eq k (holder o s j))
   where
@@ -113,25 +146,33 @@ parted o v s w j r n k q e = go (cases_eq k (holder o s j))
         let b : partner_of (set (matching_of o s) (holder o s j) None) (holder o s j) ≡ Some q = rw same at e in
         let c : partner_of (set (matching_of o s) (holder o s j) None) (holder o s j) ≡ None =
         get_or-set_same (matching_of o s) (holder o s j) None None
-        (let a = input_in_range o (holder o s j) j (v.shown_back (holder o s j) j held.1) in let z = (matching-of o v s).size in omega arith) in
+        (let a = input_in_range o (holder o s j) j (v.shown_back (holder o s j) j held.1) in
+        let z = (matching-of o v s).size in
+        omega arith) in
         absurd (let P : ⊥ = cc in P)
     go (inr apart) =
-        let a : Holds o s q k = partner-holds o v s k q (sym (get_or-set_other (matching_of o s) (holder o s j) k None None apart) ∙ e) in (
+        let a : Holds o s q k =
+        partner-holds o v s k q (sym (get_or-set_other (matching_of o s) (holder o s j) k None None apart) ∙ e) in (
           a,
           λ same. let P : ℕ → Type 0 = λ x. Holds o s x k in
               let b : Holds o s j k = subst P same a in
               apart (same_at_place (inputs_of o j) k (holder o s j) (let x = b.0 in let y = held.0 in omega arith) b.1),
         )
 
-pub unheld-parted : (o : Orders) → AreOffers o → (s : State) → IsSound o s → (j : ℕ) → j < ports o → position_held s j ≢ ports o → (k : ℕ) →
+pub unheld-parted : (o : Orders) → AreOffers o → (s : State) → IsSound o s → (j : ℕ) → j < ports o →
+    position_held s j ≢ ports o → (k : ℕ) →
     partner_of (set (matching_of o s) (holder o s j) None) k ≢ Some j
 unheld-parted o v s w j r n k e = (parted o v s w j r n k j e).1 refl
 
-pub matching-displaced : (o : Orders) → AreOffers o → (s : State) → IsSound o s → (i : ℕ) → IsFree o s i → position_of o (next_output o s i) i < position_held s (next_output o s i) → position_held s (next_output o s i) ≢ ports o →
-    set (set (matching_of o s) (holder o s (next_output o s i)) None) i (Some (next_output o s i)) ≡ matching_of o (propose o s i)
+pub matching-displaced : (o : Orders) → AreOffers o → (s : State) → IsSound o s → (i : ℕ) → IsFree o s i →
+    position_of o (next_output o s i) i < position_held s (next_output o s i) →
+    position_held s (next_output o s i) ≢ ports o →
+    set (set (matching_of o s) (holder o s (next_output o s i)) None) i (Some (next_output o s i))
+    ≡ matching_of o (propose o s i)
 matching-displaced o v s w i f h n =
     let r = output_in_range o v i (next_output o s i) (step o v s w i f).offered in
-    matching-taken o v s w i f h (set (matching_of o s) (holder o s (next_output o s i)) None) (length-set (matching_of o s) _ _ ∙ (matching-of o v s).size)
+    matching-taken o v s w i f h (set (matching_of o s) (holder o s (next_output o s i)) None)
+    (length-set (matching_of o s) _ _ ∙ (matching-of o v s).size)
     (parted o v s w (next_output o s i) r n)
     (λ k q a m.
     let apart : k ≢ holder o s (next_output o s i) = λ e.
@@ -139,6 +180,8 @@ matching-displaced o v s w i f h n =
     let b : Holds o s q (holder o s (next_output o s i)) = subst P e a in
     let c = (holder-is o v s w (next_output o s i) r n).1 in
     let x = w.last _ _ b in let y = w.last _ _ c in
-    let z : place_of o (holder o s (next_output o s i)) q ≡ place_of o (holder o s (next_output o s i)) (next_output o s i) = omega arith in
+    let z : place_of o (holder o s (next_output o s i)) q
+    ≡ place_of o (holder o s (next_output o s i)) (next_output o s i) =
+    omega arith in
     m (same_at_place (outputs_of o (holder o s (next_output o s i))) q (next_output o s i) z (v.shown_back _ q b.1)) in
     get_or-set_other (matching_of o s) (holder o s (next_output o s i)) k None None apart ∙ partner-from o v s w k q a)

@@ -5,8 +5,8 @@ use Rattle.cq_prefs.specs.Orders.{Orders, AreOffers, ports, outputs_of, position
 use Rattle.cq_prefs.specs.Pairing.{Partners, partner_of, with_pair, without_pair}
 use Rattle.cq_prefs.specs.Proposals.{State, position_held, next_place, next_output, IsFree, state_after, AreEvents, matching_of, free_inputs}
 
--- how far the proposals have come: their state, the pairs of those who are held, the free inputs in order of number, and
--- how many proposals were made
+-- how far the proposals have come: their state, the pairs of those who are held, the free inputs in order of number,
+-- and how many proposals were made
 pub record Progress : Type 0 where
   pub state : State
   pub matching : Partners

@@ -32,7 +32,8 @@ unfolding form_at
 form_found form bytes h = ap form_with h ∙ found_with form.big form.nano
 
 -- what is found passes the test
-found_or_later : {X : Type 0} (p : X → Bool) (x y : X) (b : Bool) (later : Option X) → p y ≡ b → cond b (Some y) later ≡ Some x → (later ≡ Some x → p x ≡ true) → p x ≡ true
+found_or_later : {X : Type 0} (p : X → Bool) (x y : X) (b : Bool) (later : Option X) → p y ≡ b →
+    cond b (Some y) later ≡ Some x → (later ≡ Some x → p x ≡ true) → p x ≡ true
 found_or_later p x y true later t e more = let same : y ≡ x = cc in ap p (sym same) ∙ t
 found_or_later p x y false later t e more = more e
 
@@ -43,7 +44,9 @@ find_passes p (y ∷ ys) x e = found_or_later p x y (p y) (find p ys) refl e (fi
 -- and its magic stands there
 found_magic : (form : Form) (bytes : List ℕ) → form_at bytes ≡ Some form → HasMagic form bytes
 unfolding form_at
-found_magic form bytes e = (bytes_eq-Decides (take 4 bytes) (magic form)).0 (find_passes (λ f. bytes_eq (take 4 bytes) (magic f)) forms form e)
+found_magic form bytes e =
+    (bytes_eq-Decides (take 4 bytes) (magic form)).0 (find_passes (λ f. bytes_eq (take 4 bytes) (magic f)) forms form
+    e)
 
 version-Decides : (form : Form) (bytes : List ℕ) → Decides (has_version form bytes) (HasVersion form bytes)
 version-Decides form bytes =
@@ -68,7 +71,8 @@ abbrev answer : List ℕ → Bool → Option Form → Result Form Fault
 answer bytes short found = cond short (Err NoHeader) (ok_or found Magic >>= checked_form bytes)
 
 -- a file of at least 24 bytes with the magic of a form is judged by its version and link type
-judged_by : (form : Form) (bytes : List ℕ) (version link : Bool) → 24 ≤ length bytes → HasMagic form bytes → has_version form bytes ≡ version → has_link_type form bytes ≡ link → header_form bytes ≡ checked form version link
+judged_by : (form : Form) (bytes : List ℕ) (version link : Bool) → 24 ≤ length bytes → HasMagic form bytes →
+    has_version form bytes ≡ version → has_link_type form bytes ≡ link → header_form bytes ≡ checked form version link
 unfolding header_form
 judged_by form bytes version link long m v l =
     let short : ltb (length bytes) 24 ≡ false = grind (arith, nat_tests) in
@@ -88,19 +92,23 @@ no_version form bytes e h = let t = (version-Decides form bytes).1 h in cc
 no_link : (form : Form) (bytes : List ℕ) → has_link_type form bytes ≡ false → ¬ HasLinkType form bytes
 no_link form bytes e h = let t = (link-Decides form bytes).1 h in cc
 
-checked_says : (form : Form) (bytes : List ℕ) (version link : Bool) → 24 ≤ length bytes → HasMagic form bytes → has_version form bytes ≡ version → has_link_type form bytes ≡ link → Says bytes (checked form version link)
-checked_says form bytes true true long m v l = (long, m, (version-Decides form bytes).0 v, (link-Decides form bytes).0 l)
+checked_says : (form : Form) (bytes : List ℕ) (version link : Bool) → 24 ≤ length bytes → HasMagic form bytes →
+    has_version form bytes ≡ version → has_link_type form bytes ≡ link → Says bytes (checked form version link)
+checked_says form bytes true true long m v l =
+    (long, m, (version-Decides form bytes).0 v, (link-Decides form bytes).0 l)
 checked_says form bytes true false long m v l = (long, form, m, (version-Decides form bytes).0 v, no_link form bytes l)
 checked_says form bytes false link long m v l = (long, form, m, no_version form bytes v)
 
-answer_says : (bytes : List ℕ) (short : Bool) (found : Option Form) → ltb (length bytes) 24 ≡ short → form_at bytes ≡ found → Says bytes (answer bytes short found)
+answer_says : (bytes : List ℕ) (short : Bool) (found : Option Form) → ltb (length bytes) 24 ≡ short →
+    form_at bytes ≡ found → Says bytes (answer bytes short found)
 answer_says bytes true found s f = grind (arith, nat_tests)
 answer_says bytes false None s f =
     let long : 24 ≤ length bytes = grind (arith, nat_tests) in
     (long, λ form m. let some = form_found form bytes m in cc)
 answer_says bytes false (Some form) s f =
     let long : 24 ≤ length bytes = grind (arith, nat_tests) in
-    checked_says form bytes (has_version form bytes) (has_link_type form bytes) long (found_magic form bytes f) refl refl
+    checked_says form bytes (has_version form bytes) (has_link_type form bytes) long (found_magic form bytes f) refl
+    refl
 
 -- what is answered is so
 header_says : (bytes : List ℕ) → Says bytes (header_form bytes)
@@ -130,34 +138,51 @@ answer_place bytes false (Some form) = checked_place form (has_version form byte
 
 pub header_place : (bytes : List ℕ) (fault : Fault) → header_form bytes ≡ Err fault → offset_of fault ≡ None
 unfolding header_form
-header_place bytes fault e = let P : Result Form Fault → Type 0 = Placeless in subst P e (answer_place bytes (ltb (length bytes) 24) (form_at bytes))
+header_place bytes fault e =
+    let P : Result Form Fault → Type 0 = Placeless in
+    subst P e (answer_place bytes (ltb (length bytes) 24) (form_at bytes))
 
 -- and what is so is answered: a header of a form, whatever follows it, and each fault of a header
 pub header_read : (form : Form) (header rest : List ℕ) → IsHeader form header → header_form (header ++ rest) ≡ Ok form
 header_read form header rest h =
     let len = h.len in
-    let major : number_at form.big 2 (header ++ rest) 4 ≡ 2 = number_at-append form.big 2 header rest 4 (omega (arith, len)) ∙ h.version.major in
-    let minor : number_at form.big 2 (header ++ rest) 6 ≡ 4 = number_at-append form.big 2 header rest 6 (omega (arith, len)) ∙ h.version.minor in
-    let link : HasLinkType form (header ++ rest) = ap (λ n. n % 2 ^ 16) (number_at-append form.big 4 header rest 20 (omega (arith, len))) ∙ h.link in
-    judged_by form (header ++ rest) true true (omega (arith, len, length-append header rest)) (take-append-le 4 header rest (omega (arith, len)) ∙ h.magic)
-    ((version-Decides form (header ++ rest)).1 (record { major = major; minor = minor })) ((link-Decides form (header ++ rest)).1 link)
+    let major : number_at form.big 2 (header ++ rest) 4 ≡ 2 =
+    number_at-append form.big 2 header rest 4 (omega (arith, len)) ∙ h.version.major in
+    let minor : number_at form.big 2 (header ++ rest) 6 ≡ 4 =
+    number_at-append form.big 2 header rest 6 (omega (arith, len)) ∙ h.version.minor in
+    let link : HasLinkType form (header ++ rest) =
+    ap (λ n. n % 2 ^ 16) (number_at-append form.big 4 header rest 20 (omega (arith, len))) ∙ h.link in
+    judged_by form (header ++ rest) true true (omega (arith, len, length-append header rest))
+    (take-append-le 4 header rest (omega (arith, len)) ∙ h.magic)
+    ((version-Decides form (header ++ rest)).1 (record { major = major; minor = minor }))
+    ((link-Decides form (header ++ rest)).1 link)
 
 pub no_header_read : (bytes : List ℕ) → length bytes < 24 → header_form bytes ≡ Err NoHeader
 unfolding header_form
-no_header_read bytes h = let short : ltb (length bytes) 24 ≡ true = grind (arith, nat_tests) in ap (λ b. answer bytes b (form_at bytes)) short
+no_header_read bytes h =
+    let short : ltb (length bytes) 24 ≡ true = grind (arith, nat_tests) in
+    ap (λ b. answer bytes b (form_at bytes)) short
 
-no_form : (bytes : List ℕ) (found : Option Form) → form_at bytes ≡ found → ((form : Form) → ¬ HasMagic form bytes) → found ≡ None
+no_form : (bytes : List ℕ) (found : Option Form) → form_at bytes ≡ found → ((form : Form) → ¬ HasMagic form bytes) →
+    found ≡ None
 no_form bytes None e h = refl
 no_form bytes (Some form) e h = absurd (h form (found_magic form bytes e))
 
-pub no_magic_read : (bytes : List ℕ) → 24 ≤ length bytes → ((form : Form) → ¬ HasMagic form bytes) → header_form bytes ≡ Err Magic
+pub no_magic_read : (bytes : List ℕ) → 24 ≤ length bytes → ((form : Form) → ¬ HasMagic form bytes) →
+    header_form bytes ≡ Err Magic
 unfolding header_form
 no_magic_read bytes long h =
     let short : ltb (length bytes) 24 ≡ false = grind (arith, nat_tests) in
     ap (λ b. answer bytes b (form_at bytes)) short ∙ ap (answer bytes false) (no_form bytes (form_at bytes) refl h)
 
-pub no_version_read : (form : Form) (bytes : List ℕ) → 24 ≤ length bytes → HasMagic form bytes → ¬ HasVersion form bytes → header_form bytes ≡ Err Version
-no_version_read form bytes long m h = judged_by form bytes false (has_link_type form bytes) long m (is_false (has_version form bytes) (version-Decides form bytes) h) refl
+pub no_version_read : (form : Form) (bytes : List ℕ) → 24 ≤ length bytes → HasMagic form bytes →
+    ¬ HasVersion form bytes → header_form bytes ≡ Err Version
+no_version_read form bytes long m h =
+    judged_by form bytes false (has_link_type form bytes) long m
+    (is_false (has_version form bytes) (version-Decides form bytes) h) refl
 
-pub no_link_read : (form : Form) (bytes : List ℕ) → 24 ≤ length bytes → HasMagic form bytes → HasVersion form bytes → ¬ HasLinkType form bytes → header_form bytes ≡ Err LinkType
-no_link_read form bytes long m v h = judged_by form bytes true false long m ((version-Decides form bytes).1 v) (is_false (has_link_type form bytes) (link-Decides form bytes) h)
+pub no_link_read : (form : Form) (bytes : List ℕ) → 24 ≤ length bytes → HasMagic form bytes → HasVersion form bytes →
+    ¬ HasLinkType form bytes → header_form bytes ≡ Err LinkType
+no_link_read form bytes long m v h =
+    judged_by form bytes true false long m ((version-Decides form bytes).1 v)
+    (is_false (has_link_type form bytes) (link-Decides form bytes) h)

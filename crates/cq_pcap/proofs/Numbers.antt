@@ -1,4 +1,5 @@
--- Numbers of a file in either order: each reads back from its bytes, and the bytes are those of the number read from them.
+-- Numbers of a file in either order: each reads back from its bytes, and the bytes are those of the number read from
+-- them.
 use Rattle.std.proofs.Common.{◌≡◌, ℕ, zero, suc, ◌+◌, ◌<◌, ◌≤◌, ◌^◌, List, [], ◌∷◌, ◌++◌, length, drop, slice_index, refl, ap, sym, subst, ◌∙◌, arith, Bool, true, false}
 use Rattle.std.proofs.lemmas.List.{drop-append-le, drop-drop, get_or-drop, length-drop}
 use Rattle.std.proofs.lemmas.Nat.{be_bytes_4, le_bytes_4}
@@ -12,23 +13,27 @@ AreBytes bytes = (i : ℕ) → slice_index bytes i < 256
 pub AreBytes-drop : (xs : List ℕ) (n : ℕ) → AreBytes xs → AreBytes (drop n xs)
 AreBytes-drop xs n fits i = subst (λ k. k < 256) (sym (get_or-drop n xs i 0)) (fits (n + i))
 
-pub number_in-reads_back : (big : Bool) (x : ℕ) (rest : List ℕ) → x < 2 ^ 32 → number_in big 4 (bytes_in big 4 x ++ rest) ≡ x
+pub number_in-reads_back : (big : Bool) (x : ℕ) (rest : List ℕ) → x < 2 ^ 32 →
+    number_in big 4 (bytes_in big 4 x ++ rest) ≡ x
 number_in-reads_back false x rest h = little_number-reads_back 4 x rest h
 number_in-reads_back true x rest h = big_number-reads_back 4 x rest h
 
-number_in-append : (big : Bool) (n : ℕ) (xs ys : List ℕ) → n ≤ length xs → number_in big n (xs ++ ys) ≡ number_in big n xs
+number_in-append : (big : Bool) (n : ℕ) (xs ys : List ℕ) → n ≤ length xs →
+    number_in big n (xs ++ ys) ≡ number_in big n xs
 number_in-append false n xs ys h = little_from-append n xs ys h
 number_in-append true n xs ys h = big_from-append n xs ys h
 
 -- what stands in front does not depend on what follows
-pub number_at-append : (big : Bool) (n : ℕ) (xs ys : List ℕ) (at : ℕ) → at + n ≤ length xs → number_at big n (xs ++ ys) at ≡ number_at big n xs at
+pub number_at-append : (big : Bool) (n : ℕ) (xs ys : List ℕ) (at : ℕ) → at + n ≤ length xs →
+    number_at big n (xs ++ ys) at ≡ number_at big n xs at
 unfolding number_at
 number_at-append big n xs ys at h =
     let long : n ≤ length (drop at xs) = omega (arith, length-drop at xs) in
     ap (number_in big n) (drop-append-le at xs ys (omega arith)) ∙ number_in-append big n (drop at xs) ys long
 
 -- a number after a place is one of the bytes from that place on
-pub number_at-drop : (big : Bool) (n : ℕ) (xs : List ℕ) (place at : ℕ) → number_at big n (drop place xs) at ≡ number_at big n xs (place + at)
+pub number_at-drop : (big : Bool) (n : ℕ) (xs : List ℕ) (place at : ℕ) →
+    number_at big n (drop place xs) at ≡ number_at big n xs (place + at)
 unfolding number_at
 number_at-drop big n xs place at = ap (number_in big n) (drop-drop at place xs)
 
@@ -38,7 +43,8 @@ number_at-lt false xs at fits = little_from-lt 0 4 (drop at xs) (AreBytes-drop x
 number_at-lt true xs at fits = big_from-lt 0 4 (drop at xs) (AreBytes-drop xs at fits)
 
 -- four bytes are those of the number in them
-four_spelt : (big : Bool) (a b c d : ℕ) (ys : List ℕ) → AreBytes (a ∷ b ∷ c ∷ d ∷ ys) → a ∷ b ∷ c ∷ d ∷ ys ≡ bytes_in big 4 (number_in big 4 (a ∷ b ∷ c ∷ d ∷ ys)) ++ ys
+four_spelt : (big : Bool) (a b c d : ℕ) (ys : List ℕ) → AreBytes (a ∷ b ∷ c ∷ d ∷ ys) →
+    a ∷ b ∷ c ∷ d ∷ ys ≡ bytes_in big 4 (number_in big 4 (a ∷ b ∷ c ∷ d ∷ ys)) ++ ys
 four_spelt big a b c d ys fits = spelt_in big
   where
     four : AreBytes (a ∷ b ∷ c ∷ d ∷ [])
@@ -49,18 +55,26 @@ four_spelt big a b c d ys fits = spelt_in big
     four (suc (suc (suc (suc k)))) = omega arith
 
     spelt_in : (o : Bool) → a ∷ b ∷ c ∷ d ∷ ys ≡ bytes_in o 4 (number_in o 4 (a ∷ b ∷ c ∷ d ∷ ys)) ++ ys
-    spelt_in false = ap (λ xs. xs ++ ys) (sym (le_bytes_4 (a ∷ b ∷ c ∷ d ∷ []) (number_in false 4 (a ∷ b ∷ c ∷ d ∷ ys)) refl four (omega arith)))
-    spelt_in true = ap (λ xs. xs ++ ys) (sym (be_bytes_4 (a ∷ b ∷ c ∷ d ∷ []) (number_in true 4 (a ∷ b ∷ c ∷ d ∷ ys)) refl four (omega arith)))
+    spelt_in false =
+        ap (λ xs. xs ++ ys) (sym (le_bytes_4 (a ∷ b ∷ c ∷ d ∷ []) (number_in false 4 (a ∷ b ∷ c ∷ d ∷ ys)) refl four
+        (omega arith)))
+    spelt_in true =
+        ap (λ xs. xs ++ ys) (sym (be_bytes_4 (a ∷ b ∷ c ∷ d ∷ []) (number_in true 4 (a ∷ b ∷ c ∷ d ∷ ys)) refl four
+        (omega arith)))
 
-first_four : (big : Bool) (ys : List ℕ) → AreBytes ys → 4 ≤ length ys → ys ≡ bytes_in big 4 (number_in big 4 ys) ++ drop 4 ys
+first_four : (big : Bool) (ys : List ℕ) → AreBytes ys → 4 ≤ length ys →
+    ys ≡ bytes_in big 4 (number_in big 4 ys) ++ drop 4 ys
 first_four big [] fits h = absurd (omega arith)
 first_four big (a ∷ []) fits h = absurd (omega arith)
 first_four big (a ∷ b ∷ []) fits h = absurd (omega arith)
 first_four big (a ∷ b ∷ c ∷ []) fits h = absurd (omega arith)
 first_four big (a ∷ b ∷ c ∷ d ∷ ys) fits h = four_spelt big a b c d ys fits
 
-pub number_at-spelt : (big : Bool) (xs : List ℕ) (at next : ℕ) → AreBytes xs → next ≡ at + 4 → next ≤ length xs → drop at xs ≡ bytes_in big 4 (number_at big 4 xs at) ++ drop next xs
+pub number_at-spelt : (big : Bool) (xs : List ℕ) (at next : ℕ) → AreBytes xs → next ≡ at + 4 → next ≤ length xs →
+    drop at xs ≡ bytes_in big 4 (number_at big 4 xs at) ++ drop next xs
 unfolding number_at
 number_at-spelt big xs at next fits e h =
     let long : 4 ≤ length (drop at xs) = omega (arith, length-drop at xs) in
-    first_four big (drop at xs) (AreBytes-drop xs at fits) long ∙ ap (λ ys. bytes_in big 4 (number_in big 4 (drop at xs)) ++ ys) (drop-drop 4 at xs ∙ ap (λ n. drop n xs) (sym e))
+    first_four big (drop at xs) (AreBytes-drop xs at fits) long
+    ∙ ap (λ ys. bytes_in big 4 (number_in big 4 (drop at xs)) ++ ys)
+    (drop-drop 4 at xs ∙ ap (λ n. drop n xs) (sym e))

@@ -1,4 +1,7 @@
--- What is read of bytes is spelt: the four bytes of each figure are those of the number read from them, so the bytes at the front are the spelling of the record read there, and the bytes after it are spelt in turn. This goes on until no byte is left, or to a record with a fault. Then the bytes before it are a capture, so the fault is the file's.
+-- What is read of bytes is spelt: the four bytes of each figure are those of the number read from them, so the bytes
+-- at the front are the spelling of the record read there, and the bytes after it are spelt in turn. This goes on
+-- until no byte is left, or to a record with a fault. Then the bytes before it are a capture, so the fault is the
+-- file's.
 use Rattle.std.proofs.Common.{◌≡◌, ◌⊎◌, ℕ, zero, suc, ◌+◌, ◌%◌, ◌<◌, ◌≤◌, ◌^◌, List, [], ◌∷◌, ◌++◌, length, map, take, drop, inl, inr, refl, ap, sym, subst, ◌∙◌, add-zero, arith, append_assoc, length-append}
 use Rattle.std.proofs.lemmas.List.{drop-drop, drop_at, length-drop, length-take-le, take-append-drop, take-append-le, take_at}
 use Rattle.std.specs.Prelude.{Result, Ok, Err}
@@ -16,11 +19,19 @@ use Rattle.cq_pcap.proofs.Records.{packets_from-cons, packets_from-fault, packet
 
 -- the record at the front
 abbrev pub front_record : Form → List ℕ → Record
-front_record form xs = record { seconds = number_at form.big 4 xs 0; subseconds = number_at form.big 4 xs 4; original = number_at form.big 4 xs 12; body = take (stated form xs) (drop 16 xs) }
+front_record form xs =
+    record {
+      seconds = number_at form.big 4 xs 0;
+      subseconds = number_at form.big 4 xs 4;
+      original = number_at form.big 4 xs 12;
+      body = take (stated form xs) (drop 16 xs);
+    }
 
 module _ (form : Form) (xs : List ℕ) (fits : AreBytes xs) (w : IsWhole form xs) where
   pub body_length : length (take (stated form xs) (drop 16 xs)) ≡ stated form xs
-  body_length = let k : stated form xs ≤ length (drop 16 xs) = omega (arith, w.body, length-drop 16 xs) in length-take-le (stated form xs) (drop 16 xs) k
+  body_length =
+      let k : stated form xs ≤ length (drop 16 xs) = omega (arith, w.body, length-drop 16 xs) in
+      length-take-le (stated form xs) (drop 16 xs) k
 
   pub record_fits : Fits (front_record form xs)
   record_fits = record {
@@ -40,11 +51,16 @@ module _ (form : Form) (xs : List ℕ) (fits : AreBytes xs) (w : IsWhole form xs
       let b : drop 4 xs ≡ word 4 ++ drop 8 xs = number_at-spelt form.big xs 4 8 fits refl (omega (arith, h)) in
       let c : drop 8 xs ≡ word 8 ++ drop 12 xs = number_at-spelt form.big xs 8 12 fits refl (omega (arith, h)) in
       let d : drop 12 xs ≡ word 12 ++ drop 16 xs = number_at-spelt form.big xs 12 16 fits refl h in
-      let body : drop 16 xs ≡ take len (drop 16 xs) ++ rest = sym (take-append-drop len (drop 16 xs)) ∙ ap (λ ys. take len (drop 16 xs) ++ ys) (drop-drop len 16 xs) in
-      let on : (n : ℕ) (ys zs : List ℕ) → ys ≡ zs → word n ++ ys ≡ word n ++ zs = λ n ys zs e. ap (λ us. word n ++ us) e in
-      let whole : word 0 ++ (word 4 ++ (word 8 ++ (word 12 ++ (take len (drop 16 xs) ++ rest)))) ≡ (word 0 ++ word 4 ++ word 8 ++ word 12 ++ take len (drop 16 xs)) ++ rest = simp append_assoc in
+      let body : drop 16 xs ≡ take len (drop 16 xs) ++ rest =
+      sym (take-append-drop len (drop 16 xs)) ∙ ap (λ ys. take len (drop 16 xs) ++ ys) (drop-drop len 16 xs) in
+      let on : (n : ℕ) (ys zs : List ℕ) → ys ≡ zs → word n ++ ys ≡ word n ++ zs =
+      λ n ys zs e. ap (λ us. word n ++ us) e in
+      let whole : word 0 ++ (word 4 ++ (word 8 ++ (word 12 ++ (take len (drop 16 xs) ++ rest))))
+      ≡ (word 0 ++ word 4 ++ word 8 ++ word 12 ++ take len (drop 16 xs)) ++ rest =
+      simp append_assoc in
       a ∙ on 0 _ _ (b ∙ on 4 _ _ (c ∙ on 8 _ _ (d ∙ on 12 _ _ body))) ∙ whole
-      ∙ ap (λ n. (word 0 ++ word 4 ++ bytes_in form.big 4 n ++ word 12 ++ take len (drop 16 xs)) ++ rest) (sym body_length)
+      ∙ ap (λ n. (word 0 ++ word 4 ++ bytes_in form.big 4 n ++ word 12 ++ take len (drop 16 xs)) ++ rest)
+      (sym body_length)
 
 -- these records, whose packets are kept, spell the bytes
 record SpellRecords (form : Form) (xs : List ℕ) (packets : List Captured) : Type 0 where
@@ -67,7 +83,9 @@ abbrev Walked : Form → ℕ → List ℕ → Result (List Captured) Fault → T
 Walked form place xs (Ok packets) = SpellRecords form xs packets
 Walked form place xs (Err fault) = StopsAfter form place xs fault
 
-one_more : (form : Form) (place : ℕ) (xs : List ℕ) (left : Result (List Captured) Fault) → AreBytes xs → IsWhole form xs → Walked form (place + (16 + stated form xs)) (drop (16 + stated form xs) xs) left → Walked form place xs (left >>= (λ ps. Ok (front_packet form xs ∷ ps)))
+one_more : (form : Form) (place : ℕ) (xs : List ℕ) (left : Result (List Captured) Fault) → AreBytes xs →
+    IsWhole form xs → Walked form (place + (16 + stated form xs)) (drop (16 + stated form xs) xs) left →
+    Walked form place xs (left >>= (λ ps. Ok (front_packet form xs ∷ ps)))
 one_more form place xs (Ok ps) fits w s = record {
   records = front_record form xs ∷ s.records;
   fit = (record_fits form xs fits w, s.fit);
@@ -82,42 +100,65 @@ one_more form place xs (Err fault) fits w s =
     let all = ap length whole ∙ length-append (spelling form.big r) (drop (16 + stated form xs) xs) in
     let b = w.body in
     omega (arith, all, length-drop (16 + stated form xs) xs) in
-    let ends : place + (16 + stated form xs) + length spelt ≡ place + length (spelling form.big r ++ spelt) = omega (arith, len, length-append (spelling form.big r) spelt) in
+    let ends : place + (16 + stated form xs) + length spelt ≡ place + length (spelling form.big r ++ spelt) =
+    omega (arith, len, length-append (spelling form.big r) spelt) in
     record {
       records = r ∷ s.records;
       rest = s.rest;
       fit = (record_fits form xs fits w, s.fit);
-      whole = whole ∙ ap (λ ys. spelling form.big r ++ ys) s.whole ∙ sym (append_assoc (spelling form.big r) spelt s.rest);
+      whole =
+          whole ∙ ap (λ ys. spelling form.big r ++ ys) s.whole
+          ∙ sym (append_assoc (spelling form.big r) spelt s.rest);
       some = s.some;
       first = ap (λ n. first_packet form n s.rest) (sym ends) ∙ s.first;
     }
 
 -- the bytes from a place on, by what stands at the front
-walk_first : (form : Form) (place : ℕ) (xs : List ℕ) (first : Result Captured Fault) → AreBytes xs → 0 < length xs → first_packet form place xs ≡ first → Says form place xs first → (IsWhole form xs → Walked form (place + (16 + stated form xs)) (drop (16 + stated form xs) xs) (packets_from form (place + (16 + stated form xs)) (drop (16 + stated form xs) xs))) → Walked form place xs (packets_from form place xs)
+walk_first : (form : Form) (place : ℕ) (xs : List ℕ) (first : Result Captured Fault) → AreBytes xs → 0 < length xs →
+    first_packet form place xs ≡ first → Says form place xs first →
+    (IsWhole form xs →
+    Walked form (place + (16 + stated form xs)) (drop (16 + stated form xs) xs)
+    (packets_from form (place + (16 + stated form xs)) (drop (16 + stated form xs) xs))) →
+    Walked form place xs (packets_from form place xs)
 walk_first form place xs (Ok p) fits some e says more =
     let w = says.0 in
     let len = body_length form xs fits w in
     let P : Result (List Captured) Fault → Type 0 = Walked form place xs in
-    let next : packets_from form place xs ≡ (packets_from form (place + (16 + stated form xs)) (drop (16 + stated form xs) xs) >>= (λ ps. Ok (front_packet form xs ∷ ps))) =
+    let next : packets_from form place xs
+    ≡ (packets_from form (place + (16 + stated form xs)) (drop (16 + stated form xs) xs) >>=
+    (λ ps. Ok (front_packet form xs ∷ ps))) =
     packets_from-cons form place xs (front_packet form xs) some (first_whole form place xs w)
-    ∙ ap (λ n. packets_from form (place + (16 + n)) (drop (16 + n) xs) >>= (λ ps. Ok (front_packet form xs ∷ ps))) len in
+    ∙ ap (λ n. packets_from form (place + (16 + n)) (drop (16 + n) xs) >>= (λ ps. Ok (front_packet form xs ∷ ps))) len
+    in
     subst P (sym next) (one_more form place xs _ fits w (more w))
 walk_first form place xs (Err fault) fits some e says more =
     let P : Result (List Captured) Fault → Type 0 = Walked form place xs in
     subst P (sym (packets_from-fault form place xs fault some e))
-    (record { records = []; rest = xs; fit = tt; whole = refl; some = some; first = ap (λ n. first_packet form n xs) (add-zero place) ∙ e })
+    (record {
+      records = [];
+      rest = xs;
+      fit = tt;
+      whole = refl;
+      some = some;
+      first = ap (λ n. first_packet form n xs) (add-zero place) ∙ e;
+    })
 
-walk : (form : Form) (n place : ℕ) (xs : List ℕ) → AreBytes xs → length xs ≤ n → Walked form place xs (packets_from form place xs)
+walk : (form : Form) (n place : ℕ) (xs : List ℕ) → AreBytes xs → length xs ≤ n →
+    Walked form place xs (packets_from form place xs)
 walk form n place [] fits h =
     let P : Result (List Captured) Fault → Type 0 = Walked form place [] in
     subst P (sym (packets_from-nil form place)) (record { records = []; fit = tt; whole = refl; kept = refl })
 walk form zero place (b ∷ bs) fits h = absurd (omega arith)
 walk form (suc n) place (b ∷ bs) fits h =
-    walk_first form place (b ∷ bs) (first_packet form place (b ∷ bs)) fits (omega arith) refl (first_says form place (b ∷ bs))
-    (λ w. walk form n (place + (16 + stated form (b ∷ bs))) (drop (16 + stated form (b ∷ bs)) (b ∷ bs)) (AreBytes-drop (b ∷ bs) (16 + stated form (b ∷ bs)) fits) (omega (arith, length-drop (16 + stated form (b ∷ bs)) (b ∷ bs))))
+    walk_first form place (b ∷ bs) (first_packet form place (b ∷ bs)) fits (omega arith) refl
+    (first_says form place (b ∷ bs))
+    (λ w. walk form n (place + (16 + stated form (b ∷ bs))) (drop (16 + stated form (b ∷ bs)) (b ∷ bs))
+    (AreBytes-drop (b ∷ bs) (16 + stated form (b ∷ bs)) fits) (omega
+    (arith, length-drop (16 + stated form (b ∷ bs)) (b ∷ bs))))
 
 -- the first 24 bytes are a header where all bytes say so
-module _ (form : Form) (bytes : List ℕ) (long : 24 ≤ length bytes) (m : HasMagic form bytes) (v : HasVersion form bytes) (l : HasLinkType form bytes) where
+module _ (form : Form) (bytes : List ℕ) (long : 24 ≤ length bytes) (m : HasMagic form bytes)
+    (v : HasVersion form bytes) (l : HasLinkType form bytes) where
   header_length : length (take 24 bytes) ≡ 24
   header_length = length-take-le 24 bytes long
 
@@ -129,18 +170,24 @@ module _ (form : Form) (bytes : List ℕ) (long : 24 ≤ length bytes) (m : HasM
   pub begins : IsHeader form (take 24 bytes)
   begins = record {
     len = header_length;
-    magic = sym (take-append-le 4 (take 24 bytes) (drop 24 bytes) (omega (arith, header_length))) ∙ ap (take 4) (take-append-drop 24 bytes) ∙ m;
+    magic =
+        sym (take-append-le 4 (take 24 bytes) (drop 24 bytes) (omega (arith, header_length)))
+        ∙ ap (take 4) (take-append-drop 24 bytes) ∙ m;
     version = record { major = in_header 2 4 (omega arith) ∙ v.major; minor = in_header 2 6 (omega arith) ∙ v.minor };
     link = ap (λ n. n % 2 ^ 16) (in_header 4 20 (omega arith)) ∙ l;
   }
 
   -- where the bytes after the header are walked to a fault, the bytes before it are a capture
-  spelt_up_to : (fault : Fault) (s : StopsAfter form 24 (drop 24 bytes) fault) → IsSpeltUpTo form bytes (24 + length (flat_map (spelling form.big) s.records))
+  spelt_up_to : (fault : Fault) (s : StopsAfter form 24 (drop 24 bytes) fault) →
+      IsSpeltUpTo form bytes (24 + length (flat_map (spelling form.big) s.records))
   spelt_up_to fault s =
       let spelt = flat_map (spelling form.big) s.records in
       let some = s.some in
-      let whole : bytes ≡ (take 24 bytes ++ spelt) ++ s.rest = sym (take-append-drop 24 bytes) ∙ ap (λ ys. take 24 bytes ++ ys) s.whole ∙ sym (append_assoc (take 24 bytes) spelt s.rest) in
-      let len : length (take 24 bytes ++ spelt) ≡ 24 + length spelt = omega (arith, header_length, length-append (take 24 bytes) spelt) in
+      let whole : bytes ≡ (take 24 bytes ++ spelt) ++ s.rest =
+      sym (take-append-drop 24 bytes) ∙ ap (λ ys. take 24 bytes ++ ys) s.whole
+      ∙ sym (append_assoc (take 24 bytes) spelt s.rest) in
+      let len : length (take 24 bytes ++ spelt) ≡ 24 + length spelt =
+      omega (arith, header_length, length-append (take 24 bytes) spelt) in
       record {
         packets = map (captured_of form) s.records;
         spelt = record {
@@ -155,10 +202,12 @@ module _ (form : Form) (bytes : List ℕ) (long : 24 ≤ length bytes) (m : HasM
       }
 
   -- and the fault stands there
-  rest_is : (fault : Fault) (s : StopsAfter form 24 (drop 24 bytes) fault) → drop (24 + length (flat_map (spelling form.big) s.records)) bytes ≡ s.rest
+  rest_is : (fault : Fault) (s : StopsAfter form 24 (drop 24 bytes) fault) →
+      drop (24 + length (flat_map (spelling form.big) s.records)) bytes ≡ s.rest
   rest_is fault s =
       let spelt = flat_map (spelling form.big) s.records in
-      sym (drop-drop (length spelt) 24 bytes) ∙ ap (drop (length spelt)) s.whole ∙ drop_at spelt s.rest (length spelt) refl
+      sym (drop-drop (length spelt) 24 bytes) ∙ ap (drop (length spelt)) s.whole
+      ∙ drop_at spelt s.rest (length spelt) refl
 
 -- what an answer says of the file
 abbrev Comes : List ℕ → Result (List Captured) Fault → Type 0
@@ -166,7 +215,8 @@ Comes bytes (Ok packets) = Spells bytes packets
 Comes bytes (Err fault) = IsFaulty bytes fault
 
 -- a fault at a place where the bytes before it are a capture
-pub faulty_at : (form : Form) (bytes : List ℕ) (offset : ℕ) (fault : Fault) → IsSpeltUpTo form bytes offset → Says form offset (drop offset bytes) (Err fault) → IsFaulty bytes fault
+pub faulty_at : (form : Form) (bytes : List ℕ) (offset : ℕ) (fault : Fault) → IsSpeltUpTo form bytes offset →
+    Says form offset (drop offset bytes) (Err fault) → IsFaulty bytes fault
 faulty_at form bytes offset (CutHeader o) u h =
     let P : ℕ → Type 0 = λ n. IsFaulty bytes (CutHeader n) in
     let cut = h.1 in
@@ -174,20 +224,34 @@ faulty_at form bytes offset (CutHeader o) u h =
 faulty_at form bytes offset (LongRecord o len) u h =
     let P : ℕ → Type 0 = λ n. IsFaulty bytes (LongRecord n len) in
     let there = h.1 in
-    subst P (sym h.0) (form, u, omega (arith, length-drop offset bytes), h.2 ∙ number_at-drop form.big 4 bytes offset 8, h.3)
+    subst P (sym h.0) (
+      form,
+      u,
+      omega (arith, length-drop offset bytes),
+      h.2 ∙ number_at-drop form.big 4 bytes offset 8,
+      h.3,
+    )
 faulty_at form bytes offset (CutBody o) u h =
     let P : ℕ → Type 0 = λ n. IsFaulty bytes (CutBody n) in
     let there = h.1 in
     let most = h.2 in
     let cut = h.3 in
     let is = number_at-drop form.big 4 bytes offset 8 in
-    subst P (sym h.0) (form, u, omega (arith, length-drop offset bytes), omega arith, omega (arith, length-drop offset bytes))
+    subst P (sym h.0) (
+      form,
+      u,
+      omega (arith, length-drop offset bytes),
+      omega arith,
+      omega (arith, length-drop offset bytes),
+    )
 faulty_at form bytes offset NoHeader u h = absurd h
 faulty_at form bytes offset Magic u h = absurd h
 faulty_at form bytes offset Version u h = absurd h
 faulty_at form bytes offset LinkType u h = absurd h
 
-comes_after : (form : Form) (bytes : List ℕ) (answer : Result (List Captured) Fault) → 24 ≤ length bytes → HasMagic form bytes → HasVersion form bytes → HasLinkType form bytes → Walked form 24 (drop 24 bytes) answer → Comes bytes answer
+comes_after : (form : Form) (bytes : List ℕ) (answer : Result (List Captured) Fault) → 24 ≤ length bytes →
+    HasMagic form bytes → HasVersion form bytes → HasLinkType form bytes → Walked form 24 (drop 24 bytes) answer →
+    Comes bytes answer
 comes_after form bytes (Ok packets) long m v l s = (
   form,
   record {
@@ -201,14 +265,18 @@ comes_after form bytes (Ok packets) long m v l s = (
 )
 comes_after form bytes (Err fault) long m v l s =
     let offset = 24 + length (flat_map (spelling form.big) s.records) in
-    let there : first_packet form offset (drop offset bytes) ≡ Err fault = ap (first_packet form offset) (rest_is form bytes long m v l fault s) ∙ s.first in
+    let there : first_packet form offset (drop offset bytes) ≡ Err fault =
+    ap (first_packet form offset) (rest_is form bytes long m v l fault s) ∙ s.first in
     let P : Result Captured Fault → Type 0 = Says form offset (drop offset bytes) in
-    faulty_at form bytes offset fault (spelt_up_to form bytes long m v l fault s) (subst P there (first_says form offset (drop offset bytes)))
+    faulty_at form bytes offset fault (spelt_up_to form bytes long m v l fault s)
+    (subst P there (first_says form offset (drop offset bytes)))
 
-comes_by : (bytes : List ℕ) (header : Result Form Fault) → AreBytes bytes → header_form bytes ≡ header → Comes bytes (header >>= (λ form. packets_from form 24 (drop 24 bytes)))
+comes_by : (bytes : List ℕ) (header : Result Form Fault) → AreBytes bytes → header_form bytes ≡ header →
+    Comes bytes (header >>= (λ form. packets_from form 24 (drop 24 bytes)))
 comes_by bytes (Ok form) fits e =
     let h = header_ok bytes form e in
-    comes_after form bytes _ h.0 h.1 h.2 h.3 (walk form (length (drop 24 bytes)) 24 (drop 24 bytes) (AreBytes-drop bytes 24 fits) (omega arith))
+    comes_after form bytes _ h.0 h.1 h.2 h.3 (walk form (length (drop 24 bytes)) 24 (drop 24 bytes)
+    (AreBytes-drop bytes 24 fits) (omega arith))
 comes_by bytes (Err fault) fits e = header_err bytes fault e
 
 -- a file of bytes is what is read of it
@@ -216,15 +284,21 @@ comes : (bytes : List ℕ) → AreBytes bytes → Comes bytes (packets_of bytes)
 unfolding packets_of
 comes bytes fits = comes_by bytes (header_form bytes) fits refl
 
-pub read_is_spelt : (bytes : List ℕ) (packets : List Captured) → AreBytes bytes → packets_of bytes ≡ Ok packets → Spells bytes packets
-read_is_spelt bytes packets fits e = let P : Result (List Captured) Fault → Type 0 = Comes bytes in subst P e (comes bytes fits)
+pub read_is_spelt : (bytes : List ℕ) (packets : List Captured) → AreBytes bytes → packets_of bytes ≡ Ok packets →
+    Spells bytes packets
+read_is_spelt bytes packets fits e =
+    let P : Result (List Captured) Fault → Type 0 = Comes bytes in subst P e (comes bytes fits)
 
-pub read_is_faulty : (bytes : List ℕ) (fault : Fault) → AreBytes bytes → packets_of bytes ≡ Err fault → IsFaulty bytes fault
-read_is_faulty bytes fault fits e = let P : Result (List Captured) Fault → Type 0 = Comes bytes in subst P e (comes bytes fits)
+pub read_is_faulty : (bytes : List ℕ) (fault : Fault) → AreBytes bytes → packets_of bytes ≡ Err fault →
+    IsFaulty bytes fault
+read_is_faulty bytes fault fits e =
+    let P : Result (List Captured) Fault → Type 0 = Comes bytes in subst P e (comes bytes fits)
 
-either_of : (bytes : List ℕ) (answer : Result (List Captured) Fault) → Comes bytes answer → ((packets : List Captured) × Spells bytes packets) ⊎ ((fault : Fault) × IsFaulty bytes fault)
+either_of : (bytes : List ℕ) (answer : Result (List Captured) Fault) → Comes bytes answer →
+    ((packets : List Captured) × Spells bytes packets) ⊎ ((fault : Fault) × IsFaulty bytes fault)
 either_of bytes (Ok packets) h = inl (packets, h)
 either_of bytes (Err fault) h = inr (fault, h)
 
-pub spelt_or_faulty : (bytes : List ℕ) → AreBytes bytes → ((packets : List Captured) × Spells bytes packets) ⊎ ((fault : Fault) × IsFaulty bytes fault)
+pub spelt_or_faulty : (bytes : List ℕ) → AreBytes bytes →
+    ((packets : List Captured) × Spells bytes packets) ⊎ ((fault : Fault) × IsFaulty bytes fault)
 spelt_or_faulty bytes fits = either_of bytes (packets_of bytes) (comes bytes fits)

@@ -97,7 +97,9 @@ places_more form bytes rows at row small so_far s r =
     let pushed : packets_at bytes (rows ++ row ∷ []) ≡ front ++ p ∷ [] = map-append (packet_at bytes) rows (row ∷ []) in
     let len : length p.body ≡ row.len = length_is form bytes at row r in
     let ends : row.at + row.len ≡ file_length (packets_at bytes (rows ++ row ∷ [])) =
-    omega (arith, so_far, len, r.at, ap file_length pushed, sum_by_push (λ (q : Captured). 16 + length q.body) front p) in
+    omega
+    (arith, so_far, len, r.at, ap file_length pushed, sum_by_push (λ (q : Captured). 16 + length q.body) front p)
+    in
     let within = inside_is form bytes at row r in
     let place : 24 + records_length front + 16 ≡ row.at = omega (arith, so_far, r.at) in
     let row_is : row_of p (24 + records_length front) ≡ row =
@@ -114,7 +116,8 @@ places_more form bytes rows at row small so_far s r =
             subst Q (sym pushed) (AllByRecursion-push (λ (q : Captured). q.stamp < 2 ^ 63) front p s.stamps r.early);
         small = omega (arith, within, ends);
         bodies =
-            subst R (sym pushed) (All-push (λ (q : Captured). length q.body ≤ 262144) front p s.bodies (omega (arith, len, r.short)));
+            subst R (sym pushed) (All-push (λ (q : Captured). length q.body ≤ 262144) front p s.bodies
+            (omega (arith, len, r.short)));
       },
     )
 
@@ -143,7 +146,9 @@ module _ (form : Form) (bytes : List ℕ) (at : ℕ) (packets : List Captured) (
       sym (take-append-drop at bytes) ∙ ap (λ ys. take at bytes ++ ys) spelt_next
       ∙ sym (append_assoc (take at bytes) (spelling form.big next) rest) in
       let len : length (take at bytes ++ spelling form.big next) ≡ at + (16 + stated form xs) =
-      omega (arith, length-append (take at bytes) (spelling form.big next), length-take-le at bytes within, next_length) in
+      omega
+      (arith, length-append (take at bytes) (spelling form.big next), length-take-le at bytes within, next_length)
+      in
       ap (take (at + (16 + stated form xs))) whole
       ∙ take_at (take at bytes ++ spelling form.big next) rest (at + (16 + stated form xs)) len
 
@@ -156,7 +161,8 @@ module _ (form : Form) (bytes : List ℕ) (at : ℕ) (packets : List Captured) (
     whole =
         front_is ∙ ap (λ ys. ys ++ spelling form.big next) s.whole
         ∙ append_assoc s.header (flat_map (spelling form.big) s.records) (spelling form.big next)
-        ∙ ap (λ ys. s.header ++ (flat_map (spelling form.big) s.records ++ ys)) (sym (append-nil (spelling form.big next)))
+        ∙ ap (λ ys. s.header ++ (flat_map (spelling form.big) s.records ++ ys))
+        (sym (append-nil (spelling form.big next)))
         ∙ ap (λ ys. s.header ++ ys) (sym (flat_map-append (spelling form.big) s.records (next ∷ [])));
     kept = map-append (captured_of form) s.records (next ∷ []) ∙ ap (λ ps. ps ++ front_packet form xs ∷ []) s.kept;
   }

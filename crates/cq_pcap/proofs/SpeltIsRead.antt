@@ -1,4 +1,5 @@
--- What is spelt is read: each number reads back from its four bytes, so the record at the front is the one that was put there, and the bytes after it are the rest.
+-- What is spelt is read: each number reads back from its four bytes, so the record at the front is the one that was
+-- put there, and the bytes after it are the rest.
 use Rattle.std.proofs.Common.{◌≡◌, ℕ, ◌+◌, ◌*◌, ◌<◌, ◌^◌, List, [], ◌∷◌, ◌++◌, length, map, take, drop, refl, ap, sym, ◌∙◌, add-zero, arith, append_assoc, length-append, Bool, true, false}
 use Rattle.std.proofs.lemmas.List.{append-nil, drop-drop, drop_at, length-drop, length-take-le, take-append-drop, take_at}
 use Rattle.std.specs.Prelude.{Result, Ok, Err}
@@ -28,7 +29,9 @@ unfolding number_at
 stands false r rest fit = record {
   seconds = number_in-reads_back false r.seconds (drop 4 (spelling false r ++ rest)) fit.seconds;
   subseconds = number_in-reads_back false r.subseconds (drop 8 (spelling false r ++ rest)) fit.subseconds;
-  len = let b : length r.body < 2 ^ 32 = omega (arith, fit.body) in number_in-reads_back false (length r.body) (drop 12 (spelling false r ++ rest)) b;
+  len =
+      let b : length r.body < 2 ^ 32 = omega (arith, fit.body) in
+      number_in-reads_back false (length r.body) (drop 12 (spelling false r ++ rest)) b;
   original = number_in-reads_back false r.original (r.body ++ rest) fit.original;
   left = refl;
   long = omega (arith, length-append r.body rest);
@@ -36,7 +39,9 @@ stands false r rest fit = record {
 stands true r rest fit = record {
   seconds = number_in-reads_back true r.seconds (drop 4 (spelling true r ++ rest)) fit.seconds;
   subseconds = number_in-reads_back true r.subseconds (drop 8 (spelling true r ++ rest)) fit.subseconds;
-  len = let b : length r.body < 2 ^ 32 = omega (arith, fit.body) in number_in-reads_back true (length r.body) (drop 12 (spelling true r ++ rest)) b;
+  len =
+      let b : length r.body < 2 ^ 32 = omega (arith, fit.body) in
+      number_in-reads_back true (length r.body) (drop 12 (spelling true r ++ rest)) b;
   original = number_in-reads_back true r.original (r.body ++ rest) fit.original;
   left = refl;
   long = omega (arith, length-append r.body rest);
@@ -49,49 +54,71 @@ module _ (form : Form) (r : Record) (rest : List ℕ) (fit : Fits r) where
       let len = s.len in
       let long = s.long in
       let most = fit.body in
-      let body : take (number_at form.big 4 (spelling form.big r ++ rest) 8) (drop 16 (spelling form.big r ++ rest)) ≡ r.body =
-      ap (λ n. take n (drop 16 (spelling form.big r ++ rest))) s.len ∙ ap (take (length r.body)) s.left ∙ take_at r.body rest (length r.body) refl in
-      first_whole form place (spelling form.big r ++ rest) (record { figures = omega arith; most = omega arith; body = omega arith })
-      ∙ (λ i. Ok (record { stamp = s.seconds i * 1000000000 + s.subseconds i * unit form.nano; original = s.original i; body = body i }))
+      let body : take (number_at form.big 4 (spelling form.big r ++ rest) 8) (drop 16 (spelling form.big r ++ rest))
+      ≡ r.body =
+      ap (λ n. take n (drop 16 (spelling form.big r ++ rest))) s.len ∙ ap (take (length r.body)) s.left
+      ∙ take_at r.body rest (length r.body) refl in
+      first_whole form place (spelling form.big r ++ rest) (record {
+        figures = omega arith;
+        most = omega arith;
+        body = omega arith;
+      })
+      ∙ (λ i. Ok (record {
+        stamp = s.seconds i * 1000000000 + s.subseconds i * unit form.nano;
+        original = s.original i;
+        body = body i;
+      }))
 
   after_is : drop (16 + length r.body) (spelling form.big r ++ rest) ≡ rest
   after_is =
       let s = stands form.big r rest fit in
-      sym (drop-drop (length r.body) 16 (spelling form.big r ++ rest)) ∙ ap (drop (length r.body)) s.left ∙ drop_at r.body rest (length r.body) refl
+      sym (drop-drop (length r.body) 16 (spelling form.big r ++ rest)) ∙ ap (drop (length r.body)) s.left
+      ∙ drop_at r.body rest (length r.body) refl
 
   length_is : length (spelling form.big r ++ rest) ≡ 16 + (length r.body + length rest)
   length_is = (stands form.big r rest fit).long
 
-joined-cons : (p : Captured) (ps : List Captured) (left : Result (List Captured) Fault) → (joined ps left >>= (λ qs. Ok (p ∷ qs))) ≡ joined (p ∷ ps) left
+joined-cons : (p : Captured) (ps : List Captured) (left : Result (List Captured) Fault) →
+    (joined ps left >>= (λ qs. Ok (p ∷ qs))) ≡ joined (p ∷ ps) left
 joined-cons p ps (Ok qs) = refl
 joined-cons p ps (Err e) = refl
 
 -- records that are spelt are read, whatever follows them
-records_read : (form : Form) (place : ℕ) (rs : List Record) (rest : List ℕ) → AllByRecursion Fits rs → packets_from form place (flat_map (spelling form.big) rs ++ rest) ≡ joined (map (captured_of form) rs) (packets_from form (place + length (flat_map (spelling form.big) rs)) rest)
-records_read form place [] rest fits = ap (λ n. packets_from form n rest) (sym (add-zero place)) ∙ sym (joined-nil (packets_from form (place + 0) rest))
+records_read : (form : Form) (place : ℕ) (rs : List Record) (rest : List ℕ) → AllByRecursion Fits rs →
+    packets_from form place (flat_map (spelling form.big) rs ++ rest)
+    ≡ joined (map (captured_of form) rs) (packets_from form (place + length (flat_map (spelling form.big) rs))
+    rest)
+records_read form place [] rest fits =
+    ap (λ n. packets_from form n rest) (sym (add-zero place)) ∙ sym (joined-nil (packets_from form (place + 0) rest))
 records_read form place (r ∷ rs) rest fits =
     let spelt = flat_map (spelling form.big) rs in
     let more = spelt ++ rest in
     let p = captured_of form r in
     let some : 0 < length (spelling form.big r ++ more) = omega (arith, length_is form r more fits.0) in
-    let ends : place + (16 + length r.body) + length spelt ≡ place + length (spelling form.big r ++ spelt) = omega (arith, length_is form r spelt fits.0) in
+    let ends : place + (16 + length r.body) + length spelt ≡ place + length (spelling form.big r ++ spelt) =
+    omega (arith, length_is form r spelt fits.0) in
     ap (packets_from form place) (append_assoc (spelling form.big r) spelt rest)
     ∙ packets_from-cons form place (spelling form.big r ++ more) p some (first_is form r more fits.0 place)
-    ∙ ap (λ (ys : List ℕ). packets_from form (place + (16 + length r.body)) ys >>= (λ ps. Ok (p ∷ ps))) (after_is form r more fits.0)
-    ∙ ap (λ (left : Result (List Captured) Fault). left >>= (λ ps. Ok (p ∷ ps))) (records_read form (place + (16 + length r.body)) rs rest fits.1)
+    ∙ ap (λ (ys : List ℕ). packets_from form (place + (16 + length r.body)) ys >>= (λ ps. Ok (p ∷ ps)))
+    (after_is form r more fits.0)
+    ∙ ap (λ (left : Result (List Captured) Fault). left >>= (λ ps. Ok (p ∷ ps)))
+    (records_read form (place + (16 + length r.body)) rs rest fits.1)
     ∙ joined-cons p (map (captured_of form) rs) (packets_from form (place + (16 + length r.body) + length spelt) rest)
     ∙ ap (λ n. joined (p ∷ map (captured_of form) rs) (packets_from form n rest)) ends
 
 -- so is a capture
-capture_read : (form : Form) (front rest : List ℕ) (packets : List Captured) → SpellsIn form front packets → packets_of (front ++ rest) ≡ joined packets (packets_from form (length front) rest)
+capture_read : (form : Form) (front rest : List ℕ) (packets : List Captured) → SpellsIn form front packets →
+    packets_of (front ++ rest) ≡ joined packets (packets_from form (length front) rest)
 unfolding packets_of
 capture_read form front rest packets s =
     let spelt = flat_map (spelling form.big) s.records in
-    let whole : front ++ rest ≡ s.header ++ (spelt ++ rest) = ap (λ ys. ys ++ rest) s.whole ∙ append_assoc s.header spelt rest in
+    let whole : front ++ rest ≡ s.header ++ (spelt ++ rest) =
+    ap (λ ys. ys ++ rest) s.whole ∙ append_assoc s.header spelt rest in
     let len = s.begins.len in
     let ends : 24 + length spelt ≡ length front = omega (arith, len, ap length s.whole, length-append s.header spelt) in
     ap packets_of whole
-    ∙ ap (λ (r : Result Form Fault). r >>= (λ f. packets_from f 24 (drop 24 (s.header ++ (spelt ++ rest))))) (header_read form s.header (spelt ++ rest) s.begins)
+    ∙ ap (λ (r : Result Form Fault). r >>= (λ f. packets_from f 24 (drop 24 (s.header ++ (spelt ++ rest)))))
+    (header_read form s.header (spelt ++ rest) s.begins)
     ∙ ap (packets_from form 24) (drop_at s.header (spelt ++ rest) 24 s.begins.len)
     ∙ records_read form 24 s.records rest s.fit
     ∙ ap (λ ps. joined ps (packets_from form (24 + length spelt) rest)) s.kept
@@ -99,10 +126,12 @@ capture_read form front rest packets s =
 
 pub spelt_is_read : (bytes : List ℕ) (packets : List Captured) → Spells bytes packets → packets_of bytes ≡ Ok packets
 spelt_is_read bytes packets s =
-    ap packets_of (sym (append-nil bytes)) ∙ capture_read s.0 bytes [] packets s.1 ∙ joined-end packets _ (packets_from-nil s.0 (length bytes))
+    ap packets_of (sym (append-nil bytes)) ∙ capture_read s.0 bytes [] packets s.1
+    ∙ joined-end packets _ (packets_from-nil s.0 (length bytes))
 
 -- a fault of the record after a capture is the file's
-record_fault_read : (form : Form) (bytes : List ℕ) (offset : ℕ) (fault : Fault) → IsSpeltUpTo form bytes offset → first_packet form offset (drop offset bytes) ≡ Err fault → packets_of bytes ≡ Err fault
+record_fault_read : (form : Form) (bytes : List ℕ) (offset : ℕ) (fault : Fault) → IsSpeltUpTo form bytes offset →
+    first_packet form offset (drop offset bytes) ≡ Err fault → packets_of bytes ≡ Err fault
 record_fault_read form bytes offset fault u e =
     let left = u.left in
     let some : 0 < length (drop offset bytes) = omega (arith, length-drop offset bytes) in
@@ -124,7 +153,8 @@ fault_is_read bytes Version h = header_fault_read bytes Version (no_version_read
 fault_is_read bytes LinkType h = header_fault_read bytes LinkType (no_link_read h.1 bytes h.0 h.2 h.3 h.4)
 fault_is_read bytes (CutHeader offset) h =
     let cut = h.2 in
-    record_fault_read h.0 bytes offset (CutHeader offset) h.1 (first_cut_header h.0 offset (drop offset bytes) (let left = h.1.left in omega (arith, length-drop offset bytes)))
+    record_fault_read h.0 bytes offset (CutHeader offset) h.1 (first_cut_header h.0 offset (drop offset bytes)
+    (let left = h.1.left in omega (arith, length-drop offset bytes)))
 fault_is_read bytes (LongRecord offset len) h =
     let there = h.2 in
     let is = number_at-drop h.0.big 4 bytes offset 8 in
@@ -132,11 +162,13 @@ fault_is_read bytes (LongRecord offset len) h =
     let long : 262144 < stated h.0 (drop offset bytes) = let l = h.4 in omega arith in
     let e : stated h.0 (drop offset bytes) ≡ len = is ∙ sym same in
     record_fault_read h.0 bytes offset (LongRecord offset len) h.1
-    (first_long h.0 offset (drop offset bytes) (omega (arith, length-drop offset bytes)) long ∙ ap (λ n. Err (LongRecord offset n)) e)
+    (first_long h.0 offset (drop offset bytes) (omega (arith, length-drop offset bytes)) long
+    ∙ ap (λ n. Err (LongRecord offset n)) e)
 fault_is_read bytes (CutBody offset) h =
     let there = h.2 in
     let is = number_at-drop h.0.big 4 bytes offset 8 in
     let most = h.3 in
     let cut = h.4 in
     record_fault_read h.0 bytes offset (CutBody offset) h.1
-    (first_cut_body h.0 offset (drop offset bytes) (omega (arith, length-drop offset bytes)) (omega arith) (omega (arith, length-drop offset bytes)))
+    (first_cut_body h.0 offset (drop offset bytes) (omega (arith, length-drop offset bytes)) (omega arith)
+    (omega (arith, length-drop offset bytes)))

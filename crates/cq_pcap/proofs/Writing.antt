@@ -7,9 +7,13 @@ use Rattle.cq_pcap.specs.Record.{spelling}
 use Rattle.cq_pcap.specs.Written.{written, written_header, written_record}
 use Rattle.cq_pcap.specs.declared.write.OutPacket.{OutPacket}
 
-pub written-more : (packets : List OutPacket) (i : ℕ) (p : OutPacket) → i < length packets → p ≡ get_or packets i p → written (take i packets) ++ spelling false (written_record p) ≡ written (take (i + 1) packets)
+pub written-more : (packets : List OutPacket) (i : ℕ) (p : OutPacket) → i < length packets → p ≡ get_or packets i p →
+    written (take i packets) ++ spelling false (written_record p) ≡ written (take (i + 1) packets)
 written-more packets i p h e =
     let record_of : OutPacket → List ℕ = λ q. spelling false (written_record q) in
-    let more : take (i + 1) packets ≡ take i packets ++ p ∷ [] = take_more packets i p h ∙ ap (λ q. take i packets ++ q ∷ []) (sym e) in
-    let joined : flat_map record_of (take (i + 1) packets) ≡ flat_map record_of (take i packets) ++ record_of p = ap (flat_map record_of) more ∙ flat_map-append record_of (take i packets) (p ∷ []) ∙ ap (λ bytes. flat_map record_of (take i packets) ++ bytes) (append-nil (record_of p)) in
+    let more : take (i + 1) packets ≡ take i packets ++ p ∷ [] =
+    take_more packets i p h ∙ ap (λ q. take i packets ++ q ∷ []) (sym e) in
+    let joined : flat_map record_of (take (i + 1) packets) ≡ flat_map record_of (take i packets) ++ record_of p =
+    ap (flat_map record_of) more ∙ flat_map-append record_of (take i packets) (p ∷ [])
+    ∙ ap (λ bytes. flat_map record_of (take i packets) ++ bytes) (append-nil (record_of p)) in
     ap (λ bytes. written_header ++ bytes) (sym joined)

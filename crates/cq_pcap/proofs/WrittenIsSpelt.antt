@@ -1,4 +1,5 @@
--- What is written is spelt: the header is one of the form, each record fits, and the seconds and nanoseconds of a stamp below 2^32 seconds make the stamp again.
+-- What is written is spelt: the header is one of the form, each record fits, and the seconds and nanoseconds of a
+-- stamp below 2^32 seconds make the stamp again.
 use Rattle.std.proofs.Common.{◌≡◌, ◌+◌, ◌*◌, ◌/◌, ◌%◌, ◌^◌, List, [], ◌∷◌, ◌++◌, map, refl, ap, ◌∙◌, arith, true, false}
 use Rattle.std.specs.List.{flat_map, AllByRecursion}
 use Rattle.cq_pcap.specs.declared.form.Form.{Form}
@@ -16,18 +17,23 @@ record_fits p w = record { seconds = omega arith; subseconds = omega arith; orig
 
 stamp_again : (p : OutPacket) → IsWritable p → captured_of little_nanos (written_record p) ≡ read_again p
 stamp_again p w =
-    let stamp : p.stamp / 1000000000 % 2 ^ 32 * 1000000000 + p.stamp % 1000000000 * 1 ≡ p.stamp = omega (arith, w.stamp) in
+    let stamp : p.stamp / 1000000000 % 2 ^ 32 * 1000000000 + p.stamp % 1000000000 * 1 ≡ p.stamp =
+    omega (arith, w.stamp) in
     λ i. record { stamp = stamp i; original = p.original; body = p.body }
 
 records_fit : (ps : List OutPacket) → AllByRecursion IsWritable ps → AllByRecursion Fits (map written_record ps)
 records_fit [] w = tt
 records_fit (p ∷ ps) w = (record_fits p w.0, records_fit ps w.1)
 
-records_kept : (ps : List OutPacket) → AllByRecursion IsWritable ps → map (captured_of little_nanos) (map written_record ps) ≡ map read_again ps
+records_kept : (ps : List OutPacket) → AllByRecursion IsWritable ps →
+    map (captured_of little_nanos) (map written_record ps) ≡ map read_again ps
 records_kept [] w = refl
-records_kept (p ∷ ps) w = ap (λ q. q ∷ map (captured_of little_nanos) (map written_record ps)) (stamp_again p w.0) ∙ ap (λ qs. read_again p ∷ qs) (records_kept ps w.1)
+records_kept (p ∷ ps) w =
+    ap (λ q. q ∷ map (captured_of little_nanos) (map written_record ps)) (stamp_again p w.0)
+    ∙ ap (λ qs. read_again p ∷ qs) (records_kept ps w.1)
 
-records_spelt : (ps : List OutPacket) → flat_map (λ p. spelling false (written_record p)) ps ≡ flat_map (spelling false) (map written_record ps)
+records_spelt : (ps : List OutPacket) →
+    flat_map (λ p. spelling false (written_record p)) ps ≡ flat_map (spelling false) (map written_record ps)
 records_spelt [] = refl
 records_spelt (p ∷ ps) = ap (λ bytes. spelling false (written_record p) ++ bytes) (records_spelt ps)
 

@@ -8,10 +8,13 @@ pub record Captured : Type 0 where
   pub original : ℕ
   pub body : List ℕ
 
--- the rows of packets whose first record begins at a place of the file: each record has sixteen bytes of figures before its captured bytes
+-- the rows of packets whose first record begins at a place of the file: each record has sixteen bytes of figures
+-- before its captured bytes
 abbrev pub rows_from : ℕ → List Captured → List PacketRow
 rows_from place [] = []
-rows_from place (p ∷ ps) = record { stamp = p.stamp; original = p.original; at = place + 16; len = length p.body } ∷ rows_from (place + 16 + length p.body) ps
+rows_from place (p ∷ ps) =
+    record { stamp = p.stamp; original = p.original; at = place + 16; len = length p.body }
+    ∷ rows_from (place + 16 + length p.body) ps
 
 -- the bytes of a file with these packets
 abbrev pub file_length : List Captured → ℕ

@@ -32,10 +32,15 @@ abbrev pub IsFaulty : List ℕ → Fault → Type 0
 IsFaulty bytes NoHeader = length bytes < 24
 IsFaulty bytes Magic = (24 ≤ length bytes) × ((form : Form) → ¬ HasMagic form bytes)
 IsFaulty bytes Version = (24 ≤ length bytes) × (form : Form) × HasMagic form bytes × ¬ HasVersion form bytes
-IsFaulty bytes LinkType = (24 ≤ length bytes) × (form : Form) × HasMagic form bytes × HasVersion form bytes × ¬ HasLinkType form bytes
+IsFaulty bytes LinkType =
+    (24 ≤ length bytes) × (form : Form) × HasMagic form bytes × HasVersion form bytes × ¬ HasLinkType form bytes
 IsFaulty bytes (CutHeader offset) = (form : Form) × IsSpeltUpTo form bytes offset × (length bytes < offset + 16)
-IsFaulty bytes (LongRecord offset len) = (form : Form) × IsSpeltUpTo form bytes offset × (offset + 16 ≤ length bytes) × (len ≡ stated_length form bytes offset) × (262144 < len)
-IsFaulty bytes (CutBody offset) = (form : Form) × IsSpeltUpTo form bytes offset × (offset + 16 ≤ length bytes) × (stated_length form bytes offset ≤ 262144) × (length bytes < offset + 16 + stated_length form bytes offset)
+IsFaulty bytes (LongRecord offset len) =
+    (form : Form) × IsSpeltUpTo form bytes offset × (offset + 16 ≤ length bytes)
+    × (len ≡ stated_length form bytes offset) × (262144 < len)
+IsFaulty bytes (CutBody offset) =
+    (form : Form) × IsSpeltUpTo form bytes offset × (offset + 16 ≤ length bytes)
+    × (stated_length form bytes offset ≤ 262144) × (length bytes < offset + 16 + stated_length form bytes offset)
 
 -- the fault that a refusal names; want of memory is none
 abbrev pub fault_of : PcapRefusal → Option Fault

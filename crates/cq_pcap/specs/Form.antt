@@ -1,4 +1,5 @@
--- The forms of captures (pcap file format, version 2.4): the first four bytes of a file tell in which order the bytes of its numbers stand, and the unit of its subseconds.
+-- The forms of captures (pcap file format, version 2.4): the first four bytes of a file tell in which order the bytes
+-- of its numbers stand, and the unit of its subseconds.
 use Rattle.std.specs.Prelude.{ℕ, List, [], ◌∷◌, take, drop, Option, Bool, true, false}
 use Rattle.std.specs.List.{find}
 use Rattle.std.specs.Str.{bytes_eq}

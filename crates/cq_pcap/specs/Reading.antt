@@ -1,4 +1,5 @@
--- What a file comes to, as a function of its bytes: its packets, or its first fault. The grammar and the faults, read from the front.
+-- What a file comes to, as a function of its bytes: its packets, or its first fault. The grammar and the faults, read
+-- from the front.
 use Rattle.std.specs.Prelude.{ℕ, zero, suc, ◌+◌, ◌*◌, ◌%◌, ◌^◌, Bool, not, ◌&&◌, ◌==◌, nat_lt, if◌then◌else◌, List, [], ◌∷◌, length, take, drop, Result, Ok, Err}
 use Rattle.std.specs.Option.{ok_or}
 use Rattle.cq_pcap.specs.declared.form.Form.{Form}
@@ -22,11 +23,14 @@ has_link_type form bytes = number_at form.big 4 bytes 20 % 2 ^ 16 == 1
 
 -- the form, unless the header has another version or link type
 abbrev pub checked_form : List ℕ → Form → Result Form Fault
-checked_form bytes form = if not (has_version form bytes) then Err Version else if not (has_link_type form bytes) then Err LinkType else Ok form
+checked_form bytes form =
+    if not (has_version form bytes) then Err Version else if not (has_link_type form bytes) then Err LinkType else Ok
+    form
 
 -- the form of the file header
 unfoldable pub header_form : List ℕ → Result Form Fault
-header_form bytes = if nat_lt (length bytes) 24 then Err NoHeader else ok_or (form_at bytes) Magic >>= checked_form bytes
+header_form bytes =
+    if nat_lt (length bytes) 24 then Err NoHeader else ok_or (form_at bytes) Magic >>= checked_form bytes
 
 -- the packet of the record at the front, which begins at a place of the file
 unfoldable pub first_packet : Form → ℕ → List ℕ → Result Captured Fault

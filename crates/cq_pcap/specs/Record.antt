@@ -34,7 +34,9 @@ pub record Record : Type 0 where
 
 -- sixteen bytes of figures, and the captured bytes
 abbrev pub spelling : Bool → Record → List ℕ
-spelling big r = bytes_in big 4 r.seconds ++ bytes_in big 4 r.subseconds ++ bytes_in big 4 (length r.body) ++ bytes_in big 4 r.original ++ r.body
+spelling big r =
+    bytes_in big 4 r.seconds ++ bytes_in big 4 r.subseconds ++ bytes_in big 4 (length r.body)
+    ++ bytes_in big 4 r.original ++ r.body
 
 -- its figures fit their fields, and it has at most 262,144 captured bytes
 pub record Fits (r : Record) : Type 0 where
@@ -45,7 +47,8 @@ pub record Fits (r : Record) : Type 0 where
 
 -- what is kept of a record: subseconds of any size are added as they stand
 abbrev pub captured_of : Form → Record → Captured
-captured_of form r = record { stamp = r.seconds * 1000000000 + r.subseconds * unit form.nano; original = r.original; body = r.body }
+captured_of form r =
+    record { stamp = r.seconds * 1000000000 + r.subseconds * unit form.nano; original = r.original; body = r.body }
 
 -- the bytes are a header of this form, then the records of these packets in order, and nothing else
 pub record SpellsIn (form : Form) (bytes : List ℕ) (packets : List Captured) : Type 0 where

@@ -7,11 +7,18 @@ use Rattle.cq_pcap.specs.declared.write.OutPacket.{OutPacket}
 
 -- the magic, version 2.4, zone and sigfigs 0, at most 262,144 bytes a packet, Ethernet
 abbrev pub written_header : List ℕ
-written_header = 77 ∷ 60 ∷ 178 ∷ 161 ∷ 2 ∷ 0 ∷ 4 ∷ 0 ∷ 0 ∷ 0 ∷ 0 ∷ 0 ∷ 0 ∷ 0 ∷ 0 ∷ 0 ∷ 0 ∷ 0 ∷ 4 ∷ 0 ∷ 1 ∷ 0 ∷ 0 ∷ 0 ∷ []
+written_header =
+    77 ∷ 60 ∷ 178 ∷ 161 ∷ 2 ∷ 0 ∷ 4 ∷ 0 ∷ 0 ∷ 0 ∷ 0 ∷ 0 ∷ 0 ∷ 0 ∷ 0 ∷ 0 ∷ 0 ∷ 0 ∷ 4 ∷ 0 ∷ 1 ∷ 0 ∷ 0 ∷ 0 ∷ []
 
 -- the record of a packet: its seconds are cut to 32 bits
 abbrev pub written_record : OutPacket → Record
-written_record p = record { seconds = p.stamp / 1000000000 % 2 ^ 32; subseconds = p.stamp % 1000000000; original = p.original; body = p.body }
+written_record p =
+    record {
+      seconds = p.stamp / 1000000000 % 2 ^ 32;
+      subseconds = p.stamp % 1000000000;
+      original = p.original;
+      body = p.body;
+    }
 
 -- the file of these packets
 abbrev pub written : List OutPacket → List ℕ

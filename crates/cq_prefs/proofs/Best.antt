@@ -7,7 +7,8 @@ use Rattle.cq_prefs.specs.Orders.{Orders, outputs_of, place_in}
 use Rattle.cq_prefs.specs.Pairing.{Partners, partner_of, depth, IsInputBest}
 use Rattle.cq_prefs.proofs.Places.{same_at_place}
 
-same_partner : (order : List ℕ) (p r : Option ℕ) → ((j : ℕ) → p ≡ Some j → place_in order j < length order) → ((j : ℕ) → r ≡ Some j → place_in order j < length order) → depth order p ≡ depth order r → p ≡ r
+same_partner : (order : List ℕ) (p r : Option ℕ) → ((j : ℕ) → p ≡ Some j → place_in order j < length order) →
+    ((j : ℕ) → r ≡ Some j → place_in order j < length order) → depth order p ≡ depth order r → p ≡ r
 same_partner order None None a b e = refl
 same_partner order None (Some j) a b e = absurd (let h = b j refl in omega arith)
 same_partner order (Some j) None a b e = absurd (let h = a j refl in omega arith)
@@ -17,5 +18,6 @@ pub one_input_best : (o : Orders) (m n : Partners) → IsInputBest o m → IsInp
 one_input_best o m n a b =
     ext_get_or None m n (let x = a.stable.matching.size in let y = b.stable.matching.size in omega arith)
     (λ i l.
-    same_partner (outputs_of o i) (partner_of m i) (partner_of n i) (a.stable.matching.offered i) (b.stable.matching.offered i)
+    same_partner (outputs_of o i) (partner_of m i) (partner_of n i) (a.stable.matching.offered i)
+    (b.stable.matching.offered i)
     (let x = a.best n b.stable i in let y = b.best m a.stable i in omega arith))

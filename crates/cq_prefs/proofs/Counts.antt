@@ -22,7 +22,8 @@ sum-zeros (x ∷ xs) h =
     let c : x ≡ 0 = h 0 in omega arith
 
 -- each event moves one input on by one place
-pub sum-places : (o : Orders) → AreOffers o → (events : List ℕ) → AreEvents o events → sum (state_after o events).places ≡ length events
+pub sum-places : (o : Orders) → AreOffers o → (events : List ℕ) → AreEvents o events →
+    sum (state_after o events).places ≡ length events
 unfolding propose
 sum-places o v [] es = sum-zeros (start o).places (next_place-start o)
 sum-places o v (i ∷ events) es =
@@ -32,26 +33,36 @@ sum-places o v (i ∷ events) es =
     let a = sum-places o v events es.0 in
     let b = sum_by-set (λ x. x) s.places i (next_place s i + 1) 0 (let e = w.inputs in omega arith) in omega arith
 
-pub events_at_most : (o : Orders) → AreOffers o → (events : List ℕ) → AreEvents o events → length events ≤ ports o * ports o
+pub events_at_most : (o : Orders) → AreOffers o → (events : List ℕ) → AreEvents o events →
+    length events ≤ ports o * ports o
 events_at_most o v events es =
     let w = sound-after o v events es in
     let s = state_after o events in
     let a = sum-places o v events es in
     let b : sum s.places ≤ length s.places * ports o = sum_by-le (λ x. x) (ports o) s.places
-    (λ k d l. let e : get_or s.places k d ≡ next_place s k = get_or_default s.places k d 0 l in let f = w.within k in let g = outputs_at_most o v k in omega arith) in
+    (λ k d l. let e : get_or s.places k d ≡ next_place s k = get_or_default s.places k d 0 l in
+    let f = w.within k in
+    let g = outputs_at_most o v k in
+    omega arith) in
     let c : length s.places * ports o ≡ ports o * ports o = ap (λ n. n * ports o) w.inputs in omega arith
 
-spent-is : (o : Orders) (s : State) (i : ℕ) → IsKept o s i → (p : Option ℕ) → partner_of (matching_of o s) i ≡ p → next_place s i ≡ spent (outputs_of o i) p
+spent-is : (o : Orders) (s : State) (i : ℕ) → IsKept o s i → (p : Option ℕ) → partner_of (matching_of o s) i ≡ p →
+    next_place s i ≡ spent (outputs_of o i) p
 spent-is o s i k None e = k.unmatched e
 spent-is o s i k (Some j) e = k.matched j e
 
-places-quiet : (o : Orders) → AreOffers o → (s : State) → IsSound o s → IsQuiescent o s → s.places ≡ map (λ i. spent (outputs_of o i) (partner_of (matching_of o s) i)) (range_with_len 0 (ports o))
+places-quiet : (o : Orders) → AreOffers o → (s : State) → IsSound o s → IsQuiescent o s →
+    s.places ≡ map (λ i. spent (outputs_of o i) (partner_of (matching_of o s) i)) (range_with_len 0 (ports o))
 places-quiet o v s w q =
     let f : ℕ → ℕ = λ i. spent (outputs_of o i) (partner_of (matching_of o s) i) in
-    ext_get_or 0 s.places (map f (range_with_len 0 (ports o))) (let a = length-map-range_with_len f 0 (ports o) in let b = w.inputs in omega arith)
-    (λ i l. spent-is o s i (kept o v s w q i) _ refl ∙ sym (get_or-map-range_with_len f 0 (ports o) i i 0 (let b = w.inputs in omega arith) (omega arith)))
+    ext_get_or 0 s.places (map f (range_with_len 0 (ports o))) (let a = length-map-range_with_len f 0 (ports o) in
+    let b = w.inputs in
+    omega arith)
+    (λ i l. spent-is o s i (kept o v s w q i) _ refl
+    ∙ sym (get_or-map-range_with_len f 0 (ports o) i i 0 (let b = w.inputs in omega arith) (omega arith)))
 
-pub events-quiet : (o : Orders) → AreOffers o → (events : List ℕ) → AreEvents o events → IsQuiescent o (state_after o events) → length events ≡ proposals o (matching_of o (state_after o events))
+pub events-quiet : (o : Orders) → AreOffers o → (events : List ℕ) → AreEvents o events →
+    IsQuiescent o (state_after o events) → length events ≡ proposals o (matching_of o (state_after o events))
 events-quiet o v events es q =
     let s = state_after o events in
     let w = sound-after o v events es in

@@ -20,17 +20,20 @@ mapped_twice f g (x ∷ xs) = ap (λ l. f (g x) ∷ l) (mapped_twice f g xs)
 
 -- ## The lists
 
-pub cells_at : (lists : List Waiting) (i : ℕ) (d : Waiting) → i < length lists → list_of (cells_of lists) i ≡ (get_or lists i d).cells
+pub cells_at : (lists : List Waiting) (i : ℕ) (d : Waiting) → i < length lists →
+    list_of (cells_of lists) i ≡ (get_or lists i d).cells
 cells_at [] i d l = absurd (omega arith)
 cells_at (w ∷ lists) zero d l = refl
 cells_at (w ∷ lists) (suc i) d l = cells_at lists i d (omega arith)
 
-pub in_range_of : (lists : List Waiting) (n : ℕ) → All (λ w. AreWaiting w.outputs w.cells) lists → All (λ w. w.outputs ≡ n) lists → length lists ≡ n → OutputsInRange (cells_of lists)
+pub in_range_of : (lists : List Waiting) (n : ℕ) → All (λ w. AreWaiting w.outputs w.cells) lists →
+    All (λ w. w.outputs ≡ n) lists → length lists ≡ n → OutputsInRange (cells_of lists)
 in_range_of lists n waiting same size i j c found = go (cases_lt i (length lists))
   where
     go : (i < length lists) ⊎ (length lists ≤ i) → j < length (cells_of lists)
     go (inr past) = absurd (
-        let none : list_of (cells_of lists) i ≡ [] = get_or_past (cells_of lists) i [] (omega (arith, length-map lists (λ (w : Waiting). w.cells))) in
+        let none : list_of (cells_of lists) i ≡ [] =
+        get_or_past (cells_of lists) i [] (omega (arith, length-map lists (λ (w : Waiting). w.cells))) in
         let no : None ≡ Some c = sym (ap (first_for j) none) ∙ found in let P : ⊥ = cc in P)
     go (inl l) =
         let d : Waiting = record { cells = []; outputs = 0; spare = 0 } in
@@ -47,18 +50,23 @@ pub record Made (lists : List Waiting) (n : ℕ) (rows : List (List ℕ)) : Type
   pub size : length rows ≡ length lists
   pub row : (j : ℕ) → j < n → get_or rows j [] ≡ input_order (cells_of lists) j
 
-pub made_more : (lists : List Waiting) (n : ℕ) (rows : List (List ℕ)) (row : List ℕ) → Made lists n rows → n < length lists → row ≡ input_order (cells_of lists) n → Made lists (n + 1) (set rows n row)
+pub made_more : (lists : List Waiting) (n : ℕ) (rows : List (List ℕ)) (row : List ℕ) → Made lists n rows →
+    n < length lists → row ≡ input_order (cells_of lists) n → Made lists (n + 1) (set rows n row)
 made_more lists n rows row m l e =
     record {
       size = length-set rows n row ∙ m.size;
       row = λ j h.
           ⊎_elim
-          (λ is. ap (λ k. get_or (set rows n row) k []) (sym is) ∙ get_or-set_same rows n row [] (let s = m.size in omega arith) ∙ e ∙ ap (input_order (cells_of lists)) is)
-          (λ other. get_or-set_other rows n j row [] (λ s. other (sym s)) ∙ m.row j (let lt : j < n = omega arith in lt))
+          (λ is. ap (λ k. get_or (set rows n row) k []) (sym is)
+          ∙ get_or-set_same rows n row [] (let s = m.size in omega arith) ∙ e
+          ∙ ap (input_order (cells_of lists)) is)
+          (λ other. get_or-set_other rows n j row [] (λ s. other (sym s))
+          ∙ m.row j (let lt : j < n = omega arith in lt))
           (cases_eq n j);
     }
 
-pub orders_made : (lists : List Waiting) (outputs inputs : List (List ℕ)) → outputs ≡ map (λ w. output_order w.cells) lists → Made lists (length lists) inputs →
+pub orders_made : (lists : List Waiting) (outputs inputs : List (List ℕ)) →
+    outputs ≡ map (λ w. output_order w.cells) lists → Made lists (length lists) inputs →
     let o : Orders = record { outputs = outputs; inputs = inputs } in o ≡ orders_of (cells_of lists)
 orders_made lists outputs inputs e m =
     let n : length (cells_of lists) ≡ length lists = length-map lists (λ (w : Waiting). w.cells) in
@@ -67,12 +75,16 @@ orders_made lists outputs inputs e m =
     (m.size ∙ sym n ∙ sym (length-map-range_with_len (input_order (cells_of lists)) 0 (length (cells_of lists))))
     (λ j l.
     m.row j (let s = m.size in omega arith)
-    ∙ sym (get_or-map-range_with_len (input_order (cells_of lists)) 0 (length (cells_of lists)) j j [] (let s = m.size in omega arith) (omega arith))) in
-    let order : outputs ≡ map output_order (cells_of lists) = e ∙ mapped_twice output_order (λ (w : Waiting). w.cells) lists in
+    ∙ sym (get_or-map-range_with_len (input_order (cells_of lists)) 0 (length (cells_of lists)) j j []
+    (let s = m.size in omega arith) (omega arith))) in
+    let order : outputs ≡ map output_order (cells_of lists) =
+    e ∙ mapped_twice output_order (λ (w : Waiting). w.cells) lists in
     cc
 
-pub offers_made : (lists : List Waiting) (outputs inputs : List (List ℕ)) → outputs ≡ map (λ w. output_order w.cells) lists → Made lists (length lists) inputs →
-    (n : ℕ) → All (λ w. AreWaiting w.outputs w.cells) lists → All (λ w. w.outputs ≡ n) lists → length lists ≡ n → n ≤ 64 →
+pub offers_made : (lists : List Waiting) (outputs inputs : List (List ℕ)) →
+    outputs ≡ map (λ w. output_order w.cells) lists → Made lists (length lists) inputs →
+    (n : ℕ) → All (λ w. AreWaiting w.outputs w.cells) lists → All (λ w. w.outputs ≡ n) lists → length lists ≡ n →
+    n ≤ 64 →
     let o : Orders = record { outputs = outputs; inputs = inputs } in AreOffers o × (ports o ≤ 64)
 offers_made lists outputs inputs e m n waiting same size few =
     let o : Orders = record { outputs = outputs; inputs = inputs } in

@@ -22,12 +22,14 @@ found_passes p (x ∷ xs) y e =
     (λ here r. let same : x ≡ y = cc in ap p (sym same) ∙ here)
     (λ _ r. found_passes p xs y r) e
 
-found_only : (p : ℕ → Bool) (xs : List ℕ) (y : ℕ) → Among y xs → p y ≡ true → ((z : ℕ) → p z ≡ true → z ≡ y) → find p xs ≡ Some y
+found_only : (p : ℕ → Bool) (xs : List ℕ) (y : ℕ) → Among y xs → p y ≡ true → ((z : ℕ) → p z ≡ true → z ≡ y) →
+    find p xs ≡ Some y
 found_only p [] y m h only = absurd m
 found_only p (x ∷ xs) y m h only =
     cond_both (p x) (Some x) (find p xs) (λ r. r ≡ Some y)
     (λ here. ap (λ n. Some n) (only x here))
-    (λ not_here. ⊎_elim (λ is. absurd (true≢false (sym h ∙ ap p (sym is) ∙ not_here))) (λ later. found_only p xs y later h only) m)
+    (λ not_here. ⊎_elim (λ is. absurd (true≢false (sym h ∙ ap p (sym is) ∙ not_here)))
+    (λ later. found_only p xs y later h only) m)
 
 -- ## Who is held
 
@@ -38,19 +40,23 @@ holds-from : (o : Orders) (s : State) (i j : ℕ) → Holds o s j i → holds o 
 holds-from o s i j h = and_from _ _ (eq-eqb _ _ h.0) (lt-ltb _ _ h.1)
 
 -- one output at most holds an input
-pub held_once : (o : Orders) → AreOffers o → (s : State) → IsSound o s → (i j k : ℕ) → Holds o s j i → Holds o s k i → j ≡ k
+pub held_once : (o : Orders) → AreOffers o → (s : State) → IsSound o s → (i j k : ℕ) → Holds o s j i → Holds o s k i →
+    j ≡ k
 held_once o v s w i j k a b =
-    same_at_place (outputs_of o i) j k (let x = w.last i j a in let y = w.last i k b in omega arith) (v.shown_back i j a.1)
+    same_at_place (outputs_of o i) j k (let x = w.last i j a in let y = w.last i k b in omega arith)
+    (v.shown_back i j a.1)
 
 pub keeper-holds : (o : Orders) (s : State) (i j : ℕ) → keeper o s i ≡ Some j → Holds o s j i
 unfolding keeper
 keeper-holds o s i j e = holds-yes o s i j (found_passes (holds o s i) (range_with_len 0 (ports o)) j e)
 
-pub keeper-from : (o : Orders) → AreOffers o → (s : State) → IsSound o s → (i j : ℕ) → Holds o s j i → keeper o s i ≡ Some j
+pub keeper-from : (o : Orders) → AreOffers o → (s : State) → IsSound o s → (i j : ℕ) → Holds o s j i →
+    keeper o s i ≡ Some j
 unfolding keeper
 keeper-from o v s w i j h =
     let r : j < ports o = output_in_range o v i j (v.shown_back i j h.1) in
-    found_only (holds o s i) (range_with_len 0 (ports o)) j (in_range 0 (ports o) j (omega arith) (omega arith)) (holds-from o s i j h)
+    found_only (holds o s i) (range_with_len 0 (ports o)) j (in_range 0 (ports o) j (omega arith) (omega arith))
+    (holds-from o s i j h)
     (λ k also. held_once o v s w i k j (holds-yes o s i k also) h)
 
 none_unless : (p : Option ℕ) → ((j : ℕ) → p ≡ Some j → ⊥) → p ≡ None
@@ -72,10 +78,12 @@ partner-is o v s i = go (cases_lt i (ports o))
         ∙ sym (none_unless (keeper o s i) (nobody l))
 
 -- who is matched is held, and who is held is matched
-pub partner-holds : (o : Orders) → AreOffers o → (s : State) → (i j : ℕ) → partner_of (matching_of o s) i ≡ Some j → Holds o s j i
+pub partner-holds : (o : Orders) → AreOffers o → (s : State) → (i j : ℕ) → partner_of (matching_of o s) i ≡ Some j →
+    Holds o s j i
 partner-holds o v s i j e = keeper-holds o s i j (sym (partner-is o v s i) ∙ e)
 
-pub partner-from : (o : Orders) → AreOffers o → (s : State) → IsSound o s → (i j : ℕ) → Holds o s j i → partner_of (matching_of o s) i ≡ Some j
+pub partner-from : (o : Orders) → AreOffers o → (s : State) → IsSound o s → (i j : ℕ) → Holds o s j i →
+    partner_of (matching_of o s) i ≡ Some j
 partner-from o v s w i j h = partner-is o v s i ∙ keeper-from o v s w i j h
 
 pub matching-of : (o : Orders) → AreOffers o → (s : State) → IsMatching o (matching_of o s)
@@ -92,9 +100,11 @@ matching-of o v s =
 
 -- the matching is what shows exactly who is held
 pub matching_of-is : (o : Orders) → AreOffers o → (t : State) → IsSound o t → (m : Partners) → length m ≡ ports o →
-    ((k q : ℕ) → partner_of m k ≡ Some q → Holds o t q k) → ((k q : ℕ) → Holds o t q k → partner_of m k ≡ Some q) → m ≡ matching_of o t
+    ((k q : ℕ) → partner_of m k ≡ Some q → Holds o t q k) → ((k q : ℕ) → Holds o t q k → partner_of m k ≡ Some q) →
+    m ≡ matching_of o t
 matching_of-is o v t w m size there back =
-    ext_get_or None m (matching_of o t) (let a = (matching-of o v t).size in omega arith) (λ k l. at k (partner_of m k) refl)
+    ext_get_or None m (matching_of o t) (let a = (matching-of o v t).size in omega arith)
+    (λ k l. at k (partner_of m k) refl)
   where
     at : (k : ℕ) (p : Option ℕ) → partner_of m k ≡ p → partner_of m k ≡ partner_of (matching_of o t) k
     at k None e = e ∙ sym (none_unless _ (λ q h. let x = back k q (partner-holds o v t k q h) in let P : ⊥ = cc in P))
@@ -102,7 +112,8 @@ matching_of-is o v t w m size there back =
 
 -- ## Who is free
 
-pub partner-free : (o : Orders) → AreOffers o → (s : State) → (i : ℕ) → IsFree o s i → partner_of (matching_of o s) i ≡ None
+pub partner-free : (o : Orders) → AreOffers o → (s : State) → (i : ℕ) → IsFree o s i →
+    partner_of (matching_of o s) i ≡ None
 partner-free o v s i f = none_unless _ (λ j e. f.unheld j (partner-holds o v s i j e))
 
 none_here : (p : Option ℕ) (j : ℕ) → is_none p ≡ true → p ≡ Some j → ⊥
@@ -124,4 +135,5 @@ free_if o v s w i h =
 pub free_only_if : (o : Orders) → AreOffers o → (s : State) → (i : ℕ) → IsFree o s i → is_free o s i ≡ true
 unfolding is_free
 free_only_if o v s i f =
-    and_from _ _ (lt-ltb _ _ f.left) (none_test (keeper o s i) (none_unless (keeper o s i) (λ j e. f.unheld j (keeper-holds o s i j e))))
+    and_from _ _ (lt-ltb _ _ f.left) (none_test (keeper o s i) (none_unless (keeper o s i)
+    (λ j e. f.unheld j (keeper-holds o s i j e))))

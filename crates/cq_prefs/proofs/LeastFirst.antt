@@ -22,18 +22,22 @@ found_none p [] y e m h = absurd m
 found_none p (x ∷ xs) y e m h =
     cond_both (p x) (Some x) (find p xs) (λ r. r ≡ None → ⊥)
     (λ here r. absurd (let P : ⊥ = cc in P))
-    (λ not_here r. ⊎_elim (λ is. true≢false (sym h ∙ ap p (sym is) ∙ not_here)) (λ later. found_none p xs y r later h) m) e
+    (λ not_here r. ⊎_elim (λ is. true≢false (sym h ∙ ap p (sym is) ∙ not_here)) (λ later. found_none p xs y r later h)
+    m) e
 
 quiet_if_none : (o : Orders) → AreOffers o → (s : State) → least_free o s ≡ None → IsQuiescent o s
 unfolding least_free
 quiet_if_none o v s e i f =
     let r : i < ports o = input_in_range o i (next_output o s i) (next_output-offered o v s i f.left) in
-    found_none (is_free o s) (range_with_len 0 (ports o)) i e (in_range 0 (ports o) i (omega arith) (omega arith)) (free_only_if o v s i f)
+    found_none (is_free o s) (range_with_len 0 (ports o)) i e (in_range 0 (ports o) i (omega arith) (omega arith))
+    (free_only_if o v s i f)
 
-free_if_found : (o : Orders) → AreOffers o → (events : List ℕ) → AreEvents o events → (i : ℕ) → least_free o (state_after o events) ≡ Some i → IsFree o (state_after o events) i
+free_if_found : (o : Orders) → AreOffers o → (events : List ℕ) → AreEvents o events → (i : ℕ) →
+    least_free o (state_after o events) ≡ Some i → IsFree o (state_after o events) i
 unfolding least_free
 free_if_found o v events es i e =
-    free_if o v (state_after o events) (sound-after o v events es) i (found_passes (is_free o (state_after o events)) (range_with_len 0 (ports o)) i e)
+    free_if o v (state_after o events) (sound-after o v events es) i (found_passes (is_free o (state_after o events))
+    (range_with_len 0 (ports o)) i e)
 
 -- what n turns come to
 record IsTurns (o : Orders) (n : ℕ) (s : State) : Type 0 where
@@ -42,17 +46,21 @@ record IsTurns (o : Orders) (n : ℕ) (s : State) : Type 0 where
   is : s ≡ state_after o events
   ended : (length events ≡ n) ⊎ IsQuiescent o s
 
-one_turn : (o : Orders) → AreOffers o → (n : ℕ) (s : State) → IsTurns o n s → (p : Option ℕ) → least_free o s ≡ p → IsTurns o (suc n) (propose_if o s p)
-one_turn o v n s t None e = record { events = t.events; are_events = t.are_events; is = t.is; ended = inr (quiet_if_none o v s e) }
+one_turn : (o : Orders) → AreOffers o → (n : ℕ) (s : State) → IsTurns o n s → (p : Option ℕ) → least_free o s ≡ p →
+    IsTurns o (suc n) (propose_if o s p)
+one_turn o v n s t None e =
+    record { events = t.events; are_events = t.are_events; is = t.is; ended = inr (quiet_if_none o v s e) }
 one_turn o v n s t (Some i) e =
-    let free : IsFree o (state_after o t.events) i = free_if_found o v t.events t.are_events i (ap (least_free o) (sym t.is) ∙ e) in
+    let free : IsFree o (state_after o t.events) i =
+    free_if_found o v t.events t.are_events i (ap (least_free o) (sym t.is) ∙ e) in
     record {
       events = i ∷ t.events;
       are_events = (t.are_events, free);
       is = ap (λ x. propose o x i) t.is;
       ended = ⊎_elim
           (λ all. inl (ap suc all))
-          (λ (quiet : IsQuiescent o s). absurd (quiet i (let P : State → Type 0 = λ x. IsFree o x i in subst P (sym t.is) free)))
+          (λ (quiet : IsQuiescent o s). absurd (quiet i (let P : State → Type 0 = λ x. IsFree o x i in
+          subst P (sym t.is) free)))
           t.ended;
     }
 

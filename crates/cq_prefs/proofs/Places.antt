@@ -1,5 +1,6 @@
--- Places in an order, and what offers say of them. A place that is found shows its port, and where no port is twice the
--- port at a place is found there. So an offered pair has its ports in range, and no order is longer than there are ports.
+-- Places in an order, and what offers say of them. A place that is found shows its port, and where no port is twice
+-- the port at a place is found there. So an offered pair has its ports in range, and no order is longer than there
+-- are ports.
 use Rattle.std.proofs.Common.{ℕ, ◌⊎◌, inl, inr, ◌≡◌, ◌<◌, ◌≤◌, true, List, [], length, get_or, eqb, replicate, ⊎_elim, refl, sym, ◌∙◌, ap, arith, subst}
 use Rattle.std.specs.List.{IsDistinct, Any}
 use Rattle.std.proofs.lemmas.Bool.{cases_lt, eqb-true, eq-eqb, ne_eqb}
@@ -28,7 +29,8 @@ place_in-le-length xs y = prefix_len-le-length _ xs
 -- one place shows one port
 pub same_at_place : (xs : List ℕ) (a b : ℕ) → place_in xs a ≡ place_in xs b → place_in xs a < length xs → a ≡ b
 same_at_place xs a b e h =
-    sym (get_or-place_in xs a h) ∙ ap (λ p. get_or xs p 0) e ∙ get_or-place_in xs b (let P : ℕ → Type 0 = λ n. n < length xs in subst P e h)
+    sym (get_or-place_in xs a h) ∙ ap (λ p. get_or xs p 0) e
+    ∙ get_or-place_in xs b (let P : ℕ → Type 0 = λ n. n < length xs in subst P e h)
 
 -- ports that are offered are in range
 pub input_in_range : (o : Orders) (i j : ℕ) → IsOffered o i j → i < ports o
@@ -36,7 +38,10 @@ input_in_range o i j h = go (cases_lt i (ports o))
   where
     go : (i < ports o) ⊎ (ports o ≤ i) → i < ports o
     go (inl l) = l
-    go (inr l) = absurd (let e : outputs_of o i ≡ [] = get_or_past o.outputs i [] l in let k : length (outputs_of o i) ≡ 0 = ap length e in omega arith)
+    go (inr l) =
+        absurd (let e : outputs_of o i ≡ [] = get_or_past o.outputs i [] l in
+        let k : length (outputs_of o i) ≡ 0 = ap length e in
+        omega arith)
 
 pub output_in_range : (o : Orders) → AreOffers o → (i j : ℕ) → IsOffered o i j → j < ports o
 output_in_range o v i j h = go (cases_lt j (ports o))
@@ -50,14 +55,17 @@ output_in_range o v i j h = go (cases_lt j (ports o))
         let s = v.shown i j h in omega arith)
 
 -- the output at a place is offered, at that place
-pub place_of-at : (o : Orders) → AreOffers o → (i p : ℕ) → p < length (outputs_of o i) → place_of o i (get_or (outputs_of o i) p 0) ≡ p
+pub place_of-at : (o : Orders) → AreOffers o → (i p : ℕ) → p < length (outputs_of o i) →
+    place_of o i (get_or (outputs_of o i) p 0) ≡ p
 place_of-at o v i p h = place_in-get_or (outputs_of o i) p (v.outputs_differ i) h
 
-pub position_of-at : (o : Orders) → AreOffers o → (j p : ℕ) → p < length (inputs_of o j) → position_of o j (get_or (inputs_of o j) p 0) ≡ p
+pub position_of-at : (o : Orders) → AreOffers o → (j p : ℕ) → p < length (inputs_of o j) →
+    position_of o j (get_or (inputs_of o j) p 0) ≡ p
 position_of-at o v j p h = place_in-get_or (inputs_of o j) p (v.inputs_differ j) h
 
 -- an order of different ports below n has at most n
-pub places_at_most : (xs : List ℕ) (n : ℕ) → IsDistinct eqb xs → ((q : ℕ) → place_in xs q < length xs → q < n) → length xs ≤ n
+pub places_at_most : (xs : List ℕ) (n : ℕ) → IsDistinct eqb xs → ((q : ℕ) → place_in xs q < length xs → q < n) →
+    length xs ≤ n
 places_at_most xs n d below = length-le_from_distinct_below xs n d (λ q h. at_index q (Any-from_list_any (eqb q) xs h))
   where
     at_index : (q : ℕ) → Any (λ x. eqb q x ≡ true) xs → q < n
@@ -67,13 +75,16 @@ places_at_most xs n d below = length-le_from_distinct_below xs n d (λ q h. at_i
         below q (subst P (sym e) (let f = place_in-get_or xs a.0 d a.2 in let g = a.2 in omega arith))
 
 pub outputs_at_most : (o : Orders) → AreOffers o → (i : ℕ) → length (outputs_of o i) ≤ ports o
-outputs_at_most o v i = places_at_most (outputs_of o i) (ports o) (v.outputs_differ i) (λ j h. output_in_range o v i j h)
+outputs_at_most o v i =
+    places_at_most (outputs_of o i) (ports o) (v.outputs_differ i) (λ j h. output_in_range o v i j h)
 
 pub inputs_at_most : (o : Orders) → AreOffers o → (j : ℕ) → length (inputs_of o j) ≤ ports o
-inputs_at_most o v j = places_at_most (inputs_of o j) (ports o) (v.inputs_differ j) (λ i h. input_in_range o i j (v.shown_back i j h))
+inputs_at_most o v j =
+    places_at_most (inputs_of o j) (ports o) (v.inputs_differ j) (λ i h. input_in_range o i j (v.shown_back i j h))
 
 -- the first place that shows y is its place
-pub place_in_is : (xs : List ℕ) (y i : ℕ) → i ≤ length xs → ((k : ℕ) → k < i → get_or xs k 0 ≡ y → ⊥) → (i < length xs → get_or xs i 0 ≡ y) → place_in xs y ≡ i
+pub place_in_is : (xs : List ℕ) (y i : ℕ) → i ≤ length xs → ((k : ℕ) → k < i → get_or xs k 0 ≡ y → ⊥) →
+    (i < length xs → get_or xs i 0 ≡ y) → place_in xs y ≡ i
 unfolding place_in
 place_in_is xs y i short before here =
     position_or_len_is (λ x. eqb x y) xs i 0 short (λ k l. ne_eqb _ _ (before k l)) (λ l. eq-eqb _ _ (here l))
@@ -84,7 +95,10 @@ abbrev nothing : ℕ → List (List ℕ)
 nothing n = replicate n []
 
 none_at : (n i : ℕ) → get_or (nothing n) i [] ≡ []
-none_at n i = let none : List ℕ = [] in ⊎_elim (λ l. get_or-replicate n i none none l) (λ l. get_or_past (nothing n) i none (omega (arith, length-replicate n none))) (cases_lt i n)
+none_at n i =
+    let none : List ℕ = [] in
+    ⊎_elim (λ l. get_or-replicate n i none none l)
+    (λ l. get_or_past (nothing n) i none (omega (arith, length-replicate n none))) (cases_lt i n)
 
 nobody_in : (n i k : ℕ) → place_in (get_or (nothing n) i []) k < length (get_or (nothing n) i []) → ⊥
 nobody_in n i k h = let e = ap length (none_at n i) in omega arith
@@ -101,7 +115,9 @@ no_offers_are n =
     }
 
 -- offers of which both sides show nothing
-pub made_none : (n : ℕ) (outputs inputs : List (List ℕ)) → outputs ≡ nothing n → inputs ≡ nothing n → n ≤ 64 → let o : Orders = record { outputs = outputs; inputs = inputs } in AreOffers o × (ports o ≤ 64)
+pub made_none : (n : ℕ) (outputs inputs : List (List ℕ)) → outputs ≡ nothing n → inputs ≡ nothing n → n ≤ 64 →
+    let o : Orders = record { outputs = outputs; inputs = inputs } in
+    AreOffers o × (ports o ≤ 64)
 made_none n outputs inputs e f l =
     let o : Orders = record { outputs = outputs; inputs = inputs } in
     let none : List ℕ = [] in

@@ -23,13 +23,16 @@ kept o v s w q i =
       unmatched = λ none. at_end none (cases_lt (next_place s i) (length (outputs_of o i)));
     }
   where
-    at_end : partner_of (matching_of o s) i ≡ None → (next_place s i < length (outputs_of o i)) ⊎ (length (outputs_of o i) ≤ next_place s i) → next_place s i ≡ length (outputs_of o i)
+    at_end : partner_of (matching_of o s) i ≡ None →
+        (next_place s i < length (outputs_of o i)) ⊎ (length (outputs_of o i) ≤ next_place s i) →
+        next_place s i ≡ length (outputs_of o i)
     at_end none (inr l) = let a = w.within i in omega arith
     at_end none (inl l) = absurd (q i (record { left = l; unheld = λ j h. let p = partner-from o v s w i j h in cc }))
 
--- an output that is offered and is not the partner was not asked, and the partner is the better one; or it was asked, and
--- holds a better input
-settled : (o : Orders) → AreOffers o → (s : State) → IsSound o s → IsQuiescent o s → (i j : ℕ) → IsOffered o i j → partner_of (matching_of o s) i ≢ Some j →
+-- an output that is offered and is not the partner was not asked, and the partner is the better one; or it was asked,
+-- and holds a better input
+settled : (o : Orders) → AreOffers o → (s : State) → IsSound o s → IsQuiescent o s → (i j : ℕ) → IsOffered o i j →
+    partner_of (matching_of o s) i ≢ Some j →
     HasBetterOutput o (matching_of o s) i j ⊎ HasBetterInput o (matching_of o s) i j
 settled o v s w q i j offered apart = go (cases_lt (place_of o i j) (next_place s i))
   where
@@ -37,11 +40,13 @@ settled o v s w q i j offered apart = go (cases_lt (place_of o i j) (next_place 
     m = matching_of o s
 
     -- not asked: the input is held by one that it likes better
-    not_asked : (p : Option ℕ) → partner_of m i ≡ p → next_place s i ≤ place_of o i j → depth (outputs_of o i) p < place_of o i j
+    not_asked : (p : Option ℕ) → partner_of m i ≡ p → next_place s i ≤ place_of o i j →
+        depth (outputs_of o i) p < place_of o i j
     not_asked None e l = absurd (let a = (kept o v s w q i).unmatched e in omega arith)
     not_asked (Some n) e l = let a = (kept o v s w q i).matched n e in omega arith
 
-    go : (place_of o i j < next_place s i) ⊎ (next_place s i ≤ place_of o i j) → HasBetterOutput o m i j ⊎ HasBetterInput o m i j
+    go : (place_of o i j < next_place s i) ⊎ (next_place s i ≤ place_of o i j) →
+        HasBetterOutput o m i j ⊎ HasBetterInput o m i j
     go (inr l) = inl (not_asked (partner_of m i) refl l)
     go (inl l) =
         let below : position_held s j ≤ position_of o j i = w.asked_before i j l in
@@ -51,12 +56,15 @@ settled o v s w q i j offered apart = go (cases_lt (place_of o i j) (next_place 
         let at : position_of o j holder ≡ position_held s j = position_of-at o v j (position_held s j) (omega arith) in
         inr (holder, partner-from o v s w holder j (sym at, omega arith), omega arith)
 
-pub stable-quiet : (o : Orders) → AreOffers o → (s : State) → IsSound o s → IsQuiescent o s → IsStable o (matching_of o s)
+pub stable-quiet : (o : Orders) → AreOffers o → (s : State) → IsSound o s → IsQuiescent o s →
+    IsStable o (matching_of o s)
 stable-quiet o v s w q = record { matching = matching-of o v s; settled = settled o v s w q }
 
 -- in a matching in which nobody was passed no input has a better partner
-no_better : (o : Orders) → AreOffers o → (s : State) → IsSound o s → IsQuiescent o s → (n : Partners) → IsMatching o n → NonePassed o s n →
-    (i : ℕ) (p r : Option ℕ) → partner_of (matching_of o s) i ≡ p → partner_of n i ≡ r → depth (outputs_of o i) p ≤ depth (outputs_of o i) r
+no_better : (o : Orders) → AreOffers o → (s : State) → IsSound o s → IsQuiescent o s → (n : Partners) →
+    IsMatching o n → NonePassed o s n →
+    (i : ℕ) (p r : Option ℕ) → partner_of (matching_of o s) i ≡ p → partner_of n i ≡ r →
+    depth (outputs_of o i) p ≤ depth (outputs_of o i) r
 no_better o v s w q n matching none i None None e f = omega arith
 no_better o v s w q n matching none i (Some j) None e f = place_in-le-length (outputs_of o i) j
 no_better o v s w q n matching none i p (Some k) e f = go (cases_lt (place_of o i k) (next_place s i))
@@ -68,7 +76,8 @@ no_better o v s w q n matching none i p (Some k) e f = go (cases_lt (place_of o 
         let b : position_of o k i ≤ position_held s k = none i k f in
         partner-from o v s w i k (omega arith, v.shown i k (matching.offered i k f))
 
-    go : (place_of o i k < next_place s i) ⊎ (next_place s i ≤ place_of o i k) → depth (outputs_of o i) p ≤ place_of o i k
+    go : (place_of o i k < next_place s i) ⊎ (next_place s i ≤ place_of o i k) →
+        depth (outputs_of o i) p ≤ place_of o i k
     go (inl l) = let same : p ≡ Some k = sym e ∙ held l in rw same (omega arith)
     go (inr l) = not_asked p e
       where
@@ -76,10 +85,13 @@ no_better o v s w q n matching none i p (Some k) e f = go (cases_lt (place_of o 
         not_asked None g = let a = (kept o v s w q i).unmatched g in omega arith
         not_asked (Some j) g = let a = (kept o v s w q i).matched j g in omega arith
 
-pub input_best-quiet : (o : Orders) → AreOffers o → (events : List ℕ) → AreEvents o events → IsQuiescent o (state_after o events) → IsInputBest o (matching_of o (state_after o events))
+pub input_best-quiet : (o : Orders) → AreOffers o → (events : List ℕ) → AreEvents o events →
+    IsQuiescent o (state_after o events) → IsInputBest o (matching_of o (state_after o events))
 input_best-quiet o v events es q =
     let w = sound-after o v events es in
     record {
       stable = stable-quiet o v (state_after o events) w q;
-      best = λ n stable i. no_better o v (state_after o events) w q n stable.matching (none_passed-after o v events es n stable) i _ _ refl refl;
+      best =
+          λ n stable i. no_better o v (state_after o events) w q n stable.matching
+          (none_passed-after o v events es n stable) i _ _ refl refl;
     }

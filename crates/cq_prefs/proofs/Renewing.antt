@@ -77,7 +77,8 @@ none_renewed m o t pairs v same =
           sym (filter_all _ (outputs_of o i) kept) ∙ same.outputs i ∙ filter_all _ (outputs_of t i) kept;
       outputs_wait = λ i j _ e.
           subst
-          (λ p. filter (λ k. not (is_partner p k)) (outputs_of o i) ≡ filter (λ k. not (is_partner p k)) (outputs_of t i))
+          (λ p. filter (λ k. not (is_partner p k)) (outputs_of o i)
+          ≡ filter (λ k. not (is_partner p k)) (outputs_of t i))
           e (same.outputs i);
       inputs_done = λ j free.
           let kept : (k : ℕ) → not (is_pair m k j) ≡ true =

@@ -1,5 +1,6 @@
--- Offers are renewed where one input changed for one output. It is the renewal of a matching of this one pair: the inputs
--- before it have no partner, and those behind it have none. So its order and that of the output are all that is renewed.
+-- Offers are renewed where one input changed for one output. It is the renewal of a matching of this one pair: the
+-- inputs before it have no partner, and those behind it have none. So its order and that of the output are all that
+-- is renewed.
 use Rattle.std.proofs.Common.{◌≡◌, ◌≢◌, ℕ, ◌+◌, ◌<◌, ◌≤◌, List, length, get_or, set, replicate, Option, Some, None, sym, ◌∙◌, subst, arith}
 use Rattle.std.proofs.lemmas.List.{length-set, length-replicate, get_or-set_same, get_or-set_other}
 use Rattle.cq_list.specs.InputList.{Waiting, cells_of}

@@ -10,22 +10,28 @@ use Rattle.cq_prefs.specs.Proposals.{State, position_held, next_place, start, Ho
 use Rattle.cq_prefs.proofs.Places.{same_at_place, input_in_range, output_in_range, place_of-at, inputs_at_most}
 
 -- the output that a free input asks
-pub place_of-next : (o : Orders) → AreOffers o → (s : State) (i : ℕ) → next_place s i < length (outputs_of o i) → place_of o i (next_output o s i) ≡ next_place s i
+pub place_of-next : (o : Orders) → AreOffers o → (s : State) (i : ℕ) → next_place s i < length (outputs_of o i) →
+    place_of o i (next_output o s i) ≡ next_place s i
 place_of-next o v s i h = place_of-at o v i (next_place s i) h
 
-pub next_output-offered : (o : Orders) → AreOffers o → (s : State) (i : ℕ) → next_place s i < length (outputs_of o i) → IsOffered o i (next_output o s i)
+pub next_output-offered : (o : Orders) → AreOffers o → (s : State) (i : ℕ) →
+    next_place s i < length (outputs_of o i) → IsOffered o i (next_output o s i)
 next_output-offered o v s i h = let e = place_of-next o v s i h in omega arith
 
 -- the positions held and the next places after a proposal
-pub held-asked : (o : Orders) (s : State) (i : ℕ) → next_output o s i < length s.positions → position_held (propose o s i) (next_output o s i) ≡ min (position_held s (next_output o s i)) (position_of o (next_output o s i) i)
+pub held-asked : (o : Orders) (s : State) (i : ℕ) → next_output o s i < length s.positions →
+    position_held (propose o s i) (next_output o s i)
+    ≡ min (position_held s (next_output o s i)) (position_of o (next_output o s i) i)
 unfolding propose
 held-asked o s i h = get_or-set_same s.positions (next_output o s i) _ 0 h
 
-pub held-other : (o : Orders) (s : State) (i j : ℕ) → j ≢ next_output o s i → position_held (propose o s i) j ≡ position_held s j
+pub held-other : (o : Orders) (s : State) (i j : ℕ) → j ≢ next_output o s i →
+    position_held (propose o s i) j ≡ position_held s j
 unfolding propose
 held-other o s i j h = get_or-set_other s.positions (next_output o s i) j _ 0 h
 
-pub next_place-asker : (o : Orders) (s : State) (i : ℕ) → i < length s.places → next_place (propose o s i) i ≡ next_place s i + 1
+pub next_place-asker : (o : Orders) (s : State) (i : ℕ) → i < length s.places →
+    next_place (propose o s i) i ≡ next_place s i + 1
 unfolding propose
 next_place-asker o s i h = get_or-set_same s.places i _ 0 h
 
@@ -37,43 +43,57 @@ next_place-other o s i k h = get_or-set_other s.places i k _ 0 h
 pub record IsStep (o : Orders) (s : State) (i : ℕ) (t : State) : Type 0 where
   pub to : place_of o i (next_output o s i) ≡ next_place s i
   pub offered : IsOffered o i (next_output o s i)
-  pub held_asked : position_held t (next_output o s i) ≡ min (position_held s (next_output o s i)) (position_of o (next_output o s i) i)
+  pub held_asked : position_held t (next_output o s i)
+      ≡ min (position_held s (next_output o s i)) (position_of o (next_output o s i) i)
   pub held_other : (j : ℕ) → j ≢ next_output o s i → position_held t j ≡ position_held s j
   pub moved_on : next_place t i ≡ next_place s i + 1
   pub others_stay : (k : ℕ) → k ≢ i → next_place t k ≡ next_place s k
 
-pub step : (o : Orders) → AreOffers o → (s : State) → IsSound o s → (i : ℕ) → IsFree o s i → IsStep o s i (propose o s i)
+pub step : (o : Orders) → AreOffers o → (s : State) → IsSound o s → (i : ℕ) → IsFree o s i →
+    IsStep o s i (propose o s i)
 step o v s w i f =
     let offered = next_output-offered o v s i f.left in
     record {
       to = place_of-next o v s i f.left;
       offered = offered;
-      held_asked = held-asked o s i (let r = output_in_range o v i (next_output o s i) offered in omega (arith, w.outputs));
+      held_asked =
+          held-asked o s i (let r = output_in_range o v i (next_output o s i) offered in omega (arith, w.outputs));
       held_other = held-other o s i;
-      moved_on = next_place-asker o s i (let r = input_in_range o i (next_output o s i) offered in omega (arith, w.inputs));
+      moved_on =
+          next_place-asker o s i (let r = input_in_range o i (next_output o s i) offered in omega (arith, w.inputs));
       others_stay = next_place-other o s i;
     }
 
 -- a position that is held only falls
-pub held-falls : (o : Orders) (s : State) (i : ℕ) (t : State) → IsStep o s i t → (j : ℕ) → position_held t j ≤ position_held s j
+pub held-falls : (o : Orders) (s : State) (i : ℕ) (t : State) → IsStep o s i t → (j : ℕ) →
+    position_held t j ≤ position_held s j
 held-falls o s i t st j = go (cases_eq j (next_output o s i))
   where
     go : (j ≡ next_output o s i) ⊎ (j ≢ next_output o s i) → position_held t j ≤ position_held s j
     go (inl e) = rw e (let a = st.held_asked in omega arith)
     go (inr n) = let a = st.held_other j n in omega arith
 
-asked_before-step : (o : Orders) → AreOffers o → (s : State) → IsSound o s → (i : ℕ) (t : State) → IsStep o s i t → (k j : ℕ) → place_of o k j < next_place t k → position_held t j ≤ position_of o j k
+asked_before-step : (o : Orders) → AreOffers o → (s : State) → IsSound o s → (i : ℕ) (t : State) → IsStep o s i t →
+    (k j : ℕ) → place_of o k j < next_place t k → position_held t j ≤ position_of o j k
 asked_before-step o v s w i t st k j h = go (cases_eq k i)
   where
     falls : position_held t j ≤ position_held s j
     falls = held-falls o s i t st j
 
     go : (k ≡ i) ⊎ (k ≢ i) → position_held t j ≤ position_of o j k
-    go (inr n) = let e = st.others_stay k n in let b : position_held s j ≤ position_of o j k = w.asked_before k j (omega arith) in let f : position_held t j ≤ position_held s j = falls in omega arith
+    go (inr n) =
+        let e = st.others_stay k n in
+        let b : position_held s j ≤ position_of o j k = w.asked_before k j (omega arith) in
+        let f : position_held t j ≤ position_held s j = falls in
+        omega arith
     go (inl e) = at_asker (cases_lt (place_of o i j) (next_place s i))
       where
-        at_asker : (place_of o i j < next_place s i) ⊎ (next_place s i ≤ place_of o i j) → position_held t j ≤ position_of o j k
-        at_asker (inl l) = let b : position_held s j ≤ position_of o j i = w.asked_before i j l in let f : position_held t j ≤ position_held s j = falls in rw e (omega arith)
+        at_asker : (place_of o i j < next_place s i) ⊎ (next_place s i ≤ place_of o i j) →
+            position_held t j ≤ position_of o j k
+        at_asker (inl l) =
+            let b : position_held s j ≤ position_of o j i = w.asked_before i j l in
+            let f : position_held t j ≤ position_held s j = falls in
+            rw e (omega arith)
         at_asker (inr l) =
             let before : place_of o i j < next_place t i = rw e at h in
             let a = st.moved_on in
@@ -84,7 +104,8 @@ asked_before-step o v s w i t st k j h = go (cases_eq k i)
             rw e (rw same at d)
 
 -- what the asked output holds after the proposal
-last-step : (o : Orders) → AreOffers o → (s : State) → IsSound o s → (i : ℕ) → IsFree o s i → (t : State) → IsStep o s i t → (k j : ℕ) → Holds o t j k → next_place t k ≡ place_of o k j + 1
+last-step : (o : Orders) → AreOffers o → (s : State) → IsSound o s → (i : ℕ) → IsFree o s i → (t : State) →
+    IsStep o s i t → (k j : ℕ) → Holds o t j k → next_place t k ≡ place_of o k j + 1
 last-step o v s w i f t st k j h = go (cases_eq j (next_output o s i))
   where
     -- an input that was held already stays at its place
@@ -98,13 +119,18 @@ last-step o v s w i f t st k j h = go (cases_eq j (next_output o s i))
     go (inl e) = at_asked (cases_lt (position_of o j i) (position_held s j))
       where
         now : position_held t j ≡ min (position_held s j) (position_of o j i)
-        now = let P : ℕ → Type 0 = λ n. position_held t n ≡ min (position_held s n) (position_of o n i) in subst P (sym e) st.held_asked
+        now =
+            let P : ℕ → Type 0 = λ n. position_held t n ≡ min (position_held s n) (position_of o n i) in
+            subst P (sym e) st.held_asked
 
         to : place_of o i j ≡ next_place s i
         to = let P : ℕ → Type 0 = λ n. place_of o i n ≡ next_place s i in subst P (sym e) st.to
 
-        at_asked : (position_of o j i < position_held s j) ⊎ (position_held s j ≤ position_of o j i) → next_place t k ≡ place_of o k j + 1
-        at_asked (inr l) = let n : position_held t j ≡ min (position_held s j) (position_of o j i) = now in kept (let a = h.0 in omega arith, h.1)
+        at_asked : (position_of o j i < position_held s j) ⊎ (position_held s j ≤ position_of o j i) →
+            next_place t k ≡ place_of o k j + 1
+        at_asked (inr l) =
+            let n : position_held t j ≡ min (position_held s j) (position_of o j i) = now in
+            kept (let a = h.0 in omega arith, h.1)
         at_asked (inl l) =
             let n : position_held t j ≡ min (position_held s j) (position_of o j i) = now in
             let p : position_of o j k ≡ position_of o j i = let a = h.0 in omega arith in
@@ -113,10 +139,12 @@ last-step o v s w i f t st k j h = go (cases_eq j (next_output o s i))
             let b : place_of o i j ≡ next_place s i = to in
             rw same (omega arith)
 
-held_in-step : (o : Orders) → AreOffers o → (s : State) → IsSound o s → (i : ℕ) (t : State) → IsStep o s i t → (j : ℕ) → j < ports o → (position_held t j ≡ ports o) ⊎ (position_held t j < length (inputs_of o j))
+held_in-step : (o : Orders) → AreOffers o → (s : State) → IsSound o s → (i : ℕ) (t : State) → IsStep o s i t →
+    (j : ℕ) → j < ports o → (position_held t j ≡ ports o) ⊎ (position_held t j < length (inputs_of o j))
 held_in-step o v s w i t st j r = go (cases_eq j (next_output o s i))
   where
-    go : (j ≡ next_output o s i) ⊎ (j ≢ next_output o s i) → (position_held t j ≡ ports o) ⊎ (position_held t j < length (inputs_of o j))
+    go : (j ≡ next_output o s i) ⊎ (j ≢ next_output o s i) →
+        (position_held t j ≡ ports o) ⊎ (position_held t j < length (inputs_of o j))
     go (inr n) = rw (st.held_other j n) (w.held_in j r)
     go (inl e) =
         inr (
@@ -124,7 +152,8 @@ held_in-step o v s w i t st j r = go (cases_eq j (next_output o s i))
         let b = v.shown i (next_output o s i) st.offered in
         rw e (omega arith))
 
-pub sound-step : (o : Orders) → AreOffers o → (s : State) → IsSound o s → (i : ℕ) → IsFree o s i → IsSound o (propose o s i)
+pub sound-step : (o : Orders) → AreOffers o → (s : State) → IsSound o s → (i : ℕ) → IsFree o s i →
+    IsSound o (propose o s i)
 unfolding propose
 sound-step o v s w i f =
     let st = step o v s w i f in
@@ -148,7 +177,9 @@ next_place-start o i = go (cases_lt i (ports o))
   where
     go : (i < ports o) ⊎ (ports o ≤ i) → next_place (start o) i ≡ 0
     go (inl l) = get_or-replicate (ports o) i 0 0 l
-    go (inr l) = let zeros : List ℕ = replicate (ports o) 0 in get_or_past zeros i 0 (let e : length zeros ≡ ports o = length-replicate (ports o) 0 in omega arith)
+    go (inr l) =
+        let zeros : List ℕ = replicate (ports o) 0 in
+        get_or_past zeros i 0 (let e : length zeros ≡ ports o = length-replicate (ports o) 0 in omega arith)
 
 pub held-start : (o : Orders) (j : ℕ) → j < ports o → position_held (start o) j ≡ ports o
 unfolding start

@@ -47,7 +47,9 @@ next_output o s i = slice_index (outputs_of o i) (next_place s i)
 unfoldable pub propose : Orders → State → ℕ → State
 propose o s i =
     record {
-      positions = slice_set s.positions (next_output o s i) (min (position_held s (next_output o s i)) (position_of o (next_output o s i) i));
+      positions =
+          slice_set s.positions (next_output o s i) (min (position_held s (next_output o s i))
+          (position_of o (next_output o s i) i));
       places = slice_set s.places i (next_place s i + 1);
     }
 
@@ -60,7 +62,8 @@ holder o s j = slice_index (inputs_of o j) (position_held s j)
 unfoldable pub outcome_of : Orders → State → ℕ → Outcome
 outcome_of o s i =
     if position_held s (next_output o s i) == ports o then Held
-    else if nat_lt (position_of o (next_output o s i) i) (position_held s (next_output o s i)) then Displaced (holder o s (next_output o s i))
+    else if nat_lt (position_of o (next_output o s i) i) (position_held s (next_output o s i)) then Displaced
+    (holder o s (next_output o s i))
     else Rejected
 
 -- the state after these events, of which the latest stands first

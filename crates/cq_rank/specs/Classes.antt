@@ -29,7 +29,8 @@ unfoldable pub rows_of : List ℕ → List ClassRow
 rows_of [] = []
 rows_of (level ∷ []) = []
 rows_of (level ∷ (priority ∷ [])) = []
-rows_of (level ∷ (priority ∷ (cost ∷ numbers))) = record { level = level; priority = priority; cost = cost } ∷ rows_of numbers
+rows_of (level ∷ (priority ∷ (cost ∷ numbers))) =
+    record { level = level; priority = priority; cost = cost } ∷ rows_of numbers
 
 -- numbers are of the classes that they were taken of
 pub rows_again : (rows : List ClassRow) → rows_of (numbers_of rows) ≡ rows

@@ -34,7 +34,8 @@ pub record KeepsLaws (m : Machine) : Type 0 where
   pub above : (s : List ℕ) (c : ℕ) → length s ≡ m.size → c < m.classes → m.floor s c ≤ m.ranked s c
   pub given_floor : (s : List ℕ) (c : ℕ) → length s ≡ m.size → c < m.classes → m.floor (m.given s c) c ≡ m.ranked s c
   -- a rank of another class, or a sending, lowers no floor
-  pub other_floor : (s : List ℕ) (c d : ℕ) → length s ≡ m.size → c < m.classes → d < m.classes → c ≢ d → m.floor s d ≤ m.floor (m.given s c) d
+  pub other_floor : (s : List ℕ) (c d : ℕ) → length s ≡ m.size → c < m.classes → d < m.classes → c ≢ d →
+      m.floor s d ≤ m.floor (m.given s c) d
   pub sent_floor : (s : List ℕ) (l r c : ℕ) → length s ≡ m.size → c < m.classes → m.floor s c ≤ m.floor (m.sent s l r) c
   -- two idle slots are one
   pub idle_once : (s : List ℕ) → length s ≡ m.size → m.idle (m.idle s) ≡ m.idle s

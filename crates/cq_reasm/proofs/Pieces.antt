@@ -1,5 +1,6 @@
--- The pieces of consecutive cells are consecutive stretches of the frame, so the pieces of as many cells as the frame needs
--- are all of it. A last piece that is cut off at the frame's end is the same as one of full length, since nothing follows.
+-- The pieces of consecutive cells are consecutive stretches of the frame, so the pieces of as many cells as the frame
+-- needs are all of it. A last piece that is cut off at the frame's end is the same as one of full length, since
+-- nothing follows.
 use Rattle.std.proofs.Common.{◌≡◌, ℕ, suc, ◌+◌, ◌-◌, ◌*◌, ◌/◌, ◌<◌, ◌≤◌, List, [], ◌∷◌, ◌++◌, length, take, drop, sym, ap, ◌∙◌, arith}
 use Rattle.std.specs.Prelude.{max, min}
 use Rattle.std.proofs.lemmas.List.{take_min, take_all, length-drop, drop-drop}
@@ -9,7 +10,8 @@ use Rattle.cq_reasm.specs.Piece.{Piece}
 use Rattle.cq_reasm.specs.Cutting.{cells_of, IsCutFrom, AreCutFrom, joined_pieces, PiecesGiveFrame}
 
 -- a piece is a stretch of full length, or what is left
-full_length : (frame : List ℕ) (cell_bytes index : ℕ) (x : Piece) → IsCutFrom frame cell_bytes index x → x.bytes ≡ take cell_bytes (drop (index * cell_bytes) frame)
+full_length : (frame : List ℕ) (cell_bytes index : ℕ) (x : Piece) → IsCutFrom frame cell_bytes index x →
+    x.bytes ≡ take cell_bytes (drop (index * cell_bytes) frame)
 full_length frame cell_bytes index x h =
     let rest = drop x.cell.at frame in
     h.stretch
@@ -18,8 +20,10 @@ full_length frame cell_bytes index x h =
     ∙ ap (λ n. take cell_bytes (drop n frame)) h.at
 
 -- the pieces of the cells from one on
-stretch : (frame : List ℕ) (cell_bytes first : ℕ) (pieces : List Piece) → AreCutFrom frame cell_bytes first pieces → joined_pieces pieces ≡ take (length pieces * cell_bytes) (drop (first * cell_bytes) frame)
-stretch frame cell_bytes first [] h = let none : 0 * cell_bytes ≡ 0 = omega arith in sym (ap (λ n. take n (drop (first * cell_bytes) frame)) none)
+stretch : (frame : List ℕ) (cell_bytes first : ℕ) (pieces : List Piece) → AreCutFrom frame cell_bytes first pieces →
+    joined_pieces pieces ≡ take (length pieces * cell_bytes) (drop (first * cell_bytes) frame)
+stretch frame cell_bytes first [] h =
+    let none : 0 * cell_bytes ≡ 0 = omega arith in sym (ap (λ n. take n (drop (first * cell_bytes) frame)) none)
 stretch frame cell_bytes first (x ∷ pieces) h =
     let rest = drop (first * cell_bytes) frame in
     let count = length pieces in
@@ -28,7 +32,8 @@ stretch frame cell_bytes first (x ∷ pieces) h =
     ap (λ ys. ys ++ joined_pieces pieces) (full_length frame cell_bytes first x h.0)
     ∙ ap (λ ys. take cell_bytes rest ++ ys)
     (stretch frame cell_bytes (first + 1) pieces h.1
-    ∙ ap (take (count * cell_bytes)) (sym (drop-drop cell_bytes (first * cell_bytes) frame ∙ ap (λ n. drop n frame) next)))
+    ∙ ap (take (count * cell_bytes)) (sym (drop-drop cell_bytes (first * cell_bytes) frame
+    ∙ ap (λ n. drop n frame) next)))
     ∙ sym (take-add cell_bytes (count * cell_bytes) rest)
     ∙ ap (λ n. take n rest) all
 
@@ -36,14 +41,19 @@ stretch frame cell_bytes first (x ∷ pieces) h =
 enough_cells : (bytes cell_bytes : ℕ) → 0 < cell_bytes → bytes ≤ cells_of bytes cell_bytes * cell_bytes
 enough_cells bytes cell_bytes h =
     let quotient = (bytes + (cell_bytes - 1)) / cell_bytes in
-    let above : bytes + (cell_bytes - 1) < quotient * cell_bytes + cell_bytes = lt-div-mul-add {a = bytes + (cell_bytes - 1)} {b = cell_bytes} h in
-    let more : quotient * cell_bytes ≤ max 1 quotient * cell_bytes = mul-le-mul_right {m = quotient} {n = max 1 quotient} cell_bytes (omega arith) in
+    let above : bytes + (cell_bytes - 1) < quotient * cell_bytes + cell_bytes =
+    lt-div-mul-add {a = bytes + (cell_bytes - 1)} {b = cell_bytes} h in
+    let more : quotient * cell_bytes ≤ max 1 quotient * cell_bytes =
+    mul-le-mul_right {m = quotient} {n = max 1 quotient} cell_bytes (omega arith) in
     omega arith
 
 pub pieces_give_frame : PiecesGiveFrame
 pieces_give_frame frame cell_bytes pieces h cut count =
     let none : 0 * cell_bytes ≡ 0 = omega arith in
-    let enough : length frame ≤ length pieces * cell_bytes = let e = enough_cells (length frame) cell_bytes h in let same = ap (λ n. n * cell_bytes) count in omega arith in
+    let enough : length frame ≤ length pieces * cell_bytes =
+    let e = enough_cells (length frame) cell_bytes h in
+    let same = ap (λ n. n * cell_bytes) count in
+    omega arith in
     stretch frame cell_bytes 0 pieces cut
     ∙ ap (λ n. take (length pieces * cell_bytes) (drop n frame)) none
     ∙ take_all (length pieces * cell_bytes) frame enough

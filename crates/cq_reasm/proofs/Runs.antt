@@ -1,6 +1,6 @@
--- The cells of whole packets are taken one after another. At each cell before the last one the packet stays open, with this
--- cell's piece behind the others, so the next cell is the next of the packet. The last one gives the packet, and closes it,
--- so the first cell of the packet behind it is the next.
+-- The cells of whole packets are taken one after another. At each cell before the last one the packet stays open,
+-- with this cell's piece behind the others, so the next cell is the next of the packet. The last one gives the
+-- packet, and closes it, so the first cell of the packet behind it is the next.
 use Rattle.std.proofs.Common.{◌≡◌, ℕ, ◌+◌, true, false, cond, List, [], ◌∷◌, ◌++◌, Option, None, Some, refl, sym, ap, subst, ◌∙◌, arith, append_assoc}
 use Rattle.std.specs.List.{flat_map}
 use Rattle.std.proofs.lemmas.List.{append-nil}
@@ -16,54 +16,81 @@ IsOpenAt None packet index = 0 ≡ index
 IsOpenAt (Some p) packet index = (p.packet ≡ packet) × (p.taken ≡ index)
 
 module _ (input class packet : ℕ) where
-  is_next : (was : Option Open) (index : ℕ) (x : Piece) → IsOpenAt was packet index → IsCellOf input class packet index x → IsNext was x.cell
+  is_next : (was : Option Open) (index : ℕ) (x : Piece) → IsOpenAt was packet index →
+      IsCellOf input class packet index x → IsNext was x.cell
   is_next None index x o h = h.at_index ∙ sym o
   is_next (Some p) index x o h = (o.0 ∙ sym h.of_packet, o.1 ∙ sym h.at_index)
 
-  one_more : (was : Option Open) (index : ℕ) (x : Piece) → IsOpenAt was packet index → IsCellOf input class packet index x → IsOpenAt (Some (with_piece was x.cell.id.packet x.bytes)) packet (index + 1)
+  one_more : (was : Option Open) (index : ℕ) (x : Piece) → IsOpenAt was packet index →
+      IsCellOf input class packet index x →
+      IsOpenAt (Some (with_piece was x.cell.id.packet x.bytes)) packet (index + 1)
   one_more None index x o h = (h.of_packet, omega (arith, o))
   one_more (Some p) index x o h = (o.0, ap (λ n. n + 1) o.1)
 
-  bytes_more : (was : Option Open) (number : ℕ) (bytes rest : List ℕ) → bytes_taken (Some (with_piece was number bytes)) ++ rest ≡ bytes_taken was ++ (bytes ++ rest)
+  bytes_more : (was : Option Open) (number : ℕ) (bytes rest : List ℕ) →
+      bytes_taken (Some (with_piece was number bytes)) ++ rest ≡ bytes_taken was ++ (bytes ++ rest)
   bytes_more None number bytes rest = refl
   bytes_more (Some p) number bytes rest = append_assoc p.body bytes rest
 
-  stays_open : (was : Option Open) (x : Piece) → x.cell.last ≡ false → open_after was x.cell x.bytes ≡ Some (with_piece was x.cell.id.packet x.bytes)
-  stays_open was x e = let none : Option Open = None in ap (λ b. cond b none (Some (with_piece was x.cell.id.packet x.bytes))) e
+  stays_open : (was : Option Open) (x : Piece) → x.cell.last ≡ false →
+      open_after was x.cell x.bytes ≡ Some (with_piece was x.cell.id.packet x.bytes)
+  stays_open was x e =
+      let none : Option Open = None in ap (λ b. cond b none (Some (with_piece was x.cell.id.packet x.bytes))) e
 
   gives_none : (was : Option Open) (x : Piece) → x.cell.last ≡ false → joined_at was x.cell x.bytes ≡ None
   gives_none was x e =
       let none : Option Joined = None in
-      let all : Joined = record { input = x.cell.id.input; packet = x.cell.id.packet; body = bytes_taken was ++ x.bytes } in
+      let all : Joined =
+      record { input = x.cell.id.input; packet = x.cell.id.packet; body = bytes_taken was ++ x.bytes } in
       ap (λ b. cond b (Some all) none) e
 
   closes : (was : Option Open) (x : Piece) → x.cell.last ≡ true → open_after was x.cell x.bytes ≡ None
-  closes was x e = let none : Option Open = None in ap (λ b. cond b none (Some (with_piece was x.cell.id.packet x.bytes))) e
+  closes was x e =
+      let none : Option Open = None in ap (λ b. cond b none (Some (with_piece was x.cell.id.packet x.bytes))) e
 
-  gives_all : (was : Option Open) (index : ℕ) (x : Piece) → IsCellOf input class packet index x → x.cell.last ≡ true → joined_at was x.cell x.bytes ≡ Some (let all : Joined = record { input = input; packet = packet; body = bytes_taken was ++ x.bytes } in all)
+  gives_all : (was : Option Open) (index : ℕ) (x : Piece) → IsCellOf input class packet index x → x.cell.last ≡ true →
+      joined_at was x.cell x.bytes
+      ≡ Some (let all : Joined = record { input = input; packet = packet; body = bytes_taken was ++ x.bytes } in
+      all)
   gives_all was index x h e =
       let none : Option Joined = None in
-      let all : Joined = record { input = x.cell.id.input; packet = x.cell.id.packet; body = bytes_taken was ++ x.bytes } in
+      let all : Joined =
+      record { input = x.cell.id.input; packet = x.cell.id.packet; body = bytes_taken was ++ x.bytes } in
       ap (λ b. cond b (Some all) none) e
-      ∙ ap (λ i. Some (let j : Joined = record { input = i; packet = x.cell.id.packet; body = bytes_taken was ++ x.bytes } in j)) h.of_input
-      ∙ ap (λ n. Some (let j : Joined = record { input = input; packet = n; body = bytes_taken was ++ x.bytes } in j)) h.of_packet
+      ∙ ap (λ i. Some (let j : Joined = record
+      { input = i; packet = x.cell.id.packet; body = bytes_taken was ++ x.bytes } in
+      j)) h.of_input
+      ∙ ap (λ n. Some (let j : Joined = record { input = input; packet = n; body = bytes_taken was ++ x.bytes } in j))
+      h.of_packet
 
   -- the cells of a packet from one on, and others behind them
   record Rest (was : Option Open) (xs later : List Piece) : Type 0 where
     next : AreNext None later → AreNext was (xs ++ later)
-    gives : given was (xs ++ later) ≡ (let all : Joined = record { input = input; packet = packet; body = bytes_taken was ++ flat_map (λ x. x.bytes) xs } in all) ∷ given None later
+    gives : given was (xs ++ later)
+        ≡ (let all : Joined = record
+        { input = input; packet = packet; body = bytes_taken was ++ flat_map (λ x. x.bytes) xs } in
+        all) ∷ given None later
     left : open_after_all was (xs ++ later) ≡ open_after_all None later
 
-  rest_of : (was : Option Open) (index : ℕ) (xs later : List Piece) → IsOpenAt was packet index → AreCellsFrom input class packet index xs → Rest was xs later
+  rest_of : (was : Option Open) (index : ℕ) (xs later : List Piece) → IsOpenAt was packet index →
+      AreCellsFrom input class packet index xs → Rest was xs later
   rest_of was index [] later o h = absurd h
   rest_of was index (x ∷ []) later o h =
       let shut = closes was x h.1 in
       record {
-        next = λ n. (is_next was index x o h.0, let P : Option Open → Type 0 = λ w. AreNext w later in subst P (sym shut) n);
+        next =
+            λ n. (
+              is_next was index x o h.0,
+              let P : Option Open → Type 0 = λ w. AreNext w later in
+                  subst P (sym shut) n,
+            );
         gives =
             ap (λ j. given_or j (given (open_after was x.cell x.bytes) later)) (gives_all was index x h.0 h.1)
-            ∙ ap (λ ys. (let all : Joined = record { input = input; packet = packet; body = bytes_taken was ++ ys } in all) ∷ given (open_after was x.cell x.bytes) later) (sym (append-nil x.bytes))
-            ∙ ap (λ w. (let all : Joined = record { input = input; packet = packet; body = bytes_taken was ++ (x.bytes ++ []) } in all) ∷ given w later) shut;
+            ∙ ap (λ ys. (let all : Joined = record { input = input; packet = packet; body = bytes_taken was ++ ys } in
+            all) ∷ given (open_after was x.cell x.bytes) later) (sym (append-nil x.bytes))
+            ∙ ap (λ w. (let all : Joined = record
+            { input = input; packet = packet; body = bytes_taken was ++ (x.bytes ++ []) } in
+            all) ∷ given w later) shut;
         left = ap (λ w. open_after_all w later) shut;
       }
   rest_of was index (x ∷ y ∷ xs) later o h =
@@ -71,12 +98,18 @@ module _ (input class packet : ℕ) where
       let kept : open_after was x.cell x.bytes ≡ on = stays_open was x h.1 in
       let r = rest_of on (index + 1) (y ∷ xs) later (one_more was index x o h.0) h.2 in
       record {
-        next = λ n. (is_next was index x o h.0, let P : Option Open → Type 0 = λ w. AreNext w (y ∷ xs ++ later) in subst P (sym kept) (r.next n));
+        next =
+            λ n. (
+              is_next was index x o h.0,
+              let P : Option Open → Type 0 = λ w. AreNext w (y ∷ xs ++ later) in
+                  subst P (sym kept) (r.next n),
+            );
         gives =
             ap (λ j. given_or j (given (open_after was x.cell x.bytes) (y ∷ xs ++ later))) (gives_none was x h.1)
             ∙ ap (λ w. given w (y ∷ xs ++ later)) kept
             ∙ r.gives
-            ∙ ap (λ ys. (let all : Joined = record { input = input; packet = packet; body = ys } in all) ∷ given None later) (bytes_more was x.cell.id.packet x.bytes (flat_map (λ x. x.bytes) (y ∷ xs)));
+            ∙ ap (λ ys. (let all : Joined = record { input = input; packet = packet; body = ys } in all)
+            ∷ given None later) (bytes_more was x.cell.id.packet x.bytes (flat_map (λ x. x.bytes) (y ∷ xs)));
         left = ap (λ w. open_after_all w (y ∷ xs ++ later)) kept ∙ r.left;
       }
 

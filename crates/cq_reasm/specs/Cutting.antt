@@ -7,8 +7,8 @@ use Rattle.cq_reasm.specs.Piece.{Piece}
 abbrev pub cells_of : ℕ → ℕ → ℕ
 cells_of bytes cell_bytes = max 1 ((bytes + (cell_bytes - 1)) / cell_bytes)
 
--- the cell is this one of the frame: its piece begins where the pieces of the cells before it end, and is as long as they
--- are, or as what is left of the frame
+-- the cell is this one of the frame: its piece begins where the pieces of the cells before it end, and is as long as
+-- they are, or as what is left of the frame
 pub record IsCutFrom (frame : List ℕ) (cell_bytes index : ℕ) (piece : Piece) : Type 0 where
   pub at : piece.cell.at ≡ index * cell_bytes
   pub len : piece.cell.len ≡ min cell_bytes (length frame - piece.cell.at)
@@ -17,7 +17,8 @@ pub record IsCutFrom (frame : List ℕ) (cell_bytes index : ℕ) (piece : Piece)
 -- consecutive cells of the frame, from one on
 abbrev pub AreCutFrom : List ℕ → ℕ → ℕ → List Piece → Type 0
 AreCutFrom frame cell_bytes index [] = Unit {0}
-AreCutFrom frame cell_bytes index (x ∷ rest) = IsCutFrom frame cell_bytes index x × AreCutFrom frame cell_bytes (index + 1) rest
+AreCutFrom frame cell_bytes index (x ∷ rest) =
+    IsCutFrom frame cell_bytes index x × AreCutFrom frame cell_bytes (index + 1) rest
 
 -- the pieces of cells, joined in order
 abbrev pub joined_pieces : List Piece → List ℕ
@@ -25,4 +26,6 @@ joined_pieces pieces = flat_map (λ x. x.bytes) pieces
 
 -- those of all cells of a frame give the frame
 abbrev pub PiecesGiveFrame : Type 0
-PiecesGiveFrame = (frame : List ℕ) (cell_bytes : ℕ) (pieces : List Piece) → 0 < cell_bytes → AreCutFrom frame cell_bytes 0 pieces → length pieces ≡ cells_of (length frame) cell_bytes → joined_pieces pieces ≡ frame
+PiecesGiveFrame =
+    (frame : List ℕ) (cell_bytes : ℕ) (pieces : List Piece) → 0 < cell_bytes → AreCutFrom frame cell_bytes 0 pieces →
+    length pieces ≡ cells_of (length frame) cell_bytes → joined_pieces pieces ≡ frame

@@ -20,14 +20,16 @@ open_at joiner input class = slice_index_or joiner.open_packets (place_of joiner
 
 -- the same, but that this is open of the pair
 abbrev pub with_open : JoinerView → ℕ → ℕ → Option Open → JoinerView
-with_open joiner input class now = record joiner { open_packets = slice_set joiner.open_packets (place_of joiner input class) now }
+with_open joiner input class now =
+    record joiner { open_packets = slice_set joiner.open_packets (place_of joiner input class) now }
 
 -- no packet is open
 abbrev pub nothing_open : ℕ → ℕ → JoinerView
-nothing_open inputs classes = record { inputs = inputs; classes = classes; open_packets = replicate (inputs * classes) None }
+nothing_open inputs classes =
+    record { inputs = inputs; classes = classes; open_packets = replicate (inputs * classes) None }
 
--- the cell is the next of its pair: of the open packet as many cells were taken as stand before it, or none is open and it
--- is the first of its packet
+-- the cell is the next of its pair: of the open packet as many cells were taken as stand before it, or none is open
+-- and it is the first of its packet
 abbrev pub IsNext : Option Open → Cell → Type 0
 IsNext None cell = cell.id.index ≡ 0
 IsNext (Some p) cell = (p.packet ≡ cell.id.packet) × (p.taken ≡ cell.id.index)
@@ -38,7 +40,9 @@ IsOtherPair input class cell = (input ≢ cell.id.input) ⊎ (class ≢ cell.cla
 
 -- the packet that is whole with this cell: the pieces of its cells, in order
 abbrev pub joined_at : Option Open → Cell → List ℕ → Option Joined
-joined_at was cell piece = if cell.last then Some (record { input = cell.id.input; packet = cell.id.packet; body = bytes_taken was ++ piece }) else None
+joined_at was cell piece =
+    if cell.last then Some
+    (record { input = cell.id.input; packet = cell.id.packet; body = bytes_taken was ++ piece }) else None
 
 -- what is open of the pair afterwards
 abbrev pub open_after : Option Open → Cell → List ℕ → Option Open

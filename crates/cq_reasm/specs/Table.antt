@@ -18,8 +18,8 @@ packet_under packets (Some key) = option_map open_of (get packets key)
 abbrev pub StandsAt : List (Option ℕ) → ℕ → ℕ → Type 0
 StandsAt keys place key = slice_index_or keys place None ≡ Some key
 
--- under each key that stands at a place is a packet, no key stands at two places, and the key of each packet of the slab
--- stands at one
+-- under each key that stands at a place is a packet, no key stands at two places, and the key of each packet of the
+-- slab stands at one
 pub record IsTable (packets : Slab OpenPacket) (keys : List (Option ℕ)) : Type 0 where
   pub present : (place key : ℕ) → StandsAt keys place key → ContainsKey packets key
   pub apart : (place other key : ℕ) → StandsAt keys place key → StandsAt keys other key → place ≡ other

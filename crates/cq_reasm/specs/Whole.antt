@@ -24,7 +24,9 @@ pub record IsCellOf (input class packet index : ℕ) (piece : Piece) : Type 0 wh
 abbrev pub AreCellsFrom : ℕ → ℕ → ℕ → ℕ → List Piece → Type 0
 AreCellsFrom input class packet index [] = ⊥
 AreCellsFrom input class packet index (x ∷ []) = IsCellOf input class packet index x × (x.cell.last ≡ true)
-AreCellsFrom input class packet index (x ∷ y ∷ rest) = IsCellOf input class packet index x × (x.cell.last ≡ false) × AreCellsFrom input class packet (index + 1) (y ∷ rest)
+AreCellsFrom input class packet index (x ∷ y ∷ rest) =
+    IsCellOf input class packet index x × (x.cell.last ≡ false)
+    × AreCellsFrom input class packet (index + 1) (y ∷ rest)
 
 -- a run of whole packets of the input and the class
 abbrev pub AreWhole : ℕ → ℕ → List Packet → Type 0
@@ -58,7 +60,8 @@ abbrev pub open_after_all : Option Open → List Piece → Option Open
 open_after_all was [] = was
 open_after_all was (x ∷ rest) = open_after_all (open_after was x.cell x.bytes) rest
 
--- the cells of whole packets can be taken one after another, each packet is given whole, in order, and none is left open
+-- the cells of whole packets can be taken one after another, each packet is given whole, in order, and none is left
+-- open
 pub record TakesWhole (input : ℕ) (packets : List Packet) : Type 0 where
   pub next : AreNext None (cells_in packets)
   pub gives : given None (cells_in packets) ≡ map (whole input) packets

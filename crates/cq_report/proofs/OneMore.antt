@@ -17,21 +17,27 @@ parted n ns = decimal n ++ flat_map behind_blank ns
 
 pub line_is_parted : (n : ℕ) (ns : List ℕ) → parted n ns ++ 10 ∷ [] ≡ line_of (n ∷ ns)
 line_is_parted n [] = ap (λ ds. ds ++ 10 ∷ []) (append-nil (decimal n))
-line_is_parted n (m ∷ ns) = append_assoc (decimal n) (32 ∷ parted m ns) (10 ∷ []) ∙ ap (λ rest. decimal n ++ 32 ∷ rest) (line_is_parted m ns)
+line_is_parted n (m ∷ ns) =
+    append_assoc (decimal n) (32 ∷ parted m ns) (10 ∷ []) ∙ ap (λ rest. decimal n ++ 32 ∷ rest) (line_is_parted m ns)
 
-numbered_end : {X : Type 0} (line : ℕ → X → List ℕ) (n : ℕ) (xs : List X) (x : X) (m : ℕ) → m ≡ n + length xs → numbered_lines line n (xs ++ x ∷ []) ≡ numbered_lines line n xs ++ line m x
+numbered_end : {X : Type 0} (line : ℕ → X → List ℕ) (n : ℕ) (xs : List X) (x : X) (m : ℕ) → m ≡ n + length xs →
+    numbered_lines line n (xs ++ x ∷ []) ≡ numbered_lines line n xs ++ line m x
 numbered_end line n [] x m e = append-nil (line n x) ∙ ap (λ (k : ℕ). line k x) (let same : n ≡ m = omega arith in same)
 numbered_end line n (y ∷ xs) x m e =
-    ap (λ ys. line n y ++ ys) (numbered_end line (n + 1) xs x m (omega arith)) ∙ sym (append_assoc (line n y) (numbered_lines line (n + 1) xs) (line m x))
+    ap (λ ys. line n y ++ ys) (numbered_end line (n + 1) xs x m (omega arith))
+    ∙ sym (append_assoc (line n y) (numbered_lines line (n + 1) xs) (line m x))
 
 -- one numbered line more
-pub numbered_more : {X : Type 0} (line : ℕ → X → List ℕ) (xs : List X) (i : ℕ) (d : X) (start old new : List ℕ) → i < length xs → old ≡ start ++ numbered_lines line 0 (take i xs) → new ≡ old ++ line i (get_or xs i d) → new ≡ start ++ numbered_lines line 0 (take (i + 1) xs)
+pub numbered_more : {X : Type 0} (line : ℕ → X → List ℕ) (xs : List X) (i : ℕ) (d : X) (start old new : List ℕ) →
+    i < length xs → old ≡ start ++ numbered_lines line 0 (take i xs) → new ≡ old ++ line i (get_or xs i d) →
+    new ≡ start ++ numbered_lines line 0 (take (i + 1) xs)
 numbered_more line xs i d start old new h o n =
     let x = get_or xs i d in
     let front = take i xs in
     let place : i ≡ 0 + length front = let l = length-take-le i xs (omega arith) in omega arith in
     n ∙ ap (λ ys. ys ++ line i x) o ∙ append_assoc start (numbered_lines line 0 front) (line i x)
-    ∙ ap (λ ys. start ++ ys) (sym (ap (numbered_lines line 0) (take_more xs i d h) ∙ numbered_end line 0 front x i place))
+    ∙ ap (λ ys. start ++ ys) (sym (ap (numbered_lines line 0) (take_more xs i d h)
+    ∙ numbered_end line 0 front x i place))
 
 -- one line more, without a number
 pub one_line_more : {X : Type 0} (line : X → List ℕ) (xs : List X) (i : ℕ) (d : X) (start old new : List ℕ) →

@@ -3,12 +3,15 @@ use Rattle.std.proofs.Common.{◌≡◌, ℕ, List, [], ◌∷◌, ◌++◌, ap,
 use Rattle.cq_report.specs.Report.{line_of_words}
 
 -- what is put behind a word is put behind all
-word_then : (start old new word rest : List ℕ) (blank : ℕ) → old ≡ start ++ (word ++ blank ∷ []) → new ≡ old ++ rest → new ≡ start ++ (word ++ blank ∷ rest)
+word_then : (start old new word rest : List ℕ) (blank : ℕ) → old ≡ start ++ (word ++ blank ∷ []) → new ≡ old ++ rest →
+    new ≡ start ++ (word ++ blank ∷ rest)
 word_then start old new word rest blank o n =
-    n ∙ ap (λ ys. ys ++ rest) o ∙ append_assoc start (word ++ blank ∷ []) rest ∙ ap (λ ys. start ++ ys) (append_assoc word (blank ∷ []) rest)
+    n ∙ ap (λ ys. ys ++ rest) o ∙ append_assoc start (word ++ blank ∷ []) rest
+    ∙ ap (λ ys. start ++ ys) (append_assoc word (blank ∷ []) rest)
 
 -- a line of four words
-pub four_words : (t₀ t₁ t₂ t₃ t₄ a b c d : List ℕ) → t₁ ≡ t₀ ++ (a ++ 32 ∷ []) → t₂ ≡ t₁ ++ (b ++ 32 ∷ []) → t₃ ≡ t₂ ++ (c ++ 32 ∷ []) → t₄ ≡ t₃ ++ (d ++ 10 ∷ []) → t₄ ≡ t₀ ++ line_of_words (a ∷ b ∷ c ∷ d ∷ [])
+pub four_words : (t₀ t₁ t₂ t₃ t₄ a b c d : List ℕ) → t₁ ≡ t₀ ++ (a ++ 32 ∷ []) → t₂ ≡ t₁ ++ (b ++ 32 ∷ []) →
+    t₃ ≡ t₂ ++ (c ++ 32 ∷ []) → t₄ ≡ t₃ ++ (d ++ 10 ∷ []) → t₄ ≡ t₀ ++ line_of_words (a ∷ b ∷ c ∷ d ∷ [])
 four_words t₀ t₁ t₂ t₃ t₄ a b c d e₁ e₂ e₃ e₄ =
     word_then t₀ t₁ t₄ a _ 32 e₁ (word_then t₁ t₂ t₄ b _ 32 e₂ (word_then t₂ t₃ t₄ c _ 32 e₃ e₄))
 

@@ -25,12 +25,14 @@ line_of_words (word ∷ next ∷ words) = word ++ 32 ∷ line_of_words (next ∷
 -- an input, by its number
 unfoldable pub input_line : ℕ → InputFigures → List ℕ
 input_line i x =
-    line_of_words (named (codes "input") (Some i) ∷ named (codes "cells") (Some x.cells) ∷ named (codes "longest") (Some x.longest) ∷ named (codes "slack") x.slack ∷ [])
+    line_of_words (named (codes "input") (Some i) ∷ named (codes "cells") (Some x.cells)
+    ∷ named (codes "longest") (Some x.longest) ∷ named (codes "slack") x.slack ∷ [])
 
 -- an output, by its number, in a run of so many slots: it was idle in those in which it sent no cell
 unfoldable pub output_line : ℕ → ℕ → OutputFigures → List ℕ
 output_line slots j x =
-    line_of_words (named (codes "output") (Some j) ∷ named (codes "cells") (Some x.cells) ∷ named (codes "idle") (Some (slots - x.cells)) ∷ named (codes "wait") x.wait ∷ [])
+    line_of_words (named (codes "output") (Some j) ∷ named (codes "cells") (Some x.cells)
+    ∷ named (codes "idle") (Some (slots - x.cells)) ∷ named (codes "wait") x.wait ∷ [])
 
 -- one line each, numbered in order from a first number on
 abbrev pub numbered_lines : {X : Type 0} → (ℕ → X → List ℕ) → ℕ → List X → List ℕ
@@ -47,7 +49,8 @@ run_lines f =
 -- an output that has a limit: how many packets were refused there, and how many cells they had
 unfoldable pub limit_line : Refused → List ℕ
 limit_line r =
-    line_of_words (named (codes "limit") (Some r.output) ∷ named (codes "refused") (Some r.packets) ∷ named (codes "cells") (Some r.cells) ∷ [])
+    line_of_words (named (codes "limit") (Some r.output) ∷ named (codes "refused") (Some r.packets)
+    ∷ named (codes "cells") (Some r.cells) ∷ [])
 
 -- the run as a whole, then its inputs and its outputs, each numbered from 0
 unfoldable pub report_of : Figures → List ℕ

@@ -19,7 +19,8 @@ use Rattle.cq_state.specs.declared.state.State.{State}
 
 -- the departure that is told, if its cell arrives
 abbrev pub departure_of : List Arrival → Sent → Option Departure
-departure_of came d = option_map (λ q. record { slot = d.slot; output = q.cell.output; queued = q }) (queued_of came d.cell)
+departure_of came d =
+    option_map (λ q. record { slot = d.slot; output = q.cell.output; queued = q }) (queued_of came d.cell)
 
 abbrev pub sent_told : List Arrival → State → List Departure
 sent_told came s = filter_map (departure_of came) s.sent

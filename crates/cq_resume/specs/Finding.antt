@@ -150,7 +150,8 @@ FlowsStand names = AllPairs LeavesEarlier names
 
 pub record StandsBelow (setup : Setup) (ranks : List (List ℕ)) (q : Queued) : Type 0 where
   pub level : q.key.level ≡ (machine_at (machines_of setup) q.cell.output).level q.cell.class
-  pub rank : q.key.rank ≤ (machine_at (machines_of setup) q.cell.output).floor (slice_index_or ranks q.cell.output []) q.cell.class
+  pub rank : q.key.rank
+      ≤ (machine_at (machines_of setup) q.cell.output).floor (slice_index_or ranks q.cell.output []) q.cell.class
 
 -- ## Packets
 
@@ -182,8 +183,10 @@ is_left_out names next came None = false
 is_left_out names next came (Some a) = not (list_any (has_name names) (packet_before came next a))
 
 -- what was refused then, and the marks that were left
-pub record TalliesUp (limits : List (Option ℕ)) (next : ℕ) (came : List Arrival) (names : List Name) (x : Tally) : Type 0 where
-  pub marks : x.marks ≡ map (λ i. is_left_out names next came (latest (firsts_before i next came))) (range_with_len 0 (length limits))
+pub record TalliesUp (limits : List (Option ℕ)) (next : ℕ) (came : List Arrival) (names : List Name) (x : Tally) :
+    Type 0 where
+  pub marks : x.marks
+      ≡ map (λ i. is_left_out names next came (latest (firsts_before i next came))) (range_with_len 0 (length limits))
   pub refused : x.refused ≡ refused_counts limits (map (λ a. a.cell) (left_out next came names))
 
 -- ## Packets that arrive whole, one after another
@@ -224,8 +227,8 @@ abbrev pub is_same : Bool → Bool → Bool
 is_same true b = b
 is_same false b = not b
 
--- whether a cell may come where the packet before it is left out or not: the first of a packet always may, another only if it
--- is named as its packet is; and one that is not named only for an output that has a limit
+-- whether a cell may come where the packet before it is left out or not: the first of a packet always may, another
+-- only if it is named as its packet is; and one that is not named only for an output that has a limit
 abbrev pub may_come : Bool → Bool → Bool → Bool → Bool
 may_come first named limited mark = (first || is_same mark (not named)) && (named || limited)
 

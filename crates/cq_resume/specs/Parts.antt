@@ -46,8 +46,8 @@ pub record IsWholeFault (w : Switch) (ranks : List (List ℕ)) (fault : TagFault
   pub records : List LimitedRecord
   pub stops : Stops w 0 (arriving_from w.came 0 count) (opening w ranks) records fault
 
--- From the state after any number of slots the resumed run keeps what the whole run keeps, or meets the tag fault that it
--- meets; and it meets no other.
+-- From the state after any number of slots the resumed run keeps what the whole run keeps, or meets the tag fault
+-- that it meets; and it meets no other.
 pub record PartsJoin : Type 0 where
   pub run : (w : Switch) (ranks : List (List ℕ)) (slots : ℕ) (at : Taken) (kept whole : Kept) →
       slots < 2 ^ 63 → IsParted w ranks slots at → IsResumed w at kept → IsWhole w ranks whole → kept ≡ whole

@@ -31,8 +31,8 @@ sent_as d = record { slot = d.slot; cell = named_as d.queued }
 abbrev pub seen_as : InputFigures → Seen
 seen_as x = record { longest = x.longest; slack = x.slack }
 
--- what the text of a stopped run tells: its frozen state, its departures and its transfers, and the stamp from which slots are
--- counted, the number of classes, and the number of cells in the schedule
+-- what the text of a stopped run tells: its frozen state, its departures and its transfers, and the stamp from which
+-- slots are counted, the number of classes, and the number of cells in the schedule
 unfoldable pub state_of : Frozen → List Departure → List Transfer → ℕ → ℕ → ℕ → State
 state_of x sent note first_stamp classes total =
     record {

@@ -32,13 +32,15 @@ Stops w slot traffic old rs fault = LimitedFabricStops IsInputBest w.limits w.ma
 abbrev pub AfterFrom : Switch → ℕ → Marked Fabric → List LimitedRecord → ℕ → Marked Fabric → Type 0
 AfterFrom w next start rs m s = Runs w next (arriving_from w.came next m) start (take m rs) s
 
--- the records of a run from this slot and this state to its end: no later slot has an arrival and no cell waits, and both hold
--- after no fewer slots
-pub record RunsOn (w : Switch) (next : ℕ) (start : Marked Fabric) (rs : List LimitedRecord) (end : Marked Fabric) : Type 0 where
+-- the records of a run from this slot and this state to its end: no later slot has an arrival and no cell waits, and
+-- both hold after no fewer slots
+pub record RunsOn (w : Switch) (next : ℕ) (start : Marked Fabric) (rs : List LimitedRecord) (end : Marked Fabric) :
+    Type 0 where
   pub after : AfterFrom w next start rs (length rs) end
   pub all_came : end_of w.came ≤ next + length rs
   pub empty : IsEmptyFabric end.state
-  pub first : (m : ℕ) (s : Marked Fabric) → AfterFrom w next start rs m s → end_of w.came ≤ next + m → IsEmptyFabric s.state → length rs ≤ m
+  pub first : (m : ℕ) (s : Marked Fabric) → AfterFrom w next start rs m s → end_of w.came ≤ next + m →
+      IsEmptyFabric s.state → length rs ≤ m
 
 -- what a run leaves: its departures, its transfers, its figures, and what was refused at each output that has a limit
 pub record Kept : Type 0 where
@@ -72,4 +74,5 @@ pub record IsResumed (w : Switch) (from : Taken) (kept : Kept) : Type 0 where
 pub record IsResumedFault (w : Switch) (from : Taken) (fault : TagFault) : Type 0 where
   pub count : ℕ
   pub records : List LimitedRecord
-  pub stops : Stops w from.frozen.next (arriving_from w.came from.frozen.next count) (marked_in from.frozen) records fault
+  pub stops : Stops w from.frozen.next (arriving_from w.came from.frozen.next count) (marked_in from.frozen) records
+      fault

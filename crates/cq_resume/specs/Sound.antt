@@ -32,10 +32,12 @@ abbrev pub IsMovedBefore : Transfer → Transfer → Type 0
 IsMovedBefore a b = (a.slot < b.slot) ⊎
     ((a.slot ≡ b.slot) × ((a.phase < b.phase) ⊎ ((a.phase ≡ b.phase) × (a.input < b.input))))
 
--- all lines stand in order, the cells of a list for one output by their keys, and each departure and each transfer has its time
+-- all lines stand in order, the cells of a list for one output by their keys, and each departure and each transfer
+-- has its time
 pub record StandInOrder (w : Switch) (s : State) : Type 0 where
   pub lists : AllPairs (λ a b. a.input ≤ b.input) s.listed
-  pub keys : AllPairs (λ a b. a.input ≡ b.input → output_of w.came a ≡ output_of w.came b → is_ahead a b ≡ true) s.listed
+  pub keys : AllPairs (λ a b. a.input ≡ b.input → output_of w.came a ≡ output_of w.came b → is_ahead a b ≡ true)
+      s.listed
   pub buffers : AllPairs (IsBufferedBefore w.came) s.buffered
   pub sent : AllPairs (IsSentBefore w.came) s.sent
   pub sent_times : All (λ d. (d.cell.slot ≤ d.slot) × (d.slot < s.head.next)) s.sent
@@ -66,16 +68,20 @@ pub record OfOneFlow (came : List Arrival) (a b : Named) : Type 0 where
   pub output : output_of came a ≡ output_of came b
   pub class : class_of came a ≡ class_of came b
 
--- the cells of each flow were sent in the order of arrival, those that wait arrived after them, and are to be sent in that order
+-- the cells of each flow were sent in the order of arrival, those that wait arrived after them, and are to be sent in
+-- that order
 pub record KeepArrivalOrder (w : Switch) (s : State) : Type 0 where
   pub sent : AllPairs (λ d e. OfOneFlow w.came d.cell e.cell → d.cell.slot < e.cell.slot) s.sent
   pub after : All (λ d. All (λ c. OfOneFlow w.came d.cell c → d.cell.slot < c.slot) (queued_in s)) s.sent
-  pub queued : All (λ a. All (λ b. OfOneFlow w.came a b → a.slot < b.slot → is_ahead a b ≡ true) (queued_in s)) (queued_in s)
+  pub queued : All (λ a. All (λ b. OfOneFlow w.came a b → a.slot < b.slot → is_ahead a b ≡ true) (queued_in s))
+      (queued_in s)
 
 -- the level of a cell that waits is that of its class, and its rank is no greater than the floor of its class
 pub record IsBelowFloor (w : Switch) (s : State) (c : Named) : Type 0 where
   pub level : c.level ≡ (machine_at w.machines (output_of w.came c)).level (class_of w.came c)
-  pub rank : c.rank ≤ (machine_at w.machines (output_of w.came c)).floor (slice_index_or s.ranks (output_of w.came c) []) (class_of w.came c)
+  pub rank : c.rank
+      ≤ (machine_at w.machines (output_of w.came c)).floor (slice_index_or s.ranks (output_of w.came c) [])
+      (class_of w.came c)
 
 abbrev pub AreBelowFloors : Switch → State → Type 0
 AreBelowFloors w s = All (IsBelowFloor w s) (queued_in s)

@@ -12,8 +12,8 @@ use Rattle.cq_scfq.specs.Disciplines.{machines_of}
 use Rattle.cq_state.specs.declared.state.Head.{Head}
 use Rattle.cq_state.specs.declared.state.State.{State}
 
--- a switch with what arrives at it: per output its machine and its limit, the number of its classes, the stamp from which slots
--- are counted, and the cells
+-- a switch with what arrives at it: per output its machine and its limit, the number of its classes, the stamp from
+-- which slots are counted, and the cells
 pub record Switch : Type 0 where
   pub machines : List Machine
   pub limits : List (Option ℕ)

@@ -29,7 +29,8 @@ longer (Some wait) now = max wait now
 -- what was seen of an output, with a departure more, if it is its own
 abbrev pub with_departure : ℕ → OutputFigures → Departure → OutputFigures
 with_departure j x d =
-    if d.output == j then record { cells = x.cells + 1; wait = Some (longer x.wait (d.slot - d.queued.key.slot)) } else x
+    if d.output == j then record { cells = x.cells + 1; wait = Some (longer x.wait (d.slot - d.queued.key.slot)) }
+    else x
 
 -- the found cells stand in order, and their lists, buffers and departures can be told apart
 pub record CanTakeUp (s : State) (f : Found) : Type 0 where

@@ -41,35 +41,49 @@ bytes_are mac n a e = let six = a.six in be_bytes_8 (0 ∷ 0 ∷ mac) n (omega a
 same_address : (a b : List ℕ) → IsAddress a → IsAddress b → number_of a ≡ number_of b → a ≡ b
 same_address a b x y e = ap (drop 2) (sym (bytes_are a (number_of a) x refl) ∙ bytes_are b (number_of a) y e)
 
-same_test : (mac other : List ℕ) → IsAddress mac → IsAddress other → (number_of other == number_of mac) ≡ bytes_eq mac other
+same_test : (mac other : List ℕ) → IsAddress mac → IsAddress other →
+    (number_of other == number_of mac) ≡ bytes_eq mac other
 same_test mac other a b =
     let d = Decides-eqb (number_of other) (number_of mac) in
-    let numbers : Decides (number_of other == number_of mac) (mac ≡ other) = (λ t. sym (same_address other mac b a (d.0 t)), λ e. d.1 (ap number_of (sym e))) in
+    let numbers : Decides (number_of other == number_of mac) (mac ≡ other) =
+    (λ t. sym (same_address other mac b a (d.0 t)), λ e. d.1 (ap number_of (sym e))) in
     same_from_decides (number_of other == number_of mac) (bytes_eq mac other) numbers (bytes_eq-Decides mac other)
 
 -- two tests that agree at each row find the same one
-find_same : (p q : AddressRow → Bool) (rows : List AddressRow) → All (λ row. p row ≡ q row) rows → find p rows ≡ find q rows
+find_same : (p q : AddressRow → Bool) (rows : List AddressRow) → All (λ row. p row ≡ q row) rows →
+    find p rows ≡ find q rows
 find_same p q [] all = refl
 find_same p q (r ∷ rows) all =
-    ap (λ b. if b then Some r else find p rows) (all 0 r (omega arith)) ∙ ap (λ o. if q r then Some r else o) (find_same p q rows (λ k d h. all (suc k) d (omega arith)))
+    ap (λ b. if b then Some r else find p rows) (all 0 r (omega arith))
+    ∙ ap (λ o. if q r then Some r else o) (find_same p q rows (λ k d h. all (suc k) d (omega arith)))
 
 -- what is listed of an address is what the first row with it says
-pub listed_is : (mac : List ℕ) (rows : List AddressRow) → IsAddress mac → AreAddresses rows → listed rows (number_of mac) ≡ option_map (λ row. row.output) (find (is_to (Some mac)) rows)
+pub listed_is : (mac : List ℕ) (rows : List AddressRow) → IsAddress mac → AreAddresses rows →
+    listed rows (number_of mac) ≡ option_map (λ row. row.output) (find (is_to (Some mac)) rows)
 listed_is mac rows a all =
-    ap (option_map (λ (row : AddressRow). row.output)) (find_same (λ row. number_of row.mac == number_of mac) (is_to (Some mac)) rows (λ k d h. same_test mac (get_or rows k d).mac a (all k d h)))
+    ap (option_map (λ (row : AddressRow). row.output)) (find_same (λ row. number_of row.mac == number_of mac)
+    (is_to (Some mac)) rows (λ k d h. same_test mac (get_or rows k d).mac a (all k d h)))
 
-either : (o e : Option AddressRow) → option_map (λ (row : AddressRow). row.output) (option_or o e) ≡ option_or (option_map (λ (row : AddressRow). row.output) o) (option_map (λ (row : AddressRow). row.output) e)
+either : (o e : Option AddressRow) →
+    option_map (λ (row : AddressRow). row.output) (option_or o e)
+    ≡ option_or (option_map (λ (row : AddressRow). row.output) o)
+    (option_map (λ (row : AddressRow). row.output) e)
 either (Some r) e = refl
 either None e = refl
 
-one : (p : AddressRow → Bool) (row : AddressRow) → option_map (λ (r : AddressRow). r.output) (find p (row ∷ [])) ≡ some_if (p row) row.output
-one p row = cond_both (p row) (Some row) None (λ o. option_map (λ (r : AddressRow). r.output) o ≡ some_if (p row) row.output) (λ e. rw e refl) (λ e. rw e refl)
+one : (p : AddressRow → Bool) (row : AddressRow) →
+    option_map (λ (r : AddressRow). r.output) (find p (row ∷ [])) ≡ some_if (p row) row.output
+one p row =
+    cond_both (p row) (Some row) None (λ o. option_map (λ (r : AddressRow). r.output) o ≡ some_if (p row) row.output)
+    (λ e. rw e refl) (λ e. rw e refl)
 
 -- one row more: it is listed where none with its number came before it
-pub listed_push : (rows : List AddressRow) (row : AddressRow) (q : ℕ) → listed (rows ++ row ∷ []) q ≡ option_or (listed rows q) (some_if (number_of row.mac == q) row.output)
+pub listed_push : (rows : List AddressRow) (row : AddressRow) (q : ℕ) →
+    listed (rows ++ row ∷ []) q ≡ option_or (listed rows q) (some_if (number_of row.mac == q) row.output)
 listed_push rows row q =
     let p : AddressRow → Bool = λ r. number_of r.mac == q in
-    ap (option_map (λ (r : AddressRow). r.output)) (find-append p rows (row ∷ [])) ∙ either (find p rows) (find p (row ∷ [])) ∙ ap (option_or (listed rows q)) (one p row)
+    ap (option_map (λ (r : AddressRow). r.output)) (find-append p rows (row ∷ []))
+    ∙ either (find p rows) (find p (row ∷ [])) ∙ ap (option_or (listed rows q)) (one p row)
 
 -- the rows are listed in a map
 pub record AreListed (rows : List AddressRow) (outputs : BTreeMap ℕ ℕ) : Type 0 where
@@ -81,14 +95,19 @@ pub directory_is : (t : Tables) (d : Directory) → AreListed t.addresses d.outp
 unfolding IsDirectoryOf
 directory_is t d l = λ mac a. l.known (number_of mac) ∙ listed_is mac t.addresses a l.macs
 
-found : (o : Option AddressRow) (d : ℕ) → unwrap_or (option_map (λ (row : AddressRow). row.output) o) d ≡ option_map_or (λ (row : AddressRow). row.output) o d
+found : (o : Option AddressRow) (d : ℕ) →
+    unwrap_or (option_map (λ (row : AddressRow). row.output) o) d
+    ≡ option_map_or (λ (row : AddressRow). row.output) o d
 found (Some row) d = refl
 found None d = refl
 
 -- frames to an address go where the directory says, or by default
-pub goes_to : (t : Tables) (d : Directory) (mac : List ℕ) → IsAddress mac → IsDirectoryOf t d → unwrap_or (get nat_cmp d.outputs (number_of mac)) t.default_output ≡ output_for t (Some mac)
+pub goes_to : (t : Tables) (d : Directory) (mac : List ℕ) → IsAddress mac → IsDirectoryOf t d →
+    unwrap_or (get nat_cmp d.outputs (number_of mac)) t.default_output ≡ output_for t (Some mac)
 unfolding IsDirectoryOf
-goes_to t d mac a is = ap (λ (o : Option ℕ). unwrap_or o t.default_output) (is mac a) ∙ found (find (is_to (Some mac)) t.addresses) t.default_output
+goes_to t d mac a is =
+    ap (λ (o : Option ℕ). unwrap_or o t.default_output) (is mac a)
+    ∙ found (find (is_to (Some mac)) t.addresses) t.default_output
 
 -- no row speaks of a frame without an address
 nobody : (rows : List AddressRow) → find (is_to None) rows ≡ None
@@ -96,18 +115,27 @@ nobody [] = refl
 nobody (r ∷ rows) = nobody rows
 
 pub goes_nowhere : (t : Tables) → output_for t None ≡ t.default_output
-goes_nowhere t = ap (λ (o : Option AddressRow). option_map_or (λ (row : AddressRow). row.output) o t.default_output) (nobody t.addresses)
+goes_nowhere t =
+    ap (λ (o : Option AddressRow). option_map_or (λ (row : AddressRow). row.output) o t.default_output)
+    (nobody t.addresses)
 
 -- an empty map lists no row
 pub none_listed : (outputs : BTreeMap ℕ ℕ) → IsEmpty outputs → AreListed [] outputs
 none_listed outputs e = record { macs = λ k d h. absurd (let P : ⊥ = omega arith in P); known = λ q. search (rules, e) }
 
 -- a map that has learnt the next row
-pub listed_more : (rows : List AddressRow) (i : ℕ) (old new : BTreeMap ℕ ℕ) (n : ℕ) (d : AddressRow) → i < length rows → AreListed (take i rows) old → IsAddress (get_or rows i d).mac → n ≡ number_of (get_or rows i d).mac → ((q : ℕ) → get nat_cmp new q ≡ option_or (get nat_cmp old q) (some_if (n == q) (get_or rows i d).output)) → AreListed (take (i + 1) rows) new
+pub listed_more : (rows : List AddressRow) (i : ℕ) (old new : BTreeMap ℕ ℕ) (n : ℕ) (d : AddressRow) →
+    i < length rows → AreListed (take i rows) old → IsAddress (get_or rows i d).mac →
+    n ≡ number_of (get_or rows i d).mac →
+    ((q : ℕ) → get nat_cmp new q ≡ option_or (get nat_cmp old q) (some_if (n == q) (get_or rows i d).output)) →
+    AreListed (take (i + 1) rows) new
 listed_more rows i old new n d inside l a is learnt =
     let row = get_or rows i d in
     let more : take (i + 1) rows ≡ take i rows ++ row ∷ [] = take_more rows i d inside in
     subst (λ (rs : List AddressRow). AreListed rs new) (sym more) (record {
       macs = All-push (λ (r : AddressRow). IsAddress r.mac) (take i rows) row l.macs a;
-      known = λ q. learnt q ∙ ap (λ (o : Option ℕ). option_or o (some_if (n == q) row.output)) (l.known q) ∙ ap (λ (m : ℕ). option_or (listed (take i rows) q) (some_if (m == q) row.output)) is ∙ sym (listed_push (take i rows) row q);
+      known =
+          λ q. learnt q ∙ ap (λ (o : Option ℕ). option_or o (some_if (n == q) row.output)) (l.known q)
+          ∙ ap (λ (m : ℕ). option_or (listed (take i rows) q) (some_if (m == q) row.output)) is
+          ∙ sym (listed_push (take i rows) row q);
     })

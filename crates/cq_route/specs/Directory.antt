@@ -23,4 +23,6 @@ some_if false n = None
 
 -- the directory has each address at the output of the first row with it, and no other
 unfoldable pub IsDirectoryOf : Tables → Directory → Type 0
-IsDirectoryOf t d = (mac : List ℕ) → IsAddress mac → get nat_cmp d.outputs (number_of mac) ≡ option_map (λ row. row.output) (find (is_to (Some mac)) t.addresses)
+IsDirectoryOf t d =
+    (mac : List ℕ) → IsAddress mac →
+    get nat_cmp d.outputs (number_of mac) ≡ option_map (λ row. row.output) (find (is_to (Some mac)) t.addresses)

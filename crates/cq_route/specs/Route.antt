@@ -16,14 +16,17 @@ is_to dest row = option_map_or (λ mac. bytes_eq mac row.mac) dest false
 abbrev pub output_for : Tables → Option (List ℕ) → ℕ
 output_for t dest = option_map_or (λ row. row.output) (find (is_to dest) t.addresses) t.default_output
 
--- whether a packet has a field as a rule states it: one that is not stated may be anything, one that is stated has to be there
+-- whether a packet has a field as a rule states it: one that is not stated may be anything, one that is stated has to
+-- be there
 abbrev pub agrees : Option ℕ → Option ℕ → Bool
 agrees None found = true
 agrees (Some stated) found = option_map_or (λ n. n == stated) found false
 
 -- whether a packet at this input with these fields has all that the rule states
 abbrev pub is_met : ℕ → FrameParts → RuleRow → Bool
-is_met input fields rule = agrees rule.input (Some input) && agrees rule.pcp fields.pcp && agrees rule.ether_type fields.ether_type && agrees rule.dscp fields.dscp
+is_met input fields rule =
+    agrees rule.input (Some input) && agrees rule.pcp fields.pcp && agrees rule.ether_type fields.ether_type
+    && agrees rule.dscp fields.dscp
 
 -- the class of such packets
 abbrev pub class_for : Tables → ℕ → FrameParts → ℕ
@@ -31,7 +34,8 @@ class_for t input fields = option_map_or (λ rule. rule.class) (find (is_met inp
 
 -- the fields of a frame
 abbrev pub fields_of : List ℕ → FrameParts
-fields_of bytes = record { dest = destination bytes; pcp = priority bytes; ether_type = ether_type bytes; dscp = code_point bytes }
+fields_of bytes =
+    record { dest = destination bytes; pcp = priority bytes; ether_type = ether_type bytes; dscp = code_point bytes }
 
 -- the output and the class of a packet that arrives at the input with these bytes
 unfoldable pub route : Tables → ℕ → List ℕ → ℕ × ℕ

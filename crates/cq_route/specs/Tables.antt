@@ -25,7 +25,8 @@ pub record AreLimits (ports : ℕ) (limits : List (Option ℕ)) : Type 0 where
   pub ports_are : length limits ≡ ports
   pub some : All (λ limit. IfSome limit (λ n. 1 ≤ n)) limits
 
--- each figure is in its range, each port has its row of files and its limit or none, no address stands twice, and each port and class that is named is one of the setup's
+-- each figure is in its range, each port has its row of files and its limit or none, no address stands twice, and
+-- each port and class that is named is one of the setup's
 pub record AreTables (t : Tables) : Type 0 where
   pub setup : IsSetup t.setup
   pub cell_bytes : IsInRange 1 65535 t.cell_bytes

@@ -1,6 +1,6 @@
--- What an audit says of the trace and the log of any maker. Its yes: the log is that of a stable run of the switch that the
--- configuration describes, with its limits, over the cells that arrive, and the trace is what the ideal switch of these limits
--- sends. Its no is the first thing that is wrong.
+-- What an audit says of the trace and the log of any maker. Its yes: the log is that of a stable run of the switch
+-- that the configuration describes, with its limits, over the cells that arrive, and the trace is what the ideal
+-- switch of these limits sends. Its no is the first thing that is wrong.
 use Rattle.std.specs.Prelude.{◌≡◌, ℕ, List, Option, Some, None}
 use Rattle.cq_audit.specs.Audit.{IsNo, IsYes}
 use Rattle.cq_audit.specs.Trace.{DiffersFirst}
@@ -36,7 +36,8 @@ halt_for_log refusal = halt_of_denial (denial_for refusal)
 -- ## A yes and a no
 
 -- the log is that of a stable run over these captures, and the trace that of these departures
-pub record IsAuditYes (t : Tables) (captures : List (List Captured)) (sent : List Departure) (trace log : List ℕ) : Type 0
+pub record IsAuditYes (t : Tables) (captures : List (List Captured)) (sent : List Departure) (trace log : List ℕ) :
+    Type 0
   where
     pub log_is : IsYes t.setup t.limits (arrivals t captures) log
     pub trace_is : trace ≡ trace_of sent

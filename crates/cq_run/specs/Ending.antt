@@ -29,8 +29,9 @@ pub record IsPlanned (r : Reader) (command : Command) (old : Space) (plan : Plan
   pub emulates : IfSome old.told (λ m. Emulates r command m plan)
   pub names : AllByRecursion (λ write. MayWrite command write.0) plan.writes
 
--- how a command may end: its plan is done, nothing was written, or its plan was cut short. What is known of the call that failed are
--- the parameters: that it reads the name, that it writes the name, or that it is one on standard output
+-- how a command may end: its plan is done, nothing was written, or its plan was cut short. What is known of the call
+-- that failed are the parameters: that it reads the name, that it writes the name, or that it is one on standard
+-- output
 abbrev pub CommandEnds : Pace → Reader → (unread unwritten : List ℕ → Type 0) → Type 0 → Command → World → World
     → Result (Unit {0}) Stop → Type 0
 CommandEnds pace r unread unwritten untaken command old new (Ok x) =

@@ -31,26 +31,27 @@ pub record AreGiven (t : Tables) (captures : List (List Captured)) : Type 0 wher
   pub each : length captures ≡ ports_of t.setup
   pub recorded : (i : ℕ) → i < length captures → IsRecorded (packets_of captures i)
 
--- The records, slot by slot, of the crossbar switch with the traffic of these captures: it keeps up with the ideal switch
--- (Chuang, Goel, McKeown and Prabhakar 1999) of the same levels, ranks and limits.
+-- The records, slot by slot, of the crossbar switch with the traffic of these captures: it keeps up with the ideal
+-- switch (Chuang, Goel, McKeown and Prabhakar 1999) of the same levels, ranks and limits.
 pub record KeepsUp (t : Tables) (captures : List (List Captured)) (rs : List LimitedRecord) : Type 0 where
   pub given : AreGiven t captures
-  -- they are the whole run of the definition, from the empty switch on up to the last slot in which a cell arrives, waits or leaves
+  -- they are the whole run of the definition, from the empty switch on up to the last slot in which a cell arrives,
+  -- waits or leaves
   pub runs : IsFabricRun t (arrivals t captures) rs
   -- at its end no cell waits, at an input or at an output
   pub drained : IsEmptyFabric runs.end.state
   -- both matchings of each slot, before and after the departures, are the input-best stable ones
   pub input_best : AreInputBest rs
-  -- in each slot the arrivals are admitted and refused as in the ideal switch, and each output sends the cell that it sends
-  -- there, and none where it sends none there
+  -- in each slot the arrivals are admitted and refused as in the ideal switch, and each output sends the cell that it
+  -- sends there, and none where it sends none there
   pub same : SendsSlotBySlot t (arrivals t captures) rs
   -- after the arrivals of each slot no cell's input thread exceeds its output cushion
   pub slack : AlwaysHasSlack rs
   -- each packet leaves its output whole or is counted as refused there: one of both, once
   pub once : EachPacketOnce t captures (departures_in_run rs) (refused_in_run rs)
 
--- What is written for a configuration over these contents: the captures of what left each output, the trace, the log and the
--- report of a switch that keeps up with the ideal one.
+-- What is written for a configuration over these contents: the captures of what left each output, the trace, the log
+-- and the report of a switch that keeps up with the ideal one.
 pub record IsEmulation (r : Reader) (config : List ℕ) (m : Contents) (plan : Plan) : Type 0 where
   pub tables : Tables
   pub configured : tables_in config m ≡ Ok tables
@@ -60,9 +61,9 @@ pub record IsEmulation (r : Reader) (config : List ℕ) (m : Contents) (plan : P
   pub keeps_up : KeepsUp tables captures records
   pub written : plan ≡ crossed tables captures (departures_in_run records) records
 
--- What is written of one capture over these contents: what left the one output of a switch of one port that keeps up with
--- the ideal one, and nothing else. It is every packet of the capture, once and in its place, with the stamp of the slot in
--- which its last cell arrived.
+-- What is written of one capture over these contents: what left the one output of a switch of one port that keeps up
+-- with the ideal one, and nothing else. It is every packet of the capture, once and in its place, with the stamp of
+-- the slot in which its last cell arrived.
 pub record IsPassage (r : Reader) (from to : List ℕ) (m : Contents) (plan : Plan) : Type 0 where
   pub packets : List Captured
   pub captured : capture_in r from 0 (plain_tables from to).limit_bytes m ≡ Ok packets
@@ -71,8 +72,8 @@ pub record IsPassage (r : Reader) (from to : List ℕ) (m : Contents) (plan : Pl
   pub written : plan ≡ passed from to packets (departures_in_run records)
   pub whole : plan.writes ≡ (to, capture_of_all (plain_tables from to) packets) ∷ []
 
--- What a yes of an audit says over these contents: the log is that of a stable run of the switch over these captures, and the
--- trace is at once what that run sends and what the ideal switch sends.
+-- What a yes of an audit says over these contents: the log is that of a stable run of the switch over these captures,
+-- and the trace is at once what that run sends and what the ideal switch sends.
 pub record IsAudited (r : Reader) (config : List ℕ) (m : Contents) (plan : Plan) : Type 0 where
   pub tables : Tables
   pub configured : tables_in config m ≡ Ok tables
@@ -88,8 +89,8 @@ pub record IsAudited (r : Reader) (config : List ℕ) (m : Contents) (plan : Pla
   pub sent : trace ≡ trace_of (departures_in_run audit.run.records)
   pub written : plan ≡ audited
 
--- What is written for a run that stops after so many slots over these contents: the text of the state in which it stands
--- then, and nothing else.
+-- What is written for a run that stops after so many slots over these contents: the text of the state in which it
+-- stands then, and nothing else.
 pub record IsStopped (r : Reader) (config : List ℕ) (slots : ℕ) (state : List ℕ) (m : Contents) (plan : Plan) : Type 0
   where
     pub tables : Tables
@@ -101,8 +102,8 @@ pub record IsStopped (r : Reader) (config : List ℕ) (slots : ℕ) (state : Lis
     pub stopped : IsPartText tables captures slots text
     pub written : plan ≡ state_written state text
 
--- What is written for a run that goes on from a state over these contents: what it keeps to its end, behind what the state
--- tells of what was kept before.
+-- What is written for a run that goes on from a state over these contents: what it keeps to its end, behind what the
+-- state tells of what was kept before.
 pub record IsTakenUp (r : Reader) (config state : List ℕ) (m : Contents) (plan : Plan) : Type 0 where
   pub tables : Tables
   pub configured : tables_in config m ≡ Ok tables
@@ -115,8 +116,8 @@ pub record IsTakenUp (r : Reader) (config state : List ℕ) (m : Contents) (plan
   pub goes_on : IsResumedText tables captures text kept
   pub written : plan ≡ resumed tables captures kept
 
--- the same of each command that crosses a switch and writes what left it, of an audit, and of runs in parts; of the others
--- nothing is said here
+-- the same of each command that crosses a switch and writes what left it, of an audit, and of runs in parts; of the
+-- others nothing is said here
 abbrev pub Emulates : Reader → Command → Contents → Plan → Type 0
 Emulates r (Pass from to) m plan = IsPassage r from to m plan
 Emulates r (Check config) m plan = Unit {0}

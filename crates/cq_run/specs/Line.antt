@@ -33,7 +33,9 @@ line text = text ++ 10 ∷ []
 
 -- a sink took the text, or, where its count of faults rose, a front of it
 abbrev pub TakesText : List ℕ → Taken → Taken → Type 0
-TakesText text old new = (new.bytes ≡ append_known old.bytes text) ⊎ (Rose old.faults new.faults × ((n : ℕ) × (new.bytes ≡ append_known old.bytes (take n text))))
+TakesText text old new =
+    (new.bytes ≡ append_known old.bytes text)
+    ⊎ (Rose old.faults new.faults × ((n : ℕ) × (new.bytes ≡ append_known old.bytes (take n text))))
 
 -- what the error sink takes of an end: nothing where the work is done, and else one line
 abbrev pub Tells : Result (Unit {0}) Stop → Taken → Taken → Type 0
@@ -42,5 +44,6 @@ Tells (Err stop) old new = TakesText (line (stop_text stop)) old new
 
 -- what a call that puts the text into a sink answers and leaves
 pub record Puts {E : Type 0} (text : List ℕ) (old new : Taken) (result : Result (Unit {0}) E) : Type 0 where
-  pub bytes : MatchResult result (λ _. new.bytes ≡ append_known old.bytes text) (λ _. (n : ℕ) × (new.bytes ≡ append_known old.bytes (take n text)))
+  pub bytes : MatchResult result (λ _. new.bytes ≡ append_known old.bytes text)
+      (λ _. (n : ℕ) × (new.bytes ≡ append_known old.bytes (take n text)))
   pub cause : HasCause old.faults new.faults result

@@ -1,5 +1,6 @@
--- What stopping a run and taking one up aims at, over the captures that were read: the text of the state in which a run
--- stands after so many slots, and what the run keeps that goes on from the state whose text it is. And why there is none.
+-- What stopping a run and taking one up aims at, over the captures that were read: the text of the state in which a
+-- run stands after so many slots, and what the run keeps that goes on from the state whose text it is. And why there
+-- is none.
 use Rattle.std.specs.Prelude.{◌≡◌, ℕ, ◌<◌, ◌≤◌, ◌^◌, List, length}
 use Rattle.cq_base.specs.declared.cell.TagFault.{TagFault}
 use Rattle.cq_cells.specs.Scheduled.{schedule_of}

@@ -15,7 +15,11 @@ last_slot t packets k = start t (packets ∷ []) 0 k + (cells t (packets ∷ [])
 abbrev pub as_it_leaves : Tables → List Captured → ℕ → OutPacket
 as_it_leaves t packets k =
     let p = packet_in packets k in
-    record { stamp = first_stamp (packets ∷ []) + last_slot t packets k * t.slot_ns; original = p.original; body = p.body }
+    record {
+      stamp = first_stamp (packets ∷ []) + last_slot t packets k * t.slot_ns;
+      original = p.original;
+      body = p.body;
+    }
 
 -- all packets, in the order of the capture
 abbrev pub all_leave : Tables → List Captured → List OutPacket

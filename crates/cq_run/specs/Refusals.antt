@@ -1,4 +1,5 @@
--- What each refusal comes to: the one table from which statuses, lines and causes follow. A new refusal is one case here.
+-- What each refusal comes to: the one table from which statuses, lines and causes follow. A new refusal is one case
+-- here.
 use Rattle.std.specs.Prelude.{ℕ, Bool, true, false, List, ◌++◌, codes}
 use Rattle.cq_base.specs.declared.status.Status.{Status}
 use Rattle.cq_base.specs.declared.status.Status.TheVariants as status
@@ -72,7 +73,9 @@ state_fault_text (stopped.Unsound clause) = codes "state: S3 clause " ++ decimal
 
 -- the forms of the commands
 abbrev pub usage : List ℕ
-usage = codes "usage: cq_switch pass IN OUT | check CONFIG | ideal CONFIG | run CONFIG | soak SEED PORTS SLOTS | audit CONFIG | part CONFIG SLOTS STATE | resume CONFIG STATE | stream CONFIG"
+usage =
+    codes
+    "usage: cq_switch pass IN OUT | check CONFIG | ideal CONFIG | run CONFIG | soak SEED PORTS SLOTS | audit CONFIG | part CONFIG SLOTS STATE | resume CONFIG STATE | stream CONFIG"
 
 -- words are judged before any file is asked for, and a name is missed only where contents are told
 abbrev pub meaning_of : Refusal → Meaning

@@ -12,8 +12,8 @@ use Rattle.cq_run.specs.Reader.{Reader}
 use Rattle.cq_run.specs.Verdict.{judged}
 use Rattle.cq_run.specs.Writing.{all_replaced}
 
--- what a run of this configuration over the contents m leaves, where it did not write the configuration, and no file that it
--- wrote is too long for an audit
+-- what a run of this configuration over the contents m leaves, where it did not write the configuration, and no file
+-- that it wrote is too long for an audit
 pub record IsLeft (r : Reader) (config : List ℕ) (m left : Contents) (plan : Plan) : Type 0 where
   pub emulates : IsEmulation r config m plan
   pub written : all_replaced plan.writes (Some m) ≡ Some left

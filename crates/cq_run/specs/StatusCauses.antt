@@ -12,18 +12,23 @@ use Rattle.cq_run.specs.World.{World, IsUntouched}
 use Rattle.cq_run.specs.Writing.{IsDone}
 use Rattle.cq_run.specs.Ending.{CallsFor}
 
--- what a status says of the verdict on the contents before the run, where they are known, of the counts of faults, and of what was written
+-- what a status says of the verdict on the contents before the run, where they are known, of the counts of faults,
+-- and of what was written
 pub record StatusCauses (pace : Pace) (verdict : Contents → Result Aim Refusal) (known : Option Contents)
     (old new : World) (answer : Status) : Type 0 where
   -- a status other than those of faults and of memory is the verdict's
-  pub by_verdict : answer ≢ ReadFault → answer ≢ WriteFault → answer ≢ NoMemory → IfSome known (λ m. CallsFor (verdict m) answer)
+  pub by_verdict : answer ≢ ReadFault → answer ≢ WriteFault → answer ≢ NoMemory →
+      IfSome known (λ m. CallsFor (verdict m) answer)
   -- with status Done a plan that the verdict aims at is done
-  pub done : answer ≡ Done → IfSome known (λ m. IsOkAnd (verdict m) (λ aim. (plan : Plan) × Meets aim plan × IsDone plan old new))
+  pub done : answer ≡ Done →
+      IfSome known (λ m. IsOkAnd (verdict m) (λ aim. (plan : Plan) × Meets aim plan × IsDone plan old new))
   -- a read fault is a missing name, or was counted
-  pub read : answer ≡ ReadFault → IsSomeAnd known (λ m. CallsFor (verdict m) ReadFault) ⊎ Rose old.files.faults new.files.faults
+  pub read : answer ≡ ReadFault →
+      IsSomeAnd known (λ m. CallsFor (verdict m) ReadFault) ⊎ Rose old.files.faults new.files.faults
   -- a write fault was counted, and comes only where there is a plan
   pub write : answer ≡ WriteFault → Rose old.files.faults new.files.faults ⊎ Rose old.out.faults new.out.faults
-  pub write_planned : answer ≡ WriteFault → IfSome known (λ m. IsOkAnd (verdict m) (λ aim. (plan : Plan) × Meets aim plan))
+  pub write_planned : answer ≡ WriteFault →
+      IfSome known (λ m. IsOkAnd (verdict m) (λ aim. (plan : Plan) × Meets aim plan))
   -- with every other status nothing was written
   pub untouched : answer ≢ Done → answer ≢ WriteFault → IsUntouched old new
   -- a fault that was counted is answered. Where files are read ahead, a refused capture and want of memory may be
@@ -32,4 +37,5 @@ pub record StatusCauses (pace : Pace) (verdict : Contents → Result Aim Refusal
       → Uncounted pace ((answer ≡ Capture) ⊎ (answer ≡ NoMemory)) old.files.faults new.files.faults
       × (new.out.faults ≡ old.out.faults)
   -- where no fault was counted the status is the verdict's, unless memory ran out
-  pub complete : ¬ Rose old.files.faults new.files.faults → ¬ Rose old.out.faults new.out.faults → IfSome known (λ m. CallsFor (verdict m) answer ⊎ (answer ≡ NoMemory))
+  pub complete : ¬ Rose old.files.faults new.files.faults → ¬ Rose old.out.faults new.out.faults →
+      IfSome known (λ m. CallsFor (verdict m) answer ⊎ (answer ≡ NoMemory))

@@ -1,5 +1,5 @@
--- What words and contents come to: what is aimed at, or the refusal that is met first. Captures are read by the grammar:
--- `r` is any reader that goes by it.
+-- What words and contents come to: what is aimed at, or the refusal that is met first. Captures are read by the
+-- grammar: `r` is any reader that goes by it.
 use Rattle.std.specs.Prelude.{◌≡◌, ℕ, ◌+◌, if◌then◌else◌, nat_lt, List, [], ◌∷◌, length, Option, None, Some, Result, Ok, Err}
 use Rattle.std.specs.FinMap.{get}
 use Rattle.cq_base.specs.declared.cell.Departure.{Departure}
@@ -115,7 +115,8 @@ sent_or_tag (Err fault) = Err (Tag fault)
 abbrev pub ideally_sent : Tables → List (List Captured) → Result (List Departure) Refusal
 ideally_sent tables captures = sent_or_tag (ideal_departures tables (arrivals tables captures))
 
--- what a command comes to; a new command is one case here, in `MayRead` and in `MayWrite`, and in `known_to`, `IsWithinRange` and `Emulates`
+-- what a command comes to; a new command is one case here, in `MayRead` and in `MayWrite`, and in `known_to`,
+-- `IsWithinRange` and `Emulates`
 abbrev pub judged : Reader → Command → Contents → Result Aim Refusal
 judged r (Pass from to) m = do
   packets ← capture_in r from 0 (plain_tables from to).limit_bytes m

@@ -15,18 +15,25 @@ classes_of FirstCome rows = refl
 classes_of Priority rows = refl
 classes_of Fair rows = refl
 
-all_of : (rows : List ClassRow) (n : ℕ) (kinds : List Kind) → n ≡ length rows → AllByRecursion (λ (m : Machine). m.classes ≡ n) (map (λ kind. machine_of kind rows) kinds)
+all_of : (rows : List ClassRow) (n : ℕ) (kinds : List Kind) → n ≡ length rows →
+    AllByRecursion (λ (m : Machine). m.classes ≡ n) (map (λ kind. machine_of kind rows) kinds)
 all_of rows n [] e = tt
 all_of rows n (kind ∷ kinds) e = (classes_of kind rows ∙ sym e, all_of rows n kinds e)
 
-count_of : (rows : List ClassRow) (kinds : List Kind) → 0 < length kinds → class_count (map (λ kind. machine_of kind rows) kinds) ≡ length rows
+count_of : (rows : List ClassRow) (kinds : List Kind) → 0 < length kinds →
+    class_count (map (λ kind. machine_of kind rows) kinds) ≡ length rows
 count_of rows [] some = absurd (omega arith)
 count_of rows (kind ∷ kinds) some = classes_of kind rows
 
 pub count : (setup : Setup) → 0 < length setup.kinds → class_count (machines_of setup) ≡ length setup.classes
 count setup some = count_of setup.classes setup.kinds some
 
-pub for_one_switch : (setup : Setup) → 0 < length setup.kinds → length setup.kinds ≤ 64 → AreForOneSwitch (machines_of setup)
+pub for_one_switch : (setup : Setup) → 0 < length setup.kinds → length setup.kinds ≤ 64 →
+    AreForOneSwitch (machines_of setup)
 for_one_switch setup some few =
     let long = length-map setup.kinds (λ kind. machine_of kind setup.classes) in
-    record { some = omega arith; few = omega arith; same = all_of setup.classes (class_count (machines_of setup)) setup.kinds (count setup some) }
+    record {
+      some = omega arith;
+      few = omega arith;
+      same = all_of setup.classes (class_count (machines_of setup)) setup.kinds (count setup some);
+    }

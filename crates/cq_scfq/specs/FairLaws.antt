@@ -14,7 +14,8 @@ fair_laws rows = record {
   idle_length = λ s h. length-replicate (length rows + level_count) 0;
   above = λ s c h l. omega arith;
   given_floor = λ s c h l. get_or-set_same s c (fair_rank rows s c) 0 (omega arith);
-  other_floor = λ s c d h l k ne. let e = get_or-set_other s c d (fair_rank rows s c) 0 (λ same. ne (sym same)) in omega arith;
+  other_floor =
+      λ s c d h l k ne. let e = get_or-set_other s c d (fair_rank rows s c) 0 (λ same. ne (sym same)) in omega arith;
   sent_floor = λ s k r c h l. let e = get_or-set_other s (length rows + k) c r 0 (omega arith) in omega arith;
   idle_once = λ s h. refl;
 }

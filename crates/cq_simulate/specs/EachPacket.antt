@@ -36,10 +36,11 @@ times_refused input k j refused =
     length
     (filter (λ cell. (cell.output == j && is_first cell) && (cell.id.input == input && cell.id.packet == k)) refused)
 
--- Each packet of these captures leaves the output to which it goes with all its cells, or is refused there with all of
--- them: one of both, once, and nowhere else. So the packets that are written of an output, and those that are counted as
--- refused there, are together as many as go there; and at an output without a limit none is refused.
-pub record EachPacketOnce (t : Tables) (captures : List (List Captured)) (sent : List Departure) (refused : List Cell) : Type 0 where
+-- Each packet of these captures leaves the output to which it goes with all its cells, or is refused there with all
+-- of them: one of both, once, and nowhere else. So the packets that are written of an output, and those that are
+-- counted as refused there, are together as many as go there; and at an output without a limit none is refused.
+pub record EachPacketOnce (t : Tables) (captures : List (List Captured)) (sent : List Departure) (refused : List Cell)
+    : Type 0 where
   pub whole : (input : ℕ) → input < length captures → LeaveOrAreRefused (arrivals t captures) sent refused input
   pub each : (input k j : ℕ) → input < length captures → k < length (packets_of captures input) →
       times_left input k j sent + times_refused input k j refused ≡ (if output_of t captures input k == j then 1 else 0)

@@ -18,10 +18,12 @@ use Rattle.cq_prefs.specs.Pairing.{IsInputBest}
 use Rattle.cq_rank.specs.Machine.{Machine}
 use Rattle.cq_rank.specs.Switch.{class_count}
 
--- The engine has had no slot, holds no cell and has refused none, and there is room for all cells that arrive: in each
--- list for those of its input, in each buffer for those to its output, and in the lists of departures and of transfers for
--- all of them, with a place to spare for each port and, of transfers, for each port in each of the two phases of a slot.
-pub record IsReadyFabric (ms : List Machine) (came : List Arrival) (engine : EngineView) (sent : RoomView Departure) (note : RoomView Transfer) : Type 0 where
+-- The engine has had no slot, holds no cell and has refused none, and there is room for all cells that arrive: in
+-- each list for those of its input, in each buffer for those to its output, and in the lists of departures and of
+-- transfers for all of them, with a place to spare for each port and, of transfers, for each port in each of the two
+-- phases of a slot.
+pub record IsReadyFabric (ms : List Machine) (came : List Arrival) (engine : EngineView) (sent : RoomView Departure)
+    (note : RoomView Transfer) : Type 0 where
   pub running : engine.stopped ≡ false
   pub next : engine.next ≡ 0
   pub ports : ports_of engine ≤ 64
@@ -39,9 +41,10 @@ pub record IsReadyFabric (ms : List Machine) (came : List Arrival) (engine : Eng
   pub nothing_noted : note.items ≡ []
   pub note_room : note.spare ≡ length came + 2 * ports_of engine
 
--- From the first state on, the fabric ran up to its end, with the input-best matchings; and its departures, its transfers, its
--- figures and its refused packets and cells were kept.
-pub record HasRun (ms : List Machine) (came : List Arrival) (first last : EngineView) (sent : RoomView Departure) (note : RoomView Transfer) : Type 0 where
+-- From the first state on, the fabric ran up to its end, with the input-best matchings; and its departures, its
+-- transfers, its figures and its refused packets and cells were kept.
+pub record HasRun (ms : List Machine) (came : List Arrival) (first last : EngineView) (sent : RoomView Departure)
+    (note : RoomView Transfer) : Type 0 where
   pub records : List LimitedRecord
   pub end : Marked Fabric
   pub runs : LimitedWholeRun IsInputBest first.limits ms came (marked_fabric first) records end

@@ -21,11 +21,12 @@ use Rattle.cq_simulate.specs.IdealRuns.{ran_ideal}
 use Rattle.cq_simulate.specs.declared.fabric_run.FabricRun.{FabricRun}
 use Rattle.cq_simulate.specs.declared.fabric_run.PackedFabricRun.{PackedFabricRun}
 
--- the records of the whole run, from the empty fabric on up to the last slot in which a cell arrives, waits or leaves, with the
--- input-best matchings. There is one such list at most (`limited_runs_end_together` of cq_laws)
+-- the records of the whole run, from the empty fabric on up to the last slot in which a cell arrives, waits or
+-- leaves, with the input-best matchings. There is one such list at most (`limited_runs_end_together` of cq_laws)
 pub record IsFabricRun (t : Tables) (came : List Arrival) (rs : List LimitedRecord) : Type 0 where
   pub end : Marked Fabric
-  pub runs : LimitedWholeRun IsInputBest t.limits (machines_of t.setup) came (empty_limited_fabric (ports_of t.setup) (openings_of t.setup)) rs end
+  pub runs : LimitedWholeRun IsInputBest t.limits (machines_of t.setup) came
+      (empty_limited_fabric (ports_of t.setup) (openings_of t.setup)) rs end
 
 -- the departures of a run, and its refused cells
 abbrev pub departures_in_run : List LimitedRecord → List Departure
@@ -47,13 +48,13 @@ pub record IsKeptOf (t : Tables) (came : List Arrival) (run : FabricRun) : Type 
 abbrev pub unpacked_run : PackedFabricRun → FabricRun
 unpacked_run run = record { sent = run.sent; note = run.note; figures = run.figures; refused = run.refused }
 
--- after the arrivals of each slot every cell that waits at an input has slack 0 at least: no more cells stand ahead of it in
--- its list than more urgent cells wait at its output
+-- after the arrivals of each slot every cell that waits at an input has slack 0 at least: no more cells stand ahead
+-- of it in its list than more urgent cells wait at its output
 abbrev pub AlwaysHasSlack : List LimitedRecord → Type 0
 AlwaysHasSlack rs = AllByRecursion (λ r. HasSlack 0 r.of_slot.arrived) rs
 
--- the matching is the input-best one of what the lists of the inputs offer: each input orders its outputs by where their first
--- cells stand, and each output its inputs by the keys of their first cells
+-- the matching is the input-best one of what the lists of the inputs offer: each input orders its outputs by where
+-- their first cells stand, and each output its inputs by the keys of their first cells
 pub record IsBestFor (f : Fabric) (m : Partners) : Type 0 where
   pub orders : AreOrdersOf f.inputs (orders_of f.inputs)
   pub best : IsInputBest (orders_of f.inputs) m
@@ -63,8 +64,8 @@ abbrev pub AreInputBest : List LimitedRecord → Type 0
 AreInputBest rs =
     AllByRecursion (λ r. IsBestFor r.of_slot.arrived r.of_slot.first × IsBestFor r.of_slot.sent r.of_slot.second) rs
 
--- in each slot the arrivals are admitted and refused as in the ideal switch, and each output sends the cell that it sends there,
--- and none where it sends none there
+-- in each slot the arrivals are admitted and refused as in the ideal switch, and each output sends the cell that it
+-- sends there, and none where it sends none there
 abbrev pub SendsSlotBySlot : Tables → List Arrival → List LimitedRecord → Type 0
 SendsSlotBySlot t came rs =
     IsOkAnd (ran_ideal t came) (λ ideal. (gone_in (slots_in rs) ≡ ideal.gone) × (admissions_in rs ≡ ideal.admissions))

@@ -1,6 +1,5 @@
--- Only proofs use this.
--- A fabric that can go on from any slot over the cells that are still to come, and what its run leaves: up to its end, up to
--- a slot, or up to a tag fault.
+-- Only proofs use this. A fabric that can go on from any slot over the cells that are still to come, and what its run
+-- leaves: up to its end, up to a slot, or up to a tag fault.
 use Rattle.std.specs.Prelude.{◌≡◌, ℕ, ◌+◌, ◌*◌, ◌<◌, ◌≤◌, ◌^◌, ◌++◌, nat_le, All, List, filter, false, fold, length, slice_index, sum, take}
 use Rattle.std.specs.List.{flat_map}
 use Rattle.cq_base.specs.Arrivals.{no_arrivals}
@@ -29,11 +28,13 @@ use Rattle.cq_rank.specs.Switch.{class_count}
 abbrev pub to_come : ℕ → List Arrival → List Arrival
 to_come next came = filter (λ a. nat_le next a.slot) came
 
--- The engine can go on over what is still to come: its fabric is one that a fabric can go on from, and no more cells wait or are
--- to come than arrive in all. There is room in each list for the cells that wait there or arrive at its input, in each buffer for
--- those that wait anywhere for its output or arrive for it, in the list of departures for all of these, with a place to spare for
--- each port, and in that of transfers for all that wait at an input or arrive, with two. And its counts have room for all of these.
-pub record IsReadyOn (ms : List Machine) (came : List Arrival) (engine : EngineView) (sent : RoomView Departure) (note : RoomView Transfer) : Type 0 where
+-- The engine can go on over what is still to come: its fabric is one that a fabric can go on from, and no more cells
+-- wait or are to come than arrive in all. There is room in each list for the cells that wait there or arrive at its
+-- input, in each buffer for those that wait anywhere for its output or arrive for it, in the list of departures for
+-- all of these, with a place to spare for each port, and in that of transfers for all that wait at an input or
+-- arrive, with two. And its counts have room for all of these.
+pub record IsReadyOn (ms : List Machine) (came : List Arrival) (engine : EngineView) (sent : RoomView Departure)
+    (note : RoomView Transfer) : Type 0 where
   pub running : engine.stopped ≡ false
   pub ports : ports_of engine ≤ 64
   pub inputs : length engine.fabric.inputs ≡ ports_of engine
@@ -44,22 +45,29 @@ pub record IsReadyOn (ms : List Machine) (came : List Arrival) (engine : EngineV
   pub early : engine.next < 2 ^ 63
   pub cells : sum (fabric_held engine.fabric) + length (to_come engine.next came) ≤ length came
   pub lists : (i : ℕ) → i < ports_of engine →
-      length (input engine.fabric i) + number_of (is_from i) (to_come engine.next came) ≤ slice_index engine.from_inputs i
+      length (input engine.fabric i) + number_of (is_from i) (to_come engine.next came)
+      ≤ slice_index engine.from_inputs i
   pub buffers : (j : ℕ) → j < ports_of engine →
       held_for j engine.fabric + number_of (is_to j) (to_come engine.next came) ≤ slice_index engine.to_outputs j
   pub sent_room : sum (fabric_held engine.fabric) + length (to_come engine.next came) + ports_of engine ≤ sent.spare
-  pub note_room : length (flat_map (λ cells. cells) engine.fabric.inputs) + length (to_come engine.next came) + 2 * ports_of engine ≤ note.spare
+  pub note_room : length (flat_map (λ cells. cells) engine.fabric.inputs) + length (to_come engine.next came)
+      + 2 * ports_of engine ≤ note.spare
   pub proposals : engine.figures.proposals < 2 ^ 63
-  pub refused : All (λ r. (r.packets + length (to_come engine.next came) < 2 ^ 63) × (r.cells + length (to_come engine.next came) < 2 ^ 63)) engine.refused
+  pub refused : All (λ r. (r.packets + length (to_come engine.next came) < 2 ^ 63)
+      × (r.cells + length (to_come engine.next came) < 2 ^ 63)) engine.refused
 
 -- the first m of these records run from where the engine stands to this state
 abbrev pub RanTo : List Machine → List Arrival → EngineView → ℕ → List LimitedRecord → Marked Fabric → Type 0
 RanTo ms came first m rs f =
-    LimitedFabricRun IsInputBest first.limits ms first.next (arriving_from came first.next m) (marked_fabric first) (take m rs) f
+    LimitedFabricRun IsInputBest first.limits ms first.next (arriving_from came first.next m) (marked_fabric first)
+    (take m rs) f
 
--- in these records the engine went on from the first state to the last, and what it sent, moved, counted and refused was kept
-pub record WentOn (ms : List Machine) (came : List Arrival) (old new : EngineView) (sent sent' : RoomView Departure) (note note' : RoomView Transfer) (records : List LimitedRecord) : Type 0 where
-  pub runs : LimitedFabricRun IsInputBest old.limits ms old.next (arriving_from came old.next (length records)) (marked_fabric old) records (marked_fabric new)
+-- in these records the engine went on from the first state to the last, and what it sent, moved, counted and refused
+-- was kept
+pub record WentOn (ms : List Machine) (came : List Arrival) (old new : EngineView) (sent sent' : RoomView Departure)
+    (note note' : RoomView Transfer) (records : List LimitedRecord) : Type 0 where
+  pub runs : LimitedFabricRun IsInputBest old.limits ms old.next (arriving_from came old.next (length records))
+      (marked_fabric old) records (marked_fabric new)
   pub departed : sent'.items ≡ sent.items ++ departures_of old.next (gone_in (slots_in records))
   pub crossed : note'.items ≡ note.items ++ transfers_of_run (slots_in records)
   pub counted : new.figures ≡ fold figures_after old.figures (slots_in records)
@@ -68,17 +76,21 @@ pub record WentOn (ms : List Machine) (came : List Arrival) (old new : EngineVie
   pub running : new.stopped ≡ false
 
 -- it went on to its end: no cell arrives any more and none waits, and before there was no such slot
-pub record HasRunOn (ms : List Machine) (came : List Arrival) (old new : EngineView) (sent sent' : RoomView Departure) (note note' : RoomView Transfer) : Type 0 where
+pub record HasRunOn (ms : List Machine) (came : List Arrival) (old new : EngineView) (sent sent' : RoomView Departure)
+    (note note' : RoomView Transfer) : Type 0 where
   pub records : List LimitedRecord
   pub went : WentOn ms came old new sent sent' note note' records
   pub all_came : end_of came ≤ old.next + length records
   pub empty : IsEmptyFabric new.fabric
-  pub first : (m : ℕ) (f : Marked Fabric) → RanTo ms came old m records f → end_of came ≤ old.next + m → IsEmptyFabric f.state → length records ≤ m
+  pub first : (m : ℕ) (f : Marked Fabric) → RanTo ms came old m records f → end_of came ≤ old.next + m →
+      IsEmptyFabric f.state → length records ≤ m
 
 -- a run of so many slots from where the engine stands stops at this tag fault
-pub record StopsWithin (ms : List Machine) (came : List Arrival) (old : EngineView) (count : ℕ) (fault : TagFault) : Type 0 where
+pub record StopsWithin (ms : List Machine) (came : List Arrival) (old : EngineView) (count : ℕ) (fault : TagFault) :
+    Type 0 where
   pub records : List LimitedRecord
-  pub stops : LimitedFabricStops IsInputBest old.limits ms old.next (arriving_from came old.next count) (marked_fabric old) records fault
+  pub stops : LimitedFabricStops IsInputBest old.limits ms old.next (arriving_from came old.next count)
+      (marked_fabric old) records fault
 
 -- one of some number of slots does
 pub record StopsOn (ms : List Machine) (came : List Arrival) (old : EngineView) (fault : TagFault) : Type 0 where
@@ -86,13 +98,15 @@ pub record StopsOn (ms : List Machine) (came : List Arrival) (old : EngineView) 
   pub stops : StopsWithin ms came old count fault
 
 -- the engine can go on, and stands at this slot or before it
-pub record IsReadyPart (ms : List Machine) (came : List Arrival) (last : ℕ) (engine : EngineView) (sent : RoomView Departure) (note : RoomView Transfer) : Type 0 where
+pub record IsReadyPart (ms : List Machine) (came : List Arrival) (last : ℕ) (engine : EngineView)
+    (sent : RoomView Departure) (note : RoomView Transfer) : Type 0 where
   pub ready : IsReadyOn ms came engine sent note
   pub next : engine.next ≤ last
   pub early : last < 2 ^ 63
 
 -- from the first state on the fabric ran up to the last slot, and what it sent, moved, counted and refused was kept
-pub record HasPartedTo (ms : List Machine) (came : List Arrival) (last : ℕ) (old new : EngineView) (sent sent' : RoomView Departure) (note note' : RoomView Transfer) : Type 0 where
+pub record HasPartedTo (ms : List Machine) (came : List Arrival) (last : ℕ) (old new : EngineView)
+    (sent sent' : RoomView Departure) (note note' : RoomView Transfer) : Type 0 where
   pub records : List LimitedRecord
   pub went : WentOn ms came old new sent sent' note note' records
   pub reached : old.next + length records ≡ last

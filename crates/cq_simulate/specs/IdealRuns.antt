@@ -11,8 +11,8 @@ use Rattle.cq_simulate.specs.declared.refusal.RunRefusal.{RunRefusal}
 use Rattle.cq_simulate.specs.declared.refusal.RunRefusal.TheVariants.{Tag, NoMemory}
 use Rattle.cq_scfq.specs.Disciplines.{machines_of, openings_of}
 
--- the whole run, from empty lists and marks down on up to its end: what it admits and refuses in each slot, and what each
--- output sends, or the first tag fault
+-- the whole run, from empty lists and marks down on up to its end: what it admits and refuses in each slot, and what
+-- each output sends, or the first tag fault
 unfoldable pub ran_ideal : Tables → List Arrival → Result LimitedRan TagFault
 ran_ideal t came =
     whole_limited_run t.limits (machines_of t.setup) came (empty_limited (ports_of t.setup) (openings_of t.setup))

@@ -10,8 +10,8 @@ use Rattle.cq_route.specs.Tables.{ports_of}
 use Rattle.cq_route.specs.declared.tables.Tables.{Tables}
 use Rattle.cq_simulate.specs.declared.packing.Packing.{Packing}
 
--- of each class and for each output, the cells of some packets of input i left, all cells of each, in the order in which they
--- came
+-- of each class and for each output, the cells of some packets of input i left, all cells of each, in the order in
+-- which they came
 pub record LeftInPackets (came : List Arrival) (i : ℕ) (sent : List Departure) : Type 0 where
   pub is_taken : ℕ → Bool
   pub left : (c j : ℕ) → left_in_flow i c j sent ≡ filter (λ cell. is_taken cell.id.packet) (came_in_flow i c j came)
@@ -35,7 +35,9 @@ unfoldable pub packets_out : Tables → List (List Captured) → List Departure 
 packets_out t captures sent output = map (leaving t captures) (filter (ends_packet_at output) sent)
 
 -- at each output of the switch the packets that leave it are put together, and each can be written
-pub record ArePacked (t : Tables) (captures : List (List Captured)) (sent : List Departure) (places : List Packing) : Type 0 where
+pub record ArePacked (t : Tables) (captures : List (List Captured)) (sent : List Departure) (places : List Packing) :
+    Type 0 where
   pub outputs : length places ≡ ports_of t.setup
-  pub packets : (j : ℕ) (p : Packing) → j < length places → (slice_index_or places j p).packets.items ≡ packets_out t captures sent j
+  pub packets : (j : ℕ) (p : Packing) → j < length places →
+      (slice_index_or places j p).packets.items ≡ packets_out t captures sent j
   pub bodies : All (λ place. All (λ p. length p.body ≤ 262144) place.packets.items) places

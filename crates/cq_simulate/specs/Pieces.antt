@@ -30,7 +30,8 @@ opened captures was (cell ∷ cells) = opened captures (open_after was cell (pie
 -- the cell is the next, and if it is the last all pieces of its packet are together with it
 pub record Fits (captures : List (List Captured)) (was : Option Open) (cell : Cell) : Type 0 where
   pub next : IsNext was cell
-  pub whole : cell.last ≡ true → bytes_taken was ++ piece_at captures cell ≡ (packet_at captures cell.id.input cell.id.packet).body
+  pub whole : cell.last ≡ true →
+      bytes_taken was ++ piece_at captures cell ≡ (packet_at captures cell.id.input cell.id.packet).body
 
 -- what leaves with the cell that departs: its packet, if it is the last
 abbrev pub left_with : Tables → List (List Captured) → Departure → Option OutPacket
@@ -54,7 +55,10 @@ pub record CanTake (captures : List (List Captured)) (joiner : JoinerView) (d : 
 pub record Took (t : Tables) (captures : List (List Captured)) (d : Departure) (old new : Packing) : Type 0 where
   pub inputs : new.joiner.inputs ≡ old.joiner.inputs
   pub classes : new.joiner.classes ≡ old.joiner.classes
-  pub pair : open_at new.joiner d.queued.cell.id.input d.queued.cell.class ≡ open_after (open_at old.joiner d.queued.cell.id.input d.queued.cell.class) d.queued.cell (piece_at captures d.queued.cell)
-  pub others : (i c : ℕ) → c < old.joiner.classes → IsOtherPair i c d.queued.cell → open_at new.joiner i c ≡ open_at old.joiner i c
+  pub pair : open_at new.joiner d.queued.cell.id.input d.queued.cell.class
+      ≡ open_after (open_at old.joiner d.queued.cell.id.input d.queued.cell.class) d.queued.cell
+      (piece_at captures d.queued.cell)
+  pub others : (i c : ℕ) → c < old.joiner.classes → IsOtherPair i c d.queued.cell →
+      open_at new.joiner i c ≡ open_at old.joiner i c
   pub packets : new.packets.items ≡ old.packets.items ++ option_to_list (left_with t captures d)
   pub small : All (λ p. length p.body ≤ 262144) old.packets.items → All (λ p. length p.body ≤ 262144) new.packets.items

@@ -14,7 +14,8 @@ use Rattle.cq_rank.specs.Switch.{class_count}
 
 -- The switch has had no slot, holds no cell and has refused none, and there is room for all cells that arrive: in each
 -- list for those to its output, and in the list of departures for all of them, with a place for each port to spare.
-pub record IsReady (ms : List Machine) (came : List Arrival) (ideal : IdealSwitch) (sent : RoomView Departure) : Type 0 where
+pub record IsReady (ms : List Machine) (came : List Arrival) (ideal : IdealSwitch) (sent : RoomView Departure) : Type
+    0 where
   pub running : ideal.stopped ≡ false
   pub next : ideal.next ≡ 0
   pub ports : length ideal.fixed ≤ 64

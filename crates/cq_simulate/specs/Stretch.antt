@@ -10,10 +10,11 @@ use Rattle.cq_laws.specs.LimitedQuiet.{quiet_limited_slots}
 use Rattle.cq_prefs.specs.Pairing.{IsInputBest}
 use Rattle.cq_rank.specs.Machine.{Machine}
 
--- the slots from this one on up to the other, without arrivals, are behind the ideal switch: in none did an output send,
--- nothing was refused, and the lists stayed as they were
+-- the slots from this one on up to the other, without arrivals, are behind the ideal switch: in none did an output
+-- send, nothing was refused, and the lists stayed as they were
 pub record HasRested (ms : List Machine) (slot next : ℕ) (old new : IdealSwitch) : Type 0 where
-  pub ran : limited_run old.limits ms slot (replicate (next - slot) no_arrivals) (marked_state old) ≡ Ok (nothing_came (next - slot) (length old.fixed) (marked_state new))
+  pub ran : limited_run old.limits ms slot (replicate (next - slot) no_arrivals) (marked_state old)
+      ≡ Ok (nothing_came (next - slot) (length old.fixed) (marked_state new))
   pub reached : new.next ≡ next
   pub running : new.stopped ≡ false
   pub lists : new.state.lists ≡ old.state.lists

@@ -18,24 +18,31 @@ overwrite : (b : Bool) (x y z : Option (List ℕ)) → cond b x (cond b y z) ≡
 overwrite true x y z = refl
 overwrite false x y z = refl
 
-pub insert-insert : (m : Contents) (name front bytes : List ℕ) → insert (insert m name front) name bytes ≡ insert m name bytes
-insert-insert m name front bytes = same_map nat_list_cmp_total (slice_cmp-IsAntisymmetric nat_cmp-IsAntisymmetric) _ _ (λ q.
+pub insert-insert : (m : Contents) (name front bytes : List ℕ) →
+    insert (insert m name front) name bytes ≡ insert m name bytes
+insert-insert m name front bytes =
+    same_map nat_list_cmp_total (slice_cmp-IsAntisymmetric nat_cmp-IsAntisymmetric) _ _ (λ q.
     get-insert nat_list_cmp_total (insert m name front) name bytes q
     ∙ ap (cond (eq_by_cmp (slice_cmp nat_cmp) q name) (Some bytes)) (get-insert nat_list_cmp_total m name front q)
     ∙ overwrite (eq_by_cmp (slice_cmp nat_cmp) q name) (Some bytes) (Some front) (get m q)
     ∙ sym (get-insert nat_list_cmp_total m name bytes q))
 
-pub insert-appended : (m : Contents) (name front piece : List ℕ) → insert (insert m name front) name (bytes_of (insert m name front) name ++ piece) ≡ insert m name (front ++ piece)
+pub insert-appended : (m : Contents) (name front piece : List ℕ) →
+    insert (insert m name front) name (bytes_of (insert m name front) name ++ piece) ≡ insert m name (front ++ piece)
 insert-appended m name front piece =
     ap (λ bs. insert (insert m name front) name (bs ++ piece)) (ap (λ o. unwrap_or o []) (get_same m name front))
     ∙ insert-insert m name front (front ++ piece)
 
-pub appended-replaced : (told : Option Contents) (name front piece : List ℕ) → appended name piece (replaced name front told) ≡ replaced name (front ++ piece) told
+pub appended-replaced : (told : Option Contents) (name front piece : List ℕ) →
+    appended name piece (replaced name front told) ≡ replaced name (front ++ piece) told
 appended-replaced None name front piece = refl
 appended-replaced (Some m) name front piece = ap Some (insert-appended m name front piece)
 
 -- one more piece of the bytes
-pub replaced_on : (start before now : Option Contents) (mode : Mode) (name bytes : List ℕ) (done n : ℕ) → mode ≡ Writing name → before ≡ replaced name (take done bytes) start → now ≡ appended (written_name mode) (take n (take (length bytes - done) (drop done bytes))) before → now ≡ replaced name (take (done + n) bytes) start
+pub replaced_on : (start before now : Option Contents) (mode : Mode) (name bytes : List ℕ) (done n : ℕ) →
+    mode ≡ Writing name → before ≡ replaced name (take done bytes) start →
+    now ≡ appended (written_name mode) (take n (take (length bytes - done) (drop done bytes))) before →
+    now ≡ replaced name (take (done + n) bytes) start
 replaced_on start before now mode name bytes done n begun front piece =
     piece
     ∙ ap (λ (k : Mode). appended (written_name k) (take n (take (length bytes - done) (drop done bytes))) before) begun

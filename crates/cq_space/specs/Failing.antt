@@ -23,7 +23,8 @@ Writes name (Writing own) Finish = own ≡ name
 Writes name _ _ = ⊥
 
 -- up to some moment no fault was counted; then a call of this kind failed, and nothing came after it
-pub record Fails {S : Type 0} (space : S → Space) (may_fail : Call → S → S → Type 0) (keeps : S → S → Type 0) (kind : Mode → Call → Type 0) (old new : S) : Type 0 where
+pub record Fails {S : Type 0} (space : S → Space) (may_fail : Call → S → S → Type 0) (keeps : S → S → Type 0)
+    (kind : Mode → Call → Type 0) (old new : S) : Type 0 where
   pub before : S
   pub call : Call
   pub of_kind : kind (space before).mode call
@@ -35,7 +36,8 @@ pub record Fails {S : Type 0} (space : S → Space) (may_fail : Call → S → S
   pub kept_after : keeps before new
 
 -- the same of a sink, which has one call and no mode
-pub record FailsTaking {S : Type 0} (taken : S → Option (List ℕ)) (faults : S → ℕ) (may_fail : S → S → Type 0) (keeps : S → S → Type 0) (old new : S) : Type 0 where
+pub record FailsTaking {S : Type 0} (taken : S → Option (List ℕ)) (faults : S → ℕ) (may_fail : S → S → Type 0)
+    (keeps : S → S → Type 0) (old new : S) : Type 0 where
   pub before : S
   pub uncounted : faults before ≡ faults old
   pub kept : keeps old before

@@ -25,7 +25,17 @@ itself a = omega arith
 
 pub cuts_last : Lasts KeepsCuts
 cuts_last = record {
-  none = λ s. record { read_cuts = refl; write_cuts = refl; failing = refl; most = refl; made = itself s.calls.made; faults = itself s.faults; later = itself s.starved; counted = inl refl };
+  none =
+      λ s. record {
+        read_cuts = refl;
+        write_cuts = refl;
+        failing = refl;
+        most = refl;
+        made = itself s.calls.made;
+        faults = itself s.faults;
+        later = itself s.starved;
+        counted = inl refl;
+      };
   both = λ s t u h k. record {
     read_cuts = k.read_cuts ∙ h.read_cuts;
     write_cuts = k.write_cuts ∙ h.write_cuts;
@@ -34,7 +44,8 @@ cuts_last = record {
     made = at_most s.calls.made t.calls.made u.calls.made h.made k.made;
     faults = at_most s.faults t.faults u.faults h.faults k.faults;
     later = at_most s.starved t.starved u.starved h.later k.later;
-    counted = counted_both s.starved t.starved u.starved s.faults t.faults u.faults h.faults k.faults h.counted k.counted;
+    counted =
+        counted_both s.starved t.starved u.starved s.faults t.faults u.faults h.faults k.faults h.counted k.counted;
   };
 }
 
@@ -45,6 +56,7 @@ cut_lasts = record {
     cut = k.cut ∙ h.cut;
     faults = at_most s.faults t.faults u.faults h.faults k.faults;
     later = at_most s.starved t.starved u.starved h.later k.later;
-    counted = counted_both s.starved t.starved u.starved s.faults t.faults u.faults h.faults k.faults h.counted k.counted;
+    counted =
+        counted_both s.starved t.starved u.starved s.faults t.faults u.faults h.faults k.faults h.counted k.counted;
   };
 }

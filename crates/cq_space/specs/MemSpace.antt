@@ -18,8 +18,8 @@ Cuts = FinMap (slice_cmp nat_cmp) ℕ
 abbrev pub cuts_code : Coded Cuts
 cuts_code = code (coded_list coded_ℕ) coded_ℕ
 
--- the mode, the contents, where reading and writing names are cut, the faults, those of them that came from want of memory, and the
--- calls but `end_read`, which are numbered
+-- the mode, the contents, where reading and writing names are cut, the faults, those of them that came from want of
+-- memory, and the calls but `end_read`, which are numbered
 pub record MemSpace : Type 0 where
   pub mode : Mode
   pub contents : Contents
@@ -59,8 +59,8 @@ pub record IsSetToFail (old new : MemSpace) : Type 0 where
   pub next : IsTrue (next_fails old.calls)
   pub starved : new.starved ≡ old.starved
 
--- a call fails only where it was set to; beside that a read only at a cut, a start of writing only for want of memory, and a write only
--- for one of these
+-- a call fails only where it was set to; beside that a read only at a cut, a start of writing only for want of
+-- memory, and a write only for one of these
 abbrev pub MayFail : Call → MemSpace → MemSpace → Type 0
 MayFail (StartRead name) old new = IsSetToFail old new
 MayFail Read old new = IsSetToFail old new ⊎ FailsAtCut old new
@@ -84,7 +84,8 @@ IsUncounted old new = new.calls ≡ old.calls
 abbrev pub MayMove : MemSpace → ℕ → Type 0
 MayMove s n = StaysBefore (cut_at s.mode s.read_cuts s.write_cuts) (moved_at s.mode s.contents) n × IsShort s.calls n
 
--- the cuts and what calls were set to are as before, and no count falls; that of faults from want of memory rises only with that of faults
+-- the cuts and what calls were set to are as before, and no count falls; that of faults from want of memory rises
+-- only with that of faults
 pub record KeepsCuts (old new : MemSpace) : Type 0 where
   pub read_cuts : new.read_cuts ≡ old.read_cuts
   pub write_cuts : new.write_cuts ≡ old.write_cuts

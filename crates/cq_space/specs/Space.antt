@@ -67,7 +67,8 @@ Finds old new name false = (new.mode ≡ Closed) × (new.faults ≡ old.faults) 
 
 -- the piece is next of what is left, and there is none exactly at the end
 abbrev pub TakesNext : Mode → List ℕ → Mode → Type 0
-TakesNext (Reading name left) piece (Reading name' left') = (name' ≡ name) × (left ≡ piece ++ left') × (piece ≡ [] → left' ≡ [])
+TakesNext (Reading name left) piece (Reading name' left') =
+    (name' ≡ name) × (left ≡ piece ++ left') × (piece ≡ [] → left' ≡ [])
 TakesNext _ piece _ = ⊥
 
 -- it goes on reading the name; where contents are told, the piece is next

@@ -14,7 +14,8 @@ abbrev pub Lacks : Option Contents → List ℕ → Type 0
 Lacks told name = IsSomeAnd told (λ m. get m name ≡ None)
 
 -- a name was read whole, or refused for its cause
-pub record ReadsWhole (old new : Space) (name : List ℕ) (limit : ℕ) (result : Result (Vec ℕ Global) ReadRefusal) : Type 0 where
+pub record ReadsWhole (old new : Space) (name : List ℕ) (limit : ℕ) (result : Result (Vec ℕ Global) ReadRefusal) :
+    Type 0 where
   -- Ok has all the bytes of the name, at most `limit`
   pub whole : IfOk result (λ v. IfSome old.told (λ m. get m name ≡ Some v.items))
   pub short : IfOk result (λ v. vec_len v ≤ limit)
@@ -40,7 +41,8 @@ pub record WritesWhole (old new : Space) (name bytes : List ℕ) (result : Resul
   pub closed : new.mode ≡ Closed
 
 -- the bytes were put into a sink, or a front of them was
-pub record PutsAll (old new : Option (List ℕ)) (faults now : ℕ) (bytes : List ℕ) (result : Result (Unit {0}) WriteFault) : Type 0 where
+pub record PutsAll (old new : Option (List ℕ)) (faults now : ℕ) (bytes : List ℕ)
+    (result : Result (Unit {0}) WriteFault) : Type 0 where
   pub ok : OnOk result (new ≡ append_known old bytes)
   pub err : OnErr result ((n : ℕ) × (new ≡ append_known old (take n bytes)))
   pub cause : HasCause faults now result

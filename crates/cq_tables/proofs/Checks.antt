@@ -29,7 +29,8 @@ pub first_here : (c : Check) (cs : List Check) (r : TableRefusal) → Refuses c 
 unfolding first
 first_here c cs r h = refuses_first c (first cs) r h
 
-pub first_later : (c : Check) (cs : List Check) (r : TableRefusal) → c ≡ None → Refuses (first cs) r → Refuses (first (c ∷ cs)) r
+pub first_later : (c : Check) (cs : List Check) (r : TableRefusal) → c ≡ None → Refuses (first cs) r →
+    Refuses (first (c ∷ cs)) r
 first_later c cs r e h = rw (first_on c cs e) h
 
 -- all hold
@@ -44,30 +45,37 @@ first-append (Some f ∷ cs) ds = refl
 
 -- ---- of an answer: a check that does not hold is the first, where those before it hold
 
-pub otherwise_here : {A : Type 0} (r : Result A TableRefusal) (c d : Check) → IfErr r (Refuses c) → IfErr r (Refuses (otherwise c d))
+pub otherwise_here : {A : Type 0} (r : Result A TableRefusal) (c d : Check) → IfErr r (Refuses c) →
+    IfErr r (Refuses (otherwise c d))
 otherwise_here (Ok x) c d h = tt
 otherwise_here (Err e) c d h = refuses_first c d e h
 
-pub otherwise_later : {A : Type 0} (r : Result A TableRefusal) (c d : Check) → c ≡ None → IfErr r (Refuses d) → IfErr r (Refuses (otherwise c d))
+pub otherwise_later : {A : Type 0} (r : Result A TableRefusal) (c d : Check) → c ≡ None → IfErr r (Refuses d) →
+    IfErr r (Refuses (otherwise c d))
 otherwise_later r c d e h = rw e h
 
 -- where the first holds, both hold if the second does
-pub otherwise_holds : {A : Type 0} (r : Result A TableRefusal) (c d : Check) → c ≡ None → IfOk r (λ _. d ≡ None) → IfOk r (λ _. otherwise c d ≡ None)
+pub otherwise_holds : {A : Type 0} (r : Result A TableRefusal) (c d : Check) → c ≡ None → IfOk r (λ _. d ≡ None) →
+    IfOk r (λ _. otherwise c d ≡ None)
 otherwise_holds (Ok x) c d e h = rw e h
 otherwise_holds (Err f) c d e h = tt
 
-pub here : {A : Type 0} (r : Result A TableRefusal) (c : Check) (cs : List Check) → IfErr r (Refuses c) → IfErr r (Refuses (first (c ∷ cs)))
+pub here : {A : Type 0} (r : Result A TableRefusal) (c : Check) (cs : List Check) → IfErr r (Refuses c) →
+    IfErr r (Refuses (first (c ∷ cs)))
 here (Ok x) c cs h = tt
 here (Err e) c cs h = first_here c cs e h
 
-pub later : {A : Type 0} (r : Result A TableRefusal) (c : Check) (cs : List Check) → c ≡ None → IfErr r (Refuses (first cs)) → IfErr r (Refuses (first (c ∷ cs)))
+pub later : {A : Type 0} (r : Result A TableRefusal) (c : Check) (cs : List Check) → c ≡ None →
+    IfErr r (Refuses (first cs)) → IfErr r (Refuses (first (c ∷ cs)))
 later r c cs e h = rw (first_on c cs e) h
 
 -- of two lists of checks
-pub here_in : {A : Type 0} (r : Result A TableRefusal) (cs ds : List Check) → IfErr r (Refuses (first cs)) → IfErr r (Refuses (first (cs ++ ds)))
+pub here_in : {A : Type 0} (r : Result A TableRefusal) (cs ds : List Check) → IfErr r (Refuses (first cs)) →
+    IfErr r (Refuses (first (cs ++ ds)))
 here_in r cs ds h = rw (first-append cs ds) (otherwise_here r (first cs) (first ds) h)
 
-pub later_in : {A : Type 0} (r : Result A TableRefusal) (cs ds : List Check) → first cs ≡ None → IfErr r (Refuses (first ds)) → IfErr r (Refuses (first (cs ++ ds)))
+pub later_in : {A : Type 0} (r : Result A TableRefusal) (cs ds : List Check) → first cs ≡ None →
+    IfErr r (Refuses (first ds)) → IfErr r (Refuses (first (cs ++ ds)))
 later_in r cs ds e h = rw (first-append cs ds) (otherwise_later r (first cs) (first ds) e h)
 
 pub all_in : (cs ds : List Check) → first cs ≡ None → first ds ≡ None → first (cs ++ ds) ≡ None
@@ -75,11 +83,16 @@ all_in cs ds e h = first-append cs ds ∙ rw e h
 
 -- ---- of an element: its table has these checks, at its place
 
-pub element_refuses : {A : Type 0} (r : Result A TableRefusal) (array : Array) (keys : Place → List Key) (i : ℕ) (d : Data) (place : Place) (table : Members) → table_type d ≡ None → place ≡ Element array i → table ≡ members d
-    → IfErr r (Refuses (first (table_checks place (keys place) table))) → IfErr r (Refuses (element_check array (λ _. keys) i d))
-element_refuses r array keys i d place table type there seen told = otherwise_later r _ _ (rw type) (rw (there, seen) at told)
+pub element_refuses : {A : Type 0} (r : Result A TableRefusal) (array : Array) (keys : Place → List Key) (i : ℕ)
+    (d : Data) (place : Place) (table : Members) → table_type d ≡ None → place ≡ Element array i → table ≡ members d
+    → IfErr r (Refuses (first (table_checks place (keys place) table))) →
+    IfErr r (Refuses (element_check array (λ _. keys) i d))
+element_refuses r array keys i d place table type there seen told =
+    otherwise_later r _ _ (rw type) (rw (there, seen) at told)
 
-pub element_holds : {A : Type 0} (r : Result A TableRefusal) (array : Array) (keys : Place → List Key) (i : ℕ) (d : Data) (place : Place) (table : Members) → table_type d ≡ None → place ≡ Element array i → table ≡ members d
-    → IfOk r (λ _. first (table_checks place (keys place) table) ≡ None) → IfOk r (λ _. element_check array (λ _. keys) i d ≡ None)
+pub element_holds : {A : Type 0} (r : Result A TableRefusal) (array : Array) (keys : Place → List Key) (i : ℕ)
+    (d : Data) (place : Place) (table : Members) → table_type d ≡ None → place ≡ Element array i → table ≡ members d
+    → IfOk r (λ _. first (table_checks place (keys place) table) ≡ None) →
+    IfOk r (λ _. element_check array (λ _. keys) i d ≡ None)
 element_holds (Err e) array keys i d place table type there seen told = tt
 element_holds (Ok x) array keys i d place table type there seen told = rw type (rw (there, seen) at told)

@@ -30,7 +30,8 @@ abbrev pub has : List (List ℕ) → List ℕ → Bool
 has macs mac = list_any (bytes_eq mac) macs
 
 -- as the set looks an address up
-pub set_has : (mac : List ℕ) (macs : List (List ℕ)) → list_any (λ x. is_eq (slice_cmp nat_cmp mac x)) macs ≡ has macs mac
+pub set_has : (mac : List ℕ) (macs : List (List ℕ)) →
+    list_any (λ x. is_eq (slice_cmp nat_cmp mac x)) macs ≡ has macs mac
 set_has mac [] = refl
 set_has mac (x ∷ xs) = rw (is_eq-slice_cmp mac x, set_has mac xs)
 
@@ -44,7 +45,8 @@ or_swap true false c = refl
 or_swap false true c = refl
 or_swap false false c = refl
 
-inserted : (o : Ordering) (mac x q : List ℕ) (xs rest : List (List ℕ)) → o ≡ slice_cmp nat_cmp mac x → has rest q ≡ (bytes_eq q mac || has xs q)
+inserted : (o : Ordering) (mac x q : List ℕ) (xs rest : List (List ℕ)) → o ≡ slice_cmp nat_cmp mac x →
+    has rest q ≡ (bytes_eq q mac || has xs q)
     → has (match_ordering o (mac ∷ x ∷ xs) (x ∷ xs) (x ∷ rest)) q ≡ (bytes_eq q mac || (bytes_eq q x || has xs q))
 inserted Less mac x q xs rest is e = refl
 inserted Equal mac x q xs rest is e =
@@ -53,13 +55,16 @@ inserted Equal mac x q xs rest is e =
 inserted Greater mac x q xs rest is e = rw e (or_swap (bytes_eq q mac) (bytes_eq q x) (has xs q))
 
 -- one more address in a set
-pub has-insert : (macs : List (List ℕ)) (mac q : List ℕ) → has (insert_key (slice_cmp nat_cmp) macs mac) q ≡ (bytes_eq q mac || has macs q)
+pub has-insert : (macs : List (List ℕ)) (mac q : List ℕ) →
+    has (insert_key (slice_cmp nat_cmp) macs mac) q ≡ (bytes_eq q mac || has macs q)
 has-insert [] mac q = refl
 has-insert (x ∷ xs) mac q = inserted (slice_cmp nat_cmp mac x) mac x q xs _ refl (has-insert xs mac q)
 
 -- an address is a new one by what is known alone
 mac_same : (a b : List (List ℕ)) → ((q : List ℕ) → has a q ≡ has b q) → (d : Option Data)
-    → required (and_then address address_value (is_new a) DuplicateAddress) d ≡ required (and_then address address_value (is_new b) DuplicateAddress) d
+    →
+    required (and_then address address_value (is_new a) DuplicateAddress) d
+    ≡ required (and_then address address_value (is_new b) DuplicateAddress) d
 mac_same a b same None = refl
 mac_same a b same (Some d) = rw (same (address_value d))
 
@@ -70,7 +75,8 @@ abbrev pub address_check : ℕ → List Value → ℕ → Data → Check
 address_check ports vs = element_check Addresses (λ i. address_keys ports (take i (macs_of vs)))
 
 -- what is checked of an address where a set has those before it
-pub same_check : (ports i : ℕ) (vs : List Value) (d : Data) (known : List (List ℕ)) → ((q : List ℕ) → has known q ≡ has (take i (macs_of vs)) q)
+pub same_check : (ports i : ℕ) (vs : List Value) (d : Data) (known : List (List ℕ)) →
+    ((q : List ℕ) → has known q ≡ has (take i (macs_of vs)) q)
     → element_check Addresses (λ _. address_keys ports known) i d ≡ address_check ports vs i d
 same_check ports i vs d known same =
     ap
@@ -96,47 +102,69 @@ take_macs [] (suc i) = refl
 take_macs (v ∷ vs) zero = refl
 take_macs (v ∷ vs) (suc i) = ap (λ t. mac_in (members (view v)) ∷ t) (take_macs vs i)
 
-has_last : (rows : List AddressRow) (row : AddressRow) (q : List ℕ) → has (map mac (rows ++ row ∷ [])) q ≡ (bytes_eq q row.mac || has (map mac rows) q)
+has_last : (rows : List AddressRow) (row : AddressRow) (q : List ℕ) →
+    has (map mac (rows ++ row ∷ [])) q ≡ (bytes_eq q row.mac || has (map mac rows) q)
 has_last [] row q = refl
-has_last (r ∷ rows) row q = rw (has_last rows row q) (or_swap (bytes_eq q row.mac) (bytes_eq q r.mac) (has (map mac rows) q))
+has_last (r ∷ rows) row q =
+    rw (has_last rows row q) (or_swap (bytes_eq q row.mac) (bytes_eq q r.mac) (has (map mac rows) q))
 
 false_parts : (a b : Bool) → (a || b) ≡ false → (a ≡ false) × (b ≡ false)
 false_parts true b h = cc
 false_parts false b h = (refl, h)
 
-others : (rows : List AddressRow) (q : List ℕ) → has (map mac rows) q ≡ false → (k : ℕ) (d : AddressRow) → k < length rows → (get_or rows k d).mac ≢ q
+others : (rows : List AddressRow) (q : List ℕ) → has (map mac rows) q ≡ false → (k : ℕ) (d : AddressRow) →
+    k < length rows → (get_or rows k d).mac ≢ q
 others [] q h k d small = absurd (omega arith)
-others (r ∷ rows) q h zero d small = λ e. let t : true ≡ false = sym ((bytes_eq-Decides q r.mac).1 (sym e)) ∙ (false_parts (bytes_eq q r.mac) (has (map mac rows) q) h).0 in cc
-others (r ∷ rows) q h (suc k) d small = others rows q (false_parts (bytes_eq q r.mac) (has (map mac rows) q) h).1 k d (omega arith)
+others (r ∷ rows) q h zero d small =
+    λ e. let t : true
+    ≡ false = sym ((bytes_eq-Decides q r.mac).1 (sym e))
+    ∙ (false_parts (bytes_eq q r.mac) (has (map mac rows) q) h).0 in
+    cc
+others (r ∷ rows) q h (suc k) d small =
+    others rows q (false_parts (bytes_eq q r.mac) (has (map mac rows) q) h).1 k d (omega arith)
 
 not_false : (b : Bool) → not b ≡ true → b ≡ false
 not_false true h = cc
 not_false false h = refl
 
-pub record Walked_apart (ports : ℕ) (vs : List Value) (i : ℕ) (known : List (List ℕ)) (rows : List AddressRow) : Type 0 where
+pub record Walked_apart (ports : ℕ) (vs : List Value) (i : ℕ) (known : List (List ℕ)) (rows : List AddressRow) : Type
+    0 where
   pub walked : Walked (address_check ports vs) address_row (λ row. row.output < ports) vs i rows
   pub knows : AreKnown known rows
   pub differ : AllPairs (λ a b. a.mac ≢ b.mac) rows
 
-same_at : (ports i : ℕ) (vs : List Value) (d : Data) (known : List (List ℕ)) (rows : List AddressRow) → Walked_apart ports vs i known rows
+same_at : (ports i : ℕ) (vs : List Value) (d : Data) (known : List (List ℕ)) (rows : List AddressRow) →
+    Walked_apart ports vs i known rows
     → element_check Addresses (λ _. address_keys ports known) i d ≡ address_check ports vs i d
 same_at ports i vs d known rows w =
-    same_check ports i vs d known (λ q. w.knows q ∙ ap (λ (macs : List (List ℕ)). has macs q) (ap (map mac) w.walked.read ∙ take_macs vs i))
+    same_check ports i vs d known (λ q. w.knows q
+    ∙ ap (λ (macs : List (List ℕ)). has macs q) (ap (map mac) w.walked.read ∙ take_macs vs i))
 
 pub apart_none : (ports : ℕ) (vs : List Value) → Walked_apart ports vs 0 [] []
-apart_none ports vs = record { walked = walked_none _ _ _ _; knows = λ q. refl; differ = λ i j d e small less. absurd (omega arith) }
+apart_none ports vs =
+    record { walked = walked_none _ _ _ _; knows = λ q. refl; differ = λ i j d e small less. absurd (omega arith) }
 
-pub apart_more : (ports : ℕ) (vs : List Value) (i : ℕ) (known after : List (List ℕ)) (rows : List AddressRow) (v : Value) (row : AddressRow) → i < length vs → v ≡ get_or vs i v
-    → element_check Addresses (λ _. address_keys ports known) i (view v) ≡ None → row ≡ address_row (members (view v)) → row.output < ports → is_new known row.mac ≡ true
-    → ((q : List ℕ) → has after q ≡ (bytes_eq q row.mac || has known q)) → Walked_apart ports vs i known rows → Walked_apart ports vs (i + 1) after (rows ++ row ∷ [])
+pub apart_more : (ports : ℕ) (vs : List Value) (i : ℕ) (known after : List (List ℕ)) (rows : List AddressRow)
+    (v : Value) (row : AddressRow) → i < length vs → v ≡ get_or vs i v
+    → element_check Addresses (λ _. address_keys ports known) i (view v) ≡ None →
+    row ≡ address_row (members (view v)) → row.output < ports → is_new known row.mac ≡ true
+    → ((q : List ℕ) → has after q ≡ (bytes_eq q row.mac || has known q)) → Walked_apart ports vs i known rows →
+    Walked_apart ports vs (i + 1) after (rows ++ row ∷ [])
 apart_more ports vs i known after rows v row small is held reads below fresh added w = record {
-  walked = walked_more _ _ _ _ _ _ v row small is (sym (same_at ports i vs (view v) known rows w) ∙ held) reads below w.walked;
+  walked =
+      walked_more _ _ _ _ _ _ v row small is (sym (same_at ports i vs (view v) known rows w) ∙ held) reads below
+      w.walked;
   knows = λ q. added q ∙ (ap (λ (b : Bool). bytes_eq q row.mac || b) (w.knows q) ∙ sym (has_last rows row q));
-  differ = all_pairs_push (λ (a b : AddressRow). a.mac ≢ b.mac) rows row w.differ (others rows row.mac (sym (w.knows row.mac) ∙ not_false (has known row.mac) fresh));
+  differ =
+      all_pairs_push (λ (a b : AddressRow). a.mac ≢ b.mac) rows row w.differ
+      (others rows row.mac (sym (w.knows row.mac) ∙ not_false (has known row.mac) fresh));
 }
 
-pub apart_stop : {B : Type 0} (r : Result B TableRefusal) (ports : ℕ) (vs : List Value) (i : ℕ) (known : List (List ℕ)) (rows : List AddressRow) (v : Value) → i < length vs → v ≡ get_or vs i v
-    → IfErr r (Refuses (element_check Addresses (λ _. address_keys ports known) i (view v))) → Walked_apart ports vs i known rows → IfErr r (Refuses (first (each (address_check ports vs) 0 (map view vs))))
+pub apart_stop : {B : Type 0} (r : Result B TableRefusal) (ports : ℕ) (vs : List Value) (i : ℕ)
+    (known : List (List ℕ)) (rows : List AddressRow) (v : Value) → i < length vs → v ≡ get_or vs i v
+    → IfErr r (Refuses (element_check Addresses (λ _. address_keys ports known) i (view v))) →
+    Walked_apart ports vs i known rows → IfErr r (Refuses (first (each (address_check ports vs) 0 (map view vs))))
 apart_stop r ports vs i known rows v small is told w =
-    let told_here : IfErr r (Refuses (address_check ports vs i (view v))) = rw (same_at ports i vs (view v) known rows w) at told in
+    let told_here : IfErr r (Refuses (address_check ports vs i (view v))) =
+    rw (same_at ports i vs (view v) known rows w) at told in
     walked_stop r _ _ _ _ _ _ v small is told_here w.walked

@@ -18,7 +18,8 @@ use Rattle.cq_tables.specs.Key.{table_checks}
 use Rattle.cq_tables.proofs.Checks.{all_in, first_all, first_here, first_none, first_on, here, here_in, later, later_in}
 use Rattle.cq_tables.specs.Document.{checks_in, default_checks, document, file_check, top_keys, whole, judged, read_or_refused, IsRefusedFor, tables_of, top_of, verdict}
 
-pub document_some : (text : List ℕ) (top : Members) → IsUtf8 text → parse_document text ≡ Some top → document text ≡ Some top
+pub document_some : (text : List ℕ) (top : Members) → IsUtf8 text → parse_document text ≡ Some top →
+    document text ≡ Some top
 unfolding document
 document_some text top utf8 e = rw (is_utf8-from_IsUtf8 text utf8) e
 
@@ -31,7 +32,8 @@ document_none text h =
     ]
 
 -- a text that is too long is refused for that
-pub too_long : (text : List ℕ) → nat_le (length text) 1048576 ≡ false → read_or_refused text ≡ Err (record { code = 10; path = codes "-" })
+pub too_long : (text : List ℕ) → nat_le (length text) 1048576 ≡ false →
+    read_or_refused text ≡ Err (record { code = 10; path = codes "-" })
 unfolding read_or_refused first
 too_long text long = rw long
 
@@ -40,7 +42,8 @@ refused_so c t refusal.NoMemory h = tt
 refused_so c t (refusal.At code path) h = rw h
 
 -- the verdict decides
-pub read_ok : (text : List ℕ) (t : Tables) → verdict text ≡ None → t ≡ tables_of (top_of text) → read_or_refused text ≡ Ok t
+pub read_ok : (text : List ℕ) (t : Tables) → verdict text ≡ None → t ≡ tables_of (top_of text) →
+    read_or_refused text ≡ Ok t
 unfolding read_or_refused
 read_ok text t held value = rw (held, value)
 
@@ -53,39 +56,57 @@ read_refused text r h = refused_so (verdict text) (tables_of (top_of text)) r h
 fits : (text : List ℕ) → length text ≤ 1048576 → at whole (unless (nat_le (length text) 1048576) TooLong) ≡ None
 fits text small = rw (le-leb (length text) 1048576 small)
 
-refused_in : {A : Type 0} (r : Result A TableRefusal) (text : List ℕ) → IfErr r (Refuses (verdict text)) → IfErr r (IsRefusedFor (read_or_refused text))
+refused_in : {A : Type 0} (r : Result A TableRefusal) (text : List ℕ) → IfErr r (Refuses (verdict text)) →
+    IfErr r (IsRefusedFor (read_or_refused text))
 refused_in (Ok x) text h = tt
 refused_in (Err e) text h = read_refused text e h
 
-pub long_told : (text : List ℕ) (r : TableRefusal) → 1048576 < length text → Refuses (Some (refused whole TooLong)) r → IsRefusedFor (read_or_refused text) r
+pub long_told : (text : List ℕ) (r : TableRefusal) → 1048576 < length text →
+    Refuses (Some (refused whole TooLong)) r → IsRefusedFor (read_or_refused text) r
 long_told text r long told =
     let test : nat_le (length text) 1048576 ≡ false = lt-leb (length text) 1048576 long in
     read_refused text r (first_here _ _ r (rw test told))
 
-pub no_document : {A : Type 0} (text : List ℕ) (r : Result A TableRefusal) → length text ≤ 1048576 → IfErr r (Refuses (at whole (unless (is_some (document text)) NotToml))) → IfErr r (IsRefusedFor (read_or_refused text))
+pub no_document : {A : Type 0} (text : List ℕ) (r : Result A TableRefusal) → length text ≤ 1048576 →
+    IfErr r (Refuses (at whole (unless (is_some (document text)) NotToml))) →
+    IfErr r (IsRefusedFor (read_or_refused text))
 no_document text r small told = refused_in r text (later r _ _ (fits text small) (here r _ _ told))
 
 -- the verdict is that of the checks which are left once the text is a document
 left_of : (text : List ℕ) (top : Members) → length text ≤ 1048576 → document text ≡ Some top
-    → verdict text ≡ first ((table_checks Top (top_keys top) top ++ default_checks top) ++ (file_check (tables_of top) ∷ []))
+    →
+    verdict text
+    ≡ first ((table_checks Top (top_keys top) top ++ default_checks top) ++ (file_check (tables_of top) ∷ []))
 left_of text top small is =
     ap (λ (o : Option Members). first (checks_in text (unwrap_or o no_members))) is
-    ∙ (first_on _ _ (fits text small) ∙ first_on _ _ (ap (λ (o : Option Members). at whole (unless (is_some o) NotToml)) is))
+    ∙ (first_on _ _ (fits text small)
+    ∙ first_on _ _ (ap (λ (o : Option Members). at whole (unless (is_some o) NotToml)) is))
 
-pub table_fault : {A : Type 0} (text : List ℕ) (top : Members) (r : Result A TableRefusal) → length text ≤ 1048576 → document text ≡ Some top
-    → IfErr r (Refuses (first (table_checks Top (top_keys top) top ++ default_checks top))) → IfErr r (IsRefusedFor (read_or_refused text))
-table_fault text top r small is told = refused_in r text (rw (left_of text top small is) (here_in r (table_checks Top (top_keys top) top ++ default_checks top) _ told))
+pub table_fault : {A : Type 0} (text : List ℕ) (top : Members) (r : Result A TableRefusal) → length text ≤ 1048576 →
+    document text ≡ Some top
+    → IfErr r (Refuses (first (table_checks Top (top_keys top) top ++ default_checks top))) →
+    IfErr r (IsRefusedFor (read_or_refused text))
+table_fault text top r small is told =
+    refused_in r text (rw (left_of text top small is) (here_in r
+    (table_checks Top (top_keys top) top ++ default_checks top) _ told))
 
-pub file_fault : {A : Type 0} (text : List ℕ) (top : Members) (t : Tables) (r : Result A TableRefusal) → length text ≤ 1048576 → document text ≡ Some top
-    → first (table_checks Top (top_keys top) top ++ default_checks top) ≡ None → t ≡ tables_of top → IfErr r (Refuses (file_check t)) → IfErr r (IsRefusedFor (read_or_refused text))
+pub file_fault : {A : Type 0} (text : List ℕ) (top : Members) (t : Tables) (r : Result A TableRefusal) →
+    length text ≤ 1048576 → document text ≡ Some top
+    → first (table_checks Top (top_keys top) top ++ default_checks top) ≡ None → t ≡ tables_of top →
+    IfErr r (Refuses (file_check t)) → IfErr r (IsRefusedFor (read_or_refused text))
 file_fault text top t r small is held value told =
-    let raw : IfErr r (Refuses (file_check (tables_of top))) = subst (λ (u : Tables). IfErr r (Refuses (file_check u))) value told in
-    refused_in r text (rw (left_of text top small is) (later_in r (table_checks Top (top_keys top) top ++ default_checks top) _ held (here r _ _ raw)))
+    let raw : IfErr r (Refuses (file_check (tables_of top))) =
+    subst (λ (u : Tables). IfErr r (Refuses (file_check u))) value told in
+    refused_in r text (rw (left_of text top small is) (later_in r
+    (table_checks Top (top_keys top) top ++ default_checks top) _ held (here r _ _ raw)))
 
 pub read_all : (text : List ℕ) (top : Members) (t : Tables) → length text ≤ 1048576 → document text ≡ Some top
-    → first (table_checks Top (top_keys top) top ++ default_checks top) ≡ None → t ≡ tables_of top → file_check t ≡ None → read_or_refused text ≡ Ok t
+    → first (table_checks Top (top_keys top) top ++ default_checks top) ≡ None → t ≡ tables_of top →
+    file_check t ≡ None → read_or_refused text ≡ Ok t
 read_all text top t small is held value apart =
     let last : file_check (tables_of top) ≡ None = ap file_check (sym value) ∙ apart in
     read_ok text t
-    (left_of text top small is ∙ all_in (table_checks Top (top_keys top) top ++ default_checks top) _ held (first_all _ _ last first_none))
+    (left_of text top small is
+    ∙ all_in (table_checks Top (top_keys top) top ++ default_checks top) _ held
+    (first_all _ _ last first_none))
     (value ∙ ap (λ (o : Option Members). tables_of (unwrap_or o no_members)) (sym is))

@@ -25,7 +25,8 @@ map_length : (vs : List Value) → length (map view vs) ≡ length vs
 map_length [] = refl
 map_length (v ∷ vs) = ap (λ n. suc n) (map_length vs)
 
-pub array_view_in : (least most : ℕ) (d : Data) (vs : List Value) → as_array d ≡ Some (items_view vs) → array_of least most d ≡ unless (is_from least most (length vs)) OutOfRange
+pub array_view_in : (least most : ℕ) (d : Data) (vs : List Value) → as_array d ≡ Some (items_view vs) →
+    array_of least most d ≡ unless (is_from least most (length vs)) OutOfRange
 array_view_in least most d vs e = rw (e, listed_view vs, map_length vs)
 
 pub array_view_elements : (d : Data) (vs : List Value) → as_array d ≡ Some (items_view vs) → elements d ≡ map view vs
@@ -43,21 +44,26 @@ same_test true b f g = sym (f refl)
 same_test false true f g = g refl
 same_test false false f g = refl
 
-pub tells_all_digits : (b : Bool) (text : List ℕ) → (IsTrue b ↔ EachIndex text (λ i. IsInRange 48 57 (slice_index text i))) → b ≡ all_ascii_digits text
+pub tells_all_digits : (b : Bool) (text : List ℕ) →
+    (IsTrue b ↔ EachIndex text (λ i. IsInRange 48 57 (slice_index text i))) → b ≡ all_ascii_digits text
 tells_all_digits b text both =
     same_test b (all_ascii_digits text)
     (λ e. whole.from text (by_index.to text (both.0 e)))
     (λ e. both.1 (by_index.from text (whole.to text e)))
 
 -- what `parse` gives of a text of digits is what the text writes
-pub parsed_is_written : {E : Type 0} (text : List ℕ) (r : Result ℕ E) → (is_from 1 39 (length text) && all_ascii_digits text) ≡ true → ParsesUnsigned 128 10 text r → result_ok r ≡ written text
+pub parsed_is_written : {E : Type 0} (text : List ℕ) (r : Result ℕ E) →
+    (is_from 1 39 (length text) && all_ascii_digits text) ≡ true → ParsesUnsigned 128 10 text r →
+    result_ok r ≡ written text
 unfolding written
 parsed_is_written {E} text r test parsed =
     let (sized, digits) = and_parts (is_from 1 39 (length text)) (all_ascii_digits text) test in
     let (least, most) = and_parts (nat_le 1 (length text)) (nat_le (length text) 39) sized in
     rw (sized, digits) (by_bound r (parse_digits whole 128 text r parsed digits) (leb-true 1 (length text) least))
   where
-    by_bound : (r : Result ℕ E) → OkIff r ((0 < length text) × (digits_value 10 text < 2 ^ 128)) (digits_value 10 text) → 0 < length text → result_ok r ≡ (if nat_lt (digits_value 10 text) (2 ^ 128) then Some (digits_value 10 text) else None)
+    by_bound : (r : Result ℕ E) →
+        OkIff r ((0 < length text) × (digits_value 10 text < 2 ^ 128)) (digits_value 10 text) → 0 < length text →
+        result_ok r ≡ (if nat_lt (digits_value 10 text) (2 ^ 128) then Some (digits_value 10 text) else None)
     by_bound (Ok x) h some = rw (lt-ltb (digits_value 10 text) (2 ^ 128) h.0.1) (ap Some h.1)
     by_bound (Err e) h some =
         elim (cases_Bool (nat_lt (digits_value 10 text) (2 ^ 128))) [

@@ -1,6 +1,6 @@
--- What version 1 accepts as classes version 2 accepts too. A class that version 1 accepts has no key but the priority and the
--- cost, and so none that version 2 does not know. And since it has no level, its level is the default, which every class has in
--- version 1. So it is from class to class.
+-- What version 1 accepts as classes version 2 accepts too. A class that version 1 accepts has no key but the priority
+-- and the cost, and so none that version 2 does not know. And since it has no level, its level is the default, which
+-- every class has in version 1. So it is from class to class.
 use Rattle.std.proofs.Common.{◌≡◌, ◌||◌, ℕ, suc, Bool, true, false, cond, List, [], ◌∷◌, map, Option, Some, None, refl, sym, ap, ◌∙◌, subst}
 use Rattle.std.specs.Prelude.{codes, option_map, unwrap_or}
 use Rattle.std.specs.declared.cmp.Ordering.{Ordering}
@@ -102,45 +102,47 @@ none_unknown : (place : Place) (o : Option (List ℕ)) →
 none_unknown place None h = refl
 none_unknown place (Some name) h = absurd (let P : ⊥ = cc in P)
 
-module _ (place : Place) (table : Members) (holds : first (table_checks place (class_keys One place) table) ≡ None) where
-  abbrev priority : Check
-  priority = key_check place (codes "priority") (optional (wide_from 0)) table
+module _ (place : Place) (table : Members) (holds : first (table_checks place (class_keys One place) table) ≡ None)
+  where
+    abbrev priority : Check
+    priority = key_check place (codes "priority") (optional (wide_from 0)) table
 
-  abbrev cost : Check
-  cost = key_check place (codes "cost") (optional (wide_from 1)) table
+    abbrev cost : Check
+    cost = key_check place (codes "cost") (optional (wide_from 1)) table
 
-  abbrev level : Check
-  level = key_check place (codes "level") (optional (integer_in 0 15)) table
+    abbrev level : Check
+    level = key_check place (codes "level") (optional (integer_in 0 15)) table
 
-  parts : (no_other place first_keys table ≡ None) × (first (priority ∷ cost ∷ []) ≡ None)
-  parts = first_parts (no_other place first_keys table) (priority ∷ cost ∷ []) holds
+    parts : (no_other place first_keys table ≡ None) × (first (priority ∷ cost ∷ []) ≡ None)
+    parts = first_parts (no_other place first_keys table) (priority ∷ cost ∷ []) holds
 
-  all_known : least_unknown first_keys table ≡ None
-  all_known = none_unknown place (least_unknown first_keys table) parts.0
+    all_known : least_unknown first_keys table ≡ None
+    all_known = none_unknown place (least_unknown first_keys table) parts.0
 
-  keys_hold : first (table_checks place (class_keys Two place) table) ≡ None
-  keys_hold =
-      let ranks = first_parts priority (cost ∷ []) parts.1 in
-      let costs = first_parts cost [] ranks.1 in
-      let unknown : no_other place all_keys table ≡ None =
-      ap (λ (o : Option (List ℕ)). option_map (λ (name : List ℕ). refused (path place name) UnknownKey) o)
-      (known_more table all_known) in
-      let levels : level ≡ None =
-      ap (λ (o : Option Data). at (path place (codes "level")) (optional (integer_in 0 15) o)) (no_level table all_known) in
-      first_all (no_other place all_keys table) (priority ∷ cost ∷ level ∷ []) unknown
-      (first_all priority (cost ∷ level ∷ []) ranks.0
-      (first_all cost (level ∷ []) costs.0 (first_all level [] levels first_none)))
+    keys_hold : first (table_checks place (class_keys Two place) table) ≡ None
+    keys_hold =
+        let ranks = first_parts priority (cost ∷ []) parts.1 in
+        let costs = first_parts cost [] ranks.1 in
+        let unknown : no_other place all_keys table ≡ None =
+        ap (λ (o : Option (List ℕ)). option_map (λ (name : List ℕ). refused (path place name) UnknownKey) o)
+        (known_more table all_known) in
+        let levels : level ≡ None =
+        ap (λ (o : Option Data). at (path place (codes "level")) (optional (integer_in 0 15) o))
+        (no_level table all_known) in
+        first_all (no_other place all_keys table) (priority ∷ cost ∷ level ∷ []) unknown
+        (first_all priority (cost ∷ level ∷ []) ranks.0
+        (first_all cost (level ∷ []) costs.0 (first_all level [] levels first_none)))
 
-  row_same : class_row Two table ≡ class_row One table
-  row_same =
-      ap
-      (λ (o : Option Data).
-      let row : ClassRow = record {
-        level = unwrap_or (option_map integer_value o) 0;
-        priority = (class_row One table).priority;
-        cost = (class_row One table).cost;
-      } in
-      row) (no_level table all_known)
+    row_same : class_row Two table ≡ class_row One table
+    row_same =
+        ap
+        (λ (o : Option Data).
+        let row : ClassRow = record {
+          level = unwrap_or (option_map integer_value o) 0;
+          priority = (class_row One table).priority;
+          cost = (class_row One table).cost;
+        } in
+        row) (no_level table all_known)
 
 abbrev in_one : ℕ → Data → Check
 in_one = element_check Classes (λ _. class_keys One)

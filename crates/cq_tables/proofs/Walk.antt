@@ -10,13 +10,16 @@ use Rattle.cq_tables.proofs.Checks.{first_none, first_on, here}
 
 -- the checks from an element on are its own and those from the next one on
 each_drop : (check : ℕ → Data → Check) (vs : List Value) (i n : ℕ) (d : Value) → i < length vs
-    → each check n (map view (drop i vs)) ≡ check n (view (get_or vs i d)) ∷ each check (suc n) (map view (drop (suc i) vs))
+    →
+    each check n (map view (drop i vs))
+    ≡ check n (view (get_or vs i d)) ∷ each check (suc n) (map view (drop (suc i) vs))
 unfolding each
 each_drop check [] i n d h = absurd (omega arith)
 each_drop check (v ∷ vs) zero n d h = refl
 each_drop check (v ∷ vs) (suc i) n d h = each_drop check vs i n d (omega arith)
 
-each_past : (check : ℕ → Data → Check) (vs : List Value) (i n : ℕ) → length vs ≤ i → each check n (map view (drop i vs)) ≡ []
+each_past : (check : ℕ → Data → Check) (vs : List Value) (i n : ℕ) → length vs ≤ i →
+    each check n (map view (drop i vs)) ≡ []
 unfolding each
 each_past check [] zero n h = refl
 each_past check [] (suc i) n h = refl
@@ -27,7 +30,8 @@ module _ {A : Type 0} where
   abbrev pub rows_of : (Members → A) → List Value → List A
   rows_of row vs = map row (map members (map view vs))
 
-  rows_more : (row : Members → A) (vs : List Value) (i : ℕ) (d : Value) → i < length vs → rows_of row (take (suc i) vs) ≡ rows_of row (take i vs) ++ row (members (view (get_or vs i d))) ∷ []
+  rows_more : (row : Members → A) (vs : List Value) (i : ℕ) (d : Value) → i < length vs →
+      rows_of row (take (suc i) vs) ≡ rows_of row (take i vs) ++ row (members (view (get_or vs i d))) ∷ []
   rows_more row [] i d h = absurd (omega arith)
   rows_more row (v ∷ vs) zero d h = refl
   rows_more row (v ∷ vs) (suc i) d h = ap (λ t. row (members (view v)) ∷ t) (rows_more row vs i d (omega arith))
@@ -42,34 +46,46 @@ module _ {A : Type 0} where
   kept_more P [] x h p zero d small = p
   kept_more P [] x h p (suc k) d small = absurd (omega arith)
   kept_more P (y ∷ ys) x h p zero d small = h zero d (omega arith)
-  kept_more P (y ∷ ys) x h p (suc k) d small = kept_more P ys x (λ j e less. h (suc j) e (omega arith)) p k d (omega arith)
+  kept_more P (y ∷ ys) x h p (suc k) d small =
+      kept_more P ys x (λ j e less. h (suc j) e (omega arith)) p k d (omega arith)
 
   -- the first i elements hold what is checked of them, and are read as these rows, of which P holds
-  pub record Walked (check : ℕ → Data → Check) (row : Members → A) (P : A → Type 0) (vs : List Value) (i : ℕ) (rows : List A) : Type 0 where
+  pub record Walked (check : ℕ → Data → Check) (row : Members → A) (P : A → Type 0) (vs : List Value) (i : ℕ)
+      (rows : List A) : Type 0 where
     pub checked : first (each check 0 (map view vs)) ≡ first (each check i (map view (drop i vs)))
     pub read : rows ≡ rows_of row (take i vs)
     pub kept : All P rows
 
-  pub walked_none : (check : ℕ → Data → Check) (row : Members → A) (P : A → Type 0) (vs : List Value) → Walked check row P vs 0 []
+  pub walked_none : (check : ℕ → Data → Check) (row : Members → A) (P : A → Type 0) (vs : List Value) →
+      Walked check row P vs 0 []
   walked_none check row P vs = record { checked = refl; read = refl; kept = λ k d h. absurd (omega arith) }
 
-  pub walked_more : (check : ℕ → Data → Check) (row : Members → A) (P : A → Type 0) (vs : List Value) (i : ℕ) (rows : List A) (v : Value) (x : A) → i < length vs → v ≡ get_or vs i v
-      → check i (view v) ≡ None → x ≡ row (members (view v)) → P x → Walked check row P vs i rows → Walked check row P vs (i + 1) (rows ++ x ∷ [])
+  pub walked_more : (check : ℕ → Data → Check) (row : Members → A) (P : A → Type 0) (vs : List Value) (i : ℕ)
+      (rows : List A) (v : Value) (x : A) → i < length vs → v ≡ get_or vs i v
+      → check i (view v) ≡ None → x ≡ row (members (view v)) → P x → Walked check row P vs i rows →
+      Walked check row P vs (i + 1) (rows ++ x ∷ [])
   walked_more check row P vs i rows v x small is held reads p w =
       let holds : check i (view (get_or vs i v)) ≡ None = ap (λ (u : Value). check i (view u)) (sym is) ∙ held in
       rw add-one (record {
         checked = w.checked ∙ (ap first (each_drop check vs i i v small) ∙ first_on _ _ holds);
-        read = ap (λ (t : List A). t ++ x ∷ []) w.read ∙ (ap (λ (y : A). rows_of row (take i vs) ++ y ∷ []) (reads ∙ ap (λ (u : Value). row (members (view u))) is) ∙ sym (rows_more row vs i v small));
+        read =
+            ap (λ (t : List A). t ++ x ∷ []) w.read
+            ∙ (ap (λ (y : A). rows_of row (take i vs) ++ y ∷ [])
+            (reads ∙ ap (λ (u : Value). row (members (view u))) is) ∙ sym (rows_more row vs i v small));
         kept = kept_more P rows x w.kept p;
       })
 
-  pub walked_stop : {B : Type 0} (r : Result B TableRefusal) (check : ℕ → Data → Check) (row : Members → A) (P : A → Type 0) (vs : List Value) (i : ℕ) (rows : List A) (v : Value) → i < length vs → v ≡ get_or vs i v
-      → IfErr r (Refuses (check i (view v))) → Walked check row P vs i rows → IfErr r (Refuses (first (each check 0 (map view vs))))
+  pub walked_stop : {B : Type 0} (r : Result B TableRefusal) (check : ℕ → Data → Check) (row : Members → A)
+      (P : A → Type 0) (vs : List Value) (i : ℕ) (rows : List A) (v : Value) → i < length vs → v ≡ get_or vs i v
+      → IfErr r (Refuses (check i (view v))) → Walked check row P vs i rows →
+      IfErr r (Refuses (first (each check 0 (map view vs))))
   walked_stop r check row P vs i rows v small is told w =
       rw (w.checked, each_drop check vs i i v small) (here r _ _ (rw (sym is) told))
 
-  pub walked_held : (check : ℕ → Data → Check) (row : Members → A) (P : A → Type 0) (vs : List Value) (i : ℕ) (rows : List A) → length vs ≤ i → Walked check row P vs i rows → first (each check 0 (map view vs)) ≡ None
+  pub walked_held : (check : ℕ → Data → Check) (row : Members → A) (P : A → Type 0) (vs : List Value) (i : ℕ)
+      (rows : List A) → length vs ≤ i → Walked check row P vs i rows → first (each check 0 (map view vs)) ≡ None
   walked_held check row P vs i rows past w = w.checked ∙ (ap first (each_past check vs i i past) ∙ first_none)
 
-  pub walked_read : (check : ℕ → Data → Check) (row : Members → A) (P : A → Type 0) (vs : List Value) (i : ℕ) (rows : List A) → length vs ≤ i → Walked check row P vs i rows → rows ≡ rows_of row vs
+  pub walked_read : (check : ℕ → Data → Check) (row : Members → A) (P : A → Type 0) (vs : List Value) (i : ℕ)
+      (rows : List A) → length vs ≤ i → Walked check row P vs i rows → rows ≡ rows_of row vs
   walked_read check row P vs i rows past w = w.read ∙ rows_past row vs i past

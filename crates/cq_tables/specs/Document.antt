@@ -43,7 +43,8 @@ elements_at (Some d) = elements d
 -- an element of an array of tables: it is a table, and has these keys
 abbrev pub element_check : Array → (ℕ → Place → List Key) → ℕ → Data → Check
 element_check array keys i d =
-    otherwise (at (element_path array i) (table_type d)) (first (table_checks (Element array i) (keys i (Element array i)) (members d)))
+    otherwise (at (element_path array i) (table_type d)) (first (table_checks (Element array i)
+    (keys i (Element array i)) (members d)))
 
 -- an array of tables: what it may be, and the keys of its element at an index
 abbrev pub array : Array → (Option Data → Option Wrong) → (ℕ → Place → List Key) → Key
@@ -213,7 +214,9 @@ port_array = array Ports (required (array_of 1 64)) (λ i. port_keys)
 
 -- the array of addresses: at most 4096, each of them unlike those before it
 abbrev pub address_array : Members → Key
-address_array top = array Addresses (optional (array_of 0 4096)) (λ i. address_keys (ports_in top) (take i (map mac_in (rows_in Addresses top))))
+address_array top =
+    array Addresses (optional (array_of 0 4096)) (λ i. address_keys (ports_in top)
+    (take i (map mac_in (rows_in Addresses top))))
 
 -- the array of rules: at most 256
 abbrev pub rule_array : Members → Key
@@ -303,7 +306,8 @@ files_in t = written_at Top (codes "trace") t.trace ∷ written_at Top (codes "l
 -- each name clashes with none before it
 abbrev pub apart_from : List Named → List Named → List Check
 apart_from earlier [] = []
-apart_from earlier (n ∷ names) = at n.path (unless (not (list_any (clash n) earlier)) DuplicateFile) ∷ apart_from (earlier ++ n ∷ []) names
+apart_from earlier (n ∷ names) =
+    at n.path (unless (not (list_any (clash n) earlier)) DuplicateFile) ∷ apart_from (earlier ++ n ∷ []) names
 
 -- the defaults are there
 abbrev pub default_checks : Members → List Check

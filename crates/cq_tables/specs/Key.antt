@@ -46,7 +46,8 @@ lesser k (Some l) = if is_lt (slice_cmp nat_cmp l k) then Some l else Some k
 -- the least key, in the order of bytes, that is none of these
 unfoldable pub least_unknown : List (List ℕ) → Members → Option (List ℕ)
 least_unknown names no_members = None
-least_unknown names (member k d ms) = if is_among names k then least_unknown names ms else lesser k (least_unknown names ms)
+least_unknown names (member k d ms) =
+    if is_among names k then least_unknown names ms else lesser k (least_unknown names ms)
 
 -- a table has no key but these, or else the least other one is told
 abbrev pub no_other : Place → List (List ℕ) → Members → Check

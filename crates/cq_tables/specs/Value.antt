@@ -39,9 +39,12 @@ integer_value d = unwrap_or (option_and_then natural (as_integer d)) 0
 
 -- the number below 2^128 that 1 to 39 digits write
 unfoldable pub written : List ℕ → Option ℕ
-written text = if is_from 1 39 (length text) && all_ascii_digits text && nat_lt (digits_value 10 text) (2 ^ 128) then Some (digits_value 10 text) else None
+written text =
+    if is_from 1 39 (length text) && all_ascii_digits text
+    && nat_lt (digits_value 10 text) (2 ^ 128) then Some (digits_value 10 text) else None
 
--- an integer or a text of digits as a wide number, which is below 2^128; the inner None is one that writes no such number
+-- an integer or a text of digits as a wide number, which is below 2^128; the inner None is one that writes no such
+-- number
 abbrev pub wide_number : Data → Option (Option ℕ)
 wide_number d = option_or (option_map natural (as_integer d)) (option_map written (as_str d))
 
@@ -99,7 +102,8 @@ hex_pair _ _ = None
 unfoldable pub group : List ℕ → ℕ → Option ℕ
 group text k =
     if (k == 5) then hex_pair (hex_digit (slice_index text (3 * k))) (hex_digit (slice_index text (3 * k + 1)))
-    else if slice_index text (3 * k + 2) == 58 then hex_pair (hex_digit (slice_index text (3 * k))) (hex_digit (slice_index text (3 * k + 1)))
+    else if slice_index text (3 * k + 2) == 58 then hex_pair (hex_digit (slice_index text (3 * k)))
+    (hex_digit (slice_index text (3 * k + 1)))
     else None
 
 -- the second step, on what the first gives, if it gives something
@@ -107,7 +111,8 @@ infixl 10 ◌>>=◌
 abbrev ◌>>=◌ : {A B : Type 0} → Option A → (A → Option B) → Option B
 o >>= f = option_and_then f o
 
--- the address that a text of six groups writes; one whose first byte is odd is the address of a group of stations, and of none
+-- the address that a text of six groups writes; one whose first byte is odd is the address of a group of stations,
+-- and of none
 unfoldable pub address_of : List ℕ → Option (List ℕ)
 address_of text = if length text == 17 then (do
   a ← group text 0

@@ -14,5 +14,10 @@ pub bare_is : (a b c d : Command) → app_of a ≡ new_app (codes "cq_switch")
 bare_is a b c d new names flag subcommand =
     ap app_of_fields subcommand
     ∙ ap (λ (f : Command-F Command). app_of_fields (record f { disable_help_subcommand = true })) flag
-    ∙ ap (λ (f : Command-F Command). app_of_fields (record f { disable_help_flag = true; disable_help_subcommand = true })) names
-    ∙ ap (λ (app : App). on_top (λ top. record top { no_binary_name = true; disable_help_flag = true; disable_help_subcommand = true }) app) new
+    ∙ ap (λ (f : Command-F Command). app_of_fields (record f {
+      disable_help_flag = true;
+      disable_help_subcommand = true;
+    })) names
+    ∙ ap (λ (app : App). on_top
+    (λ top. record top { no_binary_name = true; disable_help_flag = true; disable_help_subcommand = true })
+    app) new

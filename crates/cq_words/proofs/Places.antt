@@ -9,7 +9,8 @@ use Rattle.cq_words.specs.Numbers.{value_of}
 places : (v d p r : ℕ) → v * (p * 10) + (d * p + r) ≡ (v * 10 + d) * p + r
 places v d p r = omega arith
 
-next_place : (v x : ℕ) (rest : List ℕ) → v * 10 ^ length (x ∷ rest) + value_of (x ∷ rest) ≡ (v * 10 + (x - 48)) * 10 ^ length rest + value_of rest
+next_place : (v x : ℕ) (rest : List ℕ) →
+    v * 10 ^ length (x ∷ rest) + value_of (x ∷ rest) ≡ (v * 10 + (x - 48)) * 10 ^ length rest + value_of rest
 unfolding value_of
 next_place v x rest = rw (pow-suc 10 (length rest)) (places v (x - 48) (10 ^ length rest) (value_of rest))
 
@@ -26,7 +27,8 @@ unfolding value_of
 read_all v = omega arith
 
 -- the whole, where no digit is left
-pub all_places : (v : ℕ) (text : List ℕ) (i : ℕ) → length text ≤ i → v * 10 ^ length (drop i text) + value_of (drop i text) ≡ v
+pub all_places : (v : ℕ) (text : List ℕ) (i : ℕ) → length text ≤ i →
+    v * 10 ^ length (drop i text) + value_of (drop i text) ≡ v
 all_places v text i end = at_drop_all (λ (t : List ℕ). v * 10 ^ length t + value_of t) text i end ∙ read_all v
 
 -- a digit more is a power more

@@ -60,9 +60,11 @@ one_walked : {X : Type 0} (rules : List Rule) (v : Text) (P : Walk → X) → is
 one_walked rules v P is = ap P (value_walked rules nothing_held 1 v is)
 
 config_found : (v : Text) → is_value v ≡ true → first_of (codes "CONFIG") (rows_after config_rules [] (v ∷ [])) ≡ Some v
-config_found v is = one_walked config_rules v (λ (w : Walk). first_of (codes "CONFIG") (finished config_rules w.held)) is
+config_found v is =
+    one_walked config_rules v (λ (w : Walk). first_of (codes "CONFIG") (finished config_rules w.held)) is
 
-config_passes : (word v : Text) → is_value v ≡ true → level_passes (leaf word config_rules) [] nothing_held (v ∷ []) false ≡ true
+config_passes : (word v : Text) → is_value v ≡ true →
+    level_passes (leaf word config_rules) [] nothing_held (v ∷ []) false ≡ true
 unfolding walk_passes
 config_passes word v is = ap₂ ◌&&◌
     (ap (λ (b : Bool). b && true) (value_taken (leaf word config_rules) nothing_held 1 v is))
@@ -111,7 +113,8 @@ record TakesTwo (word : Text) (rules : List Rule) (one_held : Text → Held) : T
   takes_two : (v : Text) → step_passes (leaf word rules) 2 (one_held v) value ≡ true
   ends : (v u : Text) → end_passes (leaf word rules) (after rules (one_held v) 2 u) ≡ true
 
-two_walked : {X : Type 0} (word : Text) (rules : List Rule) (one_held : Text → Held) (form : TakesTwo word rules one_held)
+two_walked : {X : Type 0} (word : Text) (rules : List Rule) (one_held : Text → Held)
+    (form : TakesTwo word rules one_held)
     (v u : Text) (P : Walk → X) → is_value v ≡ true → is_value u ≡ true
     → P (walk rules [] nothing_held (v ∷ u ∷ [])) ≡ P (after rules (one_held v) 2 u)
 two_walked word rules one_held form v u P iv iu =
@@ -126,7 +129,8 @@ two_value : (word : Text) (rules : List Rule) (one_held : Text → Held) (form :
 two_value word rules one_held form v u name iv iu =
     two_walked word rules one_held form v u (λ (w : Walk). first_of name (finished rules w.held)) iv iu
 
-two_passes : (word : Text) (rules : List Rule) (one_held : Text → Held) (form : TakesTwo word rules one_held) (v u : Text)
+two_passes : (word : Text) (rules : List Rule) (one_held : Text → Held) (form : TakesTwo word rules one_held)
+    (v u : Text)
     → is_value v ≡ true → is_value u ≡ true
     → level_passes (leaf word rules) [] nothing_held (v ∷ u ∷ []) false ≡ true
 unfolding walk_passes
@@ -155,7 +159,9 @@ pass_takes = record {
 }
 
 pass_found : (v u : Text) → is_value v ≡ true → is_value u ≡ true
-    → captures_in (first_of (codes "IN") (rows_after pass_rules [] (v ∷ u ∷ []))) (first_of (codes "OUT") (rows_after pass_rules [] (v ∷ u ∷ [])))
+    →
+    captures_in (first_of (codes "IN") (rows_after pass_rules [] (v ∷ u ∷ [])))
+    (first_of (codes "OUT") (rows_after pass_rules [] (v ∷ u ∷ [])))
     ≡ Some (Pass v u)
 pass_found v u iv iu = ap₂ captures_in
     (two_value (codes "pass") pass_rules in_held pass_takes v u (codes "IN") iv iu)
@@ -180,7 +186,9 @@ resume_takes = record {
 }
 
 resume_found : (v u : Text) → is_value v ≡ true → is_value u ≡ true
-    → state_in (first_of (codes "CONFIG") (rows_after resume_rules [] (v ∷ u ∷ []))) (first_of (codes "STATE") (rows_after resume_rules [] (v ∷ u ∷ [])))
+    →
+    state_in (first_of (codes "CONFIG") (rows_after resume_rules [] (v ∷ u ∷ [])))
+    (first_of (codes "STATE") (rows_after resume_rules [] (v ∷ u ∷ [])))
     ≡ Some (Resume v u)
 resume_found v u iv iu = ap₂ state_in
     (two_value (codes "resume") resume_rules stopped_held resume_takes v u (codes "CONFIG") iv iu)
@@ -263,8 +271,11 @@ soak_takes = record {
 }
 
 soak_value : (v u t name : Text) → is_value v ≡ true → is_value u ≡ true → is_value t ≡ true
-    → first_of name (rows_after soak_rules [] (v ∷ u ∷ t ∷ [])) ≡ first_of name (finished soak_rules (after soak_rules (ports_held v u) 3 t).held)
-soak_value v u t name iv iu it = three_value (codes "soak") soak_rules seed_held ports_held soak_takes v u t name iv iu it
+    →
+    first_of name (rows_after soak_rules [] (v ∷ u ∷ t ∷ []))
+    ≡ first_of name (finished soak_rules (after soak_rules (ports_held v u) 3 t).held)
+soak_value v u t name iv iu it =
+    three_value (codes "soak") soak_rules seed_held ports_held soak_takes v u t name iv iu it
 
 soak_found : (v u t : Text) → is_value v ≡ true → is_value u ≡ true → is_value t ≡ true
     → numbers_in (first_of (codes "SEED") (rows_after soak_rules [] (v ∷ u ∷ t ∷ [])))
@@ -276,7 +287,8 @@ soak_found v u t iv iu it =
     (soak_value v u t (codes "SEED") iv iu it) (soak_value v u t (codes "PORTS") iv iu it)
     ∙ ap (numbers_in (Some v) (Some u)) (soak_value v u t (codes "SLOTS") iv iu it)
 
-soak_split : (v u t : Text) → is_value v ≡ true → is_value u ≡ true → is_value t ≡ true → IsSplit (codes "soak" ∷ v ∷ u ∷ t ∷ [])
+soak_split : (v u t : Text) → is_value v ≡ true → is_value u ≡ true → is_value t ≡ true →
+    IsSplit (codes "soak" ∷ v ∷ u ∷ t ∷ [])
 unfolding walked walk_passes
 soak_split v u t iv iu it = (
   soak_found v u t iv iu it ∙ three_command (codes "soak") v u t iv iu it,
@@ -300,8 +312,11 @@ part_takes = record {
 }
 
 part_value : (v u t name : Text) → is_value v ≡ true → is_value u ≡ true → is_value t ≡ true
-    → first_of name (rows_after part_rules [] (v ∷ u ∷ t ∷ [])) ≡ first_of name (finished part_rules (after part_rules (slots_held v u) 3 t).held)
-part_value v u t name iv iu it = three_value (codes "part") part_rules config_held slots_held part_takes v u t name iv iu it
+    →
+    first_of name (rows_after part_rules [] (v ∷ u ∷ t ∷ []))
+    ≡ first_of name (finished part_rules (after part_rules (slots_held v u) 3 t).held)
+part_value v u t name iv iu it =
+    three_value (codes "part") part_rules config_held slots_held part_takes v u t name iv iu it
 
 part_found : (v u t : Text) → is_value v ≡ true → is_value u ≡ true → is_value t ≡ true
     → slots_in (first_of (codes "CONFIG") (rows_after part_rules [] (v ∷ u ∷ t ∷ [])))
@@ -313,11 +328,13 @@ part_found v u t iv iu it =
     (part_value v u t (codes "CONFIG") iv iu it) (part_value v u t (codes "SLOTS") iv iu it)
     ∙ ap (slots_in (Some v) (Some u)) (part_value v u t (codes "STATE") iv iu it)
 
-part_split : (v u t : Text) → is_value v ≡ true → is_value u ≡ true → is_value t ≡ true → IsSplit (codes "part" ∷ v ∷ u ∷ t ∷ [])
+part_split : (v u t : Text) → is_value v ≡ true → is_value u ≡ true → is_value t ≡ true →
+    IsSplit (codes "part" ∷ v ∷ u ∷ t ∷ [])
 unfolding walked walk_passes
 part_split v u t iv iu it = (
   part_found v u t iv iu it ∙ three_command (codes "part") v u t iv iu it,
-  ap (λ (b : Bool). b && true) (three_passes (codes "part") part_rules config_held slots_held part_takes v u t iv iu it),
+  ap (λ (b : Bool). b && true) (three_passes (codes "part") part_rules config_held slots_held part_takes v u t iv iu
+      it),
 )
 
 -- ---- all words that are a command
@@ -326,7 +343,11 @@ is_text : (word text : Text) → bytes_eq word text ≡ true → word ≡ text
 is_text word text e = (bytes_eq-Decides word text).0 e
 
 config_tests : (x y z u : Command) (a b c d e : Bool)
-    → is_some (if a && true then (if b then Some x else if c then Some y else if d then Some z else if e then Some u else None) else None) ≡ true
+    →
+    is_some (if a
+    && true then
+    (if b then Some x else if c then Some y else if d then Some z else if e then Some u else None)
+    else None) ≡ true
     → (a ≡ true) × ((b ≡ true) ⊎ ((c ≡ true) ⊎ ((d ≡ true) ⊎ (e ≡ true))))
 config_tests x y z u true true c d e h = (refl, inl refl)
 config_tests x y z u true false true d e h = (refl, inr (inl refl))
@@ -336,16 +357,25 @@ config_tests x y z u true false false false false h = let bad : false ≡ true =
 config_tests x y z u false b c d e h = let bad : false ≡ true = h in cc
 
 config_case : (word v : Text) → is_value v ≡ true
-    → (bytes_eq word (codes "check") ≡ true) ⊎ ((bytes_eq word (codes "ideal") ≡ true) ⊎ ((bytes_eq word (codes "run") ≡ true) ⊎ (bytes_eq word (codes "audit") ≡ true)))
+    →
+    (bytes_eq word (codes "check") ≡ true)
+    ⊎ ((bytes_eq word (codes "ideal") ≡ true)
+    ⊎ ((bytes_eq word (codes "run") ≡ true) ⊎ (bytes_eq word (codes "audit") ≡ true)))
     → IsSplit (word ∷ v ∷ [])
-config_case word v is (inl e) = subst (λ (w : Text). IsSplit (w ∷ v ∷ [])) (sym (is_text word (codes "check") e)) (check_split v is)
-config_case word v is (inr (inl e)) = subst (λ (w : Text). IsSplit (w ∷ v ∷ [])) (sym (is_text word (codes "ideal") e)) (ideal_split v is)
-config_case word v is (inr (inr (inl e))) = subst (λ (w : Text). IsSplit (w ∷ v ∷ [])) (sym (is_text word (codes "run") e)) (run_split v is)
-config_case word v is (inr (inr (inr e))) = subst (λ (w : Text). IsSplit (w ∷ v ∷ [])) (sym (is_text word (codes "audit") e)) (audit_split v is)
+config_case word v is (inl e) =
+    subst (λ (w : Text). IsSplit (w ∷ v ∷ [])) (sym (is_text word (codes "check") e)) (check_split v is)
+config_case word v is (inr (inl e)) =
+    subst (λ (w : Text). IsSplit (w ∷ v ∷ [])) (sym (is_text word (codes "ideal") e)) (ideal_split v is)
+config_case word v is (inr (inr (inl e))) =
+    subst (λ (w : Text). IsSplit (w ∷ v ∷ [])) (sym (is_text word (codes "run") e)) (run_split v is)
+config_case word v is (inr (inr (inr e))) =
+    subst (λ (w : Text). IsSplit (w ∷ v ∷ [])) (sym (is_text word (codes "audit") e)) (audit_split v is)
 
 config_words : (word v : Text) → is_some (command_for (word ∷ v ∷ [])) ≡ true → IsSplit (word ∷ v ∷ [])
 config_words word v h =
-    let tests = config_tests (Check v) (Ideal v) (Run v) (Audit v) (is_value v) (bytes_eq word (codes "check")) (bytes_eq word (codes "ideal")) (bytes_eq word (codes "run")) (bytes_eq word (codes "audit")) h in
+    let tests =
+    config_tests (Check v) (Ideal v) (Run v) (Audit v) (is_value v) (bytes_eq word (codes "check"))
+    (bytes_eq word (codes "ideal")) (bytes_eq word (codes "run")) (bytes_eq word (codes "audit")) h in
     config_case word v tests.0 tests.1
 
 two_tests : (x y : Command) (a b c d : Bool)
@@ -359,12 +389,16 @@ two_tests x y false b c d h = let bad : false ≡ true = h in cc
 
 two_case : (word v u : Text) → is_value v ≡ true → is_value u ≡ true
     → (bytes_eq word (codes "pass") ≡ true) ⊎ (bytes_eq word (codes "resume") ≡ true) → IsSplit (word ∷ v ∷ u ∷ [])
-two_case word v u iv iu (inl e) = subst (λ (w : Text). IsSplit (w ∷ v ∷ u ∷ [])) (sym (is_text word (codes "pass") e)) (pass_split v u iv iu)
-two_case word v u iv iu (inr e) = subst (λ (w : Text). IsSplit (w ∷ v ∷ u ∷ [])) (sym (is_text word (codes "resume") e)) (resume_split v u iv iu)
+two_case word v u iv iu (inl e) =
+    subst (λ (w : Text). IsSplit (w ∷ v ∷ u ∷ [])) (sym (is_text word (codes "pass") e)) (pass_split v u iv iu)
+two_case word v u iv iu (inr e) =
+    subst (λ (w : Text). IsSplit (w ∷ v ∷ u ∷ [])) (sym (is_text word (codes "resume") e)) (resume_split v u iv iu)
 
 two_words : (word v u : Text) → is_some (command_for (word ∷ v ∷ u ∷ [])) ≡ true → IsSplit (word ∷ v ∷ u ∷ [])
 two_words word v u h =
-    let tests = two_tests (Pass v u) (Resume v u) (is_value v) (is_value u) (bytes_eq word (codes "pass")) (bytes_eq word (codes "resume")) h in
+    let tests =
+    two_tests (Pass v u) (Resume v u) (is_value v) (is_value u) (bytes_eq word (codes "pass"))
+    (bytes_eq word (codes "resume")) h in
     two_case word v u tests.0 tests.1.0 tests.1.1
 
 three_tests : (x y : Option Command) (a b c d e : Bool)
@@ -384,9 +418,12 @@ three_case word v u t iv iu it (inl e) =
 three_case word v u t iv iu it (inr e) =
     subst (λ (w : Text). IsSplit (w ∷ v ∷ u ∷ t ∷ [])) (sym (is_text word (codes "part") e)) (part_split v u t iv iu it)
 
-three_words : (word v u t : Text) → is_some (command_for (word ∷ v ∷ u ∷ t ∷ [])) ≡ true → IsSplit (word ∷ v ∷ u ∷ t ∷ [])
+three_words : (word v u t : Text) → is_some (command_for (word ∷ v ∷ u ∷ t ∷ [])) ≡ true →
+    IsSplit (word ∷ v ∷ u ∷ t ∷ [])
 three_words word v u t h =
-    let tests = three_tests (numbered v u t) (parted v u t) (is_value v) (is_value u) (is_value t) (bytes_eq word (codes "soak")) (bytes_eq word (codes "part")) h in
+    let tests =
+    three_tests (numbered v u t) (parted v u t) (is_value v) (is_value u) (is_value t)
+    (bytes_eq word (codes "soak")) (bytes_eq word (codes "part")) h in
     three_case word v u t tests.0 tests.1.0 tests.1.1.0 tests.1.1.1
 
 never_a_command : (b : Bool) → is_some (if◌then◌else◌ {A = Option Command} b None None) ≡ true → ⊥

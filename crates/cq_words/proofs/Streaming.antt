@@ -21,7 +21,8 @@ not_two bytes (a ∷ b ∷ c ∷ rest) other = refl
 pub runs : (config : List ℕ) → is_value config ≡ true → command_for (run_of config) ≡ Some (Run config)
 runs config is = ap (λ (b : Bool). let none : Option Command = None in if b && true then Some (Run config) else none) is
 
-either_none : (b : Bool) (o : Option Command) → o ≡ None → (let none : Option Command = None in if b then o else none) ≡ None
+either_none : (b : Bool) (o : Option Command) → o ≡ None →
+    (let none : Option Command = None in if b then o else none) ≡ None
 either_none true o e = e
 either_none false o e = refl
 

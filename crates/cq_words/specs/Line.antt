@@ -33,16 +33,21 @@ config_form word = with_rule (new_app word) (value_rule (codes "CONFIG"))
 -- `soak SEED PORTS SLOTS`
 abbrev pub soak_form : App
 soak_form =
-    with_rule (with_rule (with_rule (new_app (codes "soak")) (value_rule (codes "SEED"))) (value_rule (codes "PORTS"))) (value_rule (codes "SLOTS"))
+    with_rule
+    (with_rule (with_rule (new_app (codes "soak")) (value_rule (codes "SEED"))) (value_rule (codes "PORTS")))
+    (value_rule (codes "SLOTS"))
 
 -- `part CONFIG SLOTS STATE`
 abbrev pub part_form : App
 part_form =
-    with_rule (with_rule (with_rule (new_app (codes "part")) (value_rule (codes "CONFIG"))) (value_rule (codes "SLOTS"))) (value_rule (codes "STATE"))
+    with_rule
+    (with_rule (with_rule (new_app (codes "part")) (value_rule (codes "CONFIG"))) (value_rule (codes "SLOTS")))
+    (value_rule (codes "STATE"))
 
 -- `resume CONFIG STATE`
 abbrev pub resume_form : App
-resume_form = with_rule (with_rule (new_app (codes "resume")) (value_rule (codes "CONFIG"))) (value_rule (codes "STATE"))
+resume_form =
+    with_rule (with_rule (new_app (codes "resume")) (value_rule (codes "CONFIG"))) (value_rule (codes "STATE"))
 
 -- a form is added as a subcommand
 abbrev pub with_form : App → App → App
@@ -83,9 +88,12 @@ state_in _ _ = None
 abbrev pub command_in : List ℕ → List Row → Option Command
 command_in word rows =
     if bytes_eq word (codes "pass") then captures_in (first_of (codes "IN") rows) (first_of (codes "OUT") rows)
-    else if bytes_eq word (codes "soak") then numbers_in (first_of (codes "SEED") rows) (first_of (codes "PORTS") rows) (first_of (codes "SLOTS") rows)
-    else if bytes_eq word (codes "part") then slots_in (first_of (codes "CONFIG") rows) (first_of (codes "SLOTS") rows) (first_of (codes "STATE") rows)
-    else if bytes_eq word (codes "resume") then state_in (first_of (codes "CONFIG") rows) (first_of (codes "STATE") rows)
+    else if bytes_eq word (codes "soak") then numbers_in (first_of (codes "SEED") rows)
+    (first_of (codes "PORTS") rows) (first_of (codes "SLOTS") rows)
+    else if bytes_eq word (codes "part") then slots_in (first_of (codes "CONFIG") rows)
+    (first_of (codes "SLOTS") rows) (first_of (codes "STATE") rows)
+    else if bytes_eq word (codes "resume") then state_in (first_of (codes "CONFIG") rows)
+    (first_of (codes "STATE") rows)
     else option_and_then (with_config word) (first_of (codes "CONFIG") rows)
 
 -- the command of what `clap` found

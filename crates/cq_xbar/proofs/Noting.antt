@@ -14,9 +14,11 @@ use Rattle.cq_prefs.specs.Pairing.{Partners, partner_of}
 
 -- the transfers of the inputs below n
 pub noted_until : Partners → List (List Queued) → ℕ → ℕ → ℕ → List Transfer
-noted_until m lists slot phase n = filter_map (λ i. noted slot phase i (list_of lists i) (partner_of m i)) (range_with_len 0 n)
+noted_until m lists slot phase n =
+    filter_map (λ i. noted slot phase i (list_of lists i) (partner_of m i)) (range_with_len 0 n)
 
-pub noted_all : (m : Partners) (lists : List (List Queued)) (slot phase : ℕ) → noted_until m lists slot phase (length m) ≡ transfers_of m lists slot phase
+pub noted_all : (m : Partners) (lists : List (List Queued)) (slot phase : ℕ) →
+    noted_until m lists slot phase (length m) ≡ transfers_of m lists slot phase
 unfolding noted_until transfers_of
 noted_all m lists slot phase = refl
 
@@ -26,13 +28,17 @@ noted_none m lists slot phase = refl
 
 range_more : (a n : ℕ) → range_with_len a (suc n) ≡ range_with_len a n ++ (a + n) ∷ []
 range_more a zero = let e : a ≡ a + 0 = omega arith in ap (λ k. k ∷ []) e
-range_more a (suc n) = let e : a + 1 + n ≡ a + suc n = omega arith in ap (λ l. a ∷ l) (range_more (a + 1) n ∙ ap (λ k. range_with_len (a + 1) n ++ k ∷ []) e)
+range_more a (suc n) =
+    let e : a + 1 + n ≡ a + suc n = omega arith in
+    ap (λ l. a ∷ l) (range_more (a + 1) n ∙ ap (λ k. range_with_len (a + 1) n ++ k ∷ []) e)
 
 one_or_none : {X : Type 0} (o : Option X) → cons_option o [] ≡ option_to_list o
 one_or_none None = refl
 one_or_none (Some x) = refl
 
-noted_more : (m : Partners) (lists : List (List Queued)) (slot phase n : ℕ) → noted_until m lists slot phase (n + 1) ≡ noted_until m lists slot phase n ++ option_to_list (noted slot phase n (list_of lists n) (partner_of m n))
+noted_more : (m : Partners) (lists : List (List Queued)) (slot phase n : ℕ) →
+    noted_until m lists slot phase (n + 1)
+    ≡ noted_until m lists slot phase n ++ option_to_list (noted slot phase n (list_of lists n) (partner_of m n))
 unfolding noted_until
 noted_more m lists slot phase n =
     let f : ℕ → Option Transfer = λ i. noted slot phase i (list_of lists i) (partner_of m i) in
@@ -44,17 +50,20 @@ noted_more m lists slot phase n =
     ∙ ap (λ l. filter_map f (range_with_len 0 n) ++ l) (one_or_none (f n))
 
 -- an input without a partner has none
-pub noted_past : (m : Partners) (lists : List (List Queued)) (slot phase n : ℕ) → partner_of m n ≡ None → noted_until m lists slot phase (n + 1) ≡ noted_until m lists slot phase n
+pub noted_past : (m : Partners) (lists : List (List Queued)) (slot phase n : ℕ) → partner_of m n ≡ None →
+    noted_until m lists slot phase (n + 1) ≡ noted_until m lists slot phase n
 noted_past m lists slot phase n none =
     noted_more m lists slot phase n
     ∙ ap (λ p. noted_until m lists slot phase n ++ option_to_list (noted slot phase n (list_of lists n) p)) none
     ∙ append-nil (noted_until m lists slot phase n)
 
-pub noted_one : (m : Partners) (lists : List (List Queued)) (slot phase n j : ℕ) (c : Queued) → partner_of m n ≡ Some j → first_for j (list_of lists n) ≡ Some c →
+pub noted_one : (m : Partners) (lists : List (List Queued)) (slot phase n j : ℕ) (c : Queued) →
+    partner_of m n ≡ Some j → first_for j (list_of lists n) ≡ Some c →
     let t : Transfer = record { slot = slot; phase = phase; input = n; output = j; id = c.cell.id } in
     noted_until m lists slot phase (n + 1) ≡ noted_until m lists slot phase n ++ t ∷ []
 noted_one m lists slot phase n j c p found =
-    let crosses : Queued → Transfer = λ c. record { slot = slot; phase = phase; input = n; output = j; id = c.cell.id } in
+    let crosses : Queued → Transfer =
+    λ c. record { slot = slot; phase = phase; input = n; output = j; id = c.cell.id } in
     noted_more m lists slot phase n
     ∙ ap (λ q. noted_until m lists slot phase n ++ option_to_list (noted slot phase n (list_of lists n) q)) p
     ∙ ap (λ o. noted_until m lists slot phase n ++ option_to_list (option_map crosses o)) found
@@ -63,12 +72,18 @@ mapped_few : {X Y : Type 0} (f : X → Option Y) (xs : List X) → length (filte
 mapped_few f [] = omega arith
 mapped_few f (x ∷ xs) = go (f x) (mapped_few f xs)
   where
-    go : (o : Option _) → length (filter_map f xs) ≤ length xs → length (cons_option o (filter_map f xs)) ≤ suc (length xs)
+    go : (o : Option _) → length (filter_map f xs) ≤ length xs →
+        length (cons_option o (filter_map f xs)) ≤ suc (length xs)
     go None l = omega arith
     go (Some y) l = omega arith
 
 -- one transfer an input at most
-pub noted_few : (m : Partners) (lists : List (List Queued)) (slot phase n : ℕ) → length (noted_until m lists slot phase n) ≤ n
+pub noted_few : (m : Partners) (lists : List (List Queued)) (slot phase n : ℕ) →
+    length (noted_until m lists slot phase n) ≤ n
 unfolding noted_until
 noted_few m lists slot phase n =
-    omega (arith, mapped_few (λ i. noted slot phase i (list_of lists i) (partner_of m i)) (range_with_len 0 n), length-range_with_len 0 n)
+    omega (
+      arith,
+      mapped_few (λ i. noted slot phase i (list_of lists i) (partner_of m i)) (range_with_len 0 n),
+      length-range_with_len 0 n,
+    )

@@ -15,7 +15,9 @@ HaveCells m lists = (i j : ℕ) → partner_of m i ≡ Some j → HasCellFor (li
 
 -- no cell that crosses has the key of a cell in the buffer that it comes to
 abbrev pub KeysAreNew : Partners → List (List Queued) → List (List Queued) → Type 0
-KeysAreNew m lists buffers = (i j : ℕ) (c : Queued) → partner_of m i ≡ Some j → first_for j (list_of lists i) ≡ Some c → HasOtherKey c (list_of buffers j)
+KeysAreNew m lists buffers =
+    (i j : ℕ) (c : Queued) → partner_of m i ≡ Some j → first_for j (list_of lists i) ≡ Some c →
+    HasOtherKey c (list_of buffers j)
 
 -- how many more cells the list of input i has room for
 abbrev pub list_spare : List Waiting → ℕ → ℕ
@@ -29,9 +31,10 @@ buffer_spare buffers j = slice_index_or (map (λ buffer. buffer.spare) buffers) 
 abbrev pub HaveRoom : Partners → List Buffered → Type 0
 HaveRoom m buffers = (i j : ℕ) → partner_of m i ≡ Some j → 0 < buffer_spare buffers j
 
--- each list that a cell leaves gets room for one, each buffer that a cell comes to loses room for one, and no other list
--- or buffer gets or loses any
-pub record MovesRoom (m : Partners) (lists : List Waiting) (buffers : List Buffered) (lists' : List Waiting) (buffers' : List Buffered) : Type 0 where
+-- each list that a cell leaves gets room for one, each buffer that a cell comes to loses room for one, and no other
+-- list or buffer gets or loses any
+pub record MovesRoom (m : Partners) (lists : List Waiting) (buffers : List Buffered) (lists' : List Waiting)
+    (buffers' : List Buffered) : Type 0 where
   pub gained : (i : ℕ) → list_spare lists' i ≡ list_spare lists i + (if is_some (partner_of m i) then 1 else 0)
   pub lost : (i j : ℕ) → partner_of m i ≡ Some j → buffer_spare buffers' j + 1 ≡ buffer_spare buffers j
   pub kept : (j : ℕ) → IsFreeOutput m j → buffer_spare buffers' j ≡ buffer_spare buffers j

@@ -8,7 +8,9 @@ departures-preserved c =
     let spare = so_far.spare in
     let less = c.push.ensures.spare in
     record {
-      items = one_packed c.args.sent.now c.departures.departure-index _ _ _ _ c.of.result c.departures-test.true so_far.items
+      items =
+          one_packed c.args.sent.now c.departures.departure-index _ _ _ _ c.of.result c.departures-test.true
+          so_far.items
           c.of.ensures c.push.ensures.items;
       spare = omega arith;
     }

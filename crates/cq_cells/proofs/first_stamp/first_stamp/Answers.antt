@@ -13,8 +13,11 @@ captures-preserved c =
     let ps = c.capture-item.result in
     let inside : i < length captures = omega arith in
     let here : c.earliest.result ≡ reduce min (map (λ (p : Captured). p.stamp) ps) =
-    c.earliest.ensures ∙ ap (λ (rows : List PacketRow). reduce min (map (λ (row : PacketRow). row.stamp) rows)) c.rows.ensures.rows ∙ ap (λ (ns : List ℕ). reduce min ns) (map-rows_from 24 ps) in
+    c.earliest.ensures
+    ∙ ap (λ (rows : List PacketRow). reduce min (map (λ (row : PacketRow). row.stamp) rows)) c.rows.ensures.rows
+    ∙ ap (λ (ns : List ℕ). reduce min ns) (map-rows_from 24 ps) in
     c.earlier-first.ensures
     ∙ ap (λ (o : Option ℕ). earlier o c.earliest.result) c.captures-2.invariant
-    ∙ ap (λ (o : Option ℕ). earlier (reduce min (stamps_of (take i captures))) o) (here ∙ ap (λ (qs : List Captured). reduce min (map (λ (p : Captured). p.stamp) qs)) c.capture-item.is)
+    ∙ ap (λ (o : Option ℕ). earlier (reduce min (stamps_of (take i captures))) o)
+    (here ∙ ap (λ (qs : List Captured). reduce min (map (λ (p : Captured). p.stamp) qs)) c.capture-item.is)
     ∙ sym (stamps_more captures i ps inside)

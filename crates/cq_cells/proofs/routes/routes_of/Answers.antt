@@ -16,19 +16,25 @@ pub collect-requires-clause-ready : goal.collect-requires-clause-ready
 collect-requires-clause-ready g c κs within =
     let ps = c.args.capture.now in
     let ends = c.into_par_iter.ensures in
-    let many : length c.rows-packets.result.now ≡ length ps = ap (λ (rows : List PacketRow). length rows) c.rows-packets.ensures.rows ∙ length-rows_from 24 ps in
-    let inside = nat_range-All (λ k. k < length ps) 0 (length c.rows-packets.result.now) (λ k low high. omega (arith, many, high)) in
-    rw (c.map.ensures.base, c.map.ensures.f, c.with_min_len.ensures.base, ends.0, ends.1) (λ k d lt. ((inside k d lt, c.requires), λ y p. tt))
+    let many : length c.rows-packets.result.now ≡ length ps =
+    ap (λ (rows : List PacketRow). length rows) c.rows-packets.ensures.rows ∙ length-rows_from 24 ps in
+    let inside =
+    nat_range-All (λ k. k < length ps) 0 (length c.rows-packets.result.now)
+    (λ k low high. omega (arith, many, high)) in
+    rw (c.map.ensures.base, c.map.ensures.f, c.with_min_len.ensures.base, ends.0, ends.1)
+    (λ k d lt. ((inside k d lt, c.requires), λ y p. tt))
 
 pub returns : goal.returns
 returns g c =
     let ps = c.args.capture.now in
     let ends = c.into_par_iter.ensures in
     let n = length c.rows-packets.result.now in
-    let many : length c.rows-packets.result.now ≡ length ps = ap (λ (rows : List PacketRow). length rows) c.rows-packets.ensures.rows ∙ length-rows_from 24 ps in
+    let many : length c.rows-packets.result.now ≡ length ps =
+    ap (λ (rows : List PacketRow). length rows) c.rows-packets.ensures.rows ∙ length-rows_from 24 ps in
     let whole : n - 0 ≡ length ps = omega arith in
     let way = λ (k : ℕ). route c.args.tables.now c.args.input (packet_in ps k).body in
     let given = c.in_ok-routes.ensures in
     let chain = rw (c.map.ensures.base, c.map.ensures.f, c.with_min_len.ensures.base) at given.1 in
     let places = chain.1 ∙ (λ i. nat_range (ends.0 i) (ends.1 i)) ∙ ap (range_with_len 0) whole in
-    given.2 ∙ AllZip-map way chain.0 given.0 chain.2 ∙ ap (map way) places ∙ map-packet_in (λ (p : Captured). route c.args.tables.now c.args.input p.body) ps
+    given.2 ∙ AllZip-map way chain.0 given.0 chain.2 ∙ ap (map way) places
+    ∙ map-packet_in (λ (p : Captured). route c.args.tables.now c.args.input p.body) ps

@@ -11,5 +11,7 @@ lines-preserved c =
     let line = c.line-item.result in
     let inside : i < length lines = omega arith in
     let more : end_of (all_of (take (i + 1) lines)) ≡ max (end_of (all_of (take i lines))) (end_of line) =
-    ap (λ (came : List Arrival). end_of came) (all_of_more lines i line inside ∙ ap (λ (came : List Arrival). all_of (take i lines) ++ came) (sym c.line-item.is)) ∙ end_of-append (all_of (take i lines)) line in
+    ap (λ (came : List Arrival). end_of came) (all_of_more lines i line inside
+    ∙ ap (λ (came : List Arrival). all_of (take i lines) ++ came) (sym c.line-item.is))
+    ∙ end_of-append (all_of (take i lines)) line in
     omega (arith, c.max-end.ensures, c.end.ensures, c.lines.invariant)

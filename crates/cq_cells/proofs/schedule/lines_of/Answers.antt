@@ -31,7 +31,8 @@ inputs-preserved g c =
     let ports = c.inputs.invariant.ports in
     record {
       lines =
-          pushed ∙ ap (λ (ls : List (List Arrival)). ls ++ line ∷ []) c.inputs.invariant.lines ∙ ap (λ (l : List Arrival). map f (range_with_len 0 input) ++ l ∷ []) is
+          pushed ∙ ap (λ (ls : List (List Arrival)). ls ++ line ∷ []) c.inputs.invariant.lines
+          ∙ ap (λ (l : List Arrival). map f (range_with_len 0 input) ++ l ∷ []) is
           ∙ sym (map-range_with_len_more f 0 input input (omega arith));
       filled = c.push_reserved.ensures.len ∙ ap (λ (n : ℕ). n + 1) c.inputs.invariant.filled;
       room = c.push_reserved.ensures.capacity ∙ c.inputs.invariant.room;
@@ -43,9 +44,11 @@ inputs-preserved g c =
       counts = λ j h.
           let added = c.in_ok-line.ensures.counts j (omega arith) in
           let had = c.inputs.invariant.counts j h in
-          let whole : number_of (is_to j) (all_of c.push_reserved.new.self.items) ≡ number_of (is_to j) (all_of lines) + number_of (is_to j) (f input) =
+          let whole : number_of (is_to j) (all_of c.push_reserved.new.self.items)
+          ≡ number_of (is_to j) (all_of lines) + number_of (is_to j) (f input) =
           ap (λ (ls : List (List Arrival)). number_of (is_to j) (all_of ls)) pushed
-          ∙ ap (λ (came : List Arrival). number_of (is_to j) came) (flat_map-append (λ (l : List Arrival). l) lines (line ∷ []) ∙ ap (λ (came : List Arrival). all_of lines ++ came) (append-nil line))
+          ∙ ap (λ (came : List Arrival). number_of (is_to j) came) (flat_map-append (λ (l : List Arrival). l) lines
+          (line ∷ []) ∙ ap (λ (came : List Arrival). all_of lines ++ came) (append-nil line))
           ∙ number-append j (all_of lines) line
           ∙ ap (λ (came : List Arrival). number_of (is_to j) (all_of lines) + number_of (is_to j) came) is in
           omega (arith, added, had, whole);

@@ -13,7 +13,10 @@ lines-preserved c =
     let line = c.line-item.result in
     let inside : i < length lines = omega arith in
     let more : all_of (take (i + 1) lines) ≡ all_of (take i lines) ++ line =
-    all_of_more lines i line inside ∙ ap (λ (came : List Arrival). all_of (take i lines) ++ came) (sym c.line-item.is) in
+    all_of_more lines i line inside
+    ∙ ap (λ (came : List Arrival). all_of (take i lines) ++ came) (sym c.line-item.is) in
     subst (λ (came : List Arrival). IsNextArrival came c.args.from c.earlier-next.result) (sym more)
-    (subst (λ (next : Option ℕ). IsNextArrival (all_of (take i lines) ++ line) c.args.from next) (sym c.earlier-next.ensures)
-    (next_of_both c.args.from (all_of (take i lines)) line c.lines.next c.next_arrival.result c.lines.invariant c.next_arrival.ensures))
+    (subst (λ (next : Option ℕ). IsNextArrival (all_of (take i lines) ++ line) c.args.from next)
+    (sym c.earlier-next.ensures)
+    (next_of_both c.args.from (all_of (take i lines)) line c.lines.next c.next_arrival.result c.lines.invariant
+    c.next_arrival.ensures))

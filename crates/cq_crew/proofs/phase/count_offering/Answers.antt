@@ -20,11 +20,15 @@ inputs-preserved c =
     let i = c.inputs.invariant in
     elim c.if-not-is_empty.branch [
       | then-not-is_empty w ↦
-          let more = ap length (offers-more o n (offers_if o n c.outputs_of.result.now c.is_empty.result c.outputs_of.ensures c.is_empty.ensures w.if-not-is_empty.true)) in
+          let more =
+          ap length (offers-more o n (offers_if o n c.outputs_of.result.now c.is_empty.result c.outputs_of.ensures
+          c.is_empty.ensures w.if-not-is_empty.true)) in
           let size = length-append (inputs_with_offers o n) (n ∷ []) in
           let is = w.count-is in omega arith
       | else-not-is_empty w ↦
-          let same = ap length (offers-same o n (no_offers_if o n c.outputs_of.result.now c.is_empty.result c.outputs_of.ensures c.is_empty.ensures w.if-not-is_empty.false)) in
+          let same =
+          ap length (offers-same o n (no_offers_if o n c.outputs_of.result.now c.is_empty.result
+          c.outputs_of.ensures c.is_empty.ensures w.if-not-is_empty.false)) in
           let is = w.count-is in omega arith
     ]
 

@@ -6,5 +6,6 @@ close-requires-clause-claimed g c = c.has_claimed_all.ensures.0 c.if-not-has_cla
 
 pub returns : goal.returns
 returns g c =
-    best-closed c.args.offers.now c.in-Ok.ledger c.work_all-seat.result c.close.result c.in-Ok.ensures.offers c.work_all-seat.ensures.idle.seat c.made-made.ensures.few
+    best-closed c.args.offers.now c.in-Ok.ledger c.work_all-seat.result c.close.result c.in-Ok.ensures.offers
+    c.work_all-seat.ensures.idle.seat c.made-made.ensures.few
     c.close.ensures.best c.close.ensures.proposals c.close.ensures.made

@@ -6,22 +6,31 @@ pub proposals-init : goal.proposals-init
 proposals-init g c = (c.requires.seat, proposes-same c.args.seat.now.view)
 
 pub propose-outcome-requires-clause-hand : goal.propose-outcome-requires-clause-hand
-propose-outcome-requires-clause-hand g c = hand-some c.proposals.seat.view.hand c.hand.result c.in-Some.input c.hand.ensures.input c.in-Some.is
+propose-outcome-requires-clause-hand g c =
+    hand-some c.proposals.seat.view.hand c.hand.result c.in-Some.input c.hand.ensures.input c.in-Some.is
 
 -- the seat is the worker's still
 pub proposed-requires-clause-worker : goal.proposed-requires-clause-worker
 proposed-requires-clause-worker g c =
     let some = hand-some c.proposals.seat.view.hand c.hand.result c.in-Some.input c.hand.ensures.input c.in-Some.is in
-    (proposes-next _ c.proposals.seat.view c.propose-outcome.new.seat.view c.propose-outcome.result c.proposals.invariant.1 some c.propose-outcome.ensures.proposed).began ∙ c.requires.began
+    (proposes-next _ c.proposals.seat.view c.propose-outcome.new.seat.view c.propose-outcome.result
+    c.proposals.invariant.1 some c.propose-outcome.ensures.proposed).began ∙ c.requires.began
 
 pub proposed-requires-clause-told : goal.proposed-requires-clause-told
 proposed-requires-clause-told g c =
-    c.propose-outcome.ensures.told ∙ hand-told c.proposals.seat.view.hand c.hand.result c.in-Some.input c.propose-outcome.result c.hand.ensures.input c.in-Some.is
+    c.propose-outcome.ensures.told
+    ∙ hand-told c.proposals.seat.view.hand c.hand.result c.in-Some.input c.propose-outcome.result
+    c.hand.ensures.input c.in-Some.is
 
 pub proposals-preserved : goal.proposals-preserved
 proposals-preserved g c =
-    let some = hand-some c.proposals.seat.view.hand c.hand.result c.in-Some.input c.hand.ensures.input c.in-Some.is in
-    (c.propose-outcome.ensures.seat, proposes-next _ c.proposals.seat.view c.propose-outcome.new.seat.view c.propose-outcome.result c.proposals.invariant.1 some c.propose-outcome.ensures.proposed)
+    let some = hand-some c.proposals.seat.view.hand c.hand.result c.in-Some.input c.hand.ensures.input c.in-Some.is in (
+      c.propose-outcome.ensures.seat,
+      proposes-next _ c.proposals.seat.view c.propose-outcome.new.seat.view c.propose-outcome.result
+          c.proposals.invariant.1 some c.propose-outcome.ensures.proposed,
+    )
 
 pub proposals-smaller : goal.proposals-smaller
-proposals-smaller g c = proposals-left c.args.ledger.now c.proposals.seat c.propose-outcome.new.seat c.propose-outcome.ensures.seat c.propose-outcome.ensures.made c.propose-outcome.ensures.few
+proposals-smaller g c =
+    proposals-left c.args.ledger.now c.proposals.seat c.propose-outcome.new.seat c.propose-outcome.ensures.seat
+    c.propose-outcome.ensures.made c.propose-outcome.ensures.few

@@ -11,5 +11,6 @@ returns g c =
     let above = c.claim_between.new.seat in
     worked l c.args.seat.view above c.claim_between-2.new.seat c.args.worker c.args.inputs c.requires.inputs
     (idle-after l c.args.seat.view own above c.claim_one.ensures.idle c.claim_between.ensures.idle)
-    (tried-first own.view above.view c.args.worker c.claim_between.ensures.idle.grows c.claim_one.ensures.tried c.args.inputs c.claim_between.ensures.tried)
+    (tried-first own.view above.view c.args.worker c.claim_between.ensures.idle.grows c.claim_one.ensures.tried
+    c.args.inputs c.claim_between.ensures.tried)
     c.claim_between-2.ensures.idle c.claim_between-2.ensures.tried

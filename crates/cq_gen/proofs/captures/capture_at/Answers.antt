@@ -11,16 +11,21 @@ capture_bytes-requires c =
 pub read_capture-requires : goal.read_capture-requires
 read_capture-requires c =
     let made = ap (map read_again) c.as_slice.ensures.value ∙ c.in_ok-packets.ensures in
-    file_small c.args.words.now c.args.ports c.args.slots c.args.input c.requires.slots c.as_slice.result.now made c.in_ok-bytes.bytes.items c.in_ok-bytes.ensures
+    file_small c.args.words.now c.args.ports c.args.slots c.args.input c.requires.slots c.as_slice.result.now made
+    c.in_ok-bytes.bytes.items c.in_ok-bytes.ensures
 
 pub unreachable-requires : goal.unreachable-requires
 unreachable-requires c =
     let made = ap (map read_again) c.as_slice.ensures.value ∙ c.in_ok-packets.ensures in
-    let read = file_read c.args.words.now c.args.ports c.args.slots c.args.input c.requires.slots c.as_slice.result.now made c.in_ok-bytes.bytes.items c.in_ok-bytes.ensures in
+    let read =
+    file_read c.args.words.now c.args.ports c.args.slots c.args.input c.requires.slots c.as_slice.result.now made
+    c.in_ok-bytes.bytes.items c.in_ok-bytes.ensures in
     c.in_default.not-NoMemory (only_memory c.in_ok-bytes.bytes.items _ c.in-Err.refusal read c.in-Err.ensures.unread)
 
 pub returns-in-Ok : goal.returns-in-Ok
 returns-in-Ok c =
     let made = ap (map read_again) c.as_slice.ensures.value ∙ c.in_ok-packets.ensures in
-    let read = file_read c.args.words.now c.args.ports c.args.slots c.args.input c.requires.slots c.as_slice.result.now made c.in_ok-bytes.bytes.items c.in_ok-bytes.ensures in
+    let read =
+    file_read c.args.words.now c.args.ports c.args.slots c.args.input c.requires.slots c.as_slice.result.now made
+    c.in_ok-bytes.bytes.items c.in_ok-bytes.ensures in
     same_packets c.in_ok-bytes.bytes.items c.in-Ok.capture _ read c.in-Ok.ensures.read

@@ -13,7 +13,8 @@ pub draws-preserved : goal.draws-preserved
 draws-preserved c =
     let pushed : c.push.new.self.items ≡ c.draws.words.items ++ c.next_word-word.result ∷ [] = search rules in
     let left : length c.draws.words.items < c.args.count = search rules in
-    rw pushed (draws_more c.args.seed c.args.count c.draws.words.items c.draws.generator _ c.next_word-word.result left c.next_word-word.ensures c.draws.invariant)
+    rw pushed (draws_more c.args.seed c.args.count c.draws.words.items c.draws.generator _ c.next_word-word.result
+    left c.next_word-word.ensures c.draws.invariant)
 
 pub returns-clause-words : goal.returns-clause-words
 returns-clause-words c =

@@ -14,6 +14,9 @@ pub slots-preserved : goal.slots-preserved
 unfolding packets_to
 slots-preserved c =
     let pushed : c.push.new.self.items ≡ c.slots.packets.items ++ c.in_ok-packet.packet ∷ [] = search rules in
-    counted_more (λ slot. packet_of c.args.ports slot c.args.input (draw_for c.args.words.now c.args.ports slot c.args.input)) c.slots.slot (map read_again c.slots.packets.items) (map read_again c.push.new.self.items) (read_again c.in_ok-packet.packet) c.slots.invariant
+    counted_more
+    (λ slot. packet_of c.args.ports slot c.args.input (draw_for c.args.words.now c.args.ports slot c.args.input))
+    c.slots.slot (map read_again c.slots.packets.items) (map read_again c.push.new.self.items)
+    (read_again c.in_ok-packet.packet) c.slots.invariant
     (ap (map read_again) pushed ∙ map-append read_again c.slots.packets.items (c.in_ok-packet.packet ∷ []))
     c.in_ok-packet.ensures

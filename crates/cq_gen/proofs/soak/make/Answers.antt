@@ -18,12 +18,15 @@ returns-clause-ports c = ap (λ (t : Tables). ports_of t.setup) c.in_ok-tables.e
 pub returns-clause-captures : goal.returns-clause-captures
 returns-clause-captures c =
     captures_made c.args.seed c.args.ports c.args.slots _
-    (captures_of_draws c.args.ports c.args.slots _ _ _ (c.as_slice.ensures.value ∙ c.in_ok-words.ensures.words) c.in_ok-captures.ensures)
+    (captures_of_draws c.args.ports c.args.slots _ _ _ (c.as_slice.ensures.value ∙ c.in_ok-words.ensures.words)
+    c.in_ok-captures.ensures)
 
 pub returns-clause-inputs : goal.returns-clause-inputs
 returns-clause-inputs c =
-    captures_count c.args.ports c.args.slots _ _ _ (c.as_slice.ensures.value ∙ c.in_ok-words.ensures.words) c.in_ok-captures.ensures
+    captures_count c.args.ports c.args.slots _ _ _ (c.as_slice.ensures.value ∙ c.in_ok-words.ensures.words)
+    c.in_ok-captures.ensures
 
 pub returns-clause-packets : goal.returns-clause-packets
 returns-clause-packets c =
-    captures_lengths c.args.ports c.args.slots _ _ _ (c.as_slice.ensures.value ∙ c.in_ok-words.ensures.words) c.in_ok-captures.ensures
+    captures_lengths c.args.ports c.args.slots _ _ _ (c.as_slice.ensures.value ∙ c.in_ok-words.ensures.words)
+    c.in_ok-captures.ensures

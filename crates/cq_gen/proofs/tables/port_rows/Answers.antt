@@ -7,4 +7,5 @@ use Rattle.cq_gen.proofs.tables.port_rows.Goals as goal
 pub ports-preserved : goal.ports-preserved
 ports-preserved c =
     let pushed : c.push.new.self.items ≡ c.ports.rows.items ++ soak_port ∷ [] = search rules in
-    pushed ∙ ap (λ (rows : List PortRow). rows ++ soak_port ∷ []) c.ports.invariant ∙ replicate-append-replicate c.ports.port 1 soak_port
+    pushed ∙ ap (λ (rows : List PortRow). rows ++ soak_port ∷ []) c.ports.invariant
+    ∙ replicate-append-replicate c.ports.port 1 soak_port

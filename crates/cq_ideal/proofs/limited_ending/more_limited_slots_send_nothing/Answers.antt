@@ -5,7 +5,8 @@ pub returns-clause-enough : goal.returns-clause-enough
 returns-clause-enough c = λ limits ms ports ranks came. limited_not_more limits ms ports ranks came
 
 pub returns-clause-fault : goal.returns-clause-fault
-returns-clause-fault c = λ limits ms ports n ranks came fault is. limited_whole_fault limits ms ports ranks came n fault is
+returns-clause-fault c =
+    λ limits ms ports n ranks came fault is. limited_whole_fault limits ms ports ranks came n fault is
 
 pub returns-clause-same : goal.returns-clause-same
 returns-clause-same c = λ limits ms ports ranks came. limited_same_sent limits ms ports ranks came

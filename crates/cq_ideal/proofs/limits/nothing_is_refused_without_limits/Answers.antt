@@ -10,4 +10,6 @@ pub returns-clause-no_arrivals : goal.returns-clause-no_arrivals
 returns-clause-no_arrivals c = no_arrivals_refuse_none
 
 pub returns-clause-run : goal.returns-clause-run
-returns-clause-run c = λ limits ms slot ports traffic state none. run_of_all limits ms (marks_down ports) slot traffic state (none_refused_in limits ms ports traffic none)
+returns-clause-run c =
+    λ limits ms slot ports traffic state none. run_of_all limits ms (marks_down ports) slot traffic state
+    (none_refused_in limits ms ports traffic none)

@@ -50,9 +50,15 @@ outputs-preserved g c =
     let test = c.outputs-test.true in
     let output = c.outputs.output in
     let gone = c.pop-gone.result in
-    let step : (sent : RoomView Departure) → sent.items ≡ c.outputs.sent.items ++ one_sent c.args.slot output gone → sent.spare + length (one_sent c.args.slot output gone) ≡ c.outputs.sent.spare → Sending g.R.Rank.machine c.args.slot c.args.ranks.now c.args.queues.now c.args.sent.now (output + 1) c.told.new.self c.pop-gone.new.self sent =
+    let step : (sent : RoomView Departure) → sent.items ≡ c.outputs.sent.items ++ one_sent c.args.slot output gone →
+    sent.spare + length (one_sent c.args.slot output gone) ≡ c.outputs.sent.spare →
+    Sending g.R.Rank.machine c.args.slot c.args.ranks.now c.args.queues.now c.args.sent.now (output + 1)
+    c.told.new.self c.pop-gone.new.self sent =
     λ sent items spare.
-    sending_next g.R.Rank.machine c.args.slot c.args.ranks.now c.args.queues.now c.args.sent.now output c.outputs.ranks c.outputs.queues c.outputs.sent gone c.told.new.self c.pop-gone.new.self sent inv (omega arith) (omega arith) c.pop-gone.ensures.first c.pop-gone.ensures.lists c.pop-gone.ensures.rooms c.told.ensures.fixed c.told.ensures.states items spare in
+    sending_next g.R.Rank.machine c.args.slot c.args.ranks.now c.args.queues.now c.args.sent.now output
+    c.outputs.ranks c.outputs.queues c.outputs.sent gone c.told.new.self c.pop-gone.new.self sent inv
+    (omega arith) (omega arith) c.pop-gone.ensures.first c.pop-gone.ensures.lists c.pop-gone.ensures.rooms
+    c.told.ensures.fixed c.told.ensures.states items spare in
     let was = c.outputs.invariant.kept in
     let keep : (sent : RoomView Departure) → Sending g.R.Rank.machine c.args.slot c.args.ranks.now c.args.queues.now
     c.args.sent.now (output + 1) c.told.new.self c.pop-gone.new.self sent →
@@ -101,4 +107,6 @@ pub returns-clause-fit : goal.returns-clause-fit
 returns-clause-fit g c =
     let inv = c.outputs.invariant.sending in
     let ms = map g.R.Rank.machine c.args.ranks.now.fixed in
-    fit_same g.R.Rank.machine c.args.ranks.now c.outputs.ranks c.args.queues.now c.outputs.queues c.requires.fit inv.fixed (ap length (returns-clause-states g c) ∙ length-told ms (fronts c.args.queues.now.lists) c.args.ranks.now.states) inv.long inv.rooms
+    fit_same g.R.Rank.machine c.args.ranks.now c.outputs.ranks c.args.queues.now c.outputs.queues c.requires.fit
+    inv.fixed (ap length (returns-clause-states g c)
+    ∙ length-told ms (fronts c.args.queues.now.lists) c.args.ranks.now.states) inv.long inv.rooms

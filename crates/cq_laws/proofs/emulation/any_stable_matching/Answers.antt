@@ -18,13 +18,19 @@ pub returns-clause-slot : goal.returns-clause-slot
 returns-clause-slot c = same_slot
 
 pub returns-clause-run : goal.returns-clause-run
-returns-clause-run c = λ ms slot class_count traffic f g ideal rs agrees come run. same_run ms class_count slot traffic f g ideal rs agrees come run
+returns-clause-run c =
+    λ ms slot class_count traffic f g ideal rs agrees come run. same_run ms class_count slot traffic f g ideal rs
+    agrees come run
 
 pub returns-clause-stop : goal.returns-clause-stop
-returns-clause-stop c = λ ms slot class_count traffic f ideal rs fault agrees come run. same_stop ms class_count slot traffic f ideal rs fault agrees come run
+returns-clause-stop c =
+    λ ms slot class_count traffic f ideal rs fault agrees come run. same_stop ms class_count slot traffic f ideal rs
+    fault agrees come run
 
 pub returns-clause-slack : goal.returns-clause-slack
-returns-clause-slack c = λ ms slot class_count traffic f g ideal rs agrees come run. run_slack ms class_count slot traffic f g ideal rs agrees come run
+returns-clause-slack c =
+    λ ms slot class_count traffic f g ideal rs agrees come run. run_slack ms class_count slot traffic f g ideal rs
+    agrees come run
 
 pub returns-clause-begin : goal.returns-clause-begin
 returns-clause-begin c = empty_agree

@@ -11,13 +11,19 @@ pub returns-clause-limited_runs : goal.returns-clause-limited_runs
 returns-clause-limited_runs c = best_act_alike_from_empty
 
 pub returns-clause-slot : goal.returns-clause-slot
-returns-clause-slot c = λ ms slot class_count cells f g ideal r agrees come step. same_slot ms slot class_count cells f g ideal r agrees come (stable_slot ms slot cells f g r step)
+returns-clause-slot c =
+    λ ms slot class_count cells f g ideal r agrees come step. same_slot ms slot class_count cells f g ideal r agrees
+    come (stable_slot ms slot cells f g r step)
 
 pub returns-clause-fault : goal.returns-clause-fault
 returns-clause-fault c = same_fault
 
 pub returns-clause-run : goal.returns-clause-run
-returns-clause-run c = λ ms ports class_count ranks traffic rs g come run. run_from_empty ports ranks ms class_count traffic rs g come (stable_run ms 0 traffic _ g rs run)
+returns-clause-run c =
+    λ ms ports class_count ranks traffic rs g come run. run_from_empty ports ranks ms class_count traffic rs g come
+    (stable_run ms 0 traffic _ g rs run)
 
 pub returns-clause-stop : goal.returns-clause-stop
-returns-clause-stop c = λ ms ports class_count ranks traffic rs fault come run. stop_from_empty ports ranks ms class_count traffic rs fault come (stable_stop ms 0 traffic _ rs fault run)
+returns-clause-stop c =
+    λ ms ports class_count ranks traffic rs fault come run. stop_from_empty ports ranks ms class_count traffic rs
+    fault come (stable_stop ms 0 traffic _ rs fault run)

@@ -4,10 +4,12 @@ use Rattle.cq_laws.proofs.Joined.{all_go_on, go_on}
 use Rattle.cq_laws.proofs.runs.runs_go_on.Goals as goal
 
 pub returns-clause-limited_input_best : goal.returns-clause-limited_input_best
-returns-clause-limited_input_best c = λ limits ms. all_go_on (LimitedFabricSlot IsInputBest limits ms) (IsLimitedFault limits ms)
+returns-clause-limited_input_best c =
+    λ limits ms. all_go_on (LimitedFabricSlot IsInputBest limits ms) (IsLimitedFault limits ms)
 
 pub returns-clause-limited_stable : goal.returns-clause-limited_stable
-returns-clause-limited_stable c = λ limits ms. all_go_on (LimitedFabricSlot IsStable limits ms) (IsLimitedFault limits ms)
+returns-clause-limited_stable c =
+    λ limits ms. all_go_on (LimitedFabricSlot IsStable limits ms) (IsLimitedFault limits ms)
 
 pub returns-clause-input_best : goal.returns-clause-input_best
 returns-clause-input_best c = go_on IsInputBest

@@ -13,10 +13,14 @@ returns c =
       proposal_free = λ o words views id i p v m h. proposal-free o words views m.rule id v m.sits i p h m.offers;
       proposal = λ o words views id i p v m h. proposal-shows o words views m.rule id v m.sits i p h m.offers;
       outcome = λ o words views id i p v m h. proposal-outcome o words views m.rule id v m.sits i p h m.offers;
-      claim_taken = λ o words views id i v m h r clear. taken-shows o words views m.rule id v m.sits i r clear h m.offers;
+      claim_taken =
+          λ o words views id i v m h r clear. taken-shows o words views m.rule id v m.sits i r clear h m.offers;
       claim_refused = λ o words views id i v m claimed. refused-shows o words views m.rule id v m.sits i claimed;
       split = λ o words views id v m.
-          let P : Orders → Type 0 = λ x. core_state o words (slice_set views id v ++ blank x ∷ []) ≡ core_state o words views in
+          let P : Orders → Type 0 =
+          λ x. core_state o words (slice_set views id v ++ blank x ∷ []) ≡ core_state o words views in
           subst P m.offers (split-shows o words views m.rule id v m.sits);
-      join = λ o words views id other v w m at apart h g. join-shows o words views m.rule id v m.sits other w apart at h g;
+      join =
+          λ o words views id other v w m at apart h g. join-shows o words views m.rule id v m.sits other w apart at h
+          g;
     }

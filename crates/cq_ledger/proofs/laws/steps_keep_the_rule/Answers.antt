@@ -14,10 +14,13 @@ returns c =
     record {
       start = start-keeps;
       proposal = λ o words views id i p v m h. proposal-keeps o words views m.rule id i p v m.sits h m.offers;
-      claim_taken = λ o words views id i v m h r clear. claim-keeps o words views m.rule id i v m.sits r clear h m.offers;
+      claim_taken =
+          λ o words views id i v m h r clear. claim-keeps o words views m.rule id i v m.sits r clear h m.offers;
       claim_refused = λ o words views id i v m claimed. refused-keeps o words views m.rule id v m.sits i claimed;
       split = λ o words views id v m.
           let P : Orders → Type 0 = λ x. IsLedger o words (slice_set views id v ++ blank x ∷ []) in
           subst P m.offers (split-keeps o words views m.rule id v m.sits);
-      join = λ o words views id other v w m at apart h g. join-keeps o words views m.rule id v m.sits other w apart at h g;
+      join =
+          λ o words views id other v w m at apart h g. join-keeps o words views m.rule id v m.sits other w apart at h
+          g;
     }

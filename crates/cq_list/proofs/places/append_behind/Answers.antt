@@ -33,5 +33,6 @@ returns-then-len-lt64-clause-filled c =
     let before = ap length (get_or_read c.args.blocks.now.items _ _ inside c.index.ensures []) in
     let read = ap length (get_or_read c.args.blocks.now.items _ _ inside c.index_mut-block.ensures.value []) in
     let len = c.len-len.ensures.len in
-    let longer = ap length c.insert.ensures ∙ length-insert c.index_mut-block.result.now _ c.args.output (omega arith) in
+    let longer =
+    ap length c.insert.ensures ∙ length-insert c.index_mut-block.result.now _ c.args.output (omega arith) in
     filled_longer c.args.blocks.now.items c.args.last _ c.requires.filled (omega arith)

@@ -15,5 +15,6 @@ overflow_sub-result-2 c =
 
 pub returns : goal.returns
 returns c =
-    ahead_without c.args.blocks.now _ c.index-blocks-block.result c.requires.inside c.index-blocks-block.is c.args.output
+    ahead_without c.args.blocks.now _ c.index-blocks-block.result c.requires.inside c.index-blocks-block.is
+    c.args.output
     _ _ _ _ c.requires.ahead c.len.ensures.len c.count.ensures

@@ -16,7 +16,8 @@ returns-in_err-row_of-clause-fault c =
     let front = take (length bytes - at) (drop at bytes) in
     let before = c.requires.before in
     let left : at < length bytes = omega (arith, c.if-at-bytes.false, before.1.within) in
-    let told : IfErr c.from_residual.result (λ refusal. option_map Err (fault_of refusal) ≡ Some (first_packet form at front)) =
+    let told : IfErr c.from_residual.result
+    (λ refusal. option_map Err (fault_of refusal) ≡ Some (first_packet form at front)) =
     search rules in
     err_map c.from_residual.result (λ refusal. option_map Err (fault_of refusal) ≡ Some (first_packet form at front))
     (IsFaultAt bytes (Some at))

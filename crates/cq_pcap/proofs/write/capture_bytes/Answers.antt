@@ -8,4 +8,5 @@ pub loop-packet-preserved : goal.loop-packet-preserved
 loop-packet-preserved c =
     c.in_ok-put_record.ensures
     ∙ ap (λ bytes. bytes ++ spelling false (written_record c.packet-item.result)) c.loop-packet.invariant
-    ∙ written-more c.args.packets.now c.loop-packet.packet-index c.packet-item.result c.loop-packet-test.true c.packet-item.is
+    ∙ written-more c.args.packets.now c.loop-packet.packet-index c.packet-item.result c.loop-packet-test.true
+    c.packet-item.is

@@ -7,5 +7,6 @@ pub returns : goal.returns
 unfolding input_line
 returns c =
     on_ok_weaker c.put_named-4.result
-    (λ last. four_words _ c.put_named.new.text.items c.put_named-2.new.text.items c.put_named-3.new.text.items _ _ _ _ _ c.in_ok-put_named.ensures c.in_ok-put_named-2.ensures c.in_ok-put_named-3.ensures last)
+    (λ last. four_words _ c.put_named.new.text.items c.put_named-2.new.text.items c.put_named-3.new.text.items _ _ _ _
+    _ c.in_ok-put_named.ensures c.in_ok-put_named-2.ensures c.in_ok-put_named-3.ensures last)
     c.put_named-4.ensures

@@ -7,5 +7,6 @@ pub returns : goal.returns
 unfolding limit_line
 returns c =
     on_ok_weaker c.put_named-3.result
-    (λ last. three_words _ c.put_named.new.text.items c.put_named-2.new.text.items _ _ _ _ c.in_ok-put_named.ensures c.in_ok-put_named-2.ensures last)
+    (λ last. three_words _ c.put_named.new.text.items c.put_named-2.new.text.items _ _ _ _ c.in_ok-put_named.ensures
+    c.in_ok-put_named-2.ensures last)
     c.put_named-3.ensures

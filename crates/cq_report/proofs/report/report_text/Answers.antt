@@ -12,5 +12,8 @@ returns c =
     ∙ ap (λ text. text ++ flat_map limit_line c.args.refused.now)
     (three_lines [] c.put_run.new.text.items c.put_inputs.new.text.items _ _ _ _
     (c.in_ok-put_run.ensures ∙ ap (λ text. text ++ run_lines figures) c.in_ok-text.ensures.items)
-    (c.in_ok-put_inputs.ensures ∙ ap (λ xs. c.put_run.new.text.items ++ numbered_lines input_line 0 xs) c.as_slice-inputs.ensures)
-    (c.in_ok-put_outputs.ensures ∙ ap (λ xs. c.put_inputs.new.text.items ++ numbered_lines (output_line figures.slots) 0 xs) c.as_slice-outputs.ensures))
+    (c.in_ok-put_inputs.ensures
+    ∙ ap (λ xs. c.put_run.new.text.items ++ numbered_lines input_line 0 xs) c.as_slice-inputs.ensures)
+    (c.in_ok-put_outputs.ensures
+    ∙ ap (λ xs. c.put_inputs.new.text.items ++ numbered_lines (output_line figures.slots) 0 xs)
+    c.as_slice-outputs.ensures))

@@ -6,7 +6,11 @@ pub returns-in_err-extend_from_slice-in-Some-clause-err :
     goal.returns-in_err-extend_from_slice-in-Some-clause-err
 returns-in_err-extend_from_slice-in-Some-clause-err c =
     let is_err = err_from_is_err_and c.from_residual.result c.from_residual.ensures.1 in
-    rw (is_err.1) (unlengthened c.args.entries.now c.args.at c.index-entries-at.result c.in-Some.bytes c.extend_from_slice.new.self c.requires.there c.in-Some.is c.in_err-extend_from_slice-in-Some.ensures.items)
+    rw (is_err.1) (unlengthened c.args.entries.now c.args.at c.index-entries-at.result c.in-Some.bytes
+    c.extend_from_slice.new.self c.requires.there c.in-Some.is
+    c.in_err-extend_from_slice-in-Some.ensures.items)
 
 pub returns-clause-ok : goal.returns-clause-ok
-returns-clause-ok c = lengthened c.args.entries.now c.args.at c.index-entries-at.result c.in-Some.bytes c.extend_from_slice.new.self c.args.piece.now c.requires.there c.in-Some.is c.in_ok-extend_from_slice-in-Some.ensures.items
+returns-clause-ok c =
+    lengthened c.args.entries.now c.args.at c.index-entries-at.result c.in-Some.bytes c.extend_from_slice.new.self
+    c.args.piece.now c.requires.there c.in-Some.is c.in_ok-extend_from_slice-in-Some.ensures.items

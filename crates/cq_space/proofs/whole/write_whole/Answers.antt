@@ -9,9 +9,14 @@ loop-written-preserved g c =
     let before = g.F.Files.space c.loop-written.files in
     let now = g.F.Files.space c.write.new.self in
     record {
-      told = replaced_on start.told before.told now.told before.mode c.args.name.now c.args.bytes.now c.loop-written.written c.in-Ok.count c.loop-written.invariant.mode c.loop-written.invariant.told c.in-Ok.ensures.ok.told;
+      told =
+          replaced_on start.told before.told now.told before.mode c.args.name.now c.args.bytes.now
+          c.loop-written.written c.in-Ok.count c.loop-written.invariant.mode c.loop-written.invariant.told
+          c.in-Ok.ensures.ok.told;
       mode = c.in-Ok.ensures.ok.mode ∙ c.loop-written.invariant.mode;
-      within = length-rest c.args.bytes.now c.loop-written.written c.in-Ok.count c.loop-written.invariant.within c.in-Ok.ensures.ok.within;
+      within =
+          length-rest c.args.bytes.now c.loop-written.written c.in-Ok.count c.loop-written.invariant.within
+          c.in-Ok.ensures.ok.within;
       uncounted = c.in-Ok.ensures.cause.uncounted ∙ c.loop-written.invariant.uncounted;
       kept = g.met.F.Files.lasts.both _ _ _ c.loop-written.invariant.kept c.write.ensures.kept;
     }

@@ -7,9 +7,13 @@ use Rattle.cq_tables.proofs.addresses.address_in.Goals as goal
 pub returns-clause-held : goal.returns-clause-held
 returns-clause-held c =
     let found = c.in_ok-entries.ensures in
-    element_holds c.address_row.result Addresses (address_keys c.args.ports c.args.known.now.keys) c.args.index (view c.args.value.now) c.in_ok-entries.entries.place (table_view c.in_ok-entries.entries.table.now) found.held found.place found.table c.address_row.ensures.held
+    element_holds c.address_row.result Addresses (address_keys c.args.ports c.args.known.now.keys) c.args.index
+    (view c.args.value.now) c.in_ok-entries.entries.place (table_view c.in_ok-entries.entries.table.now)
+    found.held found.place found.table c.address_row.ensures.held
 
 pub returns-clause-refused : goal.returns-clause-refused
 returns-clause-refused c =
     let found = c.in_ok-entries.ensures in
-    element_refuses c.address_row.result Addresses (address_keys c.args.ports c.args.known.now.keys) c.args.index (view c.args.value.now) c.in_ok-entries.entries.place (table_view c.in_ok-entries.entries.table.now) found.held found.place found.table c.address_row.ensures.refused
+    element_refuses c.address_row.result Addresses (address_keys c.args.ports c.args.known.now.keys) c.args.index
+    (view c.args.value.now) c.in_ok-entries.entries.place (table_view c.in_ok-entries.entries.table.now)
+    found.held found.place found.table c.address_row.ensures.refused

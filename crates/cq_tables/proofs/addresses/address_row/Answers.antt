@@ -11,7 +11,10 @@ pub returns-in_err-mac-clause-refused : goal.returns-in_err-mac-clause-refused
 returns-in_err-mac-clause-refused c = later _ _ _ c.in_ok-only.ensures.held (here _ _ _ (search rules))
 
 pub returns-in_err-output-clause-refused : goal.returns-in_err-output-clause-refused
-returns-in_err-output-clause-refused c = later _ _ _ c.in_ok-only.ensures.held (later _ _ _ c.in_ok-mac.ensures.held (here _ _ _ (search rules)))
+returns-in_err-output-clause-refused c =
+    later _ _ _ c.in_ok-only.ensures.held (later _ _ _ c.in_ok-mac.ensures.held (here _ _ _ (search rules)))
 
 pub returns-clause-held : goal.returns-clause-held
-returns-clause-held c = first_all _ _ c.in_ok-only.ensures.held (first_all _ _ c.in_ok-mac.ensures.held (first_all _ _ c.in_ok-output.ensures.held first_none))
+returns-clause-held c =
+    first_all _ _ c.in_ok-only.ensures.held (first_all _ _ c.in_ok-mac.ensures.held
+    (first_all _ _ c.in_ok-output.ensures.held first_none))

@@ -16,7 +16,9 @@ pub returns-in_err-row-clause-refused : goal.returns-in_err-row-clause-refused
 returns-in_err-row-clause-refused c =
     let small : c.addresses.index < length c.args.values.now = omega arith in
     let v = c.index-values-index.result in
-    let told : IfErr c.from_residual.result (Refuses (element_check Addresses (λ _. address_keys c.args.ports c.addresses.known.keys) c.addresses.index (view v))) = search rules in
+    let told : IfErr c.from_residual.result (Refuses (element_check Addresses
+    (λ _. address_keys c.args.ports c.addresses.known.keys) c.addresses.index (view v))) =
+    search rules in
     apart_stop c.from_residual.result _ _ _ _ _ v small c.index-values-index.is told c.addresses.invariant
 
 pub addresses-preserved : goal.addresses-preserved
@@ -24,7 +26,8 @@ addresses-preserved c =
     let small : c.addresses.index < length c.args.values.now = omega arith in
     let pushed : c.push.new.self.items ≡ c.addresses.rows.items ++ c.in_ok-row.row ∷ [] = search rules in
     let told = c.in_ok-row.ensures in
-    rw pushed (apart_more _ _ _ _ _ _ c.index-values-index.result c.in_ok-row.row small c.index-values-index.is told.held told.value told.output told.fresh told.known c.addresses.invariant)
+    rw pushed (apart_more _ _ _ _ _ _ c.index-values-index.result c.in_ok-row.row small c.index-values-index.is
+    told.held told.value told.output told.fresh told.known c.addresses.invariant)
 
 pub returns-clause-held : goal.returns-clause-held
 returns-clause-held c =

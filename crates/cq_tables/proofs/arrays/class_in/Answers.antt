@@ -7,9 +7,13 @@ use Rattle.cq_tables.proofs.arrays.class_in.Goals as goal
 pub returns-clause-held : goal.returns-clause-held
 returns-clause-held c =
     let found = c.in_ok-entries.ensures in
-    element_holds c.class_row.result Classes (class_keys c.args.version) c.args.index (view c.args.value.now) c.in_ok-entries.entries.place (table_view c.in_ok-entries.entries.table.now) found.held found.place found.table c.class_row.ensures.held
+    element_holds c.class_row.result Classes (class_keys c.args.version) c.args.index (view c.args.value.now)
+    c.in_ok-entries.entries.place (table_view c.in_ok-entries.entries.table.now) found.held found.place
+    found.table c.class_row.ensures.held
 
 pub returns-clause-refused : goal.returns-clause-refused
 returns-clause-refused c =
     let found = c.in_ok-entries.ensures in
-    element_refuses c.class_row.result Classes (class_keys c.args.version) c.args.index (view c.args.value.now) c.in_ok-entries.entries.place (table_view c.in_ok-entries.entries.table.now) found.held found.place found.table c.class_row.ensures.refused
+    element_refuses c.class_row.result Classes (class_keys c.args.version) c.args.index (view c.args.value.now)
+    c.in_ok-entries.entries.place (table_view c.in_ok-entries.entries.table.now) found.held found.place
+    found.table c.class_row.ensures.refused

@@ -10,7 +10,9 @@ pub returns-in_err-row-clause-refused : goal.returns-in_err-row-clause-refused
 returns-in_err-row-clause-refused c =
     let small : c.classes.index < length c.args.values.now = omega arith in
     let v = c.index-values-index.result in
-    let told : IfErr c.from_residual.result (Refuses (element_check Classes (λ _. class_keys c.args.version) c.classes.index (view v))) = search rules in
+    let told : IfErr c.from_residual.result
+    (Refuses (element_check Classes (λ _. class_keys c.args.version) c.classes.index (view v))) =
+    search rules in
     walked_stop c.from_residual.result _ _ _ _ _ _ v small c.index-values-index.is told c.classes.invariant
 
 pub classes-preserved : goal.classes-preserved
@@ -18,7 +20,8 @@ classes-preserved c =
     let small : c.classes.index < length c.args.values.now = omega arith in
     let pushed : c.push.new.self.items ≡ c.classes.rows.items ++ c.in_ok-row.row ∷ [] = search rules in
     let told = c.in_ok-row.ensures in
-    rw pushed (walked_more _ _ _ _ _ _ c.index-values-index.result c.in_ok-row.row small c.index-values-index.is told.held told.value (told.level, told.cost) c.classes.invariant)
+    rw pushed (walked_more _ _ _ _ _ _ c.index-values-index.result c.in_ok-row.row small c.index-values-index.is
+    told.held told.value (told.level, told.cost) c.classes.invariant)
 
 pub returns-clause-held : goal.returns-clause-held
 returns-clause-held c =

@@ -7,9 +7,13 @@ use Rattle.cq_tables.proofs.arrays.port_in.Goals as goal
 pub returns-clause-held : goal.returns-clause-held
 returns-clause-held c =
     let found = c.in_ok-entries.ensures in
-    element_holds c.port_entry.result Ports port_keys c.args.index (view c.args.value.now) c.in_ok-entries.entries.place (table_view c.in_ok-entries.entries.table.now) found.held found.place found.table c.port_entry.ensures.held
+    element_holds c.port_entry.result Ports port_keys c.args.index (view c.args.value.now)
+    c.in_ok-entries.entries.place (table_view c.in_ok-entries.entries.table.now) found.held found.place
+    found.table c.port_entry.ensures.held
 
 pub returns-clause-refused : goal.returns-clause-refused
 returns-clause-refused c =
     let found = c.in_ok-entries.ensures in
-    element_refuses c.port_entry.result Ports port_keys c.args.index (view c.args.value.now) c.in_ok-entries.entries.place (table_view c.in_ok-entries.entries.table.now) found.held found.place found.table c.port_entry.ensures.refused
+    element_refuses c.port_entry.result Ports port_keys c.args.index (view c.args.value.now)
+    c.in_ok-entries.entries.place (table_view c.in_ok-entries.entries.table.now) found.held found.place
+    found.table c.port_entry.ensures.refused

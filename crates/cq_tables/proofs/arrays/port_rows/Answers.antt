@@ -10,7 +10,8 @@ pub returns-in_err-port-clause-refused : goal.returns-in_err-port-clause-refused
 returns-in_err-port-clause-refused c =
     let small : c.ports.index < length c.args.values.now = omega arith in
     let v = c.index-values-index.result in
-    let told : IfErr c.from_residual.result (Refuses (element_check Ports (λ _. port_keys) c.ports.index (view v))) = search rules in
+    let told : IfErr c.from_residual.result (Refuses (element_check Ports (λ _. port_keys) c.ports.index (view v))) =
+    search rules in
     walked_stop c.from_residual.result _ _ _ _ _ _ v small c.index-values-index.is told c.ports.invariant.0
 
 pub ports-preserved : goal.ports-preserved
@@ -21,10 +22,13 @@ ports-preserved c =
     let limits : c.push.new.self.items ≡ c.ports.limits.items ++ c.in_ok-port.port.limit ∷ [] = search rules in
     let told = c.in_ok-port.ensures in
     let v = c.index-values-index.result in (
-      rw files (walked_more _ _ _ _ _ _ v c.in_ok-port.port.files small c.index-values-index.is told.held told.files tt c.ports.invariant.0),
+      rw files (walked_more _ _ _ _ _ _ v c.in_ok-port.port.files small c.index-values-index.is told.held told.files
+          tt c.ports.invariant.0),
       (
-        rw kinds (walked_more _ _ _ _ _ _ v c.in_ok-port.port.kind small c.index-values-index.is told.held told.kind tt c.ports.invariant.1.0),
-        rw limits (walked_more _ _ _ _ _ _ v c.in_ok-port.port.limit small c.index-values-index.is told.held told.limit told.range c.ports.invariant.1.1),
+        rw kinds (walked_more _ _ _ _ _ _ v c.in_ok-port.port.kind small c.index-values-index.is told.held told.kind
+            tt c.ports.invariant.1.0),
+        rw limits (walked_more _ _ _ _ _ _ v c.in_ok-port.port.limit small c.index-values-index.is told.held
+            told.limit told.range c.ports.invariant.1.1),
       ),
     )
 

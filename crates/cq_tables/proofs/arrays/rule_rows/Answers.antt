@@ -10,7 +10,9 @@ pub returns-in_err-row-clause-refused : goal.returns-in_err-row-clause-refused
 returns-in_err-row-clause-refused c =
     let small : c.rules.index < length c.args.values.now = omega arith in
     let v = c.index-values-index.result in
-    let told : IfErr c.from_residual.result (Refuses (element_check Rules (λ _. rule_keys c.args.ports c.args.classes) c.rules.index (view v))) = search rules in
+    let told : IfErr c.from_residual.result
+    (Refuses (element_check Rules (λ _. rule_keys c.args.ports c.args.classes) c.rules.index (view v))) =
+    search rules in
     walked_stop c.from_residual.result _ _ _ _ _ _ v small c.index-values-index.is told c.rules.invariant
 
 pub rules-preserved : goal.rules-preserved
@@ -18,7 +20,8 @@ rules-preserved c =
     let small : c.rules.index < length c.args.values.now = omega arith in
     let pushed : c.push.new.self.items ≡ c.rules.rows.items ++ c.in_ok-row.row ∷ [] = search rules in
     let told = c.in_ok-row.ensures in
-    rw pushed (walked_more _ _ _ _ _ _ c.index-values-index.result c.in_ok-row.row small c.index-values-index.is told.held told.value (told.input, told.class) c.rules.invariant)
+    rw pushed (walked_more _ _ _ _ _ _ c.index-values-index.result c.in_ok-row.row small c.index-values-index.is
+    told.held told.value (told.input, told.class) c.rules.invariant)
 
 pub returns-clause-held : goal.returns-clause-held
 returns-clause-held c =

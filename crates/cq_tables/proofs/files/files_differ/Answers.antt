@@ -20,17 +20,22 @@ pub returns-in_err-port_files-clause-refused : goal.returns-in_err-port_files-cl
 returns-in_err-port_files-clause-refused c =
     let rows = c.as_slice-row-items.ensures in
     let small : c.ports.index < length c.args.tables.now.ports = rw (← rows) c.ports-test.true in
-    let is : c.row-item.result ≡ get_or c.args.tables.now.ports c.ports.index c.row-item.result = rw (← rows) c.row-item.is in
+    let is : c.row-item.result ≡ get_or c.args.tables.now.ports c.ports.index c.row-item.result =
+    rw (← rows) c.row-item.is in
     let told = c.in_err-port_files.ensures {u = tt} in
-    let raw : IfErr c.from_residual.result (Refuses (first (apart_from (files_before c.args.tables.now c.ports.index) (names_of c.ports.index c.row-item.result)))) = search (rules, told.refused) in
+    let raw : IfErr c.from_residual.result (Refuses (first (apart_from (files_before c.args.tables.now c.ports.index)
+    (names_of c.ports.index c.row-item.result)))) =
+    search (rules, told.refused) in
     apart_stops c.from_residual.result c.args.tables.now c.ports.index c.row-item.result small is raw c.ports.invariant
 
 pub ports-preserved : goal.ports-preserved
 ports-preserved c =
     let rows = c.as_slice-row-items.ensures in
     let small : c.ports.index < length c.args.tables.now.ports = rw (← rows) c.ports-test.true in
-    let is : c.row-item.result ≡ get_or c.args.tables.now.ports c.ports.index c.row-item.result = rw (← rows) c.row-item.is in
-    apart_next c.args.tables.now c.ports.index c.row-item.result small is c.in_ok-port_files.ensures.held c.ports.invariant
+    let is : c.row-item.result ≡ get_or c.args.tables.now.ports c.ports.index c.row-item.result =
+    rw (← rows) c.row-item.is in
+    apart_next c.args.tables.now c.ports.index c.row-item.result small is c.in_ok-port_files.ensures.held
+    c.ports.invariant
 
 pub returns-clause-held : goal.returns-clause-held
 returns-clause-held c =

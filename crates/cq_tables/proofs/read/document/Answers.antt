@@ -7,5 +7,8 @@ returns-in-Ok-clause-held c = document_some c.args.bytes.now _ c.in-Ok.ensures.o
 
 pub returns-else-is_memory-clause-refused : goal.returns-else-is_memory-clause-refused
 returns-else-is_memory-clause-refused c =
-    let none = document_none c.args.bytes.now (c.in-Err.ensures.refused (λ m. let e : false ≡ true = sym c.if-is_memory.false ∙ c.is_memory.ensures.1 m in cc)) in
+    let none =
+    document_none c.args.bytes.now (c.in-Err.ensures.refused (λ m. let e : false
+    ≡ true = sym c.if-is_memory.false ∙ c.is_memory.ensures.1 m in
+    cc)) in
     rw none c.refusal.ensures

@@ -15,13 +15,19 @@ loop-digit-preserved c =
     let below : c.from.result < 10 = grind (arith, nat_tests) in
     record {
       digits = sym (at_drop_more (list_all is_ascii_digit) c.args.text.now c.loop-digit.digit-index 0 at
-          ∙ ap (λ (b : Bool). b && list_all is_ascii_digit (drop (c.loop-digit.digit-index + 1) c.args.text.now)) is_digit)
+          ∙ ap (λ (b : Bool). b && list_all is_ascii_digit (drop (c.loop-digit.digit-index + 1) c.args.text.now))
+          is_digit)
           ∙ c.loop-digit.invariant.digits;
-      value = rw digit (sym (one_digit_more c.loop-digit.value c.args.text.now c.loop-digit.digit-index at) ∙ c.loop-digit.invariant.value);
-      small = below_more_digits c.loop-digit.digit-index c.loop-digit.value c.from.result c.loop-digit.invariant.small below;
+      value =
+          rw digit (sym (one_digit_more c.loop-digit.value c.args.text.now c.loop-digit.digit-index at)
+          ∙ c.loop-digit.invariant.value);
+      small =
+          below_more_digits c.loop-digit.digit-index c.loop-digit.value c.from.result c.loop-digit.invariant.small
+          below;
     }
 
-numeral_is : (text : List ℕ) (v : ℕ) → 1 ≤ length text → length text ≤ 20 → list_all is_ascii_digit text ≡ true → v ≡ value_of text
+numeral_is : (text : List ℕ) (v : ℕ) → 1 ≤ length text → length text ≤ 20 → list_all is_ascii_digit text ≡ true →
+    v ≡ value_of text
     → Some v ≡ (if is_numeral text then Some (value_of text) else None)
 numeral_is text v least most digits is = rw (digits, is) (grind (arith, nat_tests))
 
@@ -29,7 +35,8 @@ pub returns : goal.returns
 returns c =
     let end : length c.args.text.now ≤ c.loop-digit.digit-index = omega arith in
     let digits : list_all is_ascii_digit c.args.text.now ≡ true =
-    sym c.loop-digit.invariant.digits ∙ at_drop_all (list_all is_ascii_digit) c.args.text.now c.loop-digit.digit-index end in
+    sym c.loop-digit.invariant.digits
+    ∙ at_drop_all (list_all is_ascii_digit) c.args.text.now c.loop-digit.digit-index end in
     let least : 1 ≤ length c.args.text.now = search rules in
     let most : length c.args.text.now ≤ 20 = omega arith in
     numeral_is c.args.text.now c.loop-digit.value least most digits

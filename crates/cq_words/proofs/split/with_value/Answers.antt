@@ -8,5 +8,8 @@ pub returns : goal.returns
 returns c =
     let rule : rule_of c.required-value.result ≡ value_rule c.args.name.now = search rules in
     IfOk-weaker c.arg.result _ _
-    (λ r h. (h.shape (search rules) ∙ ap (with_rule (app_of c.args.form)) rule, h.globals ∙ ap₂ ◌||◌ c.requires (search rules)))
+    (λ r h. (
+      h.shape (search rules) ∙ ap (with_rule (app_of c.args.form)) rule,
+      h.globals ∙ ap₂ ◌||◌ c.requires (search rules),
+    ))
     c.arg.ensures

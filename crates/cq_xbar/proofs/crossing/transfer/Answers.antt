@@ -37,8 +37,11 @@ put-requires-clause-spare c =
     let pairs = c.partner_of.ensures.pairs in
     let there = pairs.ports c.loop-input.input c.in-Some.output p in
     let size = c.requires.buffers in
-    let buffer = next_buffer _ _ _ _ _ _ c.loop-input.invariant.crossed c.in-Some.output c.index-buffers-output.result (omega arith) pairs p in
-    subst (λ (b : Buffered). 0 < b.spare) (sym buffer) (room_there c.args.matching.now c.args.buffers.now c.loop-input.input c.in-Some.output c.requires.room p)
+    let buffer =
+    next_buffer _ _ _ _ _ _ c.loop-input.invariant.crossed c.in-Some.output c.index-buffers-output.result
+    (omega arith) pairs p in
+    subst (λ (b : Buffered). 0 < b.spare) (sym buffer) (room_there c.args.matching.now c.args.buffers.now
+    c.loop-input.input c.in-Some.output c.requires.room p)
 
 pub put-requires-clause-other_key : goal.put-requires-clause-other_key
 put-requires-clause-other_key c =
@@ -50,10 +53,15 @@ put-requires-clause-other_key c =
     let inside = c.loop-input-test.true in
     let sizes = c.loop-input.invariant.crossed.sizes in
     let list = next_list _ _ _ _ _ _ c.loop-input.invariant.crossed c.index-lists-input.result (omega arith) in
-    let buffer = next_buffer _ _ _ _ _ _ c.loop-input.invariant.crossed c.in-Some.output c.index-buffers-output.result (omega arith) pairs p in
-    let found = ap (λ (w : Waiting). first_for c.in-Some.output w.cells) (sym list) ∙ sym c.take.ensures.first ∙ c.unwrap-queued.ensures in
+    let buffer =
+    next_buffer _ _ _ _ _ _ c.loop-input.invariant.crossed c.in-Some.output c.index-buffers-output.result
+    (omega arith) pairs p in
+    let found =
+    ap (λ (w : Waiting). first_for c.in-Some.output w.cells) (sym list) ∙ sym c.take.ensures.first
+    ∙ c.unwrap-queued.ensures in
     subst (λ (b : Buffered). HasOtherKey c.unwrap-queued.result b.cells) (sym buffer)
-    (key_is_new c.args.matching.now c.args.lists.now c.args.buffers.now c.loop-input.input c.in-Some.output c.unwrap-queued.result c.requires.keys p found)
+    (key_is_new c.args.matching.now c.args.lists.now c.args.buffers.now c.loop-input.input c.in-Some.output
+    c.unwrap-queued.result c.requires.keys p found)
 
 pub push-requires : goal.push-requires
 push-requires c =
@@ -84,22 +92,41 @@ loop-input-preserved c =
           let sizes = inv.crossed.sizes in
           let list = next_list _ _ _ _ _ _ inv.crossed w.index-lists-input.result (omega arith) in
           let buffer = next_buffer _ _ _ _ _ _ inv.crossed j w.index-buffers-output.result (omega arith) pairs p in
-          let found = ap (λ (l : Waiting). first_for j l.cells) (sym list) ∙ sym w.take.ensures.first ∙ w.unwrap-queued.ensures in
-          let left = left_by j (list_at lists n) w.take.new.self w.take.result q w.unwrap-queued.ensures (w.take.ensures.cells ∙ ap (λ (l : Waiting). without_first j l.cells) list) (w.take.ensures.outputs ∙ ap (λ (l : Waiting). l.outputs) list) (w.take.ensures.spare ∙ ap (λ (l : Waiting). l.spare + cond (is_some w.take.result) 1 0) list) in
-          let filled = with_by q (buffer_at c.args.buffers.now j) w.put.new.self (w.put.ensures.cells ∙ ap (λ (b : Buffered). put q b.cells) buffer) (w.put.ensures.spare ∙ ap (λ (b : Buffered). b.spare) buffer) in
-          let one = noted_one m (cells_of lists) c.args.slot c.args.phase n j q p (ap (first_for j) (cells-at lists n) ∙ found) in
+          let found =
+          ap (λ (l : Waiting). first_for j l.cells) (sym list) ∙ sym w.take.ensures.first
+          ∙ w.unwrap-queued.ensures in
+          let left =
+          left_by j (list_at lists n) w.take.new.self w.take.result q w.unwrap-queued.ensures
+          (w.take.ensures.cells ∙ ap (λ (l : Waiting). without_first j l.cells) list)
+          (w.take.ensures.outputs ∙ ap (λ (l : Waiting). l.outputs) list)
+          (w.take.ensures.spare ∙ ap (λ (l : Waiting). l.spare + cond (is_some w.take.result) 1 0) list) in
+          let filled =
+          with_by q (buffer_at c.args.buffers.now j) w.put.new.self
+          (w.put.ensures.cells ∙ ap (λ (b : Buffered). put q b.cells) buffer)
+          (w.put.ensures.spare ∙ ap (λ (b : Buffered). b.spare) buffer) in
+          let one =
+          noted_one m (cells_of lists) c.args.slot c.args.phase n j q p
+          (ap (first_for j) (cells-at lists n) ∙ found) in
           let one_long = ap length one in
           let until = noted_until m (cells_of lists) c.args.slot c.args.phase n in
-          let t : Transfer = record { slot = c.args.slot; phase = c.args.phase; input = n; output = j; id = q.cell.id } in
+          let t : Transfer =
+          record { slot = c.args.slot; phase = c.args.phase; input = n; output = j; id = q.cell.id } in
           let room = inv.room in
           let pushed = w.push.ensures.spare in
           rw (w.lists-is, w.buffers-is, w.note-is) (record {
-            crossed = crossed_one _ _ _ _ _ _ inv.crossed j q w.take.new.self w.put.new.self pairs p found (omega arith) (omega arith) left filled;
-            noted = w.push.ensures.items ∙ ap (λ l. l ++ t ∷ []) inv.noted ∙ append_assoc c.args.note.now.items until (t ∷ []) ∙ ap (λ l. c.args.note.now.items ++ l) (sym one);
+            crossed =
+                crossed_one _ _ _ _ _ _ inv.crossed j q w.take.new.self w.put.new.self pairs p found (omega arith)
+                (omega arith) left filled;
+            noted =
+                w.push.ensures.items ∙ ap (λ l. l ++ t ∷ []) inv.noted
+                ∙ append_assoc c.args.note.now.items until (t ∷ [])
+                ∙ ap (λ l. c.args.note.now.items ++ l) (sym one);
             room = omega (arith, length-append until (t ∷ []));
           })
       | in_default w ↦
-          let past = noted_past m (cells_of lists) c.args.slot c.args.phase n (sym c.partner_of.ensures.partner ∙ w.in_default.is) in
+          let past =
+          noted_past m (cells_of lists) c.args.slot c.args.phase n
+          (sym c.partner_of.ensures.partner ∙ w.in_default.is) in
           let room = inv.room in
           rw (w.lists-is, w.buffers-is, w.note-is) (record {
             crossed = crossed_past _ _ _ _ _ _ inv.crossed (sym c.partner_of.ensures.partner ∙ w.in_default.is);

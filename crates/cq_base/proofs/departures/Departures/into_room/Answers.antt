@@ -14,7 +14,9 @@ departures-init c =
     ∙ length-map lent unpacked in
     let room = c.in_ok-room.ensures.spare in
     record {
-      items = ap (λ (ds : List Departure). ds ++ map unpacked left) c.in_ok-room.ensures.items ∙ c.into_supply-left.ensures;
+      items =
+          ap (λ (ds : List Departure). ds ++ map unpacked left) c.in_ok-room.ensures.items
+          ∙ c.into_supply-left.ensures;
       spare = omega arith;
     }
 
@@ -33,7 +35,9 @@ departures-preserved c =
     let room = c.departures.invariant.spare in
     let less = c.push.ensures.spare in
     record {
-      items = one_unpacked c.departures.room.items c.push.new.self.items _ c.departure.result c.in-Some.packed c.departures.left
+      items =
+          one_unpacked c.departures.room.items c.push.new.self.items _ c.departure.result c.in-Some.packed
+          c.departures.left
           c.pop_first.new.self c.in-Some.ensures c.departure.ensures c.push.ensures.items c.departures.invariant.items;
       spare = omega arith;
     }

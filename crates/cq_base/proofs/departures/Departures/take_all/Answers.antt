@@ -8,7 +8,8 @@ pub put_each-requires : goal.put_each-requires
 put_each-requires c =
     let lent : length c.items.result.now ≡ length c.args.sent.now.items = ap (λ (ds : List Departure). length ds)
     c.items.ensures in
-    let room : c.self.inside.packed.spare ≡ c.args.self.now.spare = ap (λ (v : RoomView Departure). v.spare) c.self.view_is in
+    let room : c.self.inside.packed.spare ≡ c.args.self.now.spare =
+    ap (λ (v : RoomView Departure). v.spare) c.self.view_is in
     let few : length c.args.sent.now.items ≤ c.args.self.now.spare = c.requires in
     omega arith
 
@@ -22,6 +23,7 @@ pub returns-clause-spare : goal.returns-clause-spare
 returns-clause-spare c =
     let lent : length c.items.result.now ≡ length c.args.sent.now.items = ap (λ (ds : List Departure). length ds)
     c.items.ensures in
-    let room : c.self.inside.packed.spare ≡ c.args.self.now.spare = ap (λ (v : RoomView Departure). v.spare) c.self.view_is in
+    let room : c.self.inside.packed.spare ≡ c.args.self.now.spare =
+    ap (λ (v : RoomView Departure). v.spare) c.self.view_is in
     let less = c.put_each.ensures.spare in
     omega arith

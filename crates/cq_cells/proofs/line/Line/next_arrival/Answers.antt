@@ -13,17 +13,28 @@ pub returns-then-packet-len : goal.returns-then-packet-len
 returns-then-packet-len c =
     let l = c.self.inside in
     let rows = l.rows.items in
-    let ended : IsEnded rows c.args.from c.ended-packet.result = subst (λ (rs : List Row). IsEnded rs c.args.from c.ended-packet.result) c.deref.ensures.value c.ended-packet.ensures.ended in
+    let ended : IsEnded rows c.args.from c.ended-packet.result =
+    subst (λ (rs : List Row). IsEnded rs c.args.from c.ended-packet.result) c.deref.ensures.value
+    c.ended-packet.ensures.ended in
     subst (λ (came : List Arrival). AllByRecursion (λ a. a.slot < c.args.from) came) c.self.view_is
-    (line_done l.input l.cell_bytes rows c.args.from c.ended-packet.result ended (omega (arith, c.if-packet-len.true, c.len.ensures)))
+    (line_done l.input l.cell_bytes rows c.args.from c.ended-packet.result ended
+    (omega (arith, c.if-packet-len.true, c.len.ensures)))
 
 pub returns : goal.returns
 returns c =
     let l = c.self.inside in
     let rows = l.rows.items in
     let k = c.ended-packet.result in
-    let ended : IsEnded rows c.args.from k = subst (λ (rs : List Row). IsEnded rs c.args.from k) c.deref.ensures.value c.ended-packet.ensures.ended in
-    let inside : k < length rows = omega (arith, c.if-packet-len.false, c.len.ensures, c.ended-packet.ensures.few, ap (λ (rs : List Row). length rs) c.deref.ensures.value) in
+    let ended : IsEnded rows c.args.from k =
+    subst (λ (rs : List Row). IsEnded rs c.args.from k) c.deref.ensures.value c.ended-packet.ensures.ended in
+    let inside : k < length rows =
+    omega (
+      arith,
+      c.if-packet-len.false,
+      c.len.ensures,
+      c.ended-packet.ensures.few,
+      ap (λ (rs : List Row). length rs) c.deref.ensures.value,
+    ) in
     let row : c.index.result.now ≡ row_at rows k = get_or_read rows k _ inside c.index.ensures no_row in
     subst (λ (came : List Arrival). IsFirstFrom came c.args.from c.max.result) c.self.view_is
     (line_next l.input l.cell_bytes rows c.args.from k ended c.max.result c.self.invariant.0 inside

@@ -12,7 +12,8 @@ returns c =
     let lines = c.self.inside.lines.items in
     let ports : length lines ≡ c.args.self.now.ports = ap (λ (s : Scheduled). s.ports) c.self.view_is in
     let inside : c.args.input < length lines = omega arith in
-    let line : c.index-line.result.now ≡ slice_index_or lines c.args.input [] = get_or_read lines c.args.input _ inside c.index-line.ensures [] in
+    let line : c.index-line.result.now ≡ slice_index_or lines c.args.input [] =
+    get_or_read lines c.args.input _ inside c.index-line.ensures [] in
     c.cell_at.ensures
     ∙ ap (λ (came : List Arrival). option_map (λ a. a.cell) (find (is_in c.args.slot) came)) line
     ∙ sym (arriving_at_line c.args.slot c.args.input lines c.self.invariant.own inside)

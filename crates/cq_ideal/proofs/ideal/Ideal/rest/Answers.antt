@@ -16,7 +16,9 @@ invariant_of-self g c =
     parts_same g.R.Rank.machine c.self.inside.ranks c.rest.new.self c.self.inside.queues c.self.inside.queues
     c.self.inside.limiter c.self.inside.limiter c.self.inside.next c.args.to c.self.inside.stopped
     c.self.inside.stopped c.self.invariant c.rest.ensures.fixed
-    (ap length c.rest.ensures.states ∙ length-idle (map g.R.Rank.machine c.self.inside.ranks.fixed) (length c.self.inside.ranks.fixed) c.self.inside.ranks.states) refl refl
+    (ap length c.rest.ensures.states
+    ∙ length-idle (map g.R.Rank.machine c.self.inside.ranks.fixed) (length c.self.inside.ranks.fixed)
+    c.self.inside.ranks.states) refl refl
     refl refl
     (arrived_later c.self.inside.next c.args.to c.self.inside.queues.lists (omega arith) c.self.invariant.arrived)
     c.self.invariant.holds

@@ -254,7 +254,9 @@ returns-clause-spare g c =
     c.args.self.now c.self.inside.ranks c.self.inside.queues c.self.inside.limiter c.self.inside.next
     c.self.inside.stopped c.self.view_is c.self.invariant c.requires.running c.judge.new.self.marks
     c.requires.spare)
-    (ap length (sym lists) ∙ inv.lists ∙ sym inv.rooms ∙ ap length rooms) held (c.send.ensures.rooms ∙ c.arrive.ensures.rooms ∙ rooms) e (same_state _ _ c.send.ensures.lists c.send.ensures.states))
+    (ap length (sym lists) ∙ inv.lists ∙ sym inv.rooms ∙ ap length rooms) held
+    (c.send.ensures.rooms ∙ c.arrive.ensures.rooms ∙ rooms) e
+    (same_state _ _ c.send.ensures.lists c.send.ensures.states))
 
 pub returns-clause-refused : goal.returns-clause-refused
 returns-clause-refused g c =

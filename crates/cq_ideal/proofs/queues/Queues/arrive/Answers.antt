@@ -12,27 +12,31 @@ put_if-requires-clause-output c =
     let ports = c.len-ports.ensures.len in
     let inside = c.inputs-test.true in
     if_some c.at.result _
-    (λ q at. (putting_room c.args.came.now c.args.self.now c.inputs.input c.inputs.self c.requires.few c.requires.as_many c.requires.ports (omega arith) c.inputs.invariant q (sym c.at.ensures ∙ at)).0)
+    (λ q at. (putting_room c.args.came.now c.args.self.now c.inputs.input c.inputs.self c.requires.few
+    c.requires.as_many c.requires.ports (omega arith) c.inputs.invariant q (sym c.at.ensures ∙ at)).0)
 
 pub put_if-requires-clause-room : goal.put_if-requires-clause-room
 put_if-requires-clause-room c =
     let ports = c.len-ports.ensures.len in
     let inside = c.inputs-test.true in
     if_some c.at.result _
-    (λ q at. (putting_room c.args.came.now c.args.self.now c.inputs.input c.inputs.self c.requires.few c.requires.as_many c.requires.ports (omega arith) c.inputs.invariant q (sym c.at.ensures ∙ at)).1)
+    (λ q at. (putting_room c.args.came.now c.args.self.now c.inputs.input c.inputs.self c.requires.few
+    c.requires.as_many c.requires.ports (omega arith) c.inputs.invariant q (sym c.at.ensures ∙ at)).1)
 
 pub put_if-requires-clause-other_key : goal.put_if-requires-clause-other_key
 put_if-requires-clause-other_key c =
     let ports = c.len-ports.ensures.len in
     let inside = c.inputs-test.true in
     if_some c.at.result _
-    (λ q at. (putting_room c.args.came.now c.args.self.now c.inputs.input c.inputs.self c.requires.few c.requires.as_many c.requires.ports (omega arith) c.inputs.invariant q (sym c.at.ensures ∙ at)).2)
+    (λ q at. (putting_room c.args.came.now c.args.self.now c.inputs.input c.inputs.self c.requires.few
+    c.requires.as_many c.requires.ports (omega arith) c.inputs.invariant q (sym c.at.ensures ∙ at)).2)
 
 pub inputs-preserved : goal.inputs-preserved
 inputs-preserved c =
     let ports = c.len-ports.ensures.len in
     let inside = c.inputs-test.true in
-    putting_next c.args.came.now c.args.self.now c.inputs.input c.inputs.self c.put_if.new.self c.requires.few c.requires.ports (omega arith) c.inputs.invariant
+    putting_next c.args.came.now c.args.self.now c.inputs.input c.inputs.self c.put_if.new.self c.requires.few
+    c.requires.ports (omega arith) c.inputs.invariant
     (c.put_if.ensures.lists ∙ ap (λ (o : Option Queued). with_came o c.inputs.self.lists) c.at.ensures)
     c.put_if.ensures.rooms
 
@@ -40,4 +44,5 @@ pub returns-clause-lists : goal.returns-clause-lists
 returns-clause-lists c =
     let ports = c.len-ports.ensures.len in
     let past = c.inputs-test.false in
-    putting_last c.args.came.now c.args.self.now c.inputs.input c.inputs.self c.requires.ports (omega arith) c.inputs.invariant
+    putting_last c.args.came.now c.args.self.now c.inputs.input c.inputs.self c.requires.ports (omega arith)
+    c.inputs.invariant

@@ -21,15 +21,26 @@ put-requires-clause-other_key c =
     c.requires.output c.index_mut.ensures.value c.self.view_is)) c.requires.other_key
 
 pub returns-clause-lists : goal.returns-clause-lists
-returns-clause-lists c = lists_after c.self.inside.queues.items c.args.queued.cell.output c.index_mut.result.now c.args.self.now c.requires.output c.index_mut.ensures.value c.self.view_is c.put.new.self _ _ c.put.ensures.cells (ap (put c.args.queued) (cells_seen c.self.inside.queues.items c.args.queued.cell.output c.index_mut.result.now c.args.self.now c.requires.output c.index_mut.ensures.value c.self.view_is))
+returns-clause-lists c =
+    lists_after c.self.inside.queues.items c.args.queued.cell.output c.index_mut.result.now c.args.self.now
+    c.requires.output c.index_mut.ensures.value c.self.view_is c.put.new.self _ _ c.put.ensures.cells
+    (ap (put c.args.queued) (cells_seen c.self.inside.queues.items c.args.queued.cell.output
+    c.index_mut.result.now c.args.self.now c.requires.output c.index_mut.ensures.value
+    c.self.view_is))
 
 pub returns-clause-rooms : goal.returns-clause-rooms
-returns-clause-rooms c = rooms_after c.self.inside.queues.items c.args.queued.cell.output c.index_mut.result.now c.args.self.now c.requires.output c.index_mut.ensures.value c.self.view_is c.put.new.self c.put.ensures.room
+returns-clause-rooms c =
+    rooms_after c.self.inside.queues.items c.args.queued.cell.output c.index_mut.result.now c.args.self.now
+    c.requires.output c.index_mut.ensures.value c.self.view_is c.put.new.self c.put.ensures.room
 
 pub invariant_of-self : goal.invariant_of-self
 invariant_of-self c =
-    let cells = ap length (cells_seen c.self.inside.queues.items c.args.queued.cell.output c.index_mut.result.now c.args.self.now c.requires.output c.index_mut.ensures.value c.self.view_is) in
-    let room = room_seen c.self.inside.queues.items c.args.queued.cell.output c.index_mut.result.now c.args.self.now c.requires.output c.index_mut.ensures.value c.self.view_is in
+    let cells =
+    ap length (cells_seen c.self.inside.queues.items c.args.queued.cell.output c.index_mut.result.now
+    c.args.self.now c.requires.output c.index_mut.ensures.value c.self.view_is) in
+    let room =
+    room_seen c.self.inside.queues.items c.args.queued.cell.output c.index_mut.result.now c.args.self.now
+    c.requires.output c.index_mut.ensures.value c.self.view_is in
     let want = c.requires.room in
     let longer = ap length c.put.ensures.cells in
     let one = length_put c.args.queued c.index_mut.result.now.cells in

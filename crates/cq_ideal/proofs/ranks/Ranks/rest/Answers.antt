@@ -9,16 +9,20 @@ pub outputs-preserved : goal.outputs-preserved
 outputs-preserved g c =
     let ports = c.len-ports.ensures.value in
     let inside = c.outputs-test.true in
-    resting_next g.R.Rank.machine c.args.self.now.fixed c.args.self.now.states c.requires.states c.outputs.output c.outputs.self.fixed c.outputs.self.states c.idle.new.self.fixed c.idle.new.self.states c.outputs.invariant (omega arith) c.idle.ensures.fixed c.idle.ensures.states c.idle.ensures.sized
+    resting_next g.R.Rank.machine c.args.self.now.fixed c.args.self.now.states c.requires.states c.outputs.output
+    c.outputs.self.fixed c.outputs.self.states c.idle.new.self.fixed c.idle.new.self.states c.outputs.invariant
+    (omega arith) c.idle.ensures.fixed c.idle.ensures.states c.idle.ensures.sized
 
 pub returns-clause-states : goal.returns-clause-states
 returns-clause-states g c =
     let ports = c.len-ports.ensures.value in
     let past = c.outputs-test.false in
-    resting_last g.R.Rank.machine c.args.self.now.fixed c.args.self.now.states c.requires.states c.outputs.output c.outputs.self.fixed c.outputs.self.states c.outputs.invariant (omega arith)
+    resting_last g.R.Rank.machine c.args.self.now.fixed c.args.self.now.states c.requires.states c.outputs.output
+    c.outputs.self.fixed c.outputs.self.states c.outputs.invariant (omega arith)
 
 pub returns-clause-again : goal.returns-clause-again
 returns-clause-again g c =
     let ports = c.len-ports.ensures.value in
     let past = c.outputs-test.false in
-    resting_again g.R.Rank.machine c.args.self.now.fixed c.args.self.now.states c.requires.states c.outputs.output c.outputs.self.fixed c.outputs.self.states c.outputs.invariant (omega arith) g.met.R.Rank.laws
+    resting_again g.R.Rank.machine c.args.self.now.fixed c.args.self.now.states c.requires.states c.outputs.output
+    c.outputs.self.fixed c.outputs.self.states c.outputs.invariant (omega arith) g.met.R.Rank.laws

@@ -12,8 +12,10 @@ fetch_or-found-requires c =
     let m = matched c.args.self.now c.args.seat.now _ _ _ _ c.self.view_is c.seat.view_is c.requires.seat in (
       m.table_is,
       (let z = c.self.invariant.2 in omega arith),
-      claim-allowed-at c.self.inside.table.shared.key c.self.inside.offers c.self.invariant.0 _ c.seat.inside.seat.id c.args.input c.seat.inside.seat.me
-          (let a = ap ports m.offers_seen in let b = c.requires.input in omega arith) (ap (λ v. v.hand) m.view_seen ∙ c.requires.hand) m.offers_are
+      claim-allowed-at c.self.inside.table.shared.key c.self.inside.offers c.self.invariant.0 _ c.seat.inside.seat.id
+          c.args.input c.seat.inside.seat.me
+          (let a = ap ports m.offers_seen in let b = c.requires.input in omega arith)
+          (ap (λ v. v.hand) m.view_seen ∙ c.requires.hand) m.offers_are
           c.bit_of-bit.result c.bit_of-bit.ensures,
     )
 
@@ -21,8 +23,13 @@ pub invariant_of-seat-2 : goal.invariant_of-seat-2
 invariant_of-seat-2 c =
     let m = matched c.args.self.now c.args.seat.now _ _ _ _ c.self.view_is c.seat.view_is c.requires.seat in
     let told = c.fetch_or-found.ensures.2 c.args.input c.bit_of-bit.ensures in
-    let clear = clear_if c.fetch_or-found.result c.args.input (λ e. let a = c.has_bit.ensures.1 e in let b = c.if-has_bit.false in let Q : ⊥ = cc in Q) in
-    taken-seat c.seat.inside.seat.me c.seat.inside.claims c.seat.inside.hand c.seat.inside.made c.seat.invariant c.fetch_or-found.new.seat.me
+    let clear =
+    clear_if c.fetch_or-found.result c.args.input (λ e. let a = c.has_bit.ensures.1 e in
+    let b = c.if-has_bit.false in
+    let Q : ⊥ = cc in
+    Q) in
+    taken-seat c.seat.inside.seat.me c.seat.inside.claims c.seat.inside.hand c.seat.inside.made c.seat.invariant
+    c.fetch_or-found.new.seat.me
     c.args.input c.bit_of-bit.result c.hand_from-seat-inside.result (told.taken clear) c.bit_of-bit.ensures
     (c.hand_from-seat-inside.ensures ∙ ap (λ o. hand_at o c.args.input 0) (sym m.offers_are))
 
@@ -30,7 +37,11 @@ pub returns-clause-seat : goal.returns-clause-seat
 returns-clause-seat c =
     let m = matched c.args.self.now c.args.seat.now _ _ _ _ c.self.view_is c.seat.view_is c.requires.seat in
     let told = c.fetch_or-found.ensures.2 c.args.input c.bit_of-bit.ensures in
-    let clear = clear_if c.fetch_or-found.result c.args.input (λ e. let a = c.has_bit.ensures.1 e in let b = c.if-has_bit.false in let Q : ⊥ = cc in Q) in
+    let clear =
+    clear_if c.fetch_or-found.result c.args.input (λ e. let a = c.has_bit.ensures.1 e in
+    let b = c.if-has_bit.false in
+    let Q : ⊥ = cc in
+    Q) in
     record {
       table = c.fetch_or-found.ensures.0 ∙ m.table_is ∙ m.table_seen;
       offers = ap (λ (x : Seated). x.0.offers) (told.taken clear) ∙ m.offers_are ∙ m.offers_seen;
@@ -40,5 +51,9 @@ pub returns-clause-taken : goal.returns-clause-taken
 returns-clause-taken c = λ _.
     let m = matched c.args.self.now c.args.seat.now _ _ _ _ c.self.view_is c.seat.view_is c.requires.seat in
     let told = c.fetch_or-found.ensures.2 c.args.input c.bit_of-bit.ensures in
-    let clear = clear_if c.fetch_or-found.result c.args.input (λ e. let a = c.has_bit.ensures.1 e in let b = c.if-has_bit.false in let Q : ⊥ = cc in Q) in
+    let clear =
+    clear_if c.fetch_or-found.result c.args.input (λ e. let a = c.has_bit.ensures.1 e in
+    let b = c.if-has_bit.false in
+    let Q : ⊥ = cc in
+    Q) in
     ap (λ (x : Seated). x.0) (told.taken clear) ∙ ap (λ v. claim_taken v c.args.input) m.view_seen

@@ -9,14 +9,19 @@ use Rattle.cq_ledger.proofs.ledger.Ledger.close.Goals as goal
 pub read_matching-matching-requires-clause-shown : goal.read_matching-matching-requires-clause-shown
 read_matching-matching-requires-clause-shown c =
     let final = c.close_with-closed.ensures.values.2 in
-    closing-shown c.self.inside.table.shared.key c.self.inside.offers c.self.invariant.0 final.0.words (slots_items c.close_with-closed.result.words) final.0.views final.1.0 final.2
+    closing-shown c.self.inside.table.shared.key c.self.inside.offers c.self.invariant.0 final.0.words
+    (slots_items c.close_with-closed.result.words) final.0.views final.1.0 final.2
 
 pub returns-clause-best : goal.returns-clause-best
 returns-clause-best c =
     let final = c.close_with-closed.ensures.values.2 in
     let m = matched c.args.self c.args.seat _ _ _ _ c.self.view_is c.seat.view_is c.requires.seat in
-    let phase = closing-phase c.self.inside.table.shared.key c.self.inside.offers c.self.invariant.0 final.0.words (slots_items c.close_with-closed.result.words) final.0.views final.1.0 final.2
-    c.seat.inside.seat.id c.seat.inside.seat.me.0 final.1.1 (all_claimed c.args.self c.args.seat _ _ _ _ m c.requires.claimed) (ap (λ v. v.hand) m.view_seen ∙ c.requires.hand)
+    let phase =
+    closing-phase c.self.inside.table.shared.key c.self.inside.offers c.self.invariant.0 final.0.words
+    (slots_items c.close_with-closed.result.words) final.0.views final.1.0 final.2
+    c.seat.inside.seat.id c.seat.inside.seat.me.0 final.1.1
+    (all_claimed c.args.self c.args.seat _ _ _ _ m c.requires.claimed)
+    (ap (λ v. v.hand) m.view_seen ∙ c.requires.hand)
     c.read_matching-matching.result c.read_matching-matching.ensures in
     let P : Orders → Type 0 = λ o. IsInputBest o c.read_matching-matching.result in
     subst P m.offers_seen phase.0
@@ -25,7 +30,11 @@ pub returns-clause-proposals : goal.returns-clause-proposals
 returns-clause-proposals c =
     let final = c.close_with-closed.ensures.values.2 in
     let m = matched c.args.self c.args.seat _ _ _ _ c.self.view_is c.seat.view_is c.requires.seat in
-    let phase = closing-phase c.self.inside.table.shared.key c.self.inside.offers c.self.invariant.0 final.0.words (slots_items c.close_with-closed.result.words) final.0.views final.1.0 final.2
-    c.seat.inside.seat.id c.seat.inside.seat.me.0 final.1.1 (all_claimed c.args.self c.args.seat _ _ _ _ m c.requires.claimed) (ap (λ v. v.hand) m.view_seen ∙ c.requires.hand)
+    let phase =
+    closing-phase c.self.inside.table.shared.key c.self.inside.offers c.self.invariant.0 final.0.words
+    (slots_items c.close_with-closed.result.words) final.0.views final.1.0 final.2
+    c.seat.inside.seat.id c.seat.inside.seat.me.0 final.1.1
+    (all_claimed c.args.self c.args.seat _ _ _ _ m c.requires.claimed)
+    (ap (λ v. v.hand) m.view_seen ∙ c.requires.hand)
     c.read_matching-matching.result c.read_matching-matching.ensures in
     sym c.seat.invariant.counted ∙ phase.1 ∙ ap (λ o. proposals o c.read_matching-matching.result) m.offers_seen

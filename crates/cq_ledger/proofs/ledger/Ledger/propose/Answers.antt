@@ -10,16 +10,22 @@ pub asked_by-asked-requires : goal.asked_by-asked-requires
 asked_by-asked-requires c =
     let m = matched c.args.self.now c.args.seat.now _ _ _ _ c.self.view_is c.seat.view_is c.requires.seat in
     let P : Orders → Type 0 = λ o. c.in-Some.hand.1 < length (outputs_of o c.in-Some.hand.0) in
-    subst P m.offers_are (c.seat.invariant.placed c.in-Some.hand.0 c.in-Some.hand.1 (c.seat.invariant.in_hand ∙ c.in-Some.is))
+    subst P m.offers_are (c.seat.invariant.placed c.in-Some.hand.0 c.in-Some.hand.1
+    (c.seat.invariant.in_hand ∙ c.in-Some.is))
 
 pub fetch_min-found-requires : goal.fetch_min-found-requires
 fetch_min-found-requires c =
     let m = matched c.args.self.now c.args.seat.now _ _ _ _ c.self.view_is c.seat.view_is c.requires.seat in (
       m.table_is,
-      (let r = output_in_range c.self.inside.offers c.asked_by-asked.ensures.offers c.in-Some.hand.0 c.asked_by-asked.result.output c.asked_by-asked.ensures.offered in let z = c.self.invariant.2 in omega arith),
-      proposal-allowed-at c.self.inside.table.shared.key c.self.inside.offers c.self.invariant.0 _ c.seat.inside.seat.id c.in-Some.hand.0 c.in-Some.hand.1 c.seat.inside.seat.me
+      (let r = output_in_range c.self.inside.offers c.asked_by-asked.ensures.offers c.in-Some.hand.0
+          c.asked_by-asked.result.output c.asked_by-asked.ensures.offered in
+          let z = c.self.invariant.2 in
+          omega arith),
+      proposal-allowed-at c.self.inside.table.shared.key c.self.inside.offers c.self.invariant.0 _
+          c.seat.inside.seat.id c.in-Some.hand.0 c.in-Some.hand.1 c.seat.inside.seat.me
           (c.seat.invariant.in_hand ∙ c.in-Some.is) m.offers_are
-          (c.asked_by-asked.result.output + 1) c.asked_by-asked.result.position c.asked_by-asked.result.output c.asked_by-asked.ensures.output c.asked_by-asked.ensures.position (add-one _),
+          (c.asked_by-asked.result.output + 1) c.asked_by-asked.result.position c.asked_by-asked.result.output
+          c.asked_by-asked.ensures.output c.asked_by-asked.ensures.position (add-one _),
     )
 
 pub invariant_of-seat : goal.invariant_of-seat
@@ -27,7 +33,8 @@ invariant_of-seat c =
     let m = matched c.args.self.now c.args.seat.now _ _ _ _ c.self.view_is c.seat.view_is c.requires.seat in
     let i = c.in-Some.hand.0 in
     let p = c.in-Some.hand.1 in
-    proposed-seat c.seat.inside.seat.me c.seat.inside.claims c.seat.inside.hand c.seat.inside.made c.seat.invariant c.fetch_min-found.new.seat.me
+    proposed-seat c.seat.inside.seat.me c.seat.inside.claims c.seat.inside.hand c.seat.inside.made c.seat.invariant
+    c.fetch_min-found.new.seat.me
     i p c.fetch_min-found.result c.answered-answer.result c.hand_next-seat-inside.result
     (c.fetch_min-found.ensures.2 i p (c.seat.invariant.in_hand ∙ c.in-Some.is))
     (c.answered-answer.ensures ∙ ap (λ o. answer_of o i p c.fetch_min-found.result) (sym m.offers_are))

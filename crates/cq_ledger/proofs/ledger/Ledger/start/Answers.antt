@@ -10,4 +10,5 @@ of_words-requires c =
     let e = c.first_words-words.ensures ∙ ap (λ (n : ℕ). 0 ∷ replicate n n) c.ports-ports.ensures.value in
     let O : Orders → Type 0 = λ o. IsLedger o (first_words c.args.offers.now) (blank o ∷ []) in
     let P : List ℕ → Type 0 = λ l. IsLedger c.in_ok-copy.copy l (blank c.in_ok-copy.copy ∷ []) in
-    subst P (sym e) (subst O (sym c.in_ok-copy.ensures) (start-keeps c.args.offers.now c.ports-ports.ensures.offers c.ports-ports.ensures.few))
+    subst P (sym e) (subst O (sym c.in_ok-copy.ensures) (start-keeps c.args.offers.now c.ports-ports.ensures.offers
+    c.ports-ports.ensures.few))

@@ -7,7 +7,8 @@ use Rattle.cq_pair.proofs.free_inputs.FreeInputs.with_offers.Goals as goal
 pub push-requires : goal.push-requires
 push-requires c =
     let few = few_offers c.args.offers.now c.loop-input.input in
-    let e : length c.loop-input.inputs.items ≡ length (inputs_with_offers c.args.offers.now c.loop-input.input) = ap length c.loop-input.invariant in
+    let e : length c.loop-input.inputs.items ≡ length (inputs_with_offers c.args.offers.now c.loop-input.input) =
+    ap length c.loop-input.invariant in
     let l = c.loop-input-test.true in
     let m = c.ports-input-end.ensures.few in
     let v = c.ports-input-end.ensures.value in
@@ -21,8 +22,10 @@ loop-input-preserved c =
     elim c.if-not-is_empty.branch [
       | then-not-is_empty w ↦
           ap (λ v. v.items) w.inputs-is ∙ w.push.ensures.items ∙ ap (λ l. l ++ n ∷ []) c.loop-input.invariant
-          ∙ sym (offers-more o n (offers_if o n c.outputs_of.result.now c.is_empty.result c.outputs_of.ensures c.is_empty.ensures w.if-not-is_empty.true))
+          ∙ sym (offers-more o n (offers_if o n c.outputs_of.result.now c.is_empty.result c.outputs_of.ensures
+          c.is_empty.ensures w.if-not-is_empty.true))
       | else-not-is_empty w ↦
           ap (λ v. v.items) w.inputs-is ∙ c.loop-input.invariant
-          ∙ sym (offers-same o n (no_offers_if o n c.outputs_of.result.now c.is_empty.result c.outputs_of.ensures c.is_empty.ensures w.if-not-is_empty.false))
+          ∙ sym (offers-same o n (no_offers_if o n c.outputs_of.result.now c.is_empty.result c.outputs_of.ensures
+          c.is_empty.ensures w.if-not-is_empty.false))
     ]

@@ -8,7 +8,9 @@ pub unreachable-requires : goal.unreachable-requires
 unreachable-requires c =
     let o = c.args.offers.now in
     let P : ℕ → Type 0 = λ j. IsOffered o c.args.input j in
-    let offered = subst P (sym c.next_output-output.ensures) (asked_offered o c.ports-ports.ensures.offers c.args.self.now c.args.input c.requires.free) in
+    let offered =
+    subst P (sym c.next_output-output.ensures) (asked_offered o c.ports-ports.ensures.offers c.args.self.now
+    c.args.input c.requires.free) in
     let there = c.in-None.ensures.offered.1 offered in cc
 
 pub at-held-requires : goal.at-held-requires
@@ -17,7 +19,8 @@ at-held-requires c =
     let v = c.ports-ports.ensures.offers in
     let known = asked_known o v c.args.self.now c.requires.reached c.args.input c.requires.free in
     let size = positions_known o v c.args.self.now c.requires.reached in
-    let same : length c.self.inside.positions ≡ length c.args.self.now.state.positions = ap (λ x. length x.state.positions) c.self.view_is in
+    let same : length c.self.inside.positions ≡ length c.args.self.now.state.positions =
+    ap (λ x. length x.state.positions) c.self.view_is in
     let is = c.next_output-output.ensures in omega arith
 
 pub returns-clause-ask : goal.returns-clause-ask
@@ -27,7 +30,9 @@ returns-clause-ask c =
       reached = c.requires.reached;
       free = c.requires.free;
       output = c.next_output-output.ensures;
-      position = c.in-Some.ensures.position ∙ ap (λ j. position_of c.args.offers.now j c.args.input) c.next_output-output.ensures;
+      position =
+          c.in-Some.ensures.position
+          ∙ ap (λ j. position_of c.args.offers.now j c.args.input) c.next_output-output.ensures;
       held =
           c.at-held.ensures
           ∙ ap (λ x. position_held x.state c.next_output-output.result) c.self.view_is

@@ -9,10 +9,13 @@ pub returns-clause-reached : goal.returns-clause-reached
 returns-clause-reached c =
     let o = c.args.offers.now in
     let state = start-shown o c.ports-ports.result _ _ c.ports-ports.ensures.value c.all.ensures c.all-2.ensures in
-    let none : c.none.result ≡ replicate (ports o) None = c.none.ensures ∙ ap (λ (n : ℕ). let nobody : Option ℕ = None in replicate n nobody) c.ports-ports.ensures.value in
+    let none : c.none.result ≡ replicate (ports o) None =
+    c.none.ensures
+    ∙ ap (λ (n : ℕ). let nobody : Option ℕ = None in replicate n nobody) c.ports-ports.ensures.value in
     reached-begin o c.ports-ports.ensures.offers _ state none
     (c.with_offers.ensures ∙ waiting-first o _ none ∙ ap (λ s. waiting_inputs o s.places c.none.result) (sym state))
     refl
 
 pub returns-clause-state : goal.returns-clause-state
-returns-clause-state c = start-shown c.args.offers.now c.ports-ports.result _ _ c.ports-ports.ensures.value c.all.ensures c.all-2.ensures
+returns-clause-state c =
+    start-shown c.args.offers.now c.ports-ports.result _ _ c.ports-ports.ensures.value c.all.ensures c.all-2.ensures

@@ -36,7 +36,11 @@ take-requires c =
     record {
       input = i.0;
       output = j.0;
-      positions = let e = ap length m.positions in let f = positions_known c.args.offers.now a.offers _ a.reached in let g = output_known _ _ _ _ _ _ a in omega arith;
+      positions =
+          let e = ap length m.positions in
+          let f = positions_known c.args.offers.now a.offers _ a.reached in
+          let g = output_known _ _ _ _ _ _ a in
+          omega arith;
       free_input = i.1;
       free_output = j.1;
       waiting = m.waiting;
@@ -44,7 +48,10 @@ take-requires c =
 
 pub returns-then-asked-ports : goal.returns-then-asked-ports
 returns-then-asked-ports c =
-    let r = holding _ _ _ _ _ _ c.asked_by-asked.ensures.ask c.if-asked.false (c.if-asked-ports.true ∙ c.ports.ensures.value) c.move_on.new.self c.take.new.self c.move_on.ensures c.take.ensures in
+    let r =
+    holding _ _ _ _ _ _ c.asked_by-asked.ensures.ask c.if-asked.false
+    (c.if-asked-ports.true ∙ c.ports.ensures.value) c.move_on.new.self c.take.new.self c.move_on.ensures
+    c.take.ensures in
     record { reached = r.reached; event = r.event; made = r.made; outcome = r.answer }
 
 -- ## The output held another input
@@ -54,7 +61,8 @@ inputs_of-requires c = output_known _ _ _ _ _ _ c.asked_by-asked.ensures.ask
 
 pub bounds-inputs_of-asked : goal.bounds-inputs_of-asked
 bounds-inputs_of-asked c =
-    let n : c.asked_by-asked.result.held ≢ ports c.args.offers.now = λ e. c.if-asked-ports.false (e ∙ sym c.ports.ensures.value) in
+    let n : c.asked_by-asked.result.held ≢ ports c.args.offers.now =
+    λ e. c.if-asked-ports.false (e ∙ sym c.ports.ensures.value) in
     let inside = held_inside _ _ _ _ _ _ c.asked_by-asked.ensures.ask n in
     let e = ap length c.inputs_of.ensures in omega arith
 
@@ -62,7 +70,8 @@ pub part-requires : goal.part-requires
 part-requires c =
     let a = c.asked_by-asked.ensures.ask in
     let m = c.move_on.ensures in
-    let n : c.asked_by-asked.result.held ≢ ports c.args.offers.now = λ e. c.if-asked-ports.false (e ∙ sym c.ports.ensures.value) in
+    let n : c.asked_by-asked.result.held ≢ ports c.args.offers.now =
+    λ e. c.if-asked-ports.false (e ∙ sym c.ports.ensures.value) in
     let is = is_holder _ _ _ _ _ _ _ c.inputs_of.result.now a c.inputs_of.ensures refl in
     let known = other_known _ _ _ _ _ _ _ a n is in
     let size = sizes _ _ _ _ _ _ a c.move_on.new.self m in
@@ -78,7 +87,8 @@ part-requires c =
 pub take-requires-2 : goal.take-requires-2
 take-requires-2 c =
     let a = c.asked_by-asked.ensures.ask in
-    let n : c.asked_by-asked.result.held ≢ ports c.args.offers.now = λ e. c.if-asked-ports.false (e ∙ sym c.ports.ensures.value) in
+    let n : c.asked_by-asked.result.held ≢ ports c.args.offers.now =
+    λ e. c.if-asked-ports.false (e ∙ sym c.ports.ensures.value) in
     let is = is_holder _ _ _ _ _ _ _ c.inputs_of.result.now a c.inputs_of.ensures refl in
     let i = free_input_then _ _ _ _ _ _ _ a n is c.move_on.new.self c.part.new.self c.move_on.ensures c.part.ensures in
     let j = free_output_then _ _ _ _ _ _ _ a n is c.move_on.new.self c.part.new.self c.move_on.ensures c.part.ensures in
@@ -98,7 +108,10 @@ take-requires-2 c =
 pub returns : goal.returns
 returns c =
     let a = c.asked_by-asked.ensures.ask in
-    let n : c.asked_by-asked.result.held ≢ ports c.args.offers.now = λ e. c.if-asked-ports.false (e ∙ sym c.ports.ensures.value) in
+    let n : c.asked_by-asked.result.held ≢ ports c.args.offers.now =
+    λ e. c.if-asked-ports.false (e ∙ sym c.ports.ensures.value) in
     let is = is_holder _ _ _ _ _ _ _ c.inputs_of.result.now a c.inputs_of.ensures refl in
-    let r = displaced _ _ _ _ _ _ _ a c.if-asked.false n is c.move_on.new.self c.part.new.self c.take-2.new.self c.move_on.ensures c.part.ensures c.take-2.ensures in
+    let r =
+    displaced _ _ _ _ _ _ _ a c.if-asked.false n is c.move_on.new.self c.part.new.self c.take-2.new.self
+    c.move_on.ensures c.part.ensures c.take-2.ensures in
     record { reached = r.reached; event = r.event; made = r.made; outcome = r.answer }

@@ -9,7 +9,8 @@ pub returns : goal.returns
 returns c =
     let o = c.args.offers.now in
     let a = c.self.inside in
-    let waiting : a.free ≡ waiting_inputs o a.places a.matching = subst (ShowsWaiting o) (sym c.self.view_is) c.requires.waiting in
+    let waiting : a.free ≡ waiting_inputs o a.places a.matching =
+    subst (ShowsWaiting o) (sym c.self.view_is) c.requires.waiting in
     let inside : length a.matching ≡ length c.args.self.now.matching = ap (λ x. length x.matching) c.self.view_is in
     record {
       positions = c.set.ensures ∙ ap (λ x. set x.state.positions c.args.output c.args.position) c.self.view_is;
@@ -27,5 +28,6 @@ pub remove-requires : goal.remove-requires
 remove-requires c =
     let o = c.args.offers.now in
     let a = c.self.inside in
-    let waiting : a.free ≡ waiting_inputs o a.places a.matching = subst (ShowsWaiting o) (sym c.self.view_is) c.requires.waiting in
+    let waiting : a.free ≡ waiting_inputs o a.places a.matching =
+    subst (ShowsWaiting o) (sym c.self.view_is) c.requires.waiting in
     subst (IsDistinct eqb) (sym waiting) (waiting_differ o a.places a.matching)

@@ -12,9 +12,12 @@ invariant_of-self c =
     let size = length_shown none c.self.inside.ports c.self.inside.partners c.self.invariant.0 in
     let seen = ap length c.self.view_is in
     let inside = c.requires.input in
-    let shown = take-set-lt c.self.inside.ports c.self.inside.partners c.args.input (Some c.args.output) (omega arith) ∙ ap (λ t. set t c.args.input (Some c.args.output)) c.self.view_is in (
+    let shown =
+    take-set-lt c.self.inside.ports c.self.inside.partners c.args.input (Some c.args.output) (omega arith)
+    ∙ ap (λ t. set t c.args.input (Some c.args.output)) c.self.view_is in (
       IsPadded-set none _ _ _ _ c.self.invariant.0 (omega arith),
-      subst ArePairs (sym shown) (joined_pairs c.args.self.now c.args.input c.args.output (subst ArePairs c.self.view_is c.self.invariant.1) inside c.requires.output c.requires.free_output),
+      subst ArePairs (sym shown) (joined_pairs c.args.self.now c.args.input c.args.output
+          (subst ArePairs c.self.view_is c.self.invariant.1) inside c.requires.output c.requires.free_output),
     )
 
 pub returns : goal.returns

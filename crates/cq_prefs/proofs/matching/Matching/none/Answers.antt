@@ -7,8 +7,10 @@ use Rattle.cq_prefs.proofs.matching.Matching.none.Goals as goal
 
 pub invariant_of-result : goal.invariant_of-result
 invariant_of-result c =
-    let none : Option ℕ = None in
-    (IsPadded-none none c.args.ports c.requires, subst ArePairs (sym (take-replicate c.args.ports 64 none c.requires)) (no_pairs c.args.ports))
+    let none : Option ℕ = None in (
+      IsPadded-none none c.args.ports c.requires,
+      subst ArePairs (sym (take-replicate c.args.ports 64 none c.requires)) (no_pairs c.args.ports),
+    )
 
 pub returns : goal.returns
 returns c = let none : Option ℕ = None in take-replicate c.args.ports 64 none c.requires

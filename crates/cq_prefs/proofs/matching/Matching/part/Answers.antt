@@ -12,9 +12,12 @@ invariant_of-self c =
     let size = length_shown none c.self.inside.ports c.self.inside.partners c.self.invariant.0 in
     let seen = ap length c.self.view_is in
     let inside = c.requires in
-    let shown = take-set-lt c.self.inside.ports c.self.inside.partners c.args.input none (omega arith) ∙ ap (λ t. set t c.args.input none) c.self.view_is in (
+    let shown =
+    take-set-lt c.self.inside.ports c.self.inside.partners c.args.input none (omega arith)
+    ∙ ap (λ t. set t c.args.input none) c.self.view_is in (
       IsPadded-set none _ _ _ _ c.self.invariant.0 (omega arith),
-      subst ArePairs (sym shown) (parted_pairs c.args.self.now c.args.input (subst ArePairs c.self.view_is c.self.invariant.1) inside),
+      subst ArePairs (sym shown) (parted_pairs c.args.self.now c.args.input
+          (subst ArePairs c.self.view_is c.self.invariant.1) inside),
     )
 
 pub returns : goal.returns

@@ -10,15 +10,25 @@ invariant_of-self c =
     let inv = c.loop-output.invariant in
     let size = c.requires.lists in
     let few = inv.few in
-    let end : c.loop-output.output ≡ length c.args.lists.now = let not_less = c.loop-output-test.false in let most = c.loop-output.auto.output-end in omega arith in
-    offers_made c.args.lists.now _ _ inv.outputs (subst (λ n. Made c.args.lists.now n c.loop-output.self-inside.by_output.items) end inv.made) _ inv.waiting c.requires.outputs size (omega arith)
+    let end : c.loop-output.output ≡ length c.args.lists.now =
+    let not_less = c.loop-output-test.false in let most = c.loop-output.auto.output-end in omega arith in
+    offers_made c.args.lists.now _ _ inv.outputs
+    (subst (λ n. Made c.args.lists.now n c.loop-output.self-inside.by_output.items) end inv.made) _ inv.waiting
+    c.requires.outputs size (omega arith)
 
 pub returns : goal.returns
 returns c =
     let inv = c.loop-output.invariant in
-    let end : c.loop-output.output ≡ length c.args.lists.now = let not_less = c.loop-output-test.false in let most = c.loop-output.auto.output-end in omega arith in
-    let orders = orders_made c.args.lists.now _ _ inv.outputs (subst (λ n. Made c.args.lists.now n c.loop-output.self-inside.by_output.items) end inv.made) in
-    record { orders = orders; first_cells = λ differ. subst (AreOrdersOf (cells_of c.args.lists.now)) (sym orders) (are_orders (cells_of c.args.lists.now) differ) }
+    let end : c.loop-output.output ≡ length c.args.lists.now =
+    let not_less = c.loop-output-test.false in let most = c.loop-output.auto.output-end in omega arith in
+    let orders =
+    orders_made c.args.lists.now _ _ inv.outputs (subst
+    (λ n. Made c.args.lists.now n c.loop-output.self-inside.by_output.items) end inv.made) in
+    record {
+      orders = orders;
+      first_cells = λ differ. subst (AreOrdersOf (cells_of c.args.lists.now)) (sym orders)
+          (are_orders (cells_of c.args.lists.now) differ);
+    }
 
 pub loop-output-preserved : goal.loop-output-preserved
 loop-output-preserved c =
@@ -28,5 +38,7 @@ loop-output-preserved c =
       outputs = inv.outputs;
       waiting = inv.waiting;
       few = inv.few;
-      made = made_more c.args.lists.now c.loop-output.output _ c.inputs_by_key.result inv.made inside c.inputs_by_key.ensures;
+      made =
+          made_more c.args.lists.now c.loop-output.output _ c.inputs_by_key.result inv.made inside
+          c.inputs_by_key.ensures;
     }

@@ -7,8 +7,11 @@ use Rattle.cq_reasm.proofs.joiner.Joiner.take_reserving.Goals as goal
 pub add-requires-clause-next : goal.add-requires-clause-next
 add-requires-clause-next c =
     let id = c.args.cell.now.id in
-    let place : c.from.result * c.from-2.result + c.from-3.result ≡ id.input * c.self.inside.classes + c.args.cell.now.class = cc in
-    ap cells_taken (open_is c.self.inside.inputs c.self.inside.classes c.self.inside.packets c.args.self.now id.input c.args.cell.now.class _ c.self.view_is place)
+    let place : c.from.result * c.from-2.result + c.from-3.result
+    ≡ id.input * c.self.inside.classes + c.args.cell.now.class =
+    cc in
+    ap cells_taken (open_is c.self.inside.inputs c.self.inside.classes c.self.inside.packets c.args.self.now id.input
+    c.args.cell.now.class _ c.self.view_is place)
     ∙ taken_before _ c.args.cell.now c.requires.next
 
 pub returns-clause-left : goal.returns-clause-left
@@ -19,9 +22,12 @@ returns-clause-left c =
     let place : at ≡ id.input * c.self.inside.classes + class = cc in
     let packets = c.self.inside.packets in
     let added = Some (with_piece (get_or packets at None) id.packet c.args.piece.now) in
-    left_is c.self.inside.inputs c.self.inside.classes packets c.close-body.new.self c.args.self.now id.input class at None c.self.view_is place
-    (c.close-body.ensures.closed ∙ ap (λ others. set others at None) c.in_ok-add.ensures.added ∙ closed_again packets at added None)
-    ∙ ap (with_open c.args.self.now id.input class) (closed_by_last (open_at c.args.self.now id.input class) c.args.cell.now c.args.piece.now c.if-not-cell.false)
+    left_is c.self.inside.inputs c.self.inside.classes packets c.close-body.new.self c.args.self.now id.input class at
+    None c.self.view_is place
+    (c.close-body.ensures.closed ∙ ap (λ others. set others at None) c.in_ok-add.ensures.added
+    ∙ closed_again packets at added None)
+    ∙ ap (with_open c.args.self.now id.input class) (closed_by_last (open_at c.args.self.now id.input class)
+    c.args.cell.now c.args.piece.now c.if-not-cell.false)
 
 pub returns-then-not-cell-clause-others : goal.returns-then-not-cell-clause-others
 returns-then-not-cell-clause-others c =
@@ -30,7 +36,8 @@ returns-then-not-cell-clause-others c =
     let place : at ≡ id.input * c.self.inside.classes + c.args.cell.now.class = cc in
     let packets = c.self.inside.packets in
     let added = Some (with_piece (get_or packets at None) id.packet c.args.piece.now) in
-    others_kept c.self.inside.inputs c.self.inside.classes packets c.add.new.self c.args.self.now c.args.cell.now at added c.self.view_is place c.in_ok-add.ensures.added c.requires.class
+    others_kept c.self.inside.inputs c.self.inside.classes packets c.add.new.self c.args.self.now c.args.cell.now at
+    added c.self.view_is place c.in_ok-add.ensures.added c.requires.class
 
 pub returns-clause-others : goal.returns-clause-others
 returns-clause-others c =
@@ -39,5 +46,7 @@ returns-clause-others c =
     let place : at ≡ id.input * c.self.inside.classes + c.args.cell.now.class = cc in
     let packets = c.self.inside.packets in
     let added = Some (with_piece (get_or packets at None) id.packet c.args.piece.now) in
-    others_kept c.self.inside.inputs c.self.inside.classes packets c.close-body.new.self c.args.self.now c.args.cell.now at None c.self.view_is place
-    (c.close-body.ensures.closed ∙ ap (λ others. set others at None) c.in_ok-add.ensures.added ∙ closed_again packets at added None) c.requires.class
+    others_kept c.self.inside.inputs c.self.inside.classes packets c.close-body.new.self c.args.self.now
+    c.args.cell.now at None c.self.view_is place
+    (c.close-body.ensures.closed ∙ ap (λ others. set others at None) c.in_ok-add.ensures.added
+    ∙ closed_again packets at added None) c.requires.class

@@ -7,19 +7,22 @@ returns-in_err-key-clause-closed c =
     let keys = c.self.inside.keys.items in
     let inside = inside_keys c.self.inside.packets keys c.args.self.now c.args.place c.self.view_is c.requires in
     closed_already c.args.self.now c.args.place
-    (none_at c.self.inside.packets keys c.args.self.now c.args.place c.self.view_is (key_at keys c.args.place c.index.result.now inside c.index.ensures ∙ c.in_err-key.was {u = tt}))
+    (none_at c.self.inside.packets keys c.args.self.now c.args.place c.self.view_is
+    (key_at keys c.args.place c.index.result.now inside c.index.ensures ∙ c.in_err-key.was {u = tt}))
 
 pub invariant_of-self : goal.invariant_of-self
 invariant_of-self c =
     let keys = c.self.inside.keys.items in
     let inside = inside_keys c.self.inside.packets keys c.args.self.now c.args.place c.self.view_is c.requires in
-    closed_table c.self.inside.packets c.finish.new.packets keys c.args.place c.in_ok-key.key c.self.invariant inside c.finish.ensures.others
+    closed_table c.self.inside.packets c.finish.new.packets keys c.args.place c.in_ok-key.key c.self.invariant inside
+    c.finish.ensures.others
     (key_at keys c.args.place c.index.result.now inside c.index.ensures ∙ c.in_ok-key.was) c.finish.ensures.gone
 
 pub returns-clause-closed : goal.returns-clause-closed
 returns-clause-closed c =
     let keys = c.self.inside.keys.items in
     let inside = inside_keys c.self.inside.packets keys c.args.self.now c.args.place c.self.view_is c.requires in
-    closed_seen c.self.inside.packets c.finish.new.packets keys c.args.place c.in_ok-key.key c.self.invariant inside c.finish.ensures.others
+    closed_seen c.self.inside.packets c.finish.new.packets keys c.args.place c.in_ok-key.key c.self.invariant inside
+    c.finish.ensures.others
     (key_at keys c.args.place c.index.result.now inside c.index.ensures ∙ c.in_ok-key.was)
     ∙ ap (λ seen. set seen c.args.place None) c.self.view_is

@@ -8,7 +8,8 @@ pub returns-in-Some : goal.returns-in-Some
 returns-in-Some c =
     let t = c.args.tables.now in
     let e = c.output_of.ensures in
-    c.unwrap_or.ensures ∙ ap (λ (o : Option ℕ). unwrap_or o t.default_output) e.output ∙ goes_to t c.args.self.now c.in-Some.mac e.address c.requires ∙ ap (output_for t) (sym c.in-Some.is)
+    c.unwrap_or.ensures ∙ ap (λ (o : Option ℕ). unwrap_or o t.default_output) e.output
+    ∙ goes_to t c.args.self.now c.in-Some.mac e.address c.requires ∙ ap (output_for t) (sym c.in-Some.is)
 
 pub returns-in-None : goal.returns-in-None
 returns-in-None c = let t = c.args.tables.now in sym (ap (output_for t) c.in-None.is ∙ goes_nowhere t)

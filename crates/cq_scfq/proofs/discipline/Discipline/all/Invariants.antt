@@ -6,6 +6,7 @@ use Rattle.cq_scfq.proofs.discipline.Discipline.all.Given as goal
 -- the disciplines of the ports before this one are there
 abbrev pub invariant-kinds : goal.invariant-kinds
 invariant-kinds l = record {
-  machines : map machine_from (map fixed_of l.all.items) ≡ map (λ kind. machine_of kind l.setup.classes) (take l.kind-index l.setup.kinds);
+  machines : map machine_from (map fixed_of l.all.items)
+      ≡ map (λ kind. machine_of kind l.setup.classes) (take l.kind-index l.setup.kinds);
   states : map state_of l.all.items ≡ map (λ kind. opening_of kind l.setup.classes) (take l.kind-index l.setup.kinds);
 }

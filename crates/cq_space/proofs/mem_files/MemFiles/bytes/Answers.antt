@@ -9,15 +9,26 @@ use Rattle.cq_space.proofs.mem_files.MemFiles.bytes.Goals as goal
 
 pub returns-in-Some-bytes : goal.returns-in-Some-bytes
 returns-in-Some-bytes c =
-    let is = finds c.self.inside.entries.items c.deref.result.now c.args.name.now c.in-Some.at c.deref.ensures.value c.in-Some.ensures in
-    ap (λ (m : MemSpace). get m.contents c.args.name.now) (sym c.self.view_is) ∙ told_first c.self.inside.entries.items c.in-Some.at c.args.name.now c.index.result.now is c.index.ensures ∙ ap (option_map (λ v. v.items)) c.in-Some-bytes.is ∙ ap Some (sym c.as_slice.ensures.value)
+    let is =
+    finds c.self.inside.entries.items c.deref.result.now c.args.name.now c.in-Some.at c.deref.ensures.value
+    c.in-Some.ensures in
+    ap (λ (m : MemSpace). get m.contents c.args.name.now) (sym c.self.view_is)
+    ∙ told_first c.self.inside.entries.items c.in-Some.at c.args.name.now c.index.result.now is c.index.ensures
+    ∙ ap (option_map (λ v. v.items)) c.in-Some-bytes.is ∙ ap Some (sym c.as_slice.ensures.value)
 
 pub returns-in-None-bytes : goal.returns-in-None-bytes
 returns-in-None-bytes c =
-    let is = finds c.self.inside.entries.items c.deref.result.now c.args.name.now c.in-Some.at c.deref.ensures.value c.in-Some.ensures in
-    ap (λ (m : MemSpace). get m.contents c.args.name.now) (sym c.self.view_is) ∙ told_first c.self.inside.entries.items c.in-Some.at c.args.name.now c.index.result.now is c.index.ensures ∙ ap (option_map (λ v. v.items)) c.in-None-bytes.is
+    let is =
+    finds c.self.inside.entries.items c.deref.result.now c.args.name.now c.in-Some.at c.deref.ensures.value
+    c.in-Some.ensures in
+    ap (λ (m : MemSpace). get m.contents c.args.name.now) (sym c.self.view_is)
+    ∙ told_first c.self.inside.entries.items c.in-Some.at c.args.name.now c.index.result.now is c.index.ensures
+    ∙ ap (option_map (λ v. v.items)) c.in-None-bytes.is
 
 pub returns-in-None : goal.returns-in-None
 returns-in-None c =
-    let none = finds_none c.self.inside.entries.items c.deref.result.now c.args.name.now c.deref.ensures.value c.in-None.ensures in
-    ap (λ (m : MemSpace). get m.contents c.args.name.now) (sym c.self.view_is) ∙ told_none c.self.inside.entries.items c.args.name.now none
+    let none =
+    finds_none c.self.inside.entries.items c.deref.result.now c.args.name.now c.deref.ensures.value
+    c.in-None.ensures in
+    ap (λ (m : MemSpace). get m.contents c.args.name.now) (sym c.self.view_is)
+    ∙ told_none c.self.inside.entries.items c.args.name.now none

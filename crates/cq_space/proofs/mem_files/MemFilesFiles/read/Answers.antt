@@ -7,22 +7,37 @@ use Rattle.cq_space.proofs.mem_files.MemFilesFiles.read.Goals as goal
 
 pub returns-in-Some-clause-next : goal.returns-in-Some-clause-next
 returns-in-Some-clause-next c =
-    let now = stands c.self.inside.entries.items c.self.inside.state _ c.self.inside.faults c.self.inside.starved c.self.inside.calls c.args.self.now c.in-Reads.is c.self.view_is c.self.invariant in
-    reads_on c.in-Some.most c.min-count.result c.index-entry.result.now c.held.result.now c.copy_from_slice.new.self c.args.buf.now now c.index-entry.ensures c.held.ensures c.min-count.ensures c.copy_from_slice.ensures.after (c.in-Some.ensures.progress (c.within.ensures.some c.requires.room))
+    let now =
+    stands c.self.inside.entries.items c.self.inside.state _ c.self.inside.faults c.self.inside.starved
+    c.self.inside.calls c.args.self.now c.in-Reads.is c.self.view_is c.self.invariant in
+    reads_on c.in-Some.most c.min-count.result c.index-entry.result.now c.held.result.now c.copy_from_slice.new.self
+    c.args.buf.now now c.index-entry.ensures c.held.ensures c.min-count.ensures c.copy_from_slice.ensures.after
+    (c.in-Some.ensures.progress (c.within.ensures.some c.requires.room))
 
 pub returns-in-Some-clause-moved : goal.returns-in-Some-clause-moved
 returns-in-Some-clause-moved c =
-    let now = stands c.self.inside.entries.items c.self.inside.state _ c.self.inside.faults c.self.inside.starved c.self.inside.calls c.args.self.now c.in-Reads.is c.self.view_is c.self.invariant in
-    let before = stays_less c.index-entry.result.now.read_cut c.in-Reads.place c.in-Some.most c.min-count.result (omega arith) c.in-Some.ensures.before in
-    let fewer : c.min-count.result ≤ c.within.result = let e = c.min-count.ensures in let b = c.in-Some.ensures.bound in omega arith in (
-      of_read (λ cut moved. StaysBefore cut moved c.min-count.result) c.index-entry.result.now now c.index-entry.ensures before,
-      short_before c.args.self.now.calls _ c.within.result c.min-count.result (c.next.ensures.made ∙ ap (λ (m : MemSpace). one_more m.calls) c.self.view_is) fewer c.within.ensures.short,
+    let now =
+    stands c.self.inside.entries.items c.self.inside.state _ c.self.inside.faults c.self.inside.starved
+    c.self.inside.calls c.args.self.now c.in-Reads.is c.self.view_is c.self.invariant in
+    let before =
+    stays_less c.index-entry.result.now.read_cut c.in-Reads.place c.in-Some.most c.min-count.result (omega arith)
+    c.in-Some.ensures.before in
+    let fewer : c.min-count.result ≤ c.within.result =
+    let e = c.min-count.ensures in let b = c.in-Some.ensures.bound in omega arith in (
+      of_read (λ cut moved. StaysBefore cut moved c.min-count.result) c.index-entry.result.now now
+          c.index-entry.ensures before,
+      short_before c.args.self.now.calls _ c.within.result c.min-count.result
+          (c.next.ensures.made ∙ ap (λ (m : MemSpace). one_more m.calls) c.self.view_is) fewer c.within.ensures.short,
     )
 
 pub returns-in-None-clause-why : goal.returns-in-None-clause-why
 returns-in-None-clause-why c =
-    let now = stands c.self.inside.entries.items c.self.inside.state _ c.self.inside.faults c.self.inside.starved c.self.inside.calls c.args.self.now c.in-Reads.is c.self.view_is c.self.invariant in
+    let now =
+    stands c.self.inside.entries.items c.self.inside.state _ c.self.inside.faults c.self.inside.starved
+    c.self.inside.calls c.args.self.now c.in-Reads.is c.self.view_is c.self.invariant in
     inr (record {
       cut = of_read IsReached c.index-entry.result.now now c.index-entry.ensures c.in-None.ensures.reached;
-      starved = ap (λ (m : MemSpace). m.starved) c.fault-in-None.ensures.closed ∙ ap (λ (m : MemSpace). m.starved) c.self.view_is;
+      starved =
+          ap (λ (m : MemSpace). m.starved) c.fault-in-None.ensures.closed
+          ∙ ap (λ (m : MemSpace). m.starved) c.self.view_is;
     })

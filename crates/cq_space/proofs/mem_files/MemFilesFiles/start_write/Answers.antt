@@ -10,6 +10,12 @@ use Rattle.cq_space.proofs.mem_files.MemFilesFiles.start_write.Goals as goal
 pub returns-in-Ok-clause-emptied : goal.returns-in-Ok-clause-emptied
 returns-in-Ok-clause-emptied c =
     let mid = c.place_of.new.entries in
-    let changed = written_back mid c.deref_mut.result.now c.put_bytes.new.entries (λ (k : Columns). with_bytes k c.in-Ok.at c.new.result.items) c.deref_mut.ensures.value c.put_bytes.auto.entries c.put_bytes.ensures in
-    let told = gives_bytes (columns_of c.self.inside.entries.items) (columns_of mid.items) _ c.in-Ok.at c.args.name.now c.new.result.items c.in-Ok.ensures.same (are_even mid.items) c.in-Ok.ensures.ok changed in
-    ap Some (told ∙ ap (λ (m : MemSpace). insert m.contents c.args.name.now c.new.result.items) c.self.view_is ∙ ap (insert c.args.self.now.contents c.args.name.now) c.new.ensures.items)
+    let changed =
+    written_back mid c.deref_mut.result.now c.put_bytes.new.entries
+    (λ (k : Columns). with_bytes k c.in-Ok.at c.new.result.items) c.deref_mut.ensures.value
+    c.put_bytes.auto.entries c.put_bytes.ensures in
+    let told =
+    gives_bytes (columns_of c.self.inside.entries.items) (columns_of mid.items) _ c.in-Ok.at c.args.name.now
+    c.new.result.items c.in-Ok.ensures.same (are_even mid.items) c.in-Ok.ensures.ok changed in
+    ap Some (told ∙ ap (λ (m : MemSpace). insert m.contents c.args.name.now c.new.result.items) c.self.view_is
+    ∙ ap (insert c.args.self.now.contents c.args.name.now) c.new.ensures.items)
