@@ -1,8 +1,8 @@
 -- Pieces of an array. The piece of n items from h on is take n (drop h xs). A part of the array that is written anew
 -- leaves what stands ahead of it and behind it.
-use Rattle.std.proofs.Common.{◌≡◌, ℕ, ◌+◌, ◌-◌, ◌<◌, ◌≤◌, List, [], ◌∷◌, ◌++◌, length, set, get_or, take, drop, refl, sym, ap, ◌∙◌, append_assoc, length-append, length-take, length-drop, arith}
+use Rattle.std.proofs.Common.{◌≡◌, ℕ, ◌+◌, ◌-◌, ◌<◌, ◌≤◌, List, [], ◌∷◌, ◌++◌, length, set, get_or, take, drop, refl, sym, ap, ◌∙◌, subst, append_assoc, length-append, length-take, length-drop, arith}
 use Rattle.std.specs.Prelude.{insert}
-use Rattle.std.proofs.lemmas.List.{take_all, take-take, take_at, drop-drop, drop_at, drop-append-le, drop_more, drop_all, drop-take, set_at}
+use Rattle.std.proofs.lemmas.List.{take-take, take_at, drop-drop, drop-append-le, drop_more, drop_all, drop-take}
 
 pub length_piece : {X : Type 0} (xs : List X) (h n : ℕ) → h + n ≤ length xs → length (take n (drop h xs)) ≡ n
 length_piece xs h n inside = let few = length-take n (drop h xs) in let left = length-drop h xs in omega arith
@@ -28,11 +28,6 @@ turned_on xs y some =
     let one : drop m xs ≡ get_or xs m y ∷ [] = drop_more xs m y last
     ∙ ap (λ l. get_or xs m y ∷ l) (drop_all (m + 1) xs (omega arith)) in
     ap (λ l. set (l ++ take m xs) 0 y) one
-
-pub turned_back : {X : Type 0} (xs : List X) (y : X) (n : ℕ) → n + 1 ≡ length xs →
-    set (drop 1 xs ++ take 1 xs) n y ≡ drop 1 xs ++ y ∷ []
-turned_back [] y n long = absurd (omega arith)
-turned_back (x ∷ xs) y n long = set_at xs x [] y n (omega arith)
 
 -- ## A part of the array written anew
 
@@ -62,21 +57,10 @@ put_on xs ys rest y h n p m sum inside is =
     ∙ ap (λ l. l ++ y ∷ take m (drop (h + p) xs)) (sym ahead)
     ∙ ap (λ l. take p (take n (drop h xs)) ++ y ∷ l) (sym behind)
 
--- the cell and those ahead of it, one place back, where the piece ends with the array
-pub put_back : {X : Type 0} (xs ys rest : List X) (y : X) (h n p : ℕ) → p ≤ n → h + 1 + n ≡ length xs →
-    ys ≡ take p (drop (h + 1) xs) ++ y ∷ [] → rest ≡ drop (h + 1 + p) xs →
-    take (n + 1) (drop h (take h xs ++ (ys ++ rest))) ≡ insert (take n (drop (h + 1) xs)) p y
-put_back xs ys rest y h n p few whole is left =
-    let start : length (take h xs) ≡ h = let len = length-take h xs in omega arith in
-    let size : length (ys ++ rest) ≤ n + 1 =
-    let both = length-append ys rest in let len = ap length is ∙ length-append (take p (drop (h + 1) xs)) (y ∷ []) in
-    let piece = length_piece xs (h + 1) p (omega arith) in
-    let last = ap length left ∙ length-drop (h + 1 + p) xs in omega arith in
-    let all : take n (drop (h + 1) xs) ≡ drop (h + 1) xs = take_all n (drop (h + 1) xs)
-    (let len = length-drop (h + 1) xs in omega arith) in
-    ap (take (n + 1)) (drop_at (take h xs) (ys ++ rest) h start)
-    ∙ take_all (n + 1) (ys ++ rest) size
-    ∙ ap (λ l. l ++ rest) is
-    ∙ append_assoc (take p (drop (h + 1) xs)) (y ∷ []) rest
-    ∙ ap (λ l. take p (drop (h + 1) xs) ++ y ∷ l) (left ∙ sym (drop-drop p (h + 1) xs))
-    ∙ ap (λ l. insert l p y) (sym all)
+-- the same where the piece begins with the array
+pub put_on_front : {X : Type 0} (xs ys rest : List X) (y : X) (n p m : ℕ) → p + m ≡ n → n ≤ length xs →
+    ys ≡ y ∷ take m (drop p xs) → take (n + 1) (take p xs ++ (ys ++ rest)) ≡ insert (take n xs) p y
+put_on_front xs ys rest y n p m sum inside =
+    let start : 0 + p ≡ p = omega arith in
+    subst (λ (k : ℕ). ys ≡ y ∷ take m (drop k xs) → take (n + 1) (take k xs ++ (ys ++ rest)) ≡ insert (take n xs) p y)
+    start (put_on xs ys rest y 0 n p m sum (omega arith))

@@ -50,17 +50,19 @@ fn push_on(cells: &mut [Queued], queued: Queued)
     cells[0] = queued;
 }
 
-// A cell comes last and the others move one place back, over the first one.
-fn push_back(cells: &mut [Queued], queued: Queued)
-    requires { 0 < length cells.old }
-    ensures { cells.new ≡ drop 1 cells.old ++ queued ∷ [] }
+// The cells from a place on move to the front of the array.
+fn move_front(cells: &mut [Queued; 64], head: usize)
+    requires inside { head ≤ 64 }
+    requires each { length cells.old ≡ 64 }
+    ensures each { length cells.new ≡ 64 }
+    ensures front { take (64 - head) cells.new ≡ drop head cells.old }
 {
-    cells.rotate_left(1);
-    cells[cells.len() - 1] = queued;
+    cells.copy_within(head..64, 0);
 }
 
 // A cell goes into the piece of so many cells from the head on, and the answer is where the piece begins now. The cells
-// behind it move, or those ahead of it where the array ends behind them.
+// behind it move. Where the array ends behind the piece, all of it moves to the front first, once for all cells that find
+// room behind it then.
 fn put_inside(
     cells: &mut [Queued; 64],
     head: usize,
@@ -79,8 +81,9 @@ fn put_inside(
         push_on(&mut cells[head + place..end + 1], queued);
         return head;
     }
-    push_back(&mut cells[head - 1..head + place], queued);
-    head - 1
+    move_front(cells, head);
+    push_on(&mut cells[place..len + 1], queued);
+    0
 }
 
 // How many cells have a lesser key. They stand before all others, so halving finds where they end.

@@ -1,8 +1,8 @@
-use Rattle.std.proofs.Common.{◌≡◌, ℕ, ◌+◌, ◌-◌, ◌∙◌, ◌∷◌, ◌++◌, [], List, length, take, drop, ap, sym, arith}
+use Rattle.std.proofs.Common.{◌≡◌, ℕ, ◌+◌, ◌-◌, ◌∙◌, ◌∷◌, List, length, take, drop, ap, sym, arith}
 use Rattle.std.specs.Prelude.{insert}
-use Rattle.std.proofs.lemmas.List.{take-take, drop-drop}
+use Rattle.std.proofs.lemmas.List.{take-take, take_all, length-drop}
 use Rattle.cq_base.specs.declared.cell.Queued.{Queued}
-use Rattle.cq_urgency.proofs.Pieces.{length_piece, popped, put_on, put_back}
+use Rattle.cq_urgency.proofs.Pieces.{length_piece, put_on, put_on_front}
 use Rattle.cq_urgency.proofs.block.put_inside.Goals as goal
 
 pub returns-then-end-lt64-clause-cells : goal.returns-then-end-lt64-clause-cells
@@ -21,15 +21,20 @@ returns-then-end-lt64-clause-cells c =
 
 pub returns-clause-cells : goal.returns-clause-cells
 returns-clause-cells c =
-    let xs : List Queued = c.args.cells.now in
+    let xs : List Queued = c.move_front.new.cells in
     let place = c.requires.inside in let inside = c.requires.piece.inside in let each = c.requires.piece.each in
-    let late = c.if-end-lt64.false in let room = c.requires.room in
-    let from : ℕ = c.args.head - 1 in
-    let head : from + 1 ≡ c.args.head = omega arith in
-    let part : ℕ = c.args.head + c.args.place - from in
-    let size : part ≡ 1 + c.args.place = omega arith in
-    let is = c.push_back.ensures ∙ ap (λ l. l ++ c.args.queued ∷ []) (sym (popped xs from part c.args.place size)) in
-    let left = drop-drop part from xs
-    ∙ ap (λ n. drop n xs) (let sum : from + part ≡ from + 1 + c.args.place = omega arith in sum) in
-    put_back xs _ _ c.args.queued from c.args.len c.args.place place (omega arith) is left
-    ∙ ap (λ n. insert (take c.args.len (drop n xs)) c.args.place c.args.queued) head
+    let late = c.if-end-lt64.false in let room = c.requires.room in let whole = c.move_front.ensures.each in
+    let len : ℕ = c.args.len in
+    let behind : ℕ = len - c.args.place in
+    let part : ℕ = len + 1 - c.args.place in
+    let size : length (take part (drop c.args.place xs)) - 1 ≡ behind =
+    let few = length_piece xs c.args.place part (omega arith) in omega arith in
+    let is = c.push_on-2.ensures ∙ ap (λ n. c.args.queued ∷ take n (take part (drop c.args.place xs))) size
+    ∙ ap (λ l. c.args.queued ∷ l) (take-take behind part (drop c.args.place xs) (omega arith)) in
+    let left = length-drop c.args.head c.args.cells.now in
+    let ends : 64 - c.args.head ≡ len = omega arith in
+    let front : take len xs ≡ take len (drop c.args.head c.args.cells.now) =
+    ap (λ n. take n xs) (sym ends) ∙ c.move_front.ensures.front
+    ∙ sym (take_all len (drop c.args.head c.args.cells.now) (omega arith)) in
+    put_on_front xs _ _ c.args.queued len c.args.place behind (omega arith) (omega arith) is
+    ∙ ap (λ l. insert l c.args.place c.args.queued) front
