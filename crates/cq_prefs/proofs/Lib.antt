@@ -12,6 +12,7 @@ pub mod Placed
 pub mod Fill
 pub mod Renewing
 pub mod RenewingOne
+pub mod BehindFirst
 pub mod Changes
 pub mod Followed
 pub mod Pairs

@@ -1,0 +1,143 @@
+-- A cell that comes behind a more urgent one for its output changes no offer. The first cell for the output stands below
+-- the cushion, since it is more urgent, ahead of the first one that is less urgent, and ahead of the end. So it stays the
+-- first, and the newcomer's output stands behind it in the list of all the cells' outputs, where a repeat is not seen.
+use Rattle.std.proofs.Common.{◌≡◌, ◌≢◌, ℕ, zero, suc, ◌<◌, cond, Bool, false, List, [], ◌∷◌, length, map, Some, None, refl, sym, ap, ◌∙◌, subst, ⊎_elim, arith}
+use Rattle.std.specs.Prelude.{◌&&◌, insert, slice_get}
+use Rattle.std.specs.Option.{option_map}
+use Rattle.std.proofs.lemmas.Bool.{cases_eq, eq-eqb, ne_eqb}
+use Rattle.std.proofs.lemmas.List.{length-map, ext_get_or}
+use Rattle.std.proofs.lemmas.List.Folds.{find_at}
+use Rattle.std.proofs.lemmas.List.FromFn.{length-map-range_with_len}
+use Rattle.std.proofs.lemmas.Option.{slice_get_within, same_Some}
+use Rattle.cq_base.specs.declared.cell.Queued.{Queued}
+use Rattle.cq_base.specs.Key.{is_before}
+use Rattle.cq_base.specs.Cells.{IsBefore, MoreUrgentAhead, is_for, first_for, place_for, place_of_later, place_of_arrival, with_arrival}
+use Rattle.cq_base.proofs.Keys.{key_laws}
+use Rattle.cq_base.proofs.Lists.{first_here, first_later}
+use Rattle.cq_prefs.specs.FirstCells.{list_of, output_order, input_order, orders_of, first_key, places_by_key}
+use Rattle.cq_prefs.specs.Renewal.{without}
+use Rattle.cq_prefs.proofs.Changes.{same_but_arrival}
+use Rattle.cq_prefs.proofs.InputOrder.{key_at-first, inputs_at, outputs_at}
+use Rattle.cq_prefs.proofs.OneOrder.{same_orders}
+
+-- ## Where it goes in
+
+shown_here : (x : Queued) (xs : List Queued) (k : ℕ) → x.cell.output ≡ k → first_for k (x ∷ xs) ≡ Some x
+shown_here x xs k is = ap (λ b. cond b (Some x) (first_for k xs)) (eq-eqb x.cell.output k is)
+
+shown_later : (x : Queued) (xs : List Queued) (k : ℕ) → x.cell.output ≢ k → first_for k (x ∷ xs) ≡ first_for k xs
+shown_later x xs k other = ap (λ b. cond b (Some x) (first_for k xs)) (ne_eqb x.cell.output k other)
+
+-- the first cell for an output is for this output
+first_output : (k : ℕ) (xs : List Queued) (f : Queued) → first_for k xs ≡ Some f → f.cell.output ≡ k
+first_output k [] f h = absurd (let P : ⊥ = cc in P)
+first_output k (x ∷ xs) f h =
+    ⊎_elim
+    (λ is. ap (λ (q : Queued). q.cell.output) (sym (same_Some x f (sym (shown_here x xs k is) ∙ h))) ∙ is)
+    (λ other. first_output k xs f (sym (shown_later x xs k other) ∙ h))
+    (cases_eq x.cell.output k)
+
+-- it stands ahead of the first less urgent one for its output
+first_ahead : (c f : Queued) (xs : List Queued) → first_for c.cell.output xs ≡ Some f → IsBefore f c →
+    place_for c.cell.output xs < place_of_later c xs
+first_ahead c f [] h before = absurd (let P : ⊥ = cc in P)
+first_ahead c f (x ∷ xs) h before =
+    let later : Queued → Bool = λ y. is_for c.cell.output y && is_before c.key y.key in
+    ⊎_elim
+    (λ is.
+    let same : x ≡ f = same_Some x f (sym (shown_here x xs c.cell.output is) ∙ h) in
+    let no : later x ≡ false =
+    ap (λ b. b && is_before c.key x.key) (eq-eqb x.cell.output c.cell.output is)
+    ∙ key_laws.one_way x.key c.key (subst (λ (y : Queued). IsBefore y c) (sym same) before) in
+    let here = first_here (is_for c.cell.output) x xs (eq-eqb x.cell.output c.cell.output is) in
+    let past = first_later later x xs no in
+    omega arith)
+    (λ other.
+    let no : later x ≡ false =
+    ap (λ b. b && is_before c.key x.key) (ne_eqb x.cell.output c.cell.output other) in
+    let here = first_later (is_for c.cell.output) x xs (ne_eqb x.cell.output c.cell.output other) in
+    let past = first_later later x xs no in
+    let rest = first_ahead c f xs (sym (shown_later x xs c.cell.output other) ∙ h) before in
+    omega arith)
+    (cases_eq x.cell.output c.cell.output)
+
+-- so the newcomer goes in behind it
+goes_behind : (cushion : ℕ) (c f : Queued) (xs : List Queued) → first_for c.cell.output xs ≡ Some f → IsBefore f c →
+    MoreUrgentAhead cushion c xs →
+    (place_for c.cell.output xs < place_of_arrival cushion c xs) × (place_for c.cell.output xs < length xs)
+goes_behind cushion c f xs h before ahead =
+    let at : slice_get xs (place_for c.cell.output xs) ≡ Some f = sym (find_at (is_for c.cell.output) xs) ∙ h in
+    let inside = slice_get_within xs (place_for c.cell.output xs) f at in
+    let below = ahead (place_for c.cell.output xs) f at (first_output c.cell.output xs f h) before in
+    let earlier = first_ahead c f xs h before in
+    (omega arith, inside)
+
+-- ## What stays
+
+-- two lists make the same offers
+pub record OfferAlike (old new : List Queued) : Type 0 where
+  pub firsts : (k : ℕ) → first_for k new ≡ first_for k old
+  pub order : output_order new ≡ output_order old
+
+module _ (c : Queued) where
+  -- a cell that goes in behind the first one for its output
+  behind_first : (xs : List Queued) (place : ℕ) → place_for c.cell.output xs < place →
+      place_for c.cell.output xs < length xs → OfferAlike xs (insert xs place c)
+  behind_first [] place ahead inside = absurd (omega arith)
+  behind_first (x ∷ xs) zero ahead inside = absurd (omega arith)
+  behind_first (x ∷ xs) (suc place) ahead inside =
+      ⊎_elim
+      (λ is.
+      let apart = same_but_arrival (Some c.cell.output) xs (insert xs place c) place c refl refl in
+      record {
+        firsts = λ k. ⊎_elim
+            (λ here. shown_here x (insert xs place c) k here ∙ sym (shown_here x xs k here))
+            (λ other.
+            ap (cond (is_for k x) (Some x)) (apart.firsts k (ne_eqb k c.cell.output (λ e. other (is ∙ sym e)))))
+            (cases_eq x.cell.output k);
+        order =
+            ap (λ l. x.cell.output ∷ l)
+            (subst (λ k. without k (output_order (insert xs place c)) ≡ without k (output_order xs)) (sym is)
+            (sym apart.order));
+      })
+      (λ other.
+      let later = first_later (is_for c.cell.output) x xs (ne_eqb x.cell.output c.cell.output other) in
+      let rest = behind_first xs place (omega arith) (omega arith) in
+      record {
+        firsts = λ k. ap (cond (is_for k x) (Some x)) (rest.firsts k);
+        order = ap (λ l. x.cell.output ∷ without x.cell.output l) rest.order;
+      })
+      (cases_eq x.cell.output c.cell.output)
+
+-- a cell that comes while a more urgent one for its output waits
+pub comes_behind : (cushion : ℕ) (c f : Queued) (xs : List Queued) → first_for c.cell.output xs ≡ Some f →
+    IsBefore f c → MoreUrgentAhead cushion c xs → OfferAlike xs (with_arrival cushion c xs)
+comes_behind cushion c f xs h before ahead =
+    let behind = goes_behind cushion c f xs h before ahead in
+    behind_first c xs (place_of_arrival cushion c xs) behind.0 behind.1
+
+-- ## All offers
+
+-- lists that make the same offers one by one make the same ones together
+pub same_offers : (old new : List (List Queued)) → length new ≡ length old →
+    ((i : ℕ) → OfferAlike (list_of old i) (list_of new i)) → orders_of new ≡ orders_of old
+same_offers old new long each =
+    let row = length-map old output_order in
+    let row' = length-map new output_order in
+    let column = length-map-range_with_len (input_order old) 0 (length old) in
+    let column' = length-map-range_with_len (input_order new) 0 (length new) in
+    let keys : (k : ℕ) → map (first_key k) new ≡ map (first_key k) old = λ k.
+    let size = length-map old (first_key k) in
+    let size' = length-map new (first_key k) in
+    ext_get_or None (map (first_key k) new) (map (first_key k) old) (omega arith)
+    (λ i _. key_at-first k new i
+    ∙ ap (option_map (λ (q : Queued). q.key)) ((each i).firsts k)
+    ∙ sym (key_at-first k old i)) in
+    same_orders (orders_of new) (orders_of old)
+    (ext_get_or [] (orders_of new).outputs (orders_of old).outputs (omega arith)
+    (λ i _. outputs_at new i ∙ (each i).order ∙ sym (outputs_at old i)))
+    (ext_get_or [] (orders_of new).inputs (orders_of old).inputs (omega arith)
+    (λ j l.
+    let inside : j < length new = omega arith in
+    let inside' : j < length old = omega arith in
+    inputs_at new j inside ∙ ap places_by_key (keys j) ∙ sym (inputs_at old j inside')))
