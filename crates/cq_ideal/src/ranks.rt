@@ -161,17 +161,14 @@ impl<R: Rank> Ranks<R> {
         self.ranks[output as usize].rank(class)
     }
 
-    // A cell arrives for an output. It gets its key by its level and the rank that the output's machine gives it.
+    // A cell arrives at an input. It gets its key by its level and the rank that the output's machine gives it.
     fn keyed(&mut self, slot: Slot, input: Port, cell: Cell) -> Result<Queued, TagFault>
         requires output { cell.output < length self.old.fixed }
         requires class { cell.class < (machine_at (map R.machine self.old.fixed) cell.output).classes }
         ensures fixed { self.new.fixed ≡ self.old.fixed }
-        ensures keyed { IfOk result (λ q. q ≡ keyed cell (level_at (map R.machine self.old.fixed) cell.output cell.class)
-            (rank_at (map R.machine self.old.fixed) self.old.states cell.output cell.class) slot input) }
-        ensures given { OnOk result (self.new.states ≡ given_at (map R.machine self.old.fixed) self.old.states cell.output cell.class) }
+        ensures came { IfOk result (λ queued. (cells : List (Option Cell)) → ranking (map R.machine self.old.fixed) slot input (Some cell ∷ cells) self.old.states ≡ after_input (Some queued) (ranking (map R.machine self.old.fixed) slot (input + 1) cells self.new.states)) }
         ensures many { length self.new.states ≡ length self.old.states }
-        ensures fault { IfErr result (λ fault. fault ≡ record { slot = slot; input = input; output = cell.output }) }
-        ensures overflow { IsErr result ↔ (2 ^ 128 ≤ rank_at (map R.machine self.old.fixed) self.old.states cell.output cell.class) }
+        ensures fault { IfErr result (λ fault. (cells : List (Option Cell)) → ranking (map R.machine self.old.fixed) slot input (Some cell ∷ cells) self.old.states ≡ Err fault) }
     {
         let level = self.level(cell.output, cell.class);
         match self.rank(cell.output, cell.class) {
@@ -192,29 +189,9 @@ impl<R: Rank> Ranks<R> {
         }
     }
 
-    // What comes to an input is ranked, if it is a cell.
-    fn came(
-        &mut self,
-        slot: Slot,
-        input: Port,
-        cell: Option<Cell>,
-    ) -> Result<Option<Queued>, TagFault>
-        requires output { (c : Cell) → cell ≡ Some c → c.output < length self.old.fixed }
-        requires class { (c : Cell) → cell ≡ Some c → c.class < (machine_at (map R.machine self.old.fixed) c.output).classes }
-        ensures fixed { self.new.fixed ≡ self.old.fixed }
-        ensures came { IfOk result (λ came. (cells : List (Option Cell)) → ranking (map R.machine self.old.fixed) slot input (cell ∷ cells) self.old.states ≡ after_input came (ranking (map R.machine self.old.fixed) slot (input + 1) cells self.new.states)) }
-        ensures many { length self.new.states ≡ length self.old.states }
-        ensures fault { IfErr result (λ fault. (cells : List (Option Cell)) → ranking (map R.machine self.old.fixed) slot input (cell ∷ cells) self.old.states ≡ Err fault) }
-    {
-        match cell {
-            None => Ok(None),
-            Some(cell) => Ok(Some(self.keyed(slot, input, cell)?)),
-        }
-    }
-
     /// The cells that are admitted in a slot are ranked in order of input, each by its output's machine, and put into
     /// `came` at the places of their inputs, in place of those that stood there. The error is the first rank that does
-    /// not fit 128 bits.
+    /// not fit 128 bits, and then it is not told what stands in `came`.
     pub fn take(
         &mut self,
         slot: Slot,
@@ -238,9 +215,13 @@ impl<R: Rank> Ranks<R> {
         let ports = self.len();
         came.begin(ports);
         'inputs: for input in 0..ports {
-            let cell = limiter.admitted(arrivals, input);
-            let queued = self.came(slot, input, cell)?;
-            came.put(input, queued);
+            match limiter.admitted(arrivals, input) {
+                None => came.put(input, None),
+                Some(cell) => {
+                    let queued = self.keyed(slot, input, cell)?;
+                    came.put(input, Some(queued));
+                }
+            }
         }
         Ok(())
     }
