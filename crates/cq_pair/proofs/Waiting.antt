@@ -186,13 +186,14 @@ parted_back o places m i known inside had left =
     (λ k apart. waits-partner o places m i None k apart) 0 (ports o) (omega arith) (omega arith)
     )
 
-pub parted_out : (o : Orders) (places : List ℕ) (m : Partners) (i : ℕ) → length (outputs_of o i) ≤ get_or places i 0 →
-    waiting_inputs o places m ≡ waiting_inputs o places (set m i None)
-parted_out o places m i end =
-    filter_agree (is_waiting o places m) (is_waiting o places (set m i None))
+-- an input that has no output left waits with no partner, and with none that it gets
+pub still_out : (o : Orders) (places : List ℕ) (m : Partners) (i : ℕ) (p : Option ℕ) →
+    length (outputs_of o i) ≤ get_or places i 0 → waiting_inputs o places m ≡ waiting_inputs o places (set m i p)
+still_out o places m i p end =
+    filter_agree (is_waiting o places m) (is_waiting o places (set m i p))
     (λ k. ⊎_elim (λ is. ap (is_waiting o places m) is ∙ waits-done o places m i end
-    ∙ sym (ap (is_waiting o places (set m i None)) is ∙ waits-done o places (set m i None) i end))
-    (λ apart. sym (waits-partner o places m i None k apart)) (cases_eq k i)) (range_with_len 0 (ports o))
+    ∙ sym (ap (is_waiting o places (set m i p)) is ∙ waits-done o places (set m i p) i end))
+    (λ apart. sym (waits-partner o places m i p k apart)) (cases_eq k i)) (range_with_len 0 (ports o))
 
 pub few_waiting : (o : Orders) (places : List ℕ) (m : Partners) → length (waiting_inputs o places m) ≤ ports o
 few_waiting o places m =

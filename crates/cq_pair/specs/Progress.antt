@@ -1,5 +1,5 @@
 -- What a proposal core shows, and how it changes.
-use Rattle.std.specs.Prelude.{ℕ, ◌≡◌, ◌+◌, ◌&&◌, Bool, nat_lt, is_none, List, length, filter, slice_index, slice_set}
+use Rattle.std.specs.Prelude.{ℕ, ◌≡◌, ◌+◌, ◌&&◌, Bool, nat_lt, is_none, List, [], length, filter, slice_index, slice_set}
 use Rattle.std.specs.List.{range_with_len}
 use Rattle.cq_prefs.specs.Orders.{Orders, AreOffers, ports, outputs_of, position_of}
 use Rattle.cq_prefs.specs.Pairing.{Partners, partner_of, with_pair, without_pair}
@@ -12,6 +12,10 @@ pub record Progress : Type 0 where
   pub matching : Partners
   pub free : List ℕ
   pub made : ℕ
+
+-- no ports, and nothing proposed
+abbrev pub no_progress : Progress
+no_progress = record { state = record { positions = []; places = [] }; matching = []; free = []; made = 0 }
 
 -- proposals over these offers have led here, from the beginning on
 pub record IsReached (o : Orders) (c : Progress) : Type 0 where

@@ -1,5 +1,5 @@
 //! The free inputs in order of number.
-ghost use Rattle.std.specs.Prelude.{◌≡◌, ◌==◌, ◌<◌, ◌≤◌, length, nat_eq, nat_lt, position};
+ghost use Rattle.std.specs.Prelude.{◌≡◌, ◌==◌, ◌↔◌, ◌-◌, ◌<◌, ◌≤◌, IsTrue, [], Some, length, nat_eq, nat_lt, position, slice_get};
 ghost use Rattle.std.specs.List.{IsDistinct, position_or_len};
 ghost use Rattle.cq_prefs.specs.Orders.{place_in, ports};
 ghost use Rattle.cq_pair.specs.FreeInputs.{with_input, without_input, inputs_with_offers};
@@ -55,18 +55,33 @@ fn place_or_end(inputs: &[Port], input: Port) -> usize
     found(inputs, input).unwrap_or(inputs.len())
 }
 
+// Whether an input is the last of all.
+fn is_last(inputs: &[Port], input: Port) -> bool
+    ensures { IsTrue result ↔ (slice_get inputs.now (length inputs.now - 1) ≡ Some input) }
+{
+    inputs.last() == Some(&input)
+}
+
 impl FreeInputs {
-    /// The inputs that have an offer.
-    pub fn with_offers(offers: &Offers) -> FreeInputs
-        ensures { result ≡ inputs_with_offers offers.now (ports offers.now) }
+    /// No input.
+    pub fn none() -> FreeInputs
+        ensures { result ≡ [] }
     {
-        let mut inputs = ArrayVec::new();
+        FreeInputs {
+            inputs: ArrayVec::new(),
+        }
+    }
+
+    /// The inputs that have an offer, in place of those that were there.
+    pub fn fill(&mut self, offers: &Offers)
+        ensures { self.new ≡ inputs_with_offers offers.now (ports offers.now) }
+    {
+        self.inputs.clear();
         for input in 0..offers.ports() {
             if !offers.outputs_of(input).is_empty() {
-                inputs.push(input);
+                self.inputs.push(input);
             }
         }
-        FreeInputs { inputs }
     }
 
     /// Puts an input in, before those of greater numbers.
@@ -78,11 +93,16 @@ impl FreeInputs {
         self.inputs.insert(place, input);
     }
 
-    /// Takes an input out. It may be out already. Of the others only those behind it move.
+    /// Takes an input out. It may be out already. Of the others only those behind it move, so the last one is looked
+    /// at first.
     pub fn remove(&mut self, input: Port)
         requires { IsDistinct nat_eq self.old }
         ensures { self.new ≡ without_input input self.old }
     {
+        if is_last(self.inputs.as_slice(), input) {
+            self.inputs.pop();
+            return;
+        }
         let place = place_or_end(self.inputs.as_slice(), input);
         if place < self.inputs.len() {
             self.inputs.remove(place);

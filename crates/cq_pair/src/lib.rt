@@ -13,5 +13,5 @@ mod proposal_core;
 mod tests;
 
 pub use cq_prefs::{Outcome, Phase};
-pub use order::{LowestFirst, Order};
+pub use order::{LastFirst, LowestFirst, Order};
 pub use proposal_core::Core;

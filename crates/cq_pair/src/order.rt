@@ -1,5 +1,5 @@
 //! Who proposes next.
-ghost use Rattle.std.specs.Prelude.{◌<◌, ◌≡◌, length};
+ghost use Rattle.std.specs.Prelude.{◌+◌, ◌<◌, ◌≡◌, length};
 
 use cq_base::Port;
 
@@ -24,5 +24,21 @@ impl Order for LowestFirst {
         ensures first { result ≡ 0 }
     {
         0
+    }
+}
+
+/// The free input of the greatest number proposes next. As it stands last among the free ones, none of the others moves
+/// when it is taken out.
+#[derive(Clone, Copy, Debug)]
+pub struct LastFirst;
+
+impl Order for LastFirst {
+    /// The last place.
+    fn choose(&mut self, free: &[Port]) -> usize
+        requires { 0 < length free.now }
+        ensures inside { result < length free.now }
+        ensures last { result + 1 ≡ length free.now }
+    {
+        free.len() - 1
     }
 }

@@ -40,6 +40,15 @@ impl PerPort {
         }
     }
 
+    /// The same number for each of so many ports, in place of what stood there.
+    pub fn fill(&mut self, ports: u16, number: u16)
+        requires { ports ≤ 64 }
+        ensures { self.new ≡ replicate ports number }
+    {
+        self.ports = ports;
+        self.numbers.fill(number);
+    }
+
     /// The number of a port.
     pub fn at(&self, port: Port) -> u16
         requires { port < length self.now }

@@ -1,9 +1,9 @@
 //! Proposals, one at a time.
-ghost use Rattle.std.specs.Prelude.{◌≡◌, ◌≢◌, ◌<◌, ◌≤◌, ◌+◌, [], length, None};
+ghost use Rattle.std.specs.Prelude.{◌≡◌, ◌≢◌, ◌<◌, ◌≤◌, ◌+◌, [], length, replicate, None};
 ghost use Rattle.cq_prefs.specs.Orders.{ports, outputs_of, position_of};
 ghost use Rattle.cq_prefs.specs.Pairing.{IsFreeInput, IsFreeOutput, IsInputBest, partner_of, proposals};
 ghost use Rattle.cq_prefs.specs.Proposals.{IsFree, next_output, next_place, outcome_of, propose, start};
-ghost use Rattle.cq_pair.specs.Progress.{IsAsk, IsReached, MovesOn, Parts, ShowsWaiting, Takes};
+ghost use Rattle.cq_pair.specs.Progress.{IsAsk, IsReached, MovesOn, Parts, ShowsWaiting, Takes, no_progress};
 
 use crate::free_inputs::FreeInputs;
 use crate::order::Order;
@@ -47,21 +47,57 @@ struct Asked {
     held: u16,
 }
 
+// No pair is left, over so many ports. Pairs of as many ports are parted where they stand.
+fn part_all(matching: &mut Matching, ports: u16)
+    requires { ports ≤ 64 }
+    ensures { matching.new ≡ replicate ports None }
+{
+    if matching.ports() != ports {
+        *matching = Matching::none(ports);
+        return;
+    }
+    'inputs: for input in 0..ports {
+        matching.part(input);
+    }
+}
+
 impl Core {
+    /// There are no ports, and no proposal was made. What is kept between phases begins as this one.
+    pub fn none() -> Core
+        ensures { result ≡ no_progress }
+    {
+        Core {
+            positions: PerPort::all(0, 0),
+            places: PerPort::all(0, 0),
+            matching: Matching::none(0),
+            free: FreeInputs::none(),
+            made: 0,
+        }
+    }
+
     /// No output holds anybody, and no proposal was made.
     pub fn begin(offers: &Offers) -> Core
         ensures reached { IsReached offers.now result }
         ensures state { result.state ≡ start offers.now }
         ensures made { result.made ≡ 0 }
     {
+        let mut core = Core::none();
+        core.begin_again(offers);
+        core
+    }
+
+    /// The same in place of whatever these ports, or others, have come to.
+    pub fn begin_again(&mut self, offers: &Offers)
+        ensures reached { IsReached offers.now self.new }
+        ensures state { self.new.state ≡ start offers.now }
+        ensures made { self.new.made ≡ 0 }
+    {
         let ports = offers.ports();
-        Core {
-            positions: PerPort::all(ports, ports),
-            places: PerPort::all(ports, 0),
-            matching: Matching::none(ports),
-            free: FreeInputs::with_offers(offers),
-            made: 0,
-        }
+        self.positions.fill(ports, ports);
+        self.places.fill(ports, 0);
+        part_all(&mut self.matching, ports);
+        self.free.fill(offers);
+        self.made = 0;
     }
 
     /// The free inputs in order of number.
@@ -115,10 +151,10 @@ impl Core {
     }
 
     /// The pairs of each output and the input that it holds.
-    pub fn matching(&self) -> Matching
-        ensures { result ≡ self.now.matching }
+    pub fn pairs(&self) -> &Matching
+        ensures { result.now ≡ self.now.matching }
     {
-        self.matching
+        &self.matching
     }
 
     /// How many proposals were made.
@@ -200,6 +236,8 @@ impl Core {
     fn take(&mut self, offers: &Offers, input: Port, output: Port, position: u16)
         requires input { input < length self.old.matching }
         requires output { output < length self.old.matching }
+        requires known { input < ports offers.now }
+        requires places { input < length self.old.state.places }
         requires positions { output < length self.old.state.positions }
         requires free_input { IsFreeInput self.old.matching input }
         requires free_output { IsFreeOutput self.old.matching output }
@@ -208,6 +246,10 @@ impl Core {
     {
         self.positions.set(output, position);
         self.matching.join(input, output);
-        self.free.remove(input);
+        // One that has no output left is out already.
+        let next = self.places.at(input) as usize;
+        if next != offers.outputs_of(input).len() {
+            self.free.remove(input);
+        }
     }
 }

@@ -4,22 +4,12 @@ ghost use Rattle.cq_base.specs.Cells.{ArrivedBefore};
 ghost use Rattle.cq_prefs.specs.Orders.{ports};
 ghost use Rattle.cq_pair.specs.Progress.{IsReached};
 
-use crate::{Core, LowestFirst, Order, Outcome};
+use crate::{Core, LastFirst, LowestFirst, Outcome};
 use cq_base::{Cell, CellId, Key, Port, Queued};
 use cq_list::InputList;
 use cq_prefs::Offers;
 use std::alloc::Global;
 use std::test::Fail;
-
-// The free input of the greatest number proposes next.
-#[derive(Clone, Copy)]
-struct LastFirst;
-
-impl Order for LastFirst {
-    fn choose(&mut self, free: &[Port]) -> usize {
-        free.len() - 1
-    }
-}
 
 // A cell of an input for an output, with a rank, that arrived in a slot.
 fn waiting(input: Port, output: Port, rank: u128, slot: u32) -> Queued
@@ -135,7 +125,7 @@ fn partners(core: &Core, offers: &Offers) -> [Option<Port>; 3]
     requires { IsReached offers.now core.now }
 {
     let mut partners = [None; 3];
-    let matching = core.matching();
+    let matching = core.pairs();
     for input in 0..offers.ports().min(3) {
         partners[input as usize] = matching.partner_of(input);
     }

@@ -2,7 +2,7 @@ use Rattle.std.proofs.Common.{◌≡◌, ◌≢◌, ◌∙◌, None, length, set
 use Rattle.cq_prefs.specs.Pairing.{Partners, partner_of}
 use Rattle.cq_pair.specs.FreeInputs.{with_input}
 use Rattle.cq_pair.specs.Progress.{ShowsWaiting, waiting_inputs}
-use Rattle.cq_pair.proofs.Waiting.{parted_back, parted_out, room_back}
+use Rattle.cq_pair.proofs.Waiting.{parted_back, room_back, still_out}
 use Rattle.cq_pair.proofs.proposal_core.Core.part.Goals as goal
 
 pub insert-requires : goal.insert-requires
@@ -63,7 +63,7 @@ returns-else-next-outputs_of c =
       made = ap (λ x. x.made) c.self.view_is;
       waiting =
           waiting
-          ∙ parted_out o a.places a.matching c.args.input (let t = c.if-next-outputs_of.false in
+          ∙ still_out o a.places a.matching c.args.input None (let t = c.if-next-outputs_of.false in
           let e = c.at-next.ensures in
           let g = ap length c.outputs_of.ensures in
           omega arith)

@@ -36,6 +36,11 @@ take-requires c =
     record {
       input = i.0;
       output = j.0;
+      known = input_known _ _ _ _ _ _ a;
+      places =
+          let e = (sizes _ _ _ _ _ _ a c.move_on.new.self m).0 in
+          let k = input_known _ _ _ _ _ _ a in
+          omega arith;
       positions =
           let e = ap length m.positions in
           let f = positions_known c.args.offers.now a.offers _ a.reached in
@@ -95,6 +100,12 @@ take-requires-2 c =
     record {
       input = i.0;
       output = j.0;
+      known = input_known _ _ _ _ _ _ a;
+      places =
+          let e = ap (λ s. length s.places) c.part.ensures.state in
+          let f = (sizes _ _ _ _ _ _ a c.move_on.new.self c.move_on.ensures).0 in
+          let k = input_known _ _ _ _ _ _ a in
+          omega arith;
       positions =
           let e = ap (λ s. length s.positions) c.part.ensures.state in
           let f = ap length c.move_on.ensures.positions in

@@ -1,7 +1,7 @@
 use Rattle.std.proofs.Common.{◌≡◌}
 use Rattle.cq_pair.specs.FreeInputs.{inputs_with_offers}
-use Rattle.cq_pair.proofs.free_inputs.FreeInputs.with_offers.Given as goal
+use Rattle.cq_pair.proofs.free_inputs.FreeInputs.fill.Given as goal
 
 -- the inputs before this one that have an offer are in
 abbrev pub invariant-loop-input : goal.invariant-loop-input
-invariant-loop-input l = l.inputs.items ≡ inputs_with_offers l.offers l.input
+invariant-loop-input l = l.self-inside.inputs.items ≡ inputs_with_offers l.offers l.input
