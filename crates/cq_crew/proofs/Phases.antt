@@ -1,4 +1,4 @@
--- What closing a ledger says of the phase.
+-- What closing a ledger says of the phase, and what a core says that has settled.
 use Rattle.std.proofs.Common.{◌≡◌, ◌*◌, ◌≤◌, sym, ◌∙◌, ap, arith, subst}
 use Rattle.cq_prefs.specs.Orders.{Orders, AreOffers, ports}
 use Rattle.cq_prefs.specs.Pairing.{Partners, IsInputBest, proposals}
@@ -7,7 +7,7 @@ use Rattle.cq_ledger.specs.Plays.{IsFew}
 use Rattle.cq_ledger.specs.Seats.{LedgerState, SeatState, IsSeatOf}
 use Rattle.cq_pair.specs.Progress.{Progress, IsReached}
 use Rattle.cq_pair.proofs.Reached.{made-most}
-use Rattle.cq_crew.specs.Settling.{IsBestPhase}
+use Rattle.cq_crew.specs.Settling.{IsBestKept, IsBestPhase}
 
 pub best-closed : (o : Orders) (l : LedgerState) (s : SeatState) (phase : Phase) → l.offers ≡ o → IsSeatOf l s →
     IsFew s.view → IsInputBest l.offers phase.matching → phase.proposals ≡ proposals l.offers phase.matching →
@@ -23,14 +23,17 @@ best-closed o l s phase same of few is_best counted made =
       few = omega arith;
     }
 
-pub best-settled : (o : Orders) → AreOffers o → (c : Progress) (phase : Phase) → phase.matching ≡ c.matching →
-    phase.proposals ≡ c.made → IsReached o c → IsInputBest o c.matching → c.made ≡ proposals o c.matching →
-    IsBestPhase o phase
-best-settled o v c phase matching made reached is_best counted =
-    let most = made-most o v c reached in
+pub best-kept : (o : Orders) → AreOffers o → (c : Progress) → IsReached o c → IsInputBest o c.matching →
+    c.made ≡ proposals o c.matching → IsBestKept o c
+best-kept o v c reached is_best counted = record { best = is_best; count = counted; few = made-most o v c reached }
+
+pub best-settled : (o : Orders) (c : Progress) (phase : Phase) → phase.matching ≡ c.matching →
+    phase.proposals ≡ c.made → IsBestKept o c → IsBestPhase o phase
+best-settled o c phase matching made kept =
+    let most = kept.few in
     let Q : Partners → Type 0 = λ m. IsInputBest o m in
     record {
-      best = subst Q (sym matching) is_best;
-      count = made ∙ counted ∙ ap (proposals o) (sym matching);
+      best = subst Q (sym matching) kept.best;
+      count = made ∙ kept.count ∙ ap (proposals o) (sym matching);
       few = omega arith;
     }

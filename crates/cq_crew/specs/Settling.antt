@@ -4,6 +4,7 @@ use Rattle.cq_prefs.specs.Orders.{Orders, ports}
 use Rattle.cq_prefs.specs.Pairing.{IsInputBest, proposals}
 use Rattle.cq_prefs.specs.declared.outcome.Phase.{Phase}
 use Rattle.cq_pair.specs.FreeInputs.{inputs_with_offers}
+use Rattle.cq_pair.specs.Progress.{Progress}
 use Rattle.cq_crew.specs.declared.settled.Settled.{Settled}
 use Rattle.cq_crew.specs.declared.settled.Settled.TheVariants.{Shared, Alone}
 
@@ -22,6 +23,12 @@ pub record IsBestPhase (o : Orders) (phase : Phase) : Type 0 where
   pub best : IsInputBest o phase.matching
   pub count : phase.proposals ≡ proposals o phase.matching
   pub few : phase.proposals ≤ ports o * ports o
+
+-- the same in a core that is kept between phases
+pub record IsBestKept (o : Orders) (core : Progress) : Type 0 where
+  pub best : IsInputBest o core.matching
+  pub count : core.made ≡ proposals o core.matching
+  pub few : core.made ≤ ports o * ports o
 
 -- how many workers are used: as many as are asked for, and no more than there are inputs with an offer
 abbrev pub workers_used : Orders → ℕ → ℕ

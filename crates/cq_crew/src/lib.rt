@@ -18,5 +18,5 @@ mod worker;
 
 pub use cq_ledger::{Closed, LedgerSeat, Outcome, Phase};
 pub use gate::{Gate, OpenGate};
-pub use phase::{pair_phase, settle_alone};
+pub use phase::{pair_phase, settle_kept};
 pub use settled::Settled;

@@ -3,13 +3,13 @@ ghost use Rattle.std.specs.Prelude.{◌≡◌, ◌≤◌, ◌↔◌, IfSome, IsT
 ghost use Rattle.cq_prefs.specs.Orders.{ports};
 ghost use Rattle.cq_pair.specs.FreeInputs.{inputs_with_offers};
 ghost use Rattle.cq_ledger.specs.Seats.{HasClaimedAll};
-ghost use Rattle.cq_crew.specs.Settling.{IsBestPhase, IsShared, phase_of, workers_used};
+ghost use Rattle.cq_crew.specs.Settling.{IsBestKept, IsBestPhase, IsShared, phase_of, workers_used};
 
 use crate::crew::work_all;
 use crate::gate::Gate;
 use crate::settled::Settled;
 use cq_ledger::{Closed, Ledger, LedgerSeat, Phase};
-use cq_pair::{Core, LowestFirst};
+use cq_pair::{Core, LastFirst};
 use cq_prefs::Offers;
 use std::alloc::Global;
 use std::thread::Threads;
@@ -58,17 +58,26 @@ fn count_offering(offers: &Offers) -> u16
     count
 }
 
-/// The phase by one thread, in which the least free input proposes. It is the one that `pair_phase` finds, for a caller
-/// that has no second worker.
-pub fn settle_alone(offers: &Offers) -> Phase
-    ensures { IsBestPhase offers.now result }
+/// The matching of a phase by one thread, found in a core that is kept from phase to phase. It is the one that
+/// `pair_phase` finds, with as many proposals, for a caller that has no second worker. Whatever the core came to before
+/// is gone.
+pub fn settle_kept(offers: &Offers, core: &mut Core)
+    ensures { IsBestKept offers.now core.new }
 {
     // Its contract tells that the orders of both sides fit together.
     let _ports = offers.ports();
-    let mut core = Core::begin(offers);
-    core.settle(offers, &mut LowestFirst);
+    core.begin_again(offers);
+    core.settle(offers, &mut LastFirst);
+}
+
+// The phase by one thread.
+fn settle_alone(offers: &Offers) -> Phase
+    ensures { IsBestPhase offers.now result }
+{
+    let mut core = Core::none();
+    settle_kept(offers, &mut core);
     Phase {
-        matching: core.matching(),
+        matching: *core.pairs(),
         proposals: core.made(),
     }
 }

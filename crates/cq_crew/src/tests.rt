@@ -164,7 +164,7 @@ fn one_core_comes_to_the_same(rt: HostRuntime) -> Result<(), Fail> {
     let mut core = Core::begin(&offers);
     core.settle(&offers, &mut LowestFirst);
     assert_eq!(rt;
-        partners(rt.alloc(), &core.matching())?,
+        partners(rt.alloc(), core.pairs())?,
         last_to_first(rt.alloc(), 64)?
     );
     assert_eq!(rt; core.made(), 2080);

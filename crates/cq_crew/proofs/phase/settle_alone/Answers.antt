@@ -3,6 +3,6 @@ use Rattle.cq_crew.proofs.phase.settle_alone.Goals as goal
 
 pub returns : goal.returns
 returns c =
-    best-settled c.args.offers.now c.ports-ports.ensures.offers c.settle.new.self
-    (record { matching = c.matching.result; proposals = c.made.result })
-    c.matching.ensures c.made.ensures c.settle.ensures.reached c.settle.ensures.best c.settle.ensures.proposals
+    best-settled c.args.offers.now c.settle_kept.new.core
+    (record { matching = c.pairs.result.now; proposals = c.made.result })
+    c.pairs.ensures c.made.ensures c.settle_kept.ensures
