@@ -17,5 +17,5 @@ mod write;
 pub use capture::{Capture, PacketRow};
 pub use form::Form;
 pub use laws::{a_file_has_packets_or_a_fault, reading_is_by_the_grammar, written_is_spelt};
-pub use read::{PcapRefusal, form_of, read_capture, row_at};
-pub use write::{OutPacket, capture_bytes};
+pub use read::{FILE_HEADER, PcapRefusal, RECORD_HEADER, form_of, read_capture, row_at};
+pub use write::{OutPacket, begin_capture, capture_bytes, put_packet};

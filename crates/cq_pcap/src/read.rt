@@ -51,10 +51,11 @@ impl From<NoMemory> for PcapRefusal {
     }
 }
 
-// The bytes of a file header, and those of a record before its captured bytes.
-const FILE_HEADER: usize = 24;
+/// The bytes of a file header.
+pub const FILE_HEADER: usize = 24;
 
-const RECORD_HEADER: usize = 16;
+/// The bytes of a record before its captured bytes.
+pub const RECORD_HEADER: usize = 16;
 
 const MAJOR: u16 = 2;
 

@@ -1,8 +1,9 @@
 // Captures that are written.
-ghost use Rattle.std.specs.Prelude.{◌≡◌, ◌≤◌, ◌++◌, false, length, All, IfOk, OnOk};
+ghost use Rattle.std.specs.Prelude.{◌≡◌, ◌≤◌, ◌++◌, [], false, length, All, IfOk, OnOk};
 ghost use Rattle.cq_pcap.specs.Record.{spelling};
 ghost use Rattle.cq_pcap.specs.Written.{written, written_record};
 
+use crate::{FILE_HEADER, RECORD_HEADER};
 use byteorder::{ByteOrder, LittleEndian};
 use cq_base::{NoMemory, Sequence};
 use std::alloc::Global;
@@ -20,26 +21,41 @@ pub struct OutPacket {
 
 // Little-endian with nanoseconds, version 2.4, zone and sigfigs 0, at most 262,144 bytes a packet,
 // Ethernet.
-const FILE_HEADER: [u8; 24] = [
+const HEADER: [u8; FILE_HEADER] = [
     0x4d, 0x3c, 0xb2, 0xa1, 2, 0, 4, 0, 0, 0, 0, 0, 0, 0, 0, 0, 0, 0, 4, 0, 1, 0, 0, 0,
 ];
-
-const RECORD_HEADER: usize = 16;
 
 // In nanoseconds.
 const SECOND: u128 = 1_000_000_000;
 
-#[tactic(auto, using(std::proofs::Common::append_assoc))]
-fn put_record(out: &mut Vec<u8>, packet: &OutPacket) -> Result<(), NoMemory>
-    requires { length packet.now.body ≤ 262144 }
-    ensures { OnOk result (out.new.items ≡ out.old.items ++ spelling false (written_record packet.now)) }
+/// The bytes of a capture without packets, with room for so many bytes in all: where the file comes to no more, it never
+/// moves while packets are put behind its header. The error is want of memory.
+pub fn begin_capture(alloc: Global, size: usize) -> Result<Vec<u8>, NoMemory>
+    ensures { IfOk result (λ v. v.items ≡ written []) }
 {
-    let body = packet.body.as_slice();
+    let mut out = Vec::with_capacity(alloc, size)?;
+    out.extend_from_slice(&HEADER)?;
+    Ok(out)
+}
+
+/// Puts the record of one more packet behind the bytes of a capture: its stamp in nanoseconds, its length on the wire, and
+/// its captured bytes, at most 262,144. The seconds of the stamp are written modulo 2^32. The error is want of memory, and
+/// then the bytes are of no use.
+#[tactic(auto, using(std::proofs::Common::append_assoc))]
+pub fn put_packet(
+    out: &mut Vec<u8>,
+    stamp: u128,
+    original: u32,
+    body: &[u8],
+) -> Result<(), NoMemory>
+    requires { length body.now ≤ 262144 }
+    ensures { OnOk result (out.new.items ≡ out.old.items ++ spelling false (written_record (record { stamp = stamp; original = original; body = body.now }))) }
+{
     let figures = [
-        (packet.stamp / SECOND % (1 << 32)) as u32,
-        (packet.stamp % SECOND) as u32,
+        (stamp / SECOND % (1 << 32)) as u32,
+        (stamp % SECOND) as u32,
         body.len() as u32,
-        packet.original,
+        original,
     ];
     let mut header = [0; RECORD_HEADER];
     LittleEndian::write_u32_into(&figures, &mut header);
@@ -55,13 +71,17 @@ pub fn capture_bytes(alloc: Global, packets: &[OutPacket]) -> Result<Vec<u8>, No
     requires { All (λ p. length p.body ≤ 262144) packets.now }
     ensures { IfOk result (λ v. v.items ≡ written packets.now) }
 {
-    let size = packets.iter().fold(FILE_HEADER.len(), |size, packet| {
+    let size = packets.iter().fold(FILE_HEADER, |size, packet| {
         size.saturating_add(RECORD_HEADER + packet.body.as_slice().len())
     });
-    let mut out = Vec::with_capacity(alloc, size)?;
-    out.extend_from_slice(&FILE_HEADER)?;
+    let mut out = begin_capture(alloc, size)?;
     for packet in packets {
-        put_record(&mut out, packet)?;
+        put_packet(
+            &mut out,
+            packet.stamp,
+            packet.original,
+            packet.body.as_slice(),
+        )?;
     }
     Ok(out)
 }
