@@ -1,8 +1,7 @@
 -- Made packets are small: each fits a record, and all records of an input fit a file. So the file that is written is
 -- read again as the same packets, and no fault of a file can come.
-use Rattle.std.proofs.Common.{◌≡◌, ℕ, ◌+◌, ◌*◌, ◌<◌, ◌≤◌, ◌^◌, List, [], ◌∷◌, ◌++◌, length, map, false, All, Ok, Err, IfSome, refl, ap, sym, subst, ◌∙◌, arith, length-append}
+use Rattle.std.proofs.Common.{◌≡◌, ℕ, ◌+◌, ◌*◌, ◌<◌, ◌≤◌, ◌^◌, List, [], ◌∷◌, ◌++◌, length, map, false, Ok, Err, IfSome, refl, ap, sym, subst, ◌∙◌, arith, length-append}
 use Rattle.std.proofs.lemmas.List.{length-map}
-use Rattle.std.proofs.lemmas.List.Elements.{All-from_recursion}
 use Rattle.std.proofs.lemmas.List.FromFn.{length-map-range_with_len}
 use Rattle.std.specs.List.{AllByRecursion, flat_map}
 use Rattle.cq_pcap.specs.Captured.{Captured}
@@ -16,7 +15,7 @@ use Rattle.cq_pcap.specs.declared.write.OutPacket.{OutPacket}
 use Rattle.cq_pcap.proofs.SpeltIsRead.{spelt_is_read}
 use Rattle.cq_pcap.proofs.WrittenIsSpelt.{written_is_spelt}
 use Rattle.cq_gen.specs.Draws.{draw_for}
-use Rattle.cq_gen.specs.Packets.{frame_of, packet_of, packets_to}
+use Rattle.cq_gen.specs.Packets.{frame_of, packet_of, packets_to, to_write}
 use Rattle.cq_gen.proofs.Counted.{all_by_counted}
 
 -- a packet of 60 bytes, with a stamp below 2^32 seconds
@@ -50,11 +49,6 @@ writable (p ∷ ps) small =
     let body : length p.body ≡ 60 = small.0.body in
     (record { stamp = small.0.stamp; original = omega arith; body = omega arith }, writable ps small.1)
 
-short : (ps : List OutPacket) → AllByRecursion IsSmall (map read_again ps) →
-    AllByRecursion (λ p. length p.body ≤ 262144) ps
-short [] small = tt
-short (p ∷ ps) small = let body : length p.body ≡ 60 = small.0.body in (omega arith, short ps small.1)
-
 length-spelling : (r : Record) (rest : List ℕ) → length (spelling false r ++ rest) ≡ 16 + (length r.body + length rest)
 length-spelling r rest = omega (arith, length-append r.body rest)
 
@@ -73,24 +67,32 @@ length-written ps = length-append written_header (spelt ps)
 
 -- ## The packets of an input
 
-module _ (words : List ℕ) (ports slots input : ℕ) (few : slots ≤ 20000) (ps : List OutPacket)
-    (made : map read_again ps ≡ packets_to words ports slots input) where
-  small : AllByRecursion IsSmall (map read_again ps)
-  small = subst (AllByRecursion IsSmall) (sym made) (packets_small words ports slots input few)
+again : (ps : List Captured) → map read_again (map to_write ps) ≡ ps
+again [] = refl
+again (p ∷ ps) = ap (λ (qs : List Captured). p ∷ qs) (again ps)
 
-  pub bodies_short : All (λ p. length p.body ≤ 262144) ps
-  bodies_short = All-from_recursion (λ (p : OutPacket). length p.body ≤ 262144) ps (short ps small)
+module _ (words : List ℕ) (ports slots input : ℕ) (few : slots ≤ 20000) (bytes : List ℕ)
+    (wrote : bytes ≡ written (map to_write (packets_to words ports slots input))) where
+  packets : List Captured
+  packets = packets_to words ports slots input
 
-  pub file_small : (bytes : List ℕ) → bytes ≡ written ps → length bytes ≤ 2 ^ 28
-  file_small bytes wrote =
-      let count : length ps ≡ slots =
-      sym (length-map ps read_again) ∙ ap length made ∙ length-packets_to words ports slots input in
+  small : AllByRecursion IsSmall (map read_again (map to_write packets))
+  unfolding packets
+  small = subst (AllByRecursion IsSmall) (sym (again packets)) (packets_small words ports slots input few)
+
+  pub file_small : length bytes ≤ 2 ^ 28
+  unfolding packets
+  file_small =
+      let ps = map to_write packets in
+      let count : length ps ≡ slots = length-map packets to_write ∙ length-packets_to words ports slots input in
       omega (arith, ap length wrote, length-written ps, length-spelt ps small)
 
-  pub file_read : (bytes : List ℕ) → bytes ≡ written ps → packets_of bytes ≡ Ok (packets_to words ports slots input)
-  file_read bytes wrote =
+  pub file_read : packets_of bytes ≡ Ok (packets_to words ports slots input)
+  unfolding packets
+  file_read =
+      let ps = map to_write packets in
       ap packets_of wrote ∙ spelt_is_read (written ps) (map read_again ps) (written_is_spelt ps (writable ps small))
-      ∙ ap Ok made
+      ∙ ap Ok (again packets)
 
 -- a file that is read has no fault, so a refusal is want of memory
 pub only_memory : (bytes : List ℕ) (packets : List Captured) (why : PcapRefusal) → packets_of bytes ≡ Ok packets →

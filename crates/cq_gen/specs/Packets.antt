@@ -2,6 +2,7 @@
 use Rattle.std.specs.Prelude.{ℕ, ◌*◌, ◌/◌, ◌%◌, ◌^◌, List, [], ◌∷◌, ◌++◌, map, replicate}
 use Rattle.std.specs.List.{range_with_len}
 use Rattle.cq_pcap.specs.Captured.{Captured}
+use Rattle.cq_pcap.specs.declared.write.OutPacket.{OutPacket}
 use Rattle.cq_gen.specs.Draws.{draw_for, first_draws}
 
 -- the address of an output
@@ -23,6 +24,10 @@ frame_of output input priority =
 unfoldable pub packet_of : ℕ → ℕ → ℕ → ℕ → Captured
 packet_of ports slot input word =
     record { stamp = slot * 512; original = 60; body = frame_of (word % ports) input (word / 2 ^ 29) }
+
+-- a packet, as it is written to a capture
+abbrev pub to_write : Captured → OutPacket
+to_write p = record { stamp = p.stamp; original = p.original; body = p.body }
 
 -- the packets that come to an input: one in each slot
 unfoldable pub packets_to : List ℕ → ℕ → ℕ → ℕ → List Captured

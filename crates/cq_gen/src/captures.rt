@@ -4,9 +4,9 @@ ghost use Rattle.std.specs.Int.{IsInRange};
 ghost use Rattle.std.specs.List.{range_with_len};
 ghost use Rattle.cq_gen.specs.Packets.{packets_to};
 
-use crate::packets::packets_to;
+use crate::packets::file_to;
 use cq_base::{NoMemory, Port};
-use cq_pcap::{Capture, PcapRefusal, capture_bytes, read_capture};
+use cq_pcap::{Capture, PcapRefusal, read_capture};
 use std::alloc::Global;
 
 // The capture of an input. Its packets are written and read again, as a capture keeps the bytes of its
@@ -24,8 +24,7 @@ fn capture_at(
     requires words { length words.now ≡ slots * ports }
     ensures { IfOk result (λ capture. capture ≡ packets_to words.now ports slots input) }
 {
-    let packets = packets_to(alloc, words, ports, slots, input)?;
-    let bytes = capture_bytes(alloc, packets.as_slice())?;
+    let bytes = file_to(alloc, words, ports, slots, input)?;
     match read_capture(alloc, bytes) {
         Ok(capture) => Ok(capture),
         Err(refusal) => match refusal {

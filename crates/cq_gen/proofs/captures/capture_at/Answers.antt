@@ -1,31 +1,21 @@
-use Rattle.std.proofs.Common.{map, ap, ◌∙◌}
-use Rattle.cq_pcap.specs.Written.{read_again}
-use Rattle.cq_gen.proofs.Small.{bodies_short, file_read, file_small, only_memory, same_packets}
+use Rattle.cq_gen.proofs.Small.{file_read, file_small, only_memory, same_packets}
 use Rattle.cq_gen.proofs.captures.capture_at.Goals as goal
-
-pub capture_bytes-requires : goal.capture_bytes-requires
-capture_bytes-requires c =
-    let made = ap (map read_again) c.as_slice.ensures.value ∙ c.in_ok-packets.ensures in
-    bodies_short c.args.words.now c.args.ports c.args.slots c.args.input c.requires.slots c.as_slice.result.now made
 
 pub read_capture-requires : goal.read_capture-requires
 read_capture-requires c =
-    let made = ap (map read_again) c.as_slice.ensures.value ∙ c.in_ok-packets.ensures in
-    file_small c.args.words.now c.args.ports c.args.slots c.args.input c.requires.slots c.as_slice.result.now made
-    c.in_ok-bytes.bytes.items c.in_ok-bytes.ensures
+    file_small c.args.words.now c.args.ports c.args.slots c.args.input c.requires.slots c.in_ok-bytes.bytes.items
+    c.in_ok-bytes.ensures
 
 pub unreachable-requires : goal.unreachable-requires
 unreachable-requires c =
-    let made = ap (map read_again) c.as_slice.ensures.value ∙ c.in_ok-packets.ensures in
     let read =
-    file_read c.args.words.now c.args.ports c.args.slots c.args.input c.requires.slots c.as_slice.result.now made
-    c.in_ok-bytes.bytes.items c.in_ok-bytes.ensures in
+    file_read c.args.words.now c.args.ports c.args.slots c.args.input c.requires.slots c.in_ok-bytes.bytes.items
+    c.in_ok-bytes.ensures in
     c.in_default.not-NoMemory (only_memory c.in_ok-bytes.bytes.items _ c.in-Err.refusal read c.in-Err.ensures.unread)
 
 pub returns-in-Ok : goal.returns-in-Ok
 returns-in-Ok c =
-    let made = ap (map read_again) c.as_slice.ensures.value ∙ c.in_ok-packets.ensures in
     let read =
-    file_read c.args.words.now c.args.ports c.args.slots c.args.input c.requires.slots c.as_slice.result.now made
-    c.in_ok-bytes.bytes.items c.in_ok-bytes.ensures in
+    file_read c.args.words.now c.args.ports c.args.slots c.args.input c.requires.slots c.in_ok-bytes.bytes.items
+    c.in_ok-bytes.ensures in
     same_packets c.in_ok-bytes.bytes.items c.in-Ok.capture _ read c.in-Ok.ensures.read
