@@ -10,6 +10,7 @@ pub mod LimitedExample
 pub mod LimitedFlows
 pub mod LimitedIdeal
 pub mod Limiter
+pub mod OneSlot
 pub mod Parts
 pub mod Ranking
 pub mod Refused

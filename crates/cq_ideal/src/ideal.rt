@@ -1,14 +1,13 @@
 //! The ideal switch, slot by slot.
-ghost use Rattle.std.specs.Prelude.{◌≡◌, ◌↔◌, ◌+◌, ◌-◌, ◌^◌, ◌<◌, ◌≤◌, IsTrue, false, is_err, All, IfOk, OnOk, OnErr, Ok, [], length, map, replicate};
+ghost use Rattle.std.specs.Prelude.{◌≡◌, ◌↔◌, ◌+◌, ◌-◌, ◌^◌, ◌<◌, ◌≤◌, IsTrue, false, is_err, All, IfOk, OnErr, Ok, [], length, map, replicate};
 ghost use Rattle.cq_base.specs.Arrivals.{no_arrivals};
-ghost use Rattle.cq_rank.specs.Switch.{AreForOneSwitch, class_count};
+ghost use Rattle.cq_rank.specs.Switch.{AreForOneSwitch};
 ghost use Rattle.cq_ideal.specs.Admission.{marks_down};
-ghost use Rattle.cq_ideal.specs.Ideal.{HasRoomFor, HaveLeft, SpareFollows, answer_to, its_slot, marked_state};
+ghost use Rattle.cq_ideal.specs.Ideal.{answer_to, its_slot, marked_state};
 ghost use Rattle.cq_ideal.specs.IdealRun.{IsEmptyIdeal, empty_ideal};
 ghost use Rattle.cq_ideal.specs.LimitedIdeal.{limited_run, nothing_came};
-ghost use Rattle.cq_ideal.specs.Limiter.{CanCount};
-ghost use Rattle.cq_ideal.specs.Ranking.{AreForPorts};
-ghost use Rattle.cq_ideal.specs.Refused.{refused_counts, with_refused};
+ghost use Rattle.cq_ideal.specs.OneSlot.{CanHaveSlot, HasHadSlot, IsSameSwitch, IsUnchanged};
+ghost use Rattle.cq_ideal.specs.Refused.{refused_counts};
 
 use crate::Refused;
 use crate::limiter::Limiter;
@@ -105,31 +104,13 @@ impl<R: Rank> Ideal<R> {
         arrivals: &Arrivals,
         sent: &mut Room<Departure>,
     ) -> Result<(), TagFault>
-        requires running { self.old.stopped ≡ false }
-        requires next { slot ≡ self.old.next }
-        requires early { slot < 2 ^ 64 - 1 }
-        requires arrivals { AreForPorts (length self.old.fixed) (class_count (map R.machine self.old.fixed)) arrivals.now }
-        requires spare { HasRoomFor arrivals.now self.old }
-        requires refused { CanCount (length self.old.fixed) self.old.refused }
-        requires sent { length self.old.fixed ≤ sent.old.spare }
+        requires { CanHaveSlot (map R.machine self.old.fixed) slot arrivals.now self.old sent.old }
         ensures answer { result ≡ answer_to (its_slot (map R.machine self.old.fixed) slot arrivals.now self.old) }
-        ensures state { IfOk (its_slot (map R.machine self.old.fixed) slot arrivals.now self.old) (λ of_slot.
-            marked_state self.new ≡ of_slot.after) }
-        ensures sent { IfOk (its_slot (map R.machine self.old.fixed) slot arrivals.now self.old) (λ of_slot.
-            HaveLeft slot of_slot.gone sent.old sent.new) }
-        ensures spare { IfOk (its_slot (map R.machine self.old.fixed) slot arrivals.now self.old) (λ of_slot.
-            SpareFollows of_slot.admission.cells of_slot.gone self.old self.new) }
-        ensures refused { IfOk (its_slot (map R.machine self.old.fixed) slot arrivals.now self.old) (λ of_slot.
-            self.new.refused ≡ with_refused of_slot.admission.refused self.old.refused) }
-        ensures next { OnOk result (self.new.next ≡ slot + 1) }
-        ensures fixed { self.new.fixed ≡ self.old.fixed }
-        ensures limits { self.new.limits ≡ self.old.limits }
-        ensures rooms { self.new.rooms ≡ self.old.rooms }
+        ensures slot { IfOk (its_slot (map R.machine self.old.fixed) slot arrivals.now self.old) (λ of_slot.
+            HasHadSlot slot of_slot self.old self.new sent.old sent.new) }
+        ensures unchanged { OnErr result (IsUnchanged self.old self.new sent.old sent.new) }
+        ensures same { IsSameSwitch self.old self.new }
         ensures stopped { self.new.stopped ≡ is_err result }
-        ensures unsent { OnErr result (sent.new ≡ sent.old) }
-        ensures lists_stay { OnErr result (self.new.state.lists ≡ self.old.state.lists) }
-        ensures counts_stay { OnErr result (self.new.refused ≡ self.old.refused) }
-        ensures next_stays { OnErr result (self.new.next ≡ self.old.next) }
     {
         self.queues.len();
         self.limiter.judge(arrivals);

@@ -15,11 +15,11 @@ use Rattle.cq_rank.specs.Machine.{Machine}
 use Rattle.cq_rank.specs.Switch.{class_count}
 use Rattle.cq_ideal.specs.Admission.{Marked}
 use Rattle.cq_ideal.specs.Ideal.{IdealSwitch, HasRoomFor, HaveLeft, answer_to, count_for, its_slot, marked_state}
+use Rattle.cq_ideal.specs.OneSlot.{HasHadSlot, IsSameSwitch}
 use Rattle.cq_ideal.specs.IdealSlot.{IdealState}
 use Rattle.cq_ideal.specs.LimitedEnding.{departures_limited}
 use Rattle.cq_ideal.specs.LimitedIdeal.{LimitedRan, LimitedSent, limited_run, limited_slot, nothing_came}
 use Rattle.cq_ideal.specs.Limiter.{CanCount}
-use Rattle.cq_ideal.specs.Refused.{with_refused}
 use Rattle.cq_ideal.specs.Ranking.{AreForPorts}
 use Rattle.cq_simulate.specs.Ready.{IsReady}
 use Rattle.cq_simulate.specs.Stretch.{HasRested}
@@ -69,15 +69,9 @@ slot_err (Err other) fault e = let same : other ≡ fault = cc in ap (λ (f : Ta
 pub record HasHad (ms : List Machine) (slot : ℕ) (cells : List (Option Cell)) (old new : IdealSwitch)
     (sent sent_new : RoomView Departure) : Type 0 where
   pub answer : Ok tt ≡ answer_to (its_slot ms slot cells old)
-  pub state : IfOk (its_slot ms slot cells old) (λ of_slot. marked_state new ≡ of_slot.after)
-  pub left : IfOk (its_slot ms slot cells old) (λ of_slot. HaveLeft slot of_slot.gone sent sent_new)
-  pub refused : IfOk (its_slot ms slot cells old) (λ of_slot.
-      new.refused ≡ with_refused of_slot.admission.refused old.refused)
+  pub done : IfOk (its_slot ms slot cells old) (λ of_slot. HasHadSlot slot of_slot old new sent sent_new)
   pub running : new.stopped ≡ false
-  pub next : new.next ≡ slot + 1
-  pub fixed : new.fixed ≡ old.fixed
-  pub limits : new.limits ≡ old.limits
-  pub rooms : new.rooms ≡ old.rooms
+  pub same : IsSameSwitch old new
 
 -- what left in a slot stands in a list of its own, and is taken over from there
 module _ (ms : List Machine) (slot : ℕ) (cells : List (Option Cell)) (old new : IdealSwitch)
@@ -87,8 +81,8 @@ module _ (ms : List Machine) (slot : ℕ) (cells : List (Option Cell)) (old new 
     left_here =
         let ok = slot_ok (its_slot ms slot cells old) had.answer in (
           ok.0,
-          subst (λ (x : Result LimitedSent TagFault). IfOk x (λ of_slot.
-              HaveLeft slot of_slot.gone leaving left)) ok.1 had.left,
+          (subst (λ (x : Result LimitedSent TagFault). IfOk x (λ of_slot.
+              HasHadSlot slot of_slot old new leaving left)) ok.1 had.done).sent,
         )
 
     pub few_leave : length left.items ≤ leaving.spare
@@ -102,17 +96,19 @@ module _ (ms : List Machine) (slot : ℕ) (cells : List (Option Cell)) (old new 
         HasHad ms slot cells old new sent sent_new
     handed sent sent_new taken = record {
       answer = had.answer;
-      state = had.state;
-      left = IfOk-weaker (its_slot ms slot cells old)
-          (λ (of_slot : LimitedSent). HaveLeft slot of_slot.gone leaving left)
-          (λ (of_slot : LimitedSent). HaveLeft slot of_slot.gone sent sent_new)
-          (λ of_slot has. left_with_all slot of_slot.gone leaving left none has sent sent_new taken) had.left;
-      refused = had.refused;
+      done =
+          IfOk-weaker (its_slot ms slot cells old)
+          (λ (of_slot : LimitedSent). HasHadSlot slot of_slot old new leaving left)
+          (λ (of_slot : LimitedSent). HasHadSlot slot of_slot old new sent sent_new)
+          (λ of_slot has. record {
+            state = has.state;
+            sent = left_with_all slot of_slot.gone leaving left none has.sent sent sent_new taken;
+            spare = has.spare;
+            refused = has.refused;
+            next = has.next;
+          }) had.done;
       running = had.running;
-      next = had.next;
-      fixed = had.fixed;
-      limits = had.limits;
-      rooms = had.rooms;
+      same = had.same;
     }
 
 module _ (M : List ℕ → Machine) (came : List Arrival) (first : IdealSwitch) (first_sent : RoomView Departure)
@@ -186,15 +182,12 @@ module _ (M : List ℕ → Machine) (came : List Arrival) (first : IdealSwitch) 
         Before (slot + 1) after sent_new
     at_next cells after sent_new are had =
         let ok = slot_ok (its_slot (map M now.fixed) slot cells now) had.answer in
+        let done =
+        subst (λ (x : Result LimitedSent TagFault). IfOk x (λ of_slot. HasHadSlot slot of_slot now after sent sent_new))
+        ok.1 had.done in
         running_next (map M first.fixed) came first first_sent slot (enough came - (slot + 1)) now sent after sent_new
-        ok.0 r_next (sym (as_now cells are) ∙ ok.1)
-        (subst (λ (x : Result LimitedSent TagFault). IfOk x (λ of_slot. marked_state after ≡ of_slot.after)) ok.1
-        had.state)
-        (subst (λ (x : Result LimitedSent TagFault). IfOk x (λ of_slot.
-        after.refused ≡ with_refused of_slot.admission.refused now.refused)) ok.1 had.refused)
-        (subst (λ (x : Result LimitedSent TagFault). IfOk x (λ of_slot. HaveLeft slot of_slot.gone sent sent_new)) ok.1
-        had.left)
-        had.running had.next had.fixed had.limits had.rooms
+        ok.0 r_next (sym (as_now cells are) ∙ ok.1) done.state done.refused done.sent had.running done.next
+        had.same.fixed had.same.limits had.same.rooms
 
     pub at_fault : (cells : List (Option Cell)) (fault : TagFault) → cells ≡ arriving came slot →
         Err fault ≡ answer_to (its_slot (map M now.fixed) slot cells now) →

@@ -40,14 +40,9 @@ had : (g : given.Over) (c : In_ok-slot g) →
 had g c =
     record {
       answer = sym c.in_ok-slot.was ∙ c.slot.ensures.answer;
-      state = c.slot.ensures.state;
-      left = c.slot.ensures.sent;
-      refused = c.slot.ensures.refused;
+      done = c.slot.ensures.slot;
       running = c.slot.ensures.stopped ∙ ap is_err c.in_ok-slot.was;
-      next = c.in_ok-slot.ensures.next;
-      fixed = c.slot.ensures.fixed;
-      limits = c.slot.ensures.limits;
-      rooms = c.slot.ensures.rooms;
+      same = c.slot.ensures.same;
     }
 
 -- ## The loop
@@ -60,36 +55,30 @@ slots-init g c =
       few = c.requires.few;
     }
 
-pub slot-requires-clause-early : goal.slot-requires-clause-early
-slot-requires-clause-early g c =
-    let at = (goal.at.slot-requires-clause-early g c).After-arrivals in
-    early g.R.Rank.machine c.args.schedule.now.came c.args.ideal.now c.args.sent.now c.requires.ready
-    c.skip-slot.result c.skip-slot.new.ideal c.slots.sent (stands g at) (going g at)
-
-pub slot-requires-clause-arrivals : goal.slot-requires-clause-arrivals
-slot-requires-clause-arrivals g c =
-    let at = (goal.at.slot-requires-clause-arrivals g c).After-arrivals in
-    arrivals_fit g.R.Rank.machine c.args.schedule.now.came c.args.ideal.now c.args.sent.now c.requires.ready
-    c.skip-slot.result c.skip-slot.new.ideal c.slots.sent (stands g at) (going g at) c.arrivals.result.now
-    (c.arrivals.ensures ∙ c.arrive.ensures)
-
-pub slot-requires-clause-spare : goal.slot-requires-clause-spare
-slot-requires-clause-spare g c =
-    let at = (goal.at.slot-requires-clause-spare g c).After-arrivals in
-    room_left g.R.Rank.machine c.args.schedule.now.came c.args.ideal.now c.args.sent.now c.requires.ready
-    c.skip-slot.result c.skip-slot.new.ideal c.slots.sent (stands g at) (going g at) c.arrivals.result.now
-    (c.arrivals.ensures ∙ c.arrive.ensures)
-
-pub slot-requires-clause-refused : goal.slot-requires-clause-refused
-slot-requires-clause-refused g c =
-    let at = (goal.at.slot-requires-clause-refused g c).After-arrivals in
-    room_to_count g.R.Rank.machine c.args.schedule.now.came c.args.ideal.now c.args.sent.now c.requires.ready
-    c.skip-slot.result c.skip-slot.new.ideal c.slots.sent (stands g at) (going g at)
-
-pub slot-requires-clause-sent : goal.slot-requires-clause-sent
-slot-requires-clause-sent g c =
-    let room = places g (goal.at.slot-requires-clause-sent g c).After-arrivals in
-    omega arith
+pub slot-requires : goal.slot-requires
+slot-requires g c =
+    let at = (goal.at.slot-requires g c).After-arrivals in
+    let here = stands g at in
+    let more = going g at in
+    let are = c.arrivals.ensures ∙ c.arrive.ensures in
+    let room = places g at in
+    record {
+      running = here.running;
+      next = sym c.skip-slot.ensures.rested.reached;
+      early =
+          early g.R.Rank.machine c.args.schedule.now.came c.args.ideal.now c.args.sent.now c.requires.ready
+          c.skip-slot.result c.skip-slot.new.ideal c.slots.sent here more;
+      arrivals =
+          arrivals_fit g.R.Rank.machine c.args.schedule.now.came c.args.ideal.now c.args.sent.now c.requires.ready
+          c.skip-slot.result c.skip-slot.new.ideal c.slots.sent here more c.arrivals.result.now are;
+      spare =
+          room_left g.R.Rank.machine c.args.schedule.now.came c.args.ideal.now c.args.sent.now c.requires.ready
+          c.skip-slot.result c.skip-slot.new.ideal c.slots.sent here more c.arrivals.result.now are;
+      refused =
+          room_to_count g.R.Rank.machine c.args.schedule.now.came c.args.ideal.now c.args.sent.now c.requires.ready
+          c.skip-slot.result c.skip-slot.new.ideal c.slots.sent here more;
+      sent = omega arith;
+    }
 
 pub returns-in_err-slot-clause-fault : goal.returns-in_err-slot-clause-fault
 returns-in_err-slot-clause-fault g c =

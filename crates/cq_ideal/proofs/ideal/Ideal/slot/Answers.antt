@@ -1,4 +1,4 @@
-use Rattle.std.proofs.Common.{◌≡◌, ℕ, ◌+◌, ◌≤◌, List, [], length, get_or, map, sym, ap, ◌∙◌, subst, arith}
+use Rattle.std.proofs.Common.{◌≡◌, ℕ, ◌+◌, ◌≤◌, List, [], length, get_or, map, sym, ap, refl, ◌∙◌, subst, arith}
 use Rattle.std.specs.Prelude.{Bool}
 use Rattle.cq_rank.specs.Switch.{class_count}
 use Rattle.cq_ideal.specs.Admission.{admitted, marked, refused}
@@ -145,43 +145,34 @@ invariant_of-self-2 g c =
     }
 
 pub returns-in-Err-clause-answer : goal.returns-in-Err-clause-answer
-returns-in-Err-clause-answer g c = sym (ap answer_to (limited_fault g.R.Rank.machine c.args.arrivals.now
-    c.args.self.now c.self.inside.ranks c.self.inside.queues c.self.inside.limiter c.self.inside.next
-    c.self.inside.stopped c.self.view_is c.self.invariant c.requires.running c.args.slot c.judge.new.self.marks
-    c.judge.ensures.marks c.in-Err.fault c.in-Err.ensures.fault))
+returns-in-Err-clause-answer g c =
+    sym (ap answer_to (limited_fault g.R.Rank.machine c.args.arrivals.now c.args.self.now c.self.inside.ranks c.self.inside.queues
+    c.self.inside.limiter c.self.inside.next c.self.inside.stopped c.self.view_is c.self.invariant c.requires.running
+    c.args.slot c.judge.new.self.marks c.judge.ensures.marks c.in-Err.fault c.in-Err.ensures.fault))
 
-pub returns-in-Err-clause-state : goal.returns-in-Err-clause-state
-returns-in-Err-clause-state g c = nothing_done _ c.in-Err.fault _ (limited_fault g.R.Rank.machine c.args.arrivals.now
-    c.args.self.now c.self.inside.ranks c.self.inside.queues c.self.inside.limiter c.self.inside.next
-    c.self.inside.stopped c.self.view_is c.self.invariant c.requires.running c.args.slot c.judge.new.self.marks
-    c.judge.ensures.marks c.in-Err.fault c.in-Err.ensures.fault)
+pub returns-in-Err-clause-slot : goal.returns-in-Err-clause-slot
+returns-in-Err-clause-slot g c =
+    nothing_done _ c.in-Err.fault _
+    (limited_fault g.R.Rank.machine c.args.arrivals.now c.args.self.now c.self.inside.ranks c.self.inside.queues
+    c.self.inside.limiter c.self.inside.next c.self.inside.stopped c.self.view_is c.self.invariant c.requires.running
+    c.args.slot c.judge.new.self.marks c.judge.ensures.marks c.in-Err.fault c.in-Err.ensures.fault)
 
-pub returns-in-Err-clause-sent : goal.returns-in-Err-clause-sent
-returns-in-Err-clause-sent g c = nothing_done _ c.in-Err.fault _ (limited_fault g.R.Rank.machine c.args.arrivals.now
-    c.args.self.now c.self.inside.ranks c.self.inside.queues c.self.inside.limiter c.self.inside.next
-    c.self.inside.stopped c.self.view_is c.self.invariant c.requires.running c.args.slot c.judge.new.self.marks
-    c.judge.ensures.marks c.in-Err.fault c.in-Err.ensures.fault)
+pub returns-in-Err-clause-unchanged : goal.returns-in-Err-clause-unchanged
+returns-in-Err-clause-unchanged g c =
+    record {
+      sent = refl;
+      lists = ap (λ (v : IdealSwitch). v.state.lists) c.self.view_is;
+      refused = c.judge.ensures.refused ∙ ap (λ (v : IdealSwitch). v.refused) c.self.view_is;
+      next = ap (λ (v : IdealSwitch). v.next) c.self.view_is;
+    }
 
-pub returns-in-Err-clause-spare : goal.returns-in-Err-clause-spare
-returns-in-Err-clause-spare g c = nothing_done _ c.in-Err.fault _ (limited_fault g.R.Rank.machine c.args.arrivals.now
-    c.args.self.now c.self.inside.ranks c.self.inside.queues c.self.inside.limiter c.self.inside.next
-    c.self.inside.stopped c.self.view_is c.self.invariant c.requires.running c.args.slot c.judge.new.self.marks
-    c.judge.ensures.marks c.in-Err.fault c.in-Err.ensures.fault)
-
-pub returns-in-Err-clause-refused : goal.returns-in-Err-clause-refused
-returns-in-Err-clause-refused g c = nothing_done _ c.in-Err.fault _ (limited_fault g.R.Rank.machine
-    c.args.arrivals.now c.args.self.now c.self.inside.ranks c.self.inside.queues c.self.inside.limiter
-    c.self.inside.next c.self.inside.stopped c.self.view_is c.self.invariant c.requires.running c.args.slot
-    c.judge.new.self.marks c.judge.ensures.marks c.in-Err.fault c.in-Err.ensures.fault)
-
-pub returns-in-Err-clause-limits : goal.returns-in-Err-clause-limits
-returns-in-Err-clause-limits g c = c.judge.ensures.limits ∙ ap (λ (v : IdealSwitch). v.limits) c.self.view_is
-
-pub returns-in-Err-clause-lists_stay : goal.returns-in-Err-clause-lists_stay
-returns-in-Err-clause-lists_stay g c = ap (λ (v : IdealSwitch). v.state.lists) c.self.view_is
-
-pub returns-in-Err-clause-counts_stay : goal.returns-in-Err-clause-counts_stay
-returns-in-Err-clause-counts_stay g c = c.judge.ensures.refused ∙ ap (λ (v : IdealSwitch). v.refused) c.self.view_is
+pub returns-in-Err-clause-same : goal.returns-in-Err-clause-same
+returns-in-Err-clause-same g c =
+    record {
+      fixed = c.take.ensures.fixed ∙ ap (λ (v : IdealSwitch). v.fixed) c.self.view_is;
+      limits = c.judge.ensures.limits ∙ ap (λ (v : IdealSwitch). v.limits) c.self.view_is;
+      rooms = ap (λ (v : IdealSwitch). v.rooms) c.self.view_is;
+    }
 
 pub returns-clause-answer : goal.returns-clause-answer
 returns-clause-answer g c = sym (ap answer_to (limited_ok g.R.Rank.machine c.args.arrivals.now c.args.self.now
@@ -190,34 +181,12 @@ returns-clause-answer g c = sym (ap answer_to (limited_ok g.R.Rank.machine c.arg
     c.take.new.self c.arrive.new.self c.take.new.came c.in_default.ensures.came c.arrive.ensures.lists
     c.take.ensures.fixed))
 
-pub returns-clause-state : goal.returns-clause-state
-returns-clause-state g c =
+pub returns-clause-slot : goal.returns-clause-slot
+returns-clause-slot g c =
     let marks = c.send.ensures.marks ∙ c.count.ensures.marks in
-    let state = same_state (record {
-      lists = c.send.new.queues.lists;
-      ranks =
-          c.send.new.ranks.states;
-    }) _ c.send.ensures.lists c.send.ensures.states in
-    done _ _ _ (limited_ok g.R.Rank.machine c.args.arrivals.now c.args.self.now c.self.inside.ranks
-    c.self.inside.queues c.self.inside.limiter c.self.inside.next c.self.inside.stopped c.self.view_is
-    c.self.invariant c.requires.running c.args.slot c.judge.new.self.marks c.judge.ensures.marks c.take.new.self
-    c.arrive.new.self c.take.new.came c.in_default.ensures.came c.arrive.ensures.lists c.take.ensures.fixed)
-    (ap (λ (m : List Bool). marked m (record {
-      lists = c.send.new.queues.lists;
-      ranks =
-          c.send.new.ranks.states;
-    })) marks
-    ∙ ap (λ (s : IdealState). marked c.judge.new.self.marks s) state)
-
-pub returns-clause-sent : goal.returns-clause-sent
-returns-clause-sent g c = done _ _ _ (limited_ok g.R.Rank.machine c.args.arrivals.now c.args.self.now
-    c.self.inside.ranks c.self.inside.queues c.self.inside.limiter c.self.inside.next c.self.inside.stopped
-    c.self.view_is c.self.invariant c.requires.running c.args.slot c.judge.new.self.marks c.judge.ensures.marks
-    c.take.new.self c.arrive.new.self c.take.new.came c.in_default.ensures.came c.arrive.ensures.lists
-    c.take.ensures.fixed) (record { items = c.send.ensures.items; spare = c.send.ensures.spare })
-
-pub returns-clause-spare : goal.returns-clause-spare
-returns-clause-spare g c =
+    let left : IdealState = record { lists = c.send.new.queues.lists; ranks = c.send.new.ranks.states } in
+    let state = same_state left _ c.send.ensures.lists c.send.ensures.states in
+    let was = c.judge.ensures.refused ∙ ap (λ (v : IdealSwitch). v.refused) c.self.view_is in
     let inv = c.self.invariant.fit in
     let cells = admitted c.judge.new.self.marks c.args.arrivals.now in
     let e = admitted_ok g.R.Rank.machine c.args.arrivals.now c.args.self.now c.self.inside.ranks c.self.inside.queues
@@ -246,29 +215,36 @@ returns-clause-spare g c =
           c.args.slot + 1;
       stopped = c.self.inside.stopped;
     } in
-    done _ _ _ (limited_ok g.R.Rank.machine c.args.arrivals.now c.args.self.now c.self.inside.ranks
-    c.self.inside.queues c.self.inside.limiter c.self.inside.next c.self.inside.stopped c.self.view_is
-    c.self.invariant c.requires.running c.args.slot c.judge.new.self.marks c.judge.ensures.marks c.take.new.self
-    c.arrive.new.self c.take.new.came c.in_default.ensures.came c.arrive.ensures.lists c.take.ensures.fixed)
-    (spare_follows _ c.args.slot cells c.args.self.now new _ (admitted_room g.R.Rank.machine c.args.arrivals.now
-    c.args.self.now c.self.inside.ranks c.self.inside.queues c.self.inside.limiter c.self.inside.next
-    c.self.inside.stopped c.self.view_is c.self.invariant c.requires.running c.judge.new.self.marks
-    c.requires.spare)
-    (ap length (sym lists) ∙ inv.lists ∙ sym inv.rooms ∙ ap length rooms) held
-    (c.send.ensures.rooms ∙ c.arrive.ensures.rooms ∙ rooms) e
-    (same_state _ _ c.send.ensures.lists c.send.ensures.states))
+    done _ _ _ (limited_ok g.R.Rank.machine c.args.arrivals.now c.args.self.now c.self.inside.ranks c.self.inside.queues
+    c.self.inside.limiter c.self.inside.next c.self.inside.stopped c.self.view_is c.self.invariant c.requires.running
+    c.args.slot c.judge.new.self.marks c.judge.ensures.marks c.take.new.self c.arrive.new.self c.take.new.came
+    c.in_default.ensures.came c.arrive.ensures.lists c.take.ensures.fixed)
+    (record {
+      state =
+          ap (λ (m : List Bool). marked m left) marks
+          ∙ ap (λ (s : IdealState). marked c.judge.new.self.marks s) state;
+      sent = record { items = c.send.ensures.items; spare = c.send.ensures.spare };
+      spare = spare_follows _ c.args.slot cells c.args.self.now new _ (admitted_room g.R.Rank.machine c.args.arrivals.now
+          c.args.self.now c.self.inside.ranks c.self.inside.queues c.self.inside.limiter c.self.inside.next
+          c.self.inside.stopped c.self.view_is c.self.invariant c.requires.running c.judge.new.self.marks
+          c.requires.spare)
+          (ap length (sym lists) ∙ inv.lists ∙ sym inv.rooms ∙ ap length rooms) held
+          (c.send.ensures.rooms ∙ c.arrive.ensures.rooms ∙ rooms) e
+          (same_state _ _ c.send.ensures.lists c.send.ensures.states);
+      refused =
+          c.send.ensures.refused ∙ c.count.ensures.refused
+          ∙ ap (with_refused (refused c.judge.new.self.marks c.args.arrivals.now)) was;
+      next = refl;
+    })
 
-pub returns-clause-refused : goal.returns-clause-refused
-returns-clause-refused g c =
-    let was = c.judge.ensures.refused ∙ ap (λ (v : IdealSwitch). v.refused) c.self.view_is in
-    done _ _ _ (limited_ok g.R.Rank.machine c.args.arrivals.now c.args.self.now c.self.inside.ranks
-    c.self.inside.queues c.self.inside.limiter c.self.inside.next c.self.inside.stopped c.self.view_is
-    c.self.invariant c.requires.running c.args.slot c.judge.new.self.marks c.judge.ensures.marks c.take.new.self
-    c.arrive.new.self c.take.new.came c.in_default.ensures.came c.arrive.ensures.lists c.take.ensures.fixed)
-    (c.send.ensures.refused ∙ c.count.ensures.refused
-    ∙ ap (with_refused (refused c.judge.new.self.marks c.args.arrivals.now)) was)
-
-pub returns-clause-limits : goal.returns-clause-limits
-returns-clause-limits g c =
-    c.send.ensures.limits ∙ c.count.ensures.limits ∙ c.judge.ensures.limits
-    ∙ ap (λ (v : IdealSwitch). v.limits) c.self.view_is
+pub returns-clause-same : goal.returns-clause-same
+returns-clause-same g c =
+    record {
+      fixed =
+          c.send.ensures.fixed ∙ c.take.ensures.fixed ∙ ap (λ (v : IdealSwitch). v.fixed) c.self.view_is;
+      limits =
+          c.send.ensures.limits ∙ c.count.ensures.limits ∙ c.judge.ensures.limits
+          ∙ ap (λ (v : IdealSwitch). v.limits) c.self.view_is;
+      rooms =
+          c.send.ensures.rooms ∙ c.arrive.ensures.rooms ∙ ap (λ (v : IdealSwitch). v.rooms) c.self.view_is;
+    }

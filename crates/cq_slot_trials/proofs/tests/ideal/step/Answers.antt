@@ -7,28 +7,40 @@ use Rattle.cq_slot_trials.proofs.Arriving.{admitted_most, count_most, refusals_m
 use Rattle.cq_slot_trials.proofs.IdealSlots.{after_slot}
 use Rattle.cq_slot_trials.proofs.tests.ideal.step.Goals as goal
 
-pub slot-requires-clause-spare : goal.slot-requires-clause-spare
-slot-requires-clause-spare g c =
-    λ j inside.
-    let rooms = c.requires.rooms in
-    let spare = c.requires.spare j (omega arith) in
-    let places = c.at-places.ensures.arrivals.places in
-    let most = count_most j c.args.coming.now.arrivals in
-    omega arith
-
-pub slot-requires-clause-refused : goal.slot-requires-clause-refused
-slot-requires-clause-refused g c =
-    subst (λ (n : ℕ). CanCount n c.args.ideal.now.refused) (sym c.requires.ports) c.requires.counts
+pub slot-requires : goal.slot-requires
+slot-requires g c =
+    let cells = c.args.coming.now.arrivals in
+    let ports : length c.args.ideal.now.fixed ≡ 3 = c.requires.ports in
+    let classes : class_count (map g.R.Rank.machine c.args.ideal.now.fixed) ≡ 2 = c.requires.classes in
+    let room : 3 ≤ c.args.sent.now.spare = c.requires.sent in
+    let soon : c.args.ideal.now.next < 1000 = c.requires.early in
+    record {
+      running = c.requires.running;
+      next = c.next.ensures;
+      early = omega arith;
+      arrivals =
+          subst (λ (n : ℕ). AreForPorts n (class_count (map g.R.Rank.machine c.args.ideal.now.fixed)) cells) (sym ports)
+          (subst (λ (n : ℕ). AreForPorts 3 n cells) (sym classes) c.args.coming.invariant);
+      spare =
+          λ j inside.
+          let rooms = c.requires.rooms in
+          let spare = c.requires.spare j (omega arith) in
+          let places = c.at-places.ensures.arrivals.places in
+          let most = count_most j cells in
+          omega arith;
+      refused = subst (λ (n : ℕ). CanCount n c.args.ideal.now.refused) (sym ports) c.requires.counts;
+      sent = omega arith;
+    }
 
 pub returns-clause-spare : goal.returns-clause-spare
 returns-clause-spare g c =
     let cells = c.args.coming.now.arrivals in
     let old = marked_state c.args.ideal.now in
     after_slot c.args.ideal.now.limits (map g.R.Rank.machine c.args.ideal.now.fixed) c.next.result cells old
-    c.slot.result _ _ c.slot.ensures.answer c.slot.ensures.spare
-    (λ sent is follows j inside.
+    c.slot.result _ _ c.slot.ensures.answer c.slot.ensures.slot
+    (λ sent is done j inside.
     let rooms = c.requires.rooms in
-    let spare = follows j (omega arith) in
+    let spare = done.spare j (omega arith) in
     let places = c.at-places.ensures.arrivals.places in
     let most = admitted_most c.args.ideal.now.limits (ideal_held old.state) old.marks cells j sent.admission is in
     omega arith)
@@ -38,8 +50,8 @@ returns-clause-counts g c =
     let cells = c.args.coming.now.arrivals in
     let old = marked_state c.args.ideal.now in
     after_slot c.args.ideal.now.limits (map g.R.Rank.machine c.args.ideal.now.fixed) c.next.result cells old
-    c.slot.result _ _ c.slot.ensures.answer c.slot.ensures.refused
-    (λ sent is more n can.
+    c.slot.result _ _ c.slot.ensures.answer c.slot.ensures.slot
+    (λ sent is done n can.
     let places = c.at-places.ensures.arrivals.places in
     let few = refusals_most c.args.ideal.now.limits (ideal_held old.state) old.marks cells sent.admission is in
-    subst (CanCount n) (sym more) (counts_fit sent.admission.refused n 64 c.args.ideal.now.refused can (omega arith)))
+    subst (CanCount n) (sym done.refused) (counts_fit sent.admission.refused n 64 c.args.ideal.now.refused can (omega arith)))
