@@ -151,6 +151,13 @@ impl Core {
     }
 
     /// The pairs of each output and the input that it holds.
+    pub fn matching(&self) -> Matching
+        ensures { result ≡ self.now.matching }
+    {
+        self.matching
+    }
+
+    /// The same pairs, lent and not copied.
     pub fn pairs(&self) -> &Matching
         ensures { result.now ≡ self.now.matching }
     {
