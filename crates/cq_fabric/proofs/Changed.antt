@@ -4,7 +4,7 @@ use Rattle.std.specs.Prelude.{slice_get}
 use Rattle.std.specs.List.{enumerate_from}
 use Rattle.std.proofs.lemmas.List.FromFn.{length-enumerate_from, get_or-enumerate_from}
 use Rattle.std.proofs.lemmas.Option.{slice_get-get_or}
-use Rattle.std.proofs.lemmas.List.{length-take-le, get_or_at, set_at, take_more, drop_more, take_all, drop_all, append-nil, length-map, get_or-map}
+use Rattle.std.proofs.lemmas.List.{length-take-le, get_or_at, set_at, take_more, drop_more, drop-drop, drop-set-lt, take_all, drop_all, append-nil, length-map, get_or-map}
 
 abbrev pub changed_to : {X : Type 0} → List X → List X → ℕ → List X
 changed_to new old j = take j new ++ drop j old
@@ -27,6 +27,12 @@ pub at_end : {X : Type 0} (new old : List X) (j : ℕ) → length new ≡ length
     changed_to new old j ≡ new
 at_end new old j same end =
     ap (λ l. take j new ++ l) (drop_all j old end) ∙ append-nil (take j new) ∙ take_all j new (omega arith)
+
+-- one item more is written, and those behind it are as they were
+pub still_behind : {X : Type 0} (now old : List X) (j : ℕ) (y : X) → drop j now ≡ drop j old →
+    drop (j + 1) (set now j y) ≡ drop (j + 1) old
+still_behind now old j y same =
+    drop-set-lt (j + 1) now j y (omega arith) ∙ sym (drop-drop 1 j now) ∙ ap (drop 1) same ∙ drop-drop 1 j old
 
 -- ## Lists of which each item is changed by its place
 

@@ -1,8 +1,9 @@
 -- The offers follow the lists. Where one cell comes, the list of its input changes in the pair of this input and the
--- cell's output, and in no other. Where a matching is transferred, the lists change in its pairs. All keys of waiting
--- cells differ before and after: a cell that comes has a key that none had, and cells that leave take theirs away. So
--- the first cells of different lists have different keys, as the offers ask.
-use Rattle.std.proofs.Common.{◌≡◌, ◌≢◌, ℕ, ◌+◌, ◌<◌, ◌≤◌, ◌⊎◌, List, [], length, map, get_or, set, replicate, Option, Some, None, refl, sym, ap, ◌∙◌, subst, inl, inr, ⊎_elim, arith}
+-- cell's output, and in no other, and in none where a more urgent cell for its output waits there. Where a matching is
+-- transferred, the lists change in its pairs. All keys of waiting cells differ before and after: a cell that comes has a
+-- key that none had, and cells that leave take theirs away. So the first cells of different lists have different keys,
+-- as the offers ask.
+use Rattle.std.proofs.Common.{◌≡◌, ◌≢◌, ℕ, ◌+◌, ◌<◌, ◌≤◌, ◌⊎◌, true, List, [], length, map, get_or, set, replicate, Option, Some, None, refl, sym, ap, ◌∙◌, subst, inl, inr, ⊎_elim, arith}
 use Rattle.std.specs.Prelude.{All, insert}
 use Rattle.std.specs.List.{IsDistinct}
 use Rattle.std.proofs.Math.ListN.{get_or-map}
@@ -10,9 +11,9 @@ use Rattle.std.proofs.lemmas.Bool.{cases_eq, cases_lt}
 use Rattle.std.proofs.lemmas.List.{length-map, length-replicate, get_or_past, get_or-replicate, get_or-set_same, get_or-set_other}
 use Rattle.cq_base.specs.declared.cell.Queued.{Queued}
 use Rattle.cq_base.specs.declared.key.Key.{Key}
-use Rattle.cq_base.specs.Cells.{cushion, first_for, with_arrival, place_of_arrival}
+use Rattle.cq_base.specs.Cells.{MoreUrgentAhead, cushion, first_for, with_arrival, place_of_arrival}
 use Rattle.cq_list.specs.InputList.{Waiting, cells_of}
-use Rattle.cq_prefs.specs.FirstCells.{list_of, FirstKeysDiffer, IsOutputOrder, IsInputOrder, AreOrdersOf, output_order, orders_of}
+use Rattle.cq_prefs.specs.FirstCells.{list_of, FirstKeysDiffer, IsOutputOrder, IsInputOrder, AreOrdersOf, first_key, key_before, output_order, orders_of}
 use Rattle.cq_prefs.specs.Moves.{Moves, list_taken}
 use Rattle.cq_prefs.specs.Orders.{Orders, no_offers, ports}
 use Rattle.cq_prefs.specs.Pairing.{Partners, partner_of, with_pair}
@@ -20,6 +21,7 @@ use Rattle.cq_prefs.specs.Renewal.{AreSameWithout}
 use Rattle.cq_prefs.proofs.InputOrder.{are_orders}
 use Rattle.cq_prefs.proofs.OneOrder.{one_orders}
 use Rattle.cq_prefs.proofs.Places.{place_in-le-length}
+use Rattle.cq_prefs.proofs.BehindFirst.{OfferAlike, comes_behind, same_offers}
 use Rattle.cq_prefs.proofs.Changes.{IsSameBut, same_list, same_but_arrival, same_but_taken, same_without}
 use Rattle.cq_laws.specs.Fabric.{IsAmong}
 use Rattle.cq_laws.specs.Phases.{came_to}
@@ -157,6 +159,33 @@ module _ (lists lists' : List Waiting) (o : Orders) (n place : ℕ) (c : Queued)
       same_list (partner_of m i) (list_of (cells_of lists) i) (list_of (cells_of lists') i) (other_list i other))
       (cases_eq i n))
       (firsts_apart (cells_of lists) comes.waiting) come_differ)
+
+-- where a more urgent cell for its output waits there, the orders are all as before
+pub come_behind : (lists lists' : List Waiting) (o : Orders) (n cushion : ℕ) (c : Queued) →
+    o ≡ orders_of (cells_of lists) → length lists' ≡ length lists →
+    (list_at lists' n).cells ≡ with_arrival cushion c (list_at lists n).cells →
+    ((k : ℕ) → k ≢ n → list_at lists' k ≡ list_at lists k) →
+    key_before (first_key c.cell.output (list_at lists n).cells) (Some c.key) ≡ true →
+    MoreUrgentAhead cushion c (list_at lists n).cells → o ≡ orders_of (cells_of lists')
+come_behind lists lists' o n cushion c offered long here others before ahead =
+    let size = length-map lists (λ (w : Waiting). w.cells) in
+    let size' = length-map lists' (λ (w : Waiting). w.cells) in
+    let alike : OfferAlike (list_at lists n).cells (list_at lists' n).cells =
+    subst (OfferAlike (list_at lists n).cells) (sym here)
+    (comes_behind cushion c (list_at lists n).cells before ahead) in
+    let each : (k : ℕ) → OfferAlike (list_at lists k).cells (list_at lists' k).cells = λ k.
+    ⊎_elim
+    (λ is. subst (λ i. OfferAlike (list_at lists i).cells (list_at lists' i).cells) (sym is) alike)
+    (λ other.
+    subst (λ (w : Waiting). OfferAlike (list_at lists k).cells w.cells) (sym (others k other))
+    (record { firsts = λ _. refl; order = refl }))
+    (cases_eq k n) in
+    offered
+    ∙ sym
+    (same_offers (cells_of lists) (cells_of lists') (omega arith)
+    (λ k.
+    subst (λ xs. OfferAlike xs (list_of (cells_of lists') k)) (sym (cells-at lists k))
+    (subst (OfferAlike (list_at lists k).cells) (sym (cells-at lists' k)) (each k))))
 
 -- the list of an input that has been set
 pub set_cells : (lists : List Waiting) (n cushion : ℕ) (c : Queued) (old w : Waiting) → n < length lists →

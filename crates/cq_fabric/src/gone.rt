@@ -1,5 +1,5 @@
 //! What the outputs send in a slot.
-ghost use Rattle.std.specs.Prelude.{◌≡◌, ◌<◌, ◌≤◌, None, Some, length, map, replicate, slice_index_or, slice_set, take};
+ghost use Rattle.std.specs.Prelude.{◌≡◌, ◌<◌, ◌≤◌, None, Some, drop, length, map, replicate, slice_index_or, slice_set, take};
 ghost use Rattle.cq_fabric.specs.Queues.{front_of, popped};
 
 use cq_base::{Port, Queued};
@@ -37,6 +37,7 @@ fn pop_each(buffers: &mut [OutputBuffer], gone: &mut [Option<Queued>; 64])
     requires places { length gone.old ≡ 64 }
     ensures places { length gone.new ≡ 64 }
     ensures gone { take (length buffers.old) gone.new ≡ map front_of buffers.old }
+    ensures others { drop (length buffers.old) gone.new ≡ drop (length buffers.old) gone.old }
     ensures buffers { buffers.new ≡ map popped buffers.old }
 {
     'outputs: for output in 0..buffers.len() {
@@ -50,6 +51,7 @@ fn clear_each(places: &mut [Option<Queued>; 64], outputs: u16)
     requires places { length places.old ≡ 64 }
     ensures places { length places.new ≡ 64 }
     ensures none { take outputs places.new ≡ replicate outputs None }
+    ensures others { drop outputs places.new ≡ drop outputs places.old }
 {
     'outputs: for output in 0..outputs as usize {
         places[output] = None;
@@ -64,10 +66,11 @@ impl Gone {
         Gone { places: nobody() }
     }
 
-    /// None of so many outputs sent a cell.
+    /// None of so many outputs sent a cell. The places behind them stay as they were.
     pub fn clear(&mut self, outputs: u16)
         requires { outputs ≤ 64 }
-        ensures { take outputs self.new ≡ replicate outputs None }
+        ensures none { take outputs self.new ≡ replicate outputs None }
+        ensures others { drop outputs self.new ≡ drop outputs self.old }
     {
         clear_each(&mut self.places, outputs);
     }
@@ -100,6 +103,7 @@ impl Gone {
     pub(crate) fn take_from(&mut self, buffers: &mut [OutputBuffer])
         requires { length buffers.old ≤ 64 }
         ensures gone { take (length buffers.old) self.new ≡ map front_of buffers.old }
+        ensures others { drop (length buffers.old) self.new ≡ drop (length buffers.old) self.old }
         ensures buffers { buffers.new ≡ map popped buffers.old }
     {
         pop_each(buffers, &mut self.places);

@@ -1,12 +1,12 @@
 //! The lists of all inputs, and the buffers of all outputs.
-ghost use Rattle.std.specs.Prelude.{◌≡◌, ◌≢◌, ◌==◌, ◌+◌, ◌-◌, ◌^◌, ◌<◌, ◌≤◌, ◌++◌, ℕ, [], All, IfOk, IsTrue, Some, length, map, replicate, slice_get, slice_index, take};
+ghost use Rattle.std.specs.Prelude.{◌≡◌, ◌≢◌, ◌==◌, ◌+◌, ◌-◌, ◌^◌, ◌<◌, ◌≤◌, ◌++◌, ℕ, [], All, IfOk, IsTrue, Some, drop, length, map, replicate, slice_get, slice_index, take};
 ghost use Rattle.std.specs.List.{list_all, position_or_len};
 ghost use Rattle.cq_base.specs.Cells.{cushion};
 ghost use Rattle.cq_base.specs.declared.cell.Queued.{Queued as OfCell};
 ghost use Rattle.cq_ideal.specs.IdealSlot.{fronts, rests};
 ghost use Rattle.cq_list.specs.InputList.{cells_of};
 ghost use Rattle.cq_urgency.specs.OutputBuffer.{cells_in};
-ghost use Rattle.cq_prefs.specs.FirstCells.{list_of, orders_of};
+ghost use Rattle.cq_prefs.specs.FirstCells.{first_key, key_before, list_of, orders_of};
 ghost use Rattle.cq_prefs.specs.Moves.{Moves, transfers_of};
 ghost use Rattle.cq_prefs.specs.Pairing.{IsMatching};
 ghost use Rattle.cq_xbar.specs.Crossbar.{HaveCells, HaveRoom, KeysAreNew, MovesRoom};
@@ -17,7 +17,7 @@ ghost use Rattle.cq_fabric.specs.Queues.{CanCross, ComeApart, Comes, FitEach, Fi
 
 use crate::gone::Gone;
 use crate::standing::{all_buffered, all_listed, filled_buffers, filled_lists};
-use cq_base::{NoMemory, Port, Queued, Room, Sequence, Slot, Transfer};
+use cq_base::{Key, NoMemory, Port, Queued, Room, Sequence, Slot, Transfer};
 use cq_ideal::Newcomers;
 use cq_list::InputList;
 use cq_prefs::{Matching, Offers};
@@ -53,8 +53,19 @@ impl Model for Queues {
     ghost invariant = { λ a. AreOffered a.lists.items a.buffers.items a.offers };
 }
 
+// Whether the first cell of a list for an output is more urgent than one with this key.
+#[tactic(auto, unfolding(cq_base::specs::Key::is_before))]
+fn has_more_urgent(list: &InputList, output: Port, key: Key) -> bool
+    ensures { result ≡ key_before (first_key output list.now.cells) (Some key) }
+{
+    match list.front_for(output) {
+        None => false,
+        Some(front) => front.key < key,
+    }
+}
+
 // A cell that came goes into the list of its input, with the cushion that it has in the buffer of its output. The
-// offers follow.
+// offers follow: where a more urgent cell for the same output waits in the list already, they stay.
 fn insert_one(
     lists: &mut [InputList],
     buffers: &[OutputBuffer],
@@ -71,7 +82,11 @@ fn insert_one(
 {
     let output = queued.cell.output;
     let cushion = buffers[output as usize].cushion(queued.key);
+    let behind = has_more_urgent(&lists[input], output, queued.key);
     lists[input].insert(queued, cushion);
+    if behind {
+        return;
+    }
     offers.renew_pair(lists, input as Port, output);
 }
 
@@ -329,9 +344,11 @@ impl Queues {
         );
     }
 
-    /// The first cell of each buffer leaves it, and comes to `gone` at the place of its output.
+    /// The first cell of each buffer leaves it, and comes to `gone` at the place of its output. The places behind
+    /// those of the outputs stay as they were.
     pub fn depart(&mut self, gone: &mut Gone)
         ensures gone { take (length self.old.inputs) gone.new ≡ fronts self.old.buffers }
+        ensures others { drop (length self.old.inputs) gone.new ≡ drop (length self.old.inputs) gone.old }
         ensures buffers { self.new.buffers ≡ rests self.old.buffers }
         ensures inputs { self.new.inputs ≡ self.old.inputs }
         ensures from_inputs { self.new.from_inputs ≡ self.old.from_inputs }

@@ -1,7 +1,7 @@
 -- A cell that comes behind a more urgent one for its output changes no offer. The first cell for the output stands below
 -- the cushion, since it is more urgent, ahead of the first one that is less urgent, and ahead of the end. So it stays the
 -- first, and the newcomer's output stands behind it in the list of all the cells' outputs, where a repeat is not seen.
-use Rattle.std.proofs.Common.{◌≡◌, ◌≢◌, ℕ, zero, suc, ◌<◌, cond, Bool, false, List, [], ◌∷◌, length, map, Some, None, refl, sym, ap, ◌∙◌, subst, ⊎_elim, arith}
+use Rattle.std.proofs.Common.{◌≡◌, ◌≢◌, ℕ, zero, suc, ◌<◌, cond, Bool, true, false, List, [], ◌∷◌, length, map, Option, Some, None, refl, sym, ap, ◌∙◌, subst, ⊎_elim, arith}
 use Rattle.std.specs.Prelude.{◌&&◌, insert, slice_get}
 use Rattle.std.specs.Option.{option_map}
 use Rattle.std.proofs.lemmas.Bool.{cases_eq, eq-eqb, ne_eqb}
@@ -14,7 +14,7 @@ use Rattle.cq_base.specs.Key.{is_before}
 use Rattle.cq_base.specs.Cells.{IsBefore, MoreUrgentAhead, is_for, first_for, place_for, place_of_later, place_of_arrival, with_arrival}
 use Rattle.cq_base.proofs.Keys.{key_laws}
 use Rattle.cq_base.proofs.Lists.{first_here, first_later}
-use Rattle.cq_prefs.specs.FirstCells.{list_of, output_order, input_order, orders_of, first_key, places_by_key}
+use Rattle.cq_prefs.specs.FirstCells.{list_of, output_order, input_order, orders_of, first_key, key_before, places_by_key}
 use Rattle.cq_prefs.specs.Renewal.{without}
 use Rattle.cq_prefs.proofs.Changes.{same_but_arrival}
 use Rattle.cq_prefs.proofs.InputOrder.{key_at-first, inputs_at, outputs_at}
@@ -109,11 +109,19 @@ module _ (c : Queued) where
       })
       (cases_eq x.cell.output c.cell.output)
 
+more_urgent_first : (c : Queued) (first : Option Queued) →
+    key_before (option_map (λ (q : Queued). q.key) first) (Some c.key) ≡ true →
+    (f : Queued) × (first ≡ Some f) × IsBefore f c
+more_urgent_first c None before = absurd (let P : ⊥ = cc in P)
+more_urgent_first c (Some f) before = (f, refl, before)
+
 -- a cell that comes while a more urgent one for its output waits
-pub comes_behind : (cushion : ℕ) (c f : Queued) (xs : List Queued) → first_for c.cell.output xs ≡ Some f →
-    IsBefore f c → MoreUrgentAhead cushion c xs → OfferAlike xs (with_arrival cushion c xs)
-comes_behind cushion c f xs h before ahead =
-    let behind = goes_behind cushion c f xs h before ahead in
+pub comes_behind : (cushion : ℕ) (c : Queued) (xs : List Queued) →
+    key_before (first_key c.cell.output xs) (Some c.key) ≡ true → MoreUrgentAhead cushion c xs →
+    OfferAlike xs (with_arrival cushion c xs)
+comes_behind cushion c xs before ahead =
+    let first = more_urgent_first c (first_for c.cell.output xs) before in
+    let behind = goes_behind cushion c first.0 xs first.1 first.2 ahead in
     behind_first c xs (place_of_arrival cushion c xs) behind.0 behind.1
 
 -- ## All offers

@@ -1,10 +1,11 @@
-use Rattle.std.proofs.Common.{◌≡◌, Option, None, length, take, replicate}
+use Rattle.std.proofs.Common.{◌≡◌, Option, None, length, take, drop, replicate}
 use Rattle.cq_base.specs.declared.cell.Queued.{Queued}
 use Rattle.cq_fabric.proofs.gone.clear_each.Given as goal
 
--- the places before this one have no cell
+-- the places before this one have no cell, and the others are as they were
 abbrev pub invariant-outputs : goal.invariant-outputs
 invariant-outputs l = record {
   long : length l.places ≡ 64;
   none : (let none : Option Queued = None in take l.output l.places ≡ replicate l.output none);
+  others : drop l.output l.places ≡ drop l.output l.fn.places;
 }

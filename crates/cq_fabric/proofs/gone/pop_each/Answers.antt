@@ -3,7 +3,7 @@ use Rattle.std.proofs.lemmas.List.{length-map, take_more, take_more_set, get_or-
 use Rattle.cq_base.specs.declared.cell.Queued.{Queued}
 use Rattle.cq_urgency.specs.OutputBuffer.{Buffered}
 use Rattle.cq_fabric.specs.Queues.{front_of, popped}
-use Rattle.cq_fabric.proofs.Changed.{at_place, next_place}
+use Rattle.cq_fabric.proofs.Changed.{at_place, next_place, still_behind}
 use Rattle.cq_fabric.proofs.Queued.{popped_by}
 use Rattle.cq_fabric.proofs.gone.pop_each.Goals as goal
 
@@ -34,6 +34,7 @@ outputs-preserved c =
           take_more_set c.outputs.gone n c.pop.result (omega arith) ∙ ap (λ l. l ++ c.pop.result ∷ []) inv.gone
           ∙ ap (λ (q : Option Queued). take n (map front_of old) ++ q ∷ []) front
           ∙ sym (take_more (map front_of old) n none (omega arith));
+      others = still_behind c.outputs.gone c.args.gone.now n c.pop.result inv.others;
       buffers =
           ap (λ (bs : List Buffered). set bs n c.pop.new.self) inv.buffers
           ∙ next_place (map popped old) old n c.pop.new.self d (length-map old popped) (omega arith) rest;

@@ -1,4 +1,4 @@
-use Rattle.std.proofs.Common.{◌≡◌, length, map, take}
+use Rattle.std.proofs.Common.{◌≡◌, length, map, take, drop}
 use Rattle.cq_fabric.specs.Queues.{front_of, popped}
 use Rattle.cq_fabric.proofs.Changed.{changed_to}
 use Rattle.cq_fabric.proofs.gone.pop_each.Given as goal
@@ -8,5 +8,6 @@ abbrev pub invariant-outputs : goal.invariant-outputs
 invariant-outputs l = record {
   long : length l.gone ≡ 64;
   gone : take l.output l.gone ≡ take l.output (map front_of l.fn.buffers);
+  others : drop l.output l.gone ≡ drop l.output l.fn.gone;
   buffers : l.buffers ≡ changed_to (map popped l.fn.buffers) l.fn.buffers l.output;
 }

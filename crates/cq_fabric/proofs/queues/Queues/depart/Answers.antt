@@ -42,6 +42,17 @@ returns-clause-gone c =
     ap (λ k. take k c.take_from.new.self) n ∙ c.take_from.ensures.gone ∙ ap (map front_of) c.deref_mut.ensures.value
     ∙ sym (fronts_shown c.self.inside.buffers.items) ∙ ap (λ (q : Held). fronts q.buffers) c.self.view_is
 
+pub returns-clause-others : goal.returns-clause-others
+returns-clause-others c =
+    let square = c.self.invariant.square in
+    let as_many = square.as_many in
+    let value = ap length c.deref_mut.ensures.value in
+    let inputs = ap (λ (q : Held). length q.inputs) c.self.view_is in
+    let long = length-map c.self.inside.lists.items (λ (w : Waiting). w.cells) in
+    let n : length c.args.self.now.inputs ≡ length c.deref_mut.result.now = omega arith in
+    ap (λ k. drop k c.take_from.new.self) n ∙ c.take_from.ensures.others
+    ∙ ap (λ k. drop k c.args.gone.now) (sym n)
+
 pub returns-clause-buffers : goal.returns-clause-buffers
 returns-clause-buffers c =
     let buffers = c.self.inside.buffers.items in
