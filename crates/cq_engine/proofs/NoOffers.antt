@@ -1,17 +1,20 @@
 -- Where nothing is offered the empty matching is the best for the inputs, and no proposal is made: no offered pair is
 -- left out, and no input has an order to go down. It moves no cell, and nothing is noted of it.
-use Rattle.std.proofs.Common.{◌≡◌, ℕ, ◌<◌, ◌≤◌, List, [], ◌∷◌, length, replicate, Option, Some, None, refl, sym, ap, ◌∙◌, ⊎_elim, arith}
+use Rattle.std.proofs.Common.{◌≡◌, ℕ, ◌<◌, ◌≤◌, List, [], ◌∷◌, ◌++◌, length, replicate, Option, Some, None, refl, sym, ap, ◌∙◌, ⊎_elim, arith}
 use Rattle.std.specs.List.{cons_option, filter_map, range_with_len, sum_by}
 use Rattle.std.proofs.lemmas.Bool.{cases_lt}
-use Rattle.std.proofs.lemmas.List.{length-replicate, get_or_past}
+use Rattle.std.proofs.lemmas.List.{append-nil, length-replicate, get_or_past}
 use Rattle.std.proofs.lemmas.List.Sums.{sum-map, sum_by-cons}
 use Rattle.cq_base.specs.declared.cell.Queued.{Queued}
 use Rattle.cq_base.specs.declared.cell.Transfer.{Transfer}
-use Rattle.cq_prefs.specs.FirstCells.{list_of}
+use Rattle.cq_base.specs.Room.{RoomView}
+use Rattle.cq_fabric.specs.Queues.{Queues}
+use Rattle.cq_prefs.specs.FirstCells.{list_of, orders_of}
 use Rattle.cq_prefs.specs.Moves.{Moves, list_taken, noted, transfers_of}
 use Rattle.cq_prefs.specs.Orders.{Orders, ports, outputs_of, IsOffered}
 use Rattle.cq_prefs.specs.Pairing.{partner_of, depth, spent, proposals, IsInputBest}
 use Rattle.cq_prefs.proofs.Pairs.{nobody}
+use Rattle.cq_engine.specs.Crossing.{HasCrossed}
 
 zeros : (f : ℕ → ℕ) (xs : List ℕ) → ((k : ℕ) → f k ≡ 0) → sum_by f xs ≡ 0
 zeros f [] none = refl
@@ -83,3 +86,22 @@ nothing_noted n lists slot phase =
     none_kept (λ i. noted slot phase i (list_of lists i) (partner_of (replicate n none) i))
     (range_with_len 0 (length (replicate n none)))
     (λ k. ap (noted slot phase k (list_of lists k)) (nobody n k))
+
+-- so nothing crosses
+pub nothing_crosses : (slot phase : ℕ) (q : Queues) (note : RoomView Transfer) →
+    ((i : ℕ) → outputs_of (orders_of q.inputs) i ≡ []) → HasCrossed slot phase q q note note 0
+nothing_crosses slot phase q note none =
+    let free : Option ℕ = None in
+    let o = orders_of q.inputs in
+    let noted = nothing_noted (ports o) q.inputs slot phase in
+    record {
+      matching = replicate (ports o) free;
+      best = none_best o none;
+      count = none_proposed o none;
+      few = omega arith;
+      moves = nothing_moves (ports o) q.inputs q.buffers;
+      from_inputs = refl;
+      to_outputs = refl;
+      noted = sym (ap (λ (l : List Transfer). note.items ++ l) noted ∙ append-nil note.items);
+      note_room = let e = ap (λ (l : List Transfer). length l) noted in omega arith;
+    }

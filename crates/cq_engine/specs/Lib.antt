@@ -1,3 +1,4 @@
+pub mod Crossing
 pub mod Measuring
 pub mod Engine
 pub mod Straight

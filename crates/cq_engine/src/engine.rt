@@ -26,6 +26,7 @@ use cq_crew::Gate;
 use cq_fabric::{Gone, Queues};
 use cq_ideal::{Limiter, Newcomers, Ranks, Refused};
 use cq_laws::Frozen;
+use cq_pair::Core;
 use cq_rank::Rank;
 use std::alloc::Global;
 use std::marker::Model;
@@ -49,6 +50,7 @@ pub struct Engine<R: Rank> {
     figures: Figures,
     came: Newcomers,
     gone: Gone,
+    core: Core,
     workers: u16,
     next: Slot,
     look: Look,
@@ -168,6 +170,7 @@ impl<R: Rank> Engine<R> {
             ranks: Ranks::of(ranks),
             came: Newcomers::none(),
             gone: Gone::none(),
+            core: Core::none(),
             workers,
             next: 0,
             look: Look::Arriving,
@@ -221,6 +224,7 @@ impl<R: Rank> Engine<R> {
             figures,
             came: Newcomers::none(),
             gone: Gone::none(),
+            core: Core::none(),
             workers,
             next: from.next,
             look: Look::All,
@@ -333,7 +337,9 @@ impl<R: Rank> Engine<R> {
         );
         self.look = Look::Arriving;
         let workers = self.workers;
-        let first = cross(&mut self.queues, rt, alloc, workers, slot, 1, gate, note);
+        let core = &mut self.core;
+        let queues = &mut self.queues;
+        let first = cross(core, queues, rt, alloc, workers, slot, 1, gate, note);
         depart(
             &mut self.ranks,
             &mut self.queues,
@@ -343,8 +349,10 @@ impl<R: Rank> Engine<R> {
             slot,
             sent,
         );
-        let second = cross(&mut self.queues, rt, alloc, workers, slot, 2, gate, note);
-        count_proposals(&mut self.figures, first.proposals, second.proposals);
+        let core = &mut self.core;
+        let queues = &mut self.queues;
+        let second = cross(core, queues, rt, alloc, workers, slot, 2, gate, note);
+        count_proposals(&mut self.figures, first, second);
         self.next = slot + 1;
         Ok(())
     }
@@ -424,6 +432,7 @@ impl<R: Rank> Engine<R> {
             figures,
             came: _,
             gone: _,
+            core: _,
             workers: _,
             next: _,
             look: _,

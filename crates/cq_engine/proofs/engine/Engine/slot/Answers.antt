@@ -94,11 +94,11 @@ judged g c =
 
 -- once the first matching has crossed
 crossed : (g : given.Over) (c : After-cross-first g) →
-    HaveCrossed c.cross-first.result.matching c.cross-first.result.proposals c.arrive.new.self c.cross-first.new.queues
+    HaveCrossed c.cross-first.ensures.matching c.cross-first.result c.arrive.new.self c.cross-first.new.queues
 crossed g c =
     record {
       best = c.cross-first.ensures.best;
-      counted = c.cross-first.ensures.proposals;
+      counted = c.cross-first.ensures.count;
       moves = c.cross-first.ensures.moves;
     }
 
@@ -126,12 +126,12 @@ released g c =
 
 -- once the second matching has crossed too
 crossed_again : (g : given.Over) (c : After-cross-second g) →
-    HaveCrossed c.cross-second.result.matching c.cross-second.result.proposals c.depart.new.queues
+    HaveCrossed c.cross-second.ensures.matching c.cross-second.result c.depart.new.queues
     c.cross-second.new.queues
 crossed_again g c =
     record {
       best = c.cross-second.ensures.best;
-      counted = c.cross-second.ensures.proposals;
+      counted = c.cross-second.ensures.count;
       moves = c.cross-second.ensures.moves;
     }
 
@@ -143,13 +143,13 @@ whole : (g : given.Over) (c : goal.After-self-3-1 g) →
     (fabric_of c.cross-second.new.queues c.depart.new.ranks.states)
     (taken g (goal.at.returns-clause-slot g c).In_default (known g (goal.at.returns-clause-slot g c).After-self)).ideal
     (fronts c.cross-first.new.queues.buffers)
-    (transfers_of c.cross-first.result.matching c.arrive.new.self.inputs c.args.slot 1
-    ++ transfers_of c.cross-second.result.matching c.depart.new.queues.inputs c.args.slot 2)
+    (transfers_of c.cross-first.ensures.matching c.arrive.new.self.inputs c.args.slot 1
+    ++ transfers_of c.cross-second.ensures.matching c.depart.new.queues.inputs c.args.slot 2)
 whole g c =
     let at = goal.at.returns-clause-slot g c in
     let begins = known g at.After-self in
-    let first = c.cross-first.result.proposals in
-    let second = c.cross-second.result.proposals in
+    let first = c.cross-first.result in
+    let second = c.cross-second.result in
     let left = c.depart.ensures in
     let counted = c.count_proposals-2.ensures in
     whole_slot c.self.inside.figures begins.running.in_step (taken g at.In_default begins) (arrived g at.After-arrive)
@@ -352,7 +352,7 @@ pub cross-second-requires-clause-note : goal.cross-second-requires-clause-note
 cross-second-requires-clause-note g c =
     let begins = known g (goal.at.cross-second-requires-clause-note g c).After-self in
     let best = c.cross-first.ensures.best in
-    let few = few_cross c.cross-first.result.matching c.arrive.new.self.inputs c.args.slot 1 best.stable.matching in
+    let few = few_cross c.cross-first.ensures.matching c.arrive.new.self.inputs c.args.slot 1 best.stable.matching in
     let room = c.requires.note in
     let left = c.cross-first.ensures.note_room in
     let gone = ap length c.depart.ensures.inputs in
@@ -516,8 +516,8 @@ returns-clause-slot g c =
     let one = c.cross-first.ensures in
     let two = c.cross-second.ensures in
     let left = c.depart.ensures in
-    let first = transfers_of c.cross-first.result.matching c.arrive.new.self.inputs slot 1 in
-    let second = transfers_of c.cross-second.result.matching c.depart.new.queues.inputs slot 2 in
+    let first = transfers_of c.cross-first.ensures.matching c.arrive.new.self.inputs slot 1 in
+    let second = transfers_of c.cross-second.ensures.matching c.depart.new.queues.inputs slot 2 in
     let first_room = one.note_room in
     let second_room = two.note_room in
     let both = ap length done.crossed in
@@ -545,7 +545,7 @@ returns-clause-slot g c =
       departed = left.sent ∙ ap (λ l. c.args.sent.now.items ++ departures_in slot l) (sym done.gone);
       departed_room = omega arith;
       crossed =
-          two.note ∙ ap (λ l. l ++ second) one.note ∙ append_assoc c.args.note.now.items first second
+          two.noted ∙ ap (λ l. l ++ second) one.noted ∙ append_assoc c.args.note.now.items first second
           ∙ ap (λ l. c.args.note.now.items ++ l) (sym done.crossed);
       crossed_room = omega arith;
       counted = done.figures;

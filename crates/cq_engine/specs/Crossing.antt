@@ -1,0 +1,21 @@
+-- Only proofs use this.
+-- What a phase of a slot does.
+use Rattle.std.specs.Prelude.{ℕ, ◌≡◌, ◌≤◌, ◌+◌, ◌*◌, ◌++◌, length}
+use Rattle.cq_base.specs.declared.cell.Transfer.{Transfer}
+use Rattle.cq_base.specs.Room.{RoomView}
+use Rattle.cq_fabric.specs.Queues.{Queues}
+use Rattle.cq_prefs.specs.FirstCells.{orders_of}
+use Rattle.cq_prefs.specs.Moves.{Moves, transfers_of}
+use Rattle.cq_prefs.specs.Pairing.{IsInputBest, Partners, proposals}
+
+-- the input-best matching of the lists was transferred and noted, after so many proposals
+pub record HasCrossed (slot phase : ℕ) (q q' : Queues) (note note' : RoomView Transfer) (made : ℕ) : Type 0 where
+  pub matching : Partners
+  pub best : IsInputBest (orders_of q.inputs) matching
+  pub count : made ≡ proposals (orders_of q.inputs) matching
+  pub few : made ≤ length q.inputs * length q.inputs
+  pub moves : Moves matching q.inputs q.buffers q'.inputs q'.buffers
+  pub from_inputs : q'.from_inputs ≡ q.from_inputs
+  pub to_outputs : q'.to_outputs ≡ q.to_outputs
+  pub noted : note'.items ≡ note.items ++ transfers_of matching q.inputs slot phase
+  pub note_room : note'.spare + length (transfers_of matching q.inputs slot phase) ≡ note.spare
