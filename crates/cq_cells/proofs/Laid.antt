@@ -40,8 +40,7 @@ are_read captures input ps places same placed stamps small =
       many =
           ap (λ (rows : List PacketRow). length rows) placed ∙ length-rows_from 24 ps
           ∙ ap (λ (qs : List Captured). length qs) same;
-      recorded =
-          subst (λ (qs : List Captured). IsRecorded qs) same (record { stamps = stamps; small = small });
+      recorded = subst (λ (qs : List Captured). IsRecorded qs) same (record { stamps = stamps; small = small });
     }
 
 -- a row is that of packet k, which goes to a port

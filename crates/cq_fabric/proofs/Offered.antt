@@ -1,8 +1,8 @@
 -- The offers follow the lists. Where one cell comes, the list of its input changes in the pair of this input and the
--- cell's output, and in no other, and in none where a more urgent cell for its output waits there. Where a matching is
--- transferred, the lists change in its pairs. All keys of waiting cells differ before and after: a cell that comes has a
--- key that none had, and cells that leave take theirs away. So the first cells of different lists have different keys,
--- as the offers ask.
+-- cell's output, and in no other, and in none where a more urgent cell for its output waits there. Where a matching
+-- is transferred, the lists change in its pairs. All keys of waiting cells differ before and after: a cell that comes
+-- has a key that none had, and cells that leave take theirs away. So the first cells of different lists have
+-- different keys, as the offers ask.
 use Rattle.std.proofs.Common.{◌≡◌, ◌≢◌, ℕ, ◌+◌, ◌<◌, ◌≤◌, ◌⊎◌, true, List, [], length, map, get_or, set, replicate, Option, Some, None, refl, sym, ap, ◌∙◌, subst, inl, inr, ⊎_elim, arith}
 use Rattle.std.specs.Prelude.{All, insert}
 use Rattle.std.specs.List.{IsDistinct}

@@ -1,4 +1,5 @@
--- The packets of an input are put into its file one after another: after each slot it is the file of the packets so far.
+-- The packets of an input are put into its file one after another: after each slot it is the file of the packets so
+-- far.
 use Rattle.std.proofs.Common.{◌≡◌, ℕ, ◌+◌, List, [], ◌∷◌, ◌++◌, map, false, refl, ap, sym, ◌∙◌}
 use Rattle.std.proofs.lemmas.List.{map-append}
 use Rattle.cq_pcap.specs.Captured.{Captured}

@@ -33,8 +33,7 @@ came_here slot i cell level rank rest cells r q h e =
     (ap (λ (x : Ranking). get_or x.came 0 None) w.2 ∙ e) in
     let input : q.key.input ≡ i = ap (λ (x : Queued). x.key.input) (sym is) in
     record {
-      slot_is =
-          ap (λ (x : Queued). x.key.slot) (sym is);
+      slot_is = ap (λ (x : Queued). x.key.slot) (sym is);
       input_is = omega arith;
       cell_is = ap (λ (x : Queued). Some x.cell) is;
     }

@@ -86,8 +86,7 @@ comes ms ports (a ∷ came) slot all e =
       cell = a.cell;
       inside = all.0.input;
       output = all.0.output;
-      found_is =
-          found_here a came slot a.cell.id.input is refl;
+      found_is = found_here a came slot a.cell.id.input is refl;
     })
     (λ (other : a.slot ≡ slot → ⊥).
     let le : max (a.slot + 1) (end_of came) ≡ slot + 1 = e in
@@ -100,8 +99,7 @@ comes ms ports (a ∷ came) slot all e =
       cell = c.cell;
       inside = c.inside;
       output = c.output;
-      found_is =
-          other_slot a came slot c.input other ∙ c.found_is;
+      found_is = other_slot a came slot c.input other ∙ c.found_is;
     })
     (cases_eq a.slot slot)
 

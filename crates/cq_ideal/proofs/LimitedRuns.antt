@@ -212,8 +212,7 @@ module _ (limits : List (Option ℕ)) (ms : List Machine) where
         ap (then_limited (record {
           admission = nothing_refused marks cells;
           gone = sent.gone;
-          after =
-              marked marks sent.after;
+          after = marked marks sent.after;
         })) (rest sent.after)
         ∙ none_between cells traffic sent.gone sent.after (ideal_run ms (slot + 1) traffic sent.after)
     goes_on_without slot cells traffic (Err fault) rest = refl
@@ -265,7 +264,6 @@ rest_refuses_none limits ms slots slot ports marks s after ran =
     ∙ ap (λ (l : List Admission). Ok (record {
       admissions = l;
       gone = replicate slots (replicate ports None);
-      after =
-          marked marks after;
+      after = marked marks after;
     }))
     (each_same (nothing_refused marks) slots no_arrivals)

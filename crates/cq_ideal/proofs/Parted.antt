@@ -236,8 +236,7 @@ stays_empty ms came (suc n) slot s le none =
     go : (x : Result Sent TagFault) (sent : Sent) → x ≡ Ok sent → (ran : Ran) →
         ideal_run ms (slot + 1) (map (arriving came) (range_with_len (slot + 1) n)) sent.after ≡ Ok ran →
         next_slot ms (slot + 1) (map (arriving came) (range_with_len (slot + 1) n)) x ≡ Ok (record {
-          gone =
-              sent.gone ∷ ran.gone;
+          gone = sent.gone ∷ ran.gone;
           after = ran.after;
         })
     go x sent e ran is = ap (next_slot ms (slot + 1) (map (arriving came) (range_with_len (slot + 1) n))) e

@@ -104,8 +104,7 @@ module _ (ms : List Machine) (ports class_count : ℕ) (ranks : List (List ℕ))
     pub after : IdealState
     pub ran : ideal_run ms 0 (first_slots came n) (empty_ideal ports ranks) ≡ Ok (record {
       gone = gone_in rs;
-      after =
-          after;
+      after = after;
     })
     pub agrees : Agrees n f after
 

@@ -66,8 +66,7 @@ module _ (ms : List Machine) (slot class_count : ℕ) (cells : List (Option Cell
         arrived_sound ms slot cells came f arrived arrive
         (keyed_from ms slot (length f.inputs) class_count cells f.ranks (record {
           came = came;
-          ranks =
-              arrived.ranks;
+          ranks = arrived.ranks;
         }) arrive.ranked come)
         (sound_from slot f ideal agrees) agrees.slack
 

@@ -61,8 +61,7 @@ module _ (limits : List (Option ℕ)) (ms : List Machine) (class_count : ℕ) wh
   same_limited_run slot [] f g ideal [] s run =
       let here : slot ≡ slot + 0 = omega arith in
       record {
-        after =
-            ideal;
+        after = ideal;
         ran = refl;
         agrees = subst (λ n. LimitedAgrees n g ideal) here
             (subst (λ h. LimitedAgrees slot h ideal) (sym run) s.agrees);

@@ -64,8 +64,11 @@ module _ (MayChoose : Orders → Partners → Type 0) (limits : List (Option ℕ
         LimitedFabricRun MayChoose limits ms slot traffic (marked marks f) rs g →
         FabricRun MayChoose ms slot traffic f (slots_in rs) g.state × (rs ≡ passed marks traffic (slots_in rs)) ×
         (g ≡ marked marks g.state)
-    run_without slot [] f [] g none run =
-        (ap (λ (h : Marked Fabric). h.state) run, refl, run ∙ ap (λ (h : Marked Fabric). marked marks h.state) (sym run))
+    run_without slot [] f [] g none run = (
+      ap (λ (h : Marked Fabric). h.state) run,
+      refl,
+      run ∙ ap (λ (h : Marked Fabric). marked marks h.state) (sym run),
+    )
     run_without slot [] f (r ∷ rs) g none run = absurd run
     run_without slot (cells ∷ traffic) f [] g none run = absurd run
     run_without slot (cells ∷ traffic) f (r ∷ rs) g none run =

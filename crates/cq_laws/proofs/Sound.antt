@@ -122,8 +122,7 @@ all_before slot f early (Crossed j t) c at = early.crossed j c (among_at (buffer
 pub firsts_differ : (f : Fabric) → Apart f → FirstKeysDiffer f.inputs
 firsts_differ f apart j i k c d a b e =
     let p = first_at (is_for j) (input f i) c a in
-    let q =
-    first_at (is_for j) (input f k) d b in
+    let q = first_at (is_for j) (input f k) d b in
     (apart.waiting i k c d (among_at (input f i) p.place c p.at) (among_at (input f k) q.place d q.at) e).0
 
 pub orders_are : (f : Fabric) → Apart f → AreOrdersOf f.inputs (orders_of f.inputs)

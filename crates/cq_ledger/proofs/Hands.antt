@@ -178,8 +178,7 @@ module _ (o : Orders) (v : AreOffers o) (s : State) (w : IsSound o s) (i : ℕ) 
             v.shown i j st.offered,
           )))
       go (inl e) (inr l) =
-          let left : next_place s i + 1 < length (outputs_of o i) =
-          let a = g.left in
+          let left : next_place s i + 1 < length (outputs_of o i) = let a = g.left in
           let b = st.moved_on in
           let P : ℕ → Type 0 = λ n. next_place t n < length (outputs_of o n) in
           let c : next_place t i < length (outputs_of o i) = subst P e a in

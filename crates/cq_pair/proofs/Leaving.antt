@@ -1,5 +1,5 @@
--- Inputs that leave. The last of the free ones is taken out where it stands, since no input is free twice. And inputs that
--- are parted one after another, from the first on, leave no pair.
+-- Inputs that leave. The last of the free ones is taken out where it stands, since no input is free twice. And inputs
+-- that are parted one after another, from the first on, leave no pair.
 use Rattle.std.proofs.Common.{◌≡◌, ◌≢◌, ℕ, zero, suc, ◌+◌, ◌-◌, ◌<◌, eqb, List, [], ◌∷◌, ◌++◌, length, take, replicate, Option, Some, None, refl, sym, ap, ◌∙◌, subst, inl, inr, arith}
 use Rattle.std.specs.Prelude.{slice_get}
 use Rattle.std.specs.List.{IsDistinct}

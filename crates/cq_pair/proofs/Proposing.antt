@@ -60,10 +60,8 @@ state_from s t e f = λ k. record { positions = e k; places = f k }
 pub sizes : (o : Orders) (c : Progress) (i j p h : ℕ) → IsAsk o c i j p h → (d : Progress) → MovesOn o c d i →
     (length d.state.places ≡ ports o) × (length d.matching ≡ ports o)
 sizes o c i j p h a d m = (
-  let e =
-      ap length m.places in
-      let f =
-      length-set c.state.places i (next_place c.state i + 1) in
+  let e = ap length m.places in
+      let f = length-set c.state.places i (next_place c.state i + 1) in
       let g = (sound o c i j p h a).inputs in omega arith,
   ap length (m.matching ∙ a.reached.matching) ∙ (matching-of o a.offers c.state).size,
 )
@@ -234,8 +232,7 @@ pub free_output_then : (o : Orders) (c : Progress) (i j p h k : ℕ) → IsAsk o
 free_output_then o c i j p h k a n is d e m s =
     let known = output_known o c i j p h a in
     let q = parted o c i j p h k a is d e m s in (
-      let z =
-          length-set (matching_of o c.state) (holder o c.state (next_output o c.state i)) None in
+      let z = length-set (matching_of o c.state) (holder o c.state (next_output o c.state i)) None in
           let y = (matching-of o a.offers c.state).size in let x = ap length q in omega arith,
       λ l t. unheld-parted o a.offers c.state (sound o c i j p h a) (next_output o c.state i)
           (next_known o c i j p h a) (other_held o c i j p h a n) l

@@ -1,6 +1,7 @@
--- A cell that comes behind a more urgent one for its output changes no offer. The first cell for the output stands below
--- the cushion, since it is more urgent, ahead of the first one that is less urgent, and ahead of the end. So it stays the
--- first, and the newcomer's output stands behind it in the list of all the cells' outputs, where a repeat is not seen.
+-- A cell that comes behind a more urgent one for its output changes no offer. The first cell for the output stands
+-- below the cushion, since it is more urgent, ahead of the first one that is less urgent, and ahead of the end. So it
+-- stays the first, and the newcomer's output stands behind it in the list of all the cells' outputs, where a repeat
+-- is not seen.
 use Rattle.std.proofs.Common.{◌≡◌, ◌≢◌, ℕ, zero, suc, ◌<◌, cond, Bool, true, false, List, [], ◌∷◌, length, map, Option, Some, None, refl, sym, ap, ◌∙◌, subst, ⊎_elim, arith}
 use Rattle.std.specs.Prelude.{◌&&◌, insert, slice_get}
 use Rattle.std.specs.Option.{option_map}
@@ -53,8 +54,7 @@ first_ahead c f (x ∷ xs) h before =
     let past = first_later later x xs no in
     omega arith)
     (λ other.
-    let no : later x ≡ false =
-    ap (λ b. b && is_before c.key x.key) (ne_eqb x.cell.output c.cell.output other) in
+    let no : later x ≡ false = ap (λ b. b && is_before c.key x.key) (ne_eqb x.cell.output c.cell.output other) in
     let here = first_later (is_for c.cell.output) x xs (ne_eqb x.cell.output c.cell.output other) in
     let past = first_later later x xs no in
     let rest = first_ahead c f xs (sym (shown_later x xs c.cell.output other) ∙ h) before in

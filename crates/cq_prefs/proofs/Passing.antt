@@ -92,6 +92,5 @@ none_goes_past o v events es m stable i j e = go (cases_lt (place_of o i j) (nex
     go (inl l) =
         let a = (sound-after o v events es).asked_before i j l in
         let b = none_passed-after o v events es m stable i j e in
-        let c =
-        (sound-after o v events es).last i j (omega arith, v.shown i j (stable.matching.offered i j e)) in
+        let c = (sound-after o v events es).last i j (omega arith, v.shown i j (stable.matching.offered i j e)) in
         omega arith

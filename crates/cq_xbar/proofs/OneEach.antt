@@ -111,8 +111,7 @@ noted_pair slot phase i cells (Some j) t e = go (first_for j cells) refl e
     go None none e = absurd (let P : ⊥ = cc in P)
     go (Some c) some e =
         let made : Transfer = record { slot = slot; phase = phase; input = i; output = j; id = c.cell.id } in
-        let same : made ≡ t =
-        cc in
+        let same : made ≡ t = cc in
         (sym (ap (λ (s : Transfer). s.input) same), ap (λ (s : Transfer). Some s.output) same)
 
 pub notes_one_each : (m : Partners) (lists : List (List Queued)) (slot phase : ℕ) → ArePairs m →

@@ -101,8 +101,7 @@ loop-output-preserved c = λ s w shows.
 pub returns : goal.returns
 returns c = λ s w shows.
     let o = c.args.offers.now in
-    let done : c.loop-output.output ≡ ports o =
-    let a = c.loop-output-test.false in
+    let done : c.loop-output.output ≡ ports o = let a = c.loop-output-test.false in
     let b = c.ports-ports.ensures.value in
     let d = c.loop-output.auto.output-end in
     omega arith in

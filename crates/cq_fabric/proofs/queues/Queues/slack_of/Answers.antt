@@ -17,8 +17,7 @@ pub returns : goal.returns
 returns c =
     let lists = c.self.inside.lists.items in
     let seen = ap (λ (q : Queues). q.inputs) c.self.view_is in
-    let inside : c.args.input < length lists =
-    let many = ap length seen in
+    let inside : c.args.input < length lists = let many = ap length seen in
     let long = length-map lists (λ (w : Waiting). w.cells) in
     let input = c.requires.input in
     omega arith in

@@ -146,7 +146,8 @@ invariant_of-self-2 g c =
 
 pub returns-in-Err-clause-answer : goal.returns-in-Err-clause-answer
 returns-in-Err-clause-answer g c =
-    sym (ap answer_to (limited_fault g.R.Rank.machine c.args.arrivals.now c.args.self.now c.self.inside.ranks c.self.inside.queues
+    sym (ap answer_to (limited_fault g.R.Rank.machine c.args.arrivals.now c.args.self.now c.self.inside.ranks
+    c.self.inside.queues
     c.self.inside.limiter c.self.inside.next c.self.inside.stopped c.self.view_is c.self.invariant c.requires.running
     c.args.slot c.judge.new.self.marks c.judge.ensures.marks c.in-Err.fault c.in-Err.ensures.fault))
 
@@ -205,14 +206,11 @@ returns-clause-slot g c =
     let new : IdealSwitch = record {
       fixed = c.send.new.ranks.fixed;
       limits = c.send.new.limiter.limits;
-      state =
-          record { lists = c.send.new.queues.lists; ranks = c.send.new.ranks.states };
-      marks =
-          c.send.new.limiter.marks;
+      state = record { lists = c.send.new.queues.lists; ranks = c.send.new.ranks.states };
+      marks = c.send.new.limiter.marks;
       refused = c.send.new.limiter.refused;
       rooms = c.send.new.queues.rooms;
-      next =
-          c.args.slot + 1;
+      next = c.args.slot + 1;
       stopped = c.self.inside.stopped;
     } in
     done _ _ _ (limited_ok g.R.Rank.machine c.args.arrivals.now c.args.self.now c.self.inside.ranks c.self.inside.queues
@@ -224,7 +222,8 @@ returns-clause-slot g c =
           ap (λ (m : List Bool). marked m left) marks
           ∙ ap (λ (s : IdealState). marked c.judge.new.self.marks s) state;
       sent = record { items = c.send.ensures.items; spare = c.send.ensures.spare };
-      spare = spare_follows _ c.args.slot cells c.args.self.now new _ (admitted_room g.R.Rank.machine c.args.arrivals.now
+      spare =
+          spare_follows _ c.args.slot cells c.args.self.now new _ (admitted_room g.R.Rank.machine c.args.arrivals.now
           c.args.self.now c.self.inside.ranks c.self.inside.queues c.self.inside.limiter c.self.inside.next
           c.self.inside.stopped c.self.view_is c.self.invariant c.requires.running c.judge.new.self.marks
           c.requires.spare)
@@ -240,11 +239,9 @@ returns-clause-slot g c =
 pub returns-clause-same : goal.returns-clause-same
 returns-clause-same g c =
     record {
-      fixed =
-          c.send.ensures.fixed ∙ c.take.ensures.fixed ∙ ap (λ (v : IdealSwitch). v.fixed) c.self.view_is;
+      fixed = c.send.ensures.fixed ∙ c.take.ensures.fixed ∙ ap (λ (v : IdealSwitch). v.fixed) c.self.view_is;
       limits =
           c.send.ensures.limits ∙ c.count.ensures.limits ∙ c.judge.ensures.limits
           ∙ ap (λ (v : IdealSwitch). v.limits) c.self.view_is;
-      rooms =
-          c.send.ensures.rooms ∙ c.arrive.ensures.rooms ∙ ap (λ (v : IdealSwitch). v.rooms) c.self.view_is;
+      rooms = c.send.ensures.rooms ∙ c.arrive.ensures.rooms ∙ ap (λ (v : IdealSwitch). v.rooms) c.self.view_is;
     }

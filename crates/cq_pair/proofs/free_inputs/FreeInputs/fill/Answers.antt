@@ -7,7 +7,8 @@ use Rattle.cq_pair.proofs.free_inputs.FreeInputs.fill.Goals as goal
 pub push-requires : goal.push-requires
 push-requires c =
     let few = few_offers c.args.offers.now c.loop-input.input in
-    let e : length c.loop-input.self-inside.inputs.items ≡ length (inputs_with_offers c.args.offers.now c.loop-input.input) =
+    let e : length c.loop-input.self-inside.inputs.items
+    ≡ length (inputs_with_offers c.args.offers.now c.loop-input.input) =
     ap length c.loop-input.invariant in
     let l = c.loop-input-test.true in
     let m = c.ports-input-end.ensures.few in
@@ -21,7 +22,8 @@ loop-input-preserved c =
     let n = c.loop-input.input in
     elim c.if-not-is_empty.branch [
       | then-not-is_empty w ↦
-          ap (λ v. v.inputs.items) w.self-inside-is ∙ w.push.ensures.items ∙ ap (λ l. l ++ n ∷ []) c.loop-input.invariant
+          ap (λ v. v.inputs.items) w.self-inside-is ∙ w.push.ensures.items
+          ∙ ap (λ l. l ++ n ∷ []) c.loop-input.invariant
           ∙ sym (offers-more o n (offers_if o n c.outputs_of.result.now c.is_empty.result c.outputs_of.ensures
           c.is_empty.ensures w.if-not-is_empty.true))
       | else-not-is_empty w ↦

@@ -13,7 +13,8 @@ returns-clause-reached c =
     c.part_all.ensures
     ∙ ap (λ (n : ℕ). let nobody : Option ℕ = None in replicate n nobody) c.ports-ports.ensures.value in
     reached-begin o c.ports-ports.ensures.offers _ state none
-    (c.fill-3.ensures ∙ waiting-first o _ none ∙ ap (λ s. waiting_inputs o s.places c.part_all.new.matching) (sym state))
+    (c.fill-3.ensures ∙ waiting-first o _ none
+    ∙ ap (λ s. waiting_inputs o s.places c.part_all.new.matching) (sym state))
     refl
 
 pub returns-clause-state : goal.returns-clause-state
