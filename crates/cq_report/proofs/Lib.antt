@@ -1,3 +1,3 @@
-pub mod Ahead
+pub mod Hundreds
 pub mod OneMore
 pub mod Words

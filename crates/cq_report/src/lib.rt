@@ -5,7 +5,9 @@
 #![tactic(auto)]
 
 mod lines;
+mod numerals;
 mod report;
+mod sheet;
 #[cfg(test)]
 mod tests;
 mod texts;

@@ -1,9 +1,10 @@
 //! The trace and the log of a run.
-ghost use Rattle.std.specs.Prelude.{◌≡◌, ◌++◌, IfOk, OnOk, map};
+ghost use Rattle.std.specs.Prelude.{◌≡◌, ◌++◌, IfOk, map};
 ghost use Rattle.cq_base.specs.Packed.{unpacked};
-ghost use Rattle.cq_base.specs.Texts.{trace_of, log_of, trace_line, log_line};
+ghost use Rattle.cq_base.specs.Texts.{trace_of, log_of};
 
-use crate::lines::{LINE, put_line};
+use crate::numerals::Numerals;
+use crate::sheet::Sheet;
 use cq_base::{Departure, NoMemory, PackedDeparture, Room, Supply, Transfer};
 use std::alloc::Global;
 
@@ -21,10 +22,12 @@ pub fn trace_text(alloc: Global, sent: &[Departure]) -> Result<Vec<u8>, NoMemory
     ensures { IfOk result (λ text. text.items ≡ trace_of sent.now) }
 {
     let mut text = Vec::with_capacity(alloc, sent.len().saturating_mul(TRACE_LINE))?;
-    let mut line = [0; LINE];
+    let numerals = Numerals::new();
+    let mut sheet = Sheet::new();
     'departures: for departure in sent {
-        put_departure(&mut text, &mut line, departure)?;
+        sheet.put_departure(&mut text, &numerals, departure)?;
     }
+    sheet.hand_over(&mut text)?;
     Ok(text)
 }
 
@@ -34,28 +37,13 @@ pub fn trace_text_of_packed(alloc: Global, sent: &[PackedDeparture]) -> Result<V
     ensures { IfOk result (λ text. text.items ≡ trace_of (map unpacked sent.now)) }
 {
     let mut text = Vec::with_capacity(alloc, sent.len().saturating_mul(TRACE_LINE))?;
-    let mut line = [0; LINE];
+    let numerals = Numerals::new();
+    let mut sheet = Sheet::new();
     'departures: for packed in sent {
-        put_departure(&mut text, &mut line, &packed.departure())?;
+        sheet.put_departure(&mut text, &numerals, &packed.departure())?;
     }
+    sheet.hand_over(&mut text)?;
     Ok(text)
-}
-
-fn put_departure(
-    text: &mut Vec<u8>,
-    line: &mut [u8; LINE],
-    departure: &Departure,
-) -> Result<(), NoMemory>
-    ensures { OnOk result (text.new.items ≡ text.old.items ++ trace_line departure.now) }
-{
-    let id = departure.queued.cell.id;
-    let others = [
-        u64::from(departure.output),
-        u64::from(id.input),
-        u64::from(id.packet),
-        u64::from(id.index),
-    ];
-    put_line(text, line, departure.slot, &others)
 }
 
 /// The log of the transfers, in the order in which they stand: one line each, with its slot, its phase,
@@ -67,10 +55,12 @@ pub fn log_text(alloc: Global, note: &[Transfer]) -> Result<Vec<u8>, NoMemory>
     ensures { IfOk result (λ text. text.items ≡ log_of note.now) }
 {
     let mut text = Vec::with_capacity(alloc, note.len().saturating_mul(LOG_LINE))?;
-    let mut line = [0; LINE];
+    let numerals = Numerals::new();
+    let mut sheet = Sheet::new();
     'transfers: for transfer in note {
-        put_transfer(&mut text, &mut line, transfer)?;
+        sheet.put_transfer(&mut text, &numerals, transfer)?;
     }
+    sheet.hand_over(&mut text)?;
     Ok(text)
 }
 
@@ -82,26 +72,11 @@ pub fn log_text_of_room(alloc: Global, note: Room<Transfer>) -> Result<Vec<u8>, 
 {
     let mut text = Vec::with_capacity(alloc, note.items().len().saturating_mul(LOG_LINE))?;
     let mut left = Supply::of(note.into_vec());
-    let mut line = [0; LINE];
+    let numerals = Numerals::new();
+    let mut sheet = Sheet::new();
     'transfers: while let Some(transfer) = left.pop_first() {
-        put_transfer(&mut text, &mut line, &transfer)?;
+        sheet.put_transfer(&mut text, &numerals, &transfer)?;
     }
+    sheet.hand_over(&mut text)?;
     Ok(text)
-}
-
-fn put_transfer(
-    text: &mut Vec<u8>,
-    line: &mut [u8; LINE],
-    transfer: &Transfer,
-) -> Result<(), NoMemory>
-    ensures { OnOk result (text.new.items ≡ text.old.items ++ log_line transfer.now) }
-{
-    let others = [
-        u64::from(transfer.phase),
-        u64::from(transfer.input),
-        u64::from(transfer.output),
-        u64::from(transfer.id.packet),
-        u64::from(transfer.id.index),
-    ];
-    put_line(text, line, transfer.slot, &others)
 }

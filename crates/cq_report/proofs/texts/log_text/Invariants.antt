@@ -1,7 +1,7 @@
-use Rattle.std.proofs.Common.{◌≡◌, take}
+use Rattle.std.proofs.Common.{◌≡◌, ◌++◌, take}
 use Rattle.std.specs.List.{flat_map}
 use Rattle.cq_base.specs.Texts.{log_line}
 use Rattle.cq_report.proofs.texts.log_text.Given as goal
 
 abbrev pub invariant-transfers : goal.invariant-transfers
-invariant-transfers l = l.text.items ≡ flat_map log_line (take l.transfer-index l.note)
+invariant-transfers l = l.text.items ++ l.sheet ≡ flat_map log_line (take l.transfer-index l.note)
