@@ -1,24 +1,9 @@
--- Lines of numbers and texts of lines. A line is its first number, then each other behind a blank, then the line
--- feed. In a text one line more stands behind the lines before it. And the lines of what items stand for are a text of
--- those items.
+-- Texts of lines. In a text one line more stands behind the lines before it. And the lines of what items stand for are a
+-- text of those items.
 use Rattle.std.proofs.Common.{◌≡◌, ℕ, ◌+◌, ◌<◌, List, [], ◌∷◌, ◌++◌, length, take, get_or, map, refl, ap, sym, ◌∙◌, append_assoc, arith}
 use Rattle.std.specs.List.{flat_map}
 use Rattle.std.proofs.lemmas.List.{append-nil, flat_map_more, take_more, length-take-le}
-use Rattle.cq_base.specs.Decimal.{decimal}
-use Rattle.cq_base.specs.Texts.{line_of}
 use Rattle.cq_report.specs.Report.{numbered_lines}
-
-abbrev pub behind_blank : ℕ → List ℕ
-behind_blank n = 32 ∷ decimal n
-
--- numbers, parted by blanks
-abbrev pub parted : ℕ → List ℕ → List ℕ
-parted n ns = decimal n ++ flat_map behind_blank ns
-
-pub line_is_parted : (n : ℕ) (ns : List ℕ) → parted n ns ++ 10 ∷ [] ≡ line_of (n ∷ ns)
-line_is_parted n [] = ap (λ ds. ds ++ 10 ∷ []) (append-nil (decimal n))
-line_is_parted n (m ∷ ns) =
-    append_assoc (decimal n) (32 ∷ parted m ns) (10 ∷ []) ∙ ap (λ rest. decimal n ++ 32 ∷ rest) (line_is_parted m ns)
 
 numbered_end : {X : Type 0} (line : ℕ → X → List ℕ) (n : ℕ) (xs : List X) (x : X) (m : ℕ) → m ≡ n + length xs →
     numbered_lines line n (xs ++ x ∷ []) ≡ numbered_lines line n xs ++ line m x

@@ -4,7 +4,7 @@ ghost use Rattle.cq_base.specs.Decimal.{decimal};
 ghost use Rattle.cq_base.specs.Texts.{line_of, log_line, trace_line};
 
 use crate::numerals::Numerals;
-use cq_base::{CellId, Departure, NoMemory, Port, Transfer};
+use cq_base::{Departure, NoMemory, Port, Transfer};
 use std::marker::Model;
 
 // The bytes that are gathered at most.
@@ -74,9 +74,16 @@ impl Sheet {
     {
         self.make_room(text)?;
         let id = departure.queued.cell.id;
-        let slot = put_number(&mut self.bytes, self.end, numerals, departure.slot);
+        let slot = put_first(&mut self.bytes, self.end, numerals, departure.slot);
         let output = put_number(&mut self.bytes, slot, numerals, u64::from(departure.output));
-        self.end = put_cell(&mut self.bytes, output, numerals, id.input, id);
+        self.end = put_cell(
+            &mut self.bytes,
+            output,
+            numerals,
+            id.input,
+            id.packet,
+            id.index,
+        );
         Ok(())
     }
 
@@ -90,7 +97,8 @@ impl Sheet {
         ensures { OnOk result (text.new.items ++ self.new ≡ (text.old.items ++ self.old) ++ log_line transfer.now) }
     {
         self.make_room(text)?;
-        let slot = put_number(&mut self.bytes, self.end, numerals, transfer.slot);
+        let id = transfer.id;
+        let slot = put_first(&mut self.bytes, self.end, numerals, transfer.slot);
         let phase = put_number(&mut self.bytes, slot, numerals, u64::from(transfer.phase));
         let input = put_number(&mut self.bytes, phase, numerals, u64::from(transfer.input));
         self.end = put_cell(
@@ -98,7 +106,8 @@ impl Sheet {
             input,
             numerals,
             transfer.output,
-            transfer.id,
+            id.packet,
+            id.index,
         );
         Ok(())
     }
@@ -111,16 +120,17 @@ fn put_cell(
     at: usize,
     numerals: &Numerals,
     port: Port,
-    id: CellId,
+    packet: u32,
+    index: u32,
 ) -> usize
     requires { at + 67 ≤ 4096 }
-    ensures text { take result bytes.new ≡ take at bytes.old ++ line_of (port ∷ id.packet ∷ id.index ∷ []) }
+    ensures text { take result bytes.new ≡ take at bytes.old ++ line_of (port ∷ packet ∷ index ∷ []) }
     ensures most { result ≤ 4096 }
     ensures long { length bytes.new ≡ 4096 }
 {
     let port_end = put_number(bytes, at, numerals, u64::from(port));
-    let packet_end = put_number(bytes, port_end, numerals, u64::from(id.packet));
-    let end = put_number(bytes, packet_end, numerals, u64::from(id.index));
+    let packet_end = put_number(bytes, port_end, numerals, u64::from(packet));
+    let end = put_number(bytes, packet_end, numerals, u64::from(index));
     bytes[end - 1] = b'\n';
     end
 }
@@ -128,6 +138,32 @@ fn put_cell(
 // Writes a number from a place on and a blank behind it, and answers the place behind that. What stands before stays.
 #[inline(always)]
 fn put_number(bytes: &mut [u8; SHEET], at: usize, numerals: &Numerals, number: u64) -> usize
+    requires { at + 25 ≤ 4096 }
+    ensures text { take result bytes.new ≡ take at bytes.old ++ (decimal number ++ 32 ∷ []) }
+    ensures some { at + 2 ≤ result }
+    ensures most { result ≤ at + 21 }
+    ensures long { length bytes.new ≡ 4096 }
+{
+    if number < 1000 {
+        return put_short(bytes, at, numerals, number);
+    }
+    put_large(bytes, at, numerals, number)
+}
+
+#[inline(never)]
+fn put_large(bytes: &mut [u8; SHEET], at: usize, numerals: &Numerals, number: u64) -> usize
+    requires { at + 25 ≤ 4096 }
+    ensures text { take result bytes.new ≡ take at bytes.old ++ (decimal number ++ 32 ∷ []) }
+    ensures some { at + 2 ≤ result }
+    ensures most { result ≤ at + 21 }
+    ensures long { length bytes.new ≡ 4096 }
+{
+    put_first(bytes, at, numerals, number)
+}
+
+// The same for the first number of a line, which is seldom below a thousand.
+#[inline(always)]
+fn put_first(bytes: &mut [u8; SHEET], at: usize, numerals: &Numerals, number: u64) -> usize
     requires { at + 25 ≤ 4096 }
     ensures text { take result bytes.new ≡ take at bytes.old ++ (decimal number ++ 32 ∷ []) }
     ensures some { at + 2 ≤ result }

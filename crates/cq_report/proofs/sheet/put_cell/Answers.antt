@@ -10,7 +10,7 @@ returns-clause-text c =
     let port = take c.put_number-port_end.result c.put_number-port_end.new.bytes in
     let packet = take c.put_number-packet_end.result c.put_number-packet_end.new.bytes in
     let index =
-    line_feed_behind c.put_number-end.new.bytes packet (decimal c.args.id.index) c.put_number-end.result
+    line_feed_behind c.put_number-end.new.bytes packet (decimal c.args.index) c.put_number-end.result
     (omega (arith, c.put_number-end.ensures.some))
     (omega (
       arith,
@@ -24,5 +24,5 @@ returns-clause-text c =
     in
     word_then start port _ (decimal c.args.port) _ 32
     (c.put_number-port_end.ensures.text ∙ ap (λ (n : ℕ). start ++ (decimal n ++ 32 ∷ [])) c.from.ensures)
-    (word_then port packet _ (decimal c.args.id.packet) _ 32
+    (word_then port packet _ (decimal c.args.packet) _ 32
     (c.put_number-packet_end.ensures.text ∙ ap (λ (n : ℕ). port ++ (decimal n ++ 32 ∷ [])) c.from-2.ensures) index)

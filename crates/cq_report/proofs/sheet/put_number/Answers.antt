@@ -9,26 +9,3 @@ returns-then-number-lt1000-clause-some c =
 pub returns-then-number-lt1000-clause-most : goal.returns-then-number-lt1000-clause-most
 returns-then-number-lt1000-clause-most c =
     let few = few_digits c.args.number c.ranges.number.fits in omega (arith, few, c.put_short.ensures.end)
-
-pub put_middle-requires-clause-room : goal.put_middle-requires-clause-room
-put_middle-requires-clause-room c =
-    let few = few_digits c.args.number c.ranges.number.fits in omega (arith, few, c.requires)
-
-pub returns-then-number-lt100000-clause-some : goal.returns-then-number-lt100000-clause-some
-returns-then-number-lt100000-clause-some c =
-    let some = some_digit c.args.number in omega (arith, some, c.put_middle.ensures.end)
-
-pub returns-then-number-lt100000-clause-most : goal.returns-then-number-lt100000-clause-most
-returns-then-number-lt100000-clause-most c =
-    let few = few_digits c.args.number c.ranges.number.fits in omega (arith, few, c.put_middle.ensures.end)
-
-pub put_long-requires : goal.put_long-requires
-put_long-requires c =
-    let few = few_digits c.args.number c.ranges.number.fits in omega (arith, few, c.requires)
-
-pub returns-clause-some : goal.returns-clause-some
-returns-clause-some c = let some = some_digit c.args.number in omega (arith, some, c.put_long.ensures.end)
-
-pub returns-clause-most : goal.returns-clause-most
-returns-clause-most c =
-    let few = few_digits c.args.number c.ranges.number.fits in omega (arith, few, c.put_long.ensures.end)
