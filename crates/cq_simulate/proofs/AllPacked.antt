@@ -1,7 +1,9 @@
 -- Packets that are put together at all outputs in one pass. When so many departures were used up, those that are left
--- are the others, and each output stands where a walk over its own departures would stand (`SoFar`). One departure more
--- goes on with the walk at its output, and passes by those at all others.
-use Rattle.std.proofs.Common.{◌≡◌, ◌≢◌, ℕ, ◌+◌, ◌<◌, ◌≤◌, All, List, [], ◌∷◌, ◌++◌, length, map, drop, get_or, set, Option, Some, None, option_to_list, refl, sym, ap, ◌∙◌, subst, ⊎_elim, arith}
+-- are the others, and each output stands where a walk over its own departures would stand (`SoFar`), with the packets of
+-- that walk in its bytes (`Walked`). One departure more goes on with the walk at its output, and passes by those at all
+-- others.
+use Rattle.std.proofs.Common.{◌≡◌, ◌≢◌, ℕ, ◌+◌, ◌<◌, ◌≤◌, All, List, [], ◌∷◌, ◌++◌, length, map, drop, get_or, set, Option, Some, None, refl, sym, ap, ◌∙◌, subst, ⊎_elim, arith}
+use Rattle.std.specs.Prelude.{IfSome}
 use Rattle.std.proofs.lemmas.Bool.{cases_eq}
 use Rattle.std.proofs.lemmas.List.{append-nil, drop_more, get_or-set_other, get_or-set_same, length-drop, length-set, take_all}
 use Rattle.cq_base.specs.Packed.{unpacked}
@@ -9,27 +11,22 @@ use Rattle.cq_base.specs.declared.cell.Departure.{Departure}
 use Rattle.cq_base.specs.declared.packed.PackedDeparture.{PackedDeparture}
 use Rattle.cq_cells.specs.Schedule.{arrivals}
 use Rattle.cq_pcap.specs.Captured.{Captured}
+use Rattle.cq_pcap.proofs.Writing.{written_with}
+use Rattle.cq_pcap.specs.Written.{written}
 use Rattle.cq_pcap.specs.declared.write.OutPacket.{OutPacket}
 use Rattle.cq_route.specs.Tables.{AreTables, ports_of}
 use Rattle.cq_route.specs.declared.tables.Tables.{Tables}
 use Rattle.cq_simulate.specs.Packets.{ArePacked, LeaveWhole, packets_out}
-use Rattle.cq_simulate.specs.Pieces.{CanTake, IsEmptied, Took, left_with}
+use Rattle.cq_simulate.specs.Pieces.{CanTake, IsEmptied, Took, left_with, record_of, records_of}
 use Rattle.cq_simulate.specs.declared.packing.Packing.{Packing}
 use Rattle.cq_simulate.proofs.Departed.{departed_captured, departed_class, departed_output}
-use Rattle.cq_simulate.proofs.Packed.{none_large}
+use Rattle.cq_simulate.proofs.Packed.{all_pushed, none_large}
 use Rattle.cq_simulate.proofs.Taking.{SoFar, at_first, at_other, cell_fits, kept, packed}
 
--- ## What leaves with one cell
-
-pub none_left : (packets : List OutPacket) (left is : Option OutPacket) → left ≡ is → left ≡ None →
-    packets ≡ packets ++ option_to_list is
-none_left packets left is same none =
-    sym (append-nil packets) ∙ ap (λ (o : Option OutPacket). packets ++ option_to_list o) (sym none ∙ same)
-
-pub one_left : (packets more : List OutPacket) (left is : Option OutPacket) (p : OutPacket) → left ≡ is →
-    left ≡ Some p → more ≡ packets ++ p ∷ [] → more ≡ packets ++ option_to_list is
-one_left packets more left is p same one pushed =
-    pushed ∙ ap (λ (o : Option OutPacket). packets ++ option_to_list o) (sym one ∙ same)
+-- with a cell that is not the last nothing leaves
+pub none_left : (bytes : List ℕ) (left is : Option OutPacket) → left ≡ is → left ≡ None → bytes ≡ bytes ++ records_of is
+none_left bytes left is same none =
+    sym (append-nil bytes) ∙ ap (λ (o : Option OutPacket). bytes ++ records_of o) (sym none ∙ same)
 
 -- the first one that is left, as it is
 pub first_unpacked : (left rest : List PackedDeparture) (p : PackedDeparture) (d : Departure) → left ≡ p ∷ rest →
@@ -39,9 +36,12 @@ first_unpacked left rest p d first is =
 
 -- ## All outputs
 
--- the walk at an output, after so many departures
-abbrev walked : Tables → List (List Captured) → List Departure → ℕ → ℕ → Packing → Type 0
-walked t captures sent j done p = SoFar t captures sent j done p.joiner p.packets.items
+-- the walk at an output, after so many departures: its packets stand in the bytes
+pub record Walked (t : Tables) (captures : List (List Captured)) (sent : List Departure) (j done : ℕ) (p : Packing) :
+    Type 0 where
+  pub packets : List OutPacket
+  pub so_far : SoFar t captures sent j done p.joiner packets
+  pub bytes : p.bytes.items ≡ written packets
 
 -- what is known when some departures were used up
 pub record AllSoFar (t : Tables) (captures : List (List Captured)) (sent left : List Departure)
@@ -49,7 +49,7 @@ pub record AllSoFar (t : Tables) (captures : List (List Captured)) (sent left : 
   pub done : ℕ
   pub others : left ≡ drop done sent
   pub outputs : length places ≡ ports_of t.setup
-  pub each : (j : ℕ) (p : Packing) → j < length places → walked t captures sent j done (get_or places j p)
+  pub each : (j : ℕ) (p : Packing) → j < length places → Walked t captures sent j done (get_or places j p)
 
 pub none_yet : (t : Tables) (captures : List (List Captured)) (sent left : List Departure) (places : List Packing) →
     left ≡ sent → length places ≡ ports_of t.setup → All (IsEmptied (length captures) (length t.setup.classes)) places →
@@ -61,8 +61,11 @@ none_yet t captures sent left places all outputs emptied = record {
   each = λ j p inside.
       let here : Packing = get_or places j p in
       let e : IsEmptied (length captures) (length t.setup.classes) here = emptied j p inside in
-      at_first t captures sent j here.joiner here.packets.items e.lines e.kinds e.nothing e.packets
-      (none_large here.packets.items e.packets);
+      record {
+        packets = [];
+        so_far = at_first t captures sent j here.joiner [] e.lines e.kinds e.nothing refl (none_large [] refl);
+        bytes = e.bytes;
+      };
 }
 
 module _ (t : Tables) (captures : List (List Captured)) (sent left rest : List Departure) (places : List Packing)
@@ -98,9 +101,9 @@ module _ (t : Tables) (captures : List (List Captured)) (sent left rest : List D
         omega arith
 
     module _ (place : Packing) (is : place ≡ get_or places d.output place) where
-      own : walked t captures sent d.output so_far.done place
+      own : Walked t captures sent d.output so_far.done place
       own =
-          subst (λ (p : Packing). walked t captures sent d.output so_far.done p) (sym is)
+          subst (λ (p : Packing). Walked t captures sent d.output so_far.done p) (sym is)
           (so_far.each d.output place at_port)
 
       -- its cell is the next
@@ -112,11 +115,11 @@ module _ (t : Tables) (captures : List (List Captured)) (sent left rest : List D
           let below : ℕ → Type 0 = λ n. x.queued.cell.id.input < n in
           let below_classes : ℕ → Type 0 = λ n. x.queued.cell.class < n in
           subst (λ (y : Departure). CanTake captures place.joiner y) here (record {
-            input = subst below (sym own.inputs) came.input;
-            class = subst below_classes (sym own.classes) class;
+            input = subst below (sym own.so_far.inputs) came.input;
+            class = subst below_classes (sym own.so_far.classes) class;
             captured = came;
-            fits = cell_fits t captures sent d.output so_far.done d inside its_output place.joiner place.packets.items
-                own are many whole class;
+            fits = cell_fits t captures sent d.output so_far.done d inside its_output place.joiner own.packets
+                own.so_far are many whole class;
           })
 
       module _ (new : Packing) (took : Took t captures d place new) where
@@ -124,37 +127,50 @@ module _ (t : Tables) (captures : List (List Captured)) (sent left rest : List D
         took_here = subst (λ (y : Departure). Took t captures y place new) (sym here) took
 
         gone_on_with : (o : Option OutPacket) → o ≡ left_with t captures (get_or sent so_far.done d) →
-            new.packets.items ≡ place.packets.items ++ option_to_list o →
-            walked t captures sent d.output (so_far.done + 1) new
-        gone_on_with None is_none pushed =
-            subst (λ (ps : List OutPacket). SoFar t captures sent d.output (so_far.done + 1) new.joiner ps)
-            (sym (pushed ∙ append-nil place.packets.items))
-            (kept t captures sent d.output so_far.done d inside its_output place.joiner new.joiner place.packets.items
-            own took_here.inputs took_here.classes took_here.pair took_here.others (sym is_none))
-        gone_on_with (Some p) is_one pushed =
-            packed t captures sent d.output so_far.done d inside its_output place.joiner new.joiner place.packets.items
-            own took_here.inputs took_here.classes took_here.pair took_here.others p new.packets.items is_one pushed
-            (took_here.small own.small)
+            new.bytes.items ≡ place.bytes.items ++ records_of o → IfSome o (λ p. length p.body ≤ 262144) →
+            Walked t captures sent d.output (so_far.done + 1) new
+        gone_on_with None is_none put small = record {
+          packets = own.packets;
+          so_far =
+              kept t captures sent d.output so_far.done d inside its_output place.joiner new.joiner own.packets
+              own.so_far took_here.inputs took_here.classes took_here.pair took_here.others (sym is_none);
+          bytes = put ∙ append-nil place.bytes.items ∙ own.bytes;
+        }
+        gone_on_with (Some p) is_one put small = record {
+          packets = own.packets ++ p ∷ [];
+          so_far =
+              packed t captures sent d.output so_far.done d inside its_output place.joiner new.joiner own.packets
+              own.so_far took_here.inputs took_here.classes took_here.pair took_here.others p (own.packets ++ p ∷ [])
+              is_one refl (all_pushed own.packets (own.packets ++ p ∷ []) p refl own.so_far.small small);
+          bytes = put ∙ ap (λ (bs : List ℕ). bs ++ record_of p) own.bytes ∙ written_with own.packets p;
+        }
 
-        gone_on : walked t captures sent d.output (so_far.done + 1) new
-        gone_on = gone_on_with (left_with t captures (get_or sent so_far.done d)) refl took_here.packets
+        gone_on : Walked t captures sent d.output (so_far.done + 1) new
+        gone_on =
+            gone_on_with (left_with t captures (get_or sent so_far.done d)) refl took_here.bytes took_here.small
 
         at_its_output : (j : ℕ) (p : Packing) → j ≡ d.output →
-            walked t captures sent j (so_far.done + 1) (get_or (set places d.output new) j p)
+            Walked t captures sent j (so_far.done + 1) (get_or (set places d.output new) j p)
         at_its_output j p same =
-            subst (λ (n : ℕ). walked t captures sent n (so_far.done + 1) (get_or (set places d.output new) n p))
+            subst (λ (n : ℕ). Walked t captures sent n (so_far.done + 1) (get_or (set places d.output new) n p))
             (sym same)
-            (subst (λ (q : Packing). walked t captures sent d.output (so_far.done + 1) q)
+            (subst (λ (q : Packing). Walked t captures sent d.output (so_far.done + 1) q)
             (sym (get_or-set_same places d.output new p at_port)) gone_on)
 
         at_another : (j : ℕ) (p : Packing) → j < length places → j ≢ d.output →
-            walked t captures sent j (so_far.done + 1) (get_or (set places d.output new) j p)
+            Walked t captures sent j (so_far.done + 1) (get_or (set places d.output new) j p)
         at_another j p in_places ne =
             let q : Packing = get_or places j p in
-            subst (λ (r : Packing). walked t captures sent j (so_far.done + 1) r)
+            let was : Walked t captures sent j so_far.done q = so_far.each j p in_places in
+            subst (λ (r : Packing). Walked t captures sent j (so_far.done + 1) r)
             (sym (get_or-set_other places d.output j new p ne))
-            (at_other t captures sent j so_far.done d inside q.joiner q.packets.items (so_far.each j p in_places)
-            (λ (e : (get_or sent so_far.done d).output ≡ j). ne (sym e ∙ its_output)))
+            (record {
+              packets = was.packets;
+              so_far =
+                  at_other t captures sent j so_far.done d inside q.joiner was.packets was.so_far
+                  (λ (e : (get_or sent so_far.done d).output ≡ j). ne (sym e ∙ its_output));
+              bytes = was.bytes;
+            })
 
         pub one_more : AllSoFar t captures sent rest (set places d.output new)
         one_more = record {
@@ -175,8 +191,9 @@ all_packed t captures sent left places so_far none =
     let end : length sent ≤ so_far.done = omega (arith, l, length-drop so_far.done sent) in
     record {
       outputs = so_far.outputs;
-      packets = λ j p inside.
-          (so_far.each j p inside).made
-          ∙ ap (λ (ds : List Departure). packets_out t captures ds j) (take_all so_far.done sent end);
-      bodies = λ j p inside. (so_far.each j p inside).small;
+      bytes = λ j p inside.
+          let was = so_far.each j p inside in
+          was.bytes
+          ∙ ap written (was.so_far.made
+          ∙ ap (λ (ds : List Departure). packets_out t captures ds j) (take_all so_far.done sent end));
     }

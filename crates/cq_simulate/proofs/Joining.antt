@@ -126,6 +126,11 @@ module _ (t : Tables) (captures : List (List Captured)) (input : ℕ) (some : 0 
   next_is k zero = refl
   next_is k (suc m) = (refl, refl)
 
+  first_is : (k m : ℕ) → (cell_of t captures input k m).id.index ≡ 0 → open_at_cell k m ≡ None
+  unfolding open_at_cell cell_of
+  first_is k zero first = refl
+  first_is k (suc m) first = absurd (let P : ⊥ = cc in P)
+
   last_is : (k m : ℕ) → (cell_of t captures input k m).last ≡ (m + 1 == cells t captures input k)
   unfolding cell_of
   last_is k m = refl
@@ -144,7 +149,7 @@ module _ (t : Tables) (captures : List (List Captured)) (input : ℕ) (some : 0 
 
   fits : (k m : ℕ) → Fits captures (open_at_cell k m) (cell_of t captures input k m)
   unfolding frame cell_of
-  fits k m = record { next = next_is k m; whole = whole_is k m }
+  fits k m = record { next = next_is k m; first = first_is k m; whole = whole_is k m }
 
   grown_is : (k m : ℕ) → Some (with_piece (open_at_cell k m) k (piece_of (frame k) t.cell_bytes m)) ≡ open_at_cell k
       (m + 1)

@@ -1,10 +1,11 @@
 -- The packets that leave an output.
-use Rattle.std.specs.Prelude.{◌≡◌, ℕ, ◌+◌, ◌*◌, ◌<◌, ◌≤◌, ◌&&◌, ◌==◌, All, Bool, List, length, map, filter, slice_index_or}
+use Rattle.std.specs.Prelude.{◌≡◌, ℕ, ◌+◌, ◌*◌, ◌<◌, ◌&&◌, ◌==◌, Bool, List, length, map, filter, slice_index_or}
 use Rattle.cq_base.specs.Arriving.{Arrival}
 use Rattle.cq_base.specs.declared.cell.Departure.{Departure}
 use Rattle.cq_cells.specs.Schedule.{first_stamp, packet_at}
 use Rattle.cq_ideal.specs.Flows.{came_in_flow, left_in_flow}
 use Rattle.cq_pcap.specs.Captured.{Captured}
+use Rattle.cq_pcap.specs.Written.{written}
 use Rattle.cq_pcap.specs.declared.write.OutPacket.{OutPacket}
 use Rattle.cq_route.specs.Tables.{ports_of}
 use Rattle.cq_route.specs.declared.tables.Tables.{Tables}
@@ -34,10 +35,9 @@ leaving t captures d =
 unfoldable pub packets_out : Tables → List (List Captured) → List Departure → ℕ → List OutPacket
 packets_out t captures sent output = map (leaving t captures) (filter (ends_packet_at output) sent)
 
--- at each output of the switch the packets that leave it are put together, and each can be written
+-- at each output of the switch stands the capture of the packets that leave it
 pub record ArePacked (t : Tables) (captures : List (List Captured)) (sent : List Departure) (places : List Packing) :
     Type 0 where
   pub outputs : length places ≡ ports_of t.setup
-  pub packets : (j : ℕ) (p : Packing) → j < length places →
-      (slice_index_or places j p).packets.items ≡ packets_out t captures sent j
-  pub bodies : All (λ place. All (λ p. length p.body ≤ 262144) place.packets.items) places
+  pub bytes : (j : ℕ) (p : Packing) → j < length places →
+      (slice_index_or places j p).bytes.items ≡ written (packets_out t captures sent j)

@@ -1,12 +1,14 @@
 -- Only proofs use this.
 -- The pieces of the cells of captured packets, and what is open of a packet after some of its cells were taken.
-use Rattle.std.specs.Prelude.{ℕ, ◌≡◌, ◌+◌, ◌<◌, ◌≤◌, true, if◌then◌else◌, All, List, [], ◌∷◌, ◌++◌, length, take, drop, Option, None, Some, option_to_list}
+use Rattle.std.specs.Prelude.{ℕ, ◌≡◌, ◌+◌, ◌<◌, ◌≤◌, false, true, if◌then◌else◌, List, [], ◌∷◌, ◌++◌, length, take, drop, Option, None, Some, IfSome}
 use Rattle.cq_base.specs.declared.cell.Cell.{Cell}
 use Rattle.cq_cells.specs.Schedule.{packet_at, packets_of}
 use Rattle.cq_pcap.specs.Captured.{Captured}
 use Rattle.cq_reasm.specs.Joining.{IsNext, IsOtherPair, JoinerView, open_after, open_at}
 use Rattle.cq_reasm.specs.Open.{Open, bytes_taken}
 use Rattle.cq_base.specs.declared.cell.Departure.{Departure}
+use Rattle.cq_pcap.specs.Record.{spelling}
+use Rattle.cq_pcap.specs.Written.{written, written_record}
 use Rattle.cq_pcap.specs.declared.write.OutPacket.{OutPacket}
 use Rattle.cq_route.specs.declared.tables.Tables.{Tables}
 use Rattle.cq_simulate.specs.Packets.{leaving}
@@ -27,9 +29,11 @@ abbrev pub opened : List (List Captured) → Option Open → List Cell → Optio
 opened captures was [] = was
 opened captures was (cell ∷ cells) = opened captures (open_after was cell (piece_at captures cell)) cells
 
--- the cell is the next, and if it is the last all pieces of its packet are together with it
+-- the cell is the next, none is open if it is the first, and if it is the last all pieces of its packet are together
+-- with it
 pub record Fits (captures : List (List Captured)) (was : Option Open) (cell : Cell) : Type 0 where
   pub next : IsNext was cell
+  pub first : cell.id.index ≡ 0 → was ≡ None
   pub whole : cell.last ≡ true →
       bytes_taken was ++ piece_at captures cell ≡ (packet_at captures cell.id.input cell.id.packet).body
 
@@ -37,12 +41,21 @@ pub record Fits (captures : List (List Captured)) (was : Option Open) (cell : Ce
 abbrev pub left_with : Tables → List (List Captured) → Departure → Option OutPacket
 left_with t captures d = if d.queued.cell.last then Some (leaving t captures d) else None
 
+-- the bytes that a packet has in a capture
+abbrev pub record_of : OutPacket → List ℕ
+record_of p = spelling false (written_record p)
+
+-- the bytes of what leaves, if anything does
+abbrev pub records_of : Option OutPacket → List ℕ
+records_of None = []
+records_of (Some p) = record_of p
+
 -- no packet is open, and none has left
 pub record IsEmptied (inputs classes : ℕ) (p : Packing) : Type 0 where
   pub lines : p.joiner.inputs ≡ inputs
   pub kinds : p.joiner.classes ≡ classes
   pub nothing : (i c : ℕ) → open_at p.joiner i c ≡ None
-  pub packets : p.packets.items ≡ []
+  pub bytes : p.bytes.items ≡ written []
 
 -- the cell that departs is the next of its input and class
 pub record CanTake (captures : List (List Captured)) (joiner : JoinerView) (d : Departure) : Type 0 where
@@ -60,5 +73,5 @@ pub record Took (t : Tables) (captures : List (List Captured)) (d : Departure) (
       (piece_at captures d.queued.cell)
   pub others : (i c : ℕ) → c < old.joiner.classes → IsOtherPair i c d.queued.cell →
       open_at new.joiner i c ≡ open_at old.joiner i c
-  pub packets : new.packets.items ≡ old.packets.items ++ option_to_list (left_with t captures d)
-  pub small : All (λ p. length p.body ≤ 262144) old.packets.items → All (λ p. length p.body ≤ 262144) new.packets.items
+  pub bytes : new.bytes.items ≡ old.bytes.items ++ records_of (left_with t captures d)
+  pub small : IfSome (left_with t captures d) (λ p. length p.body ≤ 262144)

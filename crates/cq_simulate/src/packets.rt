@@ -80,7 +80,7 @@ pub(crate) fn take(
 }
 
 // The captured bytes of a cell's packet.
-fn frame_of<'a>(captures: &'a [Capture], cell: &Cell) -> &'a [u8]
+pub(crate) fn frame_of<'a>(captures: &'a [Capture], cell: &Cell) -> &'a [u8]
     requires { IsCaptured captures.now cell.now }
     ensures { result.now ≡ (packet_at captures.now cell.now.id.input cell.now.id.packet).body }
 {
@@ -110,10 +110,28 @@ fn leaving(slot: Slot, joined: Joined, captures: &[Capture], tables: &Tables, t0
     ensures body { result.body ≡ joined.body }
     ensures small { length (packet_at captures.now joined.input joined.packet).body ≤ 262144 }
 {
-    let capture = &captures[joined.input as usize];
     OutPacket {
-        stamp: u128::from(t0) + u128::from(slot) * u128::from(tables.slot_ns),
-        original: capture.rows()[joined.packet as usize].original,
+        stamp: stamp_of(slot, tables, t0),
+        original: original_of(captures, joined.input, joined.packet),
         body: joined.body,
     }
+}
+
+// The stamp of what leaves in a slot.
+pub(crate) fn stamp_of(slot: Slot, tables: &Tables, t0: u64) -> u128
+    requires { tables.now.slot_ns ≤ 1000000000 }
+    ensures { result ≡ t0 + slot * tables.now.slot_ns }
+{
+    u128::from(t0) + u128::from(slot) * u128::from(tables.slot_ns)
+}
+
+// The original length of a captured packet.
+pub(crate) fn original_of(captures: &[Capture], input: Port, packet: u32) -> u32
+    requires input { input < length captures.now }
+    requires packet { packet < length (packets_at captures.now input) }
+    ensures original { result ≡ (packet_at captures.now input packet).original }
+    ensures small { length (packet_at captures.now input packet).body ≤ 262144 }
+{
+    let capture = &captures[input as usize];
+    capture.rows()[packet as usize].original
 }

@@ -1,27 +1,28 @@
-//! The packets that leave all outputs, put together in one pass over the departures.
-ghost use Rattle.std.specs.Prelude.{◌≡◌, ◌≤◌, All, IfOk, OnOk, length};
+//! The captures of what leaves all outputs, built in one pass over the departures.
+ghost use Rattle.std.specs.Prelude.{◌≡◌, ◌≤◌, ◌++◌, All, IfOk, OnOk, length};
 ghost use Rattle.cq_cells.specs.Schedule.{arrivals, first_stamp};
 ghost use Rattle.cq_route.specs.Tables.{AreTables, ports_of};
-ghost use Rattle.cq_simulate.specs.Packets.{ArePacked, LeaveWhole};
-ghost use Rattle.cq_simulate.specs.Pieces.{CanTake, IsEmptied, Took};
+ghost use Rattle.cq_simulate.specs.Packets.{ArePacked, LeaveWhole, leaving};
+ghost use Rattle.cq_simulate.specs.Pieces.{CanTake, IsCaptured, IsEmptied, Took, record_of};
 
-use crate::packets::take;
-use cq_base::{Departure, Departures, NoMemory};
-use cq_pcap::{Capture, OutPacket};
+use crate::packets::{frame_of, original_of, stamp_of, take};
+use cq_base::{Cell, Departure, Departures, NoMemory, PackedDeparture};
+use cq_pcap::{Capture, FILE_HEADER, RECORD_HEADER, begin_capture, put_packet};
 use cq_reasm::Joiner;
 use cq_route::Tables;
 use std::alloc::Global;
 
-/// What is put together at an output: the packets that have left it, and those that are open there.
+/// What is put together at an output: the packets that have left it, as a capture, and those that are open there.
 #[derive(Drop)]
 pub struct Packing {
     joiner: Joiner,
-    /// The packets that have left, in the order in which their last cells departed.
-    pub packets: Vec<OutPacket>,
+    /// The bytes of the capture of the packets that have left, in the order in which their last cells departed.
+    pub bytes: Vec<u8>,
 }
 
-/// The packets that leave each output, in order of output: at each those of [`packets_of`](crate::packets_of). The
-/// departures are used up while the packets grow, so that their memory serves for them. The error is want of memory.
+/// The captures of the packets that leave each output, in order of output: at each those of
+/// [`packets_of`](crate::packets_of). The departures are used up while the captures grow, so that their memory serves for
+/// them, and each capture finds its room at the start. The error is want of memory.
 pub fn packets_of_all(
     alloc: Global,
     sent: Departures,
@@ -37,7 +38,8 @@ pub fn packets_of_all(
 {
     let ports = captures.len() as u16;
     let classes = tables.setup.classes.as_slice().len() as u16;
-    let mut places = emptied(alloc, ports, classes)?;
+    let rooms = rooms_of(alloc, ports, sent.as_slice())?;
+    let mut places = emptied(alloc, ports, classes, &rooms)?;
     let mut left = sent.into_supply();
     'departures: while let Some(packed) = left.pop_first() {
         let departure = packed.departure();
@@ -46,33 +48,81 @@ pub fn packets_of_all(
     Ok(places)
 }
 
+// How many bytes the capture of each output comes to.
+fn rooms_of(alloc: Global, ports: u16, sent: &[PackedDeparture]) -> Result<Vec<usize>, NoMemory>
+    ensures { IfOk result (λ rooms. length rooms.items ≡ ports) }
+{
+    let mut rooms = Vec::with_capacity(alloc, ports as usize)?;
+    rooms.resize(ports as usize, FILE_HEADER)?;
+    'departures: for packed in sent {
+        let departure = packed.departure();
+        if let Some(room) = rooms.get_mut(departure.output as usize) {
+            *room = room.saturating_add(room_of(&departure.queued.cell));
+        }
+    }
+    Ok(rooms)
+}
+
+// How many of them come of a cell: its piece, and with the last cell the record's header.
+fn room_of(cell: &Cell) -> usize {
+    let header = if cell.last { RECORD_HEADER } else { 0 };
+    header + cell.len as usize
+}
+
 // At so many outputs no packet is open and none has left. There are as many inputs.
-fn emptied(alloc: Global, ports: u16, classes: u16) -> Result<Vec<Packing>, NoMemory>
+fn emptied(
+    alloc: Global,
+    ports: u16,
+    classes: u16,
+    rooms: &[usize],
+) -> Result<Vec<Packing>, NoMemory>
     requires ports { 1 ≤ ports × ports ≤ 64 }
     requires classes { 1 ≤ classes × classes ≤ 16 }
+    requires rooms { length rooms.now ≡ ports }
     ensures outputs { IfOk result (λ places. length places.items ≡ ports) }
     ensures each { IfOk result (λ places. All (IsEmptied ports classes) places.items) }
 {
     let mut places = Vec::with_capacity(alloc, ports as usize)?;
     'places: while places.len() < ports as usize {
-        places.push(Packing::new(alloc, ports, classes)?)?;
+        places.push(Packing::new(alloc, ports, classes, rooms[places.len()])?)?;
     }
     Ok(places)
 }
 
+// Puts the packet of a departure behind the bytes of a capture, as it was captured.
+fn put_whole(
+    out: &mut Vec<u8>,
+    departure: &Departure,
+    captures: &[Capture],
+    tables: &Tables,
+    t0: u64,
+) -> Result<(), NoMemory>
+    requires slot_ns { tables.now.slot_ns ≤ 1000000000 }
+    requires t0 { t0 ≡ first_stamp captures.now }
+    requires captured { IsCaptured captures.now departure.now.queued.cell }
+    ensures record { OnOk result (out.new.items ≡ out.old.items ++ record_of (leaving tables.now captures.now departure.now)) }
+    ensures small { length (leaving tables.now captures.now departure.now).body ≤ 262144 }
+{
+    let cell = &departure.queued.cell;
+    let stamp = stamp_of(departure.slot, tables, t0);
+    let original = original_of(captures, cell.id.input, cell.id.packet);
+    put_packet(out, stamp, original, frame_of(captures, cell))
+}
+
 impl Packing {
     // No packet is open, and none has left.
-    fn new(alloc: Global, inputs: u16, classes: u16) -> Result<Packing, NoMemory>
+    fn new(alloc: Global, inputs: u16, classes: u16, room: usize) -> Result<Packing, NoMemory>
         requires inputs { 1 ≤ inputs × inputs ≤ 64 }
         requires classes { 1 ≤ classes × classes ≤ 16 }
         ensures { IfOk result (IsEmptied inputs classes) }
     {
         let joiner = Joiner::new(alloc, inputs, classes)?;
-        let packets = Vec::new(alloc);
-        Ok(Packing { joiner, packets })
+        let bytes = begin_capture(alloc, room)?;
+        Ok(Packing { joiner, bytes })
     }
 
-    // Takes the cell that departs. If it is the last of its packet, that packet has left.
+    // Takes the cell that departs. If it is the last of its packet, that packet has left. A packet of one cell is not
+    // opened.
     fn take(
         &mut self,
         departure: &Departure,
@@ -85,12 +135,16 @@ impl Packing {
         requires can { CanTake captures.now self.old.joiner departure.now }
         ensures { OnOk result (Took tables.now captures.now departure.now self.old self.new) }
     {
+        let cell = &departure.queued.cell;
+        if cell.last && cell.id.index == 0 {
+            return put_whole(&mut self.bytes, departure, captures, tables, t0);
+        }
         let left = take(&mut self.joiner, departure, captures, tables, t0)?;
         match left {
             None => Ok(()),
             Some(packet) => {
-                self.packets.push(packet)?;
-                Ok(())
+                let body = packet.body.as_slice();
+                put_packet(&mut self.bytes, packet.stamp, packet.original, body)
             }
         }
     }

@@ -7,5 +7,5 @@ returns c = record {
   lines = ap (λ (v : JoinerView). v.inputs) c.in_ok-joiner.ensures.joiner;
   kinds = ap (λ (v : JoinerView). v.classes) c.in_ok-joiner.ensures.joiner;
   nothing = c.in_ok-joiner.ensures.nothing;
-  packets = c.new-packets.ensures.items;
+  bytes = c.in_ok-bytes.ensures;
 }
