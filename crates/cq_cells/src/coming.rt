@@ -1,5 +1,5 @@
 //! What arrives slot after slot.
-ghost use Rattle.std.specs.Prelude.{◌≡◌, ◌≤◌, length};
+ghost use Rattle.std.specs.Prelude.{◌≡◌, ◌≤◌, ◌↔◌, IsTrue, length};
 ghost use Rattle.cq_base.specs.Arrivals.{no_arrivals};
 ghost use Rattle.cq_base.specs.Arriving.{arriving};
 ghost use Rattle.cq_cells.specs.Coming.{StandBelow};
@@ -67,6 +67,19 @@ fn come(lines: &[Line], slot: Slot, near: &mut Nearby, arrivals: &mut Arrivals)
     }
 }
 
+// Whether no cell stands at any place, where none stands from this number of inputs on.
+fn none_stand(arrivals: &Arrivals, ports: usize) -> bool
+    requires { StandBelow ports arrivals.now }
+    ensures { IsTrue result ↔ (arrivals.now ≡ no_arrivals) }
+{
+    'inputs: for input in 0..ports.min(64) as Port {
+        if arrivals.at(input).is_some() {
+            return false;
+        }
+    }
+    true
+}
+
 impl Coming {
     /// No cell has come to any input.
     pub fn none() -> Coming
@@ -85,6 +98,13 @@ impl Coming {
         ensures { result.now ≡ self.now }
     {
         &self.arrivals
+    }
+
+    /// Whether no cell has come to any input. It asks only those inputs at which a cell may stand.
+    pub fn is_empty(&self) -> bool
+        ensures { IsTrue result ↔ (self.now ≡ no_arrivals) }
+    {
+        none_stand(&self.arrivals, self.ports)
     }
 
     // The cells that arrive in the slot at the inputs of these lines come in place of those that stand there.

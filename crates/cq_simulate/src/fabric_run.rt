@@ -1,6 +1,6 @@
 //! The run of the fabric.
 ghost use Rattle.std.specs.Prelude.{◌≡◌, ◌↔◌, ◌≤◌, IsTrue, false, IfOk, IfErr, Ok, OnOk, [], length, map};
-ghost use Rattle.cq_base.specs.Arriving.{end_of};
+ghost use Rattle.cq_base.specs.Arriving.{arriving, end_of};
 ghost use Rattle.cq_cells.specs.Traffic.{IsTraffic, IsShort};
 ghost use Rattle.cq_laws.specs.Fabric.{IsEmptyFabric};
 ghost use Rattle.cq_route.specs.Tables.{AreTables, classes_of, ports_of};
@@ -144,15 +144,22 @@ fn is_over<R: Rank>(engine: &Engine<R>, schedule: &Schedule, slot: Slot) -> bool
     schedule.end() <= slot && engine.empty()
 }
 
-// Where no cell waits, the slots up to the next arrival are skipped: the fabric rests. The answer is the slot that
-// comes then.
-fn skip<R: Rank>(engine: &mut Engine<R>, schedule: &Schedule, slot: Slot) -> Slot
+// The cells of the slot come. Where none comes and none waits, the slots up to the next arrival are skipped: the fabric
+// rests, and the cells of that slot come. The answer is the slot whose cells came.
+fn skip<R: Rank>(
+    engine: &mut Engine<R>,
+    schedule: &Schedule,
+    slot: Slot,
+    coming: &mut Coming,
+) -> Slot
     requires running { engine.old.stopped ≡ false }
     requires next { engine.old.next ≡ slot }
     ensures quiet { IsQuiet schedule.now.came slot result }
     ensures rested { FabricHasRested (map R.machine engine.old.fixed) slot result engine.old engine.new }
+    ensures came { coming.new ≡ arriving schedule.now.came result }
 {
-    if !engine.empty() {
+    schedule.arrive(slot, coming);
+    if !coming.is_empty() || !engine.empty() {
         return slot;
     }
     let next = quiet_until(schedule, slot);
@@ -160,6 +167,7 @@ fn skip<R: Rank>(engine: &mut Engine<R>, schedule: &Schedule, slot: Slot) -> Slo
         return slot;
     }
     engine.rest(next);
+    schedule.arrive(next, coming);
     next
 }
 
@@ -184,8 +192,7 @@ pub fn run_slots<T: Threads + Sync, R: Rank, G: Gate>(
     let mut coming = Coming::none();
     let mut slot = engine.next();
     'slots: while !is_over(engine, schedule, slot) {
-        slot = skip(engine, schedule, slot);
-        schedule.arrive(slot, &mut coming);
+        slot = skip(engine, schedule, slot, &mut coming);
         engine.slot(rt, alloc, slot, coming.arrivals(), gate, leaving, note)?;
         sent.take_all(leaving);
         slot += 1;

@@ -1,6 +1,6 @@
 //! The run of the ideal switch.
 ghost use Rattle.std.specs.Prelude.{◌≡◌, ◌↔◌, ◌+◌, ◌<◌, ◌≤◌, ◌^◌, IsTrue, false, All, Ok, Err, IfOk, IfErr, OnOk, [], length, map, max};
-ghost use Rattle.cq_base.specs.Arriving.{end_of, traffic_of};
+ghost use Rattle.cq_base.specs.Arriving.{arriving, end_of, traffic_of};
 ghost use Rattle.cq_cells.specs.Traffic.{IsTraffic, IsShort};
 ghost use Rattle.cq_ideal.specs.Admission.{NoLimits};
 ghost use Rattle.cq_ideal.specs.Ideal.{marked_state};
@@ -91,15 +91,17 @@ fn is_over<R: Rank>(ideal: &Ideal<R>, schedule: &Schedule, slot: Slot) -> bool
     schedule.end() <= slot && ideal.empty()
 }
 
-// Where no cell waits, the slots up to the next arrival are skipped: the switch rests. The answer is the slot that
-// comes then.
-fn skip<R: Rank>(ideal: &mut Ideal<R>, schedule: &Schedule, slot: Slot) -> Slot
+// The cells of the slot come. Where none comes and none waits, the slots up to the next arrival are skipped: the switch
+// rests, and the cells of that slot come. The answer is the slot whose cells came.
+fn skip<R: Rank>(ideal: &mut Ideal<R>, schedule: &Schedule, slot: Slot, coming: &mut Coming) -> Slot
     requires running { ideal.old.stopped ≡ false }
     requires next { ideal.old.next ≡ slot }
     ensures quiet { IsQuiet schedule.now.came slot result }
     ensures rested { HasRested (map R.machine ideal.old.fixed) slot result ideal.old ideal.new }
+    ensures came { coming.new ≡ arriving schedule.now.came result }
 {
-    if !ideal.empty() {
+    schedule.arrive(slot, coming);
+    if !coming.is_empty() || !ideal.empty() {
         return slot;
     }
     let next = quiet_until(schedule, slot);
@@ -107,6 +109,7 @@ fn skip<R: Rank>(ideal: &mut Ideal<R>, schedule: &Schedule, slot: Slot) -> Slot
         return slot;
     }
     ideal.rest(next);
+    schedule.arrive(next, coming);
     next
 }
 
@@ -130,8 +133,7 @@ fn run_slots<R: Rank>(
     let mut coming = Coming::none();
     let mut slot = 0;
     'slots: while !is_over(ideal, schedule, slot) {
-        slot = skip(ideal, schedule, slot);
-        schedule.arrive(slot, &mut coming);
+        slot = skip(ideal, schedule, slot, &mut coming);
         ideal.slot(slot, coming.arrivals(), leaving)?;
         sent.take_all(leaving);
         slot += 1;

@@ -1,5 +1,6 @@
 //! The run of the fabric in parts: up to a slot, and on from there.
 ghost use Rattle.std.specs.Prelude.{◌≡◌, ◌-◌, ◌<◌, ◌≤◌, ◌^◌, IfErr, IfOk, OnOk, false, length, map};
+ghost use Rattle.cq_base.specs.Arriving.{arriving};
 ghost use Rattle.cq_cells.specs.Traffic.{IsShort, IsTraffic};
 ghost use Rattle.cq_resume.specs.Parts.{IsParted};
 ghost use Rattle.cq_resume.specs.Resumed.{IsResumed};
@@ -185,9 +186,15 @@ fn quiet_before(schedule: &Schedule, slot: Slot, last: Slot) -> Slot
     schedule.next_arrival(slot).unwrap_or(last).min(last)
 }
 
-// Where no cell waits, the slots up to the next arrival are skipped, but none from the last one on: the fabric rests. The
-// answer is the slot that comes then.
-fn skip_before<R: Rank>(engine: &mut Engine<R>, schedule: &Schedule, slot: Slot, last: Slot) -> Slot
+// The cells of the slot come. Where none comes and none waits, the slots up to the next arrival are skipped, but none from
+// the last one on: the fabric rests, and the cells of that slot come. The answer is the slot whose cells came.
+fn skip_before<R: Rank>(
+    engine: &mut Engine<R>,
+    schedule: &Schedule,
+    slot: Slot,
+    last: Slot,
+    coming: &mut Coming,
+) -> Slot
     requires running { engine.old.stopped ≡ false }
     requires next { engine.old.next ≡ slot }
     requires before { slot ≤ last }
@@ -195,8 +202,10 @@ fn skip_before<R: Rank>(engine: &mut Engine<R>, schedule: &Schedule, slot: Slot,
     ensures within { result ≤ last }
     ensures none { NoneCome schedule.now.came slot result }
     ensures rested { FabricHasRested (map R.machine engine.old.fixed) slot result engine.old engine.new }
+    ensures came { coming.new ≡ arriving schedule.now.came result }
 {
-    if !engine.empty() {
+    schedule.arrive(slot, coming);
+    if !coming.is_empty() || !engine.empty() {
         return slot;
     }
     let next = quiet_before(schedule, slot, last);
@@ -204,6 +213,7 @@ fn skip_before<R: Rank>(engine: &mut Engine<R>, schedule: &Schedule, slot: Slot,
         return slot;
     }
     engine.rest(next);
+    schedule.arrive(next, coming);
     next
 }
 
@@ -225,11 +235,10 @@ fn run_before<T: Threads + Sync, R: Rank, G: Gate>(
     let mut coming = Coming::none();
     let mut slot = engine.next();
     'slots: while slot < last {
-        slot = skip_before(engine, schedule, slot, last);
+        slot = skip_before(engine, schedule, slot, last, &mut coming);
         if slot >= last {
             return Ok(());
         }
-        schedule.arrive(slot, &mut coming);
         let arrivals = coming.arrivals();
         engine.slot(rt, alloc, slot, arrivals, gate, sent, note)?;
         slot += 1;

@@ -28,7 +28,7 @@ stands g c =
 can : (g : given.Over) (c : After-arrivals g) →
     CanRun g.R.Rank.machine c.skip-slot.result c.arrivals.result.now c.skip-slot.new.engine c.slots.sent
     c.slots.note
-can g c = can_run_here (stands g c) c.arrivals.result.now (c.arrivals.ensures ∙ c.arrive.ensures)
+can g c = can_run_here (stands g c) c.arrivals.result.now (c.arrivals.ensures ∙ c.skip-slot.ensures.came)
 
 -- the list in which it leaves first has a place for each port
 places : (g : given.Over) (c : After-arrivals g) → c.slots.leaving.spare ≡ length c.skip-slot.new.engine.fixed
@@ -105,7 +105,7 @@ returns-in_err-slot-clause-fault g c =
       count = count;
       stops =
           fault_here here c.arrivals.result.now c.in_err-slot.field-0.0 zero count (omega arith)
-          (c.arrivals.ensures ∙ c.arrive.ensures) (sym c.in_err-slot.was ∙ c.slot.ensures.answer);
+          (c.arrivals.ensures ∙ c.skip-slot.ensures.came) (sym c.in_err-slot.was ∙ c.slot.ensures.answer);
     })
 
 pub overflow_add-slot : goal.overflow_add-slot
@@ -142,7 +142,7 @@ slots-preserved g c =
     record {
       runs =
           next_here (stands g at.After-arrivals) c.arrivals.result.now c.slot.new.self c.take_all.new.self
-          c.slot.new.note (c.arrivals.ensures ∙ c.arrive.ensures)
+          c.slot.new.note (c.arrivals.ensures ∙ c.skip-slot.ensures.came)
           (handed ms c.skip-slot.result c.arrivals.result.now c.skip-slot.new.engine c.slot.new.self c.slots.leaving
           c.slot.new.sent c.slots.note c.slot.new.note none done c.slots.sent c.take_all.new.self
           (record { items = taken.items; spare = taken.spare }));

@@ -60,7 +60,7 @@ slot-requires g c =
     let at = (goal.at.slot-requires g c).After-arrivals in
     let here = stands g at in
     let more = going g at in
-    let are = c.arrivals.ensures ∙ c.arrive.ensures in
+    let are = c.arrivals.ensures ∙ c.skip-slot.ensures.came in
     let room = places g at in
     record {
       running = here.running;
@@ -87,7 +87,7 @@ returns-in_err-slot-clause-fault g c =
     rw (p.1, p.2)
     (at_fault g.R.Rank.machine c.args.schedule.now.came c.args.ideal.now c.args.sent.now c.requires.ready
     c.skip-slot.result c.skip-slot.new.ideal c.slots.sent (stands g at) (going g at)
-    c.arrivals.result.now c.in_err-slot.field-0.0 (c.arrivals.ensures ∙ c.arrive.ensures)
+    c.arrivals.result.now c.in_err-slot.field-0.0 (c.arrivals.ensures ∙ c.skip-slot.ensures.came)
     (sym c.in_err-slot.was ∙ c.slot.ensures.answer))
 
 pub slots-smaller : goal.slots-smaller
@@ -124,7 +124,7 @@ slots-preserved g c =
           at_next g.R.Rank.machine c.args.schedule.now.came c.args.ideal.now c.args.sent.now c.requires.ready
           c.skip-slot.result c.skip-slot.new.ideal c.slots.sent (stands g at.After-arrivals)
           (going g at.After-arrivals) c.arrivals.result.now c.slot.new.self c.take_all.new.self
-          (c.arrivals.ensures ∙ c.arrive.ensures)
+          (c.arrivals.ensures ∙ c.skip-slot.ensures.came)
           (handed ms c.skip-slot.result c.arrivals.result.now c.skip-slot.new.ideal c.slot.new.self c.slots.leaving
           c.slot.new.sent none done c.slots.sent c.take_all.new.self
           (record { items = taken.items; spare = taken.spare }));

@@ -5,8 +5,8 @@ use Rattle.cq_ideal.specs.LimitedIdeal.{limited_run, nothing_came}
 use Rattle.cq_simulate.proofs.Stretches.{no_rest}
 use Rattle.cq_simulate.proofs.ideal_run.skip.Goals as goal
 
-pub returns-then-not-empty-clause-rested : goal.returns-then-not-empty-clause-rested
-returns-then-not-empty-clause-rested g c =
+pub returns-then-not-is_empty-clause-rested : goal.returns-then-not-is_empty-clause-rested
+returns-then-not-is_empty-clause-rested g c =
     no_rest (map g.R.Rank.machine c.args.ideal.now.fixed) c.args.slot c.args.ideal.now c.requires.next
     c.requires.running
 

@@ -27,7 +27,7 @@ stands g c =
 can : (g : given.Over) (c : After-arrivals-arrivals g) →
     CanRun g.R.Rank.machine c.skip_before-slot.result c.arrivals-arrivals.result.now
     c.skip_before-slot.new.engine c.slots.sent c.slots.note
-can g c = can_run_here (stands g c) c.arrivals-arrivals.result.now (c.arrivals-arrivals.ensures ∙ c.arrive.ensures)
+can g c = can_run_here (stands g c) c.arrivals-arrivals.result.now (c.arrivals-arrivals.ensures ∙ c.skip_before-slot.ensures.came)
 
 -- ## The loop
 
@@ -91,7 +91,7 @@ returns-in_err-slot-clause-fault g c =
     let last = c.args.last in
     rw (p.1, p.2)
     (fault_here here c.arrivals-arrivals.result.now c.in_err-slot.field-0.0 (last - (c.skip_before-slot.result + 1))
-    (last - c.args.engine.now.next) (omega arith) (c.arrivals-arrivals.ensures ∙ c.arrive.ensures)
+    (last - c.args.engine.now.next) (omega arith) (c.arrivals-arrivals.ensures ∙ c.skip_before-slot.ensures.came)
     (sym c.in_err-slot.was ∙ c.slot.ensures.answer))
 
 pub slots-smaller : goal.slots-smaller
@@ -107,7 +107,7 @@ slots-preserved g c =
       crossing =
           next_here (stands g (goal.at.slots-preserved g c).After-arrivals-arrivals)
           c.arrivals-arrivals.result.now c.slot.new.self c.slot.new.sent c.slot.new.note
-          (c.arrivals-arrivals.ensures ∙ c.arrive.ensures)
+          (c.arrivals-arrivals.ensures ∙ c.skip_before-slot.ensures.came)
           (record {
             done = c.in_ok-slot.ensures.slot;
             running = c.slot.ensures.stopped ∙ ap is_err c.in_ok-slot.was;
