@@ -1,15 +1,14 @@
 -- The captures of the outputs, one after another: those that were made and those that are still to be made are all.
--- Each is that of the packets which were put together at its output.
-use Rattle.std.proofs.Common.{◌≡◌, ◌<◌, ◌≤◌, ◌∙◌, ℕ, ◌+◌, All, List, [], ◌∷◌, ◌++◌, length, drop, get_or, refl, ap, sym, subst, add-one, append_assoc, arith}
+-- Each is that which was built at its output.
+use Rattle.std.proofs.Common.{◌≡◌, ◌<◌, ◌≤◌, ◌∙◌, ℕ, ◌+◌, List, [], ◌∷◌, ◌++◌, length, drop, get_or, refl, ap, sym, subst, add-one, append_assoc, arith}
 use Rattle.std.specs.Prelude.{Result, Ok, Err}
-use Rattle.std.proofs.lemmas.List.{append-nil, drop_all, drop_more}
+use Rattle.std.proofs.lemmas.List.{append-nil, drop_all, drop_more, length-drop}
 use Rattle.cq_base.specs.Texts.{trace_of, log_of}
 use Rattle.cq_base.specs.declared.cell.Departure.{Departure}
 use Rattle.cq_base.specs.declared.cell.TagFault.{TagFault}
 use Rattle.cq_base.specs.declared.cell.Transfer.{Transfer}
 use Rattle.cq_cells.specs.Schedule.{arrivals}
 use Rattle.cq_pcap.specs.Captured.{Captured}
-use Rattle.cq_pcap.specs.Written.{written}
 use Rattle.cq_route.specs.Tables.{AreTables, ports_of}
 use Rattle.cq_route.specs.declared.tables.PortRow.{PortRow}
 use Rattle.cq_route.specs.declared.tables.Tables.{Tables}
@@ -51,33 +50,34 @@ module _ (t : Tables) (captures : List (List Captured)) (sent : List Departure) 
   whole_of_lent lent same h =
       let P : List (List Captured) → Type 0 = λ cs. LeaveWhole (arrivals t cs) sent in subst P (sym same) h
 
-  -- what was put together at an output
-  module _ (lent : List (List Captured)) (left places : List Packing) (same_captures : lent ≡ captures)
-      (same : places ≡ left)
-      (packed : ArePacked t lent sent left) (output : ℕ) (there : output < ports_of t.setup) where
-    pub in_places : output < length places
-    in_places =
-        let as_many : length places ≡ length left = ap (λ (l : List Packing). length l) same in
-        let outputs : length left ≡ ports_of t.setup = packed.outputs in
-        omega arith
+  pub packed_of_lent : (lent : List (List Captured)) (places : List Packing) → lent ≡ captures →
+      ArePacked t lent sent places → ArePacked t captures sent places
+  packed_of_lent lent places same h =
+      let P : List (List Captured) → Type 0 = λ cs. ArePacked t cs sent places in subst P same h
 
-    module _ (place : Packing) (is : place ≡ get_or places output place) where
-      is_left : place ≡ get_or left output place
-      is_left = is ∙ ap (λ (l : List Packing). get_or l output place) same
+  -- the captures that were built, where those of the first outputs were taken
+  module _ (places : List Packing) (packed : ArePacked t captures sent places) (output : ℕ)
+      (there : output < ports_of t.setup) where
+    in_places : output < length places
+    in_places = let outputs : length places ≡ ports_of t.setup = packed.outputs in omega arith
 
-      in_left : output < length left
-      in_left = let outputs : length left ≡ ports_of t.setup = packed.outputs in omega arith
+    pub some_left : drop output places ≡ [] → ⊥
+    some_left none =
+        let l : length (drop output places) ≡ 0 = ap (λ (ps : List Packing). length ps) none in
+        let inside : output < length places = in_places in
+        absurd (omega (arith, l, length-drop output places))
 
-      pub can_be_written : All (λ p. length p.body ≤ 262144) place.packets.items
-      can_be_written =
-          subst (λ (q : Packing). All (λ p. length p.body ≤ 262144) q.packets.items) (sym is_left)
-          (packed.bodies output place in_left)
+    module _ (place : Packing) (rest : List Packing) (first : drop output places ≡ place ∷ rest) where
+      parts : get_or places output place ∷ drop (output + 1) places ≡ place ∷ rest
+      parts = sym (drop_more places output place in_places) ∙ first
 
-      pub file_is : (bytes : List ℕ) → bytes ≡ written place.packets.items → bytes ≡ capture_out t captures sent output
-      file_is bytes built =
-          built ∙ ap (λ (q : Packing). written q.packets.items) is_left
-          ∙ ap written (packed.packets output place in_left)
-          ∙ ap (λ (cs : List (List Captured)). capture_out t cs sent output) same_captures
+      pub file_is : place.bytes.items ≡ capture_out t captures sent output
+      file_is =
+          sym (ap (λ (ps : List Packing). (get_or ps 0 place).bytes.items) parts)
+          ∙ packed.bytes output place in_places
+
+      pub others_left : rest ≡ drop (output + 1) places
+      others_left = sym (ap (λ (ps : List Packing). drop 1 ps) parts)
 
   -- the first output, and those after it
   captures_of_more : (k : ℕ) (row : PortRow) (rows : List PortRow) →
@@ -102,6 +102,31 @@ module _ (t : Tables) (captures : List (List Captured)) (sent : List Departure) 
       (sym (ap (captures_out t captures sent k) (drop_more rows k d inside)
       ∙ captures_of_more k (get_or rows k d) (drop (k + 1) rows)))
       ∙ so_far
+
+  -- what is known when the captures of so many outputs were taken
+  pub record Building (rows : List PortRow) (k : ℕ) (writes : List (List ℕ × List ℕ)) (left : List Packing) :
+      Type 0 where
+    pub places : List Packing
+    pub packed : ArePacked t captures sent places
+    pub others : left ≡ drop k places
+    pub made : writes ++ captures_out t captures sent k (drop k rows) ≡ captures_out t captures sent 0 rows
+
+  -- one more
+  pub one_built : (rows : List PortRow) (k : ℕ) (row d : PortRow) (writes more : List (List ℕ × List ℕ))
+      (left rest : List Packing) (place : Packing) → Building rows k writes left → k < length rows →
+      length rows ≡ ports_of t.setup → row ≡ get_or rows k d → left ≡ place ∷ rest →
+      more ≡ writes ++ (row.write, place.bytes.items) ∷ [] → Building rows (k + 1) more rest
+  one_built rows k row d writes more left rest place so_far inside files is first pushed =
+      let there : k < ports_of t.setup = omega arith in
+      let taken = sym so_far.others ∙ first in
+      record {
+        places = so_far.places;
+        packed = so_far.packed;
+        others = others_left so_far.places so_far.packed k there place rest taken;
+        made =
+            made_more rows k row d writes more (captures_out t captures sent 0 rows) row.write place.bytes.items inside
+            is refl (file_is so_far.places so_far.packed k there place rest taken) pushed so_far.made;
+      }
 
   -- at the end all are made
   pub made_all : (rows : List PortRow) (k : ℕ) (made all : List (List ℕ × List ℕ)) → length rows ≤ k →

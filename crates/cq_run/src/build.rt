@@ -1,6 +1,5 @@
 //! Building the bytes that a command comes to. Here nothing is read and nothing is written.
 ghost use Rattle.std.specs.Prelude.{◌≡◌, ◌∷◌, ◌++◌, ◌≤◌, [], All, IfOk, OnOk, length};
-ghost use Rattle.cq_pcap.specs.Written.{written};
 ghost use Rattle.cq_route.specs.Tables.{AreTables, ports_of};
 ghost use Rattle.cq_run.specs.Plans.{audited, capture_out, captures_out, check_line, checked, counted, state_written, switched, yes_line};
 ghost use Rattle.cq_report.specs.Report.{report_with};
@@ -9,11 +8,11 @@ ghost use Rattle.cq_run.specs.Switching.{IsSent, IsSwitched};
 
 use crate::plan::{Work, Write};
 use crate::switching::{Crossed, Switched};
-use cq_base::{Figures, MOST_DIGITS, Name, NoMemory, Sequence, digits};
-use cq_pcap::{Capture, capture_bytes};
+use cq_base::{Figures, MOST_DIGITS, Name, NoMemory, Sequence, Supply, digits};
+use cq_pcap::Capture;
 use cq_report::{log_text_of_room, report_text, trace_text_of_packed};
 use cq_route::Tables;
-use cq_simulate::{Packing, Refused, packets_of_all};
+use cq_simulate::{Refused, packets_of_all};
 use std::alloc::Global;
 
 /// The line that says what is in a configuration.
@@ -70,8 +69,8 @@ fn put_counted(text: &mut Vec<u8>, name: &[u8], count: usize) -> Result<(), NoMe
     Ok(())
 }
 
-/// What leaves the one output of a switch of one port, under this name. The departures are used up, and the captures given
-/// up, before the file is built.
+/// What leaves the one output of a switch of one port, under this name. The departures are used up while its file grows,
+/// and then the captures are given up.
 pub fn build_passed(
     alloc: Global,
     tables: &Tables,
@@ -105,8 +104,11 @@ fn build_first(
     let Switched { sent, first_stamp } = run;
     let left = packets_of_all(alloc, sent, &captures, tables, first_stamp)?;
     drop(captures);
-    let places = left.as_slice();
-    build_capture(alloc, &places[0])
+    let mut places = Supply::of(left);
+    let Some(place) = places.pop_first() else {
+        unreachable!()
+    };
+    Ok(place.bytes)
 }
 
 /// What leaves each output of a switch, and the trace of its run.
@@ -175,7 +177,7 @@ pub fn build_report(alloc: Global, figures: &Figures, refused: &[Refused]) -> Re
 }
 
 // The captures of what leaves each output, each under its name, with places for the trace and the log. The captures that
-// were read are given up before the first of them is built.
+// were read are given up as soon as these are built.
 fn build_captures(
     alloc: Global,
     tables: &Tables,
@@ -190,12 +192,14 @@ fn build_captures(
     let Switched { sent, first_stamp } = run;
     let left = packets_of_all(alloc, sent, captures.as_slice(), tables, first_stamp)?;
     drop(captures);
-    let places = left.as_slice();
+    let mut places = Supply::of(left);
     let rows = tables.ports.as_slice();
     let mut writes = Vec::with_capacity(alloc, rows.len() + 2)?;
-    'ports: for (output, row) in rows.iter().enumerate() {
-        let bytes = build_capture(alloc, &places[output])?;
-        put_write(alloc, &mut writes, &row.write, bytes)?;
+    'ports: for row in rows {
+        let Some(place) = places.pop_first() else {
+            unreachable!()
+        };
+        put_write(alloc, &mut writes, &row.write, place.bytes)?;
     }
     Ok(writes)
 }
@@ -211,12 +215,4 @@ fn put_write(
 {
     writes.push(Write::of(Name::of(alloc, name.text())?, bytes))?;
     Ok(())
-}
-
-// The capture of the packets that have left an output.
-fn build_capture(alloc: Global, place: &Packing) -> Result<Vec<u8>, NoMemory>
-    requires { All (λ p. length p.body ≤ 262144) place.now.packets.items }
-    ensures { IfOk result (λ bytes. bytes.items ≡ written place.now.packets.items) }
-{
-    capture_bytes(alloc, &place.packets)
 }
