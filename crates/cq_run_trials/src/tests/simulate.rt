@@ -6,7 +6,7 @@ use super::given::{Come, captures_of, one_port, three_ports};
 use cq_base::{ClassRow, Departure, Kind, NoMemory, Port, Sequence, TagFault, Transfer};
 use cq_cells::Schedule;
 use cq_crew::OpenGate;
-use cq_pcap::{Capture, OutPacket};
+use cq_pcap::{Capture, OutPacket, PacketRow, read_capture};
 use cq_route::Tables;
 use cq_simulate::{
     FabricRun, IdealRun, Refused, RunRefusal, packets_of, packets_of_all, run_fabric, run_ideal,
@@ -279,7 +279,7 @@ fn puts_all_together<R: Threads + Sync>(
     let sent = run_ideal_packed(alloc, tables, &schedule)?;
     let places = packets_of_all(alloc, sent, captures, tables, schedule.t0())?;
     match places.get(output as usize) {
-        Some(place) => Ok(have_left(&place.packets, left)),
+        Some(place) => Ok(hold(alloc, &place.bytes, left)?),
         None => Ok(false),
     }
 }
@@ -321,6 +321,29 @@ fn have_left(packets: &[OutPacket], left: &[Left]) -> bool {
             .iter()
             .zip(left)
             .all(|(p, told)| left_of(p) == *told)
+}
+
+// Whether the bytes are a capture of such packets.
+fn hold(alloc: Global, bytes: &[u8], left: &[Left]) -> Result<bool, NoMemory> {
+    if bytes.len() > 1 << 28 {
+        return Ok(false);
+    }
+    match read_capture(alloc, bytes.to_vec(alloc)?) {
+        Ok(capture) => Ok(are_rows(capture.rows(), left)),
+        Err(_) => Ok(false),
+    }
+}
+
+fn are_rows(rows: &[PacketRow], left: &[Left]) -> bool {
+    rows.len() == left.len()
+        && rows
+            .iter()
+            .zip(left)
+            .all(|(row, told)| row_left(row) == *told)
+}
+
+fn row_left(row: &PacketRow) -> Left {
+    (u128::from(row.stamp), row.original, row.len as usize)
 }
 
 fn left_of(packet: &OutPacket) -> Left {
