@@ -1,5 +1,5 @@
 -- What clauses see of an engine, what a slot asks of it, and what it does.
-use Rattle.std.specs.Prelude.{◌≡◌, ℕ, ◌+◌, ◌-◌, ◌<◌, ◌≤◌, ◌++◌, Bool, List, length, Option, Some, Result, Ok, Err, slice_get, slice_index, ⊤}
+use Rattle.std.specs.Prelude.{◌≡◌, ℕ, ◌+◌, ◌-◌, ◌*◌, ◌^◌, ◌<◌, ◌≤◌, ◌++◌, Bool, List, length, Option, Some, Result, Ok, Err, slice_get, slice_index, ⊤}
 use Rattle.cq_base.specs.declared.cell.Cell.{Cell}
 use Rattle.cq_base.specs.declared.cell.Departure.{Departure}
 use Rattle.cq_base.specs.declared.cell.TagFault.{TagFault}
@@ -14,7 +14,7 @@ use Rattle.cq_rank.specs.Switch.{AreForOneSwitch, AreSized, class_count}
 use Rattle.cq_ideal.specs.declared.refused.Refused.{Refused}
 use Rattle.cq_ideal.specs.Admission.{Admission, Marked, marked}
 use Rattle.cq_ideal.specs.Ideal.{count_for}
-use Rattle.cq_ideal.specs.Limiter.{LimiterView}
+use Rattle.cq_ideal.specs.Limiter.{CanCount, LimiterView}
 use Rattle.cq_ideal.specs.Ranking.{Ranking}
 use Rattle.cq_ideal.specs.Refused.{with_refused}
 use Rattle.cq_ideal.specs.IdealSlot.{IdealState, departures_in}
@@ -82,6 +82,17 @@ HaveListRoom cells e = (i : ℕ) (cell : Cell) → arrival_at cells i ≡ Some c
 abbrev pub HaveBufferRoom : List (Option Cell) → EngineView → Type 0
 HaveBufferRoom cells e = (j : ℕ) → j < ports_of e → waiting_for j e.fabric.inputs + count_for j cells ≤ buffer_spare e j
 
+-- what a slot asks for: room for the cells that arrive, for what it sends and notes, and for what it counts
+pub record IsReadyFor (cells : List (Option Cell)) (e : EngineView) (sent : RoomView Departure)
+    (note : RoomView Transfer) : Type 0 where
+  pub list_room : HaveListRoom cells e
+  pub buffer_room : HaveBufferRoom cells e
+  pub refused : CanCount (ports_of e) e.refused
+  pub sent_room : ports_of e ≤ sent.spare
+  pub note_room : 2 * ports_of e ≤ note.spare
+  -- in each phase there are no more than the ports squared
+  pub proposals : e.figures.proposals + 2 * (ports_of e * ports_of e) < 2 ^ 64
+
 -- the answer to what the admitted cells are ranked
 abbrev pub answer_to : Result Ranking TagFault → Result (Unit {0}) TagFault
 answer_to (Ok r) = Ok tt
@@ -99,6 +110,29 @@ pub record SlotDone (ms : List Machine) (slot : ℕ) (cells : List (Option Cell)
   pub crossed_room : note'.spare + length (transfers_in record_of.of_slot) ≡ note.spare
   pub counted : new.figures ≡ figures_after old.figures record_of.of_slot
   pub refused : new.refused ≡ with_refused record_of.admission.refused old.refused
+
+-- it went on to the next slot, and its count of proposals grew by no more than twice the ports squared
+pub record HasGoneOn (slot : ℕ) (old new : EngineView) : Type 0 where
+  pub next : new.next ≡ slot + 1
+  pub few : new.figures.proposals ≤ old.figures.proposals + 2 * (ports_of old * ports_of old)
+
+-- what stays as before where a slot had a tag fault
+pub record HasStopped (old new : EngineView) (sent sent' : RoomView Departure) (note note' : RoomView Transfer)
+    : Type 0 where
+  pub unsent : sent' ≡ sent
+  pub unnoted : note' ≡ note
+  pub figures : new.figures ≡ old.figures
+  pub refused : new.refused ≡ old.refused
+  pub lists : new.fabric.inputs ≡ old.fabric.inputs
+  pub buffers : new.fabric.buffers ≡ old.fabric.buffers
+  pub next : new.next ≡ old.next
+
+-- what no slot changes: the machines, the limits, and how many cells there is room for
+pub record IsMadeAs (old new : EngineView) : Type 0 where
+  pub fixed : new.fixed ≡ old.fixed
+  pub limits : new.limits ≡ old.limits
+  pub from_inputs : new.from_inputs ≡ old.from_inputs
+  pub to_outputs : new.to_outputs ≡ old.to_outputs
 
 -- before this slot no input and no output has counted more cells than there were slots
 pub record CountsFit (next : ℕ) (x : Figures) : Type 0 where

@@ -1,9 +1,8 @@
 //! The engine: a fabric, slot by slot.
-ghost use Rattle.std.specs.Prelude.{◌≡◌, ◌↔◌, ◌+◌, ◌-◌, ◌*◌, ◌^◌, ◌<◌, ◌≤◌, IsTrue, [], false, is_err, IfOk, OnOk, OnErr, length, map, max, replicate};
+ghost use Rattle.std.specs.Prelude.{◌≡◌, ◌↔◌, ◌+◌, ◌-◌, ◌^◌, ◌<◌, ◌≤◌, IsTrue, [], false, is_err, IfOk, OnOk, OnErr, length, map, max, replicate};
 ghost use Rattle.cq_base.specs.Arrivals.{no_arrivals};
 ghost use Rattle.cq_rank.specs.Switch.{AreForOneSwitch, class_count};
 ghost use Rattle.cq_ideal.specs.Admission.{marks_down};
-ghost use Rattle.cq_ideal.specs.Limiter.{CanCount};
 ghost use Rattle.cq_ideal.specs.Ranking.{AreForPorts, ranking};
 ghost use Rattle.cq_ideal.specs.Refused.{refused_counts};
 ghost use Rattle.cq_laws.specs.Fabric.{empty_fabric, IsEmptyFabric};
@@ -11,7 +10,7 @@ ghost use Rattle.cq_laws.specs.LimitedFabric.{LimitedFabricRun};
 ghost use Rattle.cq_laws.specs.LimitedQuiet.{quiet_limited_slots};
 ghost use Rattle.cq_laws.specs.Measures.{no_figures};
 ghost use Rattle.cq_prefs.specs.Pairing.{IsInputBest};
-ghost use Rattle.cq_engine.specs.Engine.{CanGoOn, HaveBufferRoom, HaveListRoom, SlotDone, answer_to, frozen_of, its_admission, marked_fabric, ports_of};
+ghost use Rattle.cq_engine.specs.Engine.{CanGoOn, HasGoneOn, HasStopped, IsMadeAs, IsReadyFor, SlotDone, answer_to, frozen_of, its_admission, marked_fabric, ports_of};
 
 use crate::copied::{copied_figures, held_in};
 use crate::depart::depart;
@@ -279,28 +278,13 @@ impl<R: Rank> Engine<R> {
         requires next { slot ≡ self.old.next }
         requires early { slot < 2 ^ 64 - 1 }
         requires arrivals { AreForPorts (ports_of self.old) (class_count (map R.machine self.old.fixed)) arrivals.now }
-        requires list_room { HaveListRoom arrivals.now self.old }
-        requires buffer_room { HaveBufferRoom arrivals.now self.old }
-        requires refused { CanCount (ports_of self.old) self.old.refused }
-        requires sent { ports_of self.old ≤ sent.old.spare }
-        requires note { 2 * ports_of self.old ≤ note.old.spare }
-        requires proposals { self.old.figures.proposals + 2 * (ports_of self.old * ports_of self.old) < 2 ^ 64 }
+        requires ready { IsReadyFor arrivals.now self.old sent.old note.old }
         ensures answer { result ≡ answer_to (ranking (map R.machine self.old.fixed) slot 0 (its_admission arrivals.now self.old).cells self.old.fabric.ranks) }
         ensures slot { OnOk result (SlotDone (map R.machine self.old.fixed) slot arrivals.now self.old self.new sent.old sent.new note.old note.new) }
-        ensures few { OnOk result (self.new.figures.proposals ≤ self.old.figures.proposals + 2 * (ports_of self.old * ports_of self.old)) }
-        ensures next { OnOk result (self.new.next ≡ slot + 1) }
-        ensures fixed { self.new.fixed ≡ self.old.fixed }
-        ensures limits { self.new.limits ≡ self.old.limits }
-        ensures from_inputs { self.new.from_inputs ≡ self.old.from_inputs }
-        ensures to_outputs { self.new.to_outputs ≡ self.old.to_outputs }
+        ensures went_on { OnOk result (HasGoneOn slot self.old self.new) }
+        ensures made { IsMadeAs self.old self.new }
         ensures stopped { self.new.stopped ≡ is_err result }
-        ensures unsent { OnErr result (sent.new ≡ sent.old) }
-        ensures unnoted { OnErr result (note.new ≡ note.old) }
-        ensures uncounted { OnErr result (self.new.figures ≡ self.old.figures) }
-        ensures refusals_stay { OnErr result (self.new.refused ≡ self.old.refused) }
-        ensures lists_stay { OnErr result (self.new.fabric.inputs ≡ self.old.fabric.inputs) }
-        ensures buffers_stay { OnErr result (self.new.fabric.buffers ≡ self.old.fabric.buffers) }
-        ensures next_stays { OnErr result (self.new.next ≡ self.old.next) }
+        ensures stays { OnErr result (HasStopped self.old self.new sent.old sent.new note.old note.new) }
     {
         let ports = self.queues.ports();
         self.limiter.judge(arrivals);

@@ -10,18 +10,26 @@ use Rattle.cq_base.specs.Arrivals.{arrival_at}
 use Rattle.cq_rank.specs.Machine.{Machine}
 use Rattle.cq_ideal.specs.declared.refused.Refused.{Refused}
 use Rattle.cq_ideal.specs.Limiter.{CanCount}
+use Rattle.cq_ideal.specs.Ranking.{AreForPorts}
 use Rattle.cq_ideal.specs.Refused.{refused_counts}
 use Rattle.cq_ideal.proofs.Counting.{counts_fit, zero_fits}
 use Rattle.cq_laws.specs.LimitedFabric.{LimitedRecord}
 use Rattle.cq_laws.specs.Fabric.{Fabric, input, empty_fabric}
 use Rattle.cq_laws.specs.Holding.{fabric_held, held_for}
 use Rattle.cq_fabric.proofs.Limits.{nothing_for, nothing_in}
-use Rattle.cq_engine.specs.Engine.{EngineView, SlotDone, HaveBufferRoom}
+use Rattle.cq_engine.specs.Engine.{EngineView, SlotDone, HaveBufferRoom, HaveListRoom}
 use Rattle.cq_engine.proofs.Kept.{lists_kept, outputs_kept}
 use Rattle.cq_slot_trials.proofs.Arriving.{admitted_most, count_most, refusals_most}
 
 four_at : (n j : ℕ) → j < 4 → get_or (n ∷ n ∷ n ∷ n ∷ []) j 0 ≡ n
 four_at n j l = get_or-replicate 4 j n 0 l
+
+pub list_room : (e : EngineView) (cells : List (Option Cell)) (n : ℕ) → AreForPorts 4 2 cells →
+    e.from_inputs ≡ 40 ∷ 40 ∷ 40 ∷ 40 ∷ [] → ((i : ℕ) → length (input e.fabric i) ≤ n) → n < 40 → HaveListRoom cells e
+list_room e cells n come room few early i cell at =
+    let here = ap (λ (l : List ℕ). get_or l i 0) room ∙ four_at 40 i (come.inputs i cell at) in
+    let held = few i in
+    omega arith
 
 pub buffer_room : (e : EngineView) (cells : List (Option Cell)) (n : ℕ) → length cells ≡ 64 → length e.fixed ≡ 4 →
     e.to_outputs ≡ 2560 ∷ 2560 ∷ 2560 ∷ 2560 ∷ [] → ((j : ℕ) → held_for j e.fabric ≤ 64 * n) → n < 40 →

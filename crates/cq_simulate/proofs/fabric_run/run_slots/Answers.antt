@@ -42,11 +42,11 @@ had g c =
     record {
       done = c.in_ok-slot.ensures.slot;
       running = c.slot.ensures.stopped ∙ ap is_err c.in_ok-slot.was;
-      next = c.in_ok-slot.ensures.next;
-      fixed = c.slot.ensures.fixed;
-      limits = c.slot.ensures.limits;
-      from_inputs = c.slot.ensures.from_inputs;
-      to_outputs = c.slot.ensures.to_outputs;
+      next = c.in_ok-slot.ensures.went_on.next;
+      fixed = c.slot.ensures.made.fixed;
+      limits = c.slot.ensures.made.limits;
+      from_inputs = c.slot.ensures.made.from_inputs;
+      to_outputs = c.slot.ensures.made.to_outputs;
     }
 
 -- ## The loop
@@ -70,29 +70,19 @@ pub slot-requires-clause-arrivals : goal.slot-requires-clause-arrivals
 slot-requires-clause-arrivals g c =
     λ _ _. (can g (goal.at.slot-requires-clause-arrivals g c).After-arrivals).arrivals
 
-pub slot-requires-clause-list_room : goal.slot-requires-clause-list_room
-slot-requires-clause-list_room g c =
-    λ _ _. (can g (goal.at.slot-requires-clause-list_room g c).After-arrivals).list_room
-
-pub slot-requires-clause-buffer_room : goal.slot-requires-clause-buffer_room
-slot-requires-clause-buffer_room g c =
-    λ _ _. (can g (goal.at.slot-requires-clause-buffer_room g c).After-arrivals).buffer_room
-
-pub slot-requires-clause-refused : goal.slot-requires-clause-refused
-slot-requires-clause-refused g c =
-    λ _ _. (can g (goal.at.slot-requires-clause-refused g c).After-arrivals).refused
-
-pub slot-requires-clause-sent : goal.slot-requires-clause-sent
-slot-requires-clause-sent g c =
-    let room = places g (goal.at.slot-requires-clause-sent g c).After-arrivals in λ _ _. omega arith
-
-pub slot-requires-clause-note : goal.slot-requires-clause-note
-slot-requires-clause-note g c =
-    λ _ _. (can g (goal.at.slot-requires-clause-note g c).After-arrivals).note_room
-
-pub slot-requires-clause-proposals : goal.slot-requires-clause-proposals
-slot-requires-clause-proposals g c =
-    λ _ _. (can g (goal.at.slot-requires-clause-proposals g c).After-arrivals).proposals
+pub slot-requires-clause-ready : goal.slot-requires-clause-ready
+slot-requires-clause-ready g c =
+    let at = goal.at.slot-requires-clause-ready g c in
+    let here = can g at.After-arrivals in
+    let room = places g at.After-arrivals in
+    λ _ _. record {
+      list_room = here.list_room;
+      buffer_room = here.buffer_room;
+      refused = here.refused;
+      sent_room = omega arith;
+      note_room = here.note_room;
+      proposals = here.proposals;
+    }
 
 pub returns-in_err-slot-clause-fault : goal.returns-in_err-slot-clause-fault
 returns-in_err-slot-clause-fault g c =

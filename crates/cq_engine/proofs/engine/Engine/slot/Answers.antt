@@ -1,4 +1,4 @@
-use Rattle.std.proofs.Common.{◌≡◌, ◌+◌, ◌*◌, ◌<◌, ◌≤◌, ◌++◌, ℕ, List, length, get_or, map, take, sym, ap, ◌∙◌, subst, arith, append_assoc, length-append}
+use Rattle.std.proofs.Common.{◌≡◌, ◌+◌, ◌*◌, ◌<◌, ◌≤◌, ◌++◌, ℕ, List, length, get_or, map, take, refl, sym, ap, ◌∙◌, subst, arith, append_assoc, length-append}
 use Rattle.std.specs.Prelude.{max}
 use Rattle.std.proofs.lemmas.List.{length-map}
 use Rattle.cq_rank.specs.Switch.{class_count}
@@ -38,9 +38,9 @@ known g c =
       running = c.requires.running;
       next = c.requires.next;
       come = c.requires.arrivals;
-      list_room = c.requires.list_room;
-      buffer_room = c.requires.buffer_room;
-      refused = c.requires.refused;
+      list_room = c.requires.ready.list_room;
+      buffer_room = c.requires.ready.buffer_room;
+      refused = c.requires.ready.refused;
     })
 
 -- what the machines are asked to rank is what the fabric admits
@@ -289,7 +289,7 @@ pub count_proposals-requires : goal.count_proposals-requires
 count_proposals-requires g c =
     let at = goal.at.count_proposals-requires g c in
     let few = few_proposed g at.After-pass-crossed (known g at.After-self) (straight g at.After-of_outputs) in
-    let room = c.requires.proposals in
+    let room = c.requires.ready.proposals in
     omega arith
 
 pub arrive-requires-clause-fit : goal.arrive-requires-clause-fit
@@ -353,7 +353,7 @@ cross-second-requires-clause-note g c =
     let begins = known g (goal.at.cross-second-requires-clause-note g c).After-self in
     let best = c.cross-first.ensures.best in
     let few = few_cross c.cross-first.ensures.matching c.arrive.new.self.inputs c.args.slot 1 best.stable.matching in
-    let room = c.requires.note in
+    let room = c.requires.ready.note_room in
     let left = c.cross-first.ensures.note_room in
     let gone = ap length c.depart.ensures.inputs in
     let moved = c.cross-first.ensures.moves.ports.0 in
@@ -399,18 +399,6 @@ returns-in-Err-clause-answer g c =
     let at = goal.at.returns-in-Err-clause-answer g c in
     let asked = asks g at.After-judge (known g at.After-self).running.holds in
     sym (ap answer_to (sym asked ∙ c.in-Err.ensures.fault))
-
-pub returns-in-Err-clause-lists_stay : goal.returns-in-Err-clause-lists_stay
-returns-in-Err-clause-lists_stay g c = ap (λ (v : EngineView). v.fabric.inputs) c.self.view_is
-
-pub returns-in-Err-clause-buffers_stay : goal.returns-in-Err-clause-buffers_stay
-returns-in-Err-clause-buffers_stay g c = ap (λ (v : EngineView). v.fabric.buffers) c.self.view_is
-
-pub returns-in-Err-clause-limits : goal.returns-in-Err-clause-limits
-returns-in-Err-clause-limits g c = c.judge.ensures.limits ∙ ap (λ (v : EngineView). v.limits) c.self.view_is
-
-pub returns-in-Err-clause-refusals_stay : goal.returns-in-Err-clause-refusals_stay
-returns-in-Err-clause-refusals_stay g c = c.judge.ensures.refused ∙ ap (λ (v : EngineView). v.refused) c.self.view_is
 
 pub invariant_of-self-then-go_straight : goal.invariant_of-self-then-go_straight
 invariant_of-self-then-go_straight g c =
@@ -492,13 +480,6 @@ returns-then-go_straight-clause-slot g c =
           ∙ ap (with_refused (refused marks cells)) c.judge.ensures.refused;
     })
 
-pub returns-then-go_straight-clause-few : goal.returns-then-go_straight-clause-few
-returns-then-go_straight-clause-few g c =
-    let at = goal.at.returns-then-go_straight-clause-few g c in
-    let few = few_proposed g at.After-pass-crossed (known g at.After-self) (straight g at.After-of_outputs) in
-    let counted = c.count_proposals.ensures.proposals in
-    omega arith
-
 pub returns-clause-answer : goal.returns-clause-answer
 returns-clause-answer g c =
     let at = goal.at.returns-clause-answer g c in
@@ -554,7 +535,81 @@ returns-clause-slot g c =
           ∙ ap (with_refused (refused marks cells)) c.judge.ensures.refused;
     })
 
-pub returns-clause-limits : goal.returns-clause-limits
-returns-clause-limits g c =
-    c.depart.ensures.limits ∙ c.count.ensures.limits ∙ c.judge.ensures.limits
-    ∙ ap (λ (v : EngineView). v.limits) c.self.view_is
+-- ## What stays
+
+pub returns-in-Err-clause-stays : goal.returns-in-Err-clause-stays
+returns-in-Err-clause-stays g c =
+    record {
+      unsent = refl;
+      unnoted = refl;
+      figures = ap (λ (v : EngineView). v.figures) c.self.view_is;
+      refused = c.judge.ensures.refused ∙ ap (λ (v : EngineView). v.refused) c.self.view_is;
+      lists = ap (λ (v : EngineView). v.fabric.inputs) c.self.view_is;
+      buffers = ap (λ (v : EngineView). v.fabric.buffers) c.self.view_is;
+      next = ap (λ (v : EngineView). v.next) c.self.view_is;
+    }
+
+pub returns-in-Err-clause-made : goal.returns-in-Err-clause-made
+returns-in-Err-clause-made g c =
+    record {
+      fixed = c.take.ensures.fixed ∙ ap (λ (v : EngineView). v.fixed) c.self.view_is;
+      limits = c.judge.ensures.limits ∙ ap (λ (v : EngineView). v.limits) c.self.view_is;
+      from_inputs = ap (λ (v : EngineView). v.from_inputs) c.self.view_is;
+      to_outputs = ap (λ (v : EngineView). v.to_outputs) c.self.view_is;
+    }
+
+pub returns-then-go_straight-clause-made : goal.returns-then-go_straight-clause-made
+returns-then-go_straight-clause-made g c =
+    record {
+      fixed = c.pass-crossed.ensures.fixed ∙ c.take.ensures.fixed ∙ ap (λ (v : EngineView). v.fixed) c.self.view_is;
+      limits =
+          c.pass-crossed.ensures.limits ∙ c.count.ensures.limits ∙ c.judge.ensures.limits
+          ∙ ap (λ (v : EngineView). v.limits) c.self.view_is;
+      from_inputs = ap (λ (v : EngineView). v.from_inputs) c.self.view_is;
+      to_outputs = ap (λ (v : EngineView). v.to_outputs) c.self.view_is;
+    }
+
+pub returns-clause-made : goal.returns-clause-made
+returns-clause-made g c =
+    record {
+      fixed = c.depart.ensures.fixed ∙ c.take.ensures.fixed ∙ ap (λ (v : EngineView). v.fixed) c.self.view_is;
+      limits =
+          c.depart.ensures.limits ∙ c.count.ensures.limits ∙ c.judge.ensures.limits
+          ∙ ap (λ (v : EngineView). v.limits) c.self.view_is;
+      from_inputs =
+          c.cross-second.ensures.from_inputs ∙ c.depart.ensures.from_inputs ∙ c.cross-first.ensures.from_inputs
+          ∙ c.arrive.ensures.from_inputs ∙ ap (λ (v : EngineView). v.from_inputs) c.self.view_is;
+      to_outputs =
+          c.cross-second.ensures.to_outputs ∙ c.depart.ensures.to_outputs ∙ c.cross-first.ensures.to_outputs
+          ∙ c.arrive.ensures.to_outputs ∙ ap (λ (v : EngineView). v.to_outputs) c.self.view_is;
+    }
+
+-- ## The next slot
+
+pub returns-then-go_straight-clause-went_on : goal.returns-then-go_straight-clause-went_on
+returns-then-go_straight-clause-went_on g c =
+    let at = goal.at.returns-then-go_straight-clause-went_on g c in
+    let few = few_proposed g at.After-pass-crossed (known g at.After-self) (straight g at.After-of_outputs) in
+    let counted = c.count_proposals.ensures.proposals in
+    record { next = refl; few = omega arith }
+
+pub returns-clause-went_on : goal.returns-clause-went_on
+returns-clause-went_on g c =
+    let begins = known g (goal.at.returns-clause-went_on g c).After-self in
+    let n = length c.args.self.now.fixed in
+    let long = length-map c.self.inside.ranks.fixed g.R.Rank.machine in
+    let looks = ap (λ (v : EngineView). length v.fixed) c.self.view_is in
+    let ports = begins.running.in_step.ports in
+    let came_ports = c.arrive.ensures.ports in
+    let moved = c.cross-first.ensures.moves.ports.0 in
+    let gone = ap length c.depart.ensures.inputs in
+    let first : c.cross-first.result ≤ n * n =
+    subst (λ (k : ℕ). c.cross-first.result ≤ k * k) (let e : length c.arrive.new.self.inputs ≡ n = omega arith in e)
+    c.cross-first.ensures.few in
+    let second : c.cross-second.result ≤ n * n =
+    subst (λ (k : ℕ). c.cross-second.result ≤ k * k) (let e : length c.depart.new.queues.inputs ≡ n = omega arith in e)
+    c.cross-second.ensures.few in
+    let counted = c.count_proposals-2.ensures.proposals in
+    let left = c.depart.ensures.proposals in
+    let was = ap (λ (v : EngineView). v.figures.proposals) c.self.view_is in
+    record { next = refl; few = omega arith }

@@ -1,13 +1,45 @@
-use Rattle.std.proofs.Common.{ℕ, map, subst, sym}
+use Rattle.std.proofs.Common.{ℕ, ◌+◌, ◌*◌, ◌^◌, ◌<◌, ap, arith, map, subst, sym}
 use Rattle.std.proofs.lemmas.Result.{on_ok_weaker}
 use Rattle.cq_ideal.specs.Limiter.{CanCount}
-use Rattle.cq_slot_trials.proofs.EngineSlots.{buffer_room, counts_after, lists_after, held_after}
+use Rattle.cq_engine.specs.Engine.{HasGoneOn}
+use Rattle.cq_slot_trials.proofs.EngineSlots.{buffer_room, counts_after, held_after, list_room, lists_after}
 use Rattle.cq_slot_trials.proofs.tests.engine.step.Goals as goal
 
-pub slot-requires-clause-buffer_room : goal.slot-requires-clause-buffer_room
-slot-requires-clause-buffer_room g c =
-    λ _ _. buffer_room c.args.engine.now c.args.coming.now.arrivals c.args.engine.now.next
-    c.at-places.ensures.arrivals.places c.requires.ports c.requires.to_outputs c.requires.held c.requires.early
+pub slot-requires-clause-ready : goal.slot-requires-clause-ready
+slot-requires-clause-ready g c =
+    let e = c.args.engine.now in
+    let cells = c.args.coming.now.arrivals in
+    let four = c.requires.ports in
+    let made = c.requires.proposals in
+    let early = c.requires.early in
+    let sent = c.requires.sent in
+    let note = c.requires.note in
+    let few : e.figures.proposals + 2 * (4 * 4) < 2 ^ 64 = omega arith in
+    λ _ _. record {
+      list_room = list_room e cells e.next c.args.coming.now.for_ports c.requires.from_inputs c.requires.lists early;
+      buffer_room =
+          buffer_room e cells e.next c.at-places.ensures.arrivals.places four c.requires.to_outputs c.requires.held
+          early;
+      refused = subst (λ (n : ℕ). CanCount n e.refused) (sym four) c.requires.counts;
+      sent_room = omega arith;
+      note_room = omega arith;
+      proposals = subst (λ (n : ℕ). e.figures.proposals + 2 * (n * n) < 2 ^ 64) (sym four) few;
+    }
+
+pub returns-clause-next : goal.returns-clause-next
+returns-clause-next g c =
+    let is = c.next.ensures in
+    on_ok_weaker c.slot.result
+    (λ (went : HasGoneOn c.next.result c.args.engine.now c.slot.new.self). let next = went.next in omega arith)
+    c.slot.ensures.went_on
+
+pub returns-clause-proposals : goal.returns-clause-proposals
+returns-clause-proposals g c =
+    let squared = ap (λ (n : ℕ). 2 * (n * n)) c.requires.ports in
+    let made = c.requires.proposals in
+    on_ok_weaker c.slot.result
+    (λ (went : HasGoneOn c.next.result c.args.engine.now c.slot.new.self). let few = went.few in omega arith)
+    c.slot.ensures.went_on
 
 pub returns-clause-lists : goal.returns-clause-lists
 returns-clause-lists g c =
@@ -24,10 +56,6 @@ returns-clause-held g c =
     c.args.engine.now c.slot.new.self c.args.sent.now c.slot.new.sent c.args.note.now c.slot.new.note slot_done
     c.args.engine.now.next c.at-places.ensures.arrivals.places c.requires.held)
     c.slot.ensures.slot
-
-pub slot-requires-clause-refused : goal.slot-requires-clause-refused
-slot-requires-clause-refused g c =
-    λ _ _. subst (λ (n : ℕ). CanCount n c.args.engine.now.refused) (sym c.requires.ports) c.requires.counts
 
 pub returns-clause-counts : goal.returns-clause-counts
 returns-clause-counts g c =
