@@ -339,8 +339,7 @@ module _ (M : List ℕ → Machine) (came : List Arrival) (lines : List Transfer
           records = b.records;
           end = now.fabric;
           runs = whole;
-          moved =
-              sym (b.told ∙ ap (λ (l : List Transfer). moved b.records ++ l) none ∙ append-nil (moved b.records));
+          moved = sym (b.told ∙ ap (λ (l : List Transfer). moved b.records ++ l) none ∙ append-nil (moved b.records));
         }
     at_end (Err refusal) none some =
         let many : length b.records ≡ slot =

@@ -74,8 +74,7 @@ count_input slot x r fit i y at =
     let p = placed (input_after r) 0 x.inputs i y at in
     let had = fit.inputs i p.0 p.1 in
     let one = bit_most (is_some (came_to r.came (0 + i))) in
-    let is : p.0.cells + bit (is_some (came_to r.came (0 + i))) ≡ y.cells =
-    ap (λ (z : InputFigures). z.cells) p.2 in
+    let is : p.0.cells + bit (is_some (came_to r.came (0 + i))) ≡ y.cells = ap (λ (z : InputFigures). z.cells) p.2 in
     omega arith
 
 count_output : (slot : ℕ) (x : Figures) (r : SlotRecord) → CountsFit slot x → (j : ℕ) (y : OutputFigures) →
@@ -85,8 +84,7 @@ count_output slot x r fit j y at =
     let p = placed (output_after r) 0 x.outputs j y at in
     let had = fit.outputs j p.0 p.1 in
     let one = bit_most (is_some (came_to r.gone (0 + j))) in
-    let is : p.0.cells + bit (is_some (came_to r.gone (0 + j))) ≡ y.cells =
-    ap (λ (z : OutputFigures). z.cells) p.2 in
+    let is : p.0.cells + bit (is_some (came_to r.gone (0 + j))) ≡ y.cells = ap (λ (z : OutputFigures). z.cells) p.2 in
     omega arith
 
 outputs_long : (x : Figures) (r : SlotRecord) → length (figures_after x r).outputs ≡ length x.outputs

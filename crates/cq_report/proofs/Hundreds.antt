@@ -1,6 +1,6 @@
 -- The digits of numbers. A number below a thousand has at most three digits, and from a hundred on the last two stand
--- behind those of its hundreds. So a number is put by its hundreds first, with a blank behind them, and then its last two
--- digits and a blank in place of that one.
+-- behind those of its hundreds. So a number is put by its hundreds first, with a blank behind them, and then its last
+-- two digits and a blank in place of that one.
 use Rattle.std.proofs.Common.{◌≡◌, ℕ, ◌+◌, ◌-◌, ◌<◌, ◌≤◌, ◌/◌, ◌%◌, ◌^◌, List, [], ◌∷◌, ◌++◌, length, take, set, sym, ap, ◌∙◌, ⊎_elim, arith, append_assoc, length-append, lit≤}
 use Rattle.std.proofs.lemmas.Bool.{cases_lt}
 use Rattle.std.proofs.lemmas.Grind.{take-set_at}

@@ -1,5 +1,5 @@
--- Texts of lines. In a text one line more stands behind the lines before it. And the lines of what items stand for are a
--- text of those items.
+-- Texts of lines. In a text one line more stands behind the lines before it. And the lines of what items stand for
+-- are a text of those items.
 use Rattle.std.proofs.Common.{◌≡◌, ℕ, ◌+◌, ◌<◌, List, [], ◌∷◌, ◌++◌, length, take, get_or, map, refl, ap, sym, ◌∙◌, append_assoc, arith}
 use Rattle.std.specs.List.{flat_map}
 use Rattle.std.proofs.lemmas.List.{append-nil, flat_map_more, take_more, length-take-le}

@@ -3,7 +3,8 @@ use Rattle.std.proofs.Common.{◌≡◌, ℕ, List, [], ◌∷◌, ◌++◌, ap,
 use Rattle.cq_report.specs.Report.{line_of_words}
 
 -- what is put behind a word is put behind all
-pub word_then : (start old new word rest : List ℕ) (blank : ℕ) → old ≡ start ++ (word ++ blank ∷ []) → new ≡ old ++ rest →
+pub word_then : (start old new word rest : List ℕ) (blank : ℕ) → old ≡ start ++ (word ++ blank ∷ []) →
+    new ≡ old ++ rest →
     new ≡ start ++ (word ++ blank ∷ rest)
 word_then start old new word rest blank o n =
     n ∙ ap (λ ys. ys ++ rest) o ∙ append_assoc start (word ++ blank ∷ []) rest

@@ -129,8 +129,7 @@ next_in from next slot (a ∷ line) rising le lt arrives all =
           let early : a.slot < from =
           ⊎_elim (λ less. less) (λ ge. let late : slot ≤ a.slot = all.0 ge in absurd (omega arith))
           (cases_lt a.slot from) in
-          let rest : ArrivesIn slot line =
-          ⊎_elim (λ same. absurd (other same)) (λ more. more) arrives in
+          let rest : ArrivesIn slot line = ⊎_elim (λ same. absurd (other same)) (λ more. more) arrives in
           let its = next_in from next slot line rising.1 le lt rest all.1 in
           record {
             arrival = its.arrival;

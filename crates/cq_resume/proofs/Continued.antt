@@ -107,8 +107,7 @@ module _ (w : Switch) (s : State) (f : Found) (found : IsFound w.came s f) where
   unfolding frozen_told figures_told
   taken_is x t tally next slots proposals most inputs outputs refused marks ranks lists buffers sent note =
       let departures = sent_is in
-      let all_slots : t.frozen.figures.slots ≡ slots_of (sent_told w.came s) =
-      slots ∙ ap slots_of (sym departures) in
+      let all_slots : t.frozen.figures.slots ≡ slots_of (sent_told w.came s) = slots ∙ ap slots_of (sym departures) in
       let all_inputs : t.frozen.figures.inputs
       ≡ map (λ at. input_told s at.0 at.1) (enumerate_from 0 s.inputs) =
       inputs

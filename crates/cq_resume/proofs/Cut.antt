@@ -65,8 +65,7 @@ module _ {X : Type 0} (key : X → ℕ) (t start end : ℕ) (xs upto : List X) (
       let long = size in
       let same : get_or upto k d ≡ get_or xs k d =
       ap (λ (l : List X). get_or l k d) cut ∙ get_or-take end xs k d (omega arith) in
-      let le : key (get_or xs k d) ≤ t =
-      leb-true (key (get_or xs k d)) t (to.0 k d (omega arith) (omega arith)) in
+      let le : key (get_or xs k d) ≤ t = leb-true (key (get_or xs k d)) t (to.0 k d (omega arith) (omega arith)) in
       let own : key (get_or upto k d) ≡ key (get_or xs k d) = ap key same in
       omega arith
 

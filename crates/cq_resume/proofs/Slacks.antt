@@ -80,8 +80,7 @@ module _ (i : ℕ) where
   at_place [] place c is own = absurd (let P : ⊥ = cc in P)
   at_place (x ∷ xs) zero c is own =
       let same : x ≡ c = cc in
-      let mine : of_input x ≡ true =
-      eq-eqb x.key.input i (ap (λ (q : Queued). q.key.input) same ∙ own) in
+      let mine : of_input x ≡ true = eq-eqb x.key.input i (ap (λ (q : Queued). q.key.input) same ∙ own) in
       ap (λ (l : List Queued). slice_get l zero) (kept x xs mine) ∙ is
   at_place (x ∷ xs) (suc place) c is own =
       ⊎_elim

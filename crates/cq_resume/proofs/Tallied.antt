@@ -297,8 +297,7 @@ module _ (limits : List (Option ℕ)) (ports next : ℕ) (came : List Arrival) (
       })
       (λ begins.
       let first : is_first b ≡ true = eq-eqb b.cell.id.index 0 begins.1 in
-      let later : later_one f b ≡ b =
-      ap (λ (t : Bool). cond t b f) (lt-ltb f.slot b.slot (omega arith)) in
+      let later : later_one f b ≡ b = ap (λ (t : Bool). cond t b f) (lt-ltb f.slot b.slot (omega arith)) in
       let same : fold later_one f (filter is_first (b ∷ rest)) ≡ fold later_one b (filter is_first rest) =
       ap (λ (t : Bool). fold later_one f (cond t (b ∷ filter is_first rest) (filter is_first rest))) first
       ∙ ap (λ (x : Arrival). fold later_one x (filter is_first rest)) later in

@@ -37,8 +37,7 @@ module _ (came : List Arrival) (next : ℕ) (c : Named) where
   told_facts q is =
       ⊎_elim
       (λ holds.
-      let own : queued_of came c ≡ Some q =
-      sym (ap (λ (b : Bool). cond b (queued_of came c) None) holds) ∙ is in
+      let own : queued_of came c ≡ Some q = sym (ap (λ (b : Bool). cond b (queued_of came c) None) holds) ∙ is in
       let parts = keyed (arriving_cell came c) q own in
       record { early = ltb-true c.slot next holds; arrives = parts.0; key = parts.1 })
       (λ fails.

@@ -64,7 +64,6 @@ module _ (limits : List (Option ℕ)) (next : ℕ) (came : List Arrival) (names 
         TalliesUp limits next came names x
     tallies_up x as_many own_marks own_counts =
         record {
-          marks =
-              own_marks ∙ all_marks ∙ ap (λ (n : ℕ). map told (range_with_len 0 n)) (sym as_many);
+          marks = own_marks ∙ all_marks ∙ ap (λ (n : ℕ). map told (range_with_len 0 n)) (sym as_many);
           refused = own_counts ∙ tallied_counts limits next came names ports are marks refused known;
         }

@@ -1,7 +1,7 @@
 -- Packets that are put together at all outputs in one pass. When so many departures were used up, those that are left
--- are the others, and each output stands where a walk over its own departures would stand (`SoFar`), with the packets of
--- that walk in its bytes (`Walked`). One departure more goes on with the walk at its output, and passes by those at all
--- others.
+-- are the others, and each output stands where a walk over its own departures would stand (`SoFar`), with the packets
+-- of that walk in its bytes (`Walked`). One departure more goes on with the walk at its output, and passes by those
+-- at all others.
 use Rattle.std.proofs.Common.{◌≡◌, ◌≢◌, ℕ, ◌+◌, ◌<◌, ◌≤◌, All, List, [], ◌∷◌, ◌++◌, length, map, drop, get_or, set, Option, Some, None, refl, sym, ap, ◌∙◌, subst, ⊎_elim, arith}
 use Rattle.std.specs.Prelude.{IfSome}
 use Rattle.std.proofs.lemmas.Bool.{cases_eq}

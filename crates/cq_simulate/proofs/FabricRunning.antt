@@ -307,8 +307,7 @@ module _ (whole : Bool) (ms : List Machine) (came : List Arrival) (first : Engin
       let come : AreForPorts (length now.fabric.inputs) classes cells =
       subst (λ (k : ℕ). AreForPorts k classes cells) (sym c.ports) for_ports in
       let alike = same_limited_slot first.limits ms slot classes cells f g ideal r c.agrees come stable in
-      let of_slot : LimitedSent =
-      record { admission = r.admission; gone = r.of_slot.gone; after = alike.next } in
+      let of_slot : LimitedSent = record { admission = r.admission; gone = r.of_slot.gone; after = alike.next } in
       let here = come_here came slot n in
       let o = of_admitted first.limits ms slot cells ideal of_slot alike.sent in
       let k = counted ms slot admitted ideal.state o.sent o.ran in

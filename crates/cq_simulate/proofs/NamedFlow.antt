@@ -528,8 +528,7 @@ module _ (w : Switch) (s : State) (in_range : IsInRange s) (shape : HasShape w s
       let arrives = (comes w s in_range shape sound traffic n name.1).1 in
       let some = some_cell (arriving_cell w.came n) arrives in
       let it = found_at w.came n.slot n.input some.0 some.1 in
-      let same : it.arrival ≡ x =
-      one_arrival it.arrival x it.has one.came (it.slot ∙ slot) (it.input ∙ input) in
+      let same : it.arrival ≡ x = one_arrival it.arrival x it.has one.came (it.slot ∙ slot) (it.input ∙ input) in
       let cell : some.0 ≡ x.cell = sym it.own ∙ ap (λ (a : Arrival). a.cell) same in
       let q : Queued = record { cell = x.cell; key = key_of n } in
       let looked : t n ≡ Some q =

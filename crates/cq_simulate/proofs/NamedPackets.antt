@@ -265,8 +265,7 @@ module _ (w : Switch) (s : State) (i : ℕ) (whole : AreWholePackets w s)
       let it = begun before packets_before a has in
       let f = it.first in
       let head = of_line f it.has in
-      let is_begin : Arrival → Bool =
-      λ x. x.cell.id.input == i && x.cell.id.index == 0 && nat_lt x.slot next in
+      let is_begin : Arrival → Bool = λ x. x.cell.id.input == i && x.cell.id.index == 0 && nat_lt x.slot next in
       let there : Has (firsts_at w.came s i) f =
       has_kept is_begin w.came f head.came
       (all_three (f.cell.id.input == i) (f.cell.id.index == 0) (nat_lt f.slot next)

@@ -24,8 +24,7 @@ use Rattle.cq_traffic.proofs.ForPorts.{arrivals_for}
 cells_in : (s : ℕ) (f : ℕ → Cell) (a n : ℕ) →
     map (λ (x : Arrival). x.cell) (map (λ i. record {
       slot = s + i;
-      cell =
-          f i;
+      cell = f i;
     }) (range_with_len a n)) ≡ map f (range_with_len a n)
 cells_in s f a zero = refl
 cells_in s f a (suc n) = ap (λ (l : List Cell). f a ∷ l) (cells_in s f (a + 1) n)

@@ -36,8 +36,8 @@ module _ (captures : List (List Captured)) (input k : ℕ) (capture : List Captu
 
   pub in_rows : (rows : List PacketRow) → rows ≡ rows_from 24 capture → k < length rows
   in_rows rows e =
-      let l =
-      ap (λ (l : List PacketRow). length l) e in let m = length-rows_from 24 capture in let n = in_capture in
+      let l = ap (λ (l : List PacketRow). length l) e in
+      let m = length-rows_from 24 capture in let n = in_capture in
       omega arith
 
   empty : Captured

@@ -68,8 +68,7 @@ module _ (M : List ℕ → Machine) (t : Tables) (s : Scheduled) (first : Engine
       let sent_is =
       has.went.departed
       ∙ ap (λ (l : List Departure). l ++ departures_of first.next (gone_in (slots_in rs))) sent_was in
-      let note_is =
-      has.went.crossed ∙ ap (λ (l : List Transfer). l ++ transfers_of_run (slots_in rs)) note_was in
+      let note_is = has.went.crossed ∙ ap (λ (l : List Transfer). l ++ transfers_of_run (slots_in rs)) note_was in
       record {
         records = rs;
         end = marked_fabric last;

@@ -165,8 +165,8 @@ module _ (M : List ℕ → Machine) (came : List Arrival) (first : IdealSwitch) 
 
     pub room_sent : length now.fixed ≤ sent.spare
     room_sent =
-        let spare =
-        r.spare in let same : length now.fixed ≡ length first.fixed = ap (λ (l : List (List ℕ)). length l) r.fixed in
+        let spare = r.spare in
+        let same : length now.fixed ≡ length first.fixed = ap (λ (l : List (List ℕ)). length l) r.fixed in
         omega arith
 
     as_now : (cells : List (Option Cell)) → cells ≡ arriving came slot →

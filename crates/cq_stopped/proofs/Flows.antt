@@ -46,8 +46,7 @@ module _ (w : Switch) (at : Taken) (ideal : IdealState) (cs : List (List (Option
   of_one a b first second flow =
       record {
         input = flow.input;
-        output =
-            sym (its_output w at ideal cs known a first) ∙ flow.output ∙ its_output w at ideal cs known b second;
+        output = sym (its_output w at ideal cs known a first) ∙ flow.output ∙ its_output w at ideal cs known b second;
         class = sym (its_class w at ideal cs known a first) ∙ flow.class ∙ its_class w at ideal cs known b second;
       }
 

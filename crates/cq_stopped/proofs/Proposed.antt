@@ -234,8 +234,7 @@ module _ (w : Switch) (few : length w.machines ≤ 64) where
               let some : is_some (arrival_at r.admission.cells i) ≡ true =
               sym (came_where w.machines slot 0 r.admission.cells f.state.ranks (record {
                 came = r.of_slot.came;
-                ranks =
-                    r.of_slot.arrived.ranks;
+                ranks = r.of_slot.arrived.ranks;
               }) k.step.runs.arrive.ranked i)
               ∙ ap (λ (o : Option Queued). is_some o) is in
               let one = arrival_present r.admission.cells i some in

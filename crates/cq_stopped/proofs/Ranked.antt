@@ -144,8 +144,7 @@ module _ (ms : List Machine) (slot : ℕ) where
       let one : Queued = keyed cell (m.level cell.class) (m.ranked state cell.class) slot i in
       let f = fits (nat_lt (m.ranked state cell.class) (2 ^ 128)) _ _ r h in
       let b = behind (Some one) (ranking ms slot (i + 1) cells (after ranks cell)) r f.1 in
-      let is : one ≡ q =
-      same_Some one q (ap (λ (l : List (Option Queued)). came_to l 0) (sym b.came) ∙ at) in
+      let is : one ≡ q = same_Some one q (ap (λ (l : List (Option Queued)). came_to l 0) (sym b.came) ∙ at) in
       subst (λ (x : Queued). IsRanked ranks x) is
       (record {
         level = refl;

@@ -71,8 +71,7 @@ module _ (w : Switch) (n : ℕ) (f : Fabric) (ideal : IdealState) (cs : List (Li
       (let le : length ideal.lists ≤ q.cell.output = omega arith in le)) there))
       (cases_lt q.cell.output (length w.machines)) in
       record {
-        kept =
-            kept_at q inside (has_right (left_at q.cell.output sent) (list_of ideal.lists q.cell.output) q there);
+        kept = kept_at q inside (has_right (left_at q.cell.output sent) (list_of ideal.lists q.cell.output) q there);
         there = there;
       }
 

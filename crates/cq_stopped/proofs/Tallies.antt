@@ -303,8 +303,7 @@ module _ (w : Switch) (ranks : List (List ℕ)) (st : State) (rs : List LimitedR
   lost_counted p =
       let lost = refused_in (admissions_in rs) in
       let many : length (opening w ranks).marks ≡ ports = length-replicate ports false in
-      let low =
-      all_low w 0 next ports (opening w ranks) g rs runs (omega arith) (stand_in w.came 0 next) in
+      let low = all_low w 0 next ports (opening w ranks) g rs runs (omega arith) (stand_in w.came 0 next) in
       let f : ℕ → List Cell = λ i. cells_in (unnamed names (coming i 0 next w.came)) in
       by_inputs p lost ports low
       ∙ sym (of_flat p (λ i. of_input i lost) 0 ports)

@@ -90,8 +90,7 @@ full_limited limits held j full = by (slice_index_or limits j None) refl full
     by : (o : Option ℕ) → slice_index_or limits j None ≡ o →
         is_full (slice_index_or limits j None) (slice_index_or held j 0) ≡ true → has_limit limits j ≡ true
     by None none is =
-        let clash : false ≡ true =
-        sym (ap (λ (x : Option ℕ). is_full x (slice_index_or held j 0)) none) ∙ is in
+        let clash : false ≡ true = sym (ap (λ (x : Option ℕ). is_full x (slice_index_or held j 0)) none) ∙ is in
         absurd (let P : ⊥ = cc in P)
     by (Some n) some is = ap (λ (x : Option ℕ). is_some x) some
 
@@ -472,8 +471,7 @@ module _ (w : Switch) (i : ℕ) (few : i < 64) (whole : IsLine (filter (is_from 
       ∙ ap (λ (o : Option Queued). is_some o) (known 0)
       ∙ came_where w.machines slot 0 r.admission.cells f.state.ranks (record {
         came = r.of_slot.came;
-        ranks =
-            r.of_slot.arrived.ranks;
+        ranks = r.of_slot.arrived.ranks;
       }) step.runs.arrive.ranked i in
       slot_more slot f run.0 r many step.admits step.marks (arriving_at w.came slot i) refl (omega arith)
       (refused_here w.limits i (arriving_from w.came (slot + 1) n) (admissions_in rs)) (mark_at g.marks i) follow here

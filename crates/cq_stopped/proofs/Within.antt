@@ -201,8 +201,7 @@ module _ (w : Switch) (names : AllByRecursion HasSmallName w.came) (keeps : (j :
       ranked =
           ranked_low w.machines keeps slot 0 r.admission.cells f.state.ranks (record {
             came = r.of_slot.came;
-            ranks =
-                r.of_slot.arrived.ranks;
+            ranks = r.of_slot.arrived.ranks;
           }) within.states k.step.runs.arrive.ranked
 
       -- a cell that came is an arrival
@@ -212,8 +211,7 @@ module _ (w : Switch) (names : AllByRecursion HasSmallName w.came) (keeps : (j :
           let at =
           (came_from w.machines slot 0 r.admission.cells f.state.ranks (record {
             came = r.of_slot.came;
-            ranks =
-                r.of_slot.arrived.ranks;
+            ranks = r.of_slot.arrived.ranks;
           }) k.step.runs.arrive.ranked i q is).cell_is in
           place_of w.came slot i 64 q.cell refl
           (admitted_arrives (marks_after w.limits (fabric_held f.state) f.marks (arriving w.came slot)) (arriving

@@ -18,7 +18,8 @@ pub returns-clause-text : goal.returns-clause-text
 returns-clause-text t c =
     let more : 100 ≤ c.args.number = omega (arith, c.if-number-lt1000.false) in
     let longer = two_longer c.args.number more in
-    two_digits_behind c.args.number c.put_long-behind.result (take c.args.at c.args.bytes.now) c.put_long-behind.new.bytes
+    two_digits_behind c.args.number c.put_long-behind.result (take c.args.at c.args.bytes.now)
+    c.put_long-behind.new.bytes
     _ more (omega (arith, longer, c.requires, c.put_long-behind.ensures.end, c.put_long-behind.ensures.long))
     c.put_long-behind.ensures.text c.put_pair.ensures.text
 

@@ -15,10 +15,12 @@ transfers-smaller c = let shorter = ap length c.in-Some.ensures in omega arith
 pub transfers-preserved : goal.transfers-preserved
 transfers-preserved c =
     first_line log_line c.in-Some.transfer c.transfers.left c.pop_first.new.self
-    (c.transfers.text.items ++ c.transfers.sheet) (c.put_transfer.new.text.items ++ c.put_transfer.new.self) _ c.in-Some.ensures c.in_ok-put_transfer.ensures c.transfers.invariant
+    (c.transfers.text.items ++ c.transfers.sheet) (c.put_transfer.new.text.items ++ c.put_transfer.new.self) _
+    c.in-Some.ensures c.in_ok-put_transfer.ensures c.transfers.invariant
 
 pub returns : goal.returns
 unfolding log_of
 returns c =
     c.in_ok-hand_over.ensures.text
-    ∙ no_line_left log_line c.transfers.left (c.transfers.text.items ++ c.transfers.sheet) _ c.in_default.ensures.0 c.transfers.invariant
+    ∙ no_line_left log_line c.transfers.left (c.transfers.text.items ++ c.transfers.sheet) _ c.in_default.ensures.0
+    c.transfers.invariant

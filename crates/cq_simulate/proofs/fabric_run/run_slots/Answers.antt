@@ -100,8 +100,7 @@ returns-in_err-slot-clause-fault g c =
 
 pub overflow_add-slot : goal.overflow_add-slot
 overflow_add-slot g c =
-    let fits : c.skip-slot.result < 2 ^ 64 - 1 =
-    (can g (goal.at.overflow_add-slot g c).After-arrivals).early in
+    let fits : c.skip-slot.result < 2 ^ 64 - 1 = (can g (goal.at.overflow_add-slot g c).After-arrivals).early in
     omega arith
 
 pub slots-smaller : goal.slots-smaller

@@ -27,7 +27,9 @@ stands g c =
 can : (g : given.Over) (c : After-arrivals-arrivals g) →
     CanRun g.R.Rank.machine c.skip_before-slot.result c.arrivals-arrivals.result.now
     c.skip_before-slot.new.engine c.slots.sent c.slots.note
-can g c = can_run_here (stands g c) c.arrivals-arrivals.result.now (c.arrivals-arrivals.ensures ∙ c.skip_before-slot.ensures.came)
+can g c =
+    can_run_here (stands g c) c.arrivals-arrivals.result.now (c.arrivals-arrivals.ensures
+    ∙ c.skip_before-slot.ensures.came)
 
 -- ## The loop
 

@@ -54,4 +54,5 @@ returns-clause-counts g c =
     (λ sent is done n can.
     let places = c.at-places.ensures.arrivals.places in
     let few = refusals_most c.args.ideal.now.limits (ideal_held old.state) old.marks cells sent.admission is in
-    subst (CanCount n) (sym done.refused) (counts_fit sent.admission.refused n 64 c.args.ideal.now.refused can (omega arith)))
+    subst (CanCount n) (sym done.refused) (counts_fit sent.admission.refused n 64 c.args.ideal.now.refused can
+    (omega arith)))
