@@ -60,7 +60,7 @@ fn count_offering(offers: &Offers) -> u16
 
 /// The matching of a phase by one thread, found in a core that is kept from phase to phase. It is the one that
 /// `pair_phase` finds, with as many proposals, for a caller that has no second worker. Whatever the core came to before
-/// is gone.
+/// changes nothing of it.
 pub fn settle_kept(offers: &Offers, core: &mut Core)
     ensures { IsBestKept offers.now core.new }
 {

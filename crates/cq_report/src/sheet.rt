@@ -150,6 +150,7 @@ fn put_number(bytes: &mut [u8; SHEET], at: usize, numerals: &Numerals, number: u
     put_large(bytes, at, numerals, number)
 }
 
+// The same for any other number. It stands apart, so that small ones, which are most, are written where they stand.
 #[inline(never)]
 fn put_large(bytes: &mut [u8; SHEET], at: usize, numerals: &Numerals, number: u64) -> usize
     requires { at + 25 ≤ 4096 }
@@ -179,6 +180,8 @@ fn put_first(bytes: &mut [u8; SHEET], at: usize, numerals: &Numerals, number: u6
     put_long(bytes, at, numerals, number)
 }
 
+// A number below a thousand: all four bytes of its numeral are copied, and what comes next is written over those that say
+// nothing.
 #[inline(always)]
 fn put_short(bytes: &mut [u8; SHEET], at: usize, numerals: &Numerals, number: u64) -> usize
     requires short { number < 1000 }

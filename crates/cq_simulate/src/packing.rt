@@ -21,8 +21,8 @@ pub struct Packing {
 }
 
 /// The captures of the packets that leave each output, in order of output: at each those of
-/// [`packets_of`](crate::packets_of). The departures are used up while the captures grow, so that their memory serves for
-/// them, and each capture finds its room at the start. The error is want of memory.
+/// [`packets_of`](crate::packets_of). The departures are used up, and give their memory back, while the captures grow. Each
+/// capture is given its room at the start. The error is want of memory.
 pub fn packets_of_all(
     alloc: Global,
     sent: Departures,
