@@ -1,7 +1,9 @@
-use Rattle.std.proofs.Common.{ℕ, map, sym, subst, arith}
+use Rattle.std.proofs.Common.{◌≡◌, ◌<◌, ◌≤◌, ℕ, length, map, sym, subst, arith}
+use Rattle.cq_rank.specs.Switch.{class_count}
 use Rattle.cq_ideal.specs.Ideal.{marked_state}
 use Rattle.cq_ideal.specs.Limiter.{CanCount}
 use Rattle.cq_ideal.specs.LimitedIdeal.{ideal_held}
+use Rattle.cq_ideal.specs.Ranking.{AreForPorts}
 use Rattle.cq_ideal.proofs.Counting.{counts_fit}
 use Rattle.cq_slot_trials.proofs.Arriving.{admitted_most, count_most, refusals_most}
 use Rattle.cq_slot_trials.proofs.IdealSlots.{after_slot}
@@ -20,7 +22,7 @@ slot-requires g c =
       early = omega arith;
       arrivals =
           subst (λ (n : ℕ). AreForPorts n (class_count (map g.R.Rank.machine c.args.ideal.now.fixed)) cells) (sym ports)
-          (subst (λ (n : ℕ). AreForPorts 3 n cells) (sym classes) c.args.coming.invariant);
+          (subst (λ (n : ℕ). AreForPorts 3 n cells) (sym classes) c.args.coming.now.for_ports);
       spare =
           λ j inside.
           let rooms = c.requires.rooms in
