@@ -13,8 +13,6 @@ mod ledger;
 mod plays;
 mod reading;
 mod seat;
-#[cfg(test)]
-mod tests;
 mod view;
 mod words;
 

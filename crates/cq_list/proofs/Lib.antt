@@ -5,7 +5,6 @@ pub mod Counts
 pub mod Filled
 pub mod Kept
 pub mod Least
-pub mod Left
 pub mod Linked
 pub mod Nth
 pub mod Put

@@ -9,7 +9,5 @@ mod block;
 mod input_list;
 mod places;
 mod pool;
-#[cfg(test)]
-mod tests;
 
 pub use input_list::InputList;

@@ -9,8 +9,6 @@ mod free_inputs;
 mod order;
 mod per_port;
 mod proposal_core;
-#[cfg(test)]
-mod tests;
 
 pub use cq_prefs::{Outcome, Phase};
 pub use order::{LastFirst, LowestFirst, Order};

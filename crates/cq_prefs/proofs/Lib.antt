@@ -14,7 +14,6 @@ pub mod Renewing
 pub mod RenewingOne
 pub mod BehindFirst
 pub mod Changes
-pub mod Followed
 pub mod Pairs
 pub mod Best
 pub mod Steps

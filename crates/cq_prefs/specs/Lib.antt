@@ -6,4 +6,3 @@ pub mod Renewal
 pub mod Proposals
 pub mod Moves
 pub mod LeastFirst
-pub mod Followed

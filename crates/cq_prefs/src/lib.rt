@@ -16,8 +16,6 @@ mod outcome;
 mod preference;
 mod proposal_laws;
 mod renewal;
-#[cfg(test)]
-mod tests;
 
 pub use best_law::best_is_input_best;
 pub use laws::{one_is_input_best, one_order_is_by_first_cells, orders_are_by_first_cells};

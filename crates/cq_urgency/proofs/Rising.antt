@@ -1,17 +1,16 @@
 -- A cell goes in behind the cells of lesser key, and the list stays in the order of keys.
-use Rattle.std.proofs.Common.{◌≡◌, ◌≢◌, ℕ, ◌+◌, ◌<◌, true, false, List, [], ◌∷◌, length, drop, refl, sym, ap, ◌∙◌, ⊎_elim, arith}
+use Rattle.std.proofs.Common.{◌≡◌, ◌≢◌, ◌+◌, true, false, List, [], ◌∷◌, length, refl, sym, ap, ◌∙◌, ⊎_elim, arith}
 use Rattle.std.specs.Prelude.{insert}
 use Rattle.std.specs.List.{AllByRecursion}
 use Rattle.std.proofs.lemmas.Bool.{cond_both, cases_Bool}
 use Rattle.cq_base.specs.declared.key.Key.{Key}
 use Rattle.cq_base.specs.declared.cell.Queued.{Queued}
 use Rattle.cq_base.specs.Key.{is_before}
-use Rattle.cq_base.specs.Cells.{IsBefore, IsRising, HasOtherKey, ArrivedBefore, cushion, put}
+use Rattle.cq_base.specs.Cells.{IsBefore, IsRising, HasOtherKey, cushion, put}
 use Rattle.cq_base.proofs.Keys.{key_laws}
-use Rattle.cq_base.proofs.Lists.{all_at, all_by}
 use Rattle.cq_urgency.proofs.Halving.{cushion_none, cushion_first}
 
-all_put : (P : Queued → Type 0) (c : Queued) (xs : List Queued) → P c → AllByRecursion P xs →
+pub all_put : (P : Queued → Type 0) (c : Queued) (xs : List Queued) → P c → AllByRecursion P xs →
     AllByRecursion P (put c xs)
 all_put P c [] p a = (p, tt)
 all_put P c (x ∷ xs) p a = cond_both (is_before c.key x.key) (c ∷ x ∷ xs) (x ∷ put c xs) (AllByRecursion P)
@@ -53,19 +52,7 @@ rising_put c (x ∷ xs) r other =
     (λ e. ((e, before_all c x xs e r.0), r))
     (λ e. (all_put (IsBefore x) c xs (after_other c.key x.key e other.0) r.0, rising_put c xs r.1 other.1))
 
--- all arrived before the next slot
-pub arrived_put : (c : Queued) (xs : List Queued) → ArrivedBefore c.key.slot xs →
-    ArrivedBefore (c.key.slot + 1) (put c xs)
-arrived_put c xs before = all_put _ c xs (omega arith)
-    (all_by _ xs (λ t x at. let older = all_at (λ y. y.key.slot < c.key.slot) xs t x before at in omega arith))
-
 pub length_put : (c : Queued) (xs : List Queued) → length (put c xs) ≡ length xs + 1
 length_put c [] = refl
 length_put c (x ∷ xs) = cond_both (is_before c.key x.key) (c ∷ x ∷ xs) (x ∷ put c xs)
     (λ l. length l ≡ length (x ∷ xs) + 1) (λ _. omega arith) (λ _. let rest = length_put c xs in omega arith)
-
--- and so did those that are left
-pub arrived_left : (slot : ℕ) (xs : List Queued) → ArrivedBefore slot xs → ArrivedBefore (slot + 1) (drop 1 xs)
-arrived_left slot [] before = tt
-arrived_left slot (x ∷ xs) before = all_by _ xs
-    (λ t y at. let older = all_at (λ z. z.key.slot < slot) xs t y before.1 at in omega arith)

@@ -8,7 +8,5 @@
 mod block;
 mod blocks;
 mod output_buffer;
-#[cfg(test)]
-mod tests;
 
 pub use output_buffer::OutputBuffer;

@@ -1,4 +1,3 @@
 pub mod Turns
 pub mod Noting
 pub mod OneEach
-pub mod Worked

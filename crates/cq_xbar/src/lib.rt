@@ -6,8 +6,6 @@
 
 mod crossing;
 mod laws;
-#[cfg(test)]
-mod tests;
 
 pub use crossing::transfer;
 pub use laws::one_cell_crosses_at_most;

@@ -1,5 +1,0 @@
-use Rattle.cq_ledger.specs.Seats.{IsSeatOf}
-use Rattle.cq_ledger.proofs.tests.propose_all.Given as goal
-
-abbrev pub invariant-proposals : goal.invariant-proposals
-invariant-proposals l = IsSeatOf l.ledger l.seat

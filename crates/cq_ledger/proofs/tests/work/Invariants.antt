@@ -1,5 +1,0 @@
-use Rattle.cq_ledger.specs.Seats.{IsSeatOf}
-use Rattle.cq_ledger.proofs.tests.work.Given as goal
-
-abbrev pub invariant-turns : goal.invariant-turns
-invariant-turns l = IsSeatOf l.ledger l.seat

@@ -1,6 +1,0 @@
-use Rattle.std.proofs.Common.{arith}
-use Rattle.cq_list.proofs.tests.cut_in.Goals as goal
-
-pub insert-requires-clause-ahead : goal.insert-requires-clause-ahead
-insert-requires-clause-ahead c =
-    c.least_cushion-least.ensures c.max-had.result (let most = c.max-had.ensures in omega arith)

@@ -1,9 +1,0 @@
-use Rattle.std.proofs.Common.{◌+◌, sym, subst}
-use Rattle.cq_base.specs.Cells.{ArrivedBefore}
-use Rattle.cq_urgency.proofs.Rising.{arrived_left}
-use Rattle.cq_urgency.proofs.tests.leave.Goals as goal
-
-pub returns-clause-arrived : goal.returns-clause-arrived
-returns-clause-arrived c =
-    subst (ArrivedBefore (c.args.slot + 1)) (sym c.pop.ensures.cells)
-    (arrived_left c.args.slot c.args.buffer.now.cells c.requires)
