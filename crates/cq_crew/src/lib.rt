@@ -8,12 +8,8 @@
 
 mod crew;
 mod gate;
-#[cfg(test)]
-mod meeting;
 mod phase;
 mod settled;
-#[cfg(test)]
-mod tests;
 mod worker;
 
 pub use cq_ledger::{Closed, LedgerSeat, Outcome, Phase};
