@@ -1,8 +1,8 @@
 -- What a proposal core shows, and how it changes.
-use Rattle.std.specs.Prelude.{ℕ, ◌≡◌, ◌+◌, ◌&&◌, Bool, nat_lt, is_none, List, [], length, filter, slice_index, slice_set}
+use Rattle.std.specs.Prelude.{ℕ, ◌≡◌, ◌<◌, ◌+◌, ◌&&◌, Bool, nat_lt, is_none, List, [], length, filter, slice_index, slice_set}
 use Rattle.std.specs.List.{range_with_len}
 use Rattle.cq_prefs.specs.Orders.{Orders, AreOffers, ports, outputs_of, position_of}
-use Rattle.cq_prefs.specs.Pairing.{Partners, partner_of, with_pair, without_pair}
+use Rattle.cq_prefs.specs.Pairing.{IsFreeInput, IsFreeOutput, Partners, partner_of, with_pair, without_pair}
 use Rattle.cq_prefs.specs.Proposals.{State, position_held, next_place, next_output, IsFree, state_after, AreEvents, matching_of, free_inputs}
 
 -- how far the proposals have come: their state, the pairs of those who are held, the free inputs in order of number,
@@ -61,6 +61,18 @@ pub record Parts (o : Orders) (c d : Progress) (i : ℕ) : Type 0 where
   pub matching : d.matching ≡ without_pair c.matching i
   pub made : d.made ≡ c.made
   pub waiting : ShowsWaiting o d
+
+-- input i can be given to output j: both are ports of all that is shown, neither has a partner, and the free inputs
+-- that are shown are those that wait
+pub record CanTake (o : Orders) (c : Progress) (i j : ℕ) : Type 0 where
+  pub input : i < length c.matching
+  pub output : j < length c.matching
+  pub known : i < ports o
+  pub places : i < length c.state.places
+  pub positions : j < length c.state.positions
+  pub free_input : IsFreeInput c.matching i
+  pub free_output : IsFreeOutput c.matching j
+  pub waiting : ShowsWaiting o c
 
 -- output j takes input i, which has position p there
 pub record Takes (o : Orders) (c d : Progress) (i j p : ℕ) : Type 0 where

@@ -1,9 +1,9 @@
 //! Proposals, one at a time.
 ghost use Rattle.std.specs.Prelude.{◌≡◌, ◌≢◌, ◌<◌, ◌≤◌, ◌+◌, [], length, replicate, None};
 ghost use Rattle.cq_prefs.specs.Orders.{ports, outputs_of, position_of};
-ghost use Rattle.cq_prefs.specs.Pairing.{IsFreeInput, IsFreeOutput, IsInputBest, partner_of, proposals};
+ghost use Rattle.cq_prefs.specs.Pairing.{IsInputBest, partner_of, proposals};
 ghost use Rattle.cq_prefs.specs.Proposals.{IsFree, next_output, next_place, outcome_of, propose, start};
-ghost use Rattle.cq_pair.specs.Progress.{IsAsk, IsReached, MovesOn, Parts, ShowsWaiting, Takes, no_progress};
+ghost use Rattle.cq_pair.specs.Progress.{CanTake, IsAsk, IsReached, MovesOn, Parts, ShowsWaiting, Takes, no_progress};
 
 use crate::free_inputs::FreeInputs;
 use crate::order::Order;
@@ -241,14 +241,7 @@ impl Core {
 
     // An output takes an input that has this position there.
     fn take(&mut self, offers: &Offers, input: Port, output: Port, position: u16)
-        requires input { input < length self.old.matching }
-        requires output { output < length self.old.matching }
-        requires known { input < ports offers.now }
-        requires places { input < length self.old.state.places }
-        requires positions { output < length self.old.state.positions }
-        requires free_input { IsFreeInput self.old.matching input }
-        requires free_output { IsFreeOutput self.old.matching output }
-        requires waiting { ShowsWaiting offers.now self.old }
+        requires { CanTake offers.now self.old input output }
         ensures { Takes offers.now self.old self.new input output position }
     {
         self.positions.set(output, position);
