@@ -10,7 +10,7 @@ use Rattle.cq_base.specs.Room.{RoomView}
 use Rattle.cq_rank.specs.Machine.{Machine}
 use Rattle.cq_ideal.specs.Ideal.{count_for}
 use Rattle.cq_ideal.specs.IdealSlot.{filled}
-use Rattle.cq_ideal.specs.Limiter.{HoldsLists, LimiterView, held_without}
+use Rattle.cq_ideal.specs.Limiter.{HoldsLists, JudgesAsBefore, LimiterView, held_without}
 use Rattle.cq_ideal.specs.Parts.{QueuesView, RanksView, count_to, list_at}
 use Rattle.cq_ideal.proofs.Sending.{Sending}
 use Rattle.cq_ideal.proofs.Spare.{filled_long, length-filled}
@@ -71,12 +71,6 @@ module _ (lists : List (List Queued)) (limiter : LimiterView) (output : ℕ) (in
             ∙ ap (map length) (sym taken);
       }
 
--- what else a limiter keeps as cells leave
-pub record KeepsMarks (first now : LimiterView) : Type 0 where
-  pub limits : now.limits ≡ first.limits
-  pub marks : now.marks ≡ first.marks
-  pub refused : now.refused ≡ first.refused
-
 -- the walk over the outputs, where each that sends a cell holds it no longer
 pub record SendsAll (M : List ℕ → Machine) (slot : ℕ) (first_ranks : RanksView) (first_queues : QueuesView)
     (first_limiter : LimiterView) (first_sent : RoomView Departure) (output : ℕ) (ranks : RanksView) (queues :
@@ -84,7 +78,7 @@ pub record SendsAll (M : List ℕ → Machine) (slot : ℕ) (first_ranks : Ranks
     (limiter : LimiterView) (sent : RoomView Departure) : Type 0 where
   pub sending : Sending M slot first_ranks first_queues first_sent output ranks queues sent
   pub holds : HoldsLists queues.lists limiter
-  pub kept : KeepsMarks first_limiter limiter
+  pub judges : JudgesAsBefore first_limiter limiter
 
 -- ## Cells that come
 

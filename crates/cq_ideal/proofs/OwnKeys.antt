@@ -12,24 +12,24 @@ use Rattle.cq_base.specs.Cells.{ArrivedBefore, put, is_for}
 use Rattle.cq_base.proofs.Lists.{other_key_newest}
 use Rattle.cq_rank.specs.Machine.{Machine}
 use Rattle.cq_ideal.specs.IdealSlot.{filled, put_all, rests}
-use Rattle.cq_ideal.specs.Parts.{HaveArrived, HaveOwnKeys, list_at}
+use Rattle.cq_ideal.specs.Parts.{AllArrivedBefore, HaveOwnKeys, list_at}
 use Rattle.cq_ideal.specs.Ranking.{Ranking, ranking}
 use Rattle.cq_ideal.proofs.Came.{came_from}
 use Rattle.cq_ideal.proofs.FlowPut.{all_from, all_put}
 use Rattle.cq_ideal.proofs.Spare.{filled_at, length-filled}
 
-pub arrived_later : (a b : ℕ) (lists : List (List Queued)) → a ≤ b → HaveArrived a lists → HaveArrived b lists
+pub arrived_later : (a b : ℕ) (lists : List (List Queued)) → a ≤ b → AllArrivedBefore a lists → AllArrivedBefore b lists
 arrived_later a b lists le arrived j =
     all_from (λ x. x.key.slot < a) (λ x. x.key.slot < b) (λ x lt. omega arith) (list_at lists j) (arrived j)
 
 -- no cell waits where no list has one
-pub arrived_none : (slot n : ℕ) → HaveArrived slot (replicate n [])
+pub arrived_none : (slot n : ℕ) → AllArrivedBefore slot (replicate n [])
 arrived_none slot zero j = tt
 arrived_none slot (suc n) zero = tt
 arrived_none slot (suc n) (suc j) = arrived_none slot n j
 
 module _ (ms : List Machine) (slot : ℕ) (cells : List (Option Cell)) (ranks : List (List ℕ)) (r : Ranking)
-    (ok : ranking ms slot 0 cells ranks ≡ Ok r) (lists : List (List Queued)) (arrived : HaveArrived slot lists) where
+    (ok : ranking ms slot 0 cells ranks ≡ Ok r) (lists : List (List Queued)) (arrived : AllArrivedBefore slot lists) where
   pub own_keys : HaveOwnKeys r.came lists
   own_keys =
       record {
@@ -53,7 +53,7 @@ module _ (ms : List Machine) (slot : ℕ) (cells : List (Option Cell)) (ranks : 
       all_put_all P j came (cond (is_for j q) (put q xs) xs) (λ k p at. each (suc k) p at)
       (cond_both (is_for j q) (put q xs) xs (AllByRecursion P) (λ _. all_put P q xs (each zero q refl) all) (λ _. all))
 
-  arrived_filled : HaveArrived (slot + 1) (filled r.came lists)
+  arrived_filled : AllArrivedBefore (slot + 1) (filled r.came lists)
   arrived_filled j = elim (cases_lt j (length lists)) [
     | inl inside ↦
         subst (ArrivedBefore (slot + 1)) (sym (filled_at r.came lists j inside))
@@ -65,14 +65,14 @@ module _ (ms : List Machine) (slot : ℕ) (cells : List (Option Cell)) (ranks : 
         subst (ArrivedBefore (slot + 1)) (sym (get_or_past (filled r.came lists) j [] (omega arith))) tt
   ]
 
-  pub arrived_next : HaveArrived (slot + 1) (rests (filled r.came lists))
+  pub arrived_next : AllArrivedBefore (slot + 1) (rests (filled r.came lists))
   arrived_next = left (filled r.came lists) arrived_filled
     where
       left_one : (xs : List Queued) → ArrivedBefore (slot + 1) xs → ArrivedBefore (slot + 1) (drop 1 xs)
       left_one [] all = tt
       left_one (x ∷ xs) all = all.1
 
-      left : (before : List (List Queued)) → HaveArrived (slot + 1) before → HaveArrived (slot + 1) (rests before)
+      left : (before : List (List Queued)) → AllArrivedBefore (slot + 1) before → AllArrivedBefore (slot + 1) (rests before)
       left [] all j = tt
       left (xs ∷ before) all zero = left_one xs (all zero)
       left (xs ∷ before) all (suc j) = left before (λ k. all (suc k)) j

@@ -9,8 +9,9 @@ use Rattle.cq_base.specs.declared.cell.Departure.{Departure}
 use Rattle.cq_base.specs.declared.cell.Queued.{Queued}
 use Rattle.cq_base.specs.Room.{RoomView}
 use Rattle.cq_rank.specs.Machine.{Machine, machine_at, told}
+use Rattle.cq_ideal.specs.Ideal.{HaveLeft}
 use Rattle.cq_ideal.specs.IdealSlot.{all_told, fronts, rests, departures_from, departures_in}
-use Rattle.cq_ideal.specs.Parts.{RanksView, QueuesView, list_at}
+use Rattle.cq_ideal.specs.Parts.{AreTold, FirstsHaveLeft, FitTogether, RanksView, QueuesView, list_at}
 
 -- ## Lists that are new up to a place, and old from it on
 
@@ -184,17 +185,16 @@ sending_next M slot first_ranks first_queues first_sent output ranks queues sent
 pub record AreSent (M : List ℕ → Machine) (slot : ℕ) (first_ranks : RanksView) (first_queues : QueuesView)
     (first_sent : RoomView Departure) (ranks : RanksView) (queues : QueuesView) (sent : RoomView Departure) : Type 0
   where
-    pub states : ranks.states ≡ all_told (map M first_ranks.fixed) (fronts first_queues.lists) first_ranks.states
-    pub lists : queues.lists ≡ rests first_queues.lists
-    pub items : sent.items ≡ first_sent.items ++ departures_in slot (fronts first_queues.lists)
-    pub spare : sent.spare + length (departures_in slot (fronts first_queues.lists)) ≡ first_sent.spare
+    pub told : AreTold (map M first_ranks.fixed) (fronts first_queues.lists) first_ranks ranks
+    pub gone : FirstsHaveLeft first_queues queues
+    pub left : HaveLeft slot (fronts first_queues.lists) first_sent sent
 
 pub sending_last : (M : List ℕ → Machine) (slot : ℕ) (first_ranks : RanksView) (first_queues : QueuesView)
     (first_sent : RoomView Departure) (output : ℕ) (ranks : RanksView) (queues : QueuesView)
-    (sent : RoomView Departure) → Sending M slot first_ranks first_queues first_sent output ranks queues sent →
-    length first_queues.lists ≤ output → length first_ranks.states ≡ length first_queues.lists →
+    (sent : RoomView Departure) → FitTogether (map M first_ranks.fixed) first_ranks first_queues →
+    Sending M slot first_ranks first_queues first_sent output ranks queues sent → length first_queues.lists ≤ output →
     AreSent M slot first_ranks first_queues first_sent ranks queues sent
-sending_last M slot first_ranks first_queues first_sent output ranks queues sent so_far end as_many =
+sending_last M slot first_ranks first_queues first_sent output ranks queues sent fit so_far end =
     let ms = map M first_ranks.fixed in
     let old = first_queues.lists in
     let fronts_long = length-map old (λ (xs : List Queued). slice_get xs 0) in
@@ -205,12 +205,19 @@ sending_last M slot first_ranks first_queues first_sent output ranks queues sent
     let long = ap length items in
     let longer = length-append first_sent.items (departures_in slot (fronts old)) in
     let count = so_far.spare in
+    let states = fit.states in
+    let lists = fit.lists in
     record {
-      states =
-          so_far.states
-          ∙ at_end (all_told ms (fronts old) first_ranks.states) first_ranks.states output
-          (length-told ms (fronts old) first_ranks.states) (omega arith);
-      lists = so_far.lists ∙ at_end (rests old) old output (length-map old (λ xs. drop 1 xs)) end;
-      items = items;
-      spare = omega arith;
+      told = record {
+        fixed = so_far.fixed;
+        states =
+            so_far.states
+            ∙ at_end (all_told ms (fronts old) first_ranks.states) first_ranks.states output
+            (length-told ms (fronts old) first_ranks.states) (omega arith);
+      };
+      gone = record {
+        lists = so_far.lists ∙ at_end (rests old) old output (length-map old (λ xs. drop 1 xs)) end;
+        rooms = so_far.rooms;
+      };
+      left = record { items = items; spare = omega arith };
     }

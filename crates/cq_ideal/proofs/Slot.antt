@@ -13,7 +13,7 @@ use Rattle.cq_ideal.specs.Ideal.{IdealSwitch, HasRoomFor, count_for, marked_stat
 use Rattle.cq_ideal.specs.IdealSlot.{IdealState, Sent, ideal_slot, ideal_sends, filled, fronts, rests, all_told}
 use Rattle.cq_ideal.specs.LimitedIdeal.{LimitedSent, ideal_held, limited_slot, with_admission}
 use Rattle.cq_ideal.specs.Limiter.{CanCount, ComeToPorts, HoldsLists, LimiterView}
-use Rattle.cq_ideal.specs.Parts.{AreParts, AreWithinRooms, RanksView, QueuesView, HaveArrived, HaveRoomFor, state_of}
+use Rattle.cq_ideal.specs.Parts.{AreParts, AreWithinRooms, RanksView, QueuesView, AllArrivedBefore, HaveRoomFor, state_of}
 use Rattle.cq_ideal.specs.Ranking.{AreForPorts, Ranking, ranking}
 use Rattle.cq_ideal.proofs.Refusals.{each_once}
 use Rattle.cq_ideal.proofs.Spare.{came_for}
@@ -130,10 +130,10 @@ module _ (M : List ℕ → Machine) (cells : List (Option Cell)) (v : IdealSwitc
   pub holds : HoldsLists queues.lists old
   holds = parts.holds (ap (λ (w : IdealSwitch). w.stopped) is ∙ running)
 
-  pub arrived_are : (slot : ℕ) → slot ≡ v.next → HaveArrived slot queues.lists
+  pub arrived_are : (slot : ℕ) → slot ≡ v.next → AllArrivedBefore slot queues.lists
   arrived_are slot e =
       let at : next ≡ slot = ap (λ (w : IdealSwitch). w.next) is ∙ sym e in
-      subst (λ (n : ℕ). HaveArrived n queues.lists) at parts.arrived
+      subst (λ (n : ℕ). AllArrivedBefore n queues.lists) at parts.arrived
 
   pub ports_few : length old.limits ≤ 64
   ports_few = let few = parts.fit.machines.few in let limits = parts.limits in omega arith

@@ -16,7 +16,7 @@ use Rattle.cq_rank.specs.Machine.{Machine}
 use Rattle.cq_rank.specs.Switch.{AreForOneSwitch}
 use Rattle.cq_ideal.specs.IdealSlot.{filled, put_all}
 use Rattle.cq_ideal.specs.Limiter.{HoldsLists, LimiterView}
-use Rattle.cq_ideal.specs.Parts.{AreParts, RanksView, QueuesView, CameToPorts, FitTogether, HaveArrived, HaveOwnKeys, HaveRoomFor, list_at, with_came, with_cell}
+use Rattle.cq_ideal.specs.Parts.{AreParts, RanksView, QueuesView, CameToPorts, FitTogether, AllArrivedBefore, HaveOwnKeys, HaveRoomFor, list_at, with_came, with_cell}
 use Rattle.cq_ideal.proofs.FlowPut.{all_put, length_put}
 
 -- ## Putting cells into the lists
@@ -262,7 +262,7 @@ pub parts_same : (M : List ℕ → Machine) (ranks ranks_new : RanksView) (queue
     AreParts (map M ranks.fixed) ranks queues limiter next stopped → ranks_new.fixed ≡ ranks.fixed →
     length ranks_new.states ≡ length ranks.states → length queues_new.lists ≡ length queues.lists →
     queues_new.rooms ≡ queues.rooms → length limiter_new.limits ≡ length limiter.limits →
-    length limiter_new.marks ≡ length limiter.marks → HaveArrived next_new queues_new.lists →
+    length limiter_new.marks ≡ length limiter.marks → AllArrivedBefore next_new queues_new.lists →
     (stopped_new ≡ false → HoldsLists queues_new.lists limiter_new) →
     AreParts (map M ranks_new.fixed) ranks_new queues_new limiter_new next_new stopped_new
 parts_same M ranks ranks_new queues queues_new limiter limiter_new next next_new stopped stopped_new parts fixed states

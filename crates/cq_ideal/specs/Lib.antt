@@ -2,6 +2,7 @@ pub mod Admission
 pub mod EachOnce
 pub mod Ending
 pub mod Flows
+pub mod Fresh
 pub mod Ideal
 pub mod IdealRun
 pub mod IdealSlot
@@ -14,5 +15,6 @@ pub mod OneSlot
 pub mod Parts
 pub mod Ranking
 pub mod Refused
+pub mod Rest
 pub mod WholePackets
 pub mod Newcomers

@@ -36,6 +36,12 @@ held_without (Some q) j held = slice_set held j (slice_index_or held j 0 - 1)
 abbrev pub CanCount : ℕ → List Refused → Type 0
 CanCount ports counts = All (λ r. (r.packets + ports < 2 ^ 64) × (r.cells + ports < 2 ^ 64)) counts
 
+-- it will judge by the same limits and the same marks, and has refused as much
+pub record JudgesAsBefore (old new : LimiterView) : Type 0 where
+  pub marks : new.marks ≡ old.marks
+  pub refused : new.refused ≡ old.refused
+  pub limits : new.limits ≡ old.limits
+
 -- the outputs hold the cells of these lists
 pub record HoldsLists (lists : List (List Queued)) (limiter : LimiterView) : Type 0 where
   pub ports : length limiter.limits ≡ length lists

@@ -5,7 +5,7 @@ use Rattle.cq_base.specs.declared.cell.TagFault.{TagFault}
 use Rattle.cq_base.specs.Cells.{ArrivedBefore, HasOtherKey, is_for, put}
 use Rattle.cq_rank.specs.Machine.{Machine, machine_at}
 use Rattle.cq_rank.specs.Switch.{AreForOneSwitch}
-use Rattle.cq_ideal.specs.IdealSlot.{IdealState, all_told}
+use Rattle.cq_ideal.specs.IdealSlot.{IdealState, all_told, rests}
 use Rattle.cq_ideal.specs.Limiter.{HoldsLists, LimiterView}
 use Rattle.cq_ideal.specs.Ranking.{Ranking, after_input}
 
@@ -52,6 +52,16 @@ given_at ms ranks j class = slice_set ranks j ((machine_at ms j).given (slice_in
 abbrev pub all_idle : List Machine → ℕ → List (List ℕ) → List (List ℕ)
 all_idle ms ports ranks = all_told ms (replicate ports None) ranks
 
+-- each machine is told which cell its output sent, or that it was idle
+pub record AreTold (ms : List Machine) (gone : List (Option Queued)) (old new : RanksView) : Type 0 where
+  pub fixed : new.fixed ≡ old.fixed
+  pub states : new.states ≡ all_told ms gone old.states
+
+-- the first cell of each list has left it
+pub record FirstsHaveLeft (old new : QueuesView) : Type 0 where
+  pub lists : new.lists ≡ rests old.lists
+  pub rooms : new.rooms ≡ old.rooms
+
 -- the state of a switch of these parts
 abbrev pub state_of : RanksView → QueuesView → IdealState
 state_of ranks queues = record { lists = queues.lists; ranks = ranks.states }
@@ -65,8 +75,8 @@ pub record FitTogether (ms : List Machine) (ranks : RanksView) (queues : QueuesV
   pub rooms : length queues.rooms ≡ length ms
 
 -- each cell of the lists arrived before this slot
-abbrev pub HaveArrived : ℕ → List (List Queued) → Type 0
-HaveArrived slot lists = (j : ℕ) → ArrivedBefore slot (list_at lists j)
+abbrev pub AllArrivedBefore : ℕ → List (List Queued) → Type 0
+AllArrivedBefore slot lists = (j : ℕ) → ArrivedBefore slot (list_at lists j)
 
 -- the parts fit, each cell that waits arrived before the next slot, and while the switch runs its outputs hold the
 -- cells of its lists
@@ -75,7 +85,7 @@ pub record AreParts (ms : List Machine) (ranks : RanksView) (queues : QueuesView
   pub fit : FitTogether ms ranks queues
   pub limits : length limiter.limits ≡ length ms
   pub marks : length limiter.marks ≡ length ms
-  pub arrived : HaveArrived next queues.lists
+  pub arrived : AllArrivedBefore next queues.lists
   pub holds : stopped ≡ false → HoldsLists queues.lists limiter
 
 -- no list has more cells than it can hold

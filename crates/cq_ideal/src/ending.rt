@@ -32,7 +32,9 @@ pub fn more_slots_send_nothing()
     ensures enough { (ms : List Machine) (ports : ℕ) (ranks : List (List ℕ)) (came : List Arrival) →
         slots_of_run ms came (empty_ideal ports ranks) ≤ enough came }
     ensures fault { (ms : List Machine) (ports n : ℕ) (ranks : List (List ℕ)) (came : List Arrival) (fault : TagFault) →
-        ideal_run ms 0 (first_slots came n) (empty_ideal ports ranks) ≡ Err fault → whole_ideal_run ms came (empty_ideal ports ranks) ≡ Err fault }
+        ideal_run ms 0 (first_slots came n) (empty_ideal ports ranks) ≡ Err fault →
+        whole_ideal_run ms came (empty_ideal ports ranks) ≡ Err fault }
     ensures same { (ms : List Machine) (ports : ℕ) (ranks : List (List ℕ)) (came : List Arrival) →
-        departures_ran (ideal_run ms 0 (traffic_of came) (empty_ideal ports ranks)) ≡ departures_ran (whole_ideal_run ms came (empty_ideal ports ranks)) }
+        departures_ran (ideal_run ms 0 (traffic_of came) (empty_ideal ports ranks))
+        ≡ departures_ran (whole_ideal_run ms came (empty_ideal ports ranks)) }
 {}

@@ -1,13 +1,11 @@
 //! The ideal switch, slot by slot.
-ghost use Rattle.std.specs.Prelude.{◌≡◌, ◌↔◌, ◌+◌, ◌-◌, ◌^◌, ◌<◌, ◌≤◌, IsTrue, false, is_err, All, IfOk, OnErr, Ok, [], length, map, replicate};
-ghost use Rattle.cq_base.specs.Arrivals.{no_arrivals};
+ghost use Rattle.std.specs.Prelude.{◌≡◌, ◌↔◌, ◌<◌, IsTrue, false, is_err, All, IfOk, OnErr, [], length, map};
 ghost use Rattle.cq_rank.specs.Switch.{AreForOneSwitch};
-ghost use Rattle.cq_ideal.specs.Admission.{marks_down};
-ghost use Rattle.cq_ideal.specs.Ideal.{answer_to, its_slot, marked_state};
-ghost use Rattle.cq_ideal.specs.IdealRun.{IsEmptyIdeal, empty_ideal};
-ghost use Rattle.cq_ideal.specs.LimitedIdeal.{limited_run, nothing_came};
+ghost use Rattle.cq_ideal.specs.Fresh.{fresh_ideal};
+ghost use Rattle.cq_ideal.specs.Ideal.{answer_to, its_slot};
+ghost use Rattle.cq_ideal.specs.IdealRun.{IsEmptyIdeal};
 ghost use Rattle.cq_ideal.specs.OneSlot.{CanHaveSlot, HasHadSlot, IsSameSwitch, IsUnchanged};
-ghost use Rattle.cq_ideal.specs.Refused.{refused_counts};
+ghost use Rattle.cq_ideal.specs.Rest.{HasRested};
 
 use crate::Refused;
 use crate::limiter::Limiter;
@@ -72,15 +70,8 @@ impl<R: Rank> Ideal<R> {
         requires machines { AreForOneSwitch (map R.machine (map R.fixed ranks.items)) }
         requires rooms { length rooms.now ≡ length ranks.items }
         requires limits { length limits.now ≡ length ranks.items }
-        ensures fixed { IfOk result (λ ideal. ideal.fixed ≡ map R.fixed ranks.items) }
-        ensures state { IfOk result (λ ideal. ideal.state ≡ empty_ideal (length ranks.items) (map R.state ranks.items)) }
-        ensures limits { IfOk result (λ ideal. ideal.limits ≡ limits.now) }
-        ensures marks { IfOk result (λ ideal. ideal.marks ≡ marks_down (length ranks.items)) }
-        // which is 0 at each output that has a limit
-        ensures refused { IfOk result (λ ideal. ideal.refused ≡ refused_counts limits.now []) }
-        ensures rooms { IfOk result (λ ideal. ideal.rooms ≡ rooms.now) }
-        ensures next { IfOk result (λ ideal. ideal.next ≡ 0) }
-        ensures stopped { IfOk result (λ ideal. ideal.stopped ≡ false) }
+        ensures { IfOk result (λ ideal. ideal ≡ fresh_ideal (length ranks.items) (map R.fixed ranks.items)
+            (map R.state ranks.items) limits.now rooms.now) }
     {
         Ok(Ideal {
             queues: Queues::new(alloc, rooms)?,
@@ -96,8 +87,8 @@ impl<R: Rank> Ideal<R> {
     /// are put at the end of `sent`, in order of output. Each cell that is admitted lowers the spare of its list
     /// by one, and each that leaves raises it by one. The cells that are refused are counted. It takes no memory.
     ///
-    /// The error is the first rank, in order of input, that does not fit 128 bits. Then `sent`, the lists, the counts and
-    /// the next slot are as before, and the switch is stopped.
+    /// The error is the first rank, in order of input, that does not fit 128 bits. Then `sent`, the lists, the counts
+    /// and the next slot are as before, and the switch is stopped.
     pub fn slot(
         &mut self,
         slot: Slot,
@@ -141,17 +132,7 @@ impl<R: Rank> Ideal<R> {
         requires running { self.old.stopped ≡ false }
         requires empty { IsEmptyIdeal self.old.state }
         requires later { self.old.next < to }
-        ensures slots { limited_run self.old.limits (map R.machine self.old.fixed) self.old.next (replicate (to -
-            self.old.next) no_arrivals) (marked_state self.old) ≡ Ok (nothing_came (to - self.old.next) (length
-            self.old.fixed) (marked_state self.new)) }
-        ensures next { self.new.next ≡ to }
-        ensures lists { self.new.state.lists ≡ self.old.state.lists }
-        ensures fixed { self.new.fixed ≡ self.old.fixed }
-        ensures limits { self.new.limits ≡ self.old.limits }
-        ensures marks { self.new.marks ≡ self.old.marks }
-        ensures refused { self.new.refused ≡ self.old.refused }
-        ensures rooms { self.new.rooms ≡ self.old.rooms }
-        ensures running { self.new.stopped ≡ false }
+        ensures { HasRested (map R.machine self.old.fixed) self.old.next to self.old self.new }
     {
         self.ranks.rest();
         self.next = to;

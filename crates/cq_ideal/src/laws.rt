@@ -10,6 +10,7 @@ ghost use Rattle.cq_ideal.specs.IdealRun.{empty_ideal, ideal_run};
 /// contract is the claim.
 pub fn ideal_run_is_whole()
     ensures empty { (ms : List Machine) (ports : ℕ) (ranks : List (List ℕ)) (came : List Arrival) →
-        IfOk (ideal_run ms 0 (traffic_of came) (empty_ideal ports ranks)) (λ ran. All (λ cells. cells ≡ []) ran.after.lists) }
+        IfOk (ideal_run ms 0 (traffic_of came) (empty_ideal ports ranks))
+        (λ ran. All (λ cells. cells ≡ []) ran.after.lists) }
     ensures over { (came : List Arrival) (slot : ℕ) → enough came ≤ slot → arriving came slot ≡ no_arrivals }
 {}

@@ -216,8 +216,8 @@ impl Limiter {
         if up { cell } else { None }
     }
 
-    /// The cells of a slot that were refused as it was judged are counted. Where no output has a limit there is nothing to
-    /// count, and no arrival is looked at.
+    /// The cells of a slot that were refused as it was judged are counted. Where no output has a limit there is nothing
+    /// to count, and no arrival is looked at.
     pub fn count(&mut self, arrivals: &Arrivals)
         requires few { length self.old.limits ≤ 64 }
         requires refused { CanCount (length self.old.limits) self.old.refused }

@@ -72,6 +72,7 @@ pub fn refused_counts_add_up()
 /// refused packet is refused too, though the output is empty again, and the second cell of an admitted one is
 /// admitted, though it is full. The next packet of an input is judged anew.
 pub fn worked_discard()
-    ensures run { limited_run limit_one first_come_all 0 discard_slots (empty_limited 3 ([] ∷ [] ∷ [] ∷ [])) ≡ Ok discard_ran }
+    ensures run { limited_run limit_one first_come_all 0 discard_slots (empty_limited 3 ([] ∷ [] ∷ [] ∷ []))
+        ≡ Ok discard_ran }
     ensures refused { refused_counts limit_one (refused_in discard_admissions) ≡ discard_refused }
 {}

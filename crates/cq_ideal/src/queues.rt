@@ -23,7 +23,10 @@ impl Model for Queues {
 
     ghost Value = { QueuesView };
 
-    ghost view = { λ a. record { lists = map (λ q. q.cells) a.queues.items; rooms = map (λ q. q.room) a.queues.items } };
+    ghost view = { λ a. record {
+      lists = map (λ q. q.cells) a.queues.items;
+      rooms = map (λ q. q.room) a.queues.items;
+    } };
 
     ghost invariant = { λ a. All IsWithin a.queues.items };
 }
@@ -61,7 +64,8 @@ impl Queues {
     /// Puts a cell into the list of its output, at its place in the order of keys.
     pub fn put(&mut self, queued: Queued)
         requires output { queued.cell.output < length self.old.lists }
-        requires room { length (list_at self.old.lists queued.cell.output) < slice_index self.old.rooms queued.cell.output }
+        requires room { length (list_at self.old.lists queued.cell.output)
+            < slice_index self.old.rooms queued.cell.output }
         requires other_key { HasOtherKey queued (list_at self.old.lists queued.cell.output) }
         ensures lists { self.new.lists ≡ with_cell queued self.old.lists }
         ensures rooms { self.new.rooms ≡ self.old.rooms }
@@ -72,7 +76,8 @@ impl Queues {
     // Puts the cell that came to an input into the list of its output, if one came.
     fn put_if(&mut self, came: Option<Queued>)
         requires output { IfSome came (λ q. q.cell.output < length self.old.lists) }
-        requires room { IfSome came (λ q. length (list_at self.old.lists q.cell.output) < slice_index self.old.rooms q.cell.output) }
+        requires room { IfSome came (λ q. length (list_at self.old.lists q.cell.output)
+            < slice_index self.old.rooms q.cell.output) }
         requires other_key { IfSome came (λ q. HasOtherKey q (list_at self.old.lists q.cell.output)) }
         ensures lists { self.new.lists ≡ with_came came self.old.lists }
         ensures rooms { self.new.rooms ≡ self.old.rooms }

@@ -152,11 +152,14 @@ impl<R: Rank> Ranks<R> {
         requires output { output < length self.old.fixed }
         requires class { class < (machine_at (map R.machine self.old.fixed) output).classes }
         ensures fixed { self.new.fixed ≡ self.old.fixed }
-        ensures rank { IfOk result (λ rank. rank ≡ rank_at (map R.machine self.old.fixed) self.old.states output class) }
-        ensures given { OnOk result (self.new.states ≡ given_at (map R.machine self.old.fixed) self.old.states output class) }
+        ensures rank { IfOk result (λ rank. rank
+            ≡ rank_at (map R.machine self.old.fixed) self.old.states output class) }
+        ensures given { OnOk result (self.new.states
+            ≡ given_at (map R.machine self.old.fixed) self.old.states output class) }
         ensures refused { OnErr result (self.new.states ≡ self.old.states) }
         ensures many { length self.new.states ≡ length self.old.states }
-        ensures overflow { IsErr result ↔ (2 ^ 128 ≤ rank_at (map R.machine self.old.fixed) self.old.states output class) }
+        ensures overflow { IsErr result
+            ↔ (2 ^ 128 ≤ rank_at (map R.machine self.old.fixed) self.old.states output class) }
     {
         self.ranks[output as usize].rank(class)
     }
@@ -166,9 +169,13 @@ impl<R: Rank> Ranks<R> {
         requires output { cell.output < length self.old.fixed }
         requires class { cell.class < (machine_at (map R.machine self.old.fixed) cell.output).classes }
         ensures fixed { self.new.fixed ≡ self.old.fixed }
-        ensures came { IfOk result (λ queued. (cells : List (Option Cell)) → ranking (map R.machine self.old.fixed) slot input (Some cell ∷ cells) self.old.states ≡ after_input (Some queued) (ranking (map R.machine self.old.fixed) slot (input + 1) cells self.new.states)) }
+        ensures came { IfOk result (λ queued. (cells : List (Option Cell)) →
+            ranking (map R.machine self.old.fixed) slot input (Some cell ∷ cells) self.old.states
+            ≡ after_input (Some queued) (ranking (map R.machine self.old.fixed) slot (input + 1) cells
+            self.new.states)) }
         ensures many { length self.new.states ≡ length self.old.states }
-        ensures fault { IfErr result (λ fault. (cells : List (Option Cell)) → ranking (map R.machine self.old.fixed) slot input (Some cell ∷ cells) self.old.states ≡ Err fault) }
+        ensures fault { IfErr result (λ fault. (cells : List (Option Cell)) →
+            ranking (map R.machine self.old.fixed) slot input (Some cell ∷ cells) self.old.states ≡ Err fault) }
     {
         let level = self.level(cell.output, cell.class);
         match self.rank(cell.output, cell.class) {
@@ -202,7 +209,8 @@ impl<R: Rank> Ranks<R> {
         requires machines { AreForOneSwitch (map R.machine self.old.fixed) }
         requires some { 0 < length self.old.fixed }
         requires few { length self.old.fixed ≤ 64 }
-        requires arrivals { AreForPorts (length self.old.fixed) (class_count (map R.machine self.old.fixed)) arrivals.now }
+        requires arrivals { AreForPorts (length self.old.fixed) (class_count (map R.machine self.old.fixed))
+            arrivals.now }
         requires marks { length limiter.now.marks ≡ length self.old.fixed }
         ensures fixed { self.new.fixed ≡ self.old.fixed }
         ensures came { OnOk result (ranking (map R.machine self.old.fixed) slot 0 (admitted limiter.now.marks
@@ -230,7 +238,8 @@ impl<R: Rank> Ranks<R> {
     pub fn told(&mut self, output: Port, gone: Option<Queued>)
         requires { output < length self.old.fixed }
         ensures fixed { self.new.fixed ≡ self.old.fixed }
-        ensures states { self.new.states ≡ slice_set self.old.states output (told (machine_at (map R.machine self.old.fixed) output) (slice_index_or self.old.states output []) gone) }
+        ensures states { self.new.states ≡ slice_set self.old.states output
+            (told (machine_at (map R.machine self.old.fixed) output) (slice_index_or self.old.states output []) gone) }
     {
         tell(&mut self.ranks[output as usize], gone);
     }
@@ -239,8 +248,10 @@ impl<R: Rank> Ranks<R> {
     fn idle(&mut self, output: Port)
         requires { output < length self.old.fixed }
         ensures fixed { self.new.fixed ≡ self.old.fixed }
-        ensures states { self.new.states ≡ slice_set self.old.states output (told (machine_at (map R.machine self.old.fixed) output) (slice_index_or self.old.states output []) None) }
-        ensures sized { length (slice_index_or self.old.states output []) ≡ (machine_at (map R.machine self.old.fixed) output).size }
+        ensures states { self.new.states ≡ slice_set self.old.states output
+            (told (machine_at (map R.machine self.old.fixed) output) (slice_index_or self.old.states output []) None) }
+        ensures sized { length (slice_index_or self.old.states output [])
+            ≡ (machine_at (map R.machine self.old.fixed) output).size }
     {
         tell_idle(&mut self.ranks[output as usize]);
     }
@@ -250,8 +261,10 @@ impl<R: Rank> Ranks<R> {
         requires few { length self.old.fixed ≤ 64 }
         requires states { length self.old.states ≡ length self.old.fixed }
         ensures fixed { self.new.fixed ≡ self.old.fixed }
-        ensures states { self.new.states ≡ all_idle (map R.machine self.old.fixed) (length self.old.fixed) self.old.states }
-        ensures again { all_idle (map R.machine self.old.fixed) (length self.old.fixed) self.new.states ≡ self.new.states }
+        ensures states { self.new.states
+            ≡ all_idle (map R.machine self.old.fixed) (length self.old.fixed) self.old.states }
+        ensures again { all_idle (map R.machine self.old.fixed) (length self.old.fixed) self.new.states
+            ≡ self.new.states }
     {
         let ports = self.len();
         'outputs: for output in 0..ports {

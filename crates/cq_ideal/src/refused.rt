@@ -58,8 +58,8 @@ fn with_cell(count: Refused, cell: Cell) -> Refused
     }
 }
 
-/// A refused cell is added to the count of its output, where that has one: it is a cell more, and a packet more where it is a
-/// first cell.
+/// A refused cell is added to the count of its output, where that has one: it is a cell more, and a packet more where
+/// it is a first cell.
 pub fn count_refused(refused: &mut [Refused], cell: Cell)
     requires { CanCount 1 refused.old }
     ensures { refused.new ≡ with_refused (cell ∷ []) refused.old }

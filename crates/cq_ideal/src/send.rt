@@ -1,8 +1,9 @@
 //! How the outputs of an ideal switch send.
-ghost use Rattle.std.specs.Prelude.{◌≡◌, ◌+◌, ◌≤◌, ◌++◌, length, map};
-ghost use Rattle.cq_ideal.specs.IdealSlot.{all_told, departures_in, fronts, rests};
-ghost use Rattle.cq_ideal.specs.Limiter.{HoldsLists};
-ghost use Rattle.cq_ideal.specs.Parts.{FitTogether};
+ghost use Rattle.std.specs.Prelude.{◌≤◌, length, map};
+ghost use Rattle.cq_ideal.specs.Ideal.{HaveLeft};
+ghost use Rattle.cq_ideal.specs.IdealSlot.{fronts};
+ghost use Rattle.cq_ideal.specs.Limiter.{HoldsLists, JudgesAsBefore};
+ghost use Rattle.cq_ideal.specs.Parts.{AreTold, FirstsHaveLeft, FitTogether};
 
 use crate::limiter::Limiter;
 use crate::queues::Queues;
@@ -21,17 +22,12 @@ pub fn send<R: Rank>(
     requires fit { FitTogether (map R.machine ranks.old.fixed) ranks.old queues.old }
     requires holds { HoldsLists queues.old.lists limiter.old }
     requires sent { length ranks.old.fixed ≤ sent.old.spare }
-    ensures fixed { ranks.new.fixed ≡ ranks.old.fixed }
-    ensures states { ranks.new.states ≡ all_told (map R.machine ranks.old.fixed) (fronts queues.old.lists) ranks.old.states }
-    ensures lists { queues.new.lists ≡ rests queues.old.lists }
-    ensures rooms { queues.new.rooms ≡ queues.old.rooms }
-    ensures items { sent.new.items ≡ sent.old.items ++ departures_in slot (fronts queues.old.lists) }
-    ensures spare { sent.new.spare + length (departures_in slot (fronts queues.old.lists)) ≡ sent.old.spare }
+    ensures told { AreTold (map R.machine ranks.old.fixed) (fronts queues.old.lists) ranks.old ranks.new }
+    ensures gone { FirstsHaveLeft queues.old queues.new }
+    ensures left { HaveLeft slot (fronts queues.old.lists) sent.old sent.new }
     ensures fit { FitTogether (map R.machine ranks.new.fixed) ranks.new queues.new }
     ensures holds { HoldsLists queues.new.lists limiter.new }
-    ensures marks { limiter.new.marks ≡ limiter.old.marks }
-    ensures refused { limiter.new.refused ≡ limiter.old.refused }
-    ensures limits { limiter.new.limits ≡ limiter.old.limits }
+    ensures judges { JudgesAsBefore limiter.old limiter.new }
 {
     let ports = queues.len();
     'outputs: for output in 0..ports {

@@ -19,7 +19,7 @@ outputs-init g c =
       sending = sending_first g.R.Rank.machine c.args.slot c.args.ranks.now c.args.queues.now c.args.sent.now (omega
           arith);
       holds = c.requires.holds;
-      kept = record { limits = refl; marks = refl; refused = refl };
+      judges = record { marks = refl; refused = refl; limits = refl };
     }
 
 pub sent-requires-clause-output : goal.sent-requires-clause-output
@@ -59,7 +59,7 @@ outputs-preserved g c =
     c.outputs.ranks c.outputs.queues c.outputs.sent gone c.told.new.self c.pop-gone.new.self sent inv
     (omega arith) (omega arith) c.pop-gone.ensures.first c.pop-gone.ensures.lists c.pop-gone.ensures.rooms
     c.told.ensures.fixed c.told.ensures.states items spare in
-    let was = c.outputs.invariant.kept in
+    let was = c.outputs.invariant.judges in
     let keep : (sent : RoomView Departure) → Sending g.R.Rank.machine c.args.slot c.args.ranks.now c.args.queues.now
     c.args.sent.now (output + 1) c.told.new.self c.pop-gone.new.self sent →
     SendsAll g.R.Rank.machine c.args.slot c.args.ranks.now c.args.queues.now c.args.limiter.now c.args.sent.now
@@ -69,11 +69,10 @@ outputs-preserved g c =
       holds = holds_without c.outputs.queues.lists c.outputs.limiter output (omega arith) c.outputs.invariant.holds
           gone c.pop-gone.new.self.lists c.sent.new.self c.pop-gone.ensures.first c.pop-gone.ensures.lists
           c.sent.ensures.held c.sent.ensures.limits;
-      kept = record {
-        limits = c.sent.ensures.limits ∙ was.limits;
-        marks = c.sent.ensures.marks
-            ∙ was.marks;
+      judges = record {
+        marks = c.sent.ensures.marks ∙ was.marks;
         refused = c.sent.ensures.refused ∙ was.refused;
+        limits = c.sent.ensures.limits ∙ was.limits;
       };
     } in
     elim c.match-gone.branch [
@@ -92,21 +91,29 @@ outputs-preserved g c =
           ∙ sym (append-nil c.outputs.sent.items) ∙ ap (λ l. c.outputs.sent.items ++ l) is) (omega arith))
     ]
 
-pub returns-clause-states : goal.returns-clause-states
-returns-clause-states g c =
-    let fit = c.requires.fit in
-    let lists = fit.lists in
-    let states = fit.states in
+pub returns-clause-told : goal.returns-clause-told
+returns-clause-told g c =
     let ports = c.len-ports.ensures.len in
     let test = c.outputs-test.false in
-    (sending_last g.R.Rank.machine c.args.slot c.args.ranks.now c.args.queues.now c.args.sent.now c.outputs.output
-    c.outputs.ranks c.outputs.queues c.outputs.sent c.outputs.invariant.sending (omega arith) (omega
-    arith)).states
+    (sending_last _ _ _ _ _ _ _ _ _ c.requires.fit c.outputs.invariant.sending (omega arith)).told
+
+pub returns-clause-gone : goal.returns-clause-gone
+returns-clause-gone g c =
+    let ports = c.len-ports.ensures.len in
+    let test = c.outputs-test.false in
+    (sending_last _ _ _ _ _ _ _ _ _ c.requires.fit c.outputs.invariant.sending (omega arith)).gone
+
+pub returns-clause-left : goal.returns-clause-left
+returns-clause-left g c =
+    let ports = c.len-ports.ensures.len in
+    let test = c.outputs-test.false in
+    (sending_last _ _ _ _ _ _ _ _ _ c.requires.fit c.outputs.invariant.sending (omega arith)).left
 
 pub returns-clause-fit : goal.returns-clause-fit
 returns-clause-fit g c =
     let inv = c.outputs.invariant.sending in
     let ms = map g.R.Rank.machine c.args.ranks.now.fixed in
+    let told = returns-clause-told g c in
     fit_same g.R.Rank.machine c.args.ranks.now c.outputs.ranks c.args.queues.now c.outputs.queues c.requires.fit
-    inv.fixed (ap length (returns-clause-states g c)
+    told.fixed (ap length told.states
     ∙ length-told ms (fronts c.args.queues.now.lists) c.args.ranks.now.states) inv.long inv.rooms

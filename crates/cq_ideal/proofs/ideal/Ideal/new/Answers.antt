@@ -1,7 +1,7 @@
 use Rattle.std.proofs.Common.{◌≡◌, [], length, map, replicate, sym, ap, ◌∙◌, subst}
 use Rattle.std.proofs.lemmas.List.{length-map, length-replicate}
 use Rattle.cq_rank.specs.Switch.{AreForOneSwitch}
-use Rattle.cq_ideal.specs.Parts.{HaveArrived}
+use Rattle.cq_ideal.specs.Parts.{AllArrivedBefore}
 use Rattle.cq_ideal.proofs.Holding.{holds_none}
 use Rattle.cq_ideal.proofs.OwnKeys.{arrived_none}
 use Rattle.cq_ideal.proofs.ideal.Ideal.new.Goals as goal
@@ -25,7 +25,7 @@ invariant_of-result g c =
       };
       limits = ap length c.in_ok-new-2.ensures.limits ∙ limits ∙ sym many;
       marks = ap length c.in_ok-new-2.ensures.marks ∙ length-replicate (length c.args.limits.now) _ ∙ limits ∙ sym many;
-      arrived = subst (HaveArrived 0) (sym c.in_ok-new.ensures.lists) (arrived_none 0 (length c.args.rooms.now));
+      arrived = subst (AllArrivedBefore 0) (sym c.in_ok-new.ensures.lists) (arrived_none 0 (length c.args.rooms.now));
       holds = λ _. holds_none c.in_ok-new-2.field-0 (length c.args.limits.now) c.in_ok-new.field-0.lists
           (ap length c.in_ok-new-2.ensures.limits) c.in_ok-new-2.ensures.held
           (c.in_ok-new.ensures.lists ∙ ap (λ n. replicate n []) (c.requires.rooms ∙ sym limits));

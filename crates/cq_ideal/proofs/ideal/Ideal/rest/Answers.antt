@@ -23,14 +23,26 @@ invariant_of-self g c =
     (arrived_later c.self.inside.next c.args.to c.self.inside.queues.lists (omega arith) c.self.invariant.arrived)
     c.self.invariant.holds
 
-pub returns-clause-slots : goal.returns-clause-slots
-returns-clause-slots g c =
-    let ran = rested g.R.Rank.machine c.self.inside.ranks c.rest.new.self c.self.inside.queues c.args.self.now
+pub returns : goal.returns
+returns g c =
+    let now = c.args.self.now in
+    let count = c.args.to - now.next in
+    let ran = rested g.R.Rank.machine c.self.inside.ranks c.rest.new.self c.self.inside.queues now
     c.args.to (ap (λ (v : IdealSwitch). v.fixed) c.self.view_is)
     (ap (λ (v : IdealSwitch). v.state) c.self.view_is) c.self.invariant.fit c.requires.empty c.requires.later
     c.rest.ensures.states c.rest.ensures.again in
-    rest_refuses_none c.args.self.now.limits (map g.R.Rank.machine c.args.self.now.fixed) (c.args.to -
-    c.args.self.now.next) c.args.self.now.next (length c.args.self.now.fixed) c.args.self.now.marks
-    c.args.self.now.state _ ran
-    ∙ ap (λ (v : IdealSwitch). Ok (nothing_came (c.args.to - c.args.self.now.next) (length c.args.self.now.fixed)
-    (marked v.marks (state_of c.rest.new.self c.self.inside.queues)))) (sym c.self.view_is)
+    record {
+      slots =
+          rest_refuses_none now.limits (map g.R.Rank.machine now.fixed) count now.next (length now.fixed) now.marks
+          now.state _ ran
+          ∙ ap (λ (v : IdealSwitch). Ok (nothing_came count (length now.fixed)
+          (marked v.marks (state_of c.rest.new.self c.self.inside.queues)))) (sym c.self.view_is);
+      next = refl;
+      lists = ap (λ (v : IdealSwitch). v.state.lists) c.self.view_is;
+      fixed = c.rest.ensures.fixed ∙ ap (λ (v : IdealSwitch). v.fixed) c.self.view_is;
+      limits = ap (λ (v : IdealSwitch). v.limits) c.self.view_is;
+      marks = ap (λ (v : IdealSwitch). v.marks) c.self.view_is;
+      refused = ap (λ (v : IdealSwitch). v.refused) c.self.view_is;
+      rooms = ap (λ (v : IdealSwitch). v.rooms) c.self.view_is;
+      running = ap (λ (v : IdealSwitch). v.stopped) c.self.view_is ∙ c.requires.running;
+    }

@@ -4,7 +4,7 @@ use Rattle.cq_rank.specs.Switch.{class_count}
 use Rattle.cq_ideal.specs.Admission.{admitted, marked, refused}
 use Rattle.cq_ideal.specs.Ideal.{IdealSwitch, answer_to}
 use Rattle.cq_ideal.specs.IdealSlot.{IdealState, rests}
-use Rattle.cq_ideal.specs.Parts.{HaveArrived}
+use Rattle.cq_ideal.specs.Parts.{AllArrivedBefore}
 use Rattle.cq_ideal.specs.Ranking.{AreForPorts, Ranking}
 use Rattle.cq_ideal.specs.Refused.{with_refused}
 use Rattle.cq_ideal.proofs.Admitted.{admitted_for_ports}
@@ -124,10 +124,10 @@ invariant_of-self-2 g c =
     let cells = admitted c.judge.new.self.marks c.args.arrivals.now in
     let ms = map g.R.Rank.machine c.self.inside.ranks.fixed in
     let ports : length (map g.R.Rank.machine c.send.new.ranks.fixed) ≡ length ms =
-    ap (λ (f : List (List ℕ)). length (map g.R.Rank.machine f)) (c.send.ensures.fixed ∙ c.take.ensures.fixed) in
+    ap (λ (f : List (List ℕ)). length (map g.R.Rank.machine f)) (c.send.ensures.told.fixed ∙ c.take.ensures.fixed) in
     let judged = ap length c.judge.ensures.limits in
-    let limits = ap length (c.send.ensures.limits ∙ c.count.ensures.limits) in
-    let marks = ap length (c.send.ensures.marks ∙ c.count.ensures.marks) in
+    let limits = ap length (c.send.ensures.judges.limits ∙ c.count.ensures.limits) in
+    let marks = ap length (c.send.ensures.judges.marks ∙ c.count.ensures.marks) in
     let each = c.judge.ensures.ports.marks in
     let had = c.self.invariant.limits in
     record {
@@ -135,7 +135,7 @@ invariant_of-self-2 g c =
       limits = omega arith;
       marks = omega arith;
       arrived =
-          subst (HaveArrived (c.args.slot + 1)) (sym (c.send.ensures.lists ∙ ap rests c.arrive.ensures.lists))
+          subst (AllArrivedBefore (c.args.slot + 1)) (sym (c.send.ensures.gone.lists ∙ ap rests c.arrive.ensures.lists))
           (arrived_next ms c.args.slot cells c.self.inside.ranks.states came c.in_default.ensures.came
           c.self.inside.queues.lists
           (arrived_are g.R.Rank.machine c.args.arrivals.now c.args.self.now c.self.inside.ranks c.self.inside.queues
@@ -184,9 +184,9 @@ returns-clause-answer g c = sym (ap answer_to (limited_ok g.R.Rank.machine c.arg
 
 pub returns-clause-slot : goal.returns-clause-slot
 returns-clause-slot g c =
-    let marks = c.send.ensures.marks ∙ c.count.ensures.marks in
+    let marks = c.send.ensures.judges.marks ∙ c.count.ensures.marks in
     let left : IdealState = record { lists = c.send.new.queues.lists; ranks = c.send.new.ranks.states } in
-    let state = same_state left _ c.send.ensures.lists c.send.ensures.states in
+    let state = same_state left _ c.send.ensures.gone.lists c.send.ensures.told.states in
     let was = c.judge.ensures.refused ∙ ap (λ (v : IdealSwitch). v.refused) c.self.view_is in
     let inv = c.self.invariant.fit in
     let cells = admitted c.judge.new.self.marks c.args.arrivals.now in
@@ -221,17 +221,17 @@ returns-clause-slot g c =
       state =
           ap (λ (m : List Bool). marked m left) marks
           ∙ ap (λ (s : IdealState). marked c.judge.new.self.marks s) state;
-      sent = record { items = c.send.ensures.items; spare = c.send.ensures.spare };
+      sent = c.send.ensures.left;
       spare =
           spare_follows _ c.args.slot cells c.args.self.now new _ (admitted_room g.R.Rank.machine c.args.arrivals.now
           c.args.self.now c.self.inside.ranks c.self.inside.queues c.self.inside.limiter c.self.inside.next
           c.self.inside.stopped c.self.view_is c.self.invariant c.requires.running c.judge.new.self.marks
           c.requires.spare)
           (ap length (sym lists) ∙ inv.lists ∙ sym inv.rooms ∙ ap length rooms) held
-          (c.send.ensures.rooms ∙ c.arrive.ensures.rooms ∙ rooms) e
-          (same_state _ _ c.send.ensures.lists c.send.ensures.states);
+          (c.send.ensures.gone.rooms ∙ c.arrive.ensures.rooms ∙ rooms) e
+          (same_state _ _ c.send.ensures.gone.lists c.send.ensures.told.states);
       refused =
-          c.send.ensures.refused ∙ c.count.ensures.refused
+          c.send.ensures.judges.refused ∙ c.count.ensures.refused
           ∙ ap (with_refused (refused c.judge.new.self.marks c.args.arrivals.now)) was;
       next = refl;
     })
@@ -239,9 +239,9 @@ returns-clause-slot g c =
 pub returns-clause-same : goal.returns-clause-same
 returns-clause-same g c =
     record {
-      fixed = c.send.ensures.fixed ∙ c.take.ensures.fixed ∙ ap (λ (v : IdealSwitch). v.fixed) c.self.view_is;
+      fixed = c.send.ensures.told.fixed ∙ c.take.ensures.fixed ∙ ap (λ (v : IdealSwitch). v.fixed) c.self.view_is;
       limits =
-          c.send.ensures.limits ∙ c.count.ensures.limits ∙ c.judge.ensures.limits
+          c.send.ensures.judges.limits ∙ c.count.ensures.limits ∙ c.judge.ensures.limits
           ∙ ap (λ (v : IdealSwitch). v.limits) c.self.view_is;
-      rooms = c.send.ensures.rooms ∙ c.arrive.ensures.rooms ∙ ap (λ (v : IdealSwitch). v.rooms) c.self.view_is;
+      rooms = c.send.ensures.gone.rooms ∙ c.arrive.ensures.rooms ∙ ap (λ (v : IdealSwitch). v.rooms) c.self.view_is;
     }
