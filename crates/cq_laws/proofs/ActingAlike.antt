@@ -1,5 +1,5 @@
--- Both switches act alike, whatever the limits: with stable matchings, and so with input-best ones. From empty states
--- on they refuse as much at each output, since their admissions are the same.
+-- Both switches act alike, with limits and without: with stable matchings, and so with input-best ones. From empty
+-- states on they refuse as much at each output, since their admissions are the same.
 use Rattle.std.proofs.Common.{◌≡◌, ℕ, List, Option, Result, Ok, sym, ap, ◌∙◌}
 use Rattle.std.specs.List.{AllByRecursion}
 use Rattle.cq_base.specs.declared.cell.Cell.{Cell}
@@ -10,12 +10,15 @@ use Rattle.cq_ideal.specs.LimitedIdeal.{LimitedRan, empty_limited, limited_run}
 use Rattle.cq_ideal.specs.Ranking.{AreForPorts}
 use Rattle.cq_ideal.specs.Refused.{refused_counts, refused_in}
 use Rattle.cq_prefs.specs.Pairing.{IsInputBest, IsStable}
+use Rattle.cq_laws.specs.Agreement.{ActAlikeFromEmptyWithoutLimits, ActAlikeWithoutLimits}
 use Rattle.cq_laws.specs.LimitedAgreement.{ActAlike, ActAlikeFromEmpty, LimitedRunsAlike}
 use Rattle.cq_laws.specs.Fabric.{Fabric}
 use Rattle.cq_laws.specs.LimitedFabric.{LimitedFabricRun, LimitedRecord, empty_limited_fabric}
-use Rattle.cq_laws.proofs.InputBest.{stable_limited_slot, stable_limited_run, stable_limited_stop}
+use Rattle.cq_laws.proofs.InputBest.{stable_slot, stable_run, stable_stop, stable_limited_slot, stable_limited_run, stable_limited_stop}
 use Rattle.cq_laws.proofs.LimitedSlots.{same_limited_slot, same_limited_fault}
 use Rattle.cq_laws.proofs.LimitedWhole.{begin, same_limited_run, same_limited_stop}
+use Rattle.cq_laws.proofs.OneSlot.{same_slot, same_fault}
+use Rattle.cq_laws.proofs.WholeRuns.{same_run, same_stop, run_from_empty, stop_from_empty}
 
 same_admissions : (a b : LimitedRan) (x : Result LimitedRan TagFault) → x ≡ Ok a → x ≡ Ok b →
     a.admissions ≡ b.admissions
@@ -75,4 +78,42 @@ module _ (limits : List (Option ℕ)) (ms : List Machine) where
             let whole = limited_run limits ms 0 traffic (empty_limited ports ranks) in
             ap (λ (admissions : List Admission). refused_counts limits (refused_in admissions))
             (same_admissions _ ran whole alike.ran is);
+      }
+
+-- ## Without limits
+
+module _ (ms : List Machine) where
+  pub stable_alike_without_limits : ActAlikeWithoutLimits IsStable ms
+  stable_alike_without_limits =
+      record {
+        slot = λ slot class_count cells f g ideal r agrees come step.
+            same_slot ms slot class_count cells f g ideal r agrees come step;
+        fault = λ slot cells f ideal fault agrees. same_fault ms slot cells f ideal fault agrees;
+        run = λ slot class_count traffic f g ideal rs agrees come run.
+            same_run ms class_count slot traffic f g ideal rs agrees come run;
+        stop = λ slot class_count traffic f ideal rs fault agrees come run.
+            same_stop ms class_count slot traffic f ideal rs fault agrees come run;
+      }
+
+  pub best_alike_without_limits : ActAlikeWithoutLimits IsInputBest ms
+  best_alike_without_limits =
+      let stable = stable_alike_without_limits in
+      record {
+        slot = λ slot class_count cells f g ideal r agrees come step.
+            stable.slot slot class_count cells f g ideal r agrees come (stable_slot ms slot cells f g r step);
+        fault = stable.fault;
+        run = λ slot class_count traffic f g ideal rs agrees come run.
+            stable.run slot class_count traffic f g ideal rs agrees come (stable_run ms slot traffic f g rs run);
+        stop = λ slot class_count traffic f ideal rs fault agrees come run.
+            stable.stop slot class_count traffic f ideal rs fault agrees come
+            (stable_stop ms slot traffic f rs fault run);
+      }
+
+  pub best_alike_from_empty_without_limits : ActAlikeFromEmptyWithoutLimits IsInputBest ms
+  best_alike_from_empty_without_limits =
+      record {
+        run = λ ports class_count ranks traffic rs g come run.
+            run_from_empty ports ranks ms class_count traffic rs g come (stable_run ms 0 traffic _ g rs run);
+        stop = λ ports class_count ranks traffic rs fault come run.
+            stop_from_empty ports ranks ms class_count traffic rs fault come (stable_stop ms 0 traffic _ rs fault run);
       }

@@ -2,11 +2,6 @@
 use Rattle.std.proofs.Common.{◌≡◌, ℕ, ◌+◌, List, [], ◌∷◌, ◌++◌, length, Option, refl, subst, arith}
 use Rattle.cq_base.specs.declared.cell.Cell.{Cell}
 use Rattle.cq_base.specs.declared.cell.TagFault.{TagFault}
-use Rattle.cq_rank.specs.Machine.{Machine}
-use Rattle.cq_prefs.specs.Orders.{Orders}
-use Rattle.cq_prefs.specs.Pairing.{Partners}
-use Rattle.cq_laws.specs.FabricSlot.{FabricSlot}
-use Rattle.cq_laws.specs.FabricRun.{RunsGoOn, IsFault}
 use Rattle.cq_laws.specs.SlotBySlot.{RunBy, StopBy, GoOn}
 
 module _ {S R : Type 0} (Step : ℕ → List (Option Cell) → S → R → S → Type 0)
@@ -46,8 +41,3 @@ module _ {S R : Type 0} (Step : ℕ → List (Option Cell) → S → R → S →
         slot = λ slot before cells f m g rs r x y. joined slot before (cells ∷ []) f m g rs (r ∷ []) x (g, y, refl);
         stop = stopped;
       }
-
-pub go_on : (MayChoose : Orders → Partners → Type 0) → RunsGoOn MayChoose
-go_on MayChoose =
-    let all = λ (ms : List Machine). all_go_on (FabricSlot MayChoose ms) (IsFault ms) in
-    record { run = λ ms. (all ms).run; slot = λ ms. (all ms).slot; stop = λ ms. (all ms).stop }

@@ -1,5 +1,5 @@
 -- Whole runs of the fabric. The traffic is what arrives in each slot.
-use Rattle.std.specs.Prelude.{◌≡◌, ℕ, ◌+◌, List, [], ◌∷◌, ◌++◌, length, take, Option, Err}
+use Rattle.std.specs.Prelude.{◌≡◌, ℕ, List, take, Option, Err}
 use Rattle.cq_base.specs.Arriving.{Arrival}
 use Rattle.cq_base.specs.declared.cell.Cell.{Cell}
 use Rattle.cq_base.specs.declared.cell.TagFault.{TagFault}
@@ -34,21 +34,6 @@ abbrev pub FabricStops : (Orders → Partners → Type 0) → List Machine → �
     List SlotRecord → TagFault → Type 0
 FabricStops MayChoose ms slot traffic old rs fault =
     StopBy (FabricSlot MayChoose ms) (IsFault ms) slot traffic old rs fault
-
--- runs on end are a run: where one ended another goes on, or one slot more, or a run that stops
-pub record RunsGoOn (MayChoose : Orders → Partners → Type 0) : Type 0 where
-  pub run : (ms : List Machine) (slot : ℕ) (before after : List (List (Option Cell))) (f g h : Fabric)
-      (rs ss : List SlotRecord) →
-      FabricRun MayChoose ms slot before f rs g → FabricRun MayChoose ms (slot + length before) after g ss h →
-      FabricRun MayChoose ms slot (before ++ after) f (rs ++ ss) h
-  pub slot : (ms : List Machine) (slot : ℕ) (before : List (List (Option Cell))) (cells : List (Option Cell))
-      (f g h : Fabric) (rs : List SlotRecord) (r : SlotRecord) →
-      FabricRun MayChoose ms slot before f rs g → FabricSlot MayChoose ms (slot + length before) cells g r h →
-      FabricRun MayChoose ms slot (before ++ cells ∷ []) f (rs ++ r ∷ []) h
-  pub stop : (ms : List Machine) (slot : ℕ) (before after : List (List (Option Cell))) (f g : Fabric)
-      (rs ss : List SlotRecord) (fault : TagFault) →
-      FabricRun MayChoose ms slot before f rs g → FabricStops MayChoose ms (slot + length before) after g ss fault →
-      FabricStops MayChoose ms slot (before ++ after) f (rs ++ ss) fault
 
 -- the first of these records are the whole run, and the others add no departure, no transfer and nothing to the figures
 pub record BeginsWhole (MayChoose : Orders → Partners → Type 0) (ms : List Machine) (came : List Arrival)

@@ -1,20 +1,19 @@
 //! Why the fabric sends what the ideal switch sends. Each law is the contract of a function that does nothing.
-ghost use Rattle.std.specs.Prelude.{◌≡◌, ◌↔◌, ℕ, List, Option, Err, length};
+ghost use Rattle.std.specs.Prelude.{◌↔◌, ℕ, List, Option, length};
 ghost use Rattle.std.specs.List.{AllByRecursion};
 ghost use Rattle.cq_base.specs.declared.cell.Cell.{Cell};
-ghost use Rattle.cq_base.specs.declared.cell.TagFault.{TagFault};
 ghost use Rattle.cq_rank.specs.Machine.{Machine};
 ghost use Rattle.cq_ideal.specs.Admission.{Marked};
 ghost use Rattle.cq_ideal.specs.LimitedIdeal.{empty_limited};
-ghost use Rattle.cq_ideal.specs.Ranking.{ranking, AreForPorts};
-ghost use Rattle.cq_ideal.specs.IdealSlot.{IdealState, ideal_slot};
-ghost use Rattle.cq_ideal.specs.IdealRun.{IsEmptyIdeal, ideal_run, empty_ideal};
+ghost use Rattle.cq_ideal.specs.Ranking.{AreForPorts};
+ghost use Rattle.cq_ideal.specs.IdealSlot.{IdealState};
+ghost use Rattle.cq_ideal.specs.IdealRun.{IsEmptyIdeal, empty_ideal};
 ghost use Rattle.cq_prefs.specs.Pairing.{IsStable, IsInputBest};
 ghost use Rattle.cq_laws.specs.Fabric.{Fabric, empty_fabric, IsEmptyFabric};
 ghost use Rattle.cq_laws.specs.Slack.{HasSlack};
-ghost use Rattle.cq_laws.specs.FabricSlot.{SlotRecord, FabricSlot};
-ghost use Rattle.cq_laws.specs.FabricRun.{FabricRun, FabricStops};
-ghost use Rattle.cq_laws.specs.Agreement.{Agrees, SendsAlike, RunsAlike};
+ghost use Rattle.cq_laws.specs.FabricSlot.{SlotRecord};
+ghost use Rattle.cq_laws.specs.FabricRun.{FabricRun};
+ghost use Rattle.cq_laws.specs.Agreement.{ActAlikeFromEmptyWithoutLimits, ActAlikeWithoutLimits, Agrees};
 ghost use Rattle.cq_laws.specs.LimitedFabric.{LimitedFabricRun, LimitedRecord, empty_limited_fabric};
 ghost use Rattle.cq_laws.specs.LimitedAgreement.{ActAlike, ActAlikeFromEmpty, LimitedAgrees};
 
@@ -24,48 +23,37 @@ ghost use Rattle.cq_laws.specs.LimitedAgreement.{ActAlike, ActAlikeFromEmpty, Li
 pub fn same_departures()
     ensures limited { (limits : List (Option ℕ)) (ms : List Machine) → ActAlike IsInputBest limits ms }
     ensures limited_runs { (limits : List (Option ℕ)) (ms : List Machine) → ActAlikeFromEmpty IsInputBest limits ms }
-    // the same of switches that know no limits: a slot, from any states that agree
-    ensures slot { (ms : List Machine) (slot class_count : ℕ) (cells : List (Option Cell)) (f g : Fabric) (ideal : IdealState) (r : SlotRecord) →
-        Agrees slot f ideal → AreForPorts (length f.inputs) class_count cells →
-        FabricSlot IsInputBest ms slot cells f r g → SendsAlike ms slot cells ideal r.gone g }
-    ensures fault { (ms : List Machine) (slot : ℕ) (cells : List (Option Cell)) (f : Fabric) (ideal : IdealState) (fault : TagFault) →
-        Agrees slot f ideal → (ideal_slot ms slot cells ideal ≡ Err fault) ↔ (ranking ms slot 0 cells f.ranks ≡ Err fault) }
-    // whole runs, from empty states
-    ensures run { (ms : List Machine) (ports class_count : ℕ) (ranks : List (List ℕ)) (traffic : List (List (Option Cell))) (rs : List SlotRecord) (g : Fabric) →
-        AllByRecursion (AreForPorts ports class_count) traffic →
-        FabricRun IsInputBest ms 0 traffic (empty_fabric ports ranks) rs g → RunsAlike ms 0 traffic (empty_ideal ports ranks) rs g }
-    ensures stop { (ms : List Machine) (ports class_count : ℕ) (ranks : List (List ℕ)) (traffic : List (List (Option Cell))) (rs : List SlotRecord) (fault : TagFault) →
-        AllByRecursion (AreForPorts ports class_count) traffic →
-        FabricStops IsInputBest ms 0 traffic (empty_fabric ports ranks) rs fault → ideal_run ms 0 traffic (empty_ideal ports ranks) ≡ Err fault }
+    // the same of switches that know no limits
+    ensures without_limits { (ms : List Machine) → ActAlikeWithoutLimits IsInputBest ms }
+    ensures runs_without_limits { (ms : List Machine) → ActAlikeFromEmptyWithoutLimits IsInputBest ms }
 {}
 
 /// The same with any stable matchings, input-best or not, and from any states that agree; and after the
 /// arrivals of each slot no cell's input thread exceeds its output cushion.
 pub fn any_stable_matching()
     ensures limited { (limits : List (Option ℕ)) (ms : List Machine) → ActAlike IsStable limits ms }
-    ensures limited_slack { (limits : List (Option ℕ)) (ms : List Machine) (slot class_count : ℕ) (traffic : List (List (Option Cell))) (f g : Marked Fabric) (ideal : Marked IdealState) (rs : List LimitedRecord) →
+    ensures limited_slack { (limits : List (Option ℕ)) (ms : List Machine) (slot class_count : ℕ)
+        (traffic : List (List (Option Cell))) (f g : Marked Fabric) (ideal : Marked IdealState)
+        (rs : List LimitedRecord) →
         LimitedAgrees slot f ideal → AllByRecursion (AreForPorts (length f.state.inputs) class_count) traffic →
-        LimitedFabricRun IsStable limits ms slot traffic f rs g → AllByRecursion (λ r. HasSlack 0 r.of_slot.arrived) rs }
-    ensures limited_begin { (ports : ℕ) (ranks : List (List ℕ)) → LimitedAgrees 0 (empty_limited_fabric ports ranks) (empty_limited ports ranks) }
+        LimitedFabricRun IsStable limits ms slot traffic f rs g →
+        AllByRecursion (λ r. HasSlack 0 r.of_slot.arrived) rs }
+    ensures limited_begin { (ports : ℕ) (ranks : List (List ℕ)) →
+        LimitedAgrees 0 (empty_limited_fabric ports ranks) (empty_limited ports ranks) }
     // the same of switches that know no limits
-    ensures slot { (ms : List Machine) (slot class_count : ℕ) (cells : List (Option Cell)) (f g : Fabric) (ideal : IdealState) (r : SlotRecord) →
-        Agrees slot f ideal → AreForPorts (length f.inputs) class_count cells →
-        FabricSlot IsStable ms slot cells f r g → SendsAlike ms slot cells ideal r.gone g }
-    ensures run { (ms : List Machine) (slot class_count : ℕ) (traffic : List (List (Option Cell))) (f g : Fabric) (ideal : IdealState) (rs : List SlotRecord) →
-        Agrees slot f ideal → AllByRecursion (AreForPorts (length f.inputs) class_count) traffic →
-        FabricRun IsStable ms slot traffic f rs g → RunsAlike ms slot traffic ideal rs g }
-    ensures stop { (ms : List Machine) (slot class_count : ℕ) (traffic : List (List (Option Cell))) (f : Fabric) (ideal : IdealState) (rs : List SlotRecord) (fault : TagFault) →
-        Agrees slot f ideal → AllByRecursion (AreForPorts (length f.inputs) class_count) traffic →
-        FabricStops IsStable ms slot traffic f rs fault → ideal_run ms slot traffic ideal ≡ Err fault }
-    ensures slack { (ms : List Machine) (slot class_count : ℕ) (traffic : List (List (Option Cell))) (f g : Fabric) (ideal : IdealState) (rs : List SlotRecord) →
+    ensures without_limits { (ms : List Machine) → ActAlikeWithoutLimits IsStable ms }
+    ensures slack { (ms : List Machine) (slot class_count : ℕ) (traffic : List (List (Option Cell))) (f g : Fabric)
+        (ideal : IdealState) (rs : List SlotRecord) →
         Agrees slot f ideal → AllByRecursion (AreForPorts (length f.inputs) class_count) traffic →
         FabricRun IsStable ms slot traffic f rs g → AllByRecursion (λ r. HasSlack 0 r.arrived) rs }
     // the states before the first slot agree
-    ensures begin { (ports : ℕ) (ranks : List (List ℕ)) → Agrees 0 (empty_fabric ports ranks) (empty_ideal ports ranks) }
+    ensures begin { (ports : ℕ) (ranks : List (List ℕ)) →
+        Agrees 0 (empty_fabric ports ranks) (empty_ideal ports ranks) }
 {}
 
 /// Of two states that agree, each has cells where the other has. So a run of the fabric ends with cells left
 /// exactly where that of the ideal switch does.
 pub fn empty_together()
-    ensures { (slot : ℕ) (f : Fabric) (ideal : IdealState) → Agrees slot f ideal → (IsEmptyFabric f) ↔ (IsEmptyIdeal ideal) }
+    ensures { (slot : ℕ) (f : Fabric) (ideal : IdealState) →
+        Agrees slot f ideal → (IsEmptyFabric f) ↔ (IsEmptyIdeal ideal) }
 {}

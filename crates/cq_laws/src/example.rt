@@ -14,9 +14,12 @@ ghost use Rattle.cq_laws.specs.Example.{from_input2, for_output1, three, three_e
 /// were worked out by hand are the run with input-best matchings; the ideal switch sends what they say, and
 /// their transfers and figures are those that were worked out too.
 pub fn worked_run()
-    ensures run { FabricRun IsInputBest first_come_all 0 three_slots (empty_fabric 3 three_empty) worked_records (empty_fabric 3 three_empty) }
-    ensures sends { ideal_run first_come_all 0 three_slots (empty_ideal 3 three_empty) ≡ Ok (record { gone = gone_in worked_records; after = empty_ideal 3 three_empty }) }
-    ensures goes_ahead { list_arrived (three [] [] (from_input2 ∷ []) [] [] []) (Some for_output1) (from_input2 ∷ []) ≡ for_output1 ∷ from_input2 ∷ [] }
+    ensures run { FabricRun IsInputBest first_come_all 0 three_slots (empty_fabric 3 three_empty) worked_records
+        (empty_fabric 3 three_empty) }
+    ensures sends { ideal_run first_come_all 0 three_slots (empty_ideal 3 three_empty)
+        ≡ Ok (record { gone = gone_in worked_records; after = empty_ideal 3 three_empty }) }
+    ensures goes_ahead { list_arrived (three [] [] (from_input2 ∷ []) [] [] []) (Some for_output1) (from_input2 ∷ [])
+        ≡ for_output1 ∷ from_input2 ∷ [] }
     ensures transfers { transfers_of_run worked_records ≡ worked_transfers }
     ensures figures { figures_of 3 worked_records ≡ worked_figures }
 {}

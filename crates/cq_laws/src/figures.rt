@@ -6,6 +6,7 @@ ghost use Rattle.cq_laws.specs.Measures.{figures_of, figures_after, no_figures};
 /// The figures of a run are those before its first slot, with the record of each slot added in turn.
 pub fn figures_add_up()
     ensures none { (ports : ℕ) → figures_of ports [] ≡ no_figures ports }
-    ensures one_more { (ports : ℕ) (rs : List SlotRecord) (r : SlotRecord) → figures_of ports (rs ++ r ∷ []) ≡ figures_after (figures_of ports rs) r }
+    ensures one_more { (ports : ℕ) (rs : List SlotRecord) (r : SlotRecord) →
+        figures_of ports (rs ++ r ∷ []) ≡ figures_after (figures_of ports rs) r }
     ensures fold { (ports : ℕ) (rs : List SlotRecord) → figures_of ports rs ≡ fold figures_after (no_figures ports) rs }
 {}

@@ -27,9 +27,9 @@ pub struct Frozen {
     pub buffers: Sequence<Sequence<Queued>>,
 }
 
-/// A fabric whose lists and buffers stand in order, whose keys differ, and whose waiting cells have slack 1 at least, is in
-/// step with an ideal switch: with the one that has all its cells, in the order of their keys, and with no other. This function
-/// does nothing: its contract is the claim.
+/// A fabric whose lists and buffers stand in order, whose keys differ, and whose waiting cells have slack 1 at least,
+/// is in step with an ideal switch: with the one that has all its cells, in the order of their keys, and with no other.
+/// This function does nothing: its contract is the claim.
 pub fn sound_fabrics_are_in_step()
     ensures agrees { (slot : ℕ) (f : Fabric) → IsSoundFabric slot f → Agrees slot f (ideal_of f) }
     ensures sound { (slot : ℕ) (f : Fabric) (ideal : IdealState) → Agrees slot f ideal → IsSoundFabric slot f }

@@ -16,14 +16,21 @@ ghost use Rattle.cq_laws.specs.Quiet.{KeepLaws, idled, idled_for, quiet_slot, qu
 /// figure. They only tell the rank machines that their outputs were idle.
 pub fn quiet_slots_add_nothing()
     ensures slot { (ms : List Machine) (slot ports : ℕ) (ranks : List (List ℕ)) →
-        FabricSlot IsInputBest ms slot no_arrivals (empty_fabric ports ranks) (quiet_slot ms slot ports ranks) (empty_fabric ports (idled ms ports ranks)) }
+        FabricSlot IsInputBest ms slot no_arrivals (empty_fabric ports ranks) (quiet_slot ms slot ports ranks)
+        (empty_fabric ports (idled ms ports ranks)) }
     ensures run { (ms : List Machine) (count slot ports : ℕ) (ranks : List (List ℕ)) →
-        FabricRun IsInputBest ms slot (replicate count no_arrivals) (empty_fabric ports ranks) (quiet_slots ms count slot ports ranks) (empty_fabric ports (idled_for ms count ports ranks)) }
-    ensures departures { (ms : List Machine) (ports count slot : ℕ) (ranks : List (List ℕ)) → departures_of slot (gone_in (quiet_slots ms count slot ports ranks)) ≡ [] }
-    ensures transfers { (ms : List Machine) (ports count slot : ℕ) (ranks : List (List ℕ)) → transfers_of_run (quiet_slots ms count slot ports ranks) ≡ [] }
-    ensures figures { (ms : List Machine) (ports count slot : ℕ) (ranks : List (List ℕ)) (x : Figures) → fold figures_after x (quiet_slots ms count slot ports ranks) ≡ x }
+        FabricRun IsInputBest ms slot (replicate count no_arrivals) (empty_fabric ports ranks)
+        (quiet_slots ms count slot ports ranks) (empty_fabric ports (idled_for ms count ports ranks)) }
+    ensures departures { (ms : List Machine) (ports count slot : ℕ) (ranks : List (List ℕ)) →
+        departures_of slot (gone_in (quiet_slots ms count slot ports ranks)) ≡ [] }
+    ensures transfers { (ms : List Machine) (ports count slot : ℕ) (ranks : List (List ℕ)) →
+        transfers_of_run (quiet_slots ms count slot ports ranks) ≡ [] }
+    ensures figures { (ms : List Machine) (ports count slot : ℕ) (ranks : List (List ℕ)) (x : Figures) →
+        fold figures_after x (quiet_slots ms count slot ports ranks) ≡ x }
     // many are one, for machines that keep the laws
-    ensures idle { (ms : List Machine) (ports count : ℕ) (ranks : List (List ℕ)) → KeepLaws ms ranks → idled_for ms (count + 1) ports ranks ≡ idled ms ports ranks }
+    ensures idle { (ms : List Machine) (ports count : ℕ) (ranks : List (List ℕ)) →
+        KeepLaws ms ranks → idled_for ms (count + 1) ports ranks ≡ idled ms ports ranks }
     // each state without cells is such a one
-    ensures empty { (f : Fabric) → IsEmptyFabric f → length f.buffers ≡ length f.inputs → f ≡ empty_fabric (length f.inputs) f.ranks }
+    ensures empty { (f : Fabric) →
+        IsEmptyFabric f → length f.buffers ≡ length f.inputs → f ≡ empty_fabric (length f.inputs) f.ranks }
 {}

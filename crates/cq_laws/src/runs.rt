@@ -10,57 +10,60 @@ ghost use Rattle.cq_prefs.specs.Moves.{transfers_of};
 ghost use Rattle.cq_prefs.specs.Pairing.{IsStable, IsInputBest, Partners};
 ghost use Rattle.cq_laws.specs.Fabric.{Fabric};
 ghost use Rattle.cq_laws.specs.FabricSlot.{SlotRecord, FabricSlot};
-ghost use Rattle.cq_laws.specs.FabricRun.{FabricRun, FabricStops, RunsGoOn, WholeRun};
+ghost use Rattle.cq_laws.specs.FabricRun.{FabricRun, FabricStops, IsFault, WholeRun};
 ghost use Rattle.cq_laws.specs.LimitedFabric.{IsLimitedFault, LimitedFabricSlot};
 ghost use Rattle.cq_laws.specs.SlotBySlot.{GoOn, HasParts, IsOneRun};
 
 /// A state, its marks and what arrives leave one run with input-best matchings, if there is one: its records,
 /// and its end or its tag fault.
 pub fn one_run()
-    ensures limited { (limits : List (Option ℕ)) (ms : List Machine) → IsOneRun (LimitedFabricSlot IsInputBest limits ms) (IsLimitedFault limits ms) }
+    ensures limited { (limits : List (Option ℕ)) (ms : List Machine) →
+        IsOneRun (LimitedFabricSlot IsInputBest limits ms) (IsLimitedFault limits ms) }
     // the same of a fabric that knows no limits
-    ensures slot { (ms : List Machine) (slot : ℕ) (cells : List (Option Cell)) (f g h : Fabric) (r s : SlotRecord) →
-        FabricSlot IsInputBest ms slot cells f r g → FabricSlot IsInputBest ms slot cells f s h → (r ≡ s) × (g ≡ h) }
-    ensures run { (ms : List Machine) (slot : ℕ) (traffic : List (List (Option Cell))) (f g h : Fabric) (rs ss : List SlotRecord) →
-        FabricRun IsInputBest ms slot traffic f rs g → FabricRun IsInputBest ms slot traffic f ss h → (rs ≡ ss) × (g ≡ h) }
-    ensures stop { (ms : List Machine) (slot : ℕ) (traffic : List (List (Option Cell))) (f : Fabric) (rs ss : List SlotRecord) (u v : TagFault) →
-        FabricStops IsInputBest ms slot traffic f rs u → FabricStops IsInputBest ms slot traffic f ss v → (rs ≡ ss) × (u ≡ v) }
-    ensures never_both { (ms : List Machine) (slot : ℕ) (traffic : List (List (Option Cell))) (f g : Fabric) (rs ss : List SlotRecord) (fault : TagFault) →
-        FabricRun IsInputBest ms slot traffic f rs g → FabricStops IsInputBest ms slot traffic f ss fault → ⊥ }
+    ensures without_limits { (ms : List Machine) → IsOneRun (FabricSlot IsInputBest ms) (IsFault ms) }
 {}
 
 /// What is said of stable matchings holds of input-best ones.
 pub fn input_best_is_stable()
     ensures slot { (ms : List Machine) (slot : ℕ) (cells : List (Option Cell)) (f g : Fabric) (r : SlotRecord) →
         FabricSlot IsInputBest ms slot cells f r g → FabricSlot IsStable ms slot cells f r g }
-    ensures run { (ms : List Machine) (slot : ℕ) (traffic : List (List (Option Cell))) (f g : Fabric) (rs : List SlotRecord) →
+    ensures run { (ms : List Machine) (slot : ℕ) (traffic : List (List (Option Cell))) (f g : Fabric)
+        (rs : List SlotRecord) →
         FabricRun IsInputBest ms slot traffic f rs g → FabricRun IsStable ms slot traffic f rs g }
     ensures whole { (ms : List Machine) (came : List Arrival) (f g : Fabric) (rs : List SlotRecord) →
         WholeRun IsInputBest ms came f rs g → WholeRun IsStable ms came f rs g }
-    ensures stop { (ms : List Machine) (slot : ℕ) (traffic : List (List (Option Cell))) (f : Fabric) (rs : List SlotRecord) (fault : TagFault) →
+    ensures stop { (ms : List Machine) (slot : ℕ) (traffic : List (List (Option Cell))) (f : Fabric)
+        (rs : List SlotRecord) (fault : TagFault) →
         FabricStops IsInputBest ms slot traffic f rs fault → FabricStops IsStable ms slot traffic f rs fault }
 {}
 
 /// Where a run ended another goes on, whether its matchings are input-best or any stable ones.
 pub fn runs_go_on()
-    ensures limited_input_best { (limits : List (Option ℕ)) (ms : List Machine) → GoOn (LimitedFabricSlot IsInputBest limits ms) (IsLimitedFault limits ms) }
-    ensures limited_stable { (limits : List (Option ℕ)) (ms : List Machine) → GoOn (LimitedFabricSlot IsStable limits ms) (IsLimitedFault limits ms) }
+    ensures limited_input_best { (limits : List (Option ℕ)) (ms : List Machine) →
+        GoOn (LimitedFabricSlot IsInputBest limits ms) (IsLimitedFault limits ms) }
+    ensures limited_stable { (limits : List (Option ℕ)) (ms : List Machine) →
+        GoOn (LimitedFabricSlot IsStable limits ms) (IsLimitedFault limits ms) }
     // the same of a fabric that knows no limits
-    ensures input_best { RunsGoOn IsInputBest }
-    ensures stable { RunsGoOn IsStable }
+    ensures input_best { (ms : List Machine) → GoOn (FabricSlot IsInputBest ms) (IsFault ms) }
+    ensures stable { (ms : List Machine) → GoOn (FabricSlot IsStable ms) (IsFault ms) }
 {}
 
 /// The first slots of a run are a run, and the others go on from where that ended.
 pub fn runs_have_parts()
-    ensures input_best { (ms : List Machine) (slot : ℕ) (before after : List (List (Option Cell))) (f h : Fabric) (rs : List SlotRecord) →
-        FabricRun IsInputBest ms slot (before ++ after) f rs h → HasParts (FabricSlot IsInputBest ms) slot before after f rs h }
-    ensures stable { (ms : List Machine) (slot : ℕ) (before after : List (List (Option Cell))) (f h : Fabric) (rs : List SlotRecord) →
-        FabricRun IsStable ms slot (before ++ after) f rs h → HasParts (FabricSlot IsStable ms) slot before after f rs h }
+    ensures input_best { (ms : List Machine) (slot : ℕ) (before after : List (List (Option Cell))) (f h : Fabric)
+        (rs : List SlotRecord) →
+        FabricRun IsInputBest ms slot (before ++ after) f rs h →
+        HasParts (FabricSlot IsInputBest ms) slot before after f rs h }
+    ensures stable { (ms : List Machine) (slot : ℕ) (before after : List (List (Option Cell))) (f h : Fabric)
+        (rs : List SlotRecord) →
+        FabricRun IsStable ms slot (before ++ after) f rs h →
+        HasParts (FabricSlot IsStable ms) slot before after f rs h }
 {}
 
 /// The transfers of a phase tell its matching: where two stable matchings of the same lists move the same cells,
 /// they are one.
 pub fn transfers_tell_the_matching()
-    ensures { (lists : List (List Queued)) (m n : Partners) (slot phase : ℕ) → IsStable (orders_of lists) m → IsStable (orders_of lists) n →
+    ensures { (lists : List (List Queued)) (m n : Partners) (slot phase : ℕ) →
+        IsStable (orders_of lists) m → IsStable (orders_of lists) n →
         transfers_of m lists slot phase ≡ transfers_of n lists slot phase → m ≡ n }
 {}

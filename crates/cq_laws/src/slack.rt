@@ -13,7 +13,8 @@ ghost use Rattle.cq_laws.specs.Slack.{EachArrivesOrFalls, EachRises, EachFalls, 
 
 /// A cell that arrives has slack 0 at least, and arrivals lower the slack of every other by one at most.
 pub fn slack_after_arrivals()
-    ensures { (ms : List Machine) (slot : ℕ) (cells : List (Option Cell)) (came : List (Option Queued)) (old new : Fabric) →
+    ensures { (ms : List Machine) (slot : ℕ) (cells : List (Option Cell)) (came : List (Option Queued))
+        (old new : Fabric) →
         Arrives ms slot cells came old new → EachArrivesOrFalls came old new }
 {}
 
