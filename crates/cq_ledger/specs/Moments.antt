@@ -1,14 +1,15 @@
 -- A ledger between two steps, and what its rule comes to in the words of proposals.
-use Rattle.std.specs.Prelude.{ℕ, suc, ◌≡◌, ◌<◌, ◌≤◌, List, length, sum, Some, slice_index}
+use Rattle.std.specs.Prelude.{ℕ, suc, ◌≡◌, ◌<◌, ◌≤◌, List, length, sum, Some, slice_index, slice_set}
 use Rattle.std.specs.List.{sum_by}
 use Rattle.cq_prefs.specs.LeastFirst.{best}
 use Rattle.cq_prefs.specs.Orders.{Orders, ports, outputs_of, place_of, position_of}
 use Rattle.cq_prefs.specs.Pairing.{partner_of}
-use Rattle.cq_prefs.specs.Proposals.{State, next_place, Holds, state_after, AreEvents}
+use Rattle.cq_prefs.specs.Proposals.{State, next_place, Holds, IsFree, outcome_of, propose, state_after, AreEvents}
 use Rattle.cq_ledger.specs.declared.view.View.{View}
 use Rattle.cq_ledger.specs.Plays.{IsWord}
 use Rattle.cq_ledger.specs.Rule.{IsLedger}
 use Rattle.cq_ledger.specs.Shown.{core_state}
+use Rattle.cq_ledger.specs.Steps.{answer_of, output_at, proposed, words_proposed}
 use Rattle.cq_ledger.specs.Views.{Sits, IsUnclaimed, IsInAHand}
 
 -- words and views that meet the rule, and the view of one of the seats
@@ -16,6 +17,16 @@ pub record IsMoment (o : Orders) (words : List ℕ) (views : List View) (id : �
   pub rule : IsLedger o words views
   pub sits : Sits views id v
   pub offers : v.offers ≡ o
+
+-- A proposal of input i at place p, by the seat with this view, is one event of the proposal core: the input is free in
+-- the state that words and views show, they show the state after its proposal then, and the answer is what that comes
+-- to.
+pub record IsEvent (o : Orders) (words : List ℕ) (views : List View) (id i p : ℕ) (v : View) : Type 0 where
+  pub free : IsFree o (core_state o words views) i
+  pub state : core_state o (words_proposed o words i p)
+      (slice_set views id (proposed v i p (slice_index words (suc (output_at o i p)))))
+      ≡ propose o (core_state o words views) i
+  pub outcome : answer_of o i p (slice_index words (suc (output_at o i p))) ≡ outcome_of o (core_state o words views) i
 
 -- proposals of free inputs reach this state, and there were so many
 pub record IsReachedBy (o : Orders) (s : State) (made : ℕ) : Type 0 where

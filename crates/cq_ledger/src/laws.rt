@@ -5,12 +5,12 @@
 //! step is atomic, and the rule holds between any two. So the laws hold of every run of any number of threads.
 ghost use Rattle.std.specs.Prelude.{◌≡◌, ◌≢◌, ℕ, suc, ◌<◌, ◌≤◌, ◌++◌, List, [], ◌∷◌, Some, None, slice_index, slice_set};
 ghost use Rattle.cq_prefs.specs.Orders.{Orders, AreOffers, ports};
-ghost use Rattle.cq_prefs.specs.Proposals.{IsFree, outcome_of, propose, start};
+ghost use Rattle.cq_prefs.specs.Proposals.{start};
 ghost use Rattle.cq_ledger.specs.declared.view.View.{View};
-ghost use Rattle.cq_ledger.specs.Moments.{IsMoment, ShowsProposals};
+ghost use Rattle.cq_ledger.specs.Moments.{IsEvent, IsMoment, ShowsProposals};
 ghost use Rattle.cq_ledger.specs.Rule.{IsLedger};
 ghost use Rattle.cq_ledger.specs.Shown.{core_state};
-ghost use Rattle.cq_ledger.specs.Steps.{answer_of, blank, claim_refused, claim_taken, first_words, joined, output_at, proposed, spent, words_claimed, words_proposed};
+ghost use Rattle.cq_ledger.specs.Steps.{blank, claim_refused, claim_taken, first_words, joined, output_at, proposed, spent, words_claimed, words_proposed};
 ghost use Rattle.cq_ledger.specs.Views.{IsClaimed, IsUnclaimed, Sits};
 
 /// What each kind of step does to the state of the proposal core that words and views show, wherever the rule
@@ -19,34 +19,39 @@ ghost use Rattle.cq_ledger.specs.Views.{IsClaimed, IsUnclaimed, Sits};
 /// A claim, whether it finds the input claimed or not, a split and a join leave the state as it is.
 pub fn step_is_event()
     ensures start { (o : Orders) → AreOffers o → ports o ≤ 64 → core_state o (first_words o) (blank o ∷ []) ≡ start o }
-    ensures proposal_free { (o : Orders) (words : List ℕ) (views : List View) (id i p : ℕ) (v : View) → IsMoment o words views id v → v.hand ≡ Some (i, p) →
-        IsFree o (core_state o words views) i }
-    ensures proposal { (o : Orders) (words : List ℕ) (views : List View) (id i p : ℕ) (v : View) → IsMoment o words views id v → v.hand ≡ Some (i, p) →
-        core_state o (words_proposed o words i p) (slice_set views id (proposed v i p (slice_index words (suc (output_at o i p))))) ≡ propose o (core_state o words views) i }
-    ensures outcome { (o : Orders) (words : List ℕ) (views : List View) (id i p : ℕ) (v : View) → IsMoment o words views id v → v.hand ≡ Some (i, p) →
-        answer_of o i p (slice_index words (suc (output_at o i p))) ≡ outcome_of o (core_state o words views) i }
-    ensures claim_taken { (o : Orders) (words : List ℕ) (views : List View) (id i : ℕ) (v : View) → IsMoment o words views id v → v.hand ≡ None → i < ports o → IsUnclaimed words i →
+    ensures proposal { (o : Orders) (words : List ℕ) (views : List View) (id i p : ℕ) (v : View) →
+        IsMoment o words views id v → v.hand ≡ Some (i, p) → IsEvent o words views id i p v }
+    ensures claim_taken { (o : Orders) (words : List ℕ) (views : List View) (id i : ℕ) (v : View) →
+        IsMoment o words views id v → v.hand ≡ None → i < ports o → IsUnclaimed words i →
         core_state o (words_claimed words i) (slice_set views id (claim_taken v i)) ≡ core_state o words views }
-    ensures claim_refused { (o : Orders) (words : List ℕ) (views : List View) (id i : ℕ) (v : View) → IsMoment o words views id v → IsClaimed words i →
+    ensures claim_refused { (o : Orders) (words : List ℕ) (views : List View) (id i : ℕ) (v : View) →
+        IsMoment o words views id v → IsClaimed words i →
         core_state o (words_claimed words i) (slice_set views id (claim_refused v i)) ≡ core_state o words views }
-    ensures split { (o : Orders) (words : List ℕ) (views : List View) (id : ℕ) (v : View) → IsMoment o words views id v →
+    ensures split { (o : Orders) (words : List ℕ) (views : List View) (id : ℕ) (v : View) →
+        IsMoment o words views id v →
         core_state o words (slice_set views id v ++ blank o ∷ []) ≡ core_state o words views }
-    ensures join { (o : Orders) (words : List ℕ) (views : List View) (id other : ℕ) (v w : View) → IsMoment o words views id v → Sits views other w → other ≢ id → v.hand ≡ None → w.hand ≡ None →
+    ensures join { (o : Orders) (words : List ℕ) (views : List View) (id other : ℕ) (v w : View) →
+        IsMoment o words views id v → Sits views other w → other ≢ id → v.hand ≡ None → w.hand ≡ None →
         core_state o words (slice_set (slice_set views id (joined v w)) other spent) ≡ core_state o words views }
 {}
 
 /// Each kind of step keeps the rule.
 pub fn steps_keep_the_rule()
     ensures start { (o : Orders) → AreOffers o → ports o ≤ 64 → IsLedger o (first_words o) (blank o ∷ []) }
-    ensures proposal { (o : Orders) (words : List ℕ) (views : List View) (id i p : ℕ) (v : View) → IsMoment o words views id v → v.hand ≡ Some (i, p) →
-        IsLedger o (words_proposed o words i p) (slice_set views id (proposed v i p (slice_index words (suc (output_at o i p))))) }
-    ensures claim_taken { (o : Orders) (words : List ℕ) (views : List View) (id i : ℕ) (v : View) → IsMoment o words views id v → v.hand ≡ None → i < ports o → IsUnclaimed words i →
+    ensures proposal { (o : Orders) (words : List ℕ) (views : List View) (id i p : ℕ) (v : View) →
+        IsMoment o words views id v → v.hand ≡ Some (i, p) →
+        IsLedger o (words_proposed o words i p)
+        (slice_set views id (proposed v i p (slice_index words (suc (output_at o i p))))) }
+    ensures claim_taken { (o : Orders) (words : List ℕ) (views : List View) (id i : ℕ) (v : View) →
+        IsMoment o words views id v → v.hand ≡ None → i < ports o → IsUnclaimed words i →
         IsLedger o (words_claimed words i) (slice_set views id (claim_taken v i)) }
-    ensures claim_refused { (o : Orders) (words : List ℕ) (views : List View) (id i : ℕ) (v : View) → IsMoment o words views id v → IsClaimed words i →
+    ensures claim_refused { (o : Orders) (words : List ℕ) (views : List View) (id i : ℕ) (v : View) →
+        IsMoment o words views id v → IsClaimed words i →
         IsLedger o (words_claimed words i) (slice_set views id (claim_refused v i)) }
-    ensures split { (o : Orders) (words : List ℕ) (views : List View) (id : ℕ) (v : View) → IsMoment o words views id v →
-        IsLedger o words (slice_set views id v ++ blank o ∷ []) }
-    ensures join { (o : Orders) (words : List ℕ) (views : List View) (id other : ℕ) (v w : View) → IsMoment o words views id v → Sits views other w → other ≢ id → v.hand ≡ None → w.hand ≡ None →
+    ensures split { (o : Orders) (words : List ℕ) (views : List View) (id : ℕ) (v : View) →
+        IsMoment o words views id v → IsLedger o words (slice_set views id v ++ blank o ∷ []) }
+    ensures join { (o : Orders) (words : List ℕ) (views : List View) (id other : ℕ) (v w : View) →
+        IsMoment o words views id v → Sits views other w → other ≢ id → v.hand ≡ None → w.hand ≡ None →
         IsLedger o words (slice_set (slice_set views id (joined v w)) other spent) }
 {}
 
@@ -56,5 +61,6 @@ pub fn steps_keep_the_rule()
 /// asked holds the input or one that it prefers, and none that it prefers to its partner in the matching that is
 /// best for the inputs.
 pub fn rule_shows_proposals()
-    ensures { (o : Orders) (words : List ℕ) (views : List View) → IsLedger o words views → ShowsProposals o words views }
+    ensures { (o : Orders) (words : List ℕ) (views : List View) →
+        IsLedger o words views → ShowsProposals o words views }
 {}

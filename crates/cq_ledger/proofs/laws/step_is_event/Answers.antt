@@ -10,9 +10,11 @@ pub returns : goal.returns
 returns c =
     record {
       start = start-shows;
-      proposal_free = λ o words views id i p v m h. proposal-free o words views m.rule id v m.sits i p h m.offers;
-      proposal = λ o words views id i p v m h. proposal-shows o words views m.rule id v m.sits i p h m.offers;
-      outcome = λ o words views id i p v m h. proposal-outcome o words views m.rule id v m.sits i p h m.offers;
+      proposal = λ o words views id i p v m h. record {
+        free = proposal-free o words views m.rule id v m.sits i p h m.offers;
+        state = proposal-shows o words views m.rule id v m.sits i p h m.offers;
+        outcome = proposal-outcome o words views m.rule id v m.sits i p h m.offers;
+      };
       claim_taken =
           λ o words views id i v m h r clear. taken-shows o words views m.rule id v m.sits i r clear h m.offers;
       claim_refused = λ o words views id i v m claimed. refused-shows o words views m.rule id v m.sits i claimed;
