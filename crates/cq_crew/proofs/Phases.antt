@@ -1,13 +1,13 @@
 -- What closing a ledger says of the phase, and what a core says that has settled.
-use Rattle.std.proofs.Common.{◌≡◌, ◌*◌, ◌≤◌, sym, ◌∙◌, ap, arith, subst}
+use Rattle.std.proofs.Common.{◌≡◌, ◌*◌, ◌≤◌, ◌∙◌, ap, arith, subst}
 use Rattle.cq_prefs.specs.Orders.{Orders, AreOffers, ports}
-use Rattle.cq_prefs.specs.Pairing.{Partners, IsInputBest, proposals}
+use Rattle.cq_prefs.specs.Pairing.{IsInputBest, proposals}
 use Rattle.cq_prefs.specs.declared.outcome.Phase.{Phase}
 use Rattle.cq_ledger.specs.Plays.{IsFew}
 use Rattle.cq_ledger.specs.Seats.{LedgerState, SeatState, IsSeatOf}
 use Rattle.cq_pair.specs.Progress.{Progress, IsReached}
 use Rattle.cq_pair.proofs.Reached.{made-most}
-use Rattle.cq_crew.specs.Settling.{IsBestKept, IsBestPhase}
+use Rattle.cq_crew.specs.Settling.{IsBestAfter, IsBestPhase}
 
 pub best-closed : (o : Orders) (l : LedgerState) (s : SeatState) (phase : Phase) → l.offers ≡ o → IsSeatOf l s →
     IsFew s.view → IsInputBest l.offers phase.matching → phase.proposals ≡ proposals l.offers phase.matching →
@@ -24,16 +24,5 @@ best-closed o l s phase same of few is_best counted made =
     }
 
 pub best-kept : (o : Orders) → AreOffers o → (c : Progress) → IsReached o c → IsInputBest o c.matching →
-    c.made ≡ proposals o c.matching → IsBestKept o c
+    c.made ≡ proposals o c.matching → IsBestAfter o c.made c.matching
 best-kept o v c reached is_best counted = record { best = is_best; count = counted; few = made-most o v c reached }
-
-pub best-settled : (o : Orders) (c : Progress) (phase : Phase) → phase.matching ≡ c.matching →
-    phase.proposals ≡ c.made → IsBestKept o c → IsBestPhase o phase
-best-settled o c phase matching made kept =
-    let most = kept.few in
-    let Q : Partners → Type 0 = λ m. IsInputBest o m in
-    record {
-      best = subst Q (sym matching) kept.best;
-      count = made ∙ kept.count ∙ ap (proposals o) (sym matching);
-      few = omega arith;
-    }

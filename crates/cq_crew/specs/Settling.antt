@@ -1,10 +1,9 @@
 -- A phase that was settled, and how many workers are used for it.
 use Rattle.std.specs.Prelude.{ℕ, ◌≡◌, ◌≤◌, ◌*◌, min, length}
 use Rattle.cq_prefs.specs.Orders.{Orders, ports}
-use Rattle.cq_prefs.specs.Pairing.{IsInputBest, proposals}
+use Rattle.cq_prefs.specs.Pairing.{IsInputBest, Partners, proposals}
 use Rattle.cq_prefs.specs.declared.outcome.Phase.{Phase}
 use Rattle.cq_pair.specs.FreeInputs.{inputs_with_offers}
-use Rattle.cq_pair.specs.Progress.{Progress}
 use Rattle.cq_crew.specs.declared.settled.Settled.{Settled}
 use Rattle.cq_crew.specs.declared.settled.Settled.TheVariants.{Shared, Alone}
 
@@ -18,17 +17,15 @@ abbrev pub IsShared : Settled → Type 0
 IsShared (Shared phase) = Unit {0}
 IsShared (Alone phase) = ⊥
 
--- the matching that is best for the inputs, with its number of proposals: never more than the number of ports squared
-pub record IsBestPhase (o : Orders) (phase : Phase) : Type 0 where
-  pub best : IsInputBest o phase.matching
-  pub count : phase.proposals ≡ proposals o phase.matching
-  pub few : phase.proposals ≤ ports o * ports o
+-- the matching that is best for the inputs, after its number of proposals: never more than the number of ports squared
+pub record IsBestAfter (o : Orders) (made : ℕ) (m : Partners) : Type 0 where
+  pub best : IsInputBest o m
+  pub count : made ≡ proposals o m
+  pub few : made ≤ ports o * ports o
 
--- the same in a core that is kept between phases
-pub record IsBestKept (o : Orders) (core : Progress) : Type 0 where
-  pub best : IsInputBest o core.matching
-  pub count : core.made ≡ proposals o core.matching
-  pub few : core.made ≤ ports o * ports o
+-- the same of a phase
+abbrev pub IsBestPhase : Orders → Phase → Type 0
+IsBestPhase o phase = IsBestAfter o phase.proposals phase.matching
 
 -- how many workers are used: as many as are asked for, and no more than there are inputs with an offer
 abbrev pub workers_used : Orders → ℕ → ℕ

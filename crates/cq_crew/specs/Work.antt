@@ -1,6 +1,6 @@
 -- Only proofs use this.
 -- What a worker's work does to its seat.
-use Rattle.std.specs.Prelude.{ℕ, ◌≡◌, ◌≤◌, ◌<◌, ◌⊎◌, None}
+use Rattle.std.specs.Prelude.{ℕ, ◌≡◌, ◌+◌, ◌≤◌, ◌<◌, ◌⊎◌, None}
 use Rattle.cq_prefs.specs.Orders.{ports}
 use Rattle.cq_ledger.specs.declared.view.View.{View}
 use Rattle.cq_ledger.specs.Seats.{LedgerState, SeatState, IsSeatOf}
@@ -13,6 +13,16 @@ HasTried v i = HasClaimed v i ⊎ HasSeen v i
 -- the same of all inputs from one number up to another
 abbrev pub HaveTried : View → ℕ → ℕ → Type 0
 HaveTried v a b = (i : ℕ) → a ≤ i → i < b → HasTried v i
+
+-- a seat on which so many workers, numbered from the first on, can work: it is one of the ledger's with an empty hand
+-- and has tried no input, there is one worker at least, and their numbers are those of inputs, of which there are n
+pub record CanWork (l : LedgerState) (s : SeatState) (first count n : ℕ) : Type 0 where
+  pub seat : IsSeatOf l s
+  pub hand : s.view.hand ≡ None
+  pub began : s.view.began ≡ None
+  pub some : 1 ≤ count
+  pub workers : first + count ≤ n
+  pub inputs : n ≡ ports l.offers
 
 -- proposals led from one view to another: nothing was claimed or found claimed
 pub record ProposesFor (v w : View) : Type 0 where

@@ -1,9 +1,6 @@
 //! Workers in threads of their own.
-ghost use Rattle.std.specs.Prelude.{◌≡◌, ◌+◌, ◌≤◌, None};
 ghost use Rattle.std.specs.Thread.{IsSync};
-ghost use Rattle.cq_prefs.specs.Orders.{ports};
-ghost use Rattle.cq_ledger.specs.Seats.{IsSeatOf};
-ghost use Rattle.cq_crew.specs.Work.{HasWorked};
+ghost use Rattle.cq_crew.specs.Work.{CanWork, HasWorked};
 
 use crate::gate::Gate;
 use crate::worker::work;
@@ -22,12 +19,7 @@ pub(crate) fn work_all<R: Threads + Sync, G: Gate>(
     inputs: u16,
     gate: &G,
 ) -> LedgerSeat
-    requires seat { IsSeatOf ledger.now seat }
-    requires hand { seat.view.hand ≡ None }
-    requires began { seat.view.began ≡ None }
-    requires some { 1 ≤ count }
-    requires workers { first + count ≤ inputs }
-    requires inputs { inputs ≡ ports ledger.now.offers }
+    requires { CanWork ledger.now seat first count inputs }
     ensures { HasWorked ledger.now seat.view result }
 {
     if count == 1 {
@@ -39,22 +31,12 @@ pub(crate) fn work_all<R: Threads + Sync, G: Gate>(
     let other = ledger.split(&mut seat);
     let lower = move || -> LedgerSeat
         requires sync { IsSync R.row × IsSync G.row }
-        requires seat { IsSeatOf ledger.now seat }
-        requires hand { seat.view.hand ≡ None }
-        requires began { seat.view.began ≡ None }
-        requires some { 1 ≤ low }
-        requires workers { first + low ≤ inputs }
-        requires inputs { inputs ≡ ports ledger.now.offers }
+        requires work { CanWork ledger.now seat first low inputs }
         ensures { HasWorked ledger.entry.now seat.view result }
     { work_all(rt, ledger, seat, first, low, inputs, gate) };
     let upper = move || -> LedgerSeat
         requires sync { IsSync R.row × IsSync G.row }
-        requires seat { IsSeatOf ledger.now other }
-        requires hand { other.view.hand ≡ None }
-        requires began { other.view.began ≡ None }
-        requires some { 1 ≤ high }
-        requires workers { middle + high ≤ inputs }
-        requires inputs { inputs ≡ ports ledger.now.offers }
+        requires work { CanWork ledger.now other middle high inputs }
         ensures { HasWorked ledger.entry.now other.view result }
     { work_all(rt, ledger, other, middle, high, inputs, gate) };
     let (mut both, theirs) = join(rt, lower, upper);

@@ -1,9 +1,10 @@
 //! One phase, by as many workers as are asked for and of use.
-ghost use Rattle.std.specs.Prelude.{◌≡◌, ◌≤◌, ◌↔◌, IfSome, IsTrue, length};
+ghost use Rattle.std.specs.Prelude.{◌≡◌, ◌≤◌, ◌↔◌, [], IfSome, IsTrue, length};
 ghost use Rattle.cq_prefs.specs.Orders.{ports};
 ghost use Rattle.cq_pair.specs.FreeInputs.{inputs_with_offers};
+ghost use Rattle.cq_pair.specs.Progress.{IsReached};
 ghost use Rattle.cq_ledger.specs.Seats.{HasClaimedAll};
-ghost use Rattle.cq_crew.specs.Settling.{IsBestKept, IsBestPhase, IsShared, phase_of, workers_used};
+ghost use Rattle.cq_crew.specs.Settling.{IsBestAfter, IsBestPhase, IsShared, phase_of, workers_used};
 
 use crate::crew::work_all;
 use crate::gate::Gate;
@@ -60,9 +61,11 @@ fn count_offering(offers: &Offers) -> u16
 
 /// The matching of a phase by one thread, found in a core that is kept from phase to phase. It is the one that
 /// `pair_phase` finds, with as many proposals, for a caller that has no second worker. Whatever the core came to before
-/// changes nothing of it.
+/// changes nothing of it, and then no input in it is free.
 pub fn settle_kept(offers: &Offers, core: &mut Core)
-    ensures { IsBestKept offers.now core.new }
+    ensures best { IsBestAfter offers.now core.new.made core.new.matching }
+    ensures reached { IsReached offers.now core.new }
+    ensures nobody_free { core.new.free ≡ [] }
 {
     // Its contract tells that the orders of both sides fit together.
     let _ports = offers.ports();

@@ -3,7 +3,7 @@ ghost use Rattle.std.specs.Prelude.{◌≡◌, ◌<◌, ◌≤◌, None, Some};
 ghost use Rattle.cq_prefs.specs.Orders.{ports};
 ghost use Rattle.cq_ledger.specs.Seats.{IsSeatOf};
 ghost use Rattle.cq_ledger.specs.Steps.{first_tried};
-ghost use Rattle.cq_crew.specs.Work.{HasTried, HasWorked, HaveTried, IsIdleAfter, ProposesFor};
+ghost use Rattle.cq_crew.specs.Work.{CanWork, HasTried, HasWorked, HaveTried, IsIdleAfter, ProposesFor};
 
 use crate::gate::Gate;
 use cq_base::Port;
@@ -18,11 +18,7 @@ pub(crate) fn work<G: Gate>(
     inputs: u16,
     gate: &G,
 ) -> LedgerSeat
-    requires seat { IsSeatOf ledger.now seat }
-    requires hand { seat.view.hand ≡ None }
-    requires began { seat.view.began ≡ None }
-    requires worker { worker < inputs }
-    requires inputs { inputs ≡ ports ledger.now.offers }
+    requires { CanWork ledger.now seat worker 1 inputs }
     ensures { HasWorked ledger.now seat.view result }
 {
     claim_one(ledger, &mut seat, worker, worker, gate);
@@ -54,8 +50,8 @@ fn claim_between<G: Gate>(
     }
 }
 
-// Tries to claim an input, and proposes until the hand is empty where it was unclaimed. The first that a worker tries is
-// that of its own number.
+// Tries to claim an input, and proposes until the hand is empty where it was unclaimed. The first that a worker tries
+// is that of its own number.
 fn claim_one<G: Gate>(ledger: &Ledger, seat: &mut LedgerSeat, worker: u16, input: Port, gate: &G)
     requires seat { IsSeatOf ledger.now seat.old }
     requires hand { seat.old.view.hand ≡ None }
