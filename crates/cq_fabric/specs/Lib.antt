@@ -2,3 +2,5 @@ pub mod Queues
 pub mod Holding
 pub mod Newest
 pub mod Held
+pub mod Crossing
+pub mod Released

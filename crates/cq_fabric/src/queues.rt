@@ -9,11 +9,12 @@ ghost use Rattle.cq_urgency.specs.OutputBuffer.{cells_in};
 ghost use Rattle.cq_prefs.specs.FirstCells.{first_key, key_before, list_of, orders_of};
 ghost use Rattle.cq_prefs.specs.Moves.{Moves, transfers_of};
 ghost use Rattle.cq_prefs.specs.Pairing.{IsMatching};
-ghost use Rattle.cq_xbar.specs.Crossbar.{HaveCells, HaveRoom, KeysAreNew, MovesRoom};
+ghost use Rattle.cq_xbar.specs.Crossbar.{MovesRoom};
 ghost use Rattle.cq_laws.specs.Phases.{came_to, list_arrived};
+ghost use Rattle.cq_fabric.specs.Crossing.{CanCrossInPairs, CanFollow};
 ghost use Rattle.cq_fabric.specs.Holding.{CanHold};
 ghost use Rattle.cq_fabric.specs.Newest.{IsNewest};
-ghost use Rattle.cq_fabric.specs.Queues.{CanCross, ComeApart, Comes, FitEach, FitLists, Fits, KeysApart, buffer_room, fabric_of, list_at, list_room, list_with};
+ghost use Rattle.cq_fabric.specs.Queues.{CanCross, ComeApart, Comes, FitEach, FitLists, Fits, buffer_room, fabric_of, list_at, list_room, list_with};
 
 use crate::gone::Gone;
 use crate::standing::{all_buffered, all_listed, filled_buffers, filled_lists};
@@ -103,7 +104,8 @@ fn insert_each(
     requires outputs { All (λ list. list.outputs ≡ length lists.old) lists.old }
     requires offers { offers.old ≡ orders_of (cells_of lists.old) }
     ensures ports { length lists.new ≡ length lists.old }
-    ensures lists { (i : ℕ) → i < length lists.old → list_at lists.new i ≡ list_with (cells_in buffers.now) (came_to came.now i) (list_at lists.old i) }
+    ensures lists { (i : ℕ) → i < length lists.old →
+        list_at lists.new i ≡ list_with (cells_in buffers.now) (came_to came.now i) (list_at lists.old i) }
     ensures offers { offers.new ≡ orders_of (cells_of lists.new) }
 {
     'inputs: for input in 0..lists.len() {
@@ -123,21 +125,17 @@ fn cross_matched(
     phase: u8,
     note: &mut Room<Transfer>,
 )
-    requires lists { length lists.old ≡ length matching.now }
-    requires buffers { length buffers.old ≡ length matching.now }
-    requires cells { HaveCells matching.now (cells_of lists.old) }
-    requires keys { KeysAreNew matching.now (cells_of lists.old) (cells_in buffers.old) }
-    requires room { HaveRoom matching.now buffers.old }
+    requires pairs { CanCrossInPairs matching.now lists.old buffers.old }
+    requires follow { CanFollow lists.old offers.old }
     requires note { length matching.now ≤ note.old.spare }
-    requires apart { KeysApart (cells_of lists.old) }
-    requires outputs { All (λ list. list.outputs ≡ length lists.old) lists.old }
-    requires offers { offers.old ≡ orders_of (cells_of lists.old) }
-    ensures moves { Moves matching.now (cells_of lists.old) (cells_in buffers.old) (cells_of lists.new) (cells_in buffers.new) }
+    ensures moves { Moves matching.now (cells_of lists.old) (cells_in buffers.old) (cells_of lists.new)
+        (cells_in buffers.new) }
     ensures room { MovesRoom matching.now lists.old buffers.old lists.new buffers.new }
     ensures outputs { map (λ list. list.outputs) lists.new ≡ map (λ list. list.outputs) lists.old }
     ensures offers { offers.new ≡ orders_of (cells_of lists.new) }
     ensures note { note.new.items ≡ note.old.items ++ transfers_of matching.now (cells_of lists.old) slot phase }
-    ensures note_room { note.new.spare + length (transfers_of matching.now (cells_of lists.old) slot phase) ≡ note.old.spare }
+    ensures note_room { note.new.spare + length (transfers_of matching.now (cells_of lists.old) slot phase)
+        ≡ note.old.spare }
 {
     transfer(matching, lists, buffers, slot, phase, note);
     offers.renew(lists, matching);
@@ -148,7 +146,8 @@ fn new_lists(alloc: Global, rooms: &[u64]) -> Result<Vec<InputList>, NoMemory>
     requires { length rooms.now ≤ 64 }
     ensures cells { IfOk result (λ lists. cells_of lists.items ≡ replicate (length rooms.now) []) }
     ensures rooms { IfOk result (λ lists. map list_room lists.items ≡ rooms.now) }
-    ensures outputs { IfOk result (λ lists. map (λ list. list.outputs) lists.items ≡ replicate (length rooms.now) (length rooms.now)) }
+    ensures outputs { IfOk result (λ lists. map (λ list. list.outputs) lists.items
+        ≡ replicate (length rooms.now) (length rooms.now)) }
 {
     let mut lists = Vec::with_capacity(alloc, rooms.len())?;
     for room in rooms {
@@ -268,7 +267,8 @@ impl Queues {
         requires input { input < length self.now.inputs }
         requires output { queued.now.cell.output < length self.now.inputs }
         requires newest { IsNewest queued.now (list_of self.now.inputs input) }
-        ensures { result ≡ cushion queued.now.key (list_of self.now.buffers queued.now.cell.output) - position_or_len (λ x. x.key.slot == queued.now.key.slot) (list_of self.now.inputs input) }
+        ensures { result ≡ cushion queued.now.key (list_of self.now.buffers queued.now.cell.output)
+            - position_or_len (λ x. x.key.slot == queued.now.key.slot) (list_of self.now.inputs input) }
     {
         let list = &self.lists[input];
         let _waiting = list.outputs();
@@ -282,7 +282,8 @@ impl Queues {
     pub fn slack_at(&self, input: usize, place: u64) -> u64
         requires input { input < length self.now.inputs }
         requires place { place < length (list_of self.now.inputs input) }
-        ensures { (c : OfCell) → slice_get (list_of self.now.inputs input) place ≡ Some c → result ≡ cushion c.key (list_of self.now.buffers c.cell.output) - place }
+        ensures { (c : OfCell) → slice_get (list_of self.now.inputs input) place ≡ Some c →
+            result ≡ cushion c.key (list_of self.now.buffers c.cell.output) - place }
     {
         let list = &self.lists[input];
         let _waiting = list.outputs();
@@ -297,7 +298,8 @@ impl Queues {
         requires fit { FitLists came.now self.old }
         requires come { ComeApart came.now self.old.inputs }
         ensures ports { length self.new.inputs ≡ length self.old.inputs }
-        ensures lists { (i : ℕ) → list_of self.new.inputs i ≡ list_arrived (fabric_of self.old []) (came_to came.now i) (list_of self.old.inputs i) }
+        ensures lists { (i : ℕ) → list_of self.new.inputs i
+            ≡ list_arrived (fabric_of self.old []) (came_to came.now i) (list_of self.old.inputs i) }
         ensures buffers { self.new.buffers ≡ self.old.buffers }
         ensures from_inputs { self.new.from_inputs ≡ self.old.from_inputs }
         ensures to_outputs { self.new.to_outputs ≡ self.old.to_outputs }
@@ -331,7 +333,8 @@ impl Queues {
         ensures from_inputs { self.new.from_inputs ≡ self.old.from_inputs }
         ensures to_outputs { self.new.to_outputs ≡ self.old.to_outputs }
         ensures note { note.new.items ≡ note.old.items ++ transfers_of matching.now self.old.inputs slot phase }
-        ensures note_room { note.new.spare + length (transfers_of matching.now self.old.inputs slot phase) ≡ note.old.spare }
+        ensures note_room { note.new.spare + length (transfers_of matching.now self.old.inputs slot phase)
+            ≡ note.old.spare }
     {
         cross_matched(
             matching,
@@ -361,7 +364,8 @@ impl Queues {
     pub fn are_empty(&self) -> bool
         ensures lists { IsTrue result → All (λ cells. cells ≡ []) self.now.inputs }
         ensures buffers { IsTrue result → All (λ cells. cells ≡ []) self.now.buffers }
-        ensures empty { All (λ cells. cells ≡ []) self.now.inputs → All (λ cells. cells ≡ []) self.now.buffers → IsTrue result }
+        ensures empty { All (λ cells. cells ≡ []) self.now.inputs → All (λ cells. cells ≡ []) self.now.buffers →
+            IsTrue result }
     {
         none_wait(&self.lists) && none_crossed(&self.buffers)
     }

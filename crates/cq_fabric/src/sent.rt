@@ -1,7 +1,8 @@
 //! What follows from what the outputs sent.
-ghost use Rattle.std.specs.Prelude.{◌≡◌, ◌+◌, ◌<◌, ◌≤◌, ℕ, IfSome, is_some, if◌then◌else◌, length, map, slice_index_or};
+ghost use Rattle.std.specs.Prelude.{◌≡◌, ◌<◌, ◌≤◌, ℕ, IfSome, length, map, slice_index_or};
 ghost use Rattle.cq_ideal.specs.IdealSlot.{all_told};
 ghost use Rattle.cq_laws.specs.Phases.{came_to};
+ghost use Rattle.cq_fabric.specs.Released.{HasReleased};
 
 use cq_base::{Port, Queued};
 use cq_ideal::{Limiter, Ranks};
@@ -25,12 +26,7 @@ pub fn release(limiter: &mut Limiter, gone: &[Option<Queued>])
     requires few { length gone.now ≤ 64 }
     requires outputs { length gone.now ≡ length limiter.old.held }
     requires holds { (j : ℕ) → IfSome (came_to gone.now j) (λ _. 0 < slice_index_or limiter.old.held j 0) }
-    ensures held { (j : ℕ) → slice_index_or limiter.new.held j 0 + (if is_some (came_to gone.now j) then 1 else 0)
-        ≡ slice_index_or limiter.old.held j 0 }
-    ensures ports { length limiter.new.held ≡ length limiter.old.held }
-    ensures marks { limiter.new.marks ≡ limiter.old.marks }
-    ensures refused { limiter.new.refused ≡ limiter.old.refused }
-    ensures limits { limiter.new.limits ≡ limiter.old.limits }
+    ensures { HasReleased gone.now limiter.old limiter.new }
 {
     'outputs: for output in 0..gone.len() {
         limiter.sent(output as Port, gone[output]);

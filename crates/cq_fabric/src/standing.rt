@@ -11,8 +11,8 @@ use cq_list::InputList;
 use cq_urgency::OutputBuffer;
 use std::alloc::Global;
 
-// A list for so many outputs, with room for so many cells, in which these wait. Each comes behind the others. The error is
-// want of memory.
+// A list for so many outputs, with room for so many cells, in which these wait. Each comes behind the others. The error
+// is want of memory.
 fn filled_list(
     alloc: Global,
     outputs: u16,
@@ -57,7 +57,8 @@ pub fn filled_lists(
         CanWait (length cells.now) (slice_index rooms.now i) (list_of cells.now i) }
     ensures cells { IfOk result (λ lists. cells_of lists.items ≡ cells.now) }
     ensures rooms { IfOk result (λ lists. map list_room lists.items ≡ rooms.now) }
-    ensures outputs { IfOk result (λ lists. map (λ list. list.outputs) lists.items ≡ replicate (length rooms.now) (length rooms.now)) }
+    ensures outputs { IfOk result (λ lists. map (λ list. list.outputs) lists.items
+        ≡ replicate (length rooms.now) (length rooms.now)) }
 {
     let mut lists = Vec::with_capacity(alloc, rooms.len())?;
     'inputs: for input in 0..rooms.len() {

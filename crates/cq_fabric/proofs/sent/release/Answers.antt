@@ -59,17 +59,25 @@ outputs-preserved c =
     }
 
 -- past the outputs nothing was sent
-pub returns-clause-held : goal.returns-clause-held
-returns-clause-held c = λ j.
-    let none : Option Queued = None in
-    let past = c.outputs-test.false in
-    ⊎_elim
-    (λ (inside : j < length c.args.gone.now). c.outputs.invariant.done j (omega arith))
-    (λ (beyond : length c.args.gone.now ≤ j).
-    let nobody = ap bit (get_or_past c.args.gone.now j none beyond) in
-    let outputs = c.requires.outputs in
-    let ports = c.outputs.invariant.ports in
-    let now = get_or_past c.outputs.limiter.held j 0 (omega arith) in
-    let was = get_or_past c.args.limiter.now.held j 0 (omega arith) in
-    omega arith)
-    (cases_lt j (length c.args.gone.now))
+pub returns : goal.returns
+returns c =
+    let inv = c.outputs.invariant in
+    record {
+      held = λ j.
+          let none : Option Queued = None in
+          let past = c.outputs-test.false in
+          ⊎_elim
+          (λ (inside : j < length c.args.gone.now). inv.done j (omega arith))
+          (λ (beyond : length c.args.gone.now ≤ j).
+          let nobody = ap bit (get_or_past c.args.gone.now j none beyond) in
+          let outputs = c.requires.outputs in
+          let ports = inv.ports in
+          let now = get_or_past c.outputs.limiter.held j 0 (omega arith) in
+          let was = get_or_past c.args.limiter.now.held j 0 (omega arith) in
+          omega arith)
+          (cases_lt j (length c.args.gone.now));
+      ports = inv.ports;
+      marks = inv.marks;
+      refused = inv.refused;
+      limits = inv.limits;
+    }

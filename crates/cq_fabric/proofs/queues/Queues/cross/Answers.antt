@@ -7,8 +7,9 @@ use Rattle.cq_prefs.specs.FirstCells.{orders_of}
 use Rattle.cq_prefs.specs.Moves.{Moves}
 use Rattle.cq_prefs.specs.Orders.{Orders, ports}
 use Rattle.cq_prefs.specs.Pairing.{Partners, IsMatching}
-use Rattle.cq_xbar.specs.Crossbar.{HaveCells, HaveRoom, MovesRoom}
-use Rattle.cq_fabric.specs.Queues.{Queues as Held, KeysApart, CanCross, AreSquare, AreOffered, list_room, buffer_room}
+use Rattle.cq_xbar.specs.Crossbar.{HaveCells, MovesRoom}
+use Rattle.cq_fabric.specs.Crossing.{CanCrossInPairs, CanFollow}
+use Rattle.cq_fabric.specs.Queues.{Queues as Held, CanCross, AreSquare, AreOffered, list_room, buffer_room}
 use Rattle.cq_fabric.proofs.Offered.{as_offered}
 use Rattle.cq_fabric.proofs.Queued.{HaveCrossed, shown, whole, has_cell, have_room, lists_long, buffers_long, crossed_list_rooms, crossed_buffer_rooms, crossed_square, matched_long}
 use Rattle.cq_fabric.proofs.queues.Queues.cross.Goals as goal
@@ -78,41 +79,41 @@ buffers_are c =
 
 -- ## What is asked, and what stands afterwards
 
-pub cross_matched-requires-clause-lists : goal.cross_matched-requires-clause-lists
-cross_matched-requires-clause-lists c =
-    ap length c.deref_mut.ensures.value ∙ sym (length-map c.self.inside.lists.items (λ (w : Waiting). w.cells))
-    ∙ ap (λ (q : Held). length q.inputs) c.self.view_is
-    ∙ sym (matched_long c.args.self.now.inputs c.args.matching.now c.requires.matching)
+pub cross_matched-requires-clause-pairs : goal.cross_matched-requires-clause-pairs
+cross_matched-requires-clause-pairs c =
+    let m = c.args.matching.now in
+    let lists = c.self.inside.lists.items in
+    let buffers = c.self.inside.buffers.items in
+    let can = subst CanCross (sym c.self.view_is) c.requires.cells in
+    let all = have (goal.at.cross_matched-requires-clause-pairs c).After-self in
+    let long : length lists ≡ length m =
+    sym (length-map lists (λ (w : Waiting). w.cells)) ∙ ap (λ (q : Held). length q.inputs) c.self.view_is
+    ∙ sym (matched_long c.args.self.now.inputs m c.requires.matching) in
+    subst (λ (ls : List Waiting). CanCrossInPairs m ls c.deref_mut-2.result.now) (sym c.deref_mut.ensures.value)
+    (subst (CanCrossInPairs m lists) (sym c.deref_mut-2.ensures.value)
+    (record {
+      lists = long;
+      buffers = c.self.invariant.square.as_many ∙ long;
+      cells = all;
+      keys = λ i j q _ first. can.keys i j q first;
+      room = have_room lists buffers m can all;
+    }))
 
-pub cross_matched-requires-clause-buffers : goal.cross_matched-requires-clause-buffers
-cross_matched-requires-clause-buffers c =
-    ap length c.deref_mut-2.ensures.value ∙ c.self.invariant.square.as_many
-    ∙ sym (length-map c.self.inside.lists.items (λ (w : Waiting). w.cells))
-    ∙ ap (λ (q : Held). length q.inputs) c.self.view_is
-    ∙ sym (matched_long c.args.self.now.inputs c.args.matching.now c.requires.matching)
+pub cross_matched-requires-clause-follow : goal.cross_matched-requires-clause-follow
+cross_matched-requires-clause-follow c =
+    let can = subst CanCross (sym c.self.view_is) c.requires.cells in
+    subst (λ (ls : List Waiting). CanFollow ls c.self.inside.offers) (sym c.deref_mut.ensures.value)
+    (record {
+      apart = can.apart;
+      outputs = c.self.invariant.square.outputs;
+      offers = c.self.invariant.offered;
+    })
 
 pub cross_matched-requires-clause-note : goal.cross_matched-requires-clause-note
 cross_matched-requires-clause-note c =
     let long = matched_long c.args.self.now.inputs c.args.matching.now c.requires.matching in
     let room = c.requires.note in
     omega arith
-
-pub cross_matched-requires-clause-cells : goal.cross_matched-requires-clause-cells
-cross_matched-requires-clause-cells c =
-    subst (λ (ls : List Waiting). HaveCells c.args.matching.now (cells_of ls)) (sym c.deref_mut.ensures.value)
-    (have (goal.at.cross_matched-requires-clause-cells c).After-self)
-
-pub cross_matched-requires-clause-room : goal.cross_matched-requires-clause-room
-cross_matched-requires-clause-room c =
-    let can = subst CanCross (sym c.self.view_is) c.requires.cells in
-    subst (HaveRoom c.args.matching.now) (sym c.deref_mut-2.ensures.value)
-    (have_room c.self.inside.lists.items c.self.inside.buffers.items c.args.matching.now can
-    (have (goal.at.cross_matched-requires-clause-room c).After-self))
-
-pub cross_matched-requires-clause-apart : goal.cross_matched-requires-clause-apart
-cross_matched-requires-clause-apart c =
-    subst (λ (ls : List Waiting). KeysApart (cells_of ls)) (sym c.deref_mut.ensures.value)
-    (subst (λ (q : Held). KeysApart q.inputs) (sym c.self.view_is) c.requires.cells.apart)
 
 pub invariant_of-self : goal.invariant_of-self
 invariant_of-self c =
