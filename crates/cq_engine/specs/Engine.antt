@@ -1,5 +1,5 @@
 -- What clauses see of an engine, what a slot asks of it, and what it does.
-use Rattle.std.specs.Prelude.{◌≡◌, ℕ, ◌+◌, ◌-◌, ◌*◌, ◌^◌, ◌<◌, ◌≤◌, ◌++◌, Bool, List, length, Option, Some, Result, Ok, Err, slice_get, slice_index, ⊤}
+use Rattle.std.specs.Prelude.{◌≡◌, ℕ, ◌+◌, ◌-◌, ◌*◌, ◌^◌, ◌<◌, ◌≤◌, ◌++◌, Bool, false, List, [], length, Option, Some, Result, Ok, Err, slice_get, slice_index, ⊤}
 use Rattle.cq_base.specs.declared.cell.Cell.{Cell}
 use Rattle.cq_base.specs.declared.cell.Departure.{Departure}
 use Rattle.cq_base.specs.declared.cell.TagFault.{TagFault}
@@ -12,21 +12,21 @@ use Rattle.cq_base.specs.Room.{RoomView}
 use Rattle.cq_rank.specs.Machine.{Machine}
 use Rattle.cq_rank.specs.Switch.{AreForOneSwitch, AreSized, class_count}
 use Rattle.cq_ideal.specs.declared.refused.Refused.{Refused}
-use Rattle.cq_ideal.specs.Admission.{Admission, Marked, marked}
+use Rattle.cq_ideal.specs.Admission.{Admission, Marked, marked, marks_down}
 use Rattle.cq_ideal.specs.Ideal.{count_for}
 use Rattle.cq_ideal.specs.Limiter.{CanCount, LimiterView}
 use Rattle.cq_ideal.specs.Ranking.{Ranking}
-use Rattle.cq_ideal.specs.Refused.{with_refused}
+use Rattle.cq_ideal.specs.Refused.{refused_counts, with_refused}
 use Rattle.cq_ideal.specs.IdealSlot.{IdealState, departures_in}
 use Rattle.cq_prefs.specs.Pairing.{IsInputBest}
-use Rattle.cq_laws.specs.Fabric.{Fabric, input, buffer}
+use Rattle.cq_laws.specs.Fabric.{Fabric, buffer, empty_fabric, input}
 use Rattle.cq_laws.specs.Frozen.{AreCountsOf, AreOwn, HasPorts, IsSoundFabric, fabric_in}
 use Rattle.cq_laws.specs.Holding.{held_for, waiting_for}
 use Rattle.cq_laws.specs.LimitedFabric.{LimitedFabricSlot, LimitedRecord, fabric_admission}
 use Rattle.cq_laws.specs.Records.{transfers_in}
 use Rattle.cq_laws.specs.Agreement.{Agrees}
 use Rattle.cq_fabric.specs.Held.{HoldsFabric}
-use Rattle.cq_laws.specs.Measures.{HasMoreSlack, figures_after}
+use Rattle.cq_laws.specs.Measures.{HasMoreSlack, figures_after, no_figures}
 use Rattle.cq_laws.specs.declared.frozen.Frozen.{Frozen}
 use Rattle.cq_engine.specs.declared.measure.Look.{Look}
 use Rattle.cq_engine.specs.declared.measure.Look.TheVariants as look
@@ -53,6 +53,38 @@ pub record EngineView : Type 0 where
   pub next : ℕ
   -- whether a slot had a tag fault
   pub stopped : Bool
+
+-- so many workers can propose at once
+pub record AreWorkers (workers : ℕ) : Type 0 where
+  pub some : 1 ≤ workers
+  pub few : workers ≤ 64
+
+-- an engine of so many ports can be made of these machines, these rooms of its lists and of its buffers, and these
+-- limits of its outputs, with so many workers
+pub record CanBeMade (ms : List Machine) (ports : ℕ) (rooms_from rooms_to : List ℕ) (bounds : List (Option ℕ))
+    (count : ℕ) : Type 0 where
+  pub machines : AreForOneSwitch ms
+  pub from_inputs : length rooms_from ≡ ports
+  pub to_outputs : length rooms_to ≡ ports
+  pub limits : length bounds ≡ ports
+  pub workers : AreWorkers count
+
+-- an engine of so many ports, with these machines in these states, these rooms and these limits, before its first slot:
+-- no cell waits, no packet is refused, and nothing was counted: what was refused is 0 at each output with a limit
+abbrev pub fresh_engine : ℕ → List (List ℕ) → List (List ℕ) → List ℕ → List ℕ → List (Option ℕ) → EngineView
+fresh_engine ports fixed states from_inputs to_outputs limits =
+    record {
+      fixed = fixed;
+      limits = limits;
+      fabric = empty_fabric ports states;
+      marks = marks_down ports;
+      refused = refused_counts limits [];
+      from_inputs = from_inputs;
+      to_outputs = to_outputs;
+      figures = no_figures ports;
+      next = 0;
+      stopped = false;
+    }
 
 -- its fabric, with its marks
 abbrev pub marked_fabric : EngineView → Marked Fabric
@@ -138,11 +170,6 @@ pub record IsMadeAs (old new : EngineView) : Type 0 where
 pub record CountsFit (next : ℕ) (x : Figures) : Type 0 where
   pub inputs : (i : ℕ) (y : InputFigures) → slice_get x.inputs i ≡ Some y → y.cells ≤ next
   pub outputs : (j : ℕ) (y : OutputFigures) → slice_get x.outputs j ≡ Some y → y.cells ≤ next
-
--- so many workers can propose at once
-pub record AreWorkers (workers : ℕ) : Type 0 where
-  pub some : 1 ≤ workers
-  pub few : workers ≤ 64
 
 -- the fabric is in step with an ideal switch: there is a state of one with which it agrees before this slot. And its
 -- figures are of its ports

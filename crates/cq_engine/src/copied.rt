@@ -70,7 +70,8 @@ fn count_one(held: &mut Sequence<u64>, output: Port)
 // The cells of a list are counted, each for its output.
 fn count_each(held: &mut Sequence<u64>, cells: &[Queued])
     requires outputs { All (λ c. c.cell.output < length held.old) cells.now }
-    requires fit { (j : ℕ) → j < length held.old → slice_index held.old j + length (filter (is_for j) cells.now) < 2 ^ 64 }
+    requires fit { (j : ℕ) → j < length held.old →
+        slice_index held.old j + length (filter (is_for j) cells.now) < 2 ^ 64 }
     ensures ports { length held.new ≡ length held.old }
     ensures counts { (j : ℕ) → j < length held.old →
         slice_index held.new j ≡ slice_index held.old j + length (filter (is_for j) cells.now) }

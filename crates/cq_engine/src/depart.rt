@@ -1,10 +1,11 @@
 //! How the outputs send.
-ghost use Rattle.std.specs.Prelude.{◌≡◌, ◌+◌, ◌-◌, ◌<◌, ◌≤◌, ◌^◌, ◌++◌, ℕ, IfSome, Some, is_some, if◌then◌else◌, length, map, max, slice_get, slice_index_or};
+ghost use Rattle.std.specs.Prelude.{◌≡◌, ◌+◌, ◌-◌, ◌<◌, ◌≤◌, ◌^◌, ◌++◌, ℕ, Some, is_some, if◌then◌else◌, length, map, max, slice_get};
 ghost use Rattle.std.specs.List.{enumerate_from, list_any};
 ghost use Rattle.cq_base.specs.declared.figures.OutputFigures.{OutputFigures};
-ghost use Rattle.cq_ideal.specs.IdealSlot.{all_told, departures_in, fronts, rests};
+ghost use Rattle.cq_ideal.specs.IdealSlot.{departures_in, fronts, rests};
 ghost use Rattle.cq_laws.specs.Phases.{came_to};
 ghost use Rattle.cq_engine.specs.Measuring.{output_counted};
+ghost use Rattle.cq_engine.specs.Sending.{CanSend, EachHasSent};
 
 use crate::measure::count_outputs;
 use cq_base::{Departure, Figures, Port, Queued, Room, Slot};
@@ -42,8 +43,10 @@ fn count_departures(figures: &mut Figures, slot: Slot, gone: &[Option<Queued>])
     requires early { slot < 2 ^ 64 - 1 }
     requires ports { length figures.old.outputs ≡ length gone.now }
     requires counts { (j : ℕ) (x : OutputFigures) → slice_get figures.old.outputs j ≡ Some x → x.cells < 2 ^ 64 - 1 }
-    ensures slots { figures.new.slots ≡ (if list_any is_some gone.now then max figures.old.slots (slot + 1) else figures.old.slots) }
-    ensures outputs { figures.new.outputs ≡ map (λ at. output_counted slot (came_to gone.now at.0) at.1) (enumerate_from 0 figures.old.outputs) }
+    ensures slots { figures.new.slots ≡
+        (if list_any is_some gone.now then max figures.old.slots (slot + 1) else figures.old.slots) }
+    ensures outputs { figures.new.outputs ≡ map (λ at. output_counted slot (came_to gone.now at.0) at.1)
+        (enumerate_from 0 figures.old.outputs) }
     ensures inputs { figures.new.inputs ≡ figures.old.inputs }
     ensures proposals { figures.new.proposals ≡ figures.old.proposals }
     ensures most { figures.new.most ≡ figures.old.most }
@@ -54,8 +57,8 @@ fn count_departures(figures: &mut Figures, slot: Slot, gone: &[Option<Queued>])
     }
 }
 
-/// Each output sends the cell of its place in `gone`, which it then holds no longer, or is idle. Its machine is told, and
-/// it is counted.
+/// Each output sends the cell of its place in `gone`, which it then holds no longer, or is idle. Its machine is told,
+/// and it is counted.
 pub fn leave<R: Rank>(
     ranks: &mut Ranks<R>,
     limiter: &mut Limiter,
@@ -64,30 +67,10 @@ pub fn leave<R: Rank>(
     slot: Slot,
     sent: &mut Room<Departure>,
 )
-    requires early { slot < 2 ^ 64 - 1 }
-    requires few { length gone.now ≤ 64 }
-    requires machines { length ranks.old.fixed ≡ length gone.now }
-    requires states { length ranks.old.states ≡ length ranks.old.fixed }
-    requires held { length limiter.old.held ≡ length gone.now }
-    requires holds { (j : ℕ) → IfSome (came_to gone.now j) (λ _. 0 < slice_index_or limiter.old.held j 0) }
-    requires sent { length gone.now ≤ sent.old.spare }
-    requires outputs { length figures.old.outputs ≡ length gone.now }
-    requires counts { (j : ℕ) (x : OutputFigures) → slice_get figures.old.outputs j ≡ Some x → x.cells < 2 ^ 64 - 1 }
-    ensures fixed { ranks.new.fixed ≡ ranks.old.fixed }
-    ensures ranks { ranks.new.states ≡ all_told (map R.machine ranks.old.fixed) gone.now ranks.old.states }
-    ensures held { (j : ℕ) → slice_index_or limiter.new.held j 0 + (if is_some (came_to gone.now j) then 1 else 0)
-        ≡ slice_index_or limiter.old.held j 0 }
-    ensures ports { length limiter.new.held ≡ length limiter.old.held }
-    ensures marks { limiter.new.marks ≡ limiter.old.marks }
-    ensures refused { limiter.new.refused ≡ limiter.old.refused }
-    ensures limits { limiter.new.limits ≡ limiter.old.limits }
-    ensures sent { sent.new.items ≡ sent.old.items ++ departures_in slot gone.now }
-    ensures sent_room { sent.new.spare + length (departures_in slot gone.now) ≡ sent.old.spare }
-    ensures slots { figures.new.slots ≡ (if list_any is_some gone.now then max figures.old.slots (slot + 1) else figures.old.slots) }
-    ensures output_figures { figures.new.outputs ≡ map (λ at. output_counted slot (came_to gone.now at.0) at.1) (enumerate_from 0 figures.old.outputs) }
+    requires { CanSend slot gone.now ranks.old limiter.old figures.old sent.old }
+    ensures sent { EachHasSent (map R.machine ranks.old.fixed) slot gone.now ranks.old ranks.new limiter.old limiter.new
+        figures.old figures.new sent.old sent.new }
     ensures input_figures { figures.new.inputs ≡ figures.old.inputs }
-    ensures proposals { figures.new.proposals ≡ figures.old.proposals }
-    ensures most { figures.new.most ≡ figures.old.most }
 {
     tell(ranks, gone);
     release(limiter, gone);
@@ -106,33 +89,14 @@ pub fn depart<R: Rank>(
     slot: Slot,
     sent: &mut Room<Departure>,
 )
-    requires early { slot < 2 ^ 64 - 1 }
-    requires machines { length ranks.old.fixed ≡ length queues.old.inputs }
-    requires states { length ranks.old.states ≡ length ranks.old.fixed }
-    requires held { length limiter.old.held ≡ length queues.old.inputs }
-    requires holds { (j : ℕ) → IfSome (came_to (fronts queues.old.buffers) j) (λ _. 0 < slice_index_or limiter.old.held j 0) }
-    requires sent { length queues.old.inputs ≤ sent.old.spare }
-    requires outputs { length figures.old.outputs ≡ length queues.old.inputs }
-    requires counts { (j : ℕ) (x : OutputFigures) → slice_get figures.old.outputs j ≡ Some x → x.cells < 2 ^ 64 - 1 }
-    ensures fixed { ranks.new.fixed ≡ ranks.old.fixed }
-    ensures ranks { ranks.new.states ≡ all_told (map R.machine ranks.old.fixed) (fronts queues.old.buffers) ranks.old.states }
+    requires { CanSend slot (fronts queues.old.buffers) ranks.old limiter.old figures.old sent.old }
+    ensures sent { EachHasSent (map R.machine ranks.old.fixed) slot (fronts queues.old.buffers) ranks.old ranks.new
+        limiter.old limiter.new figures.old figures.new sent.old sent.new }
+    ensures input_figures { figures.new.inputs ≡ figures.old.inputs }
     ensures inputs { queues.new.inputs ≡ queues.old.inputs }
     ensures buffers { queues.new.buffers ≡ rests queues.old.buffers }
     ensures from_inputs { queues.new.from_inputs ≡ queues.old.from_inputs }
     ensures to_outputs { queues.new.to_outputs ≡ queues.old.to_outputs }
-    ensures held { (j : ℕ) → slice_index_or limiter.new.held j 0 + (if is_some (came_to (fronts queues.old.buffers) j) then 1 else 0)
-        ≡ slice_index_or limiter.old.held j 0 }
-    ensures ports { length limiter.new.held ≡ length limiter.old.held }
-    ensures marks { limiter.new.marks ≡ limiter.old.marks }
-    ensures refused { limiter.new.refused ≡ limiter.old.refused }
-    ensures limits { limiter.new.limits ≡ limiter.old.limits }
-    ensures sent { sent.new.items ≡ sent.old.items ++ departures_in slot (fronts queues.old.buffers) }
-    ensures sent_room { sent.new.spare + length (departures_in slot (fronts queues.old.buffers)) ≡ sent.old.spare }
-    ensures slots { figures.new.slots ≡ (if list_any is_some (fronts queues.old.buffers) then max figures.old.slots (slot + 1) else figures.old.slots) }
-    ensures output_figures { figures.new.outputs ≡ map (λ at. output_counted slot (came_to (fronts queues.old.buffers) at.0) at.1) (enumerate_from 0 figures.old.outputs) }
-    ensures input_figures { figures.new.inputs ≡ figures.old.inputs }
-    ensures proposals { figures.new.proposals ≡ figures.old.proposals }
-    ensures most { figures.new.most ≡ figures.old.most }
 {
     let ports = queues.ports();
     queues.depart(places);

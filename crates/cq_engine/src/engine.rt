@@ -1,16 +1,11 @@
 //! The engine: a fabric, slot by slot.
-ghost use Rattle.std.specs.Prelude.{◌≡◌, ◌↔◌, ◌+◌, ◌-◌, ◌^◌, ◌<◌, ◌≤◌, IsTrue, [], false, is_err, IfOk, OnOk, OnErr, length, map, max, replicate};
-ghost use Rattle.cq_base.specs.Arrivals.{no_arrivals};
-ghost use Rattle.cq_rank.specs.Switch.{AreForOneSwitch, class_count};
-ghost use Rattle.cq_ideal.specs.Admission.{marks_down};
+ghost use Rattle.std.specs.Prelude.{◌≡◌, ◌↔◌, ◌+◌, ◌-◌, ◌^◌, ◌<◌, IsTrue, false, is_err, IfOk, OnOk, OnErr, length, map, max};
+ghost use Rattle.cq_rank.specs.Switch.{class_count};
 ghost use Rattle.cq_ideal.specs.Ranking.{AreForPorts, ranking};
-ghost use Rattle.cq_ideal.specs.Refused.{refused_counts};
-ghost use Rattle.cq_laws.specs.Fabric.{empty_fabric, IsEmptyFabric};
-ghost use Rattle.cq_laws.specs.LimitedFabric.{LimitedFabricRun};
-ghost use Rattle.cq_laws.specs.LimitedQuiet.{quiet_limited_slots};
+ghost use Rattle.cq_laws.specs.Fabric.{IsEmptyFabric};
 ghost use Rattle.cq_laws.specs.Measures.{no_figures};
-ghost use Rattle.cq_prefs.specs.Pairing.{IsInputBest};
-ghost use Rattle.cq_engine.specs.Engine.{CanGoOn, HasGoneOn, HasStopped, IsMadeAs, IsReadyFor, SlotDone, answer_to, frozen_of, its_admission, marked_fabric, ports_of};
+ghost use Rattle.cq_engine.specs.Engine.{CanBeMade, CanGoOn, HasGoneOn, HasStopped, IsMadeAs, IsReadyFor, SlotDone, answer_to, fresh_engine, frozen_of, its_admission, ports_of};
+ghost use Rattle.cq_engine.specs.Resting.{HasRested};
 
 use crate::copied::{copied_figures, held_in};
 use crate::depart::depart;
@@ -85,7 +80,8 @@ impl<R: Rank> Model for Engine<R> {
       stopped = a.stopped;
     } };
 
-    ghost invariant = { λ a. AreWorkers a.workers × (a.stopped ≡ false → IsRunning (map R.machine a.ranks.fixed) a.next a.look a.figures (fabric_of a.queues a.ranks.states) a.limiter) };
+    ghost invariant = { λ a. AreWorkers a.workers × (a.stopped ≡ false → IsRunning (map R.machine a.ranks.fixed) a.next
+        a.look a.figures (fabric_of a.queues a.ranks.states) a.limiter) };
 }
 
 // Nothing was seen yet of so many inputs and outputs.
@@ -144,23 +140,10 @@ impl<R: Rank> Engine<R> {
         limits: &[Option<u64>],
         workers: u16,
     ) -> Result<Engine<R>, NoMemory>
-        requires machines { AreForOneSwitch (map R.machine (map R.fixed ranks.items)) }
-        requires from_inputs { length from_inputs.now ≡ length ranks.items }
-        requires to_outputs { length to_outputs.now ≡ length ranks.items }
-        requires limits { length limits.now ≡ length ranks.items }
-        requires some { 1 ≤ workers }
-        requires few { workers ≤ 64 }
-        ensures fixed { IfOk result (λ engine. engine.fixed ≡ map R.fixed ranks.items) }
-        ensures fabric { IfOk result (λ engine. engine.fabric ≡ empty_fabric (length ranks.items) (map R.state ranks.items)) }
-        ensures limits { IfOk result (λ engine. engine.limits ≡ limits.now) }
-        ensures marks { IfOk result (λ engine. engine.marks ≡ marks_down (length ranks.items)) }
-        // which is 0 at each output that has a limit
-        ensures refused { IfOk result (λ engine. engine.refused ≡ refused_counts limits.now []) }
-        ensures from_inputs { IfOk result (λ engine. engine.from_inputs ≡ from_inputs.now) }
-        ensures to_outputs { IfOk result (λ engine. engine.to_outputs ≡ to_outputs.now) }
-        ensures figures { IfOk result (λ engine. engine.figures ≡ no_figures (length ranks.items)) }
-        ensures next { IfOk result (λ engine. engine.next ≡ 0) }
-        ensures stopped { IfOk result (λ engine. engine.stopped ≡ false) }
+        requires { CanBeMade (map R.machine (map R.fixed ranks.items)) (length ranks.items) from_inputs.now
+            to_outputs.now limits.now workers }
+        ensures { IfOk result (λ engine. engine ≡ fresh_engine (length ranks.items) (map R.fixed ranks.items)
+            (map R.state ranks.items) from_inputs.now to_outputs.now limits.now) }
     {
         Ok(Engine {
             queues: Queues::new(alloc, from_inputs, to_outputs)?,
@@ -179,9 +162,9 @@ impl<R: Rank> Engine<R> {
 
     /// An engine that goes on from a state in which another stood still, with an input and an output for each rank. The
     /// ranks take on the states of their machines. List i has room for `from_inputs[i]` cells and buffer j for
-    /// `to_outputs[j]`, those that wait included; output j has the limit `limits[j]`, or none. All memory that a slot needs
-    /// is taken here. The first slot looks at all cells that wait, since nothing is known yet of their slack. The error is
-    /// want of memory.
+    /// `to_outputs[j]`, those that wait included; output j has the limit `limits[j]`, or none. All memory that a slot
+    /// needs is taken here. The first slot looks at all cells that wait, since nothing is known yet of their slack. The
+    /// error is want of memory.
     pub fn thaw(
         alloc: Global,
         ranks: Vec<R>,
@@ -191,13 +174,10 @@ impl<R: Rank> Engine<R> {
         workers: u16,
         from: &Frozen,
     ) -> Result<Engine<R>, NoMemory>
-        requires machines { AreForOneSwitch (map R.machine (map R.fixed ranks.items)) }
-        requires from_inputs { length from_inputs.now ≡ length ranks.items }
-        requires to_outputs { length to_outputs.now ≡ length ranks.items }
-        requires limits { length limits.now ≡ length ranks.items }
-        requires some { 1 ≤ workers }
-        requires few { workers ≤ 64 }
-        requires goes_on { CanGoOn (map R.machine (map R.fixed ranks.items)) limits.now from_inputs.now to_outputs.now from.now }
+        requires made { CanBeMade (map R.machine (map R.fixed ranks.items)) (length ranks.items) from_inputs.now
+            to_outputs.now limits.now workers }
+        requires goes_on { CanGoOn (map R.machine (map R.fixed ranks.items)) limits.now from_inputs.now to_outputs.now
+            from.now }
         ensures fixed { IfOk result (λ engine. engine.fixed ≡ map R.fixed ranks.items) }
         ensures limits { IfOk result (λ engine. engine.limits ≡ limits.now) }
         ensures frozen { IfOk result (λ engine. frozen_of engine ≡ from.now) }
@@ -262,8 +242,9 @@ impl<R: Rank> Engine<R> {
     /// No memory is needed for a slot to succeed: a phase of two workers or more takes a ledger, and is settled
     /// by one thread where there is none.
     ///
-    /// The error is the first rank, in order of input, that does not fit 128 bits. Then `sent`, `note`, the figures, the
-    /// counts of what was refused, the lists, the buffers and the next slot are as before, and the engine is stopped.
+    /// The error is the first rank, in order of input, that does not fit 128 bits. Then `sent`, `note`, the figures,
+    /// the counts of what was refused, the lists, the buffers and the next slot are as before, and the engine is
+    /// stopped.
     pub fn slot<T: Threads + Sync, G: Gate>(
         &mut self,
         rt: &T,
@@ -279,8 +260,10 @@ impl<R: Rank> Engine<R> {
         requires early { slot < 2 ^ 64 - 1 }
         requires arrivals { AreForPorts (ports_of self.old) (class_count (map R.machine self.old.fixed)) arrivals.now }
         requires ready { IsReadyFor arrivals.now self.old sent.old note.old }
-        ensures answer { result ≡ answer_to (ranking (map R.machine self.old.fixed) slot 0 (its_admission arrivals.now self.old).cells self.old.fabric.ranks) }
-        ensures slot { OnOk result (SlotDone (map R.machine self.old.fixed) slot arrivals.now self.old self.new sent.old sent.new note.old note.new) }
+        ensures answer { result ≡ answer_to (ranking (map R.machine self.old.fixed) slot 0
+            (its_admission arrivals.now self.old).cells self.old.fabric.ranks) }
+        ensures slot { OnOk result (SlotDone (map R.machine self.old.fixed) slot arrivals.now self.old self.new sent.old
+            sent.new note.old note.new) }
         ensures went_on { OnOk result (HasGoneOn slot self.old self.new) }
         ensures made { IsMadeAs self.old self.new }
         ensures stopped { self.new.stopped ≡ is_err result }
@@ -349,21 +332,7 @@ impl<R: Rank> Engine<R> {
         requires running { self.old.stopped ≡ false }
         requires empty { IsEmptyFabric self.old.fabric }
         requires later { self.old.next < to }
-        ensures slots { LimitedFabricRun IsInputBest self.old.limits (map R.machine self.old.fixed) self.old.next
-            (replicate (to - self.old.next) no_arrivals) (marked_fabric self.old) (quiet_limited_slots (map R.machine
-            self.old.fixed) (to - self.old.next) self.old.next (ports_of self.old) self.old.fabric.ranks
-            self.old.marks) (marked_fabric self.new) }
-        ensures limits { self.new.limits ≡ self.old.limits }
-        ensures marks { self.new.marks ≡ self.old.marks }
-        ensures refused { self.new.refused ≡ self.old.refused }
-        ensures figures { self.new.figures ≡ self.old.figures }
-        ensures next { self.new.next ≡ to }
-        ensures inputs { self.new.fabric.inputs ≡ self.old.fabric.inputs }
-        ensures buffers { self.new.fabric.buffers ≡ self.old.fabric.buffers }
-        ensures fixed { self.new.fixed ≡ self.old.fixed }
-        ensures from_inputs { self.new.from_inputs ≡ self.old.from_inputs }
-        ensures to_outputs { self.new.to_outputs ≡ self.old.to_outputs }
-        ensures running { self.new.stopped ≡ false }
+        ensures { HasRested (map R.machine self.old.fixed) self.old.next to self.old self.new }
     {
         self.ranks.rest();
         self.next = to;

@@ -23,7 +23,8 @@ pub fn cells_are_kept()
     // what is refused takes no room
     ensures limited_lists { (limits : List (Option ℕ)) (ms : List Machine) (slot : ℕ) (cells : List (Option Cell))
         (f g : Marked Fabric) (r : LimitedRecord) → LimitedFabricSlot IsInputBest limits ms slot cells f r g →
-        (i : ℕ) → length (input g.state i) ≤ length (input f.state i) + (if is_some (arrival_at cells i) then 1 else 0) }
+        (i : ℕ) → length (input g.state i)
+        ≤ length (input f.state i) + (if is_some (arrival_at cells i) then 1 else 0) }
     ensures limited_outputs { (limits : List (Option ℕ)) (ms : List Machine) (slot : ℕ) (cells : List (Option Cell))
         (f g : Marked Fabric) (r : LimitedRecord) → LimitedFabricSlot IsInputBest limits ms slot cells f r g →
         (j : ℕ) → held_for j g.state ≤ held_for j f.state + count_for j cells }

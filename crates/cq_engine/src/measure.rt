@@ -85,8 +85,8 @@ fn slack_seen(look: Look, queues: &Queues, input: usize, came: Option<Queued>) -
     }
 }
 
-// The least slack that was seen at an input, with what is seen of it now. None is less than 0, so once that was seen none
-// is looked for.
+// The least slack that was seen at an input, with what is seen of it now. None is less than 0, so once that was seen
+// none is looked for.
 fn least_seen(
     look: Look,
     least: Option<u64>,
@@ -171,7 +171,8 @@ pub fn count_inputs(
     requires outputs { (i : ℕ) (c : Queued) → came_to came.now i ≡ Some c → c.cell.output < length queues.now.inputs }
     requires newest { (i : ℕ) (c : Queued) → came_to came.now i ≡ Some c → IsNewest c (list_of queues.now.inputs i) }
     requires counts { (i : ℕ) (x : OfInput) → slice_get inputs.old i ≡ Some x → x.cells < 2 ^ 64 - 1 }
-    ensures { inputs.new ≡ map (λ at. input_counted look queues.now at.0 (came_to came.now at.0) at.1) (enumerate_from 0 inputs.old) }
+    ensures { inputs.new ≡ map (λ at. input_counted look queues.now at.0 (came_to came.now at.0) at.1)
+        (enumerate_from 0 inputs.old) }
 {
     'inputs: for input in 0..queues.ports() as usize {
         let counted = input_counted(
@@ -189,7 +190,8 @@ pub fn count_inputs(
 pub fn count_outputs(outputs: &mut Sequence<OutputFigures>, slot: Slot, gone: &[Option<Queued>])
     requires ports { length outputs.old ≡ length gone.now }
     requires counts { (j : ℕ) (x : OfOutput) → slice_get outputs.old j ≡ Some x → x.cells < 2 ^ 64 - 1 }
-    ensures { outputs.new ≡ map (λ at. output_counted slot (came_to gone.now at.0) at.1) (enumerate_from 0 outputs.old) }
+    ensures { outputs.new ≡ map (λ at. output_counted slot (came_to gone.now at.0) at.1)
+        (enumerate_from 0 outputs.old) }
 {
     'outputs: for output in 0..gone.len() {
         if let Some(queued) = gone[output] {

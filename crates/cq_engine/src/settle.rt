@@ -24,9 +24,9 @@ fn nothing_offered(offers: &Offers) -> bool
     true
 }
 
-/// The input-best matching of the offers is transferred, and noted. One worker finds it in `core`, which is kept between
-/// phases, and of more workers so many at most propose at once. Where nothing is offered none is looked for, and nothing
-/// is transferred. The answer is how many proposals were made.
+/// The input-best matching of the offers is transferred, and noted. One worker finds it in `core`, which is kept
+/// between phases, and of more workers so many at most propose at once. Where nothing is offered none is looked for,
+/// and nothing is transferred. The answer is how many proposals were made.
 pub fn cross<T: Threads + Sync, G: Gate>(
     core: &mut Core,
     queues: &mut Queues,

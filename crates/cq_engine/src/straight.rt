@@ -1,15 +1,13 @@
 //! The straight way of cells through a fabric in which none waits.
 //!
-//! Where each cell that comes is for another output, the first matching has all of them, and each is sent in the slot in
-//! which it came. So no list and no buffer is touched, and no matching is looked for.
-ghost use Rattle.std.specs.Prelude.{◌≡◌, ◌+◌, ◌-◌, ◌<◌, ◌≤◌, ◌^◌, ◌++◌, ℕ, IfSome, IsTrue, Some, is_some, if◌then◌else◌, length, map, max, slice_get, slice_index_or, take};
-ghost use Rattle.std.specs.List.{enumerate_from, list_any};
+//! Where each cell that comes is for another output, the first matching has all of them, and each is sent in the slot
+//! in which it came. So no list and no buffer is touched, and no matching is looked for.
+ghost use Rattle.std.specs.Prelude.{◌≡◌, ◌+◌, ◌-◌, ◌<◌, ◌≤◌, ◌^◌, ◌++◌, ℕ, IsTrue, Some, length, map, slice_get, take};
+ghost use Rattle.std.specs.List.{enumerate_from};
 ghost use Rattle.cq_base.specs.declared.cell.Queued.{Queued as OfCell};
 ghost use Rattle.cq_base.specs.declared.figures.InputFigures.{InputFigures as OfInput};
-ghost use Rattle.cq_base.specs.declared.figures.OutputFigures.{OutputFigures as OfOutput};
-ghost use Rattle.cq_ideal.specs.IdealSlot.{all_told, departures_in};
 ghost use Rattle.cq_laws.specs.Phases.{came_to};
-ghost use Rattle.cq_engine.specs.Measuring.{output_counted};
+ghost use Rattle.cq_engine.specs.Sending.{CanSend, EachHasSent};
 ghost use Rattle.cq_engine.specs.Straight.{AreSent, GoStraight, crossings, input_passed};
 
 use crate::depart::leave;
@@ -93,8 +91,8 @@ fn count_passed(inputs: &mut Sequence<InputFigures>, came: &Newcomers, ports: us
     }
 }
 
-/// The cells that came cross in the first phase, and the outputs send them, each that of its place in `gone`. The answer
-/// is how many there were.
+/// The cells that came cross in the first phase, and the outputs send them, each that of its place in `gone`. The
+/// answer is how many there were.
 pub fn pass<R: Rank>(
     ranks: &mut Ranks<R>,
     limiter: &mut Limiter,
@@ -105,36 +103,17 @@ pub fn pass<R: Rank>(
     sent: &mut Room<Departure>,
     note: &mut Room<Transfer>,
 ) -> u64
-    requires early { slot < 2 ^ 64 - 1 }
-    requires few { length gone.now ≤ 64 }
-    requires machines { length ranks.old.fixed ≡ length gone.now }
-    requires states { length ranks.old.states ≡ length ranks.old.fixed }
-    requires held { length limiter.old.held ≡ length gone.now }
-    requires holds { (j : ℕ) → IfSome (came_to gone.now j) (λ _. 0 < slice_index_or limiter.old.held j 0) }
-    requires sent { length gone.now ≤ sent.old.spare }
+    requires send { CanSend slot gone.now ranks.old limiter.old figures.old sent.old }
     requires note { length gone.now ≤ note.old.spare }
     requires inputs { length figures.old.inputs ≡ length gone.now }
-    requires outputs { length figures.old.outputs ≡ length gone.now }
     requires input_counts { (i : ℕ) (x : OfInput) → slice_get figures.old.inputs i ≡ Some x → x.cells < 2 ^ 64 - 1 }
-    requires output_counts { (j : ℕ) (x : OfOutput) → slice_get figures.old.outputs j ≡ Some x → x.cells < 2 ^ 64 - 1 }
     ensures many { result ≡ length (crossings slot (length gone.now) came.now) }
-    ensures fixed { ranks.new.fixed ≡ ranks.old.fixed }
-    ensures ranks { ranks.new.states ≡ all_told (map R.machine ranks.old.fixed) gone.now ranks.old.states }
-    ensures held { (j : ℕ) → slice_index_or limiter.new.held j 0 + (if is_some (came_to gone.now j) then 1 else 0)
-        ≡ slice_index_or limiter.old.held j 0 }
-    ensures ports { length limiter.new.held ≡ length limiter.old.held }
-    ensures marks { limiter.new.marks ≡ limiter.old.marks }
-    ensures refused { limiter.new.refused ≡ limiter.old.refused }
-    ensures limits { limiter.new.limits ≡ limiter.old.limits }
-    ensures sent { sent.new.items ≡ sent.old.items ++ departures_in slot gone.now }
-    ensures sent_room { sent.new.spare + length (departures_in slot gone.now) ≡ sent.old.spare }
+    ensures sent { EachHasSent (map R.machine ranks.old.fixed) slot gone.now ranks.old ranks.new limiter.old limiter.new
+        figures.old figures.new sent.old sent.new }
     ensures note { note.new.items ≡ note.old.items ++ crossings slot (length gone.now) came.now }
     ensures note_room { note.new.spare + length (crossings slot (length gone.now) came.now) ≡ note.old.spare }
-    ensures slots { figures.new.slots ≡ (if list_any is_some gone.now then max figures.old.slots (slot + 1) else figures.old.slots) }
-    ensures input_figures { figures.new.inputs ≡ map (λ at. input_passed (came_to came.now at.0) at.1) (enumerate_from 0 figures.old.inputs) }
-    ensures output_figures { figures.new.outputs ≡ map (λ at. output_counted slot (came_to gone.now at.0) at.1) (enumerate_from 0 figures.old.outputs) }
-    ensures proposals { figures.new.proposals ≡ figures.old.proposals }
-    ensures most { figures.new.most ≡ figures.old.most }
+    ensures input_figures { figures.new.inputs ≡ map (λ at. input_passed (came_to came.now at.0) at.1)
+        (enumerate_from 0 figures.old.inputs) }
 {
     let room = note.spare();
     note_each(came, gone.len(), slot, note);

@@ -1,7 +1,8 @@
-use Rattle.std.proofs.Common.{◌≡◌, ℕ, List, [], length, map, replicate, sym, ap, ◌∙◌, subst}
+use Rattle.std.proofs.Common.{◌≡◌, false, ℕ, List, [], length, map, replicate, sym, ap, ◌∙◌, subst}
 use Rattle.std.proofs.lemmas.List.{length-map}
 use Rattle.cq_base.specs.declared.cell.Queued.{Queued}
 use Rattle.cq_rank.specs.Switch.{AreForOneSwitch}
+use Rattle.cq_ideal.specs.Admission.{marks_down}
 use Rattle.cq_laws.specs.Measures.{no_figures}
 use Rattle.cq_engine.proofs.Begin.{running_first}
 use Rattle.cq_engine.proofs.engine.Engine.new.Goals as goal
@@ -17,7 +18,7 @@ invariant_of-result g c =
     ∙ length-map c.args.ranks.items g.R.Rank.fixed in
     let n : length c.args.from_inputs.now ≡ length c.args.ranks.items = c.requires.from_inputs in
     let none : List Queued = [] in (
-      record { some = c.requires.some; few = c.requires.few },
+      c.requires.workers,
       λ _. running_first ms (length c.args.ranks.items) c.of.result.states c.in_ok-new.field-0
           c.in_ok-no_figures.field-0 c.in_ok-new-2.field-0 one ports
           (ap length c.of.ensures.states ∙ length-map c.args.ranks.items g.R.Rank.state)
@@ -27,3 +28,26 @@ invariant_of-result g c =
           (ap length c.in_ok-new-2.ensures.limits ∙ c.requires.limits)
           (c.in_ok-new-2.ensures.held ∙ ap (λ k. replicate k 0) c.requires.limits),
     )
+
+pub returns : goal.returns
+returns g c =
+    let n : length c.args.from_inputs.now ≡ length c.args.ranks.items = c.requires.from_inputs in
+    let none : List Queued = [] in
+    let ports = length c.args.ranks.items in
+    let queues = c.in_ok-new.ensures in
+    let limiter = c.in_ok-new-2.ensures in
+    let inputs = queues.inputs ∙ ap (λ k. replicate k none) n in
+    let buffers = queues.buffers ∙ ap (λ k. replicate k none) n in
+    let figures = c.in_ok-no_figures.ensures ∙ ap no_figures n in
+    λ k. record {
+      fixed = c.of.ensures.fixed k;
+      limits = limiter.limits k;
+      fabric = record { inputs = inputs k; buffers = buffers k; ranks = c.of.ensures.states k };
+      marks = (limiter.marks ∙ ap marks_down c.requires.limits) k;
+      refused = limiter.refused k;
+      from_inputs = queues.from_inputs k;
+      to_outputs = queues.to_outputs k;
+      figures = figures k;
+      next = 0;
+      stopped = false;
+    }

@@ -63,23 +63,37 @@ invariant_of-self g c =
           }),
     )
 
-pub returns-clause-slots : goal.returns-clause-slots
-returns-clause-slots g c =
+pub returns : goal.returns
+returns g c =
     let e = c.self.inside in
     let M = g.R.Rank.machine in
-    let running = runs g (goal.at.returns-clause-slots g c).After-self in
-    let empty = subst (λ (v : EngineView). IsEmptyFabric v.fabric) (sym c.self.view_is) c.requires.empty in
-    let later : e.next < c.args.to =
-    subst (λ (v : EngineView). v.next < c.args.to) (sym c.self.view_is) c.requires.later in
+    let is = c.self.view_is in
+    let running = runs g (goal.at.returns g c).After-self in
+    let empty = subst (λ (v : EngineView). IsEmptyFabric v.fabric) (sym is) c.requires.empty in
+    let later : e.next < c.args.to = subst (λ (v : EngineView). v.next < c.args.to) (sym is) c.requires.later in
     let rested = c.rest.new.self.states in
     let many = running.in_step.ports ∙ length-map e.ranks.fixed M in
     let to = c.args.to in
-    subst
-    (λ (v : EngineView).
-    LimitedFabricRun IsInputBest v.limits (map M v.fixed) v.next (replicate (to - v.next) no_arrivals) (marked_fabric v)
-    (quiet_limited_slots (map M v.fixed) (to - v.next) v.next (length v.fixed) v.fabric.ranks v.marks)
-    (marked e.limiter.marks (fabric_of e.queues rested)))
-    c.self.view_is
-    (rested_limited_run e.limiter.limits e.limiter.marks (map M e.ranks.fixed) (length e.ranks.fixed) (to - e.next)
-    e.next (fabric_of e.queues e.ranks.states) rested empty running.in_step.agrees.fabric.square many (omega arith)
-    c.rest.ensures.states c.rest.ensures.again)
+    record {
+      slots =
+          subst
+          (λ (v : EngineView).
+          LimitedFabricRun IsInputBest v.limits (map M v.fixed) v.next (replicate (to - v.next) no_arrivals)
+          (marked_fabric v) (quiet_limited_slots (map M v.fixed) (to - v.next) v.next (length v.fixed) v.fabric.ranks
+          v.marks) (marked e.limiter.marks (fabric_of e.queues rested)))
+          is
+          (rested_limited_run e.limiter.limits e.limiter.marks (map M e.ranks.fixed) (length e.ranks.fixed)
+          (to - e.next) e.next (fabric_of e.queues e.ranks.states) rested empty running.in_step.agrees.fabric.square
+          many (omega arith) c.rest.ensures.states c.rest.ensures.again);
+      next = refl;
+      running = ap (λ (v : EngineView). v.stopped) is ∙ c.requires.running;
+      fixed = c.rest.ensures.fixed ∙ ap (λ (v : EngineView). v.fixed) is;
+      limits = ap (λ (v : EngineView). v.limits) is;
+      marks = ap (λ (v : EngineView). v.marks) is;
+      refused = ap (λ (v : EngineView). v.refused) is;
+      figures = ap (λ (v : EngineView). v.figures) is;
+      inputs = ap (λ (v : EngineView). v.fabric.inputs) is;
+      buffers = ap (λ (v : EngineView). v.fabric.buffers) is;
+      from_inputs = ap (λ (v : EngineView). v.from_inputs) is;
+      to_outputs = ap (λ (v : EngineView). v.to_outputs) is;
+    }

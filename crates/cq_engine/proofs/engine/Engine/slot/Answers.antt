@@ -1,6 +1,9 @@
 use Rattle.std.proofs.Common.{◌≡◌, ◌+◌, ◌*◌, ◌<◌, ◌≤◌, ◌++◌, ℕ, List, length, get_or, map, take, refl, sym, ap, ◌∙◌, subst, arith, append_assoc, length-append}
-use Rattle.std.specs.Prelude.{max}
+use Rattle.std.specs.Prelude.{IfSome, Option, max, slice_get}
 use Rattle.std.proofs.lemmas.List.{length-map}
+use Rattle.cq_base.specs.declared.cell.Queued.{Queued}
+use Rattle.cq_base.specs.declared.figures.Figures.{Figures}
+use Rattle.cq_base.specs.declared.figures.OutputFigures.{OutputFigures}
 use Rattle.cq_rank.specs.Switch.{class_count}
 use Rattle.cq_ideal.specs.Admission.{Admission, admitted, refused}
 use Rattle.cq_ideal.specs.IdealSlot.{all_told, fronts, departures_in}
@@ -8,6 +11,7 @@ use Rattle.cq_ideal.specs.Ranking.{ranking}
 use Rattle.cq_ideal.specs.Refused.{with_refused}
 use Rattle.cq_ideal.proofs.Slot.{by_marks}
 use Rattle.cq_prefs.specs.Moves.{transfers_of}
+use Rattle.cq_laws.specs.Phases.{came_to}
 use Rattle.cq_fabric.specs.Held.{HoldsFabric}
 use Rattle.cq_fabric.specs.Queues.{fabric_of}
 use Rattle.cq_fabric.proofs.Known.{AreRanked, HaveArrived, HaveJudged, HaveReleased, HaveSent}
@@ -15,6 +19,7 @@ use Rattle.cq_fabric.proofs.Limits.{admits_are, still_holds}
 use Rattle.cq_fabric.proofs.Slot.{came_newest, came_outputs, can_cross_first, can_cross_second, come_apart, few_cross, fits_lists, held_before}
 use Rattle.cq_fabric.proofs.Told.{length-told}
 use Rattle.cq_engine.specs.Engine.{EngineView, IsRunning, SlotDone, answer_to, its_admission}
+use Rattle.cq_engine.specs.Sending.{CanSend}
 use Rattle.cq_engine.specs.Straight.{GoStraight, crossings}
 use Rattle.cq_engine.specs.declared.measure.Look.TheVariants.{Arriving}
 use Rattle.cq_engine.proofs.Shown.{Begun, begun, buffers_room, can_count, come_to_ports, few, lists_room, numbers_fit, ports_are, ranked, seen}
@@ -92,6 +97,41 @@ judged g c =
       more = λ j inside. ap (λ (h : List ℕ). get_or h j 0) c.count.ensures.held ∙ was.held j inside;
     }
 
+-- these cells can be sent, if each output that sends one holds a cell
+can_send : (g : given.Over) (c : After-count g) →
+    Begun (map g.R.Rank.machine c.self.inside.ranks.fixed) c.args.slot c.args.arrivals.now c.self.inside.queues
+    c.self.inside.ranks.states c.self.inside.limiter c.self.inside.look c.self.inside.figures →
+    (gone : List (Option Queued)) → length gone ≡ length c.self.inside.queues.inputs → {x : Figures} →
+    x.outputs ≡ c.self.inside.figures.outputs →
+    ((j : ℕ) → IfSome (came_to gone j) (λ _. 0 < get_or c.count.new.self.held j 0)) →
+    CanSend c.args.slot gone c.take.new.self c.count.new.self x c.args.sent.now
+can_send g c begins gone long {x} outputs holds =
+    let up = begins.running.in_step in
+    let ports = up.ports in
+    let many = length-map c.self.inside.ranks.fixed g.R.Rank.machine in
+    let held = (judged g c).as_many in
+    let limits = ports_are begins in
+    let looks = ap (λ (v : EngineView). length v.fixed) c.self.view_is in
+    let fixed = ap length c.take.ensures.fixed in
+    let states = c.take.ensures.many in
+    let ranks = begins.running.ranks in
+    let room = c.requires.ready.sent_room in
+    let few = up.machines.few in
+    let early = c.requires.early in
+    record {
+      early = early;
+      few = omega arith;
+      machines = omega arith;
+      states = omega arith;
+      held = omega arith;
+      holds = holds;
+      sent = omega arith;
+      outputs = ap length outputs ∙ up.outputs ∙ sym ports ∙ sym long;
+      counts = λ j y there.
+          let counted = up.counts.outputs j y (ap (λ (l : List OutputFigures). slice_get l j) (sym outputs) ∙ there) in
+          omega arith;
+    }
+
 -- once the first matching has crossed
 crossed : (g : given.Over) (c : After-cross-first g) →
     HaveCrossed c.cross-first.ensures.matching c.cross-first.result c.arrive.new.self c.cross-first.new.queues
@@ -112,7 +152,7 @@ sent g c =
       inputs = c.depart.ensures.inputs;
       buffers = c.depart.ensures.buffers;
       told =
-          c.depart.ensures.ranks
+          c.depart.ensures.sent.told
           ∙ ap (λ (fixed : List (List ℕ)). all_told (map g.R.Rank.machine fixed) gone c.take.new.self.states)
           c.take.ensures.fixed;
       to_outputs = c.depart.ensures.to_outputs ∙ c.cross-first.ensures.to_outputs;
@@ -122,7 +162,7 @@ sent g c =
 released : (g : given.Over) (c : After-depart g) →
     HaveReleased (fronts c.cross-first.new.queues.buffers) c.count.new.self c.depart.new.limiter
 released g c =
-    record { limits = c.depart.ensures.limits; as_many = c.depart.ensures.ports; less = c.depart.ensures.held }
+    let did = c.depart.ensures.sent.released in record { limits = did.limits; as_many = did.ports; less = did.held }
 
 -- once the second matching has crossed too
 crossed_again : (g : given.Over) (c : After-cross-second g) →
@@ -150,7 +190,7 @@ whole g c =
     let begins = known g at.After-self in
     let first = c.cross-first.result in
     let second = c.cross-second.result in
-    let left = c.depart.ensures in
+    let left = c.depart.ensures.sent in
     let counted = c.count_proposals-2.ensures in
     whole_slot c.self.inside.figures begins.running.in_step (taken g at.In_default begins) (arrived g at.After-arrive)
     (buffers_room begins c.judge.new.self.marks) (crossed g at.After-cross-first) (sent g at.After-depart)
@@ -159,8 +199,8 @@ whole g c =
       slots = counted.slots ∙ left.slots;
       proposed = counted.proposals ∙ ap (λ n. n + (first + second)) left.proposals;
       most = counted.most ∙ ap (λ n. max n (max first second)) left.most;
-      inputs = counted.inputs ∙ left.input_figures ∙ c.count_inputs.ensures;
-      outputs = counted.outputs ∙ left.output_figures;
+      inputs = counted.inputs ∙ c.depart.ensures.input_figures ∙ c.count_inputs.ensures;
+      outputs = counted.outputs ∙ left.outputs;
     })
 
 -- ## What is known of the straight way
@@ -177,7 +217,7 @@ told_straight : (g : given.Over) (c : After-pass-crossed g) →
     c.pass-crossed.new.ranks.states
     ≡ all_told (map g.R.Rank.machine c.self.inside.ranks.fixed) c.of_outputs.result.now c.take.new.self.states
 told_straight g c =
-    c.pass-crossed.ensures.ranks
+    c.pass-crossed.ensures.sent.told
     ∙ ap
     (λ (fixed : List (List ℕ)). all_told (map g.R.Rank.machine fixed) c.of_outputs.result.now c.take.new.self.states)
     c.take.ensures.fixed
@@ -185,7 +225,8 @@ told_straight g c =
 released_straight : (g : given.Over) (c : After-pass-crossed g) →
     HaveReleased c.of_outputs.result.now c.count.new.self c.pass-crossed.new.limiter
 released_straight g c =
-    let did = c.pass-crossed.ensures in record { limits = did.limits; as_many = did.ports; less = did.held }
+    let did = c.pass-crossed.ensures.sent.released in
+    record { limits = did.limits; as_many = did.ports; less = did.held }
 
 -- no more cells cross than there are ports
 few_proposed : (g : given.Over) (c : After-pass-crossed g) →
@@ -198,7 +239,7 @@ few_proposed g c begins is =
     let did = c.pass-crossed.ensures in
     let few = crossings_few c.args.slot (length c.of_outputs.result.now) c.take.new.came in
     let many = did.many in
-    let had = did.proposals in
+    let had = did.sent.proposals in
     let was = ap (λ (v : EngineView). v.figures.proposals) c.self.view_is in
     let gone_long = is.ports in
     let ports = begins.running.in_step.ports in
@@ -230,15 +271,15 @@ all_straight g c =
     begins.running.in_step c.self.inside.look begins.running.seen c.pass-crossed.new.ranks.states
     (told_straight g at.After-pass-crossed) c.count_proposals.new.figures
     (record {
-      slots = counted.slots ∙ did.slots;
+      slots = counted.slots ∙ did.sent.slots;
       proposed =
-          counted.proposals ∙ ap (λ (n : ℕ). n + (c.pass-crossed.result + 0)) did.proposals
+          counted.proposals ∙ ap (λ (n : ℕ). n + (c.pass-crossed.result + 0)) did.sent.proposals
           ∙ ap (λ (n : ℕ). x.proposals + (n + 0)) many;
       most =
-          counted.most ∙ ap (λ (n : ℕ). max n (max c.pass-crossed.result 0)) did.most
+          counted.most ∙ ap (λ (n : ℕ). max n (max c.pass-crossed.result 0)) did.sent.most
           ∙ ap (λ (n : ℕ). max x.most (max n 0)) many;
       inputs = counted.inputs ∙ did.input_figures;
-      outputs = counted.outputs ∙ did.output_figures;
+      outputs = counted.outputs ∙ did.sent.outputs;
     })
 
 -- ## What the calls ask for
@@ -277,13 +318,15 @@ go_straight-requires g c =
     let at = goal.at.go_straight-requires g c in
     came_outputs (taken g at.In_default (known g at.After-self))
 
-pub pass-crossed-requires-clause-holds : goal.pass-crossed-requires-clause-holds
-pass-crossed-requires-clause-holds g c =
-    let at = goal.at.pass-crossed-requires-clause-holds g c in
+pub pass-crossed-requires-clause-send : goal.pass-crossed-requires-clause-send
+pass-crossed-requires-clause-send g c =
+    let at = goal.at.pass-crossed-requires-clause-send g c in
     let begins = known g at.After-self in
     let marks = c.judge.new.self.marks in
-    held_straight (taken g at.In_default begins) (lists_room begins marks) (straight g at.After-of_outputs)
-    (buffers_room begins marks) begins.running.holds (judged g at.After-count)
+    let is = straight g at.After-of_outputs in
+    can_send g at.After-count begins c.of_outputs.result.now is.ports refl
+    (held_straight (taken g at.In_default begins) (lists_room begins marks) is (buffers_room begins marks)
+    begins.running.holds (judged g at.After-count))
 
 pub count_proposals-requires : goal.count_proposals-requires
 count_proposals-requires g c =
@@ -321,23 +364,19 @@ cross-first-requires-clause-cells g c =
     let room = buffers_room begins c.judge.new.self.marks in
     λ _ _. can_cross_first (taken g at.In_default begins) (arrived g at.After-arrive) room
 
-pub depart-requires-clause-held : goal.depart-requires-clause-held
-depart-requires-clause-held g c =
-    let at = goal.at.depart-requires-clause-held g c in
+pub depart-requires : goal.depart-requires
+depart-requires g c =
+    let at = goal.at.depart-requires g c in
     let begins = known g at.After-self in
-    let many = (judged g at.After-count).as_many in
-    let holds = begins.running.holds.ports in
-    let came_ports = c.arrive.ensures.ports in
-    let moved = c.cross-first.ensures.moves.ports.0 in
-    omega arith
-
-pub depart-requires-clause-holds : goal.depart-requires-clause-holds
-depart-requires-clause-holds g c =
-    let at = goal.at.depart-requires-clause-holds g c in
-    let begins = known g at.After-self in
-    held_before (taken g at.In_default begins) (arrived g at.After-arrive)
+    let buffers = c.cross-first.new.queues.buffers in
+    let long = length-map buffers (λ (cells : List Queued). slice_get cells 0) in
+    let moved = c.cross-first.ensures.moves.ports.1 in
+    let came = ap length c.arrive.ensures.buffers in
+    let square = c.ports-ports.ensures.buffers in
+    can_send g at.After-count begins (fronts buffers) (long ∙ moved ∙ came ∙ square) refl
+    (held_before (taken g at.In_default begins) (arrived g at.After-arrive)
     (buffers_room begins c.judge.new.self.marks) (moved_of (crossed g at.After-cross-first)) begins.running.holds
-    (judged g at.After-count)
+    (judged g at.After-count))
 
 pub cross-second-requires-clause-cells : goal.cross-second-requires-clause-cells
 cross-second-requires-clause-cells g c =
@@ -380,7 +419,7 @@ invariant_of-self-2 g c =
           (λ (fixed : List (List ℕ)).
           IsRunning (map g.R.Rank.machine fixed) (c.args.slot + 1) Arriving c.count_proposals-2.new.figures new
           c.depart.new.limiter)
-          (sym (c.depart.ensures.fixed ∙ c.take.ensures.fixed))
+          (sym (c.depart.ensures.sent.fixed ∙ c.take.ensures.fixed))
           (record {
             in_step = done.in_step;
             seen = done.seen;
@@ -413,7 +452,7 @@ invariant_of-self-then-go_straight g c =
           (λ (fixed : List (List ℕ)).
           IsRunning (map g.R.Rank.machine fixed) (c.args.slot + 1) Arriving c.count_proposals.new.figures new
           c.pass-crossed.new.limiter)
-          (sym (c.pass-crossed.ensures.fixed ∙ c.take.ensures.fixed))
+          (sym (c.pass-crossed.ensures.sent.fixed ∙ c.take.ensures.fixed))
           (record {
             in_step = done.in_step;
             seen = done.seen;
@@ -449,7 +488,7 @@ returns-then-go_straight-clause-slot g c =
     let noted = ap length done.crossed in
     let many = ap (λ (n : ℕ). length (crossings slot n came)) is.ports in
     let gone = ap (λ l. length (departures_in slot l)) done.gone in
-    let sent_room = did.sent_room in
+    let sent_room = did.sent.left.spare in
     let new : EngineView =
     seen c.pass-crossed.new.ranks.fixed c.pass-crossed.new.ranks.states e.queues c.pass-crossed.new.limiter
     c.count_proposals.new.figures (slot + 1) e.stopped in
@@ -466,9 +505,9 @@ returns-then-go_straight-clause-slot g c =
                 admits_are e.limiter (fabric_of e.queues e.ranks.states) cells marks begins.running.holds
                 c.judge.ensures.marks;
             runs = done.is_slot;
-            marks = did.marks ∙ c.count.ensures.marks;
+            marks = did.sent.released.marks ∙ c.count.ensures.marks;
           };
-      departed = did.sent ∙ ap (λ l. c.args.sent.now.items ++ departures_in slot l) (sym done.gone);
+      departed = did.sent.left.items ∙ ap (λ l. c.args.sent.now.items ++ departures_in slot l) (sym done.gone);
       departed_room = omega arith;
       crossed =
           did.note
@@ -476,7 +515,7 @@ returns-then-go_straight-clause-slot g c =
       crossed_room = omega arith;
       counted = done.figures;
       refused =
-          did.refused ∙ c.count.ensures.refused
+          did.sent.released.refused ∙ c.count.ensures.refused
           ∙ ap (with_refused (refused marks cells)) c.judge.ensures.refused;
     })
 
@@ -496,7 +535,7 @@ returns-clause-slot g c =
     let done = whole g c in
     let one = c.cross-first.ensures in
     let two = c.cross-second.ensures in
-    let left = c.depart.ensures in
+    let left = c.depart.ensures.sent in
     let first = transfers_of c.cross-first.ensures.matching c.arrive.new.self.inputs slot 1 in
     let second = transfers_of c.cross-second.ensures.matching c.depart.new.queues.inputs slot 2 in
     let first_room = one.note_room in
@@ -504,7 +543,7 @@ returns-clause-slot g c =
     let both = ap length done.crossed in
     let longer = length-append first second in
     let gone = ap (λ l. length (departures_in slot l)) done.gone in
-    let sent_room = left.sent_room in
+    let sent_room = left.left.spare in
     let new : EngineView =
     seen c.depart.new.ranks.fixed c.depart.new.ranks.states c.cross-second.new.queues c.depart.new.limiter
     c.count_proposals-2.new.figures (slot + 1) e.stopped in
@@ -521,9 +560,9 @@ returns-clause-slot g c =
                 admits_are e.limiter (fabric_of e.queues e.ranks.states) cells marks begins.running.holds
                 c.judge.ensures.marks;
             runs = done.is_slot;
-            marks = left.marks ∙ c.count.ensures.marks;
+            marks = left.released.marks ∙ c.count.ensures.marks;
           };
-      departed = left.sent ∙ ap (λ l. c.args.sent.now.items ++ departures_in slot l) (sym done.gone);
+      departed = left.left.items ∙ ap (λ l. c.args.sent.now.items ++ departures_in slot l) (sym done.gone);
       departed_room = omega arith;
       crossed =
           two.noted ∙ ap (λ l. l ++ second) one.noted ∙ append_assoc c.args.note.now.items first second
@@ -531,7 +570,7 @@ returns-clause-slot g c =
       crossed_room = omega arith;
       counted = done.figures;
       refused =
-          left.refused ∙ c.count.ensures.refused
+          left.released.refused ∙ c.count.ensures.refused
           ∙ ap (with_refused (refused marks cells)) c.judge.ensures.refused;
     })
 
@@ -561,9 +600,10 @@ returns-in-Err-clause-made g c =
 pub returns-then-go_straight-clause-made : goal.returns-then-go_straight-clause-made
 returns-then-go_straight-clause-made g c =
     record {
-      fixed = c.pass-crossed.ensures.fixed ∙ c.take.ensures.fixed ∙ ap (λ (v : EngineView). v.fixed) c.self.view_is;
+      fixed =
+          c.pass-crossed.ensures.sent.fixed ∙ c.take.ensures.fixed ∙ ap (λ (v : EngineView). v.fixed) c.self.view_is;
       limits =
-          c.pass-crossed.ensures.limits ∙ c.count.ensures.limits ∙ c.judge.ensures.limits
+          c.pass-crossed.ensures.sent.released.limits ∙ c.count.ensures.limits ∙ c.judge.ensures.limits
           ∙ ap (λ (v : EngineView). v.limits) c.self.view_is;
       from_inputs = ap (λ (v : EngineView). v.from_inputs) c.self.view_is;
       to_outputs = ap (λ (v : EngineView). v.to_outputs) c.self.view_is;
@@ -572,9 +612,9 @@ returns-then-go_straight-clause-made g c =
 pub returns-clause-made : goal.returns-clause-made
 returns-clause-made g c =
     record {
-      fixed = c.depart.ensures.fixed ∙ c.take.ensures.fixed ∙ ap (λ (v : EngineView). v.fixed) c.self.view_is;
+      fixed = c.depart.ensures.sent.fixed ∙ c.take.ensures.fixed ∙ ap (λ (v : EngineView). v.fixed) c.self.view_is;
       limits =
-          c.depart.ensures.limits ∙ c.count.ensures.limits ∙ c.judge.ensures.limits
+          c.depart.ensures.sent.released.limits ∙ c.count.ensures.limits ∙ c.judge.ensures.limits
           ∙ ap (λ (v : EngineView). v.limits) c.self.view_is;
       from_inputs =
           c.cross-second.ensures.from_inputs ∙ c.depart.ensures.from_inputs ∙ c.cross-first.ensures.from_inputs
@@ -610,6 +650,6 @@ returns-clause-went_on g c =
     subst (λ (k : ℕ). c.cross-second.result ≤ k * k) (let e : length c.depart.new.queues.inputs ≡ n = omega arith in e)
     c.cross-second.ensures.few in
     let counted = c.count_proposals-2.ensures.proposals in
-    let left = c.depart.ensures.proposals in
+    let left = c.depart.ensures.sent.proposals in
     let was = ap (λ (v : EngineView). v.figures.proposals) c.self.view_is in
     record { next = refl; few = omega arith }

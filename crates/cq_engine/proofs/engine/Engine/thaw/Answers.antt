@@ -15,7 +15,7 @@ pub put-requires-clause-few : goal.put-requires-clause-few
 put-requires-clause-few g c =
     let same = ap length c.of-ranks.ensures.fixed in
     let many = length-map (map g.R.Rank.fixed c.args.ranks.items) g.R.Rank.machine in
-    let few = c.requires.machines.few in
+    let few = c.requires.made.machines.few in
     omega arith
 
 pub put-requires-clause-outputs : goal.put-requires-clause-outputs
@@ -43,31 +43,32 @@ held_in-requires-clause-fit g c = λ j below.
     let rooms = c.requires.goes_on.buffer_rooms j (omega arith) in
     let many = length-map (map g.R.Rank.fixed c.args.ranks.items) g.R.Rank.machine in
     let items = length-map c.args.ranks.items g.R.Rank.fixed in
-    let outputs = c.requires.to_outputs in
+    let outputs = c.requires.made.to_outputs in
     omega (arith, c.type_inv.to_outputs j)
 
 pub holding-requires-clause-few : goal.holding-requires-clause-few
 holding-requires-clause-few g c =
     let many = length-map (map g.R.Rank.fixed c.args.ranks.items) g.R.Rank.machine in
     let items = length-map c.args.ranks.items g.R.Rank.fixed in
-    let inputs = c.requires.from_inputs in
-    let few = c.requires.machines.few in
+    let inputs = c.requires.made.from_inputs in
+    let few = c.requires.made.machines.few in
     omega arith
 
 pub holding-requires-clause-square : goal.holding-requires-clause-square
-holding-requires-clause-square g c = c.requires.to_outputs ∙ sym c.requires.from_inputs
+holding-requires-clause-square g c = c.requires.made.to_outputs ∙ sym c.requires.made.from_inputs
 
 pub holding-requires-clause-lists : goal.holding-requires-clause-lists
 holding-requires-clause-lists g c =
     let many = length-map (map g.R.Rank.fixed c.args.ranks.items) g.R.Rank.machine in
     let items = length-map c.args.ranks.items g.R.Rank.fixed in
-    ap length c.as_slice-lists.ensures ∙ c.requires.goes_on.ports.lists ∙ many ∙ items ∙ sym c.requires.from_inputs
+    ap length c.as_slice-lists.ensures ∙ c.requires.goes_on.ports.lists ∙ many ∙ items ∙ sym c.requires.made.from_inputs
 
 pub holding-requires-clause-buffers : goal.holding-requires-clause-buffers
 holding-requires-clause-buffers g c =
     let many = length-map (map g.R.Rank.fixed c.args.ranks.items) g.R.Rank.machine in
     let items = length-map c.args.ranks.items g.R.Rank.fixed in
-    ap length c.as_slice-buffers.ensures ∙ c.requires.goes_on.ports.buffers ∙ many ∙ items ∙ sym c.requires.from_inputs
+    ap length c.as_slice-buffers.ensures ∙ c.requires.goes_on.ports.buffers ∙ many ∙ items
+    ∙ sym c.requires.made.from_inputs
 
 pub holding-requires-clause-hold : goal.holding-requires-clause-hold
 holding-requires-clause-hold g c =
@@ -83,13 +84,13 @@ of-requires-clause-held g c =
     let many = length-map (map g.R.Rank.fixed c.args.ranks.items) g.R.Rank.machine in
     let items = length-map c.args.ranks.items g.R.Rank.fixed in
     ap length (c.as_slice.ensures ∙ c.in_ok-held.ensures) ∙ held_long (fabric_in c.args.from.now)
-    ∙ c.requires.goes_on.ports.lists ∙ many ∙ items ∙ sym c.requires.limits
+    ∙ c.requires.goes_on.ports.lists ∙ many ∙ items ∙ sym c.requires.made.limits
 
 pub of-requires-clause-marks : goal.of-requires-clause-marks
 of-requires-clause-marks g c =
     let many = length-map (map g.R.Rank.fixed c.args.ranks.items) g.R.Rank.machine in
     let items = length-map c.args.ranks.items g.R.Rank.fixed in
-    ap length c.as_slice-marks.ensures ∙ c.requires.goes_on.ports.marks ∙ many ∙ items ∙ sym c.requires.limits
+    ap length c.as_slice-marks.ensures ∙ c.requires.goes_on.ports.marks ∙ many ∙ items ∙ sym c.requires.made.limits
 
 pub invariant_of-result : goal.invariant_of-result
 invariant_of-result g c =
@@ -101,13 +102,13 @@ invariant_of-result g c =
     let states = c.put.new.self.states in
     let many = length-map (map g.R.Rank.fixed c.args.ranks.items) g.R.Rank.machine in
     let items = length-map c.args.ranks.items g.R.Rank.fixed in
-    let runs = goes_on ms c.args.limits.now c.args.from_inputs.now c.args.to_outputs.now x c.requires.machines
-    c.requires.goes_on limiter c.in_ok-limiter.ensures.limits (c.requires.limits ∙ sym items ∙ sym many)
+    let runs = goes_on ms c.args.limits.now c.args.from_inputs.now c.args.to_outputs.now x c.requires.made.machines
+    c.requires.goes_on limiter c.in_ok-limiter.ensures.limits (c.requires.made.limits ∙ sym items ∙ sym many)
     (c.in_ok-limiter.ensures.held ∙ c.as_slice.ensures ∙ c.in_ok-held.ensures) queues states figures
     (c.in_ok-queues.ensures.inputs ∙ c.as_slice-lists.ensures)
     (c.in_ok-queues.ensures.buffers ∙ c.as_slice-buffers.ensures)
     (c.put.ensures.states ∙ c.as_slice-states.ensures) c.in_ok-figures.ensures in (
-      record { some = c.requires.some; few = c.requires.few },
+      c.requires.made.workers,
       λ _. subst
           (λ (fixed : List (List ℕ)).
           IsRunning (map g.R.Rank.machine fixed) x.next look.All figures (fabric_of queues states) limiter)
