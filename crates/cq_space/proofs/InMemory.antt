@@ -2,7 +2,7 @@
 -- first. So a new value at that entry is a new value of the name and changes nothing else, and the cut and
 -- the bytes of the open name, which the code takes from its entry, are those that the meaning has.
 use Rattle.std.proofs.Common.{◌≡◌, ℕ, ◌+◌, ◌-◌, ◌<◌, ◌≤◌, min, true, false, List, [], ◌++◌, length, get_or, set, map, take, drop, refl, ap, sym, subst, ◌∙◌, arith, unwrap_or, string_bytes}
-use Rattle.std.proofs.lemmas.List.{length-map, get_or-map, with_items_is, length-drop, length-take, take_rest, take_at, take-append-drop, drop_all, drop-drop}
+use Rattle.std.proofs.lemmas.List.{length-append, length-map, get_or-map, with_items_is, length-drop, length-take, take_rest, take_at, take-append-drop, drop_all, drop-drop}
 use Rattle.std.specs.Prelude.{Option, None, Some, Vec, is_some, IfSome, IsSomeAnd}
 use Rattle.std.specs.declared.alloc.Global.{Global}
 use Rattle.std.specs.Vec.{with_items}
@@ -15,7 +15,7 @@ use Rattle.cq_space.specs.declared.entries.State.TheVariants as state
 use Rattle.cq_space.specs.Calls.{Calls, IsShort, one_more}
 use Rattle.cq_space.specs.Cut.{StaysBefore}
 use Rattle.cq_space.specs.MemSpace.{MemSpace, told_space, cut_at, moved_at}
-use Rattle.cq_space.specs.Space.{Closed, Reading, BeginsReading, TakesNext, ReadsOn, Appends, bytes_of}
+use Rattle.cq_space.specs.Space.{Mode, Closed, Reading, IsReading, Space, read_name, BeginsReading, TakesNext, ReadsOn, Appends, bytes_of}
 use Rattle.cq_space.specs.Entries.{same_name, Columns, columns_of, contents_of, read_cuts_of, write_cuts_of, by_name, IsEntryOf, name_at, told_at, bytes_at, mode_of, IsInPlace, with_bytes, with_read_cut, with_write_cut, SaysTheSame}
 use Rattle.cq_space.proofs.ByName.{get-by_name, value_of-first, value_of-none, by_name-set}
 use Rattle.cq_space.proofs.Columns.{AreEven, are_even, told_at-is}
@@ -317,14 +317,15 @@ takes_next name bytes most place count e some = (
 )
 
 pub reads_on : {es : List Entry} {at place faults starved : ℕ} {calls : Calls} {m : MemSpace} (most count : ℕ)
-    (e : Entry) (held piece buf : List ℕ) → Stands es (state.Reads at place) faults starved calls m →
+    (e : Entry) (held piece buf : List ℕ) (after : Space) →
+    Stands es (state.Reads at place) faults starved calls m →
     e ≡ get_or es at e → held ≡ unwrap_or (option_map (λ v. v.items) e.bytes) []
     → count ≡ min (length (take (length held - place) (drop place held))) most →
-    piece ≡ take count (take (length held - place) (drop place held)) → 0 < most
-    →
-    ReadsOn (Some m.contents) m.mode (take count (piece ++ drop count buf))
-    (mode_of (columns_of es) (state.Reads at (place + count)))
-reads_on {es} {at} {place} {faults} {starved} {calls} {m} most count e held piece buf o here had counted copied some =
+    piece ≡ take count (take (length held - place) (drop place held)) → 0 < most →
+    after.mode ≡ mode_of (columns_of es) (state.Reads at (place + count)) →
+    ReadsOn (told_space m) after (piece ++ drop count buf) count
+reads_on {es} {at} {place} {faults} {starved} {calls} {m} most count e held piece buf after o here had counted copied
+    some stands =
     let c = columns_of es in
     let bytes = bytes_at c at in
     let same : held ≡ bytes = had ∙ sym (held_is es at e o.sound.0.there here) in
@@ -335,14 +336,17 @@ reads_on {es} {at} {place} {faults} {starved} {calls} {m} most count e held piec
     let len : length piece ≡ count = ap (λ (ys : List ℕ). length ys) k ∙ next_length bytes most place count n in
     let front : take count (piece ++ drop count buf) ≡ take count (drop place bytes) =
     take_at piece (drop count buf) count len ∙ k in
+    let within : count ≤ length (piece ++ drop count buf) = omega (arith, len, length-append piece (drop count buf)) in
     let P : MemSpace → Type 0 =
-    λ (x : MemSpace). ReadsOn (Some x.contents) x.mode (take count (piece ++ drop count buf))
-    (mode_of c (state.Reads at (place + count))) in
+    λ (x : MemSpace). ReadsOn (told_space x) after (piece ++ drop count buf) count in
     let Q : List ℕ → Type 0 =
     λ (ys : List ℕ). TakesNext (mode_of c (state.Reads at place)) ys
     (mode_of c (state.Reads at (place + count))) in
+    let R : Mode → Type 0 =
+    λ (mode : Mode). TakesNext (mode_of c (state.Reads at place)) (take count (piece ++ drop count buf)) mode in
     subst P (sym o.is) (record {
-      reading = tt;
-      named = refl;
-      next = subst Q (sym front) (takes_next (name_at c at) bytes most place count n some);
+      within = within;
+      reading = subst IsReading (sym stands) tt;
+      named = ap read_name stands;
+      next = subst R (sym stands) (subst Q (sym front) (takes_next (name_at c at) bytes most place count n some));
     })

@@ -1,8 +1,8 @@
 -- What clauses see of files in memory.
-use Rattle.std.specs.Prelude.{◌≡◌, ◌⊎◌, ℕ, ◌-◌, ◌≤◌, false, IsTrue, length, Option, None, Some}
+use Rattle.std.specs.Prelude.{◌≡◌, ◌⊎◌, ℕ, ◌-◌, ◌≤◌, false, IsTrue, [], length, Option, None, Some}
 use Rattle.std.specs.Ordering.{nat_cmp}
 use Rattle.std.specs.Cmp.Lexicographic.{slice_cmp}
-use Rattle.std.specs.FinMap.{FinMap, get, code}
+use Rattle.std.specs.FinMap.{FinMap, empty, get, code}
 use Rattle.std.specs.Coded.{Coded, coded_list, coded_ℕ}
 use Rattle.cq_space.specs.Call.{Call, StartRead, Read, StartWrite, Write, Finish}
 use Rattle.cq_space.specs.Calls.{Calls, IsShort, next_fails, one_more}
@@ -28,6 +28,18 @@ pub record MemSpace : Type 0 where
   pub faults : ℕ
   pub starved : ℕ
   pub calls : Calls
+
+-- no name, nothing open, no cut and no fault
+abbrev pub no_files : MemSpace
+no_files = record {
+  mode = Closed;
+  contents = empty;
+  read_cuts = empty;
+  write_cuts = empty;
+  faults = 0;
+  starved = 0;
+  calls = record { made = 0; failing = []; most = None };
+}
 
 -- it tells its contents
 abbrev pub told_space : MemSpace → Space

@@ -71,15 +71,21 @@ TakesNext (Reading name left) piece (Reading name' left') =
     (name' ≡ name) × (left ≡ piece ++ left') × (piece ≡ [] → left' ≡ [])
 TakesNext _ piece _ = ⊥
 
--- it goes on reading the name; where contents are told, the piece is next
-pub record ReadsOn (told : Option Contents) (old : Mode) (piece : List ℕ) (new : Mode) : Type 0 where
-  pub reading : IsReading new
-  pub named : read_name new ≡ read_name old
-  pub next : OnSome told (TakesNext old piece new)
+-- so many bytes stand at the front of the buffer, and it goes on reading the name; where contents are told, they are next
+pub record ReadsOn (old new : Space) (buf : List ℕ) (n : ℕ) : Type 0 where
+  pub within : n ≤ length buf
+  pub reading : IsReading new.mode
+  pub named : read_name new.mode ≡ read_name old.mode
+  pub next : OnSome old.told (TakesNext old.mode (take n buf) new.mode)
 
 -- told contents after the name is emptied
 abbrev pub emptied : List ℕ → Option Contents → Option Contents
 emptied name told = option_map (λ m. insert m name []) told
+
+-- writing the name began, with no bytes
+pub record BeginsWriting (old new : Space) (name : List ℕ) : Type 0 where
+  pub mode : new.mode ≡ Writing name
+  pub told : new.told ≡ emptied name old.told
 
 -- told contents after the piece is appended to the name's bytes
 abbrev pub appended : List ℕ → List ℕ → Option Contents → Option Contents
@@ -99,3 +105,8 @@ pub record Appends (old new : Space) (bytes : List ℕ) (n : ℕ) : Type 0 where
 -- after a write that was cut short: as before, or the front of the bytes
 abbrev pub IsCutAt : List ℕ → List ℕ → Option Contents → Option Contents → Type 0
 IsCutAt name bytes old new = (new ≡ old) ⊎ ((n : ℕ) × (new ≡ replaced name (take n bytes) old))
+
+-- nothing is open afterwards, and contents are as before
+pub record Closes (old new : Space) : Type 0 where
+  pub mode : new.mode ≡ Closed
+  pub told : new.told ≡ old.told

@@ -1,9 +1,9 @@
 // What is asked of a file space, and what its calls answer.
-ghost use Rattle.std.specs.Prelude.{◌≡◌, ◌<◌, ◌≤◌, ℕ, length, take, IfOk, OnOk, OnErr};
-ghost use Rattle.cq_space.specs.Causes.{HasCause};
+ghost use Rattle.std.specs.Prelude.{◌≡◌, ◌<◌, ◌≤◌, ℕ, length, IfOk, OnOk, OnErr};
+ghost use Rattle.cq_space.specs.Answering.{HasAnswered};
 ghost use Rattle.cq_space.specs.Call.{Call};
 ghost use Rattle.cq_space.specs.Failing.{Lasts};
-ghost use Rattle.cq_space.specs.Space.{Space, Closed, Writing, IsReading, IsWriting, Finds, ReadsOn, Appends, emptied};
+ghost use Rattle.cq_space.specs.Space.{Space, Closed, IsReading, IsWriting, Finds, ReadsOn, BeginsWriting, Appends, Closes};
 
 /// A call met a fault. The count of faults of the object that answers it rose in that call.
 #[derive(Clone, Copy, Debug, PartialEq, Eq)]
@@ -59,11 +59,8 @@ pub trait Files {
         ensures found { IfOk result (Finds (space self.old) (space self.new) name.now) }
         ensures err { OnErr result ((space self.new).mode ≡ Closed) }
         ensures told { (space self.new).told ≡ (space self.old).told }
-        ensures cause { HasCause (space self.old).faults (space self.new).faults result }
-        ensures why { OnErr result (may_fail (Call.StartRead name.now) self.old self.new) }
-        ensures passed { OnOk result (may_pass self.old) }
-        ensures counted { counts self.old self.new }
-        ensures kept { keeps self.old self.new };
+        ensures answered { HasAnswered space (Call.StartRead name.now) may_fail may_pass counts keeps
+            self.old self.new result };
 
     /// Reads on, into the front of `buf`. The mode has to be reading, and `buf` not empty.
     ///
@@ -73,23 +70,18 @@ pub trait Files {
     fn read(&mut self, buf: &mut [u8]) -> Result<usize, Failed>
         requires mode { IsReading (space self.old).mode }
         requires room { 0 < length buf.old }
-        ensures bound { IfOk result (λ n. n ≤ length buf.new) }
-        ensures next { IfOk result (λ n. ReadsOn (space self.old).told (space self.old).mode (take n buf.new) (space self.new).mode) }
+        ensures next { IfOk result (ReadsOn (space self.old) (space self.new) buf.new) }
         ensures err { OnErr result ((space self.new).mode ≡ Closed) }
         ensures told { (space self.new).told ≡ (space self.old).told }
-        ensures cause { HasCause (space self.old).faults (space self.new).faults result }
-        ensures why { OnErr result (may_fail Call.Read self.old self.new) }
-        ensures passed { OnOk result (may_pass self.old) }
-        ensures counted { counts self.old self.new }
         ensures moved { IfOk result (may_move self.old) }
-        ensures kept { keeps self.old self.new };
+        ensures answered { HasAnswered space Call.Read may_fail may_pass counts keeps
+            self.old self.new result };
 
     /// Ends reading, at the name's end or before it. The mode has to be reading. The mode is closed
     /// afterwards, and contents are as before.
     fn end_read(&mut self)
         requires { IsReading (space self.old).mode }
-        ensures closed { (space self.new).mode ≡ Closed }
-        ensures told { (space self.new).told ≡ (space self.old).told }
+        ensures closed { Closes (space self.old) (space self.new) }
         ensures uncounted { (space self.new).faults ≡ (space self.old).faults }
         ensures left { leaves self.old self.new }
         ensures kept { keeps self.old self.new };
@@ -100,15 +92,10 @@ pub trait Files {
     /// mode is closed, and contents are as before.
     fn start_write(&mut self, name: &str) -> Result<(), Failed>
         requires { (space self.old).mode ≡ Closed }
-        ensures ok { OnOk result ((space self.new).mode ≡ Writing name.now) }
-        ensures emptied { OnOk result ((space self.new).told ≡ emptied name.now (space self.old).told) }
-        ensures err { OnErr result ((space self.new).mode ≡ Closed) }
-        ensures same { OnErr result ((space self.new).told ≡ (space self.old).told) }
-        ensures cause { HasCause (space self.old).faults (space self.new).faults result }
-        ensures why { OnErr result (may_fail (Call.StartWrite name.now) self.old self.new) }
-        ensures passed { OnOk result (may_pass self.old) }
-        ensures counted { counts self.old self.new }
-        ensures kept { keeps self.old self.new };
+        ensures ok { OnOk result (BeginsWriting (space self.old) (space self.new) name.now) }
+        ensures err { OnErr result (Closes (space self.old) (space self.new)) }
+        ensures answered { HasAnswered space (Call.StartWrite name.now) may_fail may_pass counts keeps
+            self.old self.new result };
 
     /// Writes on, from the front of `bytes`. The mode has to be writing, and `bytes` not empty.
     ///
@@ -118,26 +105,18 @@ pub trait Files {
         requires mode { IsWriting (space self.old).mode }
         requires some { 0 < length bytes.now }
         ensures ok { IfOk result (Appends (space self.old) (space self.new) bytes.now) }
-        ensures err { OnErr result ((space self.new).mode ≡ Closed) }
-        ensures same { OnErr result ((space self.new).told ≡ (space self.old).told) }
-        ensures cause { HasCause (space self.old).faults (space self.new).faults result }
-        ensures why { OnErr result (may_fail Call.Write self.old self.new) }
-        ensures passed { OnOk result (may_pass self.old) }
-        ensures counted { counts self.old self.new }
+        ensures err { OnErr result (Closes (space self.old) (space self.new)) }
         ensures moved { IfOk result (may_move self.old) }
-        ensures kept { keeps self.old self.new };
+        ensures answered { HasAnswered space Call.Write may_fail may_pass counts keeps
+            self.old self.new result };
 
     /// Ends writing. The mode has to be writing. The mode is closed and contents are as before,
     /// whichever the answer. `Failed` says that the bytes may not have reached the disk.
     fn finish(&mut self) -> Result<(), Failed>
         requires { IsWriting (space self.old).mode }
-        ensures closed { (space self.new).mode ≡ Closed }
-        ensures told { (space self.new).told ≡ (space self.old).told }
-        ensures cause { HasCause (space self.old).faults (space self.new).faults result }
-        ensures why { OnErr result (may_fail Call.Finish self.old self.new) }
-        ensures passed { OnOk result (may_pass self.old) }
-        ensures counted { counts self.old self.new }
-        ensures kept { keeps self.old self.new };
+        ensures closed { Closes (space self.old) (space self.new) }
+        ensures answered { HasAnswered space Call.Finish may_fail may_pass counts keeps
+            self.old self.new result };
 
     /// What stays through each of two calls stays through both.
     ghost lasts: { Lasts keeps };

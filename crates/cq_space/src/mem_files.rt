@@ -1,9 +1,9 @@
 // Files in memory, which a test can set to fail.
 ghost use Rattle.std.specs.Prelude.{◌≡◌, ◌+◌, ◌-◌, ◌<◌, ◌≤◌, ◌^◌, ◌++◌, ◌∷◌, [], None, Some, min, OnOk, OnErr, MatchOption};
-ghost use Rattle.std.specs.FinMap.{insert, get, empty};
+ghost use Rattle.std.specs.FinMap.{insert, get};
 ghost use Rattle.cq_space.specs.Lasting.{cuts_last};
 ghost use Rattle.cq_space.specs.Space.{Closed};
-ghost use Rattle.cq_space.specs.MemSpace.{told_space, IsCounted, IsUncounted, MayFail, MayMove, MayPass, KeepsCuts};
+ghost use Rattle.cq_space.specs.MemSpace.{no_files, told_space, IsCounted, IsUncounted, MayFail, MayMove, MayPass, KeepsCuts};
 
 use crate::cut::before_cut;
 use crate::entries::{
@@ -55,15 +55,7 @@ impl Model for MemFiles {
 impl MemFiles {
     /// Files without a name: closed, with no cut and no fault.
     pub fn new(alloc: Global) -> Self
-        ensures mode { result.mode ≡ Closed }
-        ensures contents { result.contents ≡ empty }
-        ensures read_cuts { result.read_cuts ≡ empty }
-        ensures write_cuts { result.write_cuts ≡ empty }
-        ensures faults { result.faults ≡ 0 }
-        ensures starved { result.starved ≡ 0 }
-        ensures made { result.calls.made ≡ 0 }
-        ensures failing { result.calls.failing ≡ [] }
-        ensures most { result.calls.most ≡ None }
+        ensures { result ≡ no_files }
     {
         MemFiles {
             alloc,

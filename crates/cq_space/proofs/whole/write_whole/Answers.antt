@@ -17,6 +17,6 @@ loop-written-preserved g c =
       within =
           length-rest c.args.bytes.now c.loop-written.written c.in-Ok.count c.loop-written.invariant.within
           c.in-Ok.ensures.ok.within;
-      uncounted = c.in-Ok.ensures.cause.uncounted ∙ c.loop-written.invariant.uncounted;
-      kept = g.met.F.Files.lasts.both _ _ _ c.loop-written.invariant.kept c.write.ensures.kept;
+      uncounted = c.in-Ok.ensures.answered.cause.uncounted ∙ c.loop-written.invariant.uncounted;
+      kept = g.met.F.Files.lasts.both _ _ _ c.loop-written.invariant.kept c.write.ensures.answered.kept;
     }

@@ -1,4 +1,4 @@
-use Rattle.std.proofs.Common.{◌≤◌, ◌∙◌, ap, arith, inr}
+use Rattle.std.proofs.Common.{◌≤◌, ◌∙◌, ap, refl, arith, inr, rules}
 use Rattle.cq_space.specs.MemSpace.{MemSpace}
 use Rattle.cq_space.specs.Calls.{one_more}
 use Rattle.cq_space.specs.Cut.{IsReached, StaysBefore}
@@ -11,8 +11,8 @@ returns-in-Some-clause-next c =
     stands c.self.inside.entries.items c.self.inside.state _ c.self.inside.faults c.self.inside.starved
     c.self.inside.calls c.args.self.now c.in-Reads.is c.self.view_is c.self.invariant in
     reads_on c.in-Some.most c.min-count.result c.index-entry.result.now c.held.result.now c.copy_from_slice.new.self
-    c.args.buf.now now c.index-entry.ensures c.held.ensures c.min-count.ensures c.copy_from_slice.ensures.after
-    (c.in-Some.ensures.progress (c.within.ensures.some c.requires.room))
+    c.args.buf.now _ now c.index-entry.ensures c.held.ensures c.min-count.ensures c.copy_from_slice.ensures.after
+    (c.in-Some.ensures.progress (c.within.ensures.some c.requires.room)) refl
 
 pub returns-in-Some-clause-moved : goal.returns-in-Some-clause-moved
 returns-in-Some-clause-moved c =
@@ -30,14 +30,21 @@ returns-in-Some-clause-moved c =
           (c.next.ensures.made ∙ ap (λ (m : MemSpace). one_more m.calls) c.self.view_is) fewer c.within.ensures.short,
     )
 
-pub returns-in-None-clause-why : goal.returns-in-None-clause-why
-returns-in-None-clause-why c =
+pub returns-in-None-clause-answered : goal.returns-in-None-clause-answered
+returns-in-None-clause-answered c =
     let now =
     stands c.self.inside.entries.items c.self.inside.state _ c.self.inside.faults c.self.inside.starved
     c.self.inside.calls c.args.self.now c.in-Reads.is c.self.view_is c.self.invariant in
-    inr (record {
-      cut = of_read IsReached c.index-entry.result.now now c.index-entry.ensures c.in-None.ensures.reached;
-      starved =
-          ap (λ (m : MemSpace). m.starved) c.fault-in-None.ensures.closed
-          ∙ ap (λ (m : MemSpace). m.starved) c.self.view_is;
-    })
+    record {
+      cause = search rules;
+      why =
+          inr (record {
+            cut = of_read IsReached c.index-entry.result.now now c.index-entry.ensures c.in-None.ensures.reached;
+            starved =
+                ap (λ (m : MemSpace). m.starved) c.fault-in-None.ensures.closed
+                ∙ ap (λ (m : MemSpace). m.starved) c.self.view_is;
+          });
+      passed = tt;
+      counted = search rules;
+      kept = search rules;
+    }

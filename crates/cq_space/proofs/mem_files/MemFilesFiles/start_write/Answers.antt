@@ -1,4 +1,4 @@
-use Rattle.std.proofs.Common.{ap, ◌∙◌}
+use Rattle.std.proofs.Common.{ap, ◌∙◌, rules}
 use Rattle.std.specs.Prelude.{Some}
 use Rattle.std.specs.FinMap.{insert}
 use Rattle.cq_space.specs.MemSpace.{MemSpace}
@@ -7,8 +7,8 @@ use Rattle.cq_space.proofs.Columns.{are_even}
 use Rattle.cq_space.proofs.InMemory.{written_back, gives_bytes}
 use Rattle.cq_space.proofs.mem_files.MemFilesFiles.start_write.Goals as goal
 
-pub returns-in-Ok-clause-emptied : goal.returns-in-Ok-clause-emptied
-returns-in-Ok-clause-emptied c =
+pub returns-in-Ok-clause-ok : goal.returns-in-Ok-clause-ok
+returns-in-Ok-clause-ok c =
     let mid = c.place_of.new.entries in
     let changed =
     written_back mid c.deref_mut.result.now c.put_bytes.new.entries
@@ -17,5 +17,9 @@ returns-in-Ok-clause-emptied c =
     let told =
     gives_bytes (columns_of c.self.inside.entries.items) (columns_of mid.items) _ c.in-Ok.at c.args.name.now
     c.new.result.items c.in-Ok.ensures.same (are_even mid.items) c.in-Ok.ensures.ok changed in
-    ap Some (told ∙ ap (λ (m : MemSpace). insert m.contents c.args.name.now c.new.result.items) c.self.view_is
-    ∙ ap (insert c.args.self.now.contents c.args.name.now) c.new.ensures.items)
+    record {
+      mode = search rules;
+      told =
+          ap Some (told ∙ ap (λ (m : MemSpace). insert m.contents c.args.name.now c.new.result.items) c.self.view_is
+          ∙ ap (insert c.args.self.now.contents c.args.name.now) c.new.ensures.items);
+    }

@@ -1,4 +1,4 @@
-use Rattle.std.proofs.Common.{◌∙◌, ap, arith, take, inl, inr, ◌++◌}
+use Rattle.std.proofs.Common.{◌∙◌, ap, arith, take, inl, inr, ◌++◌, rules}
 use Rattle.cq_space.specs.MemSpace.{MemSpace}
 use Rattle.cq_space.specs.Calls.{one_more}
 use Rattle.cq_space.specs.Cut.{IsReached, StaysBefore}
@@ -32,16 +32,23 @@ returns-in-Ok-clause-moved c =
           c.within.ensures.short,
     )
 
-pub returns-in-None-clause-why : goal.returns-in-None-clause-why
-returns-in-None-clause-why c =
+pub returns-in-None-clause-answered : goal.returns-in-None-clause-answered
+returns-in-None-clause-answered c =
     let now =
     stands c.self.inside.entries.items c.self.inside.state _ c.self.inside.faults c.self.inside.starved
     c.self.inside.calls c.args.self.now c.in-Writes.is c.self.view_is c.self.invariant in
-    inr (inl (record {
-      cut =
-          of_write IsReached c.index-entry.result.now c.held.result.now now c.index-entry.ensures c.held.ensures
-          c.in-None.ensures.reached;
-      starved =
-          ap (λ (m : MemSpace). m.starved) c.fault-in-None.ensures.closed
-          ∙ ap (λ (m : MemSpace). m.starved) c.self.view_is;
-    }))
+    record {
+      cause = search rules;
+      why =
+          inr (inl (record {
+            cut =
+                of_write IsReached c.index-entry.result.now c.held.result.now now c.index-entry.ensures c.held.ensures
+                c.in-None.ensures.reached;
+            starved =
+                ap (λ (m : MemSpace). m.starved) c.fault-in-None.ensures.closed
+                ∙ ap (λ (m : MemSpace). m.starved) c.self.view_is;
+          }));
+      passed = tt;
+      counted = search rules;
+      kept = search rules;
+    }
