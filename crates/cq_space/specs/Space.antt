@@ -71,7 +71,8 @@ TakesNext (Reading name left) piece (Reading name' left') =
     (name' ≡ name) × (left ≡ piece ++ left') × (piece ≡ [] → left' ≡ [])
 TakesNext _ piece _ = ⊥
 
--- so many bytes stand at the front of the buffer, and it goes on reading the name; where contents are told, they are next
+-- so many bytes stand at the front of the buffer, and it goes on reading the name; where contents are told, they are
+-- next
 pub record ReadsOn (old new : Space) (buf : List ℕ) (n : ℕ) : Type 0 where
   pub within : n ≤ length buf
   pub reading : IsReading new.mode

@@ -1,5 +1,5 @@
 -- What contracts see of a reader and of its intake.
-use Rattle.std.specs.Prelude.{ℕ, List}
+use Rattle.std.specs.Prelude.{◌≡◌, ℕ, List}
 use Rattle.rtrb.specs.Ring.{IsPair, SameConsumer, SameProducer, consumer_capacity, known_items, received, sent}
 use Rattle.cq_stream.specs.declared.item.Item.{Item}
 use Rattle.cq_stream.specs.declared.item.Order.{Order}
@@ -33,3 +33,9 @@ waiting intake = known_items intake.items
 -- what the reader was told
 abbrev pub told : Intake → List Order
 told intake = sent intake.orders
+
+-- the intake has taken and told what it had, and is of the same reader
+pub record StandsAsBefore (old new : Intake) : Type 0 where
+  pub taken : taken new ≡ taken old
+  pub told : told new ≡ told old
+  pub reader : SameReader old new

@@ -1,8 +1,12 @@
 -- What a reader sends and what it leaves.
-use Rattle.std.specs.Prelude.{◌≡◌, ℕ, List, [], ◌∷◌, ◌++◌, map, Option, None}
+use Rattle.std.specs.Prelude.{◌≡◌, ℕ, List, [], ◌∷◌, ◌++◌, map, Option, None, Result, Ok, Err, IfOk, IfErr, IfSome}
 use Rattle.rtrb.specs.Ring.{IsPair, SameConsumer, SameProducer, received, sent}
 use Rattle.cq_pcap.specs.declared.capture.PacketRow.{PacketRow}
 use Rattle.cq_pcap.specs.declared.read.PcapRefusal.{PcapRefusal}
+use Rattle.cq_pcap.specs.Captured.{Captured}
+use Rattle.cq_pcap.specs.Faults.{IsFaulty, fault_of}
+use Rattle.cq_pcap.specs.Reading.{packets_of}
+use Rattle.cq_pcap.specs.Record.{Spells}
 use Rattle.cq_pcap.specs.Rows.{AreRowsUntil}
 use Rattle.cq_stream.specs.declared.item.Item.{Item}
 use Rattle.cq_stream.specs.declared.item.Item.TheVariants.{Row, Ended}
@@ -67,6 +71,13 @@ pub record DidAsTold (intake : Intake) (done : Done) : Type 0 where
 abbrev pub SameLeft : Done → Done → Type 0
 SameLeft old new =
     (bytes_of new ≡ bytes_of old) × (fault_found new ≡ fault_found old) × (all_sent new ≡ all_sent old)
+
+-- the bytes are read as the packets that they spell, or refused for their fault
+pub record AnswersOn (bytes : List ℕ) (result : Result (List Captured) PcapRefusal) : Type 0 where
+  pub spelt : IfOk result (λ packets. Spells bytes packets)
+  pub faulty : IfErr result (λ refusal. IfSome (fault_of refusal) (IsFaulty bytes))
+  pub read : IfOk result (λ packets. packets_of bytes ≡ Ok packets)
+  pub unread : IfErr result (λ refusal. IfSome (fault_of refusal) (λ fault. packets_of bytes ≡ Err fault))
 
 -- this reader left this
 pub record IsDoneOf (reader : Reader) (done : Done) : Type 0 where

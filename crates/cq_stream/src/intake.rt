@@ -18,14 +18,11 @@ pub struct Intake {
 }
 
 impl Intake {
-    ghost use Rattle.std.specs.Prelude.{◌≡◌, [], ◌∷◌, ◌++◌, Ok, Err, IfErr, IfNone, IfOk, IfSome, Some};
-    ghost use Rattle.cq_pcap.specs.Faults.{IsFaulty, fault_of};
-    ghost use Rattle.cq_pcap.specs.Reading.{packets_of};
-    ghost use Rattle.cq_pcap.specs.Record.{Spells};
+    ghost use Rattle.std.specs.Prelude.{◌≡◌, [], ◌∷◌, ◌++◌, IfErr, IfNone, IfSome, Some};
     ghost use Rattle.cq_pcap.specs.Rows.{AreRowsUntil};
     ghost use Rattle.cq_stream.specs.declared.item.Order.TheVariants as order;
-    ghost use Rattle.cq_stream.specs.Rings.{SameReader, taken, told, waiting};
-    ghost use Rattle.cq_stream.specs.Stream.{DidAsTold, HasRun, IsLeftTo, SameLeft, all_sent, bytes_of, fault_found, items_of};
+    ghost use Rattle.cq_stream.specs.Rings.{SameReader, StandsAsBefore, taken, told, waiting};
+    ghost use Rattle.cq_stream.specs.Stream.{AnswersOn, DidAsTold, HasRun, IsLeftTo, SameLeft, all_sent, bytes_of, fault_found, items_of};
 
     /// Tells the reader to send. It has been told nothing before.
     pub fn send(&mut self)
@@ -68,9 +65,7 @@ impl Intake {
         requires ran { HasRun done.old }
         ensures obeyed { DidAsTold self.old done.old }
         ensures all { taken self.new ++ waiting self.new ≡ all_sent done.new }
-        ensures taken { taken self.new ≡ taken self.old }
-        ensures told { told self.new ≡ told self.old }
-        ensures reader { SameReader self.old self.new }
+        ensures intake { StandsAsBefore self.old self.new }
         ensures same { SameLeft done.old done.new }
         ensures left { IsLeftTo self.new done.new }
         ensures ran { HasRun done.new }
@@ -86,10 +81,7 @@ impl Intake {
         requires done { IsLeftTo self done }
         requires ran { HasRun done }
         requires taken { taken self ≡ items_of rows.items }
-        ensures spelt { IfOk result (λ packets. Spells (bytes_of done) packets) }
-        ensures faulty { IfErr result (λ refusal. IfSome (fault_of refusal) (IsFaulty (bytes_of done))) }
-        ensures read { IfOk result (λ packets. packets_of (bytes_of done) ≡ Ok packets) }
-        ensures unread { IfErr result (λ refusal. IfSome (fault_of refusal) (λ fault. packets_of (bytes_of done) ≡ Err fault)) }
+        ensures answer { AnswersOn (bytes_of done) result }
         ensures obeyed { DidAsTold self done }
         ensures found { IfErr result (λ refusal. fault_found done ≡ Some refusal) }
         ensures rows { AreRowsUntil (bytes_of done) (fault_found done) rows.items }

@@ -1,5 +1,5 @@
 //! Captures go through a reader, in a thread of its own and beside its caller.
-ghost use Rattle.std.specs.Prelude.{◌≡◌, ◌≤◌, ◌^◌, [], length, IfOk};
+ghost use Rattle.std.specs.Prelude.{◌≡◌, [], IfOk};
 ghost use Rattle.cq_stream.specs.Rings.{SameReader, taken};
 ghost use Rattle.cq_stream.specs.Stream.{items_of};
 
