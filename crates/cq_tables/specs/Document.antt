@@ -1,5 +1,6 @@
 -- A configuration: its checks, in order, and the tables that it gives where they all hold.
 use Rattle.std.specs.Prelude.{◌≡◌, ℕ, suc, Bool, true, false, not, ◌&&◌, ◌==◌, if◌then◌else◌, nat_le, nat_lt, List, [], ◌∷◌, ◌++◌, codes, length, take, map, is_some, Option, None, Some, option_map, unwrap_or, Result, Ok, Err}
+use Rattle.std.specs.Int.{IsInRange}
 use Rattle.std.specs.List.{list_any}
 use Rattle.std.specs.Str.{bytes_eq, is_utf8}
 use Rattle.toml.specs.Data.{Data, Members, no_members, get_member}
@@ -16,6 +17,7 @@ use Rattle.cq_tables.specs.declared.version.Version.TheVariants.{One, Two}
 use Rattle.cq_tables.specs.declared.refusal.Wrong.{Wrong}
 use Rattle.cq_tables.specs.declared.refusal.Wrong.TheVariants.{NotToml, DuplicateAddress, DuplicateFile, NoSuchPortOrClass, TooLong}
 use Rattle.cq_tables.specs.declared.figures.Figures.{Figures}
+use Rattle.cq_tables.specs.declared.arrays.PortEntries.{PortEntries}
 use Rattle.cq_tables.specs.declared.refusal.TableRefusal.{TableRefusal}
 use Rattle.cq_tables.specs.declared.refusal.TableRefusal.TheVariants as refusal
 use Rattle.cq_tables.specs.declared.place.Array.{Array}
@@ -243,6 +245,22 @@ figures_of top = record {
   default_output = found_or 0 integer_value (codes "default_output") top;
   default_class = found_or 0 integer_value (codes "default_class") top;
 }
+
+-- those that have a range of their own are in it
+pub record AreFigures (figures : Figures) : Type 0 where
+  pub cell_bytes : IsInRange 1 65535 figures.cell_bytes
+  pub slot_ns : IsInRange 1 1000000000 figures.slot_ns
+  pub limit_bytes : IsInRange 24 268435456 figures.limit_bytes
+  pub workers : IsInRange 1 64 figures.workers
+
+-- the ports of the top table: of each the files, the discipline and the limit
+pub record ArePortsOf (top : Members) (ports : PortEntries) : Type 0 where
+  pub files : ports.files.items ≡ map port_row (rows_in Ports top)
+  pub kinds : ports.kinds.items ≡ map port_kind (rows_in Ports top)
+  pub limits : ports.limits.items ≡ map port_limit (rows_in Ports top)
+  pub count : length ports.files.items ≡ ports_in top
+  pub count_kinds : length ports.kinds.items ≡ ports_in top
+  pub count_limits : length ports.limits.items ≡ ports_in top
 
 -- the tables that the top table gives
 unfoldable pub tables_of : Members → Tables

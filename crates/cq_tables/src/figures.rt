@@ -1,9 +1,8 @@
 // The figures of a configuration: one integer each.
 ghost use Rattle.std.specs.Prelude.{◌≡◌, None, IfOk, IfErr};
-ghost use Rattle.std.specs.Int.{IsInRange};
 ghost use Rattle.toml.specs.View.{table_view};
 ghost use Rattle.cq_tables.specs.Check.{Refuses, first};
-ghost use Rattle.cq_tables.specs.Document.{figure_keys, figures_of};
+ghost use Rattle.cq_tables.specs.Document.{AreFigures, figure_keys, figures_of};
 ghost use Rattle.cq_tables.specs.Key.{checks_of};
 
 use crate::entries::Entries;
@@ -32,10 +31,7 @@ pub struct Figures {
 pub fn figures_in(entries: Entries) -> Result<Figures, TableRefusal>
     ensures held { IfOk result (λ _. first (checks_of (table_view entries.entry.table.now) (figure_keys entries.entry.place)) ≡ None) }
     ensures value { IfOk result (λ figures. figures ≡ figures_of (table_view entries.entry.table.now)) }
-    ensures cell_bytes { IfOk result (λ figures. IsInRange 1 65535 figures.cell_bytes) }
-    ensures slot_ns { IfOk result (λ figures. IsInRange 1 1000000000 figures.slot_ns) }
-    ensures limit_bytes { IfOk result (λ figures. IsInRange 24 268435456 figures.limit_bytes) }
-    ensures workers { IfOk result (λ figures. IsInRange 1 64 figures.workers) }
+    ensures in_range { IfOk result AreFigures }
     ensures refused { IfErr result (Refuses (first (checks_of (table_view entries.entry.table.now) (figure_keys entries.entry.place)))) }
 {
     let version = entries.required_integer("version", FIRST_VERSION, LAST_VERSION)?;

@@ -4,7 +4,7 @@ ghost use Rattle.std.specs.Int.{IsInRange};
 ghost use Rattle.std.specs.List.{AllPairs};
 ghost use Rattle.toml.specs.View.{table_view};
 ghost use Rattle.cq_tables.specs.Check.{Refuses};
-ghost use Rattle.cq_tables.specs.Document.{address_array, address_row, class_array, class_rows, classes_in, port_array, port_kind, port_limit, port_row, ports_in, rows_in, rule_array, rule_row, version_in};
+ghost use Rattle.cq_tables.specs.Document.{ArePortsOf, address_array, address_row, class_array, class_rows, classes_in, port_array, ports_in, rows_in, rule_array, rule_row, version_in};
 ghost use Rattle.cq_tables.specs.Key.{check_of};
 
 use crate::addresses::address_rows;
@@ -54,13 +54,8 @@ pub fn classes(alloc: Global, top: &Table, version: Version) -> Result<Vec<Class
 /// The ports.
 pub fn ports(alloc: Global, top: &Table) -> Result<PortEntries, TableRefusal>
     ensures held { IfOk result (λ _. check_of (table_view top.now) port_array ≡ None) }
-    ensures files { IfOk result (λ ports. ports.files.items ≡ map port_row (rows_in Array.Ports (table_view top.now))) }
-    ensures kinds { IfOk result (λ ports. ports.kinds.items ≡ map port_kind (rows_in Array.Ports (table_view top.now))) }
-    ensures limits { IfOk result (λ ports. ports.limits.items ≡ map port_limit (rows_in Array.Ports (table_view top.now))) }
+    ensures value { IfOk result (ArePortsOf (table_view top.now)) }
     ensures limit_range { IfOk result (λ ports. All (λ limit. IfSome limit (λ n. 1 ≤ n)) ports.limits.items) }
-    ensures count { IfOk result (λ ports. length ports.files.items ≡ ports_in (table_view top.now)) }
-    ensures count_kinds { IfOk result (λ ports. length ports.kinds.items ≡ ports_in (table_view top.now)) }
-    ensures count_limits { IfOk result (λ ports. length ports.limits.items ≡ ports_in (table_view top.now)) }
     ensures range { IfOk result (λ _. IsInRange 1 64 (ports_in (table_view top.now))) }
     ensures refused { IfErr result (Refuses (check_of (table_view top.now) port_array)) }
 {

@@ -69,7 +69,7 @@ returns-in_err-is_there-clause-refused c =
     (later _ _ _ c.in_ok-class_rows.ensures.held (later _ _ _ c.in_ok-port_rows.ensures.held
     (later _ _ _ c.in_ok-address_rows.ensures.held (later _ _ _
     c.in_ok-rule_rows.ensures.held
-    (here _ _ _ (rw (output, c.in_ok-port_rows.ensures.count) at raw)))))))))
+    (here _ _ _ (rw (output, c.in_ok-port_rows.ensures.value.count) at raw)))))))))
 
 pub returns-in_err-is_there-2-clause-refused : goal.returns-in_err-is_there-2-clause-refused
 returns-in_err-is_there-2-clause-refused c =
@@ -87,7 +87,7 @@ returns-in_err-is_there-2-clause-refused c =
     let output_held : is_there (codes "default_output")
     (found_or 0 integer_value (codes "default_output") (table_view c.args.top.now))
     (ports_in (table_view c.args.top.now)) ≡ None =
-    rw (output, c.in_ok-port_rows.ensures.count) at output_told in
+    rw (output, c.in_ok-port_rows.ensures.value.count) at output_told in
     let told = c.in_err-is_there-2.ensures {u = tt} in
     let raw : IfErr c.from_residual-in_err-is_there-2.result (Refuses (is_there (codes "default_class")
     c.in_ok-figures.figures.default_class (length c.in_ok-class_rows.class_rows.items))) =
@@ -115,7 +115,7 @@ returns-clause-held c =
     let output_held : is_there (codes "default_output")
     (found_or 0 integer_value (codes "default_output") (table_view c.args.top.now))
     (ports_in (table_view c.args.top.now)) ≡ None =
-    rw (output, c.in_ok-port_rows.ensures.count) at output_told in
+    rw (output, c.in_ok-port_rows.ensures.value.count) at output_told in
     let class_told : is_there (codes "default_class") c.in_ok-figures.figures.default_class
     (length c.in_ok-class_rows.class_rows.items) ≡ None =
     search rules in
