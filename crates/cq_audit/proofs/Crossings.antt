@@ -3,12 +3,13 @@ use Rattle.std.proofs.Common.{◌≡◌, ◌+◌, ◌++◌, ℕ, List, length, s
 use Rattle.std.proofs.lemmas.List.{length-map}
 use Rattle.cq_base.specs.declared.cell.Queued.{Queued}
 use Rattle.cq_base.specs.declared.cell.Transfer.{Transfer}
+use Rattle.cq_base.specs.Room.{RoomView}
 use Rattle.cq_list.specs.InputList.{Waiting, cells_of}
 use Rattle.cq_prefs.specs.FirstCells.{orders_of}
 use Rattle.cq_prefs.specs.Moves.{Moves, transfers_of}
 use Rattle.cq_prefs.specs.Pairing.{Partners, IsMatching}
 use Rattle.cq_fabric.specs.Queues.{Queues}
-use Rattle.cq_audit.specs.Crossing.{HaveCrossed}
+use Rattle.cq_audit.specs.Crossing.{AreNoted, HaveCrossed}
 use Rattle.cq_audit.specs.Phase.{IsPhaseFault, IsStableTold}
 use Rattle.cq_audit.specs.declared.phase.PhaseFault.{PhaseFault}
 
@@ -32,14 +33,16 @@ module _ (lists : List Waiting) (old new : Queues) (slot phase : ℕ) (lines : L
   pub is_matching : IsMatching (orders_of old.inputs) m
   is_matching = told_there.stable.matching
 
-  pub have_crossed : Moves m old.inputs old.buffers new.inputs new.buffers → HaveCrossed slot phase lines old new
-  have_crossed moves = record { pairs = m; told = told_there; moves = moves }
+  pub have_crossed : Moves m old.inputs old.buffers new.inputs new.buffers → new.from_inputs ≡ old.from_inputs →
+      new.to_outputs ≡ old.to_outputs → HaveCrossed slot phase lines old new
+  have_crossed moves from to =
+      record { pairs = m; told = told_there; moves = moves; from_inputs = from; to_outputs = to }
 
-  pub as_noted : (items items' : List Transfer) → items' ≡ items ++ transfers_of m old.inputs slot phase →
-      items' ≡ items ++ lines
-  as_noted items items' noted = noted ∙ ap (λ (l : List Transfer). items ++ l) told_there.moved
-
-  pub as_many_noted : (spare spare' : ℕ) → spare' + length (transfers_of m old.inputs slot phase) ≡ spare →
-      spare' + length lines ≡ spare
-  as_many_noted spare spare' room =
-      ap (λ (l : List Transfer). spare' + length l) (sym told_there.moved) ∙ room
+  pub are_noted : (note note' : RoomView Transfer) →
+      note'.items ≡ note.items ++ transfers_of m old.inputs slot phase →
+      note'.spare + length (transfers_of m old.inputs slot phase) ≡ note.spare → AreNoted lines note note'
+  are_noted note note' noted room =
+      record {
+        items = noted ∙ ap (λ (l : List Transfer). note.items ++ l) told_there.moved;
+        spare = ap (λ (l : List Transfer). note'.spare + length l) (sym told_there.moved) ∙ room;
+      }

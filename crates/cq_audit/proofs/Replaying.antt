@@ -30,8 +30,8 @@ use Rattle.cq_traffic.proofs.FromInputs.{first_more}
 use Rattle.cq_traffic.proofs.Quiet.{quiet_slots}
 use Rattle.cq_audit.specs.Log.{AreInOrder}
 use Rattle.cq_audit.specs.Phase.{NoneBefore}
-use Rattle.cq_audit.specs.Replay.{IsInStep, ReplayView, SlotReplayed, ports_in}
-use Rattle.cq_audit.specs.Running.{HasRested, IsReady, IsStill}
+use Rattle.cq_audit.specs.Replay.{HasRested, IsInStep, ReplayView, SlotReplayed, ports_in}
+use Rattle.cq_audit.specs.Running.{IsReady, IsStill}
 use Rattle.cq_audit.proofs.BySlot.{none_first, none_from, none_next}
 use Rattle.cq_audit.proofs.Following.{one_stable_run}
 use Rattle.cq_audit.proofs.Skips.{same_fabric}
@@ -199,7 +199,7 @@ module _ (ms : List Machine) (came : List Arrival) (lines : List Transfer) (firs
         subst (λ (l : List (Option ℕ)). LimitedFabricRun IsStable l ms slot (replicate (next - slot) no_arrivals)
         now.fabric
         (quiet_limited_slots ms (next - slot) slot (ports_in now) now.fabric.state.ranks now.fabric.marks) new.fabric)
-        b.limits rested.ran
+        b.limits rested.slots
 
     -- what arrives up to the slot, and then nothing, is what arrives up to the other
     slots_are : first_slots came slot ++ replicate (next - slot) no_arrivals ≡ first_slots came next
@@ -263,6 +263,6 @@ module _ (ms : List Machine) (came : List Arrival) (lines : List Transfer) (firs
         (λ (none : next ≤ slot).
         let late : slot ≤ next = still.late in
         let same : new.fabric ≡ now.fabric = same_fabric now.limits ms (next - slot) slot now new.fabric (omega arith)
-        rested.ran in
+        rested.slots in
         more (omega arith) (subst (λ (g : Marked Fabric). IsEmptyFabric g.state) same empty))
         (cases_lt slot next)

@@ -14,8 +14,8 @@ use Rattle.cq_laws.specs.LimitedFabric.{LimitedFabricRun}
 use Rattle.cq_laws.specs.LimitedQuiet.{quiet_limited_slots}
 use Rattle.cq_traffic.specs.Stretch.{IsQuiet}
 use Rattle.cq_audit.specs.Phase.{NoneBefore}
-use Rattle.cq_audit.specs.Replay.{IsInStep, ReplayView, ports_in}
-use Rattle.cq_audit.specs.Running.{FirstIsLeast, HasRested, IsStill}
+use Rattle.cq_audit.specs.Replay.{HasRested, IsInStep, ReplayView, ports_in}
+use Rattle.cq_audit.specs.Running.{FirstIsLeast, IsStill}
 use Rattle.cq_audit.proofs.Following.{weaker}
 
 -- ## Up to where nothing happens
@@ -74,7 +74,7 @@ no_slots limits ms (suc k) slot v none = absurd (omega arith)
 
 pub no_rest : (ms : List Machine) (slot : ℕ) (v : ReplayView) → IsInStep ms slot v → HasRested ms slot slot v v
 no_rest ms slot v step = record {
-  ran = no_slots v.limits ms (slot - slot) slot v (omega arith);
+  slots = no_slots v.limits ms (slot - slot) slot v (omega arith);
   in_step = step;
   fixed = refl;
   limits = refl;

@@ -3,7 +3,7 @@
 -- the lines is one of the phase in which it comes. What is known where the slot begins is one record, and so is what
 -- each call adds: what comes is judged and ranked, arrives, crosses by the lines of the first phase, is sent, and
 -- crosses by those of the second.
-use Rattle.std.proofs.Common.{◌≡◌, ℕ, ◌+◌, ◌-◌, ◌*◌, ◌<◌, ◌≤◌, ◌^◌, ◌⊎◌, inl, inr, true, false, List, [], ◌∷◌, ◌++◌, length, map, get_or, Option, Result, Ok, Err, refl, sym, ap, ◌∙◌, subst, ⊎_elim, arith, append_assoc, eqb, length-append}
+use Rattle.std.proofs.Common.{◌≡◌, ℕ, ◌+◌, ◌*◌, ◌<◌, ◌≤◌, ◌^◌, ◌⊎◌, inl, inr, true, false, List, [], ◌∷◌, ◌++◌, length, map, get_or, Option, Result, Ok, Err, refl, sym, ap, ◌∙◌, subst, ⊎_elim, arith, append_assoc, eqb, length-append}
 use Rattle.std.specs.Prelude.{IfSome, IsOk, slice_get}
 use Rattle.std.specs.List.{AllByRecursion}
 use Rattle.std.proofs.lemmas.Bool.{cond_both, eqb-true, and_parts}
@@ -36,10 +36,10 @@ use Rattle.cq_fabric.proofs.Known.{AreRanked, BuffersHaveRoom, HaveArrived, Have
 use Rattle.cq_fabric.proofs.Limits.{admits_are, admitted_room, numbers_fit, still_holds}
 use Rattle.cq_fabric.proofs.Slot.{alike as sends_alike, arrive as slot_arrives, can_cross_first, can_cross_second, come_apart, depart as slot_departs, few_cross, fill as slot_fills, fits_lists, held_before, is_slot, recorded}
 use Rattle.cq_fabric.proofs.Told.{length-told}
-use Rattle.cq_audit.specs.Crossing.{HaveCrossed}
+use Rattle.cq_audit.specs.Crossing.{AreNoted, HaveCrossed}
 use Rattle.cq_audit.specs.Log.{AreInOrder}
 use Rattle.cq_audit.specs.Phase.{AllBehind, AreOfPhase, AreParted, IsPhaseFault, NoneBefore, in_phase, is_at}
-use Rattle.cq_audit.specs.Replay.{HasBufferRoom, HasListRoom, IsFirstFault, IsInStep, IsSecondFault, ReplayView, SlotReplayed, ports_in}
+use Rattle.cq_audit.specs.Replay.{CanReplay, IsFirstFault, IsInStep, IsSecondFault, ReplayView, SlotReplayed}
 use Rattle.cq_audit.specs.declared.phase.PhaseFault.{PhaseFault}
 use Rattle.cq_audit.proofs.Following.{weaker}
 
@@ -85,21 +85,7 @@ second_may_come slot lines =
 
 -- ## What is known
 
--- all that a slot of a replay asks for
-pub record CanReplay (M : List ℕ → Machine) (slot : ℕ) (cells : List (Option Cell)) (rest : List Transfer)
-    (now : ReplayView) (note : RoomView Transfer) : Type 0 where
-  pub in_step : IsInStep (map M now.fixed) slot now
-  pub early : slot < 2 ^ 64 - 1
-  pub arrivals : AreForPorts (ports_in now) (class_count (map M now.fixed)) cells
-  pub ranked : IsOk (ranking (map M now.fixed) slot 0 (fabric_admission now.limits cells now.fabric).cells
-      now.fabric.state.ranks)
-  pub list_room : HasListRoom cells now
-  pub buffer_room : HasBufferRoom cells now
-  pub in_order : AreInOrder (ports_in now) rest
-  pub none_before : NoneBefore slot 1 rest
-  pub note_room : 2 * ports_in now ≤ note.spare
-
--- what that is of its parts
+-- what a slot asks for, of its parts
 pub record Begun (ms : List Machine) (slot : ℕ) (cells : List (Option Cell)) (lines : List Transfer)
     (note : RoomView Transfer) (fixed states : List (List ℕ)) (q : Queues) (l : LimiterView) : Type 0 where
   pub in_step : IsInStep ms slot (shown fixed states q l)
@@ -121,11 +107,6 @@ pub record Taken (ms : List Machine) (slot : ℕ) (cells : List (Option Cell)) (
   pub ranked : ranking ms slot 0 (admitted judged.marks cells) states ≡ Ok (record { came = came; ranks = ranks })
   pub many : length ranks ≡ length states
 
--- lines were noted behind what was noted before
-pub record AreNoted (lines : List Transfer) (note note' : RoomView Transfer) : Type 0 where
-  pub noted : note'.items ≡ note.items ++ lines
-  pub room : note'.spare + length lines ≡ note.spare
-
 -- ## Before a slot
 
 module _ (M : List ℕ → Machine) (slot : ℕ) (v : ReplayView) (fixed states : List (List ℕ)) (q : Queues)
@@ -134,10 +115,10 @@ module _ (M : List ℕ → Machine) (slot : ℕ) (v : ReplayView) (fixed states 
   in_step_here step = subst (λ (w : ReplayView). IsInStep (map M w.fixed) slot w) (sym is) step
 
   pub begun : (cells : List (Option Cell)) (lines : List Transfer) (note : RoomView Transfer) →
-      CanReplay M slot cells lines v note → Begun (map M fixed) slot cells lines note fixed states q l
+      CanReplay (map M v.fixed) slot cells lines v note → Begun (map M fixed) slot cells lines note fixed states q l
   begun cells lines note can =
-      let here : CanReplay M slot cells lines (shown fixed states q l) note =
-      subst (λ (w : ReplayView). CanReplay M slot cells lines w note) (sym is) can in
+      let here : CanReplay (map M fixed) slot cells lines (shown fixed states q l) note =
+      subst (λ (w : ReplayView). CanReplay (map M w.fixed) slot cells lines w note) (sym is) can in
       let long = length-map fixed M in
       record {
         in_step = here.in_step;
@@ -382,13 +363,13 @@ module _ {ms : List Machine} {slot : ℕ} {cells : List (Option Cell)} {lines : 
                       from_inputs = from;
                       to_outputs = to;
                       noted =
-                          noted2.noted ∙ ap (λ (ls : List Transfer). ls ++ second) noted1.noted
+                          noted2.items ∙ ap (λ (ls : List Transfer). ls ++ second) noted1.items
                           ∙ append_assoc note.items first second
                           ∙ ap (λ (ls : List Transfer). note.items ++ ls) (sym both);
                       note_room =
                           let long = ap length both in
                           let sum = length-append first second in
-                          let had = noted1.room in
-                          let has = noted2.room in
+                          let had = noted1.spare in
+                          let has = noted2.spare in
                           omega arith;
                     }

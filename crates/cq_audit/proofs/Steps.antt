@@ -23,8 +23,8 @@ use Rattle.cq_traffic.proofs.ForPorts.{arrivals_for}
 use Rattle.cq_audit.specs.Audit.{IsNoOf, phase_refusal, refusal_of}
 use Rattle.cq_audit.specs.Log.{AreInOrder}
 use Rattle.cq_audit.specs.Phase.{IsPhaseFault, in_phase}
-use Rattle.cq_audit.specs.Replay.{HasBufferRoom, HasListRoom, IsFirstFault, IsInStep, IsSecondFault, IsSlotFault, ReplayView, SlotReplayed, ports_in}
-use Rattle.cq_audit.specs.Running.{HasRested, IsReady, IsStill, RunEnds}
+use Rattle.cq_audit.specs.Replay.{CanReplay, HasBufferRoom, HasListRoom, HasRested, IsFirstFault, IsInStep, IsSecondFault, IsSlotFault, ReplayView, SlotReplayed, ports_in}
+use Rattle.cq_audit.specs.Running.{IsReady, IsStill, RunEnds}
 use Rattle.cq_audit.specs.StableRun.{IsFaultAt, Reaches, StableRun, before_slot}
 use Rattle.cq_audit.specs.declared.phase.PhaseFault.{PhaseFault}
 use Rattle.cq_audit.specs.declared.phase.PhaseFault.TheVariants.{WrongLine, Blocking as Unsettled}
@@ -36,7 +36,6 @@ use Rattle.cq_audit.proofs.BySlot.{before_is, phase_later}
 use Rattle.cq_audit.proofs.Following.{weaker}
 use Rattle.cq_audit.proofs.Replaying.{Replaying, more_at_rest, not_over, one_each, replaying_first, replaying_next, replaying_rested}
 use Rattle.cq_audit.proofs.Skips.{all_late}
-use Rattle.cq_audit.proofs.Slots.{CanReplay}
 use Rattle.cq_audit.proofs.WholeFollowing.{moved, run_before}
 
 pub goes_on : (b : Bool) (end slot : ℕ) (Empty : Type 0) → b ≡ false → (IsTrue b ↔ ((end ≤ slot) × Empty)) →
@@ -177,9 +176,9 @@ module _ (M : List ℕ → Machine) (came : List Arrival) (lines : List Transfer
         ap (λ (l : List ℕ). slice_index l j) b.to_outputs in
         omega arith
 
-    can_replay : (cells : List (Option Cell)) → cells ≡ arriving came slot → CanReplay M slot cells rest now note
+    can_replay : (cells : List (Option Cell)) → cells ≡ arriving came slot → CanReplay (map M now.fixed) slot cells rest now note
     can_replay cells are =
-        subst (λ (l : List (Option Cell)). CanReplay M slot l rest now note) (sym are)
+        subst (λ (l : List (Option Cell)). CanReplay (map M now.fixed) slot l rest now note) (sym are)
         (record {
           in_step = skip_in_step slot rest now note b;
           early =
@@ -294,7 +293,7 @@ module _ (M : List ℕ → Machine) (came : List Arrival) (lines : List Transfer
       pub left_there : next < enough came
       left_there = a_slot_left next rest new note reached_next not_over_there
 
-      pub can_there : (cells : List (Option Cell)) → cells ≡ arriving came next → CanReplay M next cells rest new note
+      pub can_there : (cells : List (Option Cell)) → cells ≡ arriving came next → CanReplay (map M new.fixed) next cells rest new note
       can_there = can_replay next rest new note reached_next not_over_there
 
       pub next_there : (cells : List (Option Cell)) (left : List Transfer) (after : ReplayView)

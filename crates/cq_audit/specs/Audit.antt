@@ -1,9 +1,14 @@
 -- What an audit of a log answers, and when.
-use Rattle.std.specs.Prelude.{◌≡◌, ◌≢◌, ℕ, List, length, Option, ⊤}
+use Rattle.std.specs.Prelude.{◌≡◌, ◌≢◌, ℕ, ◌<◌, ◌≤◌, IsOk, List, length, Option, ⊤}
 use Rattle.cq_base.specs.Arriving.{Arrival}
 use Rattle.cq_base.specs.declared.cell.Transfer.{Transfer}
 use Rattle.cq_base.specs.declared.setup.Setup.{Setup}
+use Rattle.cq_cells.specs.Scheduled.{Scheduled}
+use Rattle.cq_cells.specs.Traffic.{IsShort, IsTraffic}
 use Rattle.cq_ideal.specs.Admission.{Marked}
+use Rattle.cq_ideal.specs.LimitedEnding.{whole_limited_run}
+use Rattle.cq_ideal.specs.LimitedIdeal.{empty_limited}
+use Rattle.cq_rank.specs.Classes.{AreClasses}
 use Rattle.cq_rank.specs.Machine.{Machine}
 use Rattle.cq_scfq.specs.Disciplines.{machines_of, openings_of}
 use Rattle.cq_laws.specs.Fabric.{Fabric}
@@ -17,6 +22,22 @@ use Rattle.cq_audit.specs.declared.phase.PhaseFault.TheVariants.{WrongLine, Bloc
 use Rattle.cq_audit.specs.declared.refusal.AuditRefusal.{AuditRefusal}
 use Rattle.cq_audit.specs.declared.refusal.AuditRefusal.TheVariants.{Line, Transfer as Wrong, Blocking, Left, NoMemory}
 use Rattle.cq_audit.specs.declared.replay.SlotFault.{SlotFault}
+
+-- ## What can be audited
+
+-- The setup is that of a switch with so many limits, the cells that arrive are for its ports and of its classes, and
+-- its ideal switch has no tag fault.
+pub record CanBeAudited (setup : Setup) (limits : List (Option ℕ)) (schedule : Scheduled) : Type 0 where
+  pub classes : AreClasses setup.classes
+  pub some : 0 < length setup.kinds
+  pub few : length setup.kinds ≤ 64
+  pub ports : schedule.ports ≡ length setup.kinds
+  pub limits_are : length limits ≡ length setup.kinds
+  pub traffic : IsTraffic (length setup.kinds) (length setup.classes) schedule.came
+  pub short : IsShort schedule.came
+  pub ranked : IsOk
+      (whole_limited_run limits (machines_of setup) schedule.came
+      (empty_limited (length setup.kinds) (openings_of setup)))
 
 -- ## Refusals
 

@@ -1,26 +1,28 @@
 -- A fabric that goes by the lines of a log: what is known of it, and what the lines of a slot come to.
-use Rattle.std.specs.Prelude.{◌≡◌, ℕ, ◌+◌, ◌-◌, ◌<◌, ◌≤◌, ◌++◌, ◌⊎◌, List, length, Option, Some, slice_index}
+use Rattle.std.specs.Prelude.{◌≡◌, ℕ, ◌+◌, ◌-◌, ◌*◌, ◌^◌, ◌<◌, ◌≤◌, ◌++◌, ◌⊎◌, List, length, Option, Some, IsOk, replicate, slice_index}
 use Rattle.cq_base.specs.declared.cell.Cell.{Cell}
 use Rattle.cq_base.specs.declared.cell.Queued.{Queued}
 use Rattle.cq_base.specs.declared.cell.Transfer.{Transfer}
-use Rattle.cq_base.specs.Arrivals.{arrival_at}
+use Rattle.cq_base.specs.Arrivals.{arrival_at, no_arrivals}
 use Rattle.cq_base.specs.Room.{RoomView}
 use Rattle.cq_rank.specs.Machine.{Machine}
-use Rattle.cq_rank.specs.Switch.{AreForOneSwitch}
+use Rattle.cq_rank.specs.Switch.{AreForOneSwitch, class_count}
 use Rattle.cq_ideal.specs.Admission.{Marked}
 use Rattle.cq_ideal.specs.Ideal.{count_for}
 use Rattle.cq_ideal.specs.IdealSlot.{IdealState}
+use Rattle.cq_ideal.specs.Ranking.{AreForPorts, ranking}
 use Rattle.cq_prefs.specs.FirstCells.{orders_of}
 use Rattle.cq_prefs.specs.Moves.{transfers_of}
 use Rattle.cq_prefs.specs.Pairing.{Partners, IsStable}
 use Rattle.cq_laws.specs.Agreement.{Agrees}
 use Rattle.cq_laws.specs.Fabric.{Fabric, input, buffer}
 use Rattle.cq_laws.specs.Holding.{fabric_held, waiting_for}
-use Rattle.cq_laws.specs.LimitedFabric.{LimitedFabricSlot, LimitedRecord, fabric_admission}
+use Rattle.cq_laws.specs.LimitedFabric.{LimitedFabricRun, LimitedFabricSlot, LimitedRecord, fabric_admission}
+use Rattle.cq_laws.specs.LimitedQuiet.{quiet_limited_slots}
 use Rattle.cq_laws.specs.Phases.{Arrives, Transfers, Departs}
 use Rattle.cq_laws.specs.Records.{transfers_in}
 use Rattle.cq_audit.specs.Log.{AreInOrder}
-use Rattle.cq_audit.specs.Phase.{AllBehind, IsPhaseFault, in_phase}
+use Rattle.cq_audit.specs.Phase.{AllBehind, IsPhaseFault, NoneBefore, in_phase}
 use Rattle.cq_audit.specs.declared.phase.PhaseFault.{PhaseFault}
 use Rattle.cq_audit.specs.declared.replay.SlotFault.{SlotFault}
 
@@ -66,6 +68,22 @@ HasBufferRoom cells v = (j : ℕ) → j < ports_in v →
     slice_index v.to_outputs j - length (buffer v.fabric.state j)
 
 -- ## A slot
+
+-- It can have this slot: it is in step, the ranks of what is admitted fit, the lists and buffers have room, the lines
+-- are in order and none is earlier, and a transfer of each input can be noted in both phases.
+pub record CanReplay (ms : List Machine) (slot : ℕ) (cells : List (Option Cell)) (lines : List Transfer)
+    (now : ReplayView) (note : RoomView Transfer) : Type 0 where
+  pub in_step : IsInStep ms slot now
+  -- another slot can follow it
+  pub early : slot < 2 ^ 64 - 1
+  pub arrivals : AreForPorts (ports_in now) (class_count ms) cells
+  pub ranked : IsOk
+      (ranking ms slot 0 (fabric_admission now.limits cells now.fabric).cells now.fabric.state.ranks)
+  pub list_room : HasListRoom cells now
+  pub buffer_room : HasBufferRoom cells now
+  pub in_order : AreInOrder (ports_in now) lines
+  pub none_before : NoneBefore slot 1 lines
+  pub note_room : 2 * ports_in now ≤ note.spare
 
 -- It was one slot of the fabric, with stable matchings, whose transfers the lines tell. The lines behind it are left.
 -- Then it is in step again.
@@ -114,3 +132,15 @@ abbrev pub IsSlotFault : List Machine → ℕ → List (Option Cell) → List Tr
 IsSlotFault ms slot cells lines old f =
     ((f.phase ≡ 1) × IsFirstFault old.limits ms slot cells lines old.fabric f.fault) ⊎
     ((f.phase ≡ 2) × IsSecondFault old.limits ms slot cells lines old.fabric f.fault)
+
+-- ## Slots in which nothing happens
+
+-- the slots from this one on up to the other, without arrivals and without lines, are behind the fabric
+pub record HasRested (ms : List Machine) (slot to : ℕ) (old new : ReplayView) : Type 0 where
+  pub slots : LimitedFabricRun IsStable old.limits ms slot (replicate (to - slot) no_arrivals) old.fabric
+      (quiet_limited_slots ms (to - slot) slot (ports_in old) old.fabric.state.ranks old.fabric.marks) new.fabric
+  pub in_step : IsInStep ms to new
+  pub fixed : new.fixed ≡ old.fixed
+  pub limits : new.limits ≡ old.limits
+  pub from_inputs : new.from_inputs ≡ old.from_inputs
+  pub to_outputs : new.to_outputs ≡ old.to_outputs

@@ -1,6 +1,6 @@
 -- Only proofs use this.
 -- A replay over all cells that arrive: what it begins with, and what its end says of the lines.
-use Rattle.std.specs.Prelude.{◌≡◌, ℕ, ◌+◌, ◌-◌, ◌*◌, ◌<◌, ◌≤◌, List, [], ◌∷◌, length, Result, Ok, Err, IsOk, replicate, slice_index}
+use Rattle.std.specs.Prelude.{◌≡◌, ℕ, ◌+◌, ◌*◌, ◌<◌, ◌≤◌, List, [], ◌∷◌, length, Result, Ok, Err, IsOk, slice_index}
 use Rattle.std.specs.List.{AllByRecursion}
 use Rattle.cq_base.specs.Arrivals.{no_arrivals}
 use Rattle.cq_base.specs.Arriving.{Arrival, arriving, end_of}
@@ -11,9 +11,7 @@ use Rattle.cq_rank.specs.Machine.{Machine}
 use Rattle.cq_rank.specs.Switch.{class_count}
 use Rattle.cq_ideal.specs.LimitedEnding.{whole_limited_run}
 use Rattle.cq_ideal.specs.LimitedIdeal.{empty_limited}
-use Rattle.cq_laws.specs.LimitedFabric.{LimitedFabricRun, empty_limited_fabric}
-use Rattle.cq_laws.specs.LimitedQuiet.{quiet_limited_slots}
-use Rattle.cq_prefs.specs.Pairing.{IsStable}
+use Rattle.cq_laws.specs.LimitedFabric.{empty_limited_fabric}
 use Rattle.cq_audit.specs.Audit.{IsNoOf}
 use Rattle.cq_audit.specs.Log.{AreInOrder}
 use Rattle.cq_audit.specs.Replay.{IsInStep, ReplayView, ports_in}
@@ -32,16 +30,6 @@ pub record IsStill (came : List Arrival) (lines : List Transfer) (slot next : �
   pub none : (t : ℕ) → slot ≤ t → t < next → arriving came t ≡ no_arrivals
   pub no_line : AllByRecursion (λ t. next ≤ t.slot) lines
   pub more : slot < next → next < end_of came
-
--- the slots from this one on up to the other, without arrivals and without lines, are behind the fabric
-pub record HasRested (ms : List Machine) (slot next : ℕ) (old new : ReplayView) : Type 0 where
-  pub ran : LimitedFabricRun IsStable old.limits ms slot (replicate (next - slot) no_arrivals) old.fabric
-      (quiet_limited_slots ms (next - slot) slot (ports_in old) old.fabric.state.ranks old.fabric.marks) new.fabric
-  pub in_step : IsInStep ms next new
-  pub fixed : new.fixed ≡ old.fixed
-  pub limits : new.limits ≡ old.limits
-  pub from_inputs : new.from_inputs ≡ old.from_inputs
-  pub to_outputs : new.to_outputs ≡ old.to_outputs
 
 -- The fabric has had no slot and holds no cell, there is room for all cells that arrive and for all lines, the lines
 -- are in order, and the ideal switch has no tag fault.

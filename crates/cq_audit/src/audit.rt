@@ -1,17 +1,12 @@
 //! Whether a log of any maker is that of a stable run.
-ghost use Rattle.std.specs.Prelude.{◌≡◌, ◌↔◌, ◌+◌, ◌-◌, ◌<◌, ◌≤◌, [], IfErr, IsOk, IsTrue, OnOk, length, map};
+ghost use Rattle.std.specs.Prelude.{◌≡◌, ◌↔◌, ◌+◌, ◌-◌, ◌<◌, ◌≤◌, [], IfErr, IsTrue, OnOk, length, map};
 ghost use Rattle.cq_base.specs.Arriving.{end_of};
-ghost use Rattle.cq_cells.specs.Traffic.{IsShort, IsTraffic};
-ghost use Rattle.cq_ideal.specs.LimitedEnding.{whole_limited_run};
-ghost use Rattle.cq_ideal.specs.LimitedIdeal.{empty_limited};
 ghost use Rattle.cq_laws.specs.Fabric.{IsEmptyFabric};
-ghost use Rattle.cq_rank.specs.Classes.{AreClasses};
-ghost use Rattle.cq_scfq.specs.Disciplines.{machines_of, openings_of};
-ghost use Rattle.cq_audit.specs.Audit.{IsNo, IsYes};
+ghost use Rattle.cq_audit.specs.Audit.{CanBeAudited, IsNo, IsYes};
 ghost use Rattle.cq_audit.specs.Log.{AreInOrder};
 ghost use Rattle.cq_audit.specs.Phase.{NoneBefore};
-ghost use Rattle.cq_audit.specs.Replay.{IsInStep, ports_in};
-ghost use Rattle.cq_audit.specs.Running.{FirstIsLeast, HasRested, IsReady, IsStill, RunEnds};
+ghost use Rattle.cq_audit.specs.Replay.{HasRested, IsInStep, ports_in};
+ghost use Rattle.cq_audit.specs.Running.{FirstIsLeast, IsReady, IsStill, RunEnds};
 ghost use Rattle.cq_audit.specs.declared.refusal.AuditRefusal.TheVariants.{Left};
 
 use crate::log::read_log;
@@ -26,9 +21,9 @@ use std::alloc::Global;
 
 /// Checks a log of any maker, of a switch of this setup with these limits, over cells that arrive by this schedule. A
 /// stable run is one in which each phase takes any stable matching. Where these bytes are the log of one, written out,
-/// the answer is Ok, and for no others. The log is read first, then it is replayed phase by phase, and at the end of the
-/// run no line may be left. It takes time for the slots in which a cell waits or comes or of which there is a line, and
-/// none for those between them.
+/// the answer is Ok, and for no others. The log is read first, then it is replayed phase by phase, and at the end of
+/// the run no line may be left. It takes time for the slots in which a cell waits or comes or of which there is a
+/// line, and none for those between them.
 ///
 /// Each error but want of memory comes for one cause alone: see `AuditRefusal`.
 pub fn audit_log(
@@ -38,15 +33,7 @@ pub fn audit_log(
     schedule: &Schedule,
     log: &[u8],
 ) -> Result<(), AuditRefusal>
-    requires classes { AreClasses setup.now.classes }
-    requires some { 0 < length setup.now.kinds }
-    requires few { length setup.now.kinds ≤ 64 }
-    requires ports { schedule.now.ports ≡ length setup.now.kinds }
-    requires limits { length limits.now ≡ length setup.now.kinds }
-    requires traffic { IsTraffic (length setup.now.kinds) (length setup.now.classes) schedule.now.came }
-    requires short { IsShort schedule.now.came }
-    requires ranked { IsOk (whole_limited_run limits.now (machines_of setup.now) schedule.now.came
-        (empty_limited (length setup.now.kinds) (openings_of setup.now))) }
+    requires { CanBeAudited setup.now limits.now schedule.now }
     ensures yes { OnOk result (IsYes setup.now limits.now schedule.now.came log.now) }
     ensures no { IfErr result (IsNo setup.now limits.now schedule.now.came log.now) }
 {
@@ -117,7 +104,8 @@ fn skip<R: Rank>(
 fn left_over(lines: &[Transfer], rest: &[Transfer]) -> Result<(), AuditRefusal>
     requires { length rest.now ≤ length lines.now }
     ensures none { OnOk result (rest.now ≡ []) }
-    ensures some { IfErr result (λ refusal. (refusal ≡ Left (length lines.now - length rest.now + 1)) × (0 < length rest.now)) }
+    ensures some { IfErr result (λ refusal.
+        (refusal ≡ Left (length lines.now - length rest.now + 1)) × (0 < length rest.now)) }
 {
     if rest.is_empty() {
         Ok(())

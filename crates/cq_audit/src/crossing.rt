@@ -1,7 +1,7 @@
 //! The transfers that the lines of a phase tell.
-ghost use Rattle.std.specs.Prelude.{◌≡◌, ◌+◌, ◌≤◌, ◌++◌, IfErr, OnErr, OnOk, length};
+ghost use Rattle.std.specs.Prelude.{◌≡◌, ◌≤◌, IfErr, OnErr, OnOk, length};
 ghost use Rattle.cq_fabric.specs.Queues.{CanCross};
-ghost use Rattle.cq_audit.specs.Crossing.{HaveCrossed};
+ghost use Rattle.cq_audit.specs.Crossing.{AreNoted, HaveCrossed};
 ghost use Rattle.cq_audit.specs.Phase.{AreOfPhase, IsPhaseFault};
 
 use crate::phase::{PhaseFault, stable_told};
@@ -22,13 +22,10 @@ pub fn cross(
     requires lines { AreOfPhase (length queues.old.inputs) slot phase lines.now }
     requires note { length queues.old.inputs ≤ note.old.spare }
     ensures crossed { OnOk result (HaveCrossed slot phase lines.now queues.old queues.new) }
-    ensures note { OnOk result (note.new.items ≡ note.old.items ++ lines.now) }
-    ensures note_room { OnOk result (note.new.spare + length lines.now ≡ note.old.spare) }
+    ensures noted { OnOk result (AreNoted lines.now note.old note.new) }
     ensures fault { IfErr result (IsPhaseFault queues.old.inputs lines.now) }
     ensures queues_stay { OnErr result (queues.new ≡ queues.old) }
     ensures note_stays { OnErr result (note.new ≡ note.old) }
-    ensures from_inputs { queues.new.from_inputs ≡ queues.old.from_inputs }
-    ensures to_outputs { queues.new.to_outputs ≡ queues.old.to_outputs }
 {
     let pairs = stable_told(queues.lists(), queues.offers(), slot, phase, lines)?;
     queues.cross(pairs.matching(), slot, phase, note);

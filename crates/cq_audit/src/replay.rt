@@ -1,17 +1,11 @@
 //! A fabric that goes by the lines of a log.
 //!
 //! It is the fabric of the definitions, with the matchings that the lines tell in place of ones that were looked for.
-ghost use Rattle.std.specs.Prelude.{◌≡◌, ◌-◌, ◌*◌, ◌<◌, ◌≤◌, ◌↔◌, ◌^◌, IfErr, IfOk, IsOk, IsTrue, length, map, replicate};
-ghost use Rattle.cq_base.specs.Arrivals.{no_arrivals};
-ghost use Rattle.cq_rank.specs.Switch.{AreForOneSwitch, class_count};
-ghost use Rattle.cq_ideal.specs.Ranking.{AreForPorts, ranking};
+ghost use Rattle.std.specs.Prelude.{◌≡◌, ◌<◌, ◌↔◌, IfErr, IfOk, IsTrue, length, map};
+ghost use Rattle.cq_rank.specs.Switch.{AreForOneSwitch};
 ghost use Rattle.cq_laws.specs.Fabric.{IsEmptyFabric};
-ghost use Rattle.cq_laws.specs.LimitedFabric.{LimitedFabricRun, empty_limited_fabric, fabric_admission};
-ghost use Rattle.cq_laws.specs.LimitedQuiet.{quiet_limited_slots};
-ghost use Rattle.cq_prefs.specs.Pairing.{IsStable};
-ghost use Rattle.cq_audit.specs.Log.{AreInOrder};
-ghost use Rattle.cq_audit.specs.Phase.{NoneBefore};
-ghost use Rattle.cq_audit.specs.Replay.{HasBufferRoom, HasListRoom, IsInStep, IsSlotFault, SlotReplayed, ports_in};
+ghost use Rattle.cq_laws.specs.LimitedFabric.{empty_limited_fabric};
+ghost use Rattle.cq_audit.specs.Replay.{CanReplay, HasRested, IsInStep, IsSlotFault, SlotReplayed};
 
 use crate::crossing::cross;
 use crate::parted::part;
@@ -75,7 +69,8 @@ impl<R: Rank> Replay<R> {
         requires to_outputs { length to_outputs.now ≡ length ranks.items }
         ensures fixed { IfOk result (λ replay. replay.fixed ≡ map R.fixed ranks.items) }
         ensures limits { IfOk result (λ replay. replay.limits ≡ limits.now) }
-        ensures fabric { IfOk result (λ replay. replay.fabric ≡ empty_limited_fabric (length ranks.items) (map R.state ranks.items)) }
+        ensures fabric { IfOk result (λ replay. replay.fabric
+            ≡ empty_limited_fabric (length ranks.items) (map R.state ranks.items)) }
         ensures from_inputs { IfOk result (λ replay. replay.from_inputs ≡ from_inputs.now) }
         ensures to_outputs { IfOk result (λ replay. replay.to_outputs ≡ to_outputs.now) }
         ensures in_step { IfOk result (λ replay. IsInStep (map R.machine replay.fixed) 0 replay) }
@@ -100,16 +95,7 @@ impl<R: Rank> Replay<R> {
         lines: &'a [Transfer],
         note: &mut Room<Transfer>,
     ) -> Result<&'a [Transfer], SlotFault>
-        requires in_step { IsInStep (map R.machine self.old.fixed) slot self.old }
-        requires early { slot < 2 ^ 64 - 1 }
-        requires arrivals { AreForPorts (ports_in self.old) (class_count (map R.machine self.old.fixed)) arrivals.now }
-        requires ranked { IsOk (ranking (map R.machine self.old.fixed) slot 0 (fabric_admission self.old.limits
-            arrivals.now self.old.fabric).cells self.old.fabric.state.ranks) }
-        requires list_room { HasListRoom arrivals.now self.old }
-        requires buffer_room { HasBufferRoom arrivals.now self.old }
-        requires in_order { AreInOrder (ports_in self.old) lines.now }
-        requires none_before { NoneBefore slot 1 lines.now }
-        requires note { 2 * ports_in self.old ≤ note.old.spare }
+        requires { CanReplay (map R.machine self.old.fixed) slot arrivals.now lines.now self.old note.old }
         ensures slot { IfOk result (λ rest. SlotReplayed (map R.machine self.old.fixed) slot arrivals.now lines.now
             rest.now self.old self.new note.old note.new) }
         ensures fault { IfErr result (IsSlotFault (map R.machine self.old.fixed) slot arrivals.now lines.now self.old) }
@@ -145,14 +131,7 @@ impl<R: Rank> Replay<R> {
         requires in_step { IsInStep (map R.machine self.old.fixed) slot self.old }
         requires empty { IsEmptyFabric self.old.fabric.state }
         requires later { slot < to }
-        ensures slots { LimitedFabricRun IsStable self.old.limits (map R.machine self.old.fixed) slot (replicate (to -
-            slot) no_arrivals) self.old.fabric (quiet_limited_slots (map R.machine self.old.fixed) (to - slot) slot
-            (ports_in self.old) self.old.fabric.state.ranks self.old.fabric.marks) self.new.fabric }
-        ensures in_step { IsInStep (map R.machine self.old.fixed) to self.new }
-        ensures fixed { self.new.fixed ≡ self.old.fixed }
-        ensures limits { self.new.limits ≡ self.old.limits }
-        ensures from_inputs { self.new.from_inputs ≡ self.old.from_inputs }
-        ensures to_outputs { self.new.to_outputs ≡ self.old.to_outputs }
+        ensures { HasRested (map R.machine self.old.fixed) slot to self.old self.new }
     {
         self.ranks.rest();
     }

@@ -63,7 +63,7 @@ new-requires-2-clause-machines c =
 
 pub new-requires-2-clause-limits : goal.new-requires-2-clause-limits
 new-requires-2-clause-limits c =
-    c.requires.limits ∙ sym (ranked (goal.at.new-requires-2-clause-limits c).In_ok-ranks)
+    c.requires.limits_are ∙ sym (ranked (goal.at.new-requires-2-clause-limits c).In_ok-ranks)
 
 pub new-requires-2-clause-from_inputs : goal.new-requires-2-clause-from_inputs
 new-requires-2-clause-from_inputs c =

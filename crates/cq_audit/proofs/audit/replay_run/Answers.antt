@@ -1,10 +1,10 @@
 use Rattle.std.proofs.Common.{◌≤◌, Err, map, sym, subst, ◌∙◌, arith}
 use Rattle.cq_base.specs.Arriving.{end_of}
 use Rattle.cq_laws.specs.Fabric.{IsEmptyFabric}
+use Rattle.cq_audit.specs.Replay.{CanReplay}
 use Rattle.cq_audit.specs.Running.{RunEnds}
 use Rattle.cq_audit.specs.declared.refusal.AuditRefusal.{AuditRefusal}
 use Rattle.cq_audit.proofs.Steps.{at_end, at_first, can_there, fault_there, goes_on, left_there, next_there, rest_in_order, rest_is_short, skip_in_step}
-use Rattle.cq_audit.proofs.Slots.{CanReplay}
 use Rattle.cq_audit.proofs.audit.replay_run.Given as given
 use Rattle.cq_audit.proofs.audit.replay_run.Goals as goal
 use Rattle.cq_audit.proofs.audit.replay_run.Goals.{After-arrivals-arrivals, After-skip-slot}
@@ -33,8 +33,8 @@ goes g c =
 
 -- all that the slot asks for
 can : (g : given.Over) (c : After-arrivals-arrivals g) →
-    CanReplay g.R.Rank.machine c.skip-slot.result c.arrivals-arrivals.result.now c.slots.rest.now
-    c.skip-slot.new.replay c.slots.note
+    CanReplay (map g.R.Rank.machine c.skip-slot.new.replay.fixed) c.skip-slot.result c.arrivals-arrivals.result.now
+    c.slots.rest.now c.skip-slot.new.replay c.slots.note
 can g c =
     can_there g.R.Rank.machine c.args.schedule.now.came c.args.lines.now c.args.replay.now c.args.note.now c.requires
     c.slots.slot c.slots.rest.now c.slots.replay c.slots.note c.slots.invariant
@@ -43,41 +43,8 @@ can g c =
     c.skip-slot.result c.skip-slot.new.replay c.skip-slot.ensures.still c.skip-slot.ensures.rested
     c.arrivals-arrivals.result.now (c.arrivals-arrivals.ensures ∙ c.arrive.ensures)
 
-pub slot-requires-clause-in_step : goal.slot-requires-clause-in_step
-slot-requires-clause-in_step g c =
-    (can g (goal.at.slot-requires-clause-in_step g c).After-arrivals-arrivals).in_step
-
-pub slot-requires-clause-early : goal.slot-requires-clause-early
-slot-requires-clause-early g c =
-    (can g (goal.at.slot-requires-clause-early g c).After-arrivals-arrivals).early
-
-pub slot-requires-clause-arrivals : goal.slot-requires-clause-arrivals
-slot-requires-clause-arrivals g c =
-    (can g (goal.at.slot-requires-clause-arrivals g c).After-arrivals-arrivals).arrivals
-
-pub slot-requires-clause-ranked : goal.slot-requires-clause-ranked
-slot-requires-clause-ranked g c =
-    (can g (goal.at.slot-requires-clause-ranked g c).After-arrivals-arrivals).ranked
-
-pub slot-requires-clause-list_room : goal.slot-requires-clause-list_room
-slot-requires-clause-list_room g c =
-    (can g (goal.at.slot-requires-clause-list_room g c).After-arrivals-arrivals).list_room
-
-pub slot-requires-clause-buffer_room : goal.slot-requires-clause-buffer_room
-slot-requires-clause-buffer_room g c =
-    (can g (goal.at.slot-requires-clause-buffer_room g c).After-arrivals-arrivals).buffer_room
-
-pub slot-requires-clause-in_order : goal.slot-requires-clause-in_order
-slot-requires-clause-in_order g c =
-    (can g (goal.at.slot-requires-clause-in_order g c).After-arrivals-arrivals).in_order
-
-pub slot-requires-clause-none_before : goal.slot-requires-clause-none_before
-slot-requires-clause-none_before g c =
-    (can g (goal.at.slot-requires-clause-none_before g c).After-arrivals-arrivals).none_before
-
-pub slot-requires-clause-note : goal.slot-requires-clause-note
-slot-requires-clause-note g c =
-    (can g (goal.at.slot-requires-clause-note g c).After-arrivals-arrivals).note_room
+pub slot-requires : goal.slot-requires
+slot-requires g c = can g (goal.at.slot-requires g c).After-arrivals-arrivals
 
 pub returns-in-Err : goal.returns-in-Err
 returns-in-Err g c =

@@ -23,14 +23,3 @@ returns-then-next-slot-clause-still g c =
 pub returns-then-next-slot-clause-rested : goal.returns-then-next-slot-clause-rested
 returns-then-next-slot-clause-rested g c =
     no_rest (map g.R.Rank.machine c.args.replay.now.fixed) c.args.slot c.args.replay.now c.requires.in_step
-
-pub returns-clause-rested : goal.returns-clause-rested
-returns-clause-rested g c =
-    record {
-      ran = c.rest.ensures.slots;
-      in_step = c.rest.ensures.in_step;
-      fixed = c.rest.ensures.fixed;
-      limits = c.rest.ensures.limits;
-      from_inputs = c.rest.ensures.from_inputs;
-      to_outputs = c.rest.ensures.to_outputs;
-    }

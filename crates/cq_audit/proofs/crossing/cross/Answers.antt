@@ -1,7 +1,7 @@
 use Rattle.std.proofs.Common.{sym, ap, ◌∙◌, subst}
 use Rattle.cq_prefs.specs.FirstCells.{orders_of}
 use Rattle.cq_audit.specs.Phase.{AreOfPhase}
-use Rattle.cq_audit.proofs.Crossings.{as_many_noted, as_noted, have_crossed, is_matching, lists_long}
+use Rattle.cq_audit.proofs.Crossings.{are_noted, have_crossed, is_matching, lists_long}
 use Rattle.cq_audit.proofs.crossing.cross.Goals as goal
 
 pub stable_told-requires-clause-offers : goal.stable_told-requires-clause-offers
@@ -21,16 +21,10 @@ pub returns-clause-crossed : goal.returns-clause-crossed
 returns-clause-crossed c =
     have_crossed c.lists.result.now c.args.queues.now c.cross.new.self c.args.slot c.args.phase c.args.lines.now
     c.in_ok-pairs.pairs c.matching.result.now c.lists.ensures.cells c.in_ok-pairs.ensures.stable c.matching.ensures
-    c.cross.ensures.moves
+    c.cross.ensures.moves c.cross.ensures.from_inputs c.cross.ensures.to_outputs
 
-pub returns-clause-note : goal.returns-clause-note
-returns-clause-note c =
-    as_noted c.lists.result.now c.args.queues.now c.cross.new.self c.args.slot c.args.phase c.args.lines.now
+pub returns-clause-noted : goal.returns-clause-noted
+returns-clause-noted c =
+    are_noted c.lists.result.now c.args.queues.now c.cross.new.self c.args.slot c.args.phase c.args.lines.now
     c.in_ok-pairs.pairs c.matching.result.now c.lists.ensures.cells c.in_ok-pairs.ensures.stable c.matching.ensures
-    c.args.note.now.items c.cross.new.note.items c.cross.ensures.note
-
-pub returns-clause-note_room : goal.returns-clause-note_room
-returns-clause-note_room c =
-    as_many_noted c.lists.result.now c.args.queues.now c.cross.new.self c.args.slot c.args.phase c.args.lines.now
-    c.in_ok-pairs.pairs c.matching.result.now c.lists.ensures.cells c.in_ok-pairs.ensures.stable c.matching.ensures
-    c.args.note.now.spare c.cross.new.note.spare c.cross.ensures.note_room
+    c.args.note.now c.cross.new.note c.cross.ensures.note c.cross.ensures.note_room

@@ -5,6 +5,7 @@ use Rattle.std.specs.Prelude.{IsOk, Option}
 use Rattle.cq_audit.specs.Audit.{IsNo, IsYes}
 use Rattle.cq_base.specs.Texts.{trace_of}
 use Rattle.cq_base.specs.declared.setup.ClassRow.{ClassRow}
+use Rattle.cq_cells.specs.Scheduled.{Scheduled}
 use Rattle.cq_ideal.specs.LimitedEnding.{whole_limited_run}
 use Rattle.cq_ideal.specs.LimitedIdeal.{empty_limited}
 use Rattle.cq_route.specs.Tables.{ports_of}
@@ -14,34 +15,31 @@ use Rattle.cq_run.proofs.switching.audit_texts.Goals as goal
 
 -- ## What judging the log asks for
 
-pub audit_log-requires-clause-classes : goal.audit_log-requires-clause-classes
-audit_log-requires-clause-classes g c =
-    let setup = c.requires.tables.setup in
-    let rows = c.args.tables.now.setup.classes in
-    let many = setup.classes in
-    record {
-      some = omega arith;
-      few = many.1;
-      level = recursion_from_All (λ (row : ClassRow). row.level < 16) rows setup.levels;
-      cost = recursion_from_All (λ (row : ClassRow). 0 < row.cost) rows setup.costs;
-    }
-
-pub audit_log-requires-clause-some : goal.audit_log-requires-clause-some
-audit_log-requires-clause-some g c = let ports = c.requires.tables.setup.ports in omega arith
-
-pub audit_log-requires-clause-few : goal.audit_log-requires-clause-few
-audit_log-requires-clause-few g c = c.requires.tables.setup.ports.1
-
-pub audit_log-requires-clause-limits : goal.audit_log-requires-clause-limits
-audit_log-requires-clause-limits g c = ap length c.as_slice.ensures ∙ c.requires.tables.limits.ports_are
-
-pub audit_log-requires-clause-ranked : goal.audit_log-requires-clause-ranked
-audit_log-requires-clause-ranked g c =
+pub audit_log-requires : goal.audit_log-requires
+audit_log-requires g c =
     let t = c.args.tables.now in
     let came = c.in_ok-schedule.schedule.came in
+    let setup = c.requires.tables.setup in
+    let rows = t.setup.classes in
+    let many = setup.classes in
+    let ports = setup.ports in
     let P : List (Option ℕ) → Type 0 = λ limits. IsOk (whole_limited_run limits (machines_of t.setup) came
     (empty_limited (ports_of t.setup) (openings_of t.setup))) in
-    subst P (sym c.as_slice.ensures) (ranks_fit t came c.in_ok-ideal.ideal.items c.in_ok-ideal.ensures.sent)
+    record {
+      classes = record {
+        some = omega arith;
+        few = many.1;
+        level = recursion_from_All (λ (row : ClassRow). row.level < 16) rows setup.levels;
+        cost = recursion_from_All (λ (row : ClassRow). 0 < row.cost) rows setup.costs;
+      };
+      some = omega arith;
+      few = ports.1;
+      ports = ap (λ (s : Scheduled). s.ports) c.in_ok-schedule.ensures.schedule ∙ c.requires.captures;
+      limits_are = ap length c.as_slice.ensures ∙ c.requires.tables.limits.ports_are;
+      traffic = c.in_ok-schedule.ensures.traffic;
+      short = c.in_ok-schedule.ensures.short;
+      ranked = subst P (sym c.as_slice.ensures) (ranks_fit t came c.in_ok-ideal.ideal.items c.in_ok-ideal.ensures.sent);
+    }
 
 -- ## Want of memory, and a tag fault
 

@@ -1,14 +1,8 @@
-use Rattle.std.proofs.Common.{◌-◌, ◌<◌, length, map, replicate, sym, ap, ◌∙◌, subst, arith}
+use Rattle.std.proofs.Common.{◌-◌, ◌<◌, length, map, refl, sym, ap, ◌∙◌, subst, arith}
 use Rattle.std.proofs.lemmas.List.{length-map}
-use Rattle.cq_base.specs.Arrivals.{no_arrivals}
-use Rattle.cq_ideal.specs.Admission.{marked}
 use Rattle.cq_ideal.proofs.Resting.{length-idle}
-use Rattle.cq_prefs.specs.Pairing.{IsStable}
 use Rattle.cq_laws.specs.Fabric.{IsEmptyFabric}
-use Rattle.cq_laws.specs.LimitedFabric.{LimitedFabricRun}
-use Rattle.cq_laws.specs.LimitedQuiet.{quiet_limited_slots}
-use Rattle.cq_fabric.specs.Queues.{fabric_of}
-use Rattle.cq_audit.specs.Replay.{IsInStep, ReplayView}
+use Rattle.cq_audit.specs.Replay.{HasRested, IsInStep, ReplayView}
 use Rattle.cq_audit.proofs.Slots.{in_step_here, shown}
 use Rattle.cq_audit.proofs.Stands.{rested_run, rested_step}
 use Rattle.cq_audit.proofs.replay.Replay.rest.Given as given
@@ -35,37 +29,30 @@ rest-requires-clause-states g c =
     (stands g (goal.at.rest-requires-clause-states g c).After-self).ranks
     ∙ length-map c.self.inside.ranks.fixed g.R.Rank.machine
 
-pub returns-clause-slots : goal.returns-clause-slots
-returns-clause-slots g c =
+pub returns : goal.returns
+returns g c =
     let e = c.self.inside in
     let M = g.R.Rank.machine in
     let slot = c.args.slot in
     let to = c.args.to in
-    let step = stands g (goal.at.returns-clause-slots g c).After-self in
+    let step = stands g (goal.at.returns g c).After-self in
     let empty = subst (λ (v : ReplayView). IsEmptyFabric v.fabric.state) (sym c.self.view_is) c.requires.empty in
-    let rested = c.rest.new.self.states in
+    let states = c.rest.new.self.states in
     let later : slot < to = c.requires.later in
     let many = length-map e.ranks.fixed M in
-    subst
-    (λ (v : ReplayView).
-    LimitedFabricRun IsStable v.limits (map M v.fixed) slot (replicate (to - slot) no_arrivals) v.fabric
-    (quiet_limited_slots (map M v.fixed) (to - slot) slot (length v.fixed) v.fabric.state.ranks v.fabric.marks)
-    (marked e.limiter.marks (fabric_of e.queues rested)))
-    c.self.view_is
-    (rested_run (map M e.ranks.fixed) slot to e.ranks.fixed e.ranks.states rested e.queues e.limiter step empty
-    (length e.ranks.fixed) (to - slot) many (omega arith) c.rest.ensures.states c.rest.ensures.again)
-
-pub returns-clause-in_step : goal.returns-clause-in_step
-returns-clause-in_step g c =
-    let e = c.self.inside in
-    let M = g.R.Rank.machine in
-    let rested = c.rest.new.self.states in
-    let step = stands g (goal.at.returns-clause-in_step g c).After-self in
-    let empty = subst (λ (v : ReplayView). IsEmptyFabric v.fabric.state) (sym c.self.view_is) c.requires.empty in
     let long =
     ap length c.rest.ensures.states ∙ length-idle (map M e.ranks.fixed) (length e.ranks.fixed) e.ranks.states in
-    subst
-    (λ (v : ReplayView). IsInStep (map M v.fixed) c.args.to (shown c.rest.new.self.fixed rested e.queues e.limiter))
-    c.self.view_is
-    (rested_step (map M e.ranks.fixed) c.args.slot c.args.to e.ranks.fixed e.ranks.states rested e.queues e.limiter step
-    empty c.rest.new.self.fixed long)
+    let new = shown c.rest.new.self.fixed states e.queues e.limiter in
+    subst (λ (v : ReplayView). HasRested (map M v.fixed) slot to v new) c.self.view_is
+    (record {
+      slots =
+          rested_run (map M e.ranks.fixed) slot to e.ranks.fixed e.ranks.states states e.queues e.limiter step empty
+          (length e.ranks.fixed) (to - slot) many (omega arith) c.rest.ensures.states c.rest.ensures.again;
+      in_step =
+          rested_step (map M e.ranks.fixed) slot to e.ranks.fixed e.ranks.states states e.queues e.limiter step empty
+          c.rest.new.self.fixed long;
+      fixed = c.rest.ensures.fixed;
+      limits = refl;
+      from_inputs = refl;
+      to_outputs = refl;
+    })

@@ -23,18 +23,7 @@ known : (g : given.Over) (c : After-self g) →
 known g c =
     let e = c.self.inside in
     begun g.R.Rank.machine c.args.slot c.args.self.now e.ranks.fixed e.ranks.states e.queues e.limiter c.self.view_is
-    c.args.arrivals.now c.args.lines.now c.args.note.now
-    (record {
-      in_step = c.requires.in_step;
-      early = c.requires.early;
-      arrivals = c.requires.arrivals;
-      ranked = c.requires.ranked;
-      list_room = c.requires.list_room;
-      buffer_room = c.requires.buffer_room;
-      in_order = c.requires.in_order;
-      none_before = c.requires.none_before;
-      note_room = c.requires.note;
-    })
+    c.args.arrivals.now c.args.lines.now c.args.note.now c.requires
 
 -- once what is admitted has its keys
 taken : (g : given.Over) (c : In_default g) →
@@ -98,7 +87,7 @@ sent g c left =
           c.tell.ensures.states
           ∙ ap (λ (fixed : List (List ℕ)). all_told (map M fixed) told states) c.take.ensures.fixed
           ∙ ap (λ (l : List (Option Queued)). all_told (map M c.self.inside.ranks.fixed) l states) left;
-      to_outputs = c.depart.ensures.to_outputs ∙ c.in_default-cross.ensures.to_outputs;
+      to_outputs = c.depart.ensures.to_outputs ∙ c.in_default-cross.ensures.crossed.to_outputs;
     }
 
 -- and hold it no longer
@@ -273,7 +262,7 @@ cross-requires-2-clause-note g c =
     let lines = parted g at.After-part begins.in_order in
     second_room begins (taken g at.In_default) (arrived g at.After-arrive) lines
     c.in_default-cross.ensures.crossed (sent g at.After-release (gone g at.After-of_outputs-gone))
-    c.cross.new.note.spare c.in_default-cross.ensures.note_room
+    c.cross.new.note.spare c.in_default-cross.ensures.noted.spare
 
 -- ## What the slot comes to
 
@@ -331,6 +320,6 @@ returns-clause-slot g c =
     (sent g at.After-release left) (parted_again g at.After-part-2 lines) two.crossed
     (released g at.After-release left) c.tell.new.ranks.fixed c.cross.new.note
     c.cross-2.new.note (c.tell.ensures.fixed ∙ c.take.ensures.fixed) c.release.ensures.marks
-    (two.from_inputs ∙ c.depart.ensures.from_inputs ∙ one.from_inputs ∙ c.arrive.ensures.from_inputs)
-    (two.to_outputs ∙ c.depart.ensures.to_outputs ∙ one.to_outputs ∙ c.arrive.ensures.to_outputs)
-    (record { noted = one.note; room = one.note_room }) (record { noted = two.note; room = two.note_room }))
+    (two.crossed.from_inputs ∙ c.depart.ensures.from_inputs ∙ one.crossed.from_inputs ∙ c.arrive.ensures.from_inputs)
+    (two.crossed.to_outputs ∙ c.depart.ensures.to_outputs ∙ one.crossed.to_outputs ∙ c.arrive.ensures.to_outputs)
+    one.noted two.noted)
