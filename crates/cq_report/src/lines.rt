@@ -5,7 +5,7 @@ ghost use Rattle.cq_report.specs.Report.{figure, named};
 
 use cq_base::{MOST_DIGITS, NoMemory, digits};
 
-pub fn put_number(text: &mut Vec<u8>, number: u64) -> Result<(), NoMemory>
+fn put_decimal(text: &mut Vec<u8>, number: u64) -> Result<(), NoMemory>
     ensures { OnOk result (text.new.items ≡ text.old.items ++ decimal number) }
 {
     let mut places = [0; MOST_DIGITS];
@@ -18,7 +18,7 @@ fn put_figure(text: &mut Vec<u8>, number: Option<u64>) -> Result<(), NoMemory>
     ensures { OnOk result (text.new.items ≡ text.old.items ++ figure number) }
 {
     match number {
-        Some(number) => put_number(text, number),
+        Some(number) => put_decimal(text, number),
         None => {
             text.push(b'-')?;
             Ok(())

@@ -1,5 +1,5 @@
-//! The numbers below a thousand, as they stand in a line. Most numbers of a line are among them, so each is written once
-//! and then copied.
+//! The numbers below a thousand, as they stand in a line. Most numbers of a line are among them, so each is written
+//! once and then copied.
 ghost use Rattle.std.specs.Prelude.{◌<◌};
 ghost use Rattle.cq_report.specs.Numerals.{IsNumeral};
 

@@ -17,6 +17,7 @@ const LINE: usize = 6 * 21 + 4;
 /// Lines that are not behind the text yet. Contracts see their bytes.
 #[derive(Drop)]
 pub struct Sheet {
+    numerals: Numerals,
     bytes: [u8; SHEET],
     end: usize,
 }
@@ -37,6 +38,7 @@ impl Sheet {
         ensures { result ≡ [] }
     {
         Sheet {
+            numerals: Numerals::new(),
             bytes: [0; SHEET],
             end: 0,
         }
@@ -67,12 +69,12 @@ impl Sheet {
     pub fn put_departure(
         &mut self,
         text: &mut Vec<u8>,
-        numerals: &Numerals,
         departure: &Departure,
     ) -> Result<(), NoMemory>
         ensures { OnOk result (text.new.items ++ self.new ≡ (text.old.items ++ self.old) ++ trace_line departure.now) }
     {
         self.make_room(text)?;
+        let numerals = &self.numerals;
         let id = departure.queued.cell.id;
         let slot = put_first(&mut self.bytes, self.end, numerals, departure.slot);
         let output = put_number(&mut self.bytes, slot, numerals, u64::from(departure.output));
@@ -88,15 +90,11 @@ impl Sheet {
     }
 
     /// One line more of the log. The error is want of memory.
-    pub fn put_transfer(
-        &mut self,
-        text: &mut Vec<u8>,
-        numerals: &Numerals,
-        transfer: &Transfer,
-    ) -> Result<(), NoMemory>
+    pub fn put_transfer(&mut self, text: &mut Vec<u8>, transfer: &Transfer) -> Result<(), NoMemory>
         ensures { OnOk result (text.new.items ++ self.new ≡ (text.old.items ++ self.old) ++ log_line transfer.now) }
     {
         self.make_room(text)?;
+        let numerals = &self.numerals;
         let id = transfer.id;
         let slot = put_first(&mut self.bytes, self.end, numerals, transfer.slot);
         let phase = put_number(&mut self.bytes, slot, numerals, u64::from(transfer.phase));
@@ -180,8 +178,8 @@ fn put_first(bytes: &mut [u8; SHEET], at: usize, numerals: &Numerals, number: u6
     put_long(bytes, at, numerals, number)
 }
 
-// A number below a thousand: all four bytes of its numeral are copied, and what comes next is written over those that say
-// nothing.
+// A number below a thousand: all four bytes of its numeral are copied, and what comes next is written over those that
+// say nothing.
 #[inline(always)]
 fn put_short(bytes: &mut [u8; SHEET], at: usize, numerals: &Numerals, number: u64) -> usize
     requires short { number < 1000 }
@@ -232,7 +230,8 @@ fn put_pair(bytes: &mut [u8; SHEET], behind: usize, pair: u64) -> usize
     requires pair { pair < 100 }
     requires some { 1 ≤ behind }
     requires room { behind + 2 ≤ 4096 }
-    ensures text { take result bytes.new ≡ take (behind - 1) bytes.old ++ (48 + pair / 10) ∷ (48 + pair % 10) ∷ 32 ∷ [] }
+    ensures text { take result bytes.new
+        ≡ take (behind - 1) bytes.old ++ (48 + pair / 10) ∷ (48 + pair % 10) ∷ 32 ∷ [] }
     ensures end { result ≡ behind + 2 }
     ensures long { length bytes.new ≡ 4096 }
 {

@@ -1,9 +1,8 @@
 //! The trace and the log of a run.
-ghost use Rattle.std.specs.Prelude.{◌≡◌, ◌++◌, IfOk, map};
+ghost use Rattle.std.specs.Prelude.{◌≡◌, IfOk, map};
 ghost use Rattle.cq_base.specs.Packed.{unpacked};
 ghost use Rattle.cq_base.specs.Texts.{trace_of, log_of};
 
-use crate::numerals::Numerals;
 use crate::sheet::Sheet;
 use cq_base::{Departure, NoMemory, PackedDeparture, Room, Supply, Transfer};
 use std::alloc::Global;
@@ -22,10 +21,9 @@ pub fn trace_text(alloc: Global, sent: &[Departure]) -> Result<Vec<u8>, NoMemory
     ensures { IfOk result (λ text. text.items ≡ trace_of sent.now) }
 {
     let mut text = Vec::with_capacity(alloc, sent.len().saturating_mul(TRACE_LINE))?;
-    let numerals = Numerals::new();
     let mut sheet = Sheet::new();
     'departures: for departure in sent {
-        sheet.put_departure(&mut text, &numerals, departure)?;
+        sheet.put_departure(&mut text, departure)?;
     }
     sheet.hand_over(&mut text)?;
     Ok(text)
@@ -37,10 +35,9 @@ pub fn trace_text_of_packed(alloc: Global, sent: &[PackedDeparture]) -> Result<V
     ensures { IfOk result (λ text. text.items ≡ trace_of (map unpacked sent.now)) }
 {
     let mut text = Vec::with_capacity(alloc, sent.len().saturating_mul(TRACE_LINE))?;
-    let numerals = Numerals::new();
     let mut sheet = Sheet::new();
     'departures: for packed in sent {
-        sheet.put_departure(&mut text, &numerals, &packed.departure())?;
+        sheet.put_departure(&mut text, &packed.departure())?;
     }
     sheet.hand_over(&mut text)?;
     Ok(text)
@@ -55,10 +52,9 @@ pub fn log_text(alloc: Global, note: &[Transfer]) -> Result<Vec<u8>, NoMemory>
     ensures { IfOk result (λ text. text.items ≡ log_of note.now) }
 {
     let mut text = Vec::with_capacity(alloc, note.len().saturating_mul(LOG_LINE))?;
-    let numerals = Numerals::new();
     let mut sheet = Sheet::new();
     'transfers: for transfer in note {
-        sheet.put_transfer(&mut text, &numerals, transfer)?;
+        sheet.put_transfer(&mut text, transfer)?;
     }
     sheet.hand_over(&mut text)?;
     Ok(text)
@@ -72,10 +68,9 @@ pub fn log_text_of_room(alloc: Global, note: Room<Transfer>) -> Result<Vec<u8>, 
 {
     let mut text = Vec::with_capacity(alloc, note.items().len().saturating_mul(LOG_LINE))?;
     let mut left = Supply::of(note.into_vec());
-    let numerals = Numerals::new();
     let mut sheet = Sheet::new();
     'transfers: while let Some(transfer) = left.pop_first() {
-        sheet.put_transfer(&mut text, &numerals, &transfer)?;
+        sheet.put_transfer(&mut text, &transfer)?;
     }
     sheet.hand_over(&mut text)?;
     Ok(text)
