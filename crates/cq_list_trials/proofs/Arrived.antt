@@ -1,0 +1,52 @@
+-- Cells that arrived in slots before this one: they arrived before the next one too, also what is left of them where one
+-- left, and with the newest among them.
+use Rattle.std.proofs.Common.{◌≡◌, ℕ, ◌+◌, ◌<◌, cond, List, [], ◌∷◌, length, drop, Option, Some, ap, arith}
+use Rattle.std.specs.Prelude.{is_some}
+use Rattle.std.proofs.lemmas.Bool.{cond_both}
+use Rattle.cq_base.specs.declared.cell.Queued.{Queued}
+use Rattle.cq_base.specs.Cells.{ArrivedBefore, is_for, first_for, without_first, put}
+use Rattle.cq_base.proofs.Lists.{all_at, all_by, all_left}
+use Rattle.cq_urgency.proofs.Rising.{all_put}
+
+pub older_still : (slot : ℕ) (xs : List Queued) → ArrivedBefore slot xs → ArrivedBefore (slot + 1) xs
+older_still slot xs before =
+    all_by _ xs
+    (λ t c at.
+    let l : c.key.slot < slot = all_at (λ x. x.key.slot < slot) xs t c before at in omega arith)
+
+-- ## A list
+
+-- the first cell for an output left
+pub arrived_left : (slot j : ℕ) (xs : List Queued) → ArrivedBefore slot xs →
+    ArrivedBefore (slot + 1) (without_first j xs)
+arrived_left slot j xs before = older_still slot (without_first j xs) (all_left _ j xs before)
+
+-- how many cells were taken
+abbrev pub count_taken : Option Queued → ℕ
+count_taken taken = cond (is_some taken) 1 0
+
+pub length_left : (j : ℕ) (xs : List Queued) →
+    length (without_first j xs) + count_taken (first_for j xs) ≡ length xs
+length_left j [] = omega arith
+length_left j (x ∷ xs) =
+    cond_both (is_for j x) xs (x ∷ without_first j xs)
+    (λ l. length l + count_taken (first_for j (x ∷ xs)) ≡ length (x ∷ xs))
+    (λ e. let one : count_taken (first_for j (x ∷ xs)) ≡ 1 =
+    ap (λ b. count_taken (cond b (Some x) (first_for j xs))) e in omega arith)
+    (λ e.
+    let same : count_taken (first_for j (x ∷ xs)) ≡ count_taken (first_for j xs) =
+    ap (λ b. count_taken (cond b (Some x) (first_for j xs))) e in
+    let rest = length_left j xs in
+    omega arith)
+
+-- ## A buffer
+
+-- the newest cell came in
+pub arrived_put : (c : Queued) (xs : List Queued) → ArrivedBefore c.key.slot xs →
+    ArrivedBefore (c.key.slot + 1) (put c xs)
+arrived_put c xs before = all_put _ c xs (omega arith) (older_still c.key.slot xs before)
+
+-- the first cell of all left
+pub arrived_popped : (slot : ℕ) (xs : List Queued) → ArrivedBefore slot xs → ArrivedBefore (slot + 1) (drop 1 xs)
+arrived_popped slot [] before = tt
+arrived_popped slot (x ∷ xs) before = older_still slot xs before.1

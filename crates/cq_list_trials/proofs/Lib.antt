@@ -1,0 +1,3 @@
+mod Arrived
+mod Crossing
+mod Followed

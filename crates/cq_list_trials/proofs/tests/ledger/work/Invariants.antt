@@ -1,0 +1,5 @@
+use Rattle.cq_ledger.specs.Seats.{IsSeatOf}
+use Rattle.cq_list_trials.proofs.tests.ledger.work.Given as goal
+
+abbrev pub invariant-turns : goal.invariant-turns
+invariant-turns l = IsSeatOf l.ledger l.seat

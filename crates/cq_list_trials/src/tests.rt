@@ -1,0 +1,13 @@
+//! The trials, by the crate that they try, and what they share.
+mod crew;
+mod draws;
+mod followed;
+mod ledger;
+mod list;
+mod meeting;
+mod opposed;
+mod pair;
+mod prefs;
+mod urgency;
+mod waiting;
+mod xbar;

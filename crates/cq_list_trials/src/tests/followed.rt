@@ -1,0 +1,218 @@
+//! Offers that are renewed after each of many drawn changes, compared with offers that are filled anew.
+ghost use Rattle.std.specs.Prelude.{◌≡◌, ◌+◌, ◌<◌, ◌≤◌, All, IfOk, IsTrue, Some, length};
+ghost use Rattle.cq_base.specs.Cells.{MoreUrgentAhead};
+ghost use Rattle.cq_list.specs.InputList.{cells_of};
+ghost use Rattle.cq_prefs.specs.FirstCells.{first_key, key_before, orders_of};
+ghost use Rattle.cq_list_trials.specs.Followed.{AreOwn, HasChanged, IsOwn};
+ghost use Rattle.cq_prefs.specs.Orders.{ports};
+ghost use Rattle.cq_prefs.specs.Pairing.{IsFreeOutput};
+
+use super::draws::Draws;
+use super::waiting::waiting;
+use cq_base::{NoMemory, Port, Queued};
+use cq_list::InputList;
+use cq_prefs::{Matching, Offers};
+use std::alloc::Global;
+use std::marker::Model;
+use std::test::Fail;
+
+// The lists of a switch, and offers that are renewed after each change of them. Contracts see the number of ports.
+#[derive(Drop)]
+struct Followed {
+    lists: Vec<InputList>,
+    kept: Offers,
+    slot: u32,
+}
+
+impl Model for Followed {
+    ghost use Rattle.std.specs.Prelude.{ℕ, length};
+    ghost use Rattle.cq_list_trials.specs.Followed.{IsFollowed};
+
+    ghost Value = { ℕ };
+
+    ghost view = { λ s. length s.lists.items };
+
+    ghost invariant = { λ s. IsFollowed s.slot s.lists.items s.kept };
+}
+
+// Lists without cells, each with room for 32 of them.
+fn new_lists(alloc: Global, ports: u16) -> Result<Vec<InputList>, NoMemory>
+    requires { ports ≤ 64 }
+    ensures len { IfOk result (λ lists. length lists.items ≡ ports) }
+    ensures outputs { IfOk result (λ lists. All (λ list. list.outputs ≡ ports) lists.items) }
+    ensures own { IfOk result (λ lists. AreOwn 0 lists.items) }
+{
+    let mut lists = Vec::new(alloc);
+    for _ in 0..ports {
+        lists.push(InputList::new(alloc, ports, 32)?)?;
+    }
+    Ok(lists)
+}
+
+// Whether no input has this output as its partner.
+fn is_free(matching: &Matching, output: Port) -> bool
+    ensures { IsTrue result → IsFreeOutput matching.now output }
+{
+    for input in 0..matching.ports() {
+        if matching.partner_of(input) == Some(output) {
+            return false;
+        }
+    }
+    true
+}
+
+// Joins two ports, if both have no partner yet.
+fn join_free(matching: &mut Matching, input: Port, output: Port)
+    requires input { input < length matching.old }
+    requires output { output < length matching.old }
+    ensures { length matching.new ≡ length matching.old }
+{
+    if matching.partner_of(input).is_none() && is_free(matching, output) {
+        matching.join(input, output);
+    }
+}
+
+// A matching of drawn pairs, and of no more of them than there are ports.
+fn drawn_matching(drawn: &mut Draws, ports: u16) -> Matching
+    requires some { 0 < ports }
+    requires few { ports ≤ 64 }
+    ensures { length result ≡ ports }
+{
+    let mut matching = Matching::none(ports);
+    for _ in 0..drawn.below(ports as u64) + 1 {
+        let input = drawn.below(ports as u64) as Port;
+        let output = drawn.below(ports as u64) as Port;
+        join_free(&mut matching, input, output);
+    }
+    matching
+}
+
+// Whether a more urgent cell for the same output waits: the first one for it is.
+#[tactic(auto, unfolding(cq_base::specs::Key::is_before))]
+fn is_overtaken(list: &InputList, queued: Queued) -> bool
+    ensures { result ≡ key_before (first_key queued.cell.output list.now.cells) (Some queued.key) }
+{
+    match list.front_for(queued.cell.output) {
+        None => false,
+        Some(front) => front.key < queued.key,
+    }
+}
+
+// The end, where a more urgent cell for the same output waits, and else any place.
+fn drawn_cushion(drawn: &mut Draws, list: &InputList, queued: Queued) -> u64
+    ensures { MoreUrgentAhead result queued list.now.cells }
+{
+    let end = list.len();
+    if is_overtaken(list, queued) {
+        return end;
+    }
+    drawn.below(8)
+}
+
+// A cell comes to a list for an output, or the first one for it goes.
+fn change_one(drawn: &mut Draws, list: &mut InputList, input: Port, output: Port, slot: u32)
+    requires output { output < list.old.outputs }
+    requires slot { slot < 32 }
+    requires own { IsOwn slot input list.old }
+    ensures outputs { list.new.outputs ≡ list.old.outputs }
+    ensures own { IsOwn (slot + 1) input list.new }
+    ensures changed { HasChanged output list.old.cells list.new.cells }
+{
+    if drawn.below(3) == 0 {
+        list.take(output);
+    } else {
+        let queued = waiting(input, output, drawn.below(4) as u128, slot);
+        let cushion = drawn_cushion(drawn, list, queued);
+        list.insert(queued, cushion);
+    }
+}
+
+// The list of each input that has a partner changes for this partner, and the offers are renewed.
+fn change_each(
+    drawn: &mut Draws,
+    lists: &mut [InputList],
+    kept: &mut Offers,
+    changed: &Matching,
+    slot: u32,
+)
+    requires ports { length lists.old ≡ length changed.now }
+    requires outputs { All (λ list. list.outputs ≡ length lists.old) lists.old }
+    requires slot { slot < 32 }
+    requires own { AreOwn slot lists.old }
+    requires offers { kept.old ≡ orders_of (cells_of lists.old) }
+    ensures ports { length lists.new ≡ length lists.old }
+    ensures outputs { All (λ list. list.outputs ≡ length lists.new) lists.new }
+    ensures own { AreOwn (slot + 1) lists.new }
+    ensures offers { kept.new ≡ orders_of (cells_of lists.new) }
+{
+    for input in 0..changed.ports() {
+        if let Some(output) = changed.partner_of(input) {
+            change_one(drawn, &mut lists[input as usize], input, output, slot);
+        }
+    }
+    kept.renew(lists, changed);
+}
+
+// Whether the offers say the same of each two ports.
+fn are_same(left: &Offers, right: &Offers) -> bool {
+    (0..left.ports()).all(|input| {
+        (0..left.ports()).all(|output| {
+            left.place_of(input, output) == right.place_of(input, output)
+                && left.position_of(output, input) == right.position_of(output, input)
+        })
+    })
+}
+
+impl Followed {
+    fn new(alloc: Global, ports: u16) -> Result<Followed, NoMemory>
+        requires some { 0 < ports }
+        requires few { ports ≤ 64 }
+        ensures { IfOk result (λ switch. switch ≡ ports) }
+    {
+        let lists = new_lists(alloc, ports)?;
+        let mut kept = Offers::new(alloc, ports)?;
+        kept.fill(&lists);
+        Ok(Followed {
+            lists,
+            kept,
+            slot: 0,
+        })
+    }
+
+    // A cell comes or goes in each pair of a drawn matching, and the offers are renewed. After 32 changes all stays.
+    fn change(&mut self, drawn: &mut Draws)
+        ensures { self.new ≡ self.old }
+    {
+        if self.slot < 32 {
+            let changed = drawn_matching(drawn, self.lists.len() as u16);
+            change_each(drawn, &mut self.lists, &mut self.kept, &changed, self.slot);
+            self.slot += 1;
+        }
+    }
+
+    // Whether offers that are filled anew are those that were renewed.
+    fn agrees(&self, filled: &mut Offers) -> bool
+        requires { ports filled.old ≡ self.now }
+        ensures { ports filled.new ≡ ports filled.old }
+    {
+        filled.fill(&self.lists);
+        are_same(&self.kept, filled)
+    }
+}
+
+#[test]
+fn renewed_offers_are_those_that_are_filled_anew(rt: HostRuntime) -> Result<(), Fail> {
+    let mut drawn = Draws { state: 2 };
+    for ports in 1..13 {
+        let mut switch = Followed::new(rt.alloc(), ports)?;
+        let mut filled = Offers::new(rt.alloc(), ports)?;
+        for change in 0..32u16 {
+            switch.change(&mut drawn);
+            assert!(rt;
+                switch.agrees(&mut filled),
+                "of {ports} ports after change {change}"
+            );
+        }
+    }
+    Ok(())
+}

@@ -1,0 +1,176 @@
+//! The list of an input: worked insertions, drawn calls compared with a plain list, and the call that wants memory,
+//! with ample memory.
+ghost use Rattle.std.specs.Prelude.{◌≡◌, ℕ, ◌+◌, ◌<◌, ◌≤◌, ◌&&◌, length};
+ghost use Rattle.cq_base.specs.Key.{is_before};
+ghost use Rattle.cq_base.specs.Cells.{ArrivedBefore, MoreUrgentAhead, is_for};
+
+use super::draws::next_draw;
+use super::waiting::{arrive, waiting};
+use cq_base::Queued;
+use cq_list::InputList;
+use std::alloc::Global;
+use std::test::Fail;
+
+// The slots of the cells, where a cell arrives in slot 2 behind one for each of two outputs.
+fn slots_after(alloc: Global, output: u16, rank: u128) -> Result<[u64; 3], Fail>
+    requires { output < 2 }
+{
+    let mut list = InputList::new(alloc, 2, 3)?;
+    arrive(&mut list, waiting(0, 0, 3, 0));
+    arrive(&mut list, waiting(0, 1, 0, 1));
+    arrive(&mut list, waiting(0, output, rank, 2));
+    Ok([
+        list.at(0).key.slot,
+        list.at(1).key.slot,
+        list.at(2).key.slot,
+    ])
+}
+
+#[test]
+fn a_cell_goes_ahead_of_less_urgent_ones_for_its_output(rt: HostRuntime) -> Result<(), Fail> {
+    assert_eq!(rt; slots_after(rt.alloc(), 0, 1)?, [2, 0, 1]);
+    assert_eq!(rt; slots_after(rt.alloc(), 1, 5)?, [0, 1, 2]);
+    Ok(())
+}
+
+#[test]
+fn a_cell_is_found_by_its_output_and_by_its_id(rt: HostRuntime) -> Result<(), Fail> {
+    let mut list = InputList::new(rt.alloc(), 3, 3)?;
+    arrive(&mut list, waiting(0, 0, 3, 0));
+    arrive(&mut list, waiting(0, 1, 0, 1));
+    arrive(&mut list, waiting(0, 0, 1, 2));
+    assert_eq!(rt; list.front_for(0), Some(waiting(0, 0, 1, 2)));
+    assert_eq!(rt; list.front_for(1), Some(waiting(0, 1, 0, 1)));
+    assert_eq!(rt; list.front_for(2), None);
+    assert_eq!(rt; list.place_for(0), Some(0));
+    assert_eq!(rt; list.place_for(1), Some(2));
+    assert_eq!(rt; list.place_for(2), None);
+    assert_eq!(rt; list.thread_of(waiting(0, 0, 3, 0).cell.id), Some(1));
+    assert_eq!(rt; list.thread_of(waiting(0, 1, 0, 1).cell.id), Some(2));
+    assert_eq!(rt; list.thread_of(waiting(0, 0, 3, 3).cell.id), None);
+    Ok(())
+}
+
+// The place in a plain list at which a cell goes in that comes behind all others but less urgent ones for its output.
+fn place_in(cells: &[Queued], queued: &Queued) -> usize
+    ensures { result ≤ length cells.now }
+{
+    for (place, other) in cells.iter().enumerate() {
+        if other.cell.output == queued.cell.output && queued.key < other.key {
+            return place;
+        }
+    }
+    cells.len()
+}
+
+// The first cell for an output leaves.
+fn depart(list: &mut InputList, output: u16, slot: u32) -> Option<Queued>
+    requires { ArrivedBefore slot list.old.cells }
+    ensures arrived { ArrivedBefore (slot + 1) list.new.cells }
+    ensures room { list.new.spare + length list.new.cells ≡ list.old.spare + length list.old.cells }
+    ensures outputs { list.new.outputs ≡ list.old.outputs }
+{
+    list.take(output)
+}
+
+// Takes the first cell for an output out of a plain list.
+fn take_plain(cells: &mut Vec<Queued>, output: u16) -> Option<Queued> {
+    let place = cells
+        .iter()
+        .position(|waiting| waiting.cell.output == output)?;
+    Some(cells.remove(place))
+}
+
+// The least cushion with which a cell may go in: all more urgent cells for its output stand ahead of it.
+fn least_cushion(list: &InputList, queued: &Queued) -> u64
+    ensures { (cushion : ℕ) → result ≤ cushion → MoreUrgentAhead cushion queued.now list.now.cells }
+{
+    let mut least = 0;
+    'places: for place in 0..list.len() {
+        if is_ahead(&list.at(place), queued) {
+            least = place + 1;
+        }
+    }
+    least
+}
+
+// Whether a cell is for the same output, and more urgent.
+#[tactic(auto, unfolding(cq_base::specs::Key::is_before))]
+fn is_ahead(other: &Queued, queued: &Queued) -> bool
+    ensures { result ≡ (is_for queued.now.cell.output other.now && is_before other.now.key queued.now.key) }
+{
+    other.cell.output == queued.cell.output && other.key < queued.key
+}
+
+// The newest cell goes in with this cushion, or with the least that it may have. The answer is the one that it had.
+#[tactic(auto, using(cq_base::proofs::Lists::other_key_newest, cq_base::proofs::Lists::arrived_newest))]
+fn cut_in(list: &mut InputList, queued: Queued, cushion: u64) -> u64
+    requires spare { 0 < list.old.spare }
+    requires in_range { queued.cell.output < list.old.outputs }
+    requires newest { ArrivedBefore queued.key.slot list.old.cells }
+    ensures len { length list.new.cells ≡ length list.old.cells + 1 }
+    ensures spare { list.new.spare + 1 ≡ list.old.spare }
+    ensures outputs { list.new.outputs ≡ list.old.outputs }
+    ensures arrived { ArrivedBefore (queued.key.slot + 1) list.new.cells }
+{
+    let least = least_cushion(list, &queued);
+    let had = cushion.max(least);
+    list.insert(queued, had);
+    had
+}
+
+// Whether a cell arrives in this slot: for 200 slots nine in ten do, and then one in ten.
+fn one_arrives(slot: u32, draw: u64) -> bool {
+    draw / 65536 % 10 < if slot / 200 % 2 == 0 { 9 } else { 1 }
+}
+
+// For which of three outputs the cell is that comes or goes: while most go, all are for one output.
+fn output_in(slot: u32, draw: u64) -> u16
+    ensures { result < 3 }
+{
+    if slot / 200 % 2 == 0 {
+        (draw / 256 % 3) as u16
+    } else {
+        (slot / 400 % 3) as u16
+    }
+}
+
+#[test]
+fn drawn_calls_answer_as_a_plain_list_does(rt: HostRuntime) -> Result<(), Fail> {
+    let mut list = InputList::new(rt.alloc(), 3, 600)?;
+    let mut plain = Vec::new(rt.alloc());
+    let mut draw: u64 = 1;
+    'calls: for slot in 0..2000_u32 {
+        draw = next_draw(draw);
+        let output = output_in(slot, draw);
+        if list.len() < 600 && one_arrives(slot, draw) {
+            let queued = waiting(0, output, (draw / 16 % 40) as u128, slot);
+            let cushion = cut_in(&mut list, queued, draw / 1024 % 500);
+            let place = place_in(&plain, &queued).min(cushion as usize);
+            plain.insert(place, queued)?;
+        } else {
+            assert_eq!(rt;
+                depart(&mut list, output, slot),
+                take_plain(&mut plain, output)
+            );
+        }
+    }
+    assert_eq!(rt; list.len(), plain.len() as u64);
+    for place in 0..list.len() {
+        assert_eq!(rt; Some(list.at(place)), plain.get(place as usize).copied());
+    }
+    Ok(())
+}
+
+#[test]
+fn a_cell_is_found_by_its_key(rt: HostRuntime) -> Result<(), Fail> {
+    let mut list = InputList::new(rt.alloc(), 3, 3)?;
+    arrive(&mut list, waiting(0, 0, 3, 0));
+    arrive(&mut list, waiting(0, 1, 0, 1));
+    arrive(&mut list, waiting(0, 0, 1, 2));
+    assert_eq!(rt; list.place_of_key(0, waiting(0, 0, 1, 2).key), 0);
+    assert_eq!(rt; list.place_of_key(0, waiting(0, 0, 3, 0).key), 1);
+    assert_eq!(rt; list.place_of_key(1, waiting(0, 1, 0, 1).key), 2);
+    assert_eq!(rt; list.place_of_key(2, waiting(0, 2, 0, 3).key), 3);
+    Ok(())
+}

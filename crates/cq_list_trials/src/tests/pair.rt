@@ -1,0 +1,277 @@
+//! Proposals by one thread: a worked example, in several orders, and drawn offers compared with all their stable
+//! matchings.
+ghost use Rattle.std.specs.Prelude.{◌≡◌, ◌<◌, length, IfOk, IfSome};
+ghost use Rattle.cq_pair.specs.Progress.{IsReached};
+
+use super::draws::Draws;
+use super::opposed::opposed_offers;
+use super::waiting::{arrive, waiting};
+use cq_base::Port;
+use cq_list::InputList;
+use cq_pair::{Core, LastFirst, LowestFirst, Outcome};
+use cq_prefs::Offers;
+use std::alloc::Global;
+use std::test::Fail;
+
+// The list of an input of three. Cells arrive one after another, each given as its output and its rank.
+fn list_of(alloc: Global, input: Port, cells: [(Port, u16); 3]) -> Result<InputList, Fail>
+    ensures { IfOk result (λ list. list.outputs ≡ 3) }
+{
+    let mut list = InputList::new(alloc, 3, 3)?;
+    arrive(
+        &mut list,
+        waiting(input, cells[0].0 % 3, cells[0].1 as u128, 0),
+    );
+    arrive(
+        &mut list,
+        waiting(input, cells[1].0 % 3, cells[1].1 as u128, 1),
+    );
+    arrive(
+        &mut list,
+        waiting(input, cells[2].0 % 3, cells[2].1 as u128, 2),
+    );
+    Ok(list)
+}
+
+// The place of an input, or None where it is not there.
+fn place_among(inputs: &[Port], input: Port) -> Option<usize>
+    ensures { IfSome result (λ place. place < length inputs.now) }
+{
+    inputs.iter().position(|other| *other == input)
+}
+
+// What the proposal of an input comes to, or None where it is not free.
+fn proposed(core: &mut Core, offers: &Offers, input: Port) -> Option<Outcome>
+    requires { IsReached offers.now core.old }
+    ensures { IsReached offers.now core.new }
+{
+    // Its contract tells that the orders of both sides fit together.
+    let _ports = offers.ports();
+    let place = place_among(core.free(), input)?;
+    let input = core.free()[place];
+    Some(core.propose(offers, input))
+}
+
+// What six proposals come to, one after another.
+fn six_proposed(core: &mut Core, offers: &Offers, inputs: [Port; 6]) -> [Option<Outcome>; 6]
+    requires { IsReached offers.now core.old }
+    ensures { IsReached offers.now core.new }
+{
+    [
+        proposed(core, offers, inputs[0]),
+        proposed(core, offers, inputs[1]),
+        proposed(core, offers, inputs[2]),
+        proposed(core, offers, inputs[3]),
+        proposed(core, offers, inputs[4]),
+        proposed(core, offers, inputs[5]),
+    ]
+}
+
+// The partners of three inputs.
+#[tactic(auto, using(cq_pair::proofs::Reached::size_reached))]
+fn partners(core: &Core, offers: &Offers) -> [Option<Port>; 3]
+    requires { IsReached offers.now core.now }
+{
+    let mut partners = [None; 3];
+    let matching = core.pairs();
+    for input in 0..offers.ports().min(3) {
+        partners[input as usize] = matching.partner_of(input);
+    }
+    partners
+}
+
+#[test]
+fn outputs_keep_the_best_and_displace_the_others(rt: HostRuntime) -> Result<(), Fail> {
+    use Outcome::{Displaced, Held, Rejected};
+    let offers = opposed_offers(rt.alloc(), 3)?;
+    let mut core = Core::begin(&offers);
+    assert_eq!(rt;
+        six_proposed(&mut core, &offers, [0, 1, 0, 2, 1, 0]),
+        [
+            Some(Held),
+            Some(Displaced(0)),
+            Some(Held),
+            Some(Displaced(1)),
+            Some(Displaced(0)),
+            Some(Held)
+        ]
+    );
+    assert_eq!(rt; partners(&core, &offers), [Some(2), Some(1), Some(0)]);
+    assert_eq!(rt; core.made(), 6);
+    let mut core = Core::begin(&offers);
+    assert_eq!(rt;
+        six_proposed(&mut core, &offers, [2, 1, 0, 1, 0, 0]),
+        [
+            Some(Held),
+            Some(Rejected),
+            Some(Rejected),
+            Some(Held),
+            Some(Rejected),
+            Some(Held)
+        ]
+    );
+    assert_eq!(rt; partners(&core, &offers), [Some(2), Some(1), Some(0)]);
+    assert_eq!(rt; core.made(), 6);
+    assert_eq!(rt; core.free().len(), 0);
+    Ok(())
+}
+
+#[test]
+fn settling_does_not_depend_on_who_proposes_next(rt: HostRuntime) -> Result<(), Fail> {
+    let offers = opposed_offers(rt.alloc(), 3)?;
+    let mut last = Core::begin(&offers);
+    last.settle(&offers, &mut LastFirst);
+    assert_eq!(rt; partners(&last, &offers), [Some(2), Some(1), Some(0)]);
+    assert_eq!(rt; last.made(), 6);
+    let mut lowest = Core::begin(&offers);
+    lowest.settle(&offers, &mut LowestFirst);
+    assert_eq!(rt; partners(&lowest, &offers), [Some(2), Some(1), Some(0)]);
+    assert_eq!(rt; lowest.made(), 6);
+    Ok(())
+}
+
+// The list of an input with one to three drawn offers.
+fn drawn_list(alloc: Global, drawn: &mut Draws, input: Port) -> Result<InputList, Fail>
+    ensures { IfOk result (λ list. list.outputs ≡ 3) }
+{
+    let cells = [
+        (drawn.word(), drawn.word()),
+        (drawn.word(), drawn.word()),
+        (drawn.word(), drawn.word()),
+    ];
+    list_of(alloc, input, cells)
+}
+
+// Offers of three ports, as drawn.
+fn drawn_offers(alloc: Global, drawn: &mut Draws) -> Result<Offers, Fail> {
+    let lists = [
+        drawn_list(alloc, drawn, 0)?,
+        drawn_list(alloc, drawn, 1)?,
+        drawn_list(alloc, drawn, 2)?,
+    ];
+    let mut offers = Offers::new(alloc, 3)?;
+    offers.fill(&lists);
+    Ok(offers)
+}
+
+// The partner that a number stands for.
+fn partner(code: u16) -> Option<Port> {
+    match code % 4 {
+        3 => None,
+        output => Some(output),
+    }
+}
+
+// How far down its order an input's partner stands: behind all outputs where it has none.
+fn place(offers: &Offers, input: Port, partner: Option<Port>) -> u16 {
+    match partner {
+        None => 64,
+        Some(output) => offers.place_of(input, output).unwrap_or(65),
+    }
+}
+
+// Whether the pairs are offered, and no output is twice.
+fn is_matching(offers: &Offers, partners: &[Option<Port>; 3]) -> bool {
+    for input in 0..3u16 {
+        if place(offers, input, partners[input as usize]) > 64 {
+            return false;
+        }
+        for other in 0..input {
+            if partners[input as usize].is_some()
+                && partners[input as usize] == partners[other as usize]
+            {
+                return false;
+            }
+        }
+    }
+    true
+}
+
+// Whether an output has a partner that it prefers to the one of this position.
+fn has_better_input(
+    offers: &Offers,
+    partners: &[Option<Port>; 3],
+    output: Port,
+    position: u16,
+) -> bool {
+    for input in 0..3u16 {
+        if partners[input as usize] == Some(output) {
+            return offers
+                .position_of(output, input)
+                .is_some_and(|held| held <= position);
+        }
+    }
+    false
+}
+
+// Whether an input and an output are offered to each other and prefer each other to their partners.
+fn is_blocking(offers: &Offers, partners: &[Option<Port>; 3], input: Port, output: Port) -> bool
+    requires { input < 3 }
+{
+    match (
+        offers.place_of(input, output),
+        offers.position_of(output, input),
+    ) {
+        (Some(at), Some(position)) => {
+            at < place(offers, input, partners[input as usize])
+                && !has_better_input(offers, partners, output, position)
+        }
+        _ => false,
+    }
+}
+
+fn is_stable(offers: &Offers, partners: &[Option<Port>; 3]) -> bool {
+    if !is_matching(offers, partners) {
+        return false;
+    }
+    for input in 0..3u16 {
+        for output in 0..3u16 {
+            if is_blocking(offers, partners, input, output) {
+                return false;
+            }
+        }
+    }
+    true
+}
+
+// Whether no input has a better partner in the other matching.
+fn is_no_worse(offers: &Offers, partners: &[Option<Port>; 3], others: &[Option<Port>; 3]) -> bool {
+    for input in 0..3u16 {
+        let at = place(offers, input, partners[input as usize]);
+        if place(offers, input, others[input as usize]) < at {
+            return false;
+        }
+    }
+    true
+}
+
+// Whether some other matching of the offers is stable, and whether all of them are no better for any input.
+fn other_stable(offers: &Offers, settled: &[Option<Port>; 3]) -> (bool, bool) {
+    let mut some = false;
+    let mut all_no_better = true;
+    for code in 0..64u16 {
+        let other = [partner(code), partner(code / 4), partner(code / 16)];
+        if other != *settled && is_stable(offers, &other) {
+            some = true;
+            all_no_better = all_no_better && is_no_worse(offers, settled, &other);
+        }
+    }
+    (some, all_no_better)
+}
+
+#[test]
+fn drawn_offers_settle_at_the_best_of_all_stable_matchings(rt: HostRuntime) -> Result<(), Fail> {
+    let mut drawn = Draws { state: 1 };
+    let mut some_have_several = false;
+    for round in 0..40u16 {
+        let offers = drawn_offers(rt.alloc(), &mut drawn)?;
+        let mut core = Core::begin(&offers);
+        core.settle(&offers, &mut LastFirst);
+        let settled = partners(&core, &offers);
+        let (several, best) = other_stable(&offers, &settled);
+        assert!(rt; best && is_stable(&offers, &settled), "in round {round}");
+        some_have_several = some_have_several || several;
+    }
+    assert!(rt; some_have_several);
+    Ok(())
+}

@@ -1,0 +1,112 @@
+//! The buffer of an output: a worked one, drawn calls compared with a plain list, and the call that wants memory,
+//! with ample memory.
+ghost use Rattle.std.specs.Prelude.{◌≡◌, ◌+◌, ◌<◌, ◌≤◌, IfOk, length};
+ghost use Rattle.cq_base.specs.Cells.{ArrivedBefore};
+
+use super::draws::next_draw;
+use super::waiting::waiting;
+use cq_base::{Key, Queued};
+use cq_urgency::OutputBuffer;
+use std::alloc::Global;
+use std::test::Fail;
+
+// The newest cell comes in.
+#[tactic(auto, using(cq_base::proofs::Lists::other_key_newest, crate::proofs::Arrived::arrived_put, cq_urgency::proofs::Rising::length_put))]
+fn come(buffer: &mut OutputBuffer, queued: Queued)
+    requires spare { 0 < buffer.old.spare }
+    requires newest { ArrivedBefore queued.key.slot buffer.old.cells }
+    ensures len { length buffer.new.cells ≡ length buffer.old.cells + 1 }
+    ensures spare { buffer.new.spare + 1 ≡ buffer.old.spare }
+    ensures come { ArrivedBefore (queued.key.slot + 1) buffer.new.cells }
+{
+    buffer.put(queued);
+}
+
+// Cells of ranks 5, 2, 5 and 9 come in, in slots 0 to 3.
+fn four_cells(alloc: Global) -> Result<OutputBuffer, Fail>
+    ensures { IfOk result (λ buffer. length buffer.cells ≡ 4) }
+{
+    let mut buffer = OutputBuffer::new(alloc, 4)?;
+    come(&mut buffer, waiting(0, 0, 5, 0));
+    come(&mut buffer, waiting(0, 0, 2, 1));
+    come(&mut buffer, waiting(0, 0, 5, 2));
+    come(&mut buffer, waiting(0, 0, 9, 3));
+    Ok(buffer)
+}
+
+#[test]
+fn equal_ranks_wait_in_the_order_of_their_arrival(rt: HostRuntime) -> Result<(), Fail> {
+    let mut buffer = four_cells(rt.alloc())?;
+    let slots = [
+        buffer.at(0).key.slot,
+        buffer.at(1).key.slot,
+        buffer.at(2).key.slot,
+        buffer.at(3).key.slot,
+    ];
+    assert_eq!(rt; slots, [1, 0, 2, 3]);
+    assert_eq!(rt; buffer.cushion(waiting(0, 0, 5, 2).key), 2);
+    assert_eq!(rt; buffer.cushion(waiting(0, 0, 5, 3).key), 3);
+    assert_eq!(rt; buffer.pop().map(|sent| sent.key.slot), Some(1));
+    assert_eq!(rt; buffer.len(), 3);
+    Ok(())
+}
+
+// The place in a plain list of the first cell with a greater key, or its end.
+fn place_in(cells: &[Queued], key: Key) -> usize
+    ensures { result ≤ length cells.now }
+{
+    for (place, other) in cells.iter().enumerate() {
+        if key < other.key {
+            return place;
+        }
+    }
+    cells.len()
+}
+
+// The first cell leaves.
+fn leave(buffer: &mut OutputBuffer, slot: u32) -> Option<Queued>
+    requires { ArrivedBefore slot buffer.old.cells }
+    ensures arrived { ArrivedBefore (slot + 1) buffer.new.cells }
+    ensures room { buffer.new.spare + length buffer.new.cells ≡ buffer.old.spare + length buffer.old.cells }
+{
+    buffer.pop()
+}
+
+// The first cell of a plain list leaves.
+fn leave_plain(cells: &mut Vec<Queued>) -> Option<Queued> {
+    if cells.is_empty() {
+        return None;
+    }
+    Some(cells.remove(0))
+}
+
+// Blocks split while the buffer fills, in the first half of each 800 calls, and are freed while it empties.
+#[test]
+fn drawn_calls_answer_as_a_plain_list_does(rt: HostRuntime) -> Result<(), Fail> {
+    let mut buffer = OutputBuffer::new(rt.alloc(), 300)?;
+    let mut plain = Vec::new(rt.alloc());
+    let mut drawn: u64 = 1;
+    'calls: for slot in 0..2000_u32 {
+        drawn = next_draw(drawn);
+        let queued = waiting(0, 0, (drawn / 16 % 40) as u128, slot);
+        let place = place_in(&plain, queued.key);
+        assert_eq!(rt; buffer.cushion(queued.key), place as u64);
+        let len = buffer.len();
+        assert_eq!(rt; len, plain.len() as u64);
+        if len > 0 {
+            let at = drawn / 128 % len;
+            assert_eq!(rt; Some(buffer.at(at)), plain.get(at as usize).copied());
+        }
+        let fills = slot % 800 < 400;
+        if len < 300 && (drawn / 65536 % 8 < 7) == fills {
+            come(&mut buffer, queued);
+            plain.insert(place, queued)?;
+        } else {
+            assert_eq!(rt; leave(&mut buffer, slot), leave_plain(&mut plain));
+        }
+    }
+    for place in 0..buffer.len() {
+        assert_eq!(rt; Some(buffer.at(place)), plain.get(place as usize).copied());
+    }
+    Ok(())
+}
