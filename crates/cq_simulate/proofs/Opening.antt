@@ -1,6 +1,6 @@
 -- How a run of tables begins: the machines are those of the setup's disciplines, each in its opening state, all
 -- marks are down, and there is room for all cells that arrive.
-use Rattle.std.proofs.Common.{◌≡◌, ℕ, ◌+◌, ◌≤◌, Bool, false, List, [], length, map, Option, sym, ap, ◌∙◌, subst, arith}
+use Rattle.std.proofs.Common.{◌≡◌, ℕ, ◌+◌, ◌≤◌, Bool, List, [], length, map, Option, sym, ap, ◌∙◌, subst, arith}
 use Rattle.std.specs.Prelude.{slice_index}
 use Rattle.std.specs.List.{range_with_len}
 use Rattle.std.proofs.lemmas.List.{length-map}
@@ -11,6 +11,7 @@ use Rattle.cq_base.specs.Arriving.{Arrival, enough, traffic_of}
 use Rattle.cq_base.specs.Room.{RoomView}
 use Rattle.cq_cells.specs.Traffic.{IsShort, IsTraffic, is_to, number_of}
 use Rattle.cq_ideal.specs.Admission.{marked, marks_down}
+use Rattle.cq_ideal.specs.Fresh.{fresh_ideal}
 use Rattle.cq_ideal.specs.Ideal.{IdealSwitch, marked_state}
 use Rattle.cq_ideal.specs.IdealSlot.{IdealState}
 use Rattle.cq_ideal.specs.IdealRun.{empty_ideal}
@@ -66,36 +67,51 @@ run_of_tables M t came ports states first made openings =
     ∙ ap (λ (s : List (List ℕ)). run t.limits ms (marks_down n) (empty_ideal n s)) openings
     ∙ limited_same_sent t.limits ms n (openings_of t.setup) came
 
-pub ready : (M : List ℕ → Machine) (t : Tables) (came : List Arrival) (ports : ℕ) (states : List (List ℕ))
-    (first : IdealSwitch) (sent : RoomView Departure) → IsMadeFor M t ports states first → IsSetup t.setup →
-    class_count (machines_of t.setup) ≡ length t.setup.classes → first.stopped ≡ false → first.next ≡ 0 →
-    first.refused ≡ refused_counts t.limits [] →
-    first.rooms ≡ map (λ j. number_of (is_to j) came) (range_with_len 0 ports) →
-    IsTraffic (ports_of t.setup) (classes_of t.setup) came → IsShort came → sent.items ≡ [] →
-    sent.spare ≡ length came + ports → IsReady (map M first.fixed) came first sent
-ready M t came ports states first sent made is classes running next refused rooms traffic short nothing spare =
-    let count : length first.fixed ≡ length t.setup.kinds = machine_count M first.fixed t.setup made.machines in
-    let few = is.ports in
-    let many : ports ≡ length t.setup.kinds = made.many in
-    let f : ℕ → ℕ = λ j. number_of (is_to j) came in
-    let long : length first.rooms ≡ ports =
-    ap (λ (l : List ℕ). length l) rooms ∙ length-map-range_with_len f 0 ports in
-    let same : ports ≡ length first.fixed = omega arith in
-    let known : class_count (map M first.fixed) ≡ length t.setup.classes = ap class_count made.machines ∙ classes in
-    record {
-      running = running;
-      next = next;
-      ports = omega arith;
-      traffic = subst (λ (n : ℕ). IsTraffic n (class_count (map M first.fixed)) came) (sym count)
-          (subst (λ (n : ℕ). IsTraffic (length t.setup.kinds) n came) (sym known) traffic);
-      short = short;
-      state = made.state ∙ ap (λ (s : IdealState). empty_ideal ports s.ranks) (sym made.state)
-          ∙ ap (λ (n : ℕ). empty_ideal n first.state.ranks) same;
-      lists = omega arith;
-      rooms = λ j inside. ap (λ (l : List ℕ). slice_index l j) rooms
-          ∙ get_or-map-range_with_len f 0 ports j j 0 (omega arith) (omega arith);
-      marks = made.marks ∙ ap marks_down same;
-      refused = refused ∙ ap (λ (l : List (Option ℕ)). refused_counts l []) (sym made.limits);
-      nothing = nothing;
-      spare = omega arith;
-    }
+-- ## A new switch
+
+module _ (M : List ℕ → Machine) (t : Tables) (ports : ℕ) (fixed states : List (List ℕ)) (limits : List (Option ℕ))
+    (rooms : List ℕ) (first : IdealSwitch) (is : first ≡ fresh_ideal ports fixed states limits rooms)
+    (machines : map M fixed ≡ machines_of t.setup) (many : length fixed ≡ ports) (same : limits ≡ t.limits) where
+  pub made : IsMadeFor M t ports states first
+  made =
+      record {
+        machines = ap (λ (v : IdealSwitch). map M v.fixed) is ∙ machines;
+        limits = ap (λ (v : IdealSwitch). v.limits) is ∙ same;
+        state = ap (λ (v : IdealSwitch). v.state) is;
+        marks = ap (λ (v : IdealSwitch). v.marks) is;
+        many = sym many ∙ machine_count M fixed t.setup machines;
+      }
+
+  pub ready : (came : List Arrival) (sent : RoomView Departure) → IsSetup t.setup →
+      class_count (machines_of t.setup) ≡ length t.setup.classes →
+      rooms ≡ map (λ j. number_of (is_to j) came) (range_with_len 0 ports) →
+      IsTraffic (ports_of t.setup) (classes_of t.setup) came → IsShort came → sent.items ≡ [] →
+      sent.spare ≡ length came + ports → IsReady (map M first.fixed) came first sent
+  ready came sent setup classes rooms_are traffic short nothing spare =
+      let count : length first.fixed ≡ length t.setup.kinds = machine_count M first.fixed t.setup made.machines in
+      let few = setup.ports in
+      let kinds : ports ≡ length t.setup.kinds = made.many in
+      let f : ℕ → ℕ = λ j. number_of (is_to j) came in
+      let room : first.rooms ≡ map f (range_with_len 0 ports) = ap (λ (v : IdealSwitch). v.rooms) is ∙ rooms_are in
+      let long : length first.rooms ≡ ports =
+      ap (λ (l : List ℕ). length l) room ∙ length-map-range_with_len f 0 ports in
+      let as_many : ports ≡ length first.fixed = omega arith in
+      let known : class_count (map M first.fixed) ≡ length t.setup.classes = ap class_count made.machines ∙ classes in
+      record {
+        running = ap (λ (v : IdealSwitch). v.stopped) is;
+        next = ap (λ (v : IdealSwitch). v.next) is;
+        ports = omega arith;
+        traffic = subst (λ (n : ℕ). IsTraffic n (class_count (map M first.fixed)) came) (sym count)
+            (subst (λ (n : ℕ). IsTraffic (length t.setup.kinds) n came) (sym known) traffic);
+        short = short;
+        state = made.state ∙ ap (λ (s : IdealState). empty_ideal ports s.ranks) (sym made.state)
+            ∙ ap (λ (n : ℕ). empty_ideal n first.state.ranks) as_many;
+        lists = omega arith;
+        rooms = λ j inside. ap (λ (l : List ℕ). slice_index l j) room
+            ∙ get_or-map-range_with_len f 0 ports j j 0 (omega arith) (omega arith);
+        marks = made.marks ∙ ap marks_down as_many;
+        refused = ap (λ (v : IdealSwitch). v.refused) is
+            ∙ ap (λ (v : IdealSwitch). refused_counts v.limits []) (sym is);
+        nothing = nothing;
+        spare = omega arith;
+      }

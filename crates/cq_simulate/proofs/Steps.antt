@@ -19,10 +19,10 @@ use Rattle.cq_ideal.specs.OneSlot.{HasHadSlot, IsSameSwitch}
 use Rattle.cq_ideal.specs.IdealSlot.{IdealState}
 use Rattle.cq_ideal.specs.LimitedEnding.{departures_limited}
 use Rattle.cq_ideal.specs.LimitedIdeal.{LimitedRan, LimitedSent, limited_run, limited_slot, nothing_came}
+use Rattle.cq_ideal.specs.Rest.{HasRested}
 use Rattle.cq_ideal.specs.Limiter.{CanCount}
 use Rattle.cq_ideal.specs.Ranking.{AreForPorts}
 use Rattle.cq_simulate.specs.Ready.{IsReady}
-use Rattle.cq_simulate.specs.Stretch.{HasRested}
 use Rattle.cq_ideal.proofs.Waiting.{waiting}
 use Rattle.cq_simulate.proofs.Handed.{TakenOver, few_left, left_with_all, room_again}
 use Rattle.cq_simulate.proofs.Stretches.{running_rest}
@@ -208,7 +208,7 @@ module _ (M : List ℕ → Machine) (came : List Arrival) (first : IdealSwitch) 
         no_arrivals) (marked_state now)) (sym r.fixed)
         ∙ ap (λ (l : List (Option ℕ)). limited_run l (map M now.fixed) slot (replicate (next - slot) no_arrivals)
         (marked_state now)) (sym r.limits)
-        ∙ rested.ran
+        ∙ rested.slots
 
     pub at_rest : Before next new sent
     at_rest =
@@ -222,7 +222,7 @@ module _ (M : List ℕ → Machine) (came : List Arrival) (first : IdealSwitch) 
         (running_rest (map M first.fixed) came first first_sent sent (length now.fixed) (next - slot) slot
         (enough came - next) (enough came - slot) now new left r
         (λ t from to. quiet.none t from (omega arith)) (λ some. let before = more (omega arith) in omega arith) ran
-        (rested.reached ∙ sym there) rested.running rested.lists rested.fixed rested.limits rested.refused rested.rooms)
+        (rested.next ∙ sym there) rested.running rested.lists rested.fixed rested.limits rested.refused rested.rooms)
 
     pub more_at_rest : (end_of came ≤ slot → waiting now.state.lists ≡ 0 → ⊥) → end_of came ≤ next →
         waiting new.state.lists ≡ 0 → ⊥

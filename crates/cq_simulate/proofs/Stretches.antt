@@ -21,11 +21,11 @@ use Rattle.cq_ideal.specs.Ideal.{IdealSwitch, marked_state}
 use Rattle.cq_ideal.specs.IdealRun.{departures_of}
 use Rattle.cq_ideal.specs.IdealSlot.{IdealState, departures_in}
 use Rattle.cq_ideal.specs.LimitedIdeal.{LimitedRan, limited_run, nothing_came}
+use Rattle.cq_ideal.specs.Rest.{HasRested}
 use Rattle.cq_laws.proofs.QuietSlots.{no_departures}
 use Rattle.cq_rank.specs.Machine.{Machine}
 use Rattle.cq_ideal.proofs.Waiting.{waiting}
 use Rattle.cq_simulate.proofs.Running.{Running, come_here, run_from, sent_after, sent_from}
-use Rattle.cq_simulate.specs.Stretch.{HasRested}
 use Rattle.cq_traffic.proofs.Quiet.{quiet_slots}
 use Rattle.cq_traffic.proofs.ToOutputs.{come_for, for_here}
 
@@ -45,14 +45,15 @@ no_slots limits ms (suc k) slot ports s none = absurd (omega arith)
 pub no_rest : (ms : List Machine) (slot : ℕ) (now : IdealSwitch) → now.next ≡ slot → now.stopped ≡ false →
     HasRested ms slot slot now now
 no_rest ms slot now next running = record {
-  ran = no_slots now.limits ms (slot - slot) slot (length now.fixed) (marked_state now) (omega arith);
-  reached = next;
-  running = running;
+  slots = no_slots now.limits ms (slot - slot) slot (length now.fixed) (marked_state now) (omega arith);
+  next = next;
   lists = refl;
   fixed = refl;
   limits = refl;
+  marks = refl;
   refused = refl;
   rooms = refl;
+  running = running;
 }
 
 -- fewer come in some slots than in those with the stretch before them

@@ -1,29 +1,15 @@
 -- Only proofs use this.
 -- Stretches of slots in which nothing comes and nothing waits.
-use Rattle.std.specs.Prelude.{◌≡◌, ℕ, ◌-◌, List, length, false, Ok, replicate}
+use Rattle.std.specs.Prelude.{◌≡◌, ℕ, ◌-◌, List, false, replicate}
 use Rattle.cq_base.specs.Arrivals.{no_arrivals}
 use Rattle.cq_engine.specs.Engine.{EngineView, marked_fabric, ports_of}
-use Rattle.cq_ideal.specs.Ideal.{IdealSwitch, marked_state}
-use Rattle.cq_ideal.specs.LimitedIdeal.{limited_run, nothing_came}
 use Rattle.cq_laws.specs.LimitedFabric.{LimitedFabricRun}
 use Rattle.cq_laws.specs.LimitedQuiet.{quiet_limited_slots}
 use Rattle.cq_prefs.specs.Pairing.{IsInputBest}
 use Rattle.cq_rank.specs.Machine.{Machine}
 
--- the slots from this one on up to the other, without arrivals, are behind the ideal switch: in none did an output
--- send, nothing was refused, and the lists stayed as they were
-pub record HasRested (ms : List Machine) (slot next : ℕ) (old new : IdealSwitch) : Type 0 where
-  pub ran : limited_run old.limits ms slot (replicate (next - slot) no_arrivals) (marked_state old)
-      ≡ Ok (nothing_came (next - slot) (length old.fixed) (marked_state new))
-  pub reached : new.next ≡ next
-  pub running : new.stopped ≡ false
-  pub lists : new.state.lists ≡ old.state.lists
-  pub fixed : new.fixed ≡ old.fixed
-  pub limits : new.limits ≡ old.limits
-  pub refused : new.refused ≡ old.refused
-  pub rooms : new.rooms ≡ old.rooms
-
--- they are behind the fabric: none of them sent, moved or refused a cell, or changed a figure
+-- the slots from this one on up to the other, without arrivals, are behind the fabric: none of them sent, moved or
+-- refused a cell, or changed a figure
 pub record FabricHasRested (ms : List Machine) (slot next : ℕ) (old new : EngineView) : Type 0 where
   pub ran : LimitedFabricRun IsInputBest old.limits ms slot (replicate (next - slot) no_arrivals) (marked_fabric old)
       (quiet_limited_slots ms (next - slot) slot (ports_of old) old.fabric.ranks old.marks) (marked_fabric new)

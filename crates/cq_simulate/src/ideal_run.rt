@@ -6,11 +6,11 @@ ghost use Rattle.cq_ideal.specs.Admission.{NoLimits};
 ghost use Rattle.cq_ideal.specs.Ideal.{marked_state};
 ghost use Rattle.cq_ideal.specs.LimitedEnding.{departures_limited};
 ghost use Rattle.cq_ideal.specs.LimitedIdeal.{limited_run};
+ghost use Rattle.cq_ideal.specs.Rest.{HasRested};
 ghost use Rattle.cq_route.specs.Tables.{AreTables, classes_of, ports_of};
 ghost use Rattle.cq_ideal.specs.Ending.{slots_of};
 ghost use Rattle.cq_simulate.specs.IdealRuns.{ideal_departures, slots_ran, IsRefusalOf};
 ghost use Rattle.cq_simulate.specs.Ready.{IsReady};
-ghost use Rattle.cq_simulate.specs.Stretch.{HasRested};
 ghost use Rattle.cq_traffic.specs.Stretch.{IsQuiet};
 
 use crate::RunRefusal;

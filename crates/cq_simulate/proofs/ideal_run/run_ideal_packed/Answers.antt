@@ -1,13 +1,18 @@
-use Rattle.std.proofs.Common.{◌≡◌, ℕ, List, [], length, map, Option, ap, sym, ◌∙◌, arith}
+use Rattle.std.proofs.Common.{◌≡◌, ℕ, List, length, map, ap, sym, ◌∙◌, arith}
 use Rattle.std.specs.List.{range_with_len}
 use Rattle.std.proofs.lemmas.List.{length-map}
 use Rattle.std.proofs.lemmas.List.FromFn.{length-map-range_with_len}
 use Rattle.std.proofs.lemmas.Result.{err_from_is_err_and}
-use Rattle.cq_ideal.specs.Refused.{refused_counts}
+use Rattle.cq_base.specs.Arriving.{traffic_of}
+use Rattle.cq_ideal.specs.Ideal.{IdealSwitch, marked_state}
+use Rattle.cq_ideal.specs.LimitedEnding.{departures_limited}
+use Rattle.cq_ideal.specs.LimitedIdeal.{limited_run}
 use Rattle.cq_cells.specs.Traffic.{is_to, number_of}
 use Rattle.cq_scfq.specs.Discipline.{fixed_of, machine_from, state_of}
-use Rattle.cq_simulate.proofs.Opening.{few_cells, machine_count, ready, run_of_tables}
+use Rattle.cq_simulate.specs.IdealRuns.{ideal_departures}
+use Rattle.cq_simulate.proofs.Opening.{IsMadeFor, few_cells, machine_count, made, ready, run_of_tables}
 use Rattle.cq_simulate.proofs.ideal_run.run_ideal_packed.Goals as goal
+use Rattle.cq_simulate.proofs.ideal_run.run_ideal_packed.Goals.{In_ok-ideal}
 
 pub overflow_add-total : goal.overflow_add-total
 overflow_add-total c =
@@ -34,29 +39,36 @@ new-requires-2-clause-limits c =
     machine_count machine_from (map fixed_of items) c.args.tables.now.setup c.in_ok-ranks.ensures.machines in
     ap length c.as_slice-2.ensures ∙ c.requires.tables.limits.ports_are ∙ sym count ∙ length-map items fixed_of
 
+-- the switch is made for the tables
+made_for : (c : In_ok-ideal) →
+    IsMadeFor machine_from c.args.tables.now (length c.in_ok-ranks.ranks.items)
+    (map state_of c.in_ok-ranks.ranks.items) c.in_ok-ideal.ideal
+made_for c =
+    let items = c.in_ok-ranks.ranks.items in
+    made machine_from c.args.tables.now (length items) (map fixed_of items) (map state_of items)
+    c.as_slice-2.result.now c.as_slice.result.now c.in_ok-ideal.ideal c.in_ok-ideal.ensures
+    c.in_ok-ranks.ensures.machines (length-map items fixed_of) c.as_slice-2.ensures
+
+-- and its run is theirs
+run_of : (c : In_ok-ideal) → departures_limited (limited_run c.in_ok-ideal.ideal.limits
+    (map machine_from c.in_ok-ideal.ideal.fixed) 0 (traffic_of c.args.schedule.now.came)
+    (marked_state c.in_ok-ideal.ideal)) ≡ ideal_departures c.args.tables.now c.args.schedule.now.came
+run_of c =
+    run_of_tables machine_from c.args.tables.now c.args.schedule.now.came (length c.in_ok-ranks.ranks.items)
+    (map state_of c.in_ok-ranks.ranks.items) c.in_ok-ideal.ideal (made_for c) c.in_ok-ranks.ensures.states
+
 pub run_slots-requires-clause-ready : goal.run_slots-requires-clause-ready
 run_slots-requires-clause-ready c =
     let items = c.in_ok-ranks.ranks.items in
     let t = c.args.tables.now in
-    let ideal = c.in_ok-ideal.ensures in
-    let count : length (map fixed_of items) ≡ length t.setup.kinds =
-    machine_count machine_from (map fixed_of items) t.setup c.in_ok-ranks.ensures.machines in
     let some = c.requires.tables.setup.ports in
     let len : c.len-ports.result ≡ length items = omega (arith, c.len-ports.ensures, c.in_ok-ranks.ranks.ok) in
     let f : ℕ → ℕ = λ j. number_of (is_to j) c.args.schedule.now.came in
-    ready machine_from t c.args.schedule.now.came (length items) (map state_of items) c.in_ok-ideal.ideal
-    c.in_ok-sent.sent
-    (record {
-      machines = ap (map machine_from) ideal.fixed ∙ c.in_ok-ranks.ensures.machines;
-      limits = ideal.limits ∙ c.as_slice-2.ensures;
-      state = ideal.state;
-      marks = ideal.marks;
-      many = sym (length-map items fixed_of) ∙ count;
-    })
-    c.requires.tables.setup (c.in_ok-ranks.ensures.classes (omega arith)) ideal.stopped ideal.next
-    (ideal.refused ∙ ap (λ (l : List (Option ℕ)). refused_counts l []) c.as_slice-2.ensures)
-    (ideal.rooms ∙ c.as_slice.ensures.value ∙ c.in_ok-rooms.ensures
-    ∙ ap (λ (n : ℕ). map f (range_with_len 0 n)) len)
+    ready machine_from t (length items) (map fixed_of items) (map state_of items) c.as_slice-2.result.now
+    c.as_slice.result.now c.in_ok-ideal.ideal c.in_ok-ideal.ensures c.in_ok-ranks.ensures.machines
+    (length-map items fixed_of) c.as_slice-2.ensures c.args.schedule.now.came c.in_ok-sent.sent
+    c.requires.tables.setup (c.in_ok-ranks.ensures.classes (omega arith))
+    (c.as_slice.ensures.value ∙ c.in_ok-rooms.ensures ∙ ap (λ (n : ℕ). map f (range_with_len 0 n)) len)
     c.requires.traffic c.requires.short c.in_ok-sent.ensures.items
     (c.in_ok-sent.ensures.spare ∙ omega (arith, len, c.total.ensures.cells))
 
@@ -64,42 +76,16 @@ pub run_slots-requires-clause-few : goal.run_slots-requires-clause-few
 run_slots-requires-clause-few c =
     let items = c.in_ok-ranks.ranks.items in
     let len : c.len-ports.result ≡ length items = omega (arith, c.len-ports.ensures, c.in_ok-ranks.ranks.ok) in
-    let fixed : length c.in_ok-ideal.ideal.fixed ≡ length items = ap (λ (l : List (List ℕ)). length l)
-    c.in_ok-ideal.ensures.fixed ∙ length-map items fixed_of in
+    let fixed : length c.in_ok-ideal.ideal.fixed ≡ length items =
+    ap (λ (v : IdealSwitch). length v.fixed) c.in_ok-ideal.ensures ∙ length-map items fixed_of in
     c.in_ok-leaving.ensures.spare ∙ omega (arith, len, fixed)
 
 pub returns-in_err-run_slots-clause-refused : goal.returns-in_err-run_slots-clause-refused
 returns-in_err-run_slots-clause-refused c =
-    let items = c.in_ok-ranks.ranks.items in
-    let t = c.args.tables.now in
-    let ideal = c.in_ok-ideal.ensures in
-    let count : length (map fixed_of items) ≡ length t.setup.kinds =
-    machine_count machine_from (map fixed_of items) t.setup c.in_ok-ranks.ensures.machines in
     let p = err_from_is_err_and c.from_residual-in_err-run_slots.result c.from_residual-in_err-run_slots.ensures.1 in
     rw (p.1, p.2)
-    (sym (run_of_tables machine_from t c.args.schedule.now.came (length items) (map state_of items) c.in_ok-ideal.ideal
-    (record {
-      machines = ap (map machine_from) ideal.fixed ∙ c.in_ok-ranks.ensures.machines;
-      limits = ideal.limits ∙ c.as_slice-2.ensures;
-      state = ideal.state;
-      marks = ideal.marks;
-      many = sym (length-map items fixed_of) ∙ count;
-    }) c.in_ok-ranks.ensures.states)
-    ∙ c.in_err-run_slots.ensures.fault)
+    (sym (run_of (goal.at.returns-in_err-run_slots-clause-refused c).In_ok-ideal) ∙ c.in_err-run_slots.ensures.fault)
 
 pub returns-clause-sent : goal.returns-clause-sent
 returns-clause-sent c =
-    let items = c.in_ok-ranks.ranks.items in
-    let t = c.args.tables.now in
-    let ideal = c.in_ok-ideal.ensures in
-    let count : length (map fixed_of items) ≡ length t.setup.kinds =
-    machine_count machine_from (map fixed_of items) t.setup c.in_ok-ranks.ensures.machines in
-    sym (run_of_tables machine_from t c.args.schedule.now.came (length items) (map state_of items) c.in_ok-ideal.ideal
-    (record {
-      machines = ap (map machine_from) ideal.fixed ∙ c.in_ok-ranks.ensures.machines;
-      limits = ideal.limits ∙ c.as_slice-2.ensures;
-      state = ideal.state;
-      marks = ideal.marks;
-      many = sym (length-map items fixed_of) ∙ count;
-    }) c.in_ok-ranks.ensures.states)
-    ∙ c.in_ok-run_slots.ensures.sent
+    sym (run_of (goal.at.returns-clause-sent c).In_ok-ideal) ∙ c.in_ok-run_slots.ensures.sent

@@ -64,7 +64,7 @@ slot-requires g c =
     let room = places g at in
     record {
       running = here.running;
-      next = sym c.skip-slot.ensures.rested.reached;
+      next = sym c.skip-slot.ensures.rested.next;
       early =
           early g.R.Rank.machine c.args.schedule.now.came c.args.ideal.now c.args.sent.now c.requires.ready
           c.skip-slot.result c.skip-slot.new.ideal c.slots.sent here more;

@@ -1,7 +1,5 @@
-use Rattle.std.proofs.Common.{◌≡◌, ℕ, ◌-◌, Ok, length, map, replicate, subst}
-use Rattle.cq_base.specs.Arrivals.{no_arrivals}
-use Rattle.cq_ideal.specs.Ideal.{marked_state}
-use Rattle.cq_ideal.specs.LimitedIdeal.{limited_run, nothing_came}
+use Rattle.std.proofs.Common.{ℕ, map, subst}
+use Rattle.cq_ideal.specs.Rest.{HasRested}
 use Rattle.cq_simulate.proofs.Stretches.{no_rest}
 use Rattle.cq_simulate.proofs.ideal_run.skip.Goals as goal
 
@@ -17,18 +15,5 @@ returns-then-next-slot-clause-rested g c =
 
 pub returns-clause-rested : goal.returns-clause-rested
 returns-clause-rested g c =
-    let old = c.args.ideal.now in
-    let new = c.rest.new.self in
-    let next = c.quiet_until-next.result in
-    record {
-      ran = subst (λ (s : ℕ). limited_run old.limits (map g.R.Rank.machine old.fixed) s (replicate (next - s)
-          no_arrivals) (marked_state old) ≡ Ok (nothing_came (next - s) (length old.fixed) (marked_state new)))
-          c.requires.next c.rest.ensures.slots;
-      reached = c.rest.ensures.next;
-      running = c.rest.ensures.running;
-      lists = c.rest.ensures.lists;
-      fixed = c.rest.ensures.fixed;
-      limits = c.rest.ensures.limits;
-      refused = c.rest.ensures.refused;
-      rooms = c.rest.ensures.rooms;
-    }
+    subst (λ (s : ℕ). HasRested (map g.R.Rank.machine c.args.ideal.now.fixed) s c.quiet_until-next.result
+    c.args.ideal.now c.rest.new.self) c.requires.next c.rest.ensures
