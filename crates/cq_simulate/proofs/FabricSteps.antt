@@ -11,6 +11,7 @@ use Rattle.cq_base.specs.declared.cell.TagFault.{TagFault}
 use Rattle.cq_base.specs.declared.cell.Transfer.{Transfer}
 use Rattle.cq_cells.specs.Traffic.{IsShort}
 use Rattle.cq_engine.specs.Engine.{EngineView, HaveBufferRoom, HaveListRoom, SlotDone, answer_to, its_admission, marked_fabric, ports_of}
+use Rattle.cq_engine.specs.Resting.{HasRested}
 use Rattle.cq_ideal.specs.Admission.{Marked}
 use Rattle.cq_ideal.specs.Ideal.{HaveLeft, count_for}
 use Rattle.cq_ideal.specs.Limiter.{CanCount}
@@ -27,7 +28,6 @@ use Rattle.cq_simulate.proofs.FabricRunning.{Crossing, crossing_fault, crossing_
 use Rattle.cq_simulate.proofs.Handed.{TakenOver, few_left, left_with_all, room_again}
 use Rattle.cq_simulate.proofs.Steps.{ends_early}
 use Rattle.cq_simulate.proofs.FabricStretches.{crossing_rest, same_fabric}
-use Rattle.cq_simulate.specs.Stretch.{FabricHasRested}
 use Rattle.cq_ideal.proofs.Counting.{counts_fit}
 use Rattle.cq_ideal.specs.Refused.{refused_in}
 use Rattle.cq_simulate.specs.GoingOn.{HasPartedTo, HasRunOn, IsReadyOn, IsReadyPart, NoneCome, StopsWithin}
@@ -295,13 +295,13 @@ module _ (whole : Bool) (end : ℕ) (M : List ℕ → Machine) (came : List Arri
       (b : Before slot now sent note) (late : slot ≤ next) (within : next ≤ end)
       (quiet : (t : ℕ) → slot ≤ t → t < next → arriving came t ≡ no_arrivals)
       (to_come : whole ≡ true → slot < next → next < end_of came)
-      (rested : FabricHasRested (map M now.fixed) slot next now new) where
+      (rested : HasRested (map M now.fixed) slot next now new) where
     ran : LimitedFabricRun IsInputBest now.limits (map M first.fixed) slot (replicate (next - slot) no_arrivals)
         (marked_fabric now) (quiet_limited_slots (map M first.fixed) (next - slot) slot
         (ports_of now) now.fabric.ranks now.marks) (marked_fabric new)
     ran = subst (λ (fixed : List (List ℕ)). LimitedFabricRun IsInputBest now.limits (map M fixed) slot (replicate
         (next - slot) no_arrivals) (marked_fabric now) (quiet_limited_slots (map M fixed) (next - slot) slot
-        (ports_of now) now.fabric.ranks now.marks) (marked_fabric new)) b.fixed rested.ran
+        (ports_of now) now.fabric.ranks now.marks) (marked_fabric new)) b.fixed rested.slots
 
     at_rest : Before next new sent note
     at_rest =
@@ -315,7 +315,7 @@ module _ (whole : Bool) (end : ℕ) (M : List ℕ → Machine) (came : List Arri
         (λ t. arrivals_for (length first.fixed) classes came t ready.traffic) (next - slot) slot (end - next)
         (end - slot) now.fabric.ranks now.marks now new left b
         (λ t from to. quiet t from (omega arith)) (λ is some. let before = to_come is (omega arith) in omega arith) ran
-        rested.figures (rested.reached ∙ sym there) rested.running rested.fixed rested.limits rested.refused
+        rested.figures (rested.next ∙ sym there) rested.running rested.fixed rested.limits rested.refused
         rested.from_inputs rested.to_outputs)
 
     more_at_rest : (whole ≡ true → end_of came ≤ slot → IsEmptyFabric now.fabric → ⊥) → whole ≡ true →
@@ -397,7 +397,7 @@ module _ (M : List ℕ → Machine) (came : List Arrival) (first : EngineView) (
   -- quiet slots are skipped
   pub run_stands : (slot next : ℕ) (now new : EngineView) (sent : RoomView Departure) (note : RoomView Transfer) →
       Runs slot now sent note → (end_of came ≤ slot → IsEmptyFabric now.fabric → ⊥) → IsQuiet came slot next →
-      FabricHasRested (map M now.fixed) slot next now new →
+      HasRested (map M now.fixed) slot next now new →
       Stands true (over_by came first.next) M came first first_sent first_note next new sent note
   run_stands slot next now new sent note runs more quiet rested =
       let end = over_by came first.next in
@@ -448,7 +448,7 @@ module _ (M : List ℕ → Machine) (came : List Arrival) (last : ℕ) (first : 
   -- slots in which nothing comes are skipped
   pub part_rests : (slot next : ℕ) (now new : EngineView) (sent : RoomView Departure) (note : RoomView Transfer) →
       Parts slot now sent note → slot ≤ next → next ≤ last → NoneCome came slot next →
-      FabricHasRested (map M now.fixed) slot next now new → Parts next new sent note
+      HasRested (map M now.fixed) slot next now new → Parts next new sent note
   part_rests slot next now new sent note parts late within none rested =
       at_rest false last M came first first_sent first_note ready.ready few_slots slot next now new sent note parts late
       within none (λ is lt. never is) rested

@@ -1,20 +1,17 @@
 -- The engine of a run from slot 0 on, once it is made for tables and a schedule, with room for all that it is to send
 -- and to note. What the calls say that made it is one record. From it the engine can begin.
-use Rattle.std.proofs.Common.{◌≡◌, ℕ, ◌+◌, ◌*◌, ◌≤◌, ◌^◌, false, List, [], length, map, Option, sym, ap, ◌∙◌}
+use Rattle.std.proofs.Common.{◌≡◌, ℕ, ◌+◌, ◌*◌, ◌≤◌, ◌^◌, List, [], length, map, Option, sym, ap, ◌∙◌, subst}
 use Rattle.std.specs.List.{range_with_len}
 use Rattle.std.proofs.lemmas.List.FromFn.{length-map-range_with_len}
+use Rattle.cq_base.specs.Arriving.{Arrival}
 use Rattle.cq_base.specs.Room.{RoomView}
 use Rattle.cq_base.specs.declared.cell.Departure.{Departure}
 use Rattle.cq_base.specs.declared.cell.Transfer.{Transfer}
 use Rattle.cq_cells.specs.Scheduled.{Scheduled}
 use Rattle.cq_cells.specs.Traffic.{IsShort, IsTraffic, is_from, is_to, number_of}
-use Rattle.cq_engine.specs.Engine.{EngineView}
-use Rattle.cq_ideal.specs.Admission.{marks_down}
-use Rattle.cq_ideal.specs.Refused.{refused_counts}
-use Rattle.cq_laws.specs.Fabric.{empty_fabric}
-use Rattle.cq_laws.specs.Measures.{no_figures}
-use Rattle.cq_rank.specs.Switch.{class_count}
-use Rattle.cq_route.specs.Tables.{IsSetup, classes_of, ports_of}
+use Rattle.cq_engine.specs.Engine.{CanBeMade, EngineView, fresh_engine}
+use Rattle.cq_rank.specs.Switch.{AreForOneSwitch, class_count}
+use Rattle.cq_route.specs.Tables.{AreTables, IsSetup, classes_of, ports_of}
 use Rattle.cq_route.specs.declared.tables.Tables.{Tables}
 use Rattle.cq_scfq.specs.Discipline.{machine_from}
 use Rattle.cq_scfq.specs.Disciplines.{machines_of, openings_of}
@@ -27,16 +24,32 @@ use Rattle.cq_simulate.specs.GoingOn.{IsReadyOn}
 -- ## What an engine is made of
 
 -- there is a room for each port
-pub rooms_long : (f : ℕ → ℕ) (rooms : List ℕ) (count ports : ℕ) → rooms ≡ map f (range_with_len 0 count) →
+rooms_long : (f : ℕ → ℕ) (rooms : List ℕ) (count ports : ℕ) → rooms ≡ map f (range_with_len 0 count) →
     count ≡ ports → length rooms ≡ ports
 rooms_long f rooms count ports are counted = ap length are ∙ length-map-range_with_len f 0 count ∙ counted
 
 -- and a limit or none
-pub limits_long : (t : Tables) (fixed : List (List ℕ)) (limits : List (Option ℕ)) {ports : ℕ} → limits ≡ t.limits →
+limits_long : (t : Tables) (fixed : List (List ℕ)) (limits : List (Option ℕ)) {ports : ℕ} → limits ≡ t.limits →
     length t.limits ≡ ports_of t.setup → map machine_from fixed ≡ machines_of t.setup → length fixed ≡ ports →
     length limits ≡ ports
 limits_long t fixed limits same are machines many =
     ap length same ∙ are ∙ sym (machine_count machine_from fixed t.setup machines) ∙ many
+
+-- so an engine can be made of them
+pub can_be_made : (t : Tables) (came : List Arrival) (fixed : List (List ℕ)) {count ports : ℕ}
+    {rooms_from rooms_to : List ℕ} {limits : List (Option ℕ)} → AreTables t →
+    map machine_from fixed ≡ machines_of t.setup → AreForOneSwitch (machines_of t.setup) → length fixed ≡ ports →
+    count ≡ ports → rooms_from ≡ map (λ i. number_of (is_from i) came) (range_with_len 0 count) →
+    rooms_to ≡ map (λ j. number_of (is_to j) came) (range_with_len 0 count) → limits ≡ t.limits →
+    CanBeMade (map machine_from fixed) ports rooms_from rooms_to limits t.workers
+can_be_made t came fixed tables machines one many counted from to same =
+    record {
+      machines = subst AreForOneSwitch (sym machines) one;
+      from_inputs = rooms_long (λ i. number_of (is_from i) came) _ _ _ from counted;
+      to_outputs = rooms_long (λ j. number_of (is_to j) came) _ _ _ to counted;
+      limits = limits_long t fixed _ same tables.limits.ports_are machines many;
+      workers = record { some = tables.workers.0; few = tables.workers.1 };
+    }
 
 -- ## What is known once it is made
 
@@ -54,16 +67,9 @@ pub record IsMade (t : Tables) (s : Scheduled) (fixed states : List (List ℕ)) 
   pub classes : class_count (machines_of t.setup) ≡ length t.setup.classes
   pub many : length fixed ≡ ports
   -- the engine
-  pub same : first.fixed ≡ fixed
-  pub limits : first.limits ≡ t.limits
-  pub fabric : first.fabric ≡ empty_fabric ports states
-  pub marks : first.marks ≡ marks_down ports
-  pub refused : first.refused ≡ refused_counts t.limits []
-  pub from_inputs : first.from_inputs ≡ map (λ i. number_of (is_from i) s.came) (range_with_len 0 ports)
-  pub to_outputs : first.to_outputs ≡ map (λ j. number_of (is_to j) s.came) (range_with_len 0 ports)
-  pub figures : first.figures ≡ no_figures ports
-  pub next : first.next ≡ 0
-  pub running : first.stopped ≡ false
+  pub engine : first ≡ fresh_engine ports fixed states
+      (map (λ i. number_of (is_from i) s.came) (range_with_len 0 ports))
+      (map (λ j. number_of (is_to j) s.came) (range_with_len 0 ports)) t.limits
   -- the rooms of what it sends and notes
   pub nothing_sent : sent.items ≡ []
   pub sent_room : sent.spare ≡ length s.came + ports
@@ -77,20 +83,24 @@ module _ {t : Tables} {s : Scheduled} {fixed states : List (List ℕ)} {ports : 
     (made : IsMade t s fixed states ports first sent note) where
   pub built : IsBuiltFor machine_from t ports states first
   built =
+      let is = made.engine in
       record {
-        machines = ap (map machine_from) made.same ∙ made.machines;
-        limits = made.limits;
-        fabric = made.fabric;
-        marks = made.marks;
+        machines = ap (λ (e : EngineView). map machine_from e.fixed) is ∙ made.machines;
+        limits = ap (λ (e : EngineView). e.limits) is;
+        fabric = ap (λ (e : EngineView). e.fabric) is;
+        marks = ap (λ (e : EngineView). e.marks) is;
         many = sym made.many ∙ machine_count machine_from fixed t.setup made.machines;
       }
 
   -- it can run from slot 0 on
   pub ready : IsReadyFabric (map machine_from first.fixed) s.came first sent note
   ready =
-      ready_fabric machine_from t s.came ports states first built sent note made.setup made.classes made.running
-      made.next made.refused made.from_inputs made.to_outputs made.figures made.traffic made.short made.few
-      made.nothing_sent made.sent_room made.nothing_noted made.note_room
+      let is = made.engine in
+      ready_fabric machine_from t s.came ports states first built sent note made.setup made.classes
+      (ap (λ (e : EngineView). e.stopped) is) (ap (λ (e : EngineView). e.next) is)
+      (ap (λ (e : EngineView). e.refused) is) (ap (λ (e : EngineView). e.from_inputs) is)
+      (ap (λ (e : EngineView). e.to_outputs) is) (ap (λ (e : EngineView). e.figures) is) made.traffic made.short
+      made.few made.nothing_sent made.sent_room made.nothing_noted made.note_room
 
   -- as an engine can that goes on
   pub can_begin : IsReadyOn (map machine_from first.fixed) s.came first sent note

@@ -5,6 +5,5 @@ pub mod IdealRuns
 pub mod Packets
 pub mod Pieces
 pub mod Ready
-pub mod Stretch
 pub mod GoingOn
 pub mod PartedRuns

@@ -2,12 +2,12 @@
 ghost use Rattle.std.specs.Prelude.{◌≡◌, ◌↔◌, ◌≤◌, IsTrue, false, IfOk, IfErr, Ok, OnOk, [], length, map};
 ghost use Rattle.cq_base.specs.Arriving.{arriving, end_of};
 ghost use Rattle.cq_cells.specs.Traffic.{IsTraffic, IsShort};
+ghost use Rattle.cq_engine.specs.Resting.{HasRested};
 ghost use Rattle.cq_laws.specs.Fabric.{IsEmptyFabric};
 ghost use Rattle.cq_route.specs.Tables.{AreTables, classes_of, ports_of};
 ghost use Rattle.cq_simulate.specs.FabricRuns.{IsKeptOf, unpacked_run};
 ghost use Rattle.cq_simulate.specs.IdealRuns.{ideal_departures, IsRefusalOf};
 ghost use Rattle.cq_simulate.specs.GoingOn.{HasRunOn, IsReadyOn, StopsOn};
-ghost use Rattle.cq_simulate.specs.Stretch.{FabricHasRested};
 ghost use Rattle.cq_traffic.specs.Stretch.{IsQuiet};
 
 use crate::RunRefusal;
@@ -155,7 +155,7 @@ fn skip<R: Rank>(
     requires running { engine.old.stopped ≡ false }
     requires next { engine.old.next ≡ slot }
     ensures quiet { IsQuiet schedule.now.came slot result }
-    ensures rested { FabricHasRested (map R.machine engine.old.fixed) slot result engine.old engine.new }
+    ensures rested { HasRested (map R.machine engine.old.fixed) slot result engine.old engine.new }
     ensures came { coming.new ≡ arriving schedule.now.came result }
 {
     schedule.arrive(slot, coming);

@@ -2,6 +2,7 @@
 ghost use Rattle.std.specs.Prelude.{◌≡◌, ◌-◌, ◌<◌, ◌≤◌, ◌^◌, IfErr, IfOk, OnOk, false, length, map};
 ghost use Rattle.cq_base.specs.Arriving.{arriving};
 ghost use Rattle.cq_cells.specs.Traffic.{IsShort, IsTraffic};
+ghost use Rattle.cq_engine.specs.Resting.{HasRested};
 ghost use Rattle.cq_resume.specs.Parts.{IsParted};
 ghost use Rattle.cq_resume.specs.Resumed.{IsResumed};
 ghost use Rattle.cq_resume.specs.Switch.{switch_of};
@@ -10,7 +11,6 @@ ghost use Rattle.cq_scfq.specs.Disciplines.{openings_of};
 ghost use Rattle.cq_simulate.specs.GoingOn.{HasPartedTo, IsReadyPart, NoneCome, StopsWithin};
 ghost use Rattle.cq_simulate.specs.PartedRuns.{CanBeTakenUp, IsPartFault, IsResumeFault, kept_of, taken_at};
 ghost use Rattle.cq_simulate.specs.FabricRuns.{unpacked_run};
-ghost use Rattle.cq_simulate.specs.Stretch.{FabricHasRested};
 
 use crate::RunRefusal;
 use crate::fabric_run::{PackedFabricRun, run_slots};
@@ -201,7 +201,7 @@ fn skip_before<R: Rank>(
     ensures late { slot ≤ result }
     ensures within { result ≤ last }
     ensures none { NoneCome schedule.now.came slot result }
-    ensures rested { FabricHasRested (map R.machine engine.old.fixed) slot result engine.old engine.new }
+    ensures rested { HasRested (map R.machine engine.old.fixed) slot result engine.old engine.new }
     ensures came { coming.new ≡ arriving schedule.now.came result }
 {
     schedule.arrive(slot, coming);

@@ -1,13 +1,13 @@
-use Rattle.std.proofs.Common.{◌≡◌, ℕ, List, [], Option, length, map, refl, ap, ◌∙◌, sym, arith}
+use Rattle.std.proofs.Common.{◌≡◌, ℕ, length, map, refl, ap, ◌∙◌, sym, arith}
 use Rattle.std.specs.List.{range_with_len}
 use Rattle.std.proofs.lemmas.List.{length-map}
 use Rattle.std.proofs.lemmas.Result.{err_from_is_err_and}
 use Rattle.cq_cells.specs.Traffic.{is_from, is_to, number_of}
-use Rattle.cq_ideal.specs.Refused.{refused_counts}
+use Rattle.cq_engine.specs.Engine.{EngineView, fresh_engine}
 use Rattle.cq_scfq.specs.Discipline.{fixed_of, machine_from, state_of}
 use Rattle.cq_simulate.proofs.FabricLaws.{kept_as_ideal}
 use Rattle.cq_simulate.proofs.FabricOpening.{ideal_of_tables, kept_of}
-use Rattle.cq_simulate.proofs.Making.{IsMade, built, can_begin, limits_long, ready, rooms_long}
+use Rattle.cq_simulate.proofs.Making.{IsMade, built, can_be_made, can_begin, ready}
 use Rattle.cq_simulate.proofs.Onward.{first_fault, has_run}
 use Rattle.cq_simulate.proofs.fabric_run.run_fabric_packed.Given as given
 use Rattle.cq_simulate.proofs.fabric_run.run_fabric_packed.Goals as goal
@@ -26,11 +26,16 @@ made : (g : given.Over) (c : In_ok-engine g) → c.len-ports.result ≡ length c
     c.in_ok-sent.sent c.in_ok-note.note
 made g c len =
     let ranks = c.in_ok-ranks.ensures in
-    let engine = c.in_ok-engine.ensures in
+    let items = c.in_ok-ranks.ranks.items in
     let cells = c.total-total.ensures in
     let some = c.requires.tables.setup.ports in
     let from : ℕ → ℕ = λ i. number_of (is_from i) c.args.schedule.now.came in
     let to : ℕ → ℕ = λ j. number_of (is_to j) c.args.schedule.now.came in
+    let from_inputs =
+    c.as_slice.ensures.value ∙ c.in_ok-from_inputs.ensures ∙ ap (λ (n : ℕ). map from (range_with_len 0 n)) len in
+    let to_outputs =
+    c.as_slice-2.ensures.value ∙ c.in_ok-to_outputs.ensures ∙ ap (λ (n : ℕ). map to (range_with_len 0 n)) len in
+    let limits = c.as_slice-3.ensures in
     record {
       setup = c.requires.tables.setup;
       traffic = c.requires.traffic;
@@ -39,21 +44,11 @@ made g c len =
       machines = ranks.machines;
       openings = ranks.states;
       classes = ranks.classes (omega arith);
-      many = length-map c.in_ok-ranks.ranks.items fixed_of;
-      same = engine.fixed;
-      limits = engine.limits ∙ c.as_slice-3.ensures;
-      fabric = engine.fabric;
-      marks = engine.marks;
-      refused = engine.refused ∙ ap (λ (l : List (Option ℕ)). refused_counts l []) c.as_slice-3.ensures;
-      from_inputs =
-          engine.from_inputs ∙ c.as_slice.ensures.value ∙ c.in_ok-from_inputs.ensures
-          ∙ ap (λ (n : ℕ). map from (range_with_len 0 n)) len;
-      to_outputs =
-          engine.to_outputs ∙ c.as_slice-2.ensures.value ∙ c.in_ok-to_outputs.ensures
-          ∙ ap (λ (n : ℕ). map to (range_with_len 0 n)) len;
-      figures = engine.figures;
-      next = engine.next;
-      running = engine.stopped;
+      many = length-map items fixed_of;
+      engine =
+          c.in_ok-engine.ensures
+          ∙ (λ k. fresh_engine (length items) (map fixed_of items) (map state_of items) (from_inputs k) (to_outputs k)
+          (limits k));
       nothing_sent = c.in_ok-sent.ensures.items;
       sent_room = c.in_ok-sent.ensures.spare ∙ omega (arith, len, cells.cells);
       nothing_noted = c.in_ok-note.ensures.items;
@@ -62,23 +57,16 @@ made g c len =
 
 -- ## What the engine is made of
 
-pub new-requires-3-clause-from_inputs : goal.new-requires-3-clause-from_inputs
-new-requires-3-clause-from_inputs g c =
-    rooms_long (λ i. number_of (is_from i) c.args.schedule.now.came) _ _ _
+pub new-requires-3 : goal.new-requires-3
+new-requires-3 g c =
+    let ranks = c.in_ok-ranks.ensures in
+    let items = c.in_ok-ranks.ranks.items in
+    let few = c.requires.tables.setup.ports in
+    can_be_made c.args.tables.now c.args.schedule.now.came (map fixed_of items) c.requires.tables ranks.machines
+    (ranks.one_switch (omega arith) (omega arith)) (length-map items fixed_of)
+    (counted g (goal.at.new-requires-3 g c).After-len-ports)
     (c.as_slice.ensures.value ∙ c.in_ok-from_inputs.ensures)
-    (counted g (goal.at.new-requires-3-clause-from_inputs g c).After-len-ports)
-
-pub new-requires-3-clause-to_outputs : goal.new-requires-3-clause-to_outputs
-new-requires-3-clause-to_outputs g c =
-    rooms_long (λ j. number_of (is_to j) c.args.schedule.now.came) _ _ _
-    (c.as_slice-2.ensures.value ∙ c.in_ok-to_outputs.ensures)
-    (counted g (goal.at.new-requires-3-clause-to_outputs g c).After-len-ports)
-
-pub new-requires-3-clause-limits : goal.new-requires-3-clause-limits
-new-requires-3-clause-limits g c =
-    limits_long c.args.tables.now (map fixed_of c.in_ok-ranks.ranks.items) _ c.as_slice-3.ensures
-    c.requires.tables.limits.ports_are c.in_ok-ranks.ensures.machines
-    (length-map c.in_ok-ranks.ranks.items fixed_of)
+    (c.as_slice-2.ensures.value ∙ c.in_ok-to_outputs.ensures) c.as_slice-3.ensures
 
 -- ## The run
 
@@ -95,7 +83,7 @@ run_slots-requires-clause-few g c =
     let at = goal.at.run_slots-requires-clause-few g c in
     let len = counted g at.After-len-ports in
     let fixed : length c.in_ok-engine.engine.fixed ≡ length c.in_ok-ranks.ranks.items =
-    ap (λ (l : List (List ℕ)). length l) c.in_ok-engine.ensures.fixed ∙ length-map c.in_ok-ranks.ranks.items fixed_of in
+    ap (λ (e : EngineView). length e.fixed) c.in_ok-engine.ensures ∙ length-map c.in_ok-ranks.ranks.items fixed_of in
     λ _ _. c.in_ok-leaving.ensures.spare ∙ omega (arith, len, fixed)
 
 pub returns-in_err-run_slots-clause-refused : goal.returns-in_err-run_slots-clause-refused

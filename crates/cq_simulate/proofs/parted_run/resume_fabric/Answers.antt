@@ -10,7 +10,7 @@ use Rattle.cq_resume.specs.Switch.{switch_of}
 use Rattle.cq_route.specs.Tables.{classes_of, ports_of}
 use Rattle.cq_scfq.specs.Discipline.{fixed_of, machine_from}
 use Rattle.cq_scfq.specs.Disciplines.{machines_of}
-use Rattle.cq_simulate.proofs.Making.{limits_long, rooms_long}
+use Rattle.cq_simulate.proofs.Making.{can_be_made}
 use Rattle.cq_simulate.proofs.Opening.{machine_count}
 use Rattle.cq_simulate.proofs.Resuming.{resumed_fault, resumed_of}
 use Rattle.cq_simulate.proofs.TakenUp.{can_go_on, goes_of, machines_many, ready_from}
@@ -33,23 +33,16 @@ as_many g c len =
 
 -- ## What the engine is made of
 
-pub thaw-requires-clause-from_inputs : goal.thaw-requires-clause-from_inputs
-thaw-requires-clause-from_inputs g c =
-    rooms_long (λ i. number_of (is_from i) c.args.schedule.now.came) _ _ _
+pub thaw-requires-clause-made : goal.thaw-requires-clause-made
+thaw-requires-clause-made g c =
+    let ranks = c.in_ok-ranks.ensures in
+    let items = c.in_ok-ranks.ranks.items in
+    let few = c.requires.tables.setup.ports in
+    can_be_made c.args.tables.now c.args.schedule.now.came (map fixed_of items) c.requires.tables ranks.machines
+    (ranks.one_switch (omega arith) (omega arith)) (length-map items fixed_of)
+    (counted g (goal.at.thaw-requires-clause-made g c).After-len-ports)
     (c.as_slice-3.ensures.value ∙ c.in_ok-from_inputs.ensures)
-    (counted g (goal.at.thaw-requires-clause-from_inputs g c).After-len-ports)
-
-pub thaw-requires-clause-to_outputs : goal.thaw-requires-clause-to_outputs
-thaw-requires-clause-to_outputs g c =
-    rooms_long (λ j. number_of (is_to j) c.args.schedule.now.came) _ _ _
-    (c.as_slice-4.ensures.value ∙ c.in_ok-to_outputs.ensures)
-    (counted g (goal.at.thaw-requires-clause-to_outputs g c).After-len-ports)
-
-pub thaw-requires-clause-limits : goal.thaw-requires-clause-limits
-thaw-requires-clause-limits g c =
-    limits_long c.args.tables.now (map fixed_of c.in_ok-ranks.ranks.items) _ c.as_slice-5.ensures
-    c.requires.tables.limits.ports_are c.in_ok-ranks.ensures.machines
-    (length-map c.in_ok-ranks.ranks.items fixed_of)
+    (c.as_slice-4.ensures.value ∙ c.in_ok-to_outputs.ensures) c.as_slice-5.ensures
 
 pub thaw-requires-clause-goes_on : goal.thaw-requires-clause-goes_on
 thaw-requires-clause-goes_on g c =
