@@ -1,6 +1,6 @@
 -- The slots of the engine's trials: four ports, and how many cells there are after so many slots.
 use Rattle.std.proofs.Common.{◌≡◌, ℕ, ◌+◌, ◌*◌, ◌^◌, ◌<◌, ◌≤◌, Bool, true, false, List, [], ◌∷◌, length, get_or, Option, sym, ap, ◌∙◌, subst, arith}
-use Rattle.std.specs.Prelude.{if◌then◌else◌, is_some}
+use Rattle.std.specs.Prelude.{Err, Ok, OnOk, Result, if◌then◌else◌, is_some}
 use Rattle.std.proofs.lemmas.List.{get_or-replicate}
 use Rattle.cq_base.specs.declared.cell.Cell.{Cell}
 use Rattle.cq_base.specs.declared.cell.Departure.{Departure}
@@ -8,18 +8,22 @@ use Rattle.cq_base.specs.declared.cell.Transfer.{Transfer}
 use Rattle.cq_base.specs.Room.{RoomView}
 use Rattle.cq_base.specs.Arrivals.{arrival_at}
 use Rattle.cq_rank.specs.Machine.{Machine}
-use Rattle.cq_ideal.specs.declared.refused.Refused.{Refused}
 use Rattle.cq_ideal.specs.Limiter.{CanCount}
 use Rattle.cq_ideal.specs.Ranking.{AreForPorts}
-use Rattle.cq_ideal.specs.Refused.{refused_counts}
 use Rattle.cq_ideal.proofs.Counting.{counts_fit, zero_fits}
 use Rattle.cq_laws.specs.LimitedFabric.{LimitedRecord}
-use Rattle.cq_laws.specs.Fabric.{Fabric, input, empty_fabric}
+use Rattle.cq_laws.specs.Fabric.{input}
 use Rattle.cq_laws.specs.Holding.{fabric_held, held_for}
 use Rattle.cq_fabric.proofs.Limits.{nothing_for, nothing_in}
-use Rattle.cq_engine.specs.Engine.{EngineView, SlotDone, HaveBufferRoom, HaveListRoom}
+use Rattle.cq_engine.specs.Engine.{EngineView, HasGoneOn, HaveBufferRoom, HaveListRoom, SlotDone, fresh_engine, ports_of}
 use Rattle.cq_engine.proofs.Kept.{lists_kept, outputs_kept}
+use Rattle.cq_slot_trials.specs.Trial.{HasGrown}
 use Rattle.cq_slot_trials.proofs.Arriving.{admitted_most, count_most, refusals_most}
+
+-- what follows from two facts at one variant
+pub on_both : {T E P Q X : Type 0} (r : Result T E) → (P → Q → X) → OnOk r P → OnOk r Q → OnOk r X
+on_both (Ok x) f p q = f p q
+on_both (Err e) f p q = tt
 
 four_at : (n j : ℕ) → j < 4 → get_or (n ∷ n ∷ n ∷ n ∷ []) j 0 ≡ n
 four_at n j l = get_or-replicate 4 j n 0 l
@@ -46,7 +50,7 @@ module _ (ms : List Machine) (slot : ℕ) (cells : List (Option Cell)) (old new 
   record_is : LimitedRecord
   record_is = slot_done.record_of
 
-  pub lists_after : (n : ℕ) → ((i : ℕ) → length (input old.fabric i) ≤ n) → (i : ℕ) →
+  lists_after : (n : ℕ) → ((i : ℕ) → length (input old.fabric i) ≤ n) → (i : ℕ) →
       length (input new.fabric i) ≤ n + 1
   unfolding record_is
   lists_after n few i =
@@ -60,7 +64,7 @@ module _ (ms : List Machine) (slot : ℕ) (cells : List (Option Cell)) (old new 
       bit_most true = omega arith
       bit_most false = omega arith
 
-  pub held_after : (n : ℕ) → length cells ≡ 64 → ((j : ℕ) → held_for j old.fabric ≤ 64 * n) → (j : ℕ) →
+  held_after : (n : ℕ) → length cells ≡ 64 → ((j : ℕ) → held_for j old.fabric ≤ 64 * n) → (j : ℕ) →
       held_for j new.fabric ≤ 64 * (n + 1)
   unfolding record_is
   held_after n places few j =
@@ -73,6 +77,14 @@ module _ (ms : List Machine) (slot : ℕ) (cells : List (Option Cell)) (old new 
       in
       omega arith
 
+  pub grown_after : (n : ℕ) → length cells ≡ 64 → ports_of old ≡ 4 → HasGrown n old → HasGoneOn slot old new →
+      HasGrown (n + 1) new
+  grown_after n places four had went =
+      let squared = ap (λ (k : ℕ). 2 * (k * k)) four in
+      let made = had.proposals in
+      let few = went.few in
+      record { lists = lists_after n had.lists; held = held_after n places had.held; proposals = omega arith }
+
   pub counts_after : length cells ≡ 64 → (n : ℕ) → CanCount (n + 64) old.refused → CanCount n new.refused
   unfolding record_is
   counts_after places n can =
@@ -82,22 +94,17 @@ module _ (ms : List Machine) (slot : ℕ) (cells : List (Option Cell)) (old new 
       subst (CanCount n) (sym slot_done.refused)
       (counts_fit record_is.admission.refused n 64 old.refused can (omega arith))
 
-pub counts_first : (counts : List Refused) (limits : List (Option ℕ)) → counts ≡ refused_counts limits [] → (n : ℕ) →
-    n < 2 ^ 64 → CanCount n counts
-counts_first counts limits is n few = subst (CanCount n) (sym is) (zero_fits n limits few)
+-- what it knows where it is made: no cell waits, and none is counted
+module _ (ports : ℕ) (fixed states : List (List ℕ)) (from_inputs to_outputs : List ℕ) (limits : List (Option ℕ))
+    (e : EngineView) (is : e ≡ fresh_engine ports fixed states from_inputs to_outputs limits) where
+  pub counts_first : (n : ℕ) → n < 2 ^ 64 → CanCount n e.refused
+  counts_first n few = subst (λ (v : EngineView). CanCount n v.refused) (sym is) (zero_fits n limits few)
 
--- at first nothing waits
-pub lists_first : (f : Fabric) (n : ℕ) (ranks : List (List ℕ)) → f ≡ empty_fabric n ranks → (i : ℕ) →
-    length (input f i) ≤ 0
-lists_first f n ranks is i =
-    let e = ap (λ (g : Fabric). length (input g i)) is in
-    let none = nothing_in i n in
-    omega arith
-
-pub held_first : (f : Fabric) (n : ℕ) (ranks : List (List ℕ)) → f ≡ empty_fabric n ranks → (j : ℕ) →
-    held_for j f ≤ 64 * 0
-held_first f n ranks is j =
-    let e = ap (held_for j) is in
-    let none = nothing_in j n in
-    let nobody = nothing_for j n in
-    omega arith
+  pub grown_first : HasGrown 0 e
+  grown_first =
+      subst (HasGrown 0) (sym is)
+      (record {
+        lists = λ i. let none = nothing_in i ports in omega arith;
+        held = λ j. let none = nothing_in j ports in let nobody = nothing_for j ports in omega arith;
+        proposals = omega arith;
+      })

@@ -1,11 +1,9 @@
 //! Worked slots, drawn slots against a plain slow fabric, and the call that wants memory, with ample memory.
-ghost use Rattle.std.specs.Prelude.{◌≡◌, ◌+◌, ◌*◌, ◌^◌, ◌<◌, ◌≤◌, ℕ, [], ◌∷◌, IfOk, OnOk, false, is_err, length, map};
+ghost use Rattle.std.specs.Prelude.{◌≡◌, ◌+◌, ◌^◌, ◌<◌, ◌≤◌, ℕ, IfOk, OnOk, false, is_err, length, map};
 ghost use Rattle.cq_rank.specs.Classes.{rows_of};
-ghost use Rattle.cq_rank.specs.Switch.{class_count};
 ghost use Rattle.cq_ideal.specs.Limiter.{CanCount};
-ghost use Rattle.cq_laws.specs.Fabric.{input};
-ghost use Rattle.cq_laws.specs.Holding.{held_for};
-ghost use Rattle.cq_engine.specs.Engine.{ports_of};
+ghost use Rattle.cq_engine.specs.Engine.{IsMadeAs};
+ghost use Rattle.cq_slot_trials.specs.Trial.{HasGrown, IsOnTrial};
 
 use super::coming::Coming;
 use super::draws::Draws;
@@ -31,26 +29,16 @@ fn step<R: Rank, T: Threads + Sync, G: Gate>(
     sent: &mut Room<Departure>,
     note: &mut Room<Transfer>,
 ) -> Result<(), TagFault>
-    requires running { engine.old.stopped ≡ false }
+    requires trial { IsOnTrial (map R.machine engine.old.fixed) engine.old }
     requires early { engine.old.next < 40 }
-    requires ports { ports_of engine.old ≡ 4 }
-    requires classes { class_count (map R.machine engine.old.fixed) ≡ 2 }
-    requires from_inputs { engine.old.from_inputs ≡ 40 ∷ 40 ∷ 40 ∷ 40 ∷ [] }
-    requires to_outputs { engine.old.to_outputs ≡ 2560 ∷ 2560 ∷ 2560 ∷ 2560 ∷ [] }
-    requires lists { (i : ℕ) → length (input engine.old.fabric i) ≤ engine.old.next }
-    requires held { (j : ℕ) → held_for j engine.old.fabric ≤ 64 * engine.old.next }
-    requires proposals { engine.old.figures.proposals ≤ 32 * engine.old.next }
+    requires grown { HasGrown engine.old.next engine.old }
     requires counts { CanCount 4 engine.old.refused }
     requires sent { 4 ≤ sent.old.spare }
     requires note { 8 ≤ note.old.spare }
-    ensures fixed { engine.new.fixed ≡ engine.old.fixed }
-    ensures from_inputs { engine.new.from_inputs ≡ engine.old.from_inputs }
-    ensures to_outputs { engine.new.to_outputs ≡ engine.old.to_outputs }
+    ensures made { IsMadeAs engine.old engine.new }
     ensures stopped { engine.new.stopped ≡ is_err result }
     ensures next { OnOk result (engine.new.next ≡ engine.old.next + 1) }
-    ensures lists { OnOk result ((i : ℕ) → length (input engine.new.fabric i) ≤ engine.old.next + 1) }
-    ensures held { OnOk result ((j : ℕ) → held_for j engine.new.fabric ≤ 64 * (engine.old.next + 1)) }
-    ensures proposals { OnOk result (engine.new.figures.proposals ≤ 32 * (engine.old.next + 1)) }
+    ensures grown { OnOk result (HasGrown (engine.old.next + 1) engine.new) }
     ensures counts { OnOk result ((n : ℕ) → CanCount (n + 64) engine.old.refused → CanCount n engine.new.refused) }
 {
     // Its contract tells that there are 64 places.
@@ -99,15 +87,9 @@ fn run<R: Rank, T: Threads + Sync>(
     engine: &mut Engine<R>,
     slots: &[Coming<4>],
 ) -> Result<Told, NoMemory>
-    requires running { engine.old.stopped ≡ false }
+    requires trial { IsOnTrial (map R.machine engine.old.fixed) engine.old }
     requires next { engine.old.next ≡ 0 }
-    requires ports { ports_of engine.old ≡ 4 }
-    requires classes { class_count (map R.machine engine.old.fixed) ≡ 2 }
-    requires from_inputs { engine.old.from_inputs ≡ 40 ∷ 40 ∷ 40 ∷ 40 ∷ [] }
-    requires to_outputs { engine.old.to_outputs ≡ 2560 ∷ 2560 ∷ 2560 ∷ 2560 ∷ [] }
-    requires lists { (i : ℕ) → length (input engine.old.fabric i) ≤ 0 }
-    requires held { (j : ℕ) → held_for j engine.old.fabric ≤ 0 }
-    requires proposals { engine.old.figures.proposals ≤ 0 }
+    requires grown { HasGrown 0 engine.old }
     requires counts { (n : ℕ) → n < 2 ^ 64 → CanCount n engine.old.refused }
     requires few { length slots.now ≤ 40 }
 {
@@ -133,7 +115,6 @@ fn worked_slots() -> [Coming<4>; 3] {
 const NO_LIMITS: [Option<u64>; 4] = [None, None, None, None];
 
 // An engine of four first-come outputs on these slots.
-#[tactic(auto, using(crate::proofs::EngineSlots::lists_first, crate::proofs::EngineSlots::held_first))]
 fn worked<T: Threads + Sync>(
     rt: &T,
     alloc: Global,
@@ -368,7 +349,6 @@ fn by_priority(alloc: Global, levels: [u8; 2], priorities: [u128; 2]) -> Result<
 }
 
 // An engine of four outputs by priority on these slots.
-#[tactic(auto, using(crate::proofs::EngineSlots::lists_first, crate::proofs::EngineSlots::held_first))]
 fn prioritized<T: Threads + Sync>(
     rt: &T,
     alloc: Global,

@@ -3,15 +3,9 @@ use Rattle.cq_slot_trials.proofs.tests.engine.run.Goals as goal
 
 pub slots-init : goal.slots-init
 slots-init g c = record {
-  running = search rules;
+  trial = c.requires.trial;
   next = search rules;
-  ports = search rules;
-  classes = search rules;
-  from_inputs = search rules;
-  to_outputs = search rules;
-  lists = search rules;
-  held = search rules;
-  proposals = search rules;
+  grown = search rules;
   counts = λ n few. c.requires.counts n (omega arith);
 }
 
@@ -23,14 +17,8 @@ step-requires-clause-counts g c =
 
 pub slots-preserved : goal.slots-preserved
 slots-preserved g c = record {
-  running = search rules;
+  trial = search rules;
   next = search rules;
-  ports = search rules;
-  classes = search rules;
-  from_inputs = search rules;
-  to_outputs = search rules;
-  lists = search rules;
-  held = search rules;
-  proposals = search rules;
+  grown = search rules;
   counts = λ n few. c.in_default.ensures.counts n (c.slots.invariant.counts (n + 64) (omega arith));
 }

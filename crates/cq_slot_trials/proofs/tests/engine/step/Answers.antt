@@ -1,25 +1,27 @@
-use Rattle.std.proofs.Common.{ℕ, ◌+◌, ◌*◌, ◌^◌, ◌<◌, ap, arith, map, subst, sym}
+use Rattle.std.proofs.Common.{ℕ, ◌+◌, ◌*◌, ◌^◌, ◌<◌, arith, map, subst, sym}
 use Rattle.std.proofs.lemmas.Result.{on_ok_weaker}
 use Rattle.cq_ideal.specs.Limiter.{CanCount}
 use Rattle.cq_engine.specs.Engine.{HasGoneOn}
-use Rattle.cq_slot_trials.proofs.EngineSlots.{buffer_room, counts_after, held_after, list_room, lists_after}
+use Rattle.cq_slot_trials.proofs.EngineSlots.{buffer_room, counts_after, grown_after, list_room, on_both}
 use Rattle.cq_slot_trials.proofs.tests.engine.step.Goals as goal
 
 pub slot-requires-clause-ready : goal.slot-requires-clause-ready
 slot-requires-clause-ready g c =
     let e = c.args.engine.now in
     let cells = c.args.coming.now.arrivals in
-    let four = c.requires.ports in
-    let made = c.requires.proposals in
+    let four = c.requires.trial.ports in
+    let made = c.requires.grown.proposals in
     let early = c.requires.early in
     let sent = c.requires.sent in
     let note = c.requires.note in
     let few : e.figures.proposals + 2 * (4 * 4) < 2 ^ 64 = omega arith in
     λ _ _. record {
-      list_room = list_room e cells e.next c.args.coming.now.for_ports c.requires.from_inputs c.requires.lists early;
-      buffer_room =
-          buffer_room e cells e.next c.at-places.ensures.arrivals.places four c.requires.to_outputs c.requires.held
+      list_room =
+          list_room e cells e.next c.args.coming.now.for_ports c.requires.trial.from_inputs c.requires.grown.lists
           early;
+      buffer_room =
+          buffer_room e cells e.next c.at-places.ensures.arrivals.places four c.requires.trial.to_outputs
+          c.requires.grown.held early;
       refused = subst (λ (n : ℕ). CanCount n e.refused) (sym four) c.requires.counts;
       sent_room = omega arith;
       note_room = omega arith;
@@ -33,29 +35,14 @@ returns-clause-next g c =
     (λ (went : HasGoneOn c.next.result c.args.engine.now c.slot.new.self). let next = went.next in omega arith)
     c.slot.ensures.went_on
 
-pub returns-clause-proposals : goal.returns-clause-proposals
-returns-clause-proposals g c =
-    let squared = ap (λ (n : ℕ). 2 * (n * n)) c.requires.ports in
-    let made = c.requires.proposals in
-    on_ok_weaker c.slot.result
-    (λ (went : HasGoneOn c.next.result c.args.engine.now c.slot.new.self). let few = went.few in omega arith)
-    c.slot.ensures.went_on
-
-pub returns-clause-lists : goal.returns-clause-lists
-returns-clause-lists g c =
-    on_ok_weaker c.slot.result
-    (λ slot_done. lists_after (map g.R.Rank.machine c.args.engine.now.fixed) c.next.result c.args.coming.now.arrivals
-    c.args.engine.now c.slot.new.self c.args.sent.now c.slot.new.sent c.args.note.now c.slot.new.note slot_done
-    c.args.engine.now.next c.requires.lists)
-    c.slot.ensures.slot
-
-pub returns-clause-held : goal.returns-clause-held
-returns-clause-held g c =
-    on_ok_weaker c.slot.result
-    (λ slot_done. held_after (map g.R.Rank.machine c.args.engine.now.fixed) c.next.result c.args.coming.now.arrivals
-    c.args.engine.now c.slot.new.self c.args.sent.now c.slot.new.sent c.args.note.now c.slot.new.note slot_done
-    c.args.engine.now.next c.at-places.ensures.arrivals.places c.requires.held)
-    c.slot.ensures.slot
+pub returns-clause-grown : goal.returns-clause-grown
+returns-clause-grown g c =
+    on_both c.slot.result
+    (λ slot_done went. grown_after (map g.R.Rank.machine c.args.engine.now.fixed) c.next.result
+    c.args.coming.now.arrivals c.args.engine.now c.slot.new.self c.args.sent.now c.slot.new.sent c.args.note.now
+    c.slot.new.note slot_done c.args.engine.now.next c.at-places.ensures.arrivals.places c.requires.trial.ports
+    c.requires.grown went)
+    c.slot.ensures.slot c.slot.ensures.went_on
 
 pub returns-clause-counts : goal.returns-clause-counts
 returns-clause-counts g c =
