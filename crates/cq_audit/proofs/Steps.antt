@@ -176,7 +176,8 @@ module _ (M : List ℕ → Machine) (came : List Arrival) (lines : List Transfer
         ap (λ (l : List ℕ). slice_index l j) b.to_outputs in
         omega arith
 
-    can_replay : (cells : List (Option Cell)) → cells ≡ arriving came slot → CanReplay (map M now.fixed) slot cells rest now note
+    can_replay : (cells : List (Option Cell)) → cells ≡ arriving came slot →
+        CanReplay (map M now.fixed) slot cells rest now note
     can_replay cells are =
         subst (λ (l : List (Option Cell)). CanReplay (map M now.fixed) slot l rest now note) (sym are)
         (record {
@@ -293,7 +294,8 @@ module _ (M : List ℕ → Machine) (came : List Arrival) (lines : List Transfer
       pub left_there : next < enough came
       left_there = a_slot_left next rest new note reached_next not_over_there
 
-      pub can_there : (cells : List (Option Cell)) → cells ≡ arriving came next → CanReplay (map M new.fixed) next cells rest new note
+      pub can_there : (cells : List (Option Cell)) → cells ≡ arriving came next →
+          CanReplay (map M new.fixed) next cells rest new note
       can_there = can_replay next rest new note reached_next not_over_there
 
       pub next_there : (cells : List (Option Cell)) (left : List Transfer) (after : ReplayView)

@@ -29,7 +29,8 @@ arrived_none slot (suc n) zero = tt
 arrived_none slot (suc n) (suc j) = arrived_none slot n j
 
 module _ (ms : List Machine) (slot : ℕ) (cells : List (Option Cell)) (ranks : List (List ℕ)) (r : Ranking)
-    (ok : ranking ms slot 0 cells ranks ≡ Ok r) (lists : List (List Queued)) (arrived : AllArrivedBefore slot lists) where
+    (ok : ranking ms slot 0 cells ranks ≡ Ok r) (lists : List (List Queued))
+    (arrived : AllArrivedBefore slot lists) where
   pub own_keys : HaveOwnKeys r.came lists
   own_keys =
       record {
@@ -72,7 +73,8 @@ module _ (ms : List Machine) (slot : ℕ) (cells : List (Option Cell)) (ranks : 
       left_one [] all = tt
       left_one (x ∷ xs) all = all.1
 
-      left : (before : List (List Queued)) → AllArrivedBefore (slot + 1) before → AllArrivedBefore (slot + 1) (rests before)
+      left : (before : List (List Queued)) → AllArrivedBefore (slot + 1) before →
+          AllArrivedBefore (slot + 1) (rests before)
       left [] all j = tt
       left (xs ∷ before) all zero = left_one xs (all zero)
       left (xs ∷ before) all (suc j) = left before (λ k. all (suc k)) j

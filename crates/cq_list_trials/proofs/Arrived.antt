@@ -1,5 +1,5 @@
--- Cells that arrived in slots before this one: they arrived before the next one too, also what is left of them where one
--- left, and with the newest among them.
+-- Cells that arrived in slots before this one: they arrived before the next one too, also what is left of them where
+-- one left, and with the newest among them.
 use Rattle.std.proofs.Common.{◌≡◌, ℕ, ◌+◌, ◌<◌, cond, List, [], ◌∷◌, length, drop, Option, Some, ap, arith}
 use Rattle.std.specs.Prelude.{is_some}
 use Rattle.std.proofs.lemmas.Bool.{cond_both}

@@ -1,8 +1,9 @@
 //! Worked slots, the tag fault, and the call that wants memory, with ample memory.
-ghost use Rattle.std.specs.Prelude.{◌≡◌, ◌+◌, ◌<◌, ◌≤◌, ℕ, OnOk, false, is_err, length, map};
+ghost use Rattle.std.specs.Prelude.{◌≡◌, ◌+◌, ◌<◌, ◌≤◌, ℕ, OnOk, is_err, length, map};
 ghost use Rattle.cq_rank.specs.Switch.{AreForOneSwitch, class_count};
 ghost use Rattle.cq_ideal.specs.Ideal.{spare_at};
 ghost use Rattle.cq_ideal.specs.Limiter.{CanCount};
+ghost use Rattle.cq_slot_trials.specs.ThreePorts.{CanStep};
 
 use super::coming::Coming;
 use super::outputs::{first_come, note_departures};
@@ -67,14 +68,7 @@ fn step<R: Rank>(
     coming: &Coming<3>,
     sent: &mut Room<Departure>,
 ) -> Result<(), TagFault>
-    requires running { ideal.old.stopped ≡ false }
-    requires early { ideal.old.next < 1000 }
-    requires ports { length ideal.old.fixed ≡ 3 }
-    requires rooms { length ideal.old.rooms ≡ 3 }
-    requires classes { class_count (map R.machine ideal.old.fixed) ≡ 2 }
-    requires spare { (j : ℕ) → j < 3 → 64 ≤ spare_at ideal.old j }
-    requires counts { CanCount 3 ideal.old.refused }
-    requires sent { 3 ≤ sent.old.spare }
+    requires { CanStep (map R.machine ideal.old.fixed) ideal.old sent.old }
     ensures fixed { ideal.new.fixed ≡ ideal.old.fixed }
     ensures rooms { ideal.new.rooms ≡ ideal.old.rooms }
     ensures next { OnOk result (ideal.new.next ≡ ideal.old.next + 1) }

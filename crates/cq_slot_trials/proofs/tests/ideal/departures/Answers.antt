@@ -1,4 +1,5 @@
-use Rattle.std.proofs.Common.{◌+◌, rules, subst, sym, arith}
+use Rattle.std.proofs.Common.{◌+◌, ap, rules, subst, sym, arith}
+use Rattle.cq_ideal.specs.Ideal.{IdealSwitch}
 use Rattle.cq_ideal.specs.Limiter.{CanCount}
 use Rattle.cq_ideal.proofs.Counting.{zero_fits}
 use Rattle.cq_slot_trials.proofs.tests.ideal.departures.Goals as goal
@@ -10,14 +11,26 @@ slots-init g c = record {
   ports = search rules;
   rooms = search rules;
   classes = search rules;
-  counts = λ n few. subst (CanCount n) (sym c.in_ok-ideal.ensures.refused) (zero_fits n _ (omega arith));
+  counts = λ n few.
+      subst (CanCount n) (sym (ap (λ (v : IdealSwitch). v.refused) c.in_ok-ideal.ensures))
+      (zero_fits n _ (omega arith));
   spare = search rules;
 }
 
-pub step-requires-clause-counts : goal.step-requires-clause-counts
-step-requires-clause-counts g c =
+pub step-requires : goal.step-requires
+step-requires g c =
     let test = c.slots-test.true in
-    c.slots.invariant.counts 3 (omega arith)
+    let now = c.slots.invariant in
+    record {
+      running = now.running;
+      early = let next = now.next in omega arith;
+      ports = now.ports;
+      rooms = now.rooms;
+      classes = now.classes;
+      spare = λ j inside. let was = now.spare j inside in omega arith;
+      counts = now.counts 3 (omega arith);
+      sent = let room = c.in_ok-sent.ensures.spare in omega arith;
+    }
 
 pub slots-preserved : goal.slots-preserved
 slots-preserved g c =
