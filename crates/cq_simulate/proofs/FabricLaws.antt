@@ -42,6 +42,7 @@ use Rattle.cq_scfq.specs.Disciplines.{machines_of, openings_of}
 use Rattle.cq_simulate.proofs.Departed.{last_departs_without_limits, slots_are}
 use Rattle.cq_simulate.proofs.OnceASlot.{once_a_slot}
 use Rattle.cq_simulate.proofs.StableRuns.{stable_sends, stable_slots, whole_ran}
+use Rattle.cq_simulate.specs.Emulation.{Emulates}
 use Rattle.cq_simulate.specs.FabricRuns.{AlwaysHasSlack, AreInputBest, IsBestFor, IsFabricRun, IsKeptOf, SendsSlotBySlot, departures_in_run}
 use Rattle.cq_simulate.specs.IdealRuns.{ideal_departures, ran_ideal, slots_ran}
 use Rattle.cq_simulate.specs.declared.fabric_run.FabricRun as kept
@@ -217,12 +218,23 @@ module _ (t : Tables) (came : List Arrival) where
         (stable_run ms 0 (admitted_in (admissions_in rs)) plain is.end.state (slots_in rs) (plainly rs is)))
 
     -- it ends with the last arrival, or with the last departure
-    pub end_of_run : length rs ≡ max (end_of came) (figures_of (ports_of t.setup) (slots_in rs)).slots
+    end_of_run : length rs ≡ max (end_of came) (figures_of (ports_of t.setup) (slots_in rs)).slots
     end_of_run =
         let many = as_many_slots in
         let last = slots_are t came (departures_in_run rs) sends_as_ideal in
         let told = slots_sent rs is in
         omega arith
+
+    pub emulates : Emulates t came rs is
+    emulates = record {
+      slot_by_slot = slot_by_slot;
+      departures = sends_as_ideal;
+      input_best = best_in_each;
+      slack = always_slack;
+      ends = as_many_slots;
+      slots = end_of_run;
+      drained = is.runs.empty;
+    }
 
     -- where no output has a limit a cell departs in the last slot
     pub all_slots_send : NoLimits t.limits → IsSetup t.setup →

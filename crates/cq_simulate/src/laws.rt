@@ -1,20 +1,19 @@
 //! What holds of what arrives, and of the run of a fabric, whatever it is made of. Each law is the contract of a function
 //! that does nothing.
-ghost use Rattle.std.specs.Prelude.{◌≡◌, ◌<◌, ℕ, List, Ok, length, max};
-ghost use Rattle.cq_base.specs.Arriving.{Arrival, end_of, traffic_of};
+ghost use Rattle.std.specs.Prelude.{◌≡◌, ◌<◌, ℕ, List, length};
+ghost use Rattle.cq_base.specs.Arriving.{Arrival, traffic_of};
 ghost use Rattle.cq_cells.specs.Schedule.{arrivals};
 ghost use Rattle.cq_cells.specs.Traffic.{IsTraffic};
 ghost use Rattle.cq_ideal.specs.Admission.{NoLimits};
 ghost use Rattle.cq_ideal.specs.WholePackets.{AreOfPackets, cells_at};
-ghost use Rattle.cq_laws.specs.Fabric.{IsEmptyFabric};
 ghost use Rattle.cq_laws.specs.LimitedFabric.{LimitedRecord, slots_in};
 ghost use Rattle.cq_laws.specs.Measures.{figures_of};
 ghost use Rattle.cq_pcap.specs.Captured.{Captured};
 ghost use Rattle.cq_route.specs.Tables.{AreTables, IsSetup, classes_of, ports_of};
 ghost use Rattle.cq_route.specs.declared.tables.Tables.{Tables};
 ghost use Rattle.cq_simulate.specs.EachPacket.{EachPacketOnce};
-ghost use Rattle.cq_simulate.specs.FabricRuns.{AlwaysHasSlack, AreInputBest, IsFabricRun, SendsSlotBySlot, departures_in_run, refused_in_run};
-ghost use Rattle.cq_simulate.specs.IdealRuns.{ideal_departures, slots_ran};
+ghost use Rattle.cq_simulate.specs.Emulation.{Emulates};
+ghost use Rattle.cq_simulate.specs.FabricRuns.{IsFabricRun, departures_in_run, refused_in_run};
 
 /// The fabric of the tables' ranks and limits admits, refuses and sends what the ideal switch of the same ranks and
 /// limits does, each cell in the same slot at the same output. Its matchings are the input-best ones of what the lists
@@ -22,25 +21,12 @@ ghost use Rattle.cq_simulate.specs.IdealRuns.{ideal_departures, slots_ran};
 /// waits, and it ends after as many slots as the ideal switch: with the last arrival, or with the last departure where
 /// that is later. And the records of its slots are the only ones.
 pub fn fabric_sends_as_the_ideal_switch()
-    ensures slot_by_slot { (t : Tables) (came : List Arrival) (rs : List LimitedRecord) →
-        IsTraffic (ports_of t.setup) (classes_of t.setup) came → IsFabricRun t came rs → SendsSlotBySlot t came rs }
-    ensures input_best { (t : Tables) (came : List Arrival) (rs : List LimitedRecord) →
-        IsTraffic (ports_of t.setup) (classes_of t.setup) came → IsFabricRun t came rs → AreInputBest rs }
-    ensures drained { (t : Tables) (came : List Arrival) (rs : List LimitedRecord) →
-        IsTraffic (ports_of t.setup) (classes_of t.setup) came → (is : IsFabricRun t came rs) → IsEmptyFabric is.end.state }
-    ensures ends { (t : Tables) (came : List Arrival) (rs : List LimitedRecord) →
-        IsTraffic (ports_of t.setup) (classes_of t.setup) came → IsFabricRun t came rs → slots_ran t came ≡ length rs }
-    ensures slots { (t : Tables) (came : List Arrival) (rs : List LimitedRecord) →
-        IsTraffic (ports_of t.setup) (classes_of t.setup) came → IsFabricRun t came rs →
-        length rs ≡ max (end_of came) (figures_of (ports_of t.setup) (slots_in rs)).slots }
+    ensures emulates { (t : Tables) (came : List Arrival) (rs : List LimitedRecord) →
+        IsTraffic (ports_of t.setup) (classes_of t.setup) came → (is : IsFabricRun t came rs) → Emulates t came rs is }
+    // where no output has a limit a cell departs in the last slot
     ensures slots_without_limits { (t : Tables) (came : List Arrival) (rs : List LimitedRecord) →
         NoLimits t.limits → IsSetup t.setup → IsTraffic (ports_of t.setup) (classes_of t.setup) came →
         IsFabricRun t came rs → (figures_of (ports_of t.setup) (slots_in rs)).slots ≡ length rs }
-    ensures departures { (t : Tables) (came : List Arrival) (rs : List LimitedRecord) →
-        IsTraffic (ports_of t.setup) (classes_of t.setup) came → IsFabricRun t came rs →
-        ideal_departures t came ≡ Ok (departures_in_run rs) }
-    ensures slack { (t : Tables) (came : List Arrival) (rs : List LimitedRecord) →
-        IsTraffic (ports_of t.setup) (classes_of t.setup) came → IsFabricRun t came rs → AlwaysHasSlack rs }
     ensures one { (t : Tables) (came : List Arrival) (rs ss : List LimitedRecord) →
         IsFabricRun t came rs → IsFabricRun t came ss → rs ≡ ss }
 {}
