@@ -74,8 +74,8 @@ state_fault_text (stopped.Unsound clause) = codes "state: S3 clause " ++ decimal
 -- the forms of the commands
 abbrev pub usage : List ℕ
 usage =
-    codes
-    "usage: cq_switch pass IN OUT | check CONFIG | ideal CONFIG | run CONFIG | soak SEED PORTS SLOTS | audit CONFIG | part CONFIG SLOTS STATE | resume CONFIG STATE | stream CONFIG"
+    codes "usage: cq_switch pass IN OUT | check CONFIG | ideal CONFIG | run CONFIG | soak SEED PORTS SLOTS | audit "
+    ++ codes "CONFIG | part CONFIG SLOTS STATE | resume CONFIG STATE | stream CONFIG"
 
 -- words are judged before any file is asked for, and a name is missed only where contents are told
 abbrev pub meaning_of : Refusal → Meaning

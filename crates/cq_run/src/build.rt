@@ -69,8 +69,8 @@ fn put_counted(text: &mut Vec<u8>, name: &[u8], count: usize) -> Result<(), NoMe
     Ok(())
 }
 
-/// What leaves the one output of a switch of one port, under this name. The departures are used up while its file grows,
-/// and then the captures are given up.
+/// What leaves the one output of a switch of one port, under this name. The departures are used up while its file
+/// grows, and then the captures are given up.
 pub fn build_passed(
     alloc: Global,
     tables: &Tables,
@@ -81,7 +81,8 @@ pub fn build_passed(
     requires tables { AreTables tables.now }
     requires captures { length captures.items ≡ ports_of tables.now.setup }
     requires run { IsSwitched tables.now captures.items run }
-    ensures writes { IfOk result (λ plan. plan.writes ≡ (to, capture_out tables.now captures.items run.sent.items 0) ∷ []) }
+    ensures writes { IfOk result (λ plan. plan.writes
+        ≡ (to, capture_out tables.now captures.items run.sent.items 0) ∷ []) }
     ensures text { IfOk result (λ plan. plan.text ≡ []) }
 {
     let bytes = build_first(alloc, tables, captures, run)?;
@@ -129,8 +130,8 @@ pub fn build_switched(
     Ok(Work::of(writes, Vec::new(alloc)))
 }
 
-/// What leaves each output of the crossbar switch, the trace and the log of its run, and its report. The log comes first,
-/// since it uses up the transfers.
+/// What leaves each output of the crossbar switch, the trace and the log of its run, and its report. The log comes
+/// first, since it uses up the transfers.
 pub fn build_crossed(
     alloc: Global,
     tables: &Tables,
@@ -141,7 +142,8 @@ pub fn build_crossed(
     requires captures { length captures ≡ ports_of tables.now.setup }
     requires run { IsSent tables.now captures run.switched }
     requires reportable { All (λ x. x.cells ≤ run.figures.slots) run.figures.outputs }
-    ensures writes { IfOk result (λ plan. plan.writes ≡ captures_out tables.now captures run.switched.sent.items 0 tables.now.ports
+    ensures writes { IfOk result (λ plan. plan.writes
+        ≡ captures_out tables.now captures run.switched.sent.items 0 tables.now.ports
         ++ (tables.now.trace, trace_of run.switched.sent.items) ∷ (tables.now.log, log_of run.note.items) ∷ []) }
     ensures text { IfOk result (λ plan. plan.text ≡ report_with run.figures run.refused.items) }
 {
@@ -176,8 +178,8 @@ pub fn build_report(alloc: Global, figures: &Figures, refused: &[Refused]) -> Re
     Ok(Work::of(Vec::new(alloc), report_text(alloc, figures, refused)?))
 }
 
-// The captures of what leaves each output, each under its name, with places for the trace and the log. The captures that
-// were read are given up as soon as these are built.
+// The captures of what leaves each output, each under its name, with places for the trace and the log. The captures
+// that were read are given up as soon as these are built.
 fn build_captures(
     alloc: Global,
     tables: &Tables,
@@ -187,7 +189,8 @@ fn build_captures(
     requires tables { AreTables tables.now }
     requires captures { length captures ≡ ports_of tables.now.setup }
     requires run { IsSent tables.now captures run }
-    ensures { IfOk result (λ writes. writes.items ≡ captures_out tables.now captures run.sent.items 0 tables.now.ports) }
+    ensures { IfOk result (λ writes. writes.items
+        ≡ captures_out tables.now captures run.sent.items 0 tables.now.ports) }
 {
     let Switched { sent, first_stamp } = run;
     let left = packets_of_all(alloc, sent, captures.as_slice(), tables, first_stamp)?;

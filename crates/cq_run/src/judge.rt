@@ -55,7 +55,8 @@ pub fn judge<R: Threads + Sync, F: Files, G: Gate>(
         (known_to command (F.space files.old)) (known_to command (F.space files.new)) result }
     ensures kept { F.keeps files.old files.new }
     ensures names { IfOk result (λ plan. AllByRecursion (λ write. MayWrite command write.0) plan.writes) }
-    ensures emulates { (r : Reader) → IfOk result (λ plan. IfSome (F.space files.old).told (λ m. Emulates r command m plan)) }
+    ensures emulates { (r : Reader) → IfOk result (λ plan.
+        IfSome (F.space files.old).told (λ m. Emulates r command m plan)) }
     ensures closed { (F.space files.new).mode ≡ Closed }
     ensures told { (F.space files.new).told ≡ (F.space files.old).told }
 {
@@ -92,7 +93,8 @@ fn pass<R: Threads + Sync, F: Files, G: Gate>(
     ensures kept { F.keeps files.old files.new }
     ensures names { let command = Command.Pass from to in
         IfOk result (λ plan. AllByRecursion (λ write. MayWrite command write.0) plan.writes) }
-    ensures emulates { (r : Reader) → IfOk result (λ plan. IfSome (F.space files.old).told (λ m. IsPassage r from to m plan)) }
+    ensures emulates { (r : Reader) → IfOk result (λ plan.
+        IfSome (F.space files.old).told (λ m. IsPassage r from to m plan)) }
 {
     let tables = Tables::plain(alloc, from.text(), to.text())?;
     let capture = read_input(alloc, files, from, 0, tables.limit_bytes)?;
@@ -191,8 +193,8 @@ where
     Ok(cross(&rt, alloc, &tables, captures, gate)?)
 }
 
-// What the crossbar switch makes of these captures, one for each port, with all its bytes. The captures are given up on the
-// way.
+// What the crossbar switch makes of these captures, one for each port, with all its bytes. The captures are given up
+// on the way.
 fn cross<R: Threads + Sync, G: Gate>(
     rt: &R,
     alloc: Global,

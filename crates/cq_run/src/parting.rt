@@ -16,7 +16,8 @@ use cq_simulate::{part_fabric, resume_fabric};
 use std::alloc::Global;
 use std::thread::Threads;
 
-/// The text of the state in which the crossbar switch stands after so many slots with these captures, one for each port.
+/// The text of the state in which the crossbar switch stands after so many slots with these captures, one for each
+/// port.
 pub fn part_by_crossbar<R: Threads + Sync, G: Gate>(
     rt: &R,
     alloc: Global,
@@ -46,8 +47,8 @@ pub fn part_by_crossbar<R: Threads + Sync, G: Gate>(
     )?)
 }
 
-/// What the crossbar switch does with these captures, one for each port, from the state on whose text this is. What it did
-/// before stands ahead of it.
+/// What the crossbar switch does with these captures, one for each port, from the state on whose text this is. What it
+/// did before stands ahead of it.
 pub fn resume_by_crossbar<R: Threads + Sync, G: Gate>(
     rt: &R,
     alloc: Global,

@@ -3,8 +3,8 @@ use cq_stream::{Done, DoneOf, Intake};
 use std::thread;
 use std::thread::{PromisedHandle, SpawnError, Threads};
 
-/// A reader that runs in a thread. Unlike the handle in it, it cannot be dropped, and its field is private: `join` is the
-/// one call that uses it up.
+/// A reader that runs in a thread. Unlike the handle in it, it cannot be dropped, and its field is private: `join` is
+/// the one call that uses it up.
 pub struct Running {
     handle: PromisedHandle<Done, DoneOf>,
 }
@@ -34,8 +34,8 @@ impl Running {
         }
     }
 
-    /// What the reader leaves. All items were taken from its intake, which is lent for the clauses alone, so that it waits
-    /// for no room.
+    /// What the reader leaves. All items were taken from its intake, which is lent for the clauses alone, so that it
+    /// waits for no room.
     pub fn join<R: Threads>(self, rt: &R, _intake: &Intake) -> Done
         requires pair { IsPairOf (reader_of self) _intake.now }
         requires emptied { IsEmptied _intake.now }

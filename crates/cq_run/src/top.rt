@@ -1,5 +1,5 @@
 //! The top call.
-ghost use Rattle.std.specs.Prelude.{◌≡◌, ℕ, List, None, Some, IfSome, map, string_bytes};
+ghost use Rattle.std.specs.Prelude.{◌≡◌, None, Some, IfSome, map, string_bytes};
 ghost use Rattle.cq_space.specs.Failing.{Fails, FailsTaking, Reads, Writes};
 ghost use Rattle.cq_space.specs.Space.{Closed};
 ghost use Rattle.cq_words.specs.Words.{command_for};
@@ -41,8 +41,8 @@ use std::thread::Threads;
 ///   before or has a front of its bytes, and those after it are as before.
 /// - `NoMemory`: there was not the memory to keep the words of a command, or to build all that is to be written.
 /// - `AuditNo`: the trace or the log that is audited is wrong, and the line says what is wrong first.
-/// - `State`: the state from which a run is to go on is refused, and the line says what is wrong first, or that of a run
-///   that stops would be too long.
+/// - `State`: the state from which a run is to go on is refused, and the line says what is wrong first, or that of a
+///   run that stops would be too long.
 ///
 /// All bytes are ready before the first is written, so with every status but `Done` and `WriteFault` no
 /// file is started and `out` is as before. The file space has to be closed, and is closed again. A
@@ -75,7 +75,8 @@ pub fn switch_top<R: Threads + Sync, F: Files, O: Sink, E: Sink, G: Gate>(
     // The headline, of `run CONFIG`, of `pass IN OUT`, of `audit CONFIG`, and of runs in parts.
     ensures headline { (r : Reader) (command : Command) → command_for (map string_bytes words.now) ≡ Some command →
         result ≡ Status.Done → IfSome (F.space files.old).told (λ m. (plan : Plan) × Emulates r command m plan
-        × IsDone plan (world F.space O.taken O.faults files.old out.old) (world F.space O.taken O.faults files.new out.new)) }
+        × IsDone plan (world F.space O.taken O.faults files.old out.old)
+        (world F.space O.taken O.faults files.new out.new)) }
 
     // Also over files that tell nothing.
     ensures no_command { command_for (map string_bytes words.now) ≡ None → result ≡ Status.Words }
