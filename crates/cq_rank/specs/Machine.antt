@@ -45,31 +45,26 @@ pub record Ranker : Type 0 where
   pub fixed : List ℕ
   pub state : List ℕ
 
--- first come, first served: every rank is 0
-abbrev pub first_come : List ClassRow → Machine
-first_come rows = record {
-  classes = length rows;
+-- without a state: the rank of a class, like its level, is always the same
+abbrev pub steady : ℕ → (ℕ → ℕ) → (ℕ → ℕ) → Machine
+steady classes level rank = record {
+  classes = classes;
   size = 0;
-  level = λ c. (row_at rows c).level;
-  ranked = λ s c. 0;
+  level = level;
+  ranked = λ s c. rank c;
   given = λ s c. s;
   sent = λ s l r. s;
   idle = λ s. s;
-  floor = λ s c. 0;
+  floor = λ s c. rank c;
 }
+
+-- first come, first served: every rank is 0
+abbrev pub first_come : List ClassRow → Machine
+first_come rows = steady (length rows) (λ c. (row_at rows c).level) (λ c. 0)
 
 -- strict priority: a cell's rank is the priority of its class
 abbrev pub priority : List ClassRow → Machine
-priority rows = record {
-  classes = length rows;
-  size = 0;
-  level = λ c. (row_at rows c).level;
-  ranked = λ s c. (row_at rows c).priority;
-  given = λ s c. s;
-  sent = λ s l r. s;
-  idle = λ s. s;
-  floor = λ s c. (row_at rows c).priority;
-}
+priority rows = steady (length rows) (λ c. (row_at rows c).level) (λ c. (row_at rows c).priority)
 
 -- the machine of output j
 abbrev pub machine_at : List Machine → ℕ → Machine
