@@ -1,10 +1,9 @@
 -- The packets of an input are put into its file one after another: after each slot it is the file of the packets so
 -- far.
-use Rattle.std.proofs.Common.{◌≡◌, ℕ, ◌+◌, List, [], ◌∷◌, ◌++◌, map, false, refl, ap, sym, ◌∙◌}
+use Rattle.std.proofs.Common.{◌≡◌, ℕ, ◌+◌, List, [], ◌∷◌, ◌++◌, map, refl, ap, sym, ◌∙◌}
 use Rattle.std.proofs.lemmas.List.{map-append}
 use Rattle.cq_pcap.specs.Captured.{Captured}
-use Rattle.cq_pcap.specs.Record.{spelling}
-use Rattle.cq_pcap.specs.Written.{written, written_record}
+use Rattle.cq_pcap.specs.Written.{record_of, written}
 use Rattle.cq_pcap.proofs.Writing.{written_with}
 use Rattle.cq_gen.specs.Draws.{draw_for}
 use Rattle.cq_gen.specs.Packets.{packet_of, packets_to, to_write}
@@ -27,13 +26,12 @@ module _ (words : List ℕ) (ports input : ℕ) where
       counted_more made_in slot so_far (so_far ++ made_in slot ∷ []) (made_in slot) refl refl refl
 
   pub one_put : (slot : ℕ) (bytes new : List ℕ) → bytes ≡ written (map to_write (packets_to words ports slot input)) →
-      new ≡ bytes ++ spelling false (written_record (to_write (packet_of ports slot input
-      (draw_for words ports slot input)))) →
+      new ≡ bytes ++ record_of (to_write (packet_of ports slot input (draw_for words ports slot input))) →
       new ≡ written (map to_write (packets_to words ports (slot + 1) input))
   unfolding made_in
   one_put slot bytes new so_far put =
       let ps = packets_to words ports slot input in
       put
-      ∙ ap (λ (bs : List ℕ). bs ++ spelling false (written_record (to_write (made_in slot)))) so_far
+      ∙ ap (λ (bs : List ℕ). bs ++ record_of (to_write (made_in slot))) so_far
       ∙ written_with (map to_write ps) (to_write (made_in slot))
       ∙ ap written (sym (map-append to_write ps (made_in slot ∷ [])) ∙ ap (map to_write) (more slot))

@@ -8,7 +8,7 @@ use Rattle.cq_pcap.specs.Captured.{Captured}
 use Rattle.cq_pcap.specs.Faults.{fault_of}
 use Rattle.cq_pcap.specs.Reading.{packets_of}
 use Rattle.cq_pcap.specs.Record.{Record, spelling}
-use Rattle.cq_pcap.specs.Written.{IsWritable, read_again, written, written_header, written_record}
+use Rattle.cq_pcap.specs.Written.{IsWritable, read_again, record_of, written, written_header, written_record}
 use Rattle.cq_pcap.specs.declared.read.PcapRefusal.{PcapRefusal}
 use Rattle.cq_pcap.specs.declared.read.PcapRefusal.TheVariants as refusal
 use Rattle.cq_pcap.specs.declared.write.OutPacket.{OutPacket}
@@ -54,7 +54,7 @@ length-spelling r rest = omega (arith, length-append r.body rest)
 
 -- the records of packets
 abbrev spelt : List OutPacket → List ℕ
-spelt ps = flat_map (λ p. spelling false (written_record p)) ps
+spelt ps = flat_map record_of ps
 
 length-spelt : (ps : List OutPacket) → AllByRecursion IsSmall (map read_again ps) → length (spelt ps) ≡ 76 * length ps
 length-spelt [] small = refl

@@ -1,9 +1,8 @@
 // The packets that come to an input.
-ghost use Rattle.std.specs.Prelude.{◌≡◌, ◌++◌, ◌*◌, ◌<◌, ◌≤◌, false, length, map, IfOk, OnOk};
+ghost use Rattle.std.specs.Prelude.{◌≡◌, ◌++◌, ◌*◌, ◌<◌, ◌≤◌, length, map, IfOk, OnOk};
 ghost use Rattle.std.specs.Int.{IsInRange};
 ghost use Rattle.cq_gen.specs.Packets.{frame_of, output_address, packet_of, packets_to, to_write};
-ghost use Rattle.cq_pcap.specs.Record.{spelling};
-ghost use Rattle.cq_pcap.specs.Written.{written, written_record};
+ghost use Rattle.cq_pcap.specs.Written.{record_of, written};
 
 use cq_base::{NoMemory, Port};
 use cq_pcap::{FILE_HEADER, RECORD_HEADER, begin_capture, put_packet};
@@ -50,7 +49,7 @@ fn put_made(
 ) -> Result<(), NoMemory>
     requires ports { IsInRange 1 64 ports }
     requires input { input < ports }
-    ensures { OnOk result (out.new.items ≡ out.old.items ++ spelling false (written_record (to_write (packet_of ports slot input word)))) }
+    ensures { OnOk result (out.new.items ≡ out.old.items ++ record_of (to_write (packet_of ports slot input word))) }
 {
     let output = word % u32::from(ports);
     let priority = word >> 29;

@@ -5,7 +5,7 @@ use Rattle.std.proofs.lemmas.List.{append-nil, drop-drop, drop_at, length-drop, 
 use Rattle.std.specs.Prelude.{Result, Ok, Err}
 use Rattle.std.specs.List.{flat_map, AllByRecursion}
 use Rattle.cq_pcap.specs.declared.form.Form.{Form}
-use Rattle.cq_pcap.specs.Form.{number_at, unit}
+use Rattle.cq_pcap.specs.Form.{bytes_in, number_at, number_in, unit}
 use Rattle.cq_pcap.specs.Captured.{Captured}
 use Rattle.cq_pcap.specs.Faults.{Fault, NoHeader, Magic, Version, LinkType, CutHeader, LongRecord, CutBody, IsFaulty, IsSpeltUpTo}
 use Rattle.cq_pcap.specs.Reading.{◌>>=◌, first_packet, header_form, packets_from, packets_of}
@@ -24,28 +24,29 @@ record Stands (big : Bool) (r : Record) (xs rest : List ℕ) : Type 0 where
   left : drop 16 xs ≡ r.body ++ rest
   long : length xs ≡ 16 + (length r.body + length rest)
 
+-- in either order: the bytes of each figure, and then what is behind them
+parted : (big : Bool) (r : Record) (rest : List ℕ) →
+    let xs = spelling big r ++ rest in
+    (xs ≡ bytes_in big 4 r.seconds ++ drop 4 xs) × (drop 4 xs ≡ bytes_in big 4 r.subseconds ++ drop 8 xs)
+    × (drop 8 xs ≡ bytes_in big 4 (length r.body) ++ drop 12 xs) × (drop 12 xs ≡ bytes_in big 4 r.original ++ drop 16 xs)
+    × (drop 16 xs ≡ r.body ++ rest) × (length xs ≡ 16 + (length r.body + length rest))
+parted false r rest = (refl, refl, refl, refl, refl, omega (arith, length-append r.body rest))
+parted true r rest = (refl, refl, refl, refl, refl, omega (arith, length-append r.body rest))
+
 stands : (big : Bool) (r : Record) (rest : List ℕ) → Fits r → Stands big r (spelling big r ++ rest) rest
 unfolding number_at
-stands false r rest fit = record {
-  seconds = number_in-reads_back false r.seconds (drop 4 (spelling false r ++ rest)) fit.seconds;
-  subseconds = number_in-reads_back false r.subseconds (drop 8 (spelling false r ++ rest)) fit.subseconds;
-  len =
-      let b : length r.body < 2 ^ 32 = omega (arith, fit.body) in
-      number_in-reads_back false (length r.body) (drop 12 (spelling false r ++ rest)) b;
-  original = number_in-reads_back false r.original (r.body ++ rest) fit.original;
-  left = refl;
-  long = omega (arith, length-append r.body rest);
-}
-stands true r rest fit = record {
-  seconds = number_in-reads_back true r.seconds (drop 4 (spelling true r ++ rest)) fit.seconds;
-  subseconds = number_in-reads_back true r.subseconds (drop 8 (spelling true r ++ rest)) fit.subseconds;
-  len =
-      let b : length r.body < 2 ^ 32 = omega (arith, fit.body) in
-      number_in-reads_back true (length r.body) (drop 12 (spelling true r ++ rest)) b;
-  original = number_in-reads_back true r.original (r.body ++ rest) fit.original;
-  left = refl;
-  long = omega (arith, length-append r.body rest);
-}
+stands big r rest fit =
+    let p = parted big r rest in
+    let reads : (ys zs : List ℕ) (x : ℕ) → ys ≡ bytes_in big 4 x ++ zs → x < 2 ^ 32 → number_in big 4 ys ≡ x =
+    λ ys zs x e h. ap (number_in big 4) e ∙ number_in-reads_back big x zs h in
+    record {
+      seconds = reads _ _ r.seconds p.0 fit.seconds;
+      subseconds = reads _ _ r.subseconds p.1 fit.subseconds;
+      len = reads _ _ (length r.body) p.2 (omega (arith, fit.body));
+      original = reads _ _ r.original p.3 fit.original;
+      left = p.4;
+      long = p.5;
+    }
 
 module _ (form : Form) (r : Record) (rest : List ℕ) (fit : Fits r) where
   first_is : (place : ℕ) → first_packet form place (spelling form.big r ++ rest) ≡ Ok (captured_of form r)

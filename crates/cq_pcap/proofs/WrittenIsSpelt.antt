@@ -6,7 +6,7 @@ use Rattle.cq_pcap.specs.declared.form.Form.{Form}
 use Rattle.cq_pcap.specs.declared.write.OutPacket.{OutPacket}
 use Rattle.cq_pcap.specs.Form.{number_at}
 use Rattle.cq_pcap.specs.Record.{Fits, IsHeader, Spells, captured_of, spelling}
-use Rattle.cq_pcap.specs.Written.{IsWritable, read_again, written, written_header, written_record}
+use Rattle.cq_pcap.specs.Written.{IsWritable, read_again, record_of, written, written_header, written_record}
 
 -- the form that is written
 abbrev little_nanos : Form
@@ -32,10 +32,9 @@ records_kept (p ∷ ps) w =
     ap (λ q. q ∷ map (captured_of little_nanos) (map written_record ps)) (stamp_again p w.0)
     ∙ ap (λ qs. read_again p ∷ qs) (records_kept ps w.1)
 
-records_spelt : (ps : List OutPacket) →
-    flat_map (λ p. spelling false (written_record p)) ps ≡ flat_map (spelling false) (map written_record ps)
+records_spelt : (ps : List OutPacket) → flat_map record_of ps ≡ flat_map (spelling false) (map written_record ps)
 records_spelt [] = refl
-records_spelt (p ∷ ps) = ap (λ bytes. spelling false (written_record p) ++ bytes) (records_spelt ps)
+records_spelt (p ∷ ps) = ap (λ bytes. record_of p ++ bytes) (records_spelt ps)
 
 begins : IsHeader little_nanos written_header
 unfolding number_at

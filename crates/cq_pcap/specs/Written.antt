@@ -20,9 +20,13 @@ written_record p =
       body = p.body;
     }
 
+-- the bytes that a packet has in a capture
+abbrev pub record_of : OutPacket → List ℕ
+record_of p = spelling false (written_record p)
+
 -- the file of these packets
 abbrev pub written : List OutPacket → List ℕ
-written ps = written_header ++ flat_map (λ p. spelling false (written_record p)) ps
+written ps = written_header ++ flat_map record_of ps
 
 -- a packet that is written is read as this
 abbrev pub read_again : OutPacket → Captured

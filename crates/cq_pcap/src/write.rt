@@ -1,7 +1,6 @@
 // Captures that are written.
-ghost use Rattle.std.specs.Prelude.{◌≡◌, ◌≤◌, ◌++◌, [], false, length, All, IfOk, OnOk};
-ghost use Rattle.cq_pcap.specs.Record.{spelling};
-ghost use Rattle.cq_pcap.specs.Written.{written, written_record};
+ghost use Rattle.std.specs.Prelude.{◌≡◌, ◌≤◌, ◌++◌, [], length, All, IfOk, OnErr, OnOk};
+ghost use Rattle.cq_pcap.specs.Written.{record_of, written};
 
 use crate::{FILE_HEADER, RECORD_HEADER};
 use byteorder::{ByteOrder, LittleEndian};
@@ -40,7 +39,7 @@ pub fn begin_capture(alloc: Global, size: usize) -> Result<Vec<u8>, NoMemory>
 
 /// Puts the record of one more packet behind the bytes of a capture: its stamp in nanoseconds, its length on the wire, and
 /// its captured bytes, at most 262,144. The seconds of the stamp are written modulo 2^32. The error is want of memory, and
-/// then the bytes are of no use.
+/// then the bytes are as before.
 #[tactic(auto, using(std::proofs::Common::append_assoc))]
 pub fn put_packet(
     out: &mut Vec<u8>,
@@ -49,7 +48,8 @@ pub fn put_packet(
     body: &[u8],
 ) -> Result<(), NoMemory>
     requires { length body.now ≤ 262144 }
-    ensures { OnOk result (out.new.items ≡ out.old.items ++ spelling false (written_record (record { stamp = stamp; original = original; body = body.now }))) }
+    ensures record { OnOk result (out.new.items ≡ out.old.items ++ record_of (record { stamp = stamp; original = original; body = body.now })) }
+    ensures as_before { OnErr result (out.new.items ≡ out.old.items) }
 {
     let figures = [
         (stamp / SECOND % (1 << 32)) as u32,
@@ -59,8 +59,12 @@ pub fn put_packet(
     ];
     let mut header = [0; RECORD_HEADER];
     LittleEndian::write_u32_into(&figures, &mut header);
+    let before = out.len();
     out.extend_from_slice(&header)?;
-    out.extend_from_slice(body)?;
+    if out.extend_from_slice(body).is_err() {
+        out.truncate(before);
+        return Err(NoMemory);
+    }
     Ok(())
 }
 

@@ -12,12 +12,12 @@ use Rattle.cq_base.specs.declared.packed.PackedDeparture.{PackedDeparture}
 use Rattle.cq_cells.specs.Schedule.{arrivals}
 use Rattle.cq_pcap.specs.Captured.{Captured}
 use Rattle.cq_pcap.proofs.Writing.{written_with}
-use Rattle.cq_pcap.specs.Written.{written}
+use Rattle.cq_pcap.specs.Written.{record_of, written}
 use Rattle.cq_pcap.specs.declared.write.OutPacket.{OutPacket}
 use Rattle.cq_route.specs.Tables.{AreTables, ports_of}
 use Rattle.cq_route.specs.declared.tables.Tables.{Tables}
 use Rattle.cq_simulate.specs.Packets.{ArePacked, LeaveWhole, packets_out}
-use Rattle.cq_simulate.specs.Pieces.{CanTake, IsEmptied, Took, left_with, record_of, records_of}
+use Rattle.cq_simulate.specs.Pieces.{CanTake, IsEmptied, Took, left_with, records_of}
 use Rattle.cq_simulate.specs.declared.packing.Packing.{Packing}
 use Rattle.cq_simulate.proofs.Departed.{departed_captured, departed_class, departed_output}
 use Rattle.cq_simulate.proofs.Packed.{all_pushed, none_large}

@@ -1,14 +1,13 @@
 -- Only proofs use this.
 -- The pieces of the cells of captured packets, and what is open of a packet after some of its cells were taken.
-use Rattle.std.specs.Prelude.{ℕ, ◌≡◌, ◌+◌, ◌<◌, ◌≤◌, false, true, if◌then◌else◌, List, [], ◌∷◌, ◌++◌, length, take, drop, Option, None, Some, IfSome}
+use Rattle.std.specs.Prelude.{ℕ, ◌≡◌, ◌+◌, ◌<◌, ◌≤◌, true, if◌then◌else◌, List, [], ◌∷◌, ◌++◌, length, take, drop, Option, None, Some, IfSome}
 use Rattle.cq_base.specs.declared.cell.Cell.{Cell}
 use Rattle.cq_cells.specs.Schedule.{packet_at, packets_of}
 use Rattle.cq_pcap.specs.Captured.{Captured}
 use Rattle.cq_reasm.specs.Joining.{IsNext, IsOtherPair, JoinerView, open_after, open_at}
 use Rattle.cq_reasm.specs.Open.{Open, bytes_taken}
 use Rattle.cq_base.specs.declared.cell.Departure.{Departure}
-use Rattle.cq_pcap.specs.Record.{spelling}
-use Rattle.cq_pcap.specs.Written.{written, written_record}
+use Rattle.cq_pcap.specs.Written.{record_of, written}
 use Rattle.cq_pcap.specs.declared.write.OutPacket.{OutPacket}
 use Rattle.cq_route.specs.declared.tables.Tables.{Tables}
 use Rattle.cq_simulate.specs.Packets.{leaving}
@@ -40,10 +39,6 @@ pub record Fits (captures : List (List Captured)) (was : Option Open) (cell : Ce
 -- what leaves with the cell that departs: its packet, if it is the last
 abbrev pub left_with : Tables → List (List Captured) → Departure → Option OutPacket
 left_with t captures d = if d.queued.cell.last then Some (leaving t captures d) else None
-
--- the bytes that a packet has in a capture
-abbrev pub record_of : OutPacket → List ℕ
-record_of p = spelling false (written_record p)
 
 -- the bytes of what leaves, if anything does
 abbrev pub records_of : Option OutPacket → List ℕ

@@ -1,9 +1,10 @@
 //! The captures of what leaves all outputs, built in one pass over the departures.
 ghost use Rattle.std.specs.Prelude.{◌≡◌, ◌≤◌, ◌++◌, All, IfOk, OnOk, length};
 ghost use Rattle.cq_cells.specs.Schedule.{arrivals, first_stamp};
+ghost use Rattle.cq_pcap.specs.Written.{record_of};
 ghost use Rattle.cq_route.specs.Tables.{AreTables, ports_of};
 ghost use Rattle.cq_simulate.specs.Packets.{ArePacked, LeaveWhole, leaving};
-ghost use Rattle.cq_simulate.specs.Pieces.{CanTake, IsCaptured, IsEmptied, Took, record_of};
+ghost use Rattle.cq_simulate.specs.Pieces.{CanTake, IsCaptured, IsEmptied, Took};
 
 use crate::packets::{frame_of, original_of, stamp_of, take};
 use cq_base::{Cell, Departure, Departures, NoMemory, PackedDeparture};
