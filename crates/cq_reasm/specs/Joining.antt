@@ -1,5 +1,5 @@
 -- What a joiner holds, what it answers at a cell, and what is open afterwards.
-use Rattle.std.specs.Prelude.{◌≡◌, ◌≢◌, ◌⊎◌, ℕ, ◌+◌, ◌*◌, List, ◌++◌, Option, None, Some, if◌then◌else◌, slice_index_or, slice_set, replicate}
+use Rattle.std.specs.Prelude.{◌≡◌, ◌≢◌, ◌⊎◌, ℕ, ◌+◌, ◌*◌, ◌<◌, List, ◌++◌, length, Option, None, Some, Result, IfOk, OnErr, OnOk, if◌then◌else◌, slice_index_or, slice_set, replicate}
 use Rattle.cq_base.specs.declared.cell.Cell.{Cell}
 use Rattle.cq_reasm.specs.declared.joiner.Joined.{Joined}
 use Rattle.cq_reasm.specs.Open.{Open, bytes_taken, with_piece}
@@ -47,3 +47,23 @@ joined_at was cell piece =
 -- what is open of the pair afterwards
 abbrev pub open_after : Option Open → Cell → List ℕ → Option Open
 open_after was cell piece = if cell.last then None else Some (with_piece was cell.id.packet piece)
+
+-- the cell, with these bytes, is the next of its input and class
+pub record IsTakable (joiner : JoinerView) (cell : Cell) (bytes : List ℕ) : Type 0 where
+  pub input : cell.id.input < joiner.inputs
+  pub class : cell.class < joiner.classes
+  pub piece : length bytes ≡ cell.len
+  pub next : IsNext (open_at joiner cell.id.input cell.class) cell
+
+-- What is answered at a cell with these bytes, and what stands then: the packet, if it is whole, and what is open of the
+-- pair. The packets of all other pairs are as before, and after an error all is.
+pub record HasTaken {E : Type 0} (old new : JoinerView) (cell : Cell) (bytes : List ℕ)
+    (result : Result (Option Joined) E) : Type 0 where
+  pub joined : IfOk result (λ joined. joined ≡ joined_at (open_at old cell.id.input cell.class) cell bytes)
+  pub left : OnOk result (new ≡ with_open old cell.id.input cell.class
+      (open_after (open_at old cell.id.input cell.class) cell bytes))
+  pub pair : OnOk result (open_at new cell.id.input cell.class
+      ≡ open_after (open_at old cell.id.input cell.class) cell bytes)
+  pub others : (input class : ℕ) → class < old.classes → IsOtherPair input class cell →
+      open_at new input class ≡ open_at old input class
+  pub as_before : OnErr result (new ≡ old)

@@ -1,6 +1,6 @@
 //! Packets put together from the cells of an output.
-ghost use Rattle.std.specs.Prelude.{◌≡◌, ◌<◌, ◌≤◌, ℕ, length, IfOk, OnOk, OnErr, None};
-ghost use Rattle.cq_reasm.specs.Joining.{nothing_open, open_at, with_open, IsNext, IsOtherPair, joined_at, open_after};
+ghost use Rattle.std.specs.Prelude.{◌≡◌, ◌≤◌, ℕ, IfOk, None};
+ghost use Rattle.cq_reasm.specs.Joining.{HasTaken, IsTakable, nothing_open, open_at};
 
 use crate::open_packets::OpenPackets;
 use cq_base::{Cell, NoMemory, Port, Sequence};
@@ -65,15 +65,8 @@ impl Joiner {
     ///
     /// The error is want of memory, and then all is as before.
     pub fn take(&mut self, cell: &Cell, piece: &[u8]) -> Result<Option<Joined>, NoMemory>
-        requires input { cell.now.id.input < self.old.inputs }
-        requires class { cell.now.class < self.old.classes }
-        requires piece { length piece.now ≡ cell.now.len }
-        requires next { IsNext (open_at self.old cell.now.id.input cell.now.class) cell.now }
-        ensures joined { IfOk result (λ joined. joined ≡ joined_at (open_at self.old cell.now.id.input cell.now.class) cell.now piece.now) }
-        ensures left { OnOk result (self.new ≡ with_open self.old cell.now.id.input cell.now.class (open_after (open_at self.old cell.now.id.input cell.now.class) cell.now piece.now)) }
-        ensures pair { OnOk result (open_at self.new cell.now.id.input cell.now.class ≡ open_after (open_at self.old cell.now.id.input cell.now.class) cell.now piece.now) }
-        ensures others { (input class : ℕ) → class < self.old.classes → IsOtherPair input class cell.now → open_at self.new input class ≡ open_at self.old input class }
-        ensures as_before { OnErr result (self.new ≡ self.old) }
+        requires { IsTakable self.old cell.now piece.now }
+        ensures { HasTaken self.old self.new cell.now piece.now result }
     {
         self.take_reserving(cell, piece, piece.len())
     }
@@ -86,15 +79,8 @@ impl Joiner {
         piece: &[u8],
         room: usize,
     ) -> Result<Option<Joined>, NoMemory>
-        requires input { cell.now.id.input < self.old.inputs }
-        requires class { cell.now.class < self.old.classes }
-        requires piece { length piece.now ≡ cell.now.len }
-        requires next { IsNext (open_at self.old cell.now.id.input cell.now.class) cell.now }
-        ensures joined { IfOk result (λ joined. joined ≡ joined_at (open_at self.old cell.now.id.input cell.now.class) cell.now piece.now) }
-        ensures left { OnOk result (self.new ≡ with_open self.old cell.now.id.input cell.now.class (open_after (open_at self.old cell.now.id.input cell.now.class) cell.now piece.now)) }
-        ensures pair { OnOk result (open_at self.new cell.now.id.input cell.now.class ≡ open_after (open_at self.old cell.now.id.input cell.now.class) cell.now piece.now) }
-        ensures others { (input class : ℕ) → class < self.old.classes → IsOtherPair input class cell.now → open_at self.new input class ≡ open_at self.old input class }
-        ensures as_before { OnErr result (self.new ≡ self.old) }
+        requires { IsTakable self.old cell.now piece.now }
+        ensures { HasTaken self.old self.new cell.now piece.now result }
     {
         let id = cell.id;
         let place = usize::from(id.input) * usize::from(self.classes) + usize::from(cell.class);

@@ -1,4 +1,4 @@
-use Rattle.std.proofs.Common.{◌≡◌, ◌+◌, ◌*◌, set, get_or, None, Some, ap, ◌∙◌}
+use Rattle.std.proofs.Common.{◌≡◌, ◌+◌, ◌*◌, set, get_or, None, Some, ap, ◌∙◌, rules}
 use Rattle.cq_reasm.specs.Open.{cells_taken, with_piece}
 use Rattle.cq_reasm.specs.Joining.{open_at, with_open}
 use Rattle.cq_reasm.proofs.Joins.{taken_before, open_is, left_is, closed_again, closed_by_last, others_kept}
@@ -14,39 +14,43 @@ add-requires-clause-next c =
     c.args.cell.now.class _ c.self.view_is place)
     ∙ taken_before _ c.args.cell.now c.requires.next
 
-pub returns-clause-left : goal.returns-clause-left
-returns-clause-left c =
+pub returns-then-not-cell : goal.returns-then-not-cell
+returns-then-not-cell c =
+    let id = c.args.cell.now.id in
+    let at = c.from.result * c.from-2.result + c.from-3.result in
+    let place : at ≡ id.input * c.self.inside.classes + c.args.cell.now.class = cc in
+    let packets = c.self.inside.packets in
+    let added = Some (with_piece (get_or packets at None) id.packet c.args.piece.now) in
+    record {
+      joined = search rules;
+      left = search rules;
+      pair = search rules;
+      others =
+          others_kept c.self.inside.inputs c.self.inside.classes packets c.add.new.self c.args.self.now c.args.cell.now
+          at added c.self.view_is place c.in_ok-add.ensures.added c.requires.class;
+      as_before = tt;
+    }
+
+pub returns : goal.returns
+returns c =
     let id = c.args.cell.now.id in
     let class = c.args.cell.now.class in
     let at = c.from.result * c.from-2.result + c.from-3.result in
     let place : at ≡ id.input * c.self.inside.classes + class = cc in
     let packets = c.self.inside.packets in
     let added = Some (with_piece (get_or packets at None) id.packet c.args.piece.now) in
-    left_is c.self.inside.inputs c.self.inside.classes packets c.close-body.new.self c.args.self.now id.input class at
-    None c.self.view_is place
-    (c.close-body.ensures.closed ∙ ap (λ others. set others at None) c.in_ok-add.ensures.added
-    ∙ closed_again packets at added None)
-    ∙ ap (with_open c.args.self.now id.input class) (closed_by_last (open_at c.args.self.now id.input class)
-    c.args.cell.now c.args.piece.now c.if-not-cell.false)
-
-pub returns-then-not-cell-clause-others : goal.returns-then-not-cell-clause-others
-returns-then-not-cell-clause-others c =
-    let id = c.args.cell.now.id in
-    let at = c.from.result * c.from-2.result + c.from-3.result in
-    let place : at ≡ id.input * c.self.inside.classes + c.args.cell.now.class = cc in
-    let packets = c.self.inside.packets in
-    let added = Some (with_piece (get_or packets at None) id.packet c.args.piece.now) in
-    others_kept c.self.inside.inputs c.self.inside.classes packets c.add.new.self c.args.self.now c.args.cell.now at
-    added c.self.view_is place c.in_ok-add.ensures.added c.requires.class
-
-pub returns-clause-others : goal.returns-clause-others
-returns-clause-others c =
-    let id = c.args.cell.now.id in
-    let at = c.from.result * c.from-2.result + c.from-3.result in
-    let place : at ≡ id.input * c.self.inside.classes + c.args.cell.now.class = cc in
-    let packets = c.self.inside.packets in
-    let added = Some (with_piece (get_or packets at None) id.packet c.args.piece.now) in
-    others_kept c.self.inside.inputs c.self.inside.classes packets c.close-body.new.self c.args.self.now
-    c.args.cell.now at None c.self.view_is place
-    (c.close-body.ensures.closed ∙ ap (λ others. set others at None) c.in_ok-add.ensures.added
-    ∙ closed_again packets at added None) c.requires.class
+    let closed = c.close-body.ensures.closed ∙ ap (λ others. set others at None) c.in_ok-add.ensures.added
+    ∙ closed_again packets at added None in
+    record {
+      joined = search rules;
+      left =
+          left_is c.self.inside.inputs c.self.inside.classes packets c.close-body.new.self c.args.self.now id.input
+          class at None c.self.view_is place closed
+          ∙ ap (with_open c.args.self.now id.input class) (closed_by_last (open_at c.args.self.now id.input class)
+          c.args.cell.now c.args.piece.now c.if-not-cell.false);
+      pair = search rules;
+      others =
+          others_kept c.self.inside.inputs c.self.inside.classes packets c.close-body.new.self c.args.self.now
+          c.args.cell.now at None c.self.view_is place closed c.requires.class;
+      as_before = tt;
+    }
