@@ -135,7 +135,7 @@ class_keys version place =
     ∷ level_keys version place
 
 -- the keys of a port: only the file that it writes has to be there
-abbrev pub port_keys : Place → List Key
+unfoldable pub port_keys : Place → List Key
 port_keys place =
     key place (codes "read") (optional file_name)
     ∷ key place (codes "write") (required file_name)
@@ -155,7 +155,7 @@ address_keys ports earlier place =
     ∷ []
 
 -- the keys of a rule, among so many ports and classes: only the class has to be there
-abbrev pub rule_keys : ℕ → ℕ → Place → List Key
+unfoldable pub rule_keys : ℕ → ℕ → Place → List Key
 rule_keys ports classes place =
     key place (codes "input") (optional (number_below 63 ports))
     ∷ key place (codes "pcp") (optional (integer_in 0 7))

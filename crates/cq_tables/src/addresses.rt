@@ -55,6 +55,7 @@ fn new_address(entries: Entries, known: &mut BTreeSet<[u8; 6]>) -> Result<[u8; 6
 const ADDRESS_KEYS: [&str; 2] = ["mac", "output"];
 
 // The row of an address, which is none of the known ones, among so many ports. It is known then.
+#[tactic(auto, unfolding(crate::specs::Check::first))]
 fn address_row(
     entries: Entries,
     ports: usize,
@@ -74,6 +75,7 @@ fn address_row(
 }
 
 // The row that an element tells.
+#[tactic(auto, using(crate::proofs::Checks::element_holds, crate::proofs::Checks::element_refuses))]
 fn address_in(
     alloc: Global,
     index: usize,

@@ -15,6 +15,7 @@ use std::alloc::Global;
 use toml::Value;
 
 // The class that an element tells, in this version.
+#[tactic(auto, using(crate::proofs::Checks::element_holds, crate::proofs::Checks::element_refuses))]
 fn class_in(
     alloc: Global,
     index: usize,
@@ -52,6 +53,7 @@ pub fn class_rows(
 }
 
 // The rule that an element tells.
+#[tactic(auto, using(crate::proofs::Checks::element_holds, crate::proofs::Checks::element_refuses))]
 fn rule_in(
     alloc: Global,
     index: usize,
@@ -91,6 +93,7 @@ pub fn rule_rows(
 }
 
 // The port that an element tells.
+#[tactic(auto, using(crate::proofs::Checks::element_holds, crate::proofs::Checks::element_refuses))]
 fn port_in(alloc: Global, index: usize, value: &Value) -> Result<PortEntry, TableRefusal>
     ensures held { IfOk result (λ _. element_check Array.Ports (λ _. port_keys) index (view value.now) ≡ None) }
     ensures files { IfOk result (λ port. port.files ≡ port_row (members (view value.now))) }

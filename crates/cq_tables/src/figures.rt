@@ -28,6 +28,7 @@ pub struct Figures {
 }
 
 /// The figures of the table, each in its range.
+#[tactic(auto, unfolding(crate::specs::Check::first))]
 pub fn figures_in(entries: Entries) -> Result<Figures, TableRefusal>
     ensures held { IfOk result (λ _. first (checks_of (table_view entries.entry.table.now) (figure_keys entries.entry.place)) ≡ None) }
     ensures value { IfOk result (λ figures. figures ≡ figures_of (table_view entries.entry.table.now)) }

@@ -58,6 +58,7 @@ fn only_class_keys(entries: Entries, version: Version) -> Result<(), TableRefusa
 }
 
 // The level that a class states.
+#[tactic(auto, unfolding(crate::specs::Check::first))]
 fn stated_level(entries: Entries) -> Result<u8, TableRefusal>
     ensures held { IfOk result (λ _. first (checks_of (table_view entries.entry.table.now) (level_keys Version.Two entries.entry.place)) ≡ None) }
     ensures value { IfOk result (λ level. level ≡ level_in Version.Two (table_view entries.entry.table.now)) }
@@ -83,6 +84,7 @@ fn level_in(entries: Entries, version: Version) -> Result<u8, TableRefusal>
 }
 
 /// The row of a class.
+#[tactic(auto, unfolding(crate::specs::Check::first))]
 pub fn class_row(entries: Entries, version: Version) -> Result<ClassRow, TableRefusal>
     ensures held { IfOk result (λ _. first (table_checks entries.entry.place (class_keys version entries.entry.place) (table_view entries.entry.table.now)) ≡ None) }
     ensures value { IfOk result (λ row. row ≡ class_row version (table_view entries.entry.table.now)) }
@@ -112,6 +114,7 @@ pub struct PortEntry {
 }
 
 /// The files, the discipline and the limit of a port.
+#[tactic(auto, unfolding(crate::specs::Check::first, crate::specs::Document::port_keys))]
 pub fn port_entry(entries: Entries) -> Result<PortEntry, TableRefusal>
     ensures held { IfOk result (λ _. first (table_checks entries.entry.place (port_keys entries.entry.place) (table_view entries.entry.table.now)) ≡ None) }
     ensures files { IfOk result (λ port. port.files ≡ port_row (table_view entries.entry.table.now)) }

@@ -1,9 +1,9 @@
 -- `clap` splits the words of a command into the values that they are, and refuses none of them. Each form is
 -- run through `clap`'s own rule of a parse. Its first word is one of the subcommands by its text, so the rest
 -- goes to that subcommand. There each value goes to the next positional, which has no value yet.
-use Rattle.std.proofs.Common.{◌≡◌, ◌∙◌, ◌&&◌, ◌⊎◌, inl, inr, ℕ, Bool, true, false, refl, sym, ap, ap₂, subst, List, [], ◌∷◌, Option, Some, None, codes, is_some, if◌then◌else◌}
+use Rattle.std.proofs.Common.{◌≡◌, ◌∙◌, ◌&&◌, ◌⊎◌, inl, inr, ℕ, suc, fold, Bool, true, false, refl, sym, ap, ap₂, subst, List, [], ◌∷◌, Option, Some, None, codes, is_some, if◌then◌else◌}
 use Rattle.std.specs.Prelude.{option_and_then}
-use Rattle.std.specs.List.{list_all}
+use Rattle.std.specs.List.{AllByRecursion, list_all}
 use Rattle.std.specs.Str.{bytes_eq}
 use Rattle.std.proofs.lemmas.Slice.Eq.{bytes_eq-Decides}
 use Rattle.clap.specs.Walk.{Held, Rule, Text, Walk, arg_by_index, finished, first_of, nothing_held, rows_after, to_positional, value, walk, walked}
@@ -48,294 +48,170 @@ resume_rules = placed 1 (codes "CONFIG") ∷ placed 2 (codes "STATE") ∷ []
 abbrev after : List Rule → Held → ℕ → Text → Walk
 after rules held place text = to_positional rules (arg_by_index rules place) text (at held place) held
 
+-- where a walk over these values ends, which go to the positionals from a place on
+abbrev walked_to : List Rule → Walk → ℕ → List Text → Walk
+walked_to rules w place [] = w
+walked_to rules w place (v ∷ vs) = walked_to rules (after rules w.held place v) (suc place) vs
+
 -- what a level asks at its end
 abbrev end_passes : Shape → Walk → Bool
 end_passes shape end = settle_passes shape.rules shape.args_override_self end.held
     && (list_all default_passes shape.rules && is_valid shape (finished shape.rules end.held) false)
 
--- ---- one value
+-- each value goes to the place that is next, and `clap` refuses none of them
+abbrev AreTaken : Text → List Rule → Walk → ℕ → List Text → Type 0
+AreTaken word rules w place [] = Unit {0}
+AreTaken word rules w place (v ∷ vs) =
+    (w ≡ at w.held place) × (step_passes (leaf word rules) place w.held value ≡ true)
+    × AreTaken word rules (after rules w.held place v) (suc place) vs
 
-one_walked : {X : Type 0} (rules : List Rule) (v : Text) (P : Walk → X) → is_value v ≡ true
-    → P (walk rules [] nothing_held (v ∷ [])) ≡ P (after rules nothing_held 1 v)
-one_walked rules v P is = ap P (value_walked rules nothing_held 1 v is)
+-- each is a value
+abbrev AreValues : List Text → Type 0
+AreValues vs = AllByRecursion (λ v. is_value v ≡ true) vs
 
-config_found : (v : Text) → is_value v ≡ true → first_of (codes "CONFIG") (rows_after config_rules [] (v ∷ [])) ≡ Some v
-config_found v is =
-    one_walked config_rules v (λ (w : Walk). first_of (codes "CONFIG") (finished config_rules w.held)) is
+module _ (word : Text) (rules : List Rule) where
+  values_walked : (w : Walk) (place : ℕ) (vs : List Text) → AreValues vs → AreTaken word rules w place vs →
+      fold (walked rules []) w vs ≡ walked_to rules w place vs
+  values_walked w place [] are taken = refl
+  values_walked w place (v ∷ vs) are taken =
+      ap (λ (u : Walk). fold (walked rules []) u vs)
+      (ap (λ (u : Walk). walked rules [] u v) taken.0 ∙ value_walked rules w.held place v are.0)
+      ∙ values_walked (after rules w.held place v) (suc place) vs are.1 taken.2
 
-config_passes : (word v : Text) → is_value v ≡ true →
-    level_passes (leaf word config_rules) [] nothing_held (v ∷ []) false ≡ true
-unfolding walk_passes
-config_passes word v is = ap₂ ◌&&◌
-    (ap (λ (b : Bool). b && true) (value_taken (leaf word config_rules) nothing_held 1 v is))
-    (one_walked config_rules v (end_passes (leaf word config_rules)) is)
+  walk_taken : (w : Walk) (place : ℕ) (vs : List Text) → AreValues vs → AreTaken word rules w place vs →
+      walk_passes (leaf word rules) [] w vs ≡ true
+  unfolding walk_passes
+  walk_taken w place [] are taken = refl
+  walk_taken w place (v ∷ vs) are taken =
+      ap (λ (u : Walk). walk_passes (leaf word rules) [] u (v ∷ vs)) taken.0
+      ∙ ap₂ ◌&&◌ (value_taken (leaf word rules) w.held place v are.0 ∙ taken.1)
+      (ap (λ (u : Walk). walk_passes (leaf word rules) [] u vs) (value_walked rules w.held place v are.0)
+      ∙ walk_taken (after rules w.held place v) (suc place) vs are.1 taken.2)
+
+  module _ (vs : List Text) (are : AreValues vs) (taken : AreTaken word rules (at nothing_held 1) 1 vs) where
+    abbrev end : Walk
+    end = walked_to rules (at nothing_held 1) 1 vs
+
+    -- what is found under the name of a value
+    found : (name : Text) → first_of name (rows_after rules [] vs) ≡ first_of name (finished rules end.held)
+    found name = ap (λ (w : Walk). first_of name (finished rules w.held)) (values_walked (at nothing_held 1) 1 vs are taken)
+
+    passes : end_passes (leaf word rules) end ≡ true → level_passes (leaf word rules) [] nothing_held vs false ≡ true
+    passes ends = ap₂ ◌&&◌ (walk_taken (at nothing_held 1) 1 vs are taken)
+        (ap (end_passes (leaf word rules)) (values_walked (at nothing_held 1) 1 vs are taken) ∙ ends)
 
 -- the words are split into what they are, and `clap` takes them
 abbrev pub IsSplit : List Text → Type 0
 IsSplit words = (command_found (subcommand_of line words) ≡ command_for words)
     × (takes line words ≡ true)
 
-config_command : (word v : Text) → is_value v ≡ true → with_config word v ≡ command_for (word ∷ v ∷ [])
-config_command word v is = sym (ap (λ (b : Bool). if b && true then with_config word v else None) is)
+-- ---- one value
 
-config_split : (word v : Text) → is_value v ≡ true
+config_split : (word v : Text) → is_value v ≡ true → AreTaken word config_rules (at nothing_held 1) 1 (v ∷ [])
+    → end_passes (leaf word config_rules) (walked_to config_rules (at nothing_held 1) 1 (v ∷ [])) ≡ true
     → command_found (subcommand_of line (word ∷ v ∷ []))
     ≡ option_and_then (with_config word) (first_of (codes "CONFIG") (rows_after config_rules [] (v ∷ [])))
     → takes line (word ∷ v ∷ []) ≡ (level_passes (leaf word config_rules) [] nothing_held (v ∷ []) false && true)
     → IsSplit (word ∷ v ∷ [])
-config_split word v is splits asks = (
-  splits ∙ ap (option_and_then (with_config word)) (config_found v is) ∙ config_command word v is,
-  asks ∙ ap (λ (b : Bool). b && true) (config_passes word v is),
+config_split word v is taken ends splits asks = (
+  splits ∙ ap (option_and_then (with_config word)) (found word config_rules (v ∷ []) (is, tt) taken (codes "CONFIG"))
+      ∙ sym (ap (λ (b : Bool). if b && true then with_config word v else None) is),
+  asks ∙ ap (λ (b : Bool). b && true) (passes word config_rules (v ∷ []) (is, tt) taken ends),
 )
 
 check_split : (v : Text) → is_value v ≡ true → IsSplit (codes "check" ∷ v ∷ [])
 unfolding walked walk_passes
-check_split v is = config_split (codes "check") v is refl refl
+check_split v is = config_split (codes "check") v is (refl, refl, tt) refl refl refl
 
 ideal_split : (v : Text) → is_value v ≡ true → IsSplit (codes "ideal" ∷ v ∷ [])
 unfolding walked walk_passes
-ideal_split v is = config_split (codes "ideal") v is refl refl
+ideal_split v is = config_split (codes "ideal") v is (refl, refl, tt) refl refl refl
 
 run_split : (v : Text) → is_value v ≡ true → IsSplit (codes "run" ∷ v ∷ [])
 unfolding walked walk_passes
-run_split v is = config_split (codes "run") v is refl refl
+run_split v is = config_split (codes "run") v is (refl, refl, tt) refl refl refl
 
 audit_split : (v : Text) → is_value v ≡ true → IsSplit (codes "audit" ∷ v ∷ [])
 unfolding walked walk_passes
-audit_split v is = config_split (codes "audit") v is refl refl
+audit_split v is = config_split (codes "audit") v is (refl, refl, tt) refl refl refl
 
 -- ---- two values
 
--- a form of two values: each goes to the place that is next, and `clap` refuses neither
-record TakesTwo (word : Text) (rules : List Rule) (one_held : Text → Held) : Type 0 where
-  after_one : (v : Text) → after rules nothing_held 1 v ≡ at (one_held v) 2
-  takes_one : step_passes (leaf word rules) 1 nothing_held value ≡ true
-  takes_two : (v : Text) → step_passes (leaf word rules) 2 (one_held v) value ≡ true
-  ends : (v u : Text) → end_passes (leaf word rules) (after rules (one_held v) 2 u) ≡ true
-
-two_walked : {X : Type 0} (word : Text) (rules : List Rule) (one_held : Text → Held)
-    (form : TakesTwo word rules one_held)
-    (v u : Text) (P : Walk → X) → is_value v ≡ true → is_value u ≡ true
-    → P (walk rules [] nothing_held (v ∷ u ∷ [])) ≡ P (after rules (one_held v) 2 u)
-two_walked word rules one_held form v u P iv iu =
-    ap (λ (w : Walk). P (walked rules [] w u)) (value_walked rules nothing_held 1 v iv ∙ form.after_one v)
-    ∙ ap P (value_walked rules (one_held v) 2 u iu)
-
--- what is found under the name of a value
-two_value : (word : Text) (rules : List Rule) (one_held : Text → Held) (form : TakesTwo word rules one_held)
-    (v u name : Text) → is_value v ≡ true → is_value u ≡ true
-    → first_of name (rows_after rules [] (v ∷ u ∷ []))
-    ≡ first_of name (finished rules (after rules (one_held v) 2 u).held)
-two_value word rules one_held form v u name iv iu =
-    two_walked word rules one_held form v u (λ (w : Walk). first_of name (finished rules w.held)) iv iu
-
-two_passes : (word : Text) (rules : List Rule) (one_held : Text → Held) (form : TakesTwo word rules one_held)
-    (v u : Text)
-    → is_value v ≡ true → is_value u ≡ true
-    → level_passes (leaf word rules) [] nothing_held (v ∷ u ∷ []) false ≡ true
-unfolding walk_passes
-two_passes word rules one_held form v u iv iu = ap₂ ◌&&◌
-    (ap₂ ◌&&◌ (value_taken (leaf word rules) nothing_held 1 v iv ∙ form.takes_one)
-    (ap (λ (w : Walk). walk_passes (leaf word rules) [] w (u ∷ []))
-    (value_walked rules nothing_held 1 v iv ∙ form.after_one v)
-    ∙ ap (λ (b : Bool). b && true) (value_taken (leaf word rules) (one_held v) 2 u iu ∙ form.takes_two v)))
-    (two_walked word rules one_held form v u (end_passes (leaf word rules)) iv iu ∙ form.ends v u)
-
--- the command of two values
-two_command : (word v u : Text) → is_value v ≡ true → is_value u ≡ true
-    → with_two word v u ≡ command_for (word ∷ v ∷ u ∷ [])
-two_command word v u iv iu =
-    sym (ap₂ (λ (a b : Bool). if a && (b && true) then with_two word v u else None) iv iu)
-
-abbrev in_held : Text → Held
-in_held v = (after pass_rules nothing_held 1 v).held
-
-pass_takes : TakesTwo (codes "pass") pass_rules in_held
-pass_takes = record {
-  after_one = λ v. refl;
-  takes_one = refl;
-  takes_two = λ v. refl;
-  ends = λ v u. refl;
-}
-
-pass_found : (v u : Text) → is_value v ≡ true → is_value u ≡ true
-    →
-    captures_in (first_of (codes "IN") (rows_after pass_rules [] (v ∷ u ∷ [])))
-    (first_of (codes "OUT") (rows_after pass_rules [] (v ∷ u ∷ [])))
-    ≡ Some (Pass v u)
-pass_found v u iv iu = ap₂ captures_in
-    (two_value (codes "pass") pass_rules in_held pass_takes v u (codes "IN") iv iu)
-    (two_value (codes "pass") pass_rules in_held pass_takes v u (codes "OUT") iv iu)
+-- A form of two values, by the command of what is found under their names.
+two_split : (word : Text) (rules : List Rule) (first second : Text)
+    (command : Option Text → Option Text → Option Command) (v u : Text) → is_value v ≡ true → is_value u ≡ true
+    → AreTaken word rules (at nothing_held 1) 1 (v ∷ u ∷ [])
+    → end_passes (leaf word rules) (walked_to rules (at nothing_held 1) 1 (v ∷ u ∷ [])) ≡ true
+    → first_of first (finished rules (walked_to rules (at nothing_held 1) 1 (v ∷ u ∷ [])).held) ≡ Some v
+    → first_of second (finished rules (walked_to rules (at nothing_held 1) 1 (v ∷ u ∷ [])).held) ≡ Some u
+    → command (Some v) (Some u) ≡ with_two word v u
+    → command_found (subcommand_of line (word ∷ v ∷ u ∷ []))
+    ≡ command (first_of first (rows_after rules [] (v ∷ u ∷ []))) (first_of second (rows_after rules [] (v ∷ u ∷ [])))
+    → takes line (word ∷ v ∷ u ∷ []) ≡ (level_passes (leaf word rules) [] nothing_held (v ∷ u ∷ []) false && true)
+    → IsSplit (word ∷ v ∷ u ∷ [])
+two_split word rules first second command v u iv iu taken ends one two is splits asks =
+    let vs : List Text = v ∷ u ∷ [] in
+    let are : AreValues vs = (iv, iu, tt) in (
+      splits ∙ ap₂ command (found word rules vs are taken first ∙ one) (found word rules vs are taken second ∙ two) ∙ is
+          ∙ sym (ap₂ (λ (a b : Bool). if a && (b && true) then with_two word v u else None) iv iu),
+      asks ∙ ap (λ (b : Bool). b && true) (passes word rules vs are taken ends),
+    )
 
 pass_split : (v u : Text) → is_value v ≡ true → is_value u ≡ true → IsSplit (codes "pass" ∷ v ∷ u ∷ [])
 unfolding walked walk_passes
-pass_split v u iv iu = (
-  pass_found v u iv iu ∙ two_command (codes "pass") v u iv iu,
-  ap (λ (b : Bool). b && true) (two_passes (codes "pass") pass_rules in_held pass_takes v u iv iu),
-)
-
-abbrev stopped_held : Text → Held
-stopped_held v = (after resume_rules nothing_held 1 v).held
-
-resume_takes : TakesTwo (codes "resume") resume_rules stopped_held
-resume_takes = record {
-  after_one = λ v. refl;
-  takes_one = refl;
-  takes_two = λ v. refl;
-  ends = λ v u. refl;
-}
-
-resume_found : (v u : Text) → is_value v ≡ true → is_value u ≡ true
-    →
-    state_in (first_of (codes "CONFIG") (rows_after resume_rules [] (v ∷ u ∷ [])))
-    (first_of (codes "STATE") (rows_after resume_rules [] (v ∷ u ∷ [])))
-    ≡ Some (Resume v u)
-resume_found v u iv iu = ap₂ state_in
-    (two_value (codes "resume") resume_rules stopped_held resume_takes v u (codes "CONFIG") iv iu)
-    (two_value (codes "resume") resume_rules stopped_held resume_takes v u (codes "STATE") iv iu)
+pass_split v u iv iu =
+    two_split (codes "pass") pass_rules (codes "IN") (codes "OUT") captures_in v u iv iu
+    (refl, refl, refl, refl, tt) refl refl refl refl refl refl
 
 resume_split : (v u : Text) → is_value v ≡ true → is_value u ≡ true → IsSplit (codes "resume" ∷ v ∷ u ∷ [])
 unfolding walked walk_passes
-resume_split v u iv iu = (
-  resume_found v u iv iu ∙ two_command (codes "resume") v u iv iu,
-  ap (λ (b : Bool). b && true) (two_passes (codes "resume") resume_rules stopped_held resume_takes v u iv iu),
-)
+resume_split v u iv iu =
+    two_split (codes "resume") resume_rules (codes "CONFIG") (codes "STATE") state_in v u iv iu
+    (refl, refl, refl, refl, tt) refl refl refl refl refl refl
 
 -- ---- three values
 
--- a form of three values: each goes to the place that is next, and `clap` refuses none
-record TakesThree (word : Text) (rules : List Rule) (one_held : Text → Held) (two_held : Text → Text → Held) : Type 0
-  where
-    after_one : (v : Text) → after rules nothing_held 1 v ≡ at (one_held v) 2
-    after_two : (v u : Text) → after rules (one_held v) 2 u ≡ at (two_held v u) 3
-    takes_one : step_passes (leaf word rules) 1 nothing_held value ≡ true
-    takes_two : (v : Text) → step_passes (leaf word rules) 2 (one_held v) value ≡ true
-    takes_three : (v u : Text) → step_passes (leaf word rules) 3 (two_held v u) value ≡ true
-    ends : (v u t : Text) → end_passes (leaf word rules) (after rules (two_held v u) 3 t) ≡ true
-
-three_walked : {X : Type 0} (word : Text) (rules : List Rule) (one_held : Text → Held) (two_held : Text → Text → Held)
-    (form : TakesThree word rules one_held two_held) (v u t : Text) (P : Walk → X)
+-- A form of three values, by the command of what is found under their names.
+three_split : (word : Text) (rules : List Rule) (first second third : Text)
+    (command : Option Text → Option Text → Option Text → Option Command) (v u t : Text)
     → is_value v ≡ true → is_value u ≡ true → is_value t ≡ true
-    → P (walk rules [] nothing_held (v ∷ u ∷ t ∷ [])) ≡ P (after rules (two_held v u) 3 t)
-three_walked word rules one_held two_held form v u t P iv iu it =
-    ap (λ (w : Walk). P (walked rules [] (walked rules [] w u) t))
-    (value_walked rules nothing_held 1 v iv ∙ form.after_one v)
-    ∙ ap (λ (w : Walk). P (walked rules [] w t)) (value_walked rules (one_held v) 2 u iu ∙ form.after_two v u)
-    ∙ ap P (value_walked rules (two_held v u) 3 t it)
-
--- what is found under the name of a value
-three_value : (word : Text) (rules : List Rule) (one_held : Text → Held) (two_held : Text → Text → Held)
-    (form : TakesThree word rules one_held two_held) (v u t name : Text)
-    → is_value v ≡ true → is_value u ≡ true → is_value t ≡ true
-    → first_of name (rows_after rules [] (v ∷ u ∷ t ∷ []))
-    ≡ first_of name (finished rules (after rules (two_held v u) 3 t).held)
-three_value word rules one_held two_held form v u t name iv iu it =
-    three_walked word rules one_held two_held form v u t (λ (w : Walk). first_of name (finished rules w.held)) iv iu it
-
-three_passes : (word : Text) (rules : List Rule) (one_held : Text → Held) (two_held : Text → Text → Held)
-    (form : TakesThree word rules one_held two_held) (v u t : Text)
-    → is_value v ≡ true → is_value u ≡ true → is_value t ≡ true
-    → level_passes (leaf word rules) [] nothing_held (v ∷ u ∷ t ∷ []) false ≡ true
-unfolding walk_passes
-three_passes word rules one_held two_held form v u t iv iu it = ap₂ ◌&&◌
-    (ap₂ ◌&&◌ (value_taken (leaf word rules) nothing_held 1 v iv ∙ form.takes_one)
-    (ap (λ (w : Walk). walk_passes (leaf word rules) [] w (u ∷ t ∷ []))
-    (value_walked rules nothing_held 1 v iv ∙ form.after_one v)
-    ∙ ap₂ ◌&&◌ (value_taken (leaf word rules) (one_held v) 2 u iu ∙ form.takes_two v)
-    (ap (λ (w : Walk). walk_passes (leaf word rules) [] w (t ∷ []))
-    (value_walked rules (one_held v) 2 u iu ∙ form.after_two v u)
-    ∙ ap (λ (b : Bool). b && true) (value_taken (leaf word rules) (two_held v u) 3 t it ∙ form.takes_three v u))))
-    (three_walked word rules one_held two_held form v u t (end_passes (leaf word rules)) iv iu it ∙ form.ends v u t)
-
--- the command of three values
-three_command : (word v u t : Text) → is_value v ≡ true → is_value u ≡ true → is_value t ≡ true
-    → with_three word v u t ≡ command_for (word ∷ v ∷ u ∷ t ∷ [])
-three_command word v u t iv iu it =
-    sym (ap₂ (λ (a b : Bool). if a && (b && (is_value t && true)) then with_three word v u t else None) iv iu
-    ∙ ap (λ (b : Bool). if b && true then with_three word v u t else None) it)
-
-abbrev seed_held : Text → Held
-seed_held v = (after soak_rules nothing_held 1 v).held
-
-abbrev ports_held : Text → Text → Held
-ports_held v u = (after soak_rules (seed_held v) 2 u).held
-
-soak_takes : TakesThree (codes "soak") soak_rules seed_held ports_held
-soak_takes = record {
-  after_one = λ v. refl;
-  after_two = λ v u. refl;
-  takes_one = refl;
-  takes_two = λ v. refl;
-  takes_three = λ v u. refl;
-  ends = λ v u t. refl;
-}
-
-soak_value : (v u t name : Text) → is_value v ≡ true → is_value u ≡ true → is_value t ≡ true
-    →
-    first_of name (rows_after soak_rules [] (v ∷ u ∷ t ∷ []))
-    ≡ first_of name (finished soak_rules (after soak_rules (ports_held v u) 3 t).held)
-soak_value v u t name iv iu it =
-    three_value (codes "soak") soak_rules seed_held ports_held soak_takes v u t name iv iu it
-
-soak_found : (v u t : Text) → is_value v ≡ true → is_value u ≡ true → is_value t ≡ true
-    → numbers_in (first_of (codes "SEED") (rows_after soak_rules [] (v ∷ u ∷ t ∷ [])))
-    (first_of (codes "PORTS") (rows_after soak_rules [] (v ∷ u ∷ t ∷ [])))
-    (first_of (codes "SLOTS") (rows_after soak_rules [] (v ∷ u ∷ t ∷ [])))
-    ≡ numbered v u t
-soak_found v u t iv iu it =
-    ap₂ (λ (a b : Option Text). numbers_in a b (first_of (codes "SLOTS") (rows_after soak_rules [] (v ∷ u ∷ t ∷ []))))
-    (soak_value v u t (codes "SEED") iv iu it) (soak_value v u t (codes "PORTS") iv iu it)
-    ∙ ap (numbers_in (Some v) (Some u)) (soak_value v u t (codes "SLOTS") iv iu it)
+    → AreTaken word rules (at nothing_held 1) 1 (v ∷ u ∷ t ∷ [])
+    → end_passes (leaf word rules) (walked_to rules (at nothing_held 1) 1 (v ∷ u ∷ t ∷ [])) ≡ true
+    → first_of first (finished rules (walked_to rules (at nothing_held 1) 1 (v ∷ u ∷ t ∷ [])).held) ≡ Some v
+    → first_of second (finished rules (walked_to rules (at nothing_held 1) 1 (v ∷ u ∷ t ∷ [])).held) ≡ Some u
+    → first_of third (finished rules (walked_to rules (at nothing_held 1) 1 (v ∷ u ∷ t ∷ [])).held) ≡ Some t
+    → command (Some v) (Some u) (Some t) ≡ with_three word v u t
+    → command_found (subcommand_of line (word ∷ v ∷ u ∷ t ∷ []))
+    ≡ command (first_of first (rows_after rules [] (v ∷ u ∷ t ∷ [])))
+    (first_of second (rows_after rules [] (v ∷ u ∷ t ∷ []))) (first_of third (rows_after rules [] (v ∷ u ∷ t ∷ [])))
+    → takes line (word ∷ v ∷ u ∷ t ∷ [])
+    ≡ (level_passes (leaf word rules) [] nothing_held (v ∷ u ∷ t ∷ []) false && true)
+    → IsSplit (word ∷ v ∷ u ∷ t ∷ [])
+three_split word rules first second third command v u t iv iu it taken ends one two three is splits asks =
+    let vs : List Text = v ∷ u ∷ t ∷ [] in
+    let are : AreValues vs = (iv, iu, it, tt) in (
+      splits
+          ∙ ap₂ (λ (a b : Option Text). command a b (first_of third (rows_after rules [] vs)))
+          (found word rules vs are taken first ∙ one) (found word rules vs are taken second ∙ two)
+          ∙ ap (command (Some v) (Some u)) (found word rules vs are taken third ∙ three) ∙ is
+          ∙ sym (ap₂ (λ (a b : Bool). if a && (b && (is_value t && true)) then with_three word v u t else None) iv iu
+          ∙ ap (λ (b : Bool). if b && true then with_three word v u t else None) it),
+      asks ∙ ap (λ (b : Bool). b && true) (passes word rules vs are taken ends),
+    )
 
 soak_split : (v u t : Text) → is_value v ≡ true → is_value u ≡ true → is_value t ≡ true →
     IsSplit (codes "soak" ∷ v ∷ u ∷ t ∷ [])
 unfolding walked walk_passes
-soak_split v u t iv iu it = (
-  soak_found v u t iv iu it ∙ three_command (codes "soak") v u t iv iu it,
-  ap (λ (b : Bool). b && true) (three_passes (codes "soak") soak_rules seed_held ports_held soak_takes v u t iv iu it),
-)
-
-abbrev config_held : Text → Held
-config_held v = (after part_rules nothing_held 1 v).held
-
-abbrev slots_held : Text → Text → Held
-slots_held v u = (after part_rules (config_held v) 2 u).held
-
-part_takes : TakesThree (codes "part") part_rules config_held slots_held
-part_takes = record {
-  after_one = λ v. refl;
-  after_two = λ v u. refl;
-  takes_one = refl;
-  takes_two = λ v. refl;
-  takes_three = λ v u. refl;
-  ends = λ v u t. refl;
-}
-
-part_value : (v u t name : Text) → is_value v ≡ true → is_value u ≡ true → is_value t ≡ true
-    →
-    first_of name (rows_after part_rules [] (v ∷ u ∷ t ∷ []))
-    ≡ first_of name (finished part_rules (after part_rules (slots_held v u) 3 t).held)
-part_value v u t name iv iu it =
-    three_value (codes "part") part_rules config_held slots_held part_takes v u t name iv iu it
-
-part_found : (v u t : Text) → is_value v ≡ true → is_value u ≡ true → is_value t ≡ true
-    → slots_in (first_of (codes "CONFIG") (rows_after part_rules [] (v ∷ u ∷ t ∷ [])))
-    (first_of (codes "SLOTS") (rows_after part_rules [] (v ∷ u ∷ t ∷ [])))
-    (first_of (codes "STATE") (rows_after part_rules [] (v ∷ u ∷ t ∷ [])))
-    ≡ parted v u t
-part_found v u t iv iu it =
-    ap₂ (λ (a b : Option Text). slots_in a b (first_of (codes "STATE") (rows_after part_rules [] (v ∷ u ∷ t ∷ []))))
-    (part_value v u t (codes "CONFIG") iv iu it) (part_value v u t (codes "SLOTS") iv iu it)
-    ∙ ap (slots_in (Some v) (Some u)) (part_value v u t (codes "STATE") iv iu it)
+soak_split v u t iv iu it =
+    three_split (codes "soak") soak_rules (codes "SEED") (codes "PORTS") (codes "SLOTS") numbers_in v u t iv iu it
+    (refl, refl, refl, refl, refl, refl, tt) refl refl refl refl refl refl refl
 
 part_split : (v u t : Text) → is_value v ≡ true → is_value u ≡ true → is_value t ≡ true →
     IsSplit (codes "part" ∷ v ∷ u ∷ t ∷ [])
 unfolding walked walk_passes
-part_split v u t iv iu it = (
-  part_found v u t iv iu it ∙ three_command (codes "part") v u t iv iu it,
-  ap (λ (b : Bool). b && true) (three_passes (codes "part") part_rules config_held slots_held part_takes v u t iv iu
-      it),
-)
+part_split v u t iv iu it =
+    three_split (codes "part") part_rules (codes "CONFIG") (codes "SLOTS") (codes "STATE") slots_in v u t iv iu it
+    (refl, refl, refl, refl, refl, refl, tt) refl refl refl refl refl refl refl
 
 -- ---- all words that are a command
 
