@@ -151,7 +151,7 @@ two_split : (word : Text) (rules : List Rule) (first second : Text)
     → IsSplit (word ∷ v ∷ u ∷ [])
 two_split word rules first second command v u iv iu taken ends one two is splits asks =
     let vs : List Text = v ∷ u ∷ [] in
-    let are : AreValues vs = (iv, iu, tt) in (
+    let are : AreValues vs = (iv, (iu, tt)) in (
       splits ∙ ap₂ command (found word rules vs are taken first ∙ one) (found word rules vs are taken second ∙ two) ∙ is
           ∙ sym (ap₂ (λ (a b : Bool). if a && (b && true) then with_two word v u else None) iv iu),
       asks ∙ ap (λ (b : Bool). b && true) (passes word rules vs are taken ends),
@@ -161,13 +161,13 @@ pass_split : (v u : Text) → is_value v ≡ true → is_value u ≡ true → Is
 unfolding walked walk_passes
 pass_split v u iv iu =
     two_split (codes "pass") pass_rules (codes "IN") (codes "OUT") captures_in v u iv iu
-    (refl, refl, refl, refl, tt) refl refl refl refl refl refl
+    (refl, refl, (refl, refl, tt)) refl refl refl refl refl refl
 
 resume_split : (v u : Text) → is_value v ≡ true → is_value u ≡ true → IsSplit (codes "resume" ∷ v ∷ u ∷ [])
 unfolding walked walk_passes
 resume_split v u iv iu =
     two_split (codes "resume") resume_rules (codes "CONFIG") (codes "STATE") state_in v u iv iu
-    (refl, refl, refl, refl, tt) refl refl refl refl refl refl
+    (refl, refl, (refl, refl, tt)) refl refl refl refl refl refl
 
 -- ---- three values
 
@@ -189,7 +189,7 @@ three_split : (word : Text) (rules : List Rule) (first second third : Text)
     → IsSplit (word ∷ v ∷ u ∷ t ∷ [])
 three_split word rules first second third command v u t iv iu it taken ends one two three is splits asks =
     let vs : List Text = v ∷ u ∷ t ∷ [] in
-    let are : AreValues vs = (iv, iu, it, tt) in (
+    let are : AreValues vs = (iv, (iu, (it, tt))) in (
       splits
           ∙ ap₂ (λ (a b : Option Text). command a b (first_of third (rows_after rules [] vs)))
           (found word rules vs are taken first ∙ one) (found word rules vs are taken second ∙ two)
@@ -204,14 +204,14 @@ soak_split : (v u t : Text) → is_value v ≡ true → is_value u ≡ true → 
 unfolding walked walk_passes
 soak_split v u t iv iu it =
     three_split (codes "soak") soak_rules (codes "SEED") (codes "PORTS") (codes "SLOTS") numbers_in v u t iv iu it
-    (refl, refl, refl, refl, refl, refl, tt) refl refl refl refl refl refl refl
+    (refl, refl, (refl, refl, (refl, refl, tt))) refl refl refl refl refl refl refl
 
 part_split : (v u t : Text) → is_value v ≡ true → is_value u ≡ true → is_value t ≡ true →
     IsSplit (codes "part" ∷ v ∷ u ∷ t ∷ [])
 unfolding walked walk_passes
 part_split v u t iv iu it =
     three_split (codes "part") part_rules (codes "CONFIG") (codes "SLOTS") (codes "STATE") slots_in v u t iv iu it
-    (refl, refl, refl, refl, refl, refl, tt) refl refl refl refl refl refl refl
+    (refl, refl, (refl, refl, (refl, refl, tt))) refl refl refl refl refl refl refl
 
 -- ---- all words that are a command
 
