@@ -135,6 +135,7 @@ fn put_cell(
 
 // Writes a number from a place on and a blank behind it, and answers the place behind that. What stands before stays.
 #[inline(always)]
+#[tactic(auto, using(crate::proofs::Hundreds::few_digits, crate::proofs::Hundreds::some_digit))]
 fn put_number(bytes: &mut [u8; SHEET], at: usize, numerals: &Numerals, number: u64) -> usize
     requires { at + 25 ≤ 4096 }
     ensures text { take result bytes.new ≡ take at bytes.old ++ (decimal number ++ 32 ∷ []) }
@@ -162,6 +163,7 @@ fn put_large(bytes: &mut [u8; SHEET], at: usize, numerals: &Numerals, number: u6
 
 // The same for the first number of a line, which is seldom below a thousand.
 #[inline(always)]
+#[tactic(auto, using(crate::proofs::Hundreds::few_digits, crate::proofs::Hundreds::some_digit))]
 fn put_first(bytes: &mut [u8; SHEET], at: usize, numerals: &Numerals, number: u64) -> usize
     requires { at + 25 ≤ 4096 }
     ensures text { take result bytes.new ≡ take at bytes.old ++ (decimal number ++ 32 ∷ []) }

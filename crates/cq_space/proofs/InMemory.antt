@@ -6,7 +6,7 @@ use Rattle.std.proofs.lemmas.List.{length-append, length-map, get_or-map, with_i
 use Rattle.std.specs.Prelude.{Option, None, Some, Vec, is_some, IfSome, IsSomeAnd}
 use Rattle.std.specs.declared.alloc.Global.{Global}
 use Rattle.std.specs.Vec.{with_items}
-use Rattle.std.specs.List.{position_or_len}
+use Rattle.std.specs.List.{position, position_or_len}
 use Rattle.std.specs.Option.{option_map}
 use Rattle.std.specs.FinMap.{get, insert}
 use Rattle.cq_space.specs.declared.entries.Entry.{Entry}
@@ -14,11 +14,11 @@ use Rattle.cq_space.specs.declared.entries.State.{State}
 use Rattle.cq_space.specs.declared.entries.State.TheVariants as state
 use Rattle.cq_space.specs.Calls.{Calls, IsShort, one_more}
 use Rattle.cq_space.specs.Cut.{StaysBefore}
-use Rattle.cq_space.specs.MemSpace.{MemSpace, told_space, cut_at, moved_at}
+use Rattle.cq_space.specs.MemSpace.{Cuts, MemSpace, told_space, cut_at, moved_at}
 use Rattle.cq_space.specs.Space.{Mode, Closed, Reading, IsReading, Space, read_name, BeginsReading, TakesNext, ReadsOn, Appends, bytes_of}
 use Rattle.cq_space.specs.Entries.{same_name, Columns, columns_of, contents_of, read_cuts_of, write_cuts_of, by_name, IsEntryOf, name_at, told_at, bytes_at, mode_of, IsInPlace, with_bytes, with_read_cut, with_write_cut, SaysTheSame}
 use Rattle.cq_space.proofs.ByName.{get-by_name, value_of-first, value_of-none, by_name-set}
-use Rattle.cq_space.proofs.Columns.{AreEven, are_even, told_at-is}
+use Rattle.cq_space.proofs.Columns.{AreEven, are_even, finds, told_at-is}
 
 -- the meaning of columns, with what is open and the counts
 abbrev pub space : Columns → State → ℕ → ℕ → Calls → MemSpace
@@ -58,6 +58,15 @@ pub told_first : (es : List Entry) (i : ℕ) (name : List ℕ) (e : Entry) → I
     e ≡ get_or es i e → get (contents_of (columns_of es)) name ≡ option_map (λ v. v.items) e.bytes
 told_first es i name e is at = value_first (λ (f : Entry). option_map (λ v. v.items) f.bytes) es i name e is at
 
+-- the bytes of the entry that was found are those of the name
+pub told_found : (es found : List Entry) (s : State) (faults starved : ℕ) (calls : Calls) (m : MemSpace) (name : List ℕ)
+    (i : ℕ) (e : Entry) → space (columns_of es) s faults starved calls ≡ m → found ≡ es →
+    Some i ≡ position (λ e. same_name name (string_bytes e.name)) found → e ≡ get_or es i e →
+    get m.contents name ≡ option_map (λ v. v.items) e.bytes
+told_found es found s faults starved calls m name i e view lent answer at =
+    ap (λ (m : MemSpace). get m.contents name) (sym view)
+    ∙ told_first es i name e (finds es found name i lent answer) at
+
 pub told_none : (es : List Entry) (name : List ℕ) →
     length (columns_of es).names ≤ position_or_len (same_name name) (columns_of es).names →
     get (contents_of (columns_of es)) name ≡ None
@@ -85,57 +94,56 @@ closed_still c d state.Shut closed = refl
 closed_still c d (state.Reads at place) closed = absurd (let P : ⊥ = cc in P)
 closed_still c d (state.Writes at) closed = absurd (let P : ⊥ = cc in P)
 
-pub sets : (old mid new : Columns) (s : State) (faults starved : ℕ) (calls : Calls) (i : ℕ) (name bytes : List ℕ) →
-    SaysTheSame old mid → AreEven mid → IsEntryOf mid.names i name → mode_of old s ≡ Closed →
-    new ≡ with_bytes mid i bytes
-    →
-    space new s faults starved calls
-    ≡ record (space old s faults starved calls) { contents = insert (contents_of old) name bytes }
-sets old mid new s faults starved calls i name bytes same even is closed changed = λ j. record {
-  mode = closed_still old new s closed j;
-  contents = gives_bytes old mid new i name bytes same even is changed j;
-  read_cuts = (ap read_cuts_of changed ∙ same.read_cuts) j;
-  write_cuts = (ap write_cuts_of changed ∙ same.write_cuts) j;
-  faults = faults;
-  starved = starved;
-  calls = calls;
+-- the meaning of columns, by its parts
+seen_as : (new : Columns) (s : State) (v : MemSpace) → mode_of new s ≡ v.mode → contents_of new ≡ v.contents →
+    read_cuts_of new ≡ v.read_cuts → write_cuts_of new ≡ v.write_cuts →
+    space new s v.faults v.starved v.calls ≡ v
+seen_as new s v mode contents reads writes = λ j. record {
+  mode = mode j;
+  contents = contents j;
+  read_cuts = reads j;
+  write_cuts = writes j;
+  faults = v.faults;
+  starved = v.starved;
+  calls = v.calls;
 }
 
-pub cuts_reading : (old mid new : Columns) (s : State) (faults starved : ℕ) (calls : Calls) (i : ℕ) (name : List ℕ)
-    (after : ℕ) → SaysTheSame old mid → AreEven mid → IsEntryOf mid.names i name → IsInPlace old s →
-    new ≡ with_read_cut mid i after
-    →
-    space new s faults starved calls
-    ≡ record (space old s faults starved calls) { read_cuts = insert (read_cuts_of old) name after }
-cuts_reading old mid new s faults starved calls i name after same even is sound changed = λ j. record {
-  mode = (ap (λ (c : Columns). mode_of c s) changed ∙ same.mode s sound) j;
-  contents = (ap contents_of changed ∙ same.contents) j;
-  read_cuts =
-      (ap read_cuts_of changed ∙ by_name-at mid.names mid.read_cuts i name after is even.read_cuts
-      ∙ ap (λ m. insert m name after) same.read_cuts) j;
-  write_cuts = (ap write_cuts_of changed ∙ same.write_cuts) j;
-  faults = faults;
-  starved = starved;
-  calls = calls;
-}
+module _ (old mid new : Columns) (s : State) (faults starved : ℕ) (calls : Calls) (i : ℕ) (name : List ℕ)
+    (same : SaysTheSame old mid) (even : AreEven mid) (is : IsEntryOf mid.names i name) where
+  abbrev was : MemSpace
+  was = space old s faults starved calls
 
-pub cuts_writing : (old mid new : Columns) (s : State) (faults starved : ℕ) (calls : Calls) (i : ℕ) (name : List ℕ)
-    (after : ℕ) → SaysTheSame old mid → AreEven mid → IsEntryOf mid.names i name → IsInPlace old s →
-    new ≡ with_write_cut mid i after
-    →
-    space new s faults starved calls
-    ≡ record (space old s faults starved calls) { write_cuts = insert (write_cuts_of old) name after }
-cuts_writing old mid new s faults starved calls i name after same even is sound changed = λ j. record {
-  mode = (ap (λ (c : Columns). mode_of c s) changed ∙ same.mode s sound) j;
-  contents = (ap contents_of changed ∙ same.contents) j;
-  read_cuts = (ap read_cuts_of changed ∙ same.read_cuts) j;
-  write_cuts =
-      (ap write_cuts_of changed ∙ by_name-at mid.names mid.write_cuts i name after is even.write_cuts
-      ∙ ap (λ m. insert m name after) same.write_cuts) j;
-  faults = faults;
-  starved = starved;
-  calls = calls;
-}
+  pub sets : (bytes : List ℕ) → mode_of old s ≡ Closed → new ≡ with_bytes mid i bytes →
+      space new s faults starved calls ≡ record was { contents = insert was.contents name bytes }
+  sets bytes closed changed =
+      seen_as new s (record was { contents = insert was.contents name bytes }) (closed_still old new s closed)
+      (gives_bytes old mid new i name bytes same even is changed) (ap read_cuts_of changed ∙ same.read_cuts)
+      (ap write_cuts_of changed ∙ same.write_cuts)
+
+  -- what is open, and the contents, where no name and no bytes changed
+  module _ (cut : Columns) (sound : IsInPlace old s) (changed : new ≡ cut) (mode : mode_of cut s ≡ mode_of mid s)
+      (contents : contents_of cut ≡ contents_of mid) where
+    cuts : (reads writes : Cuts) → read_cuts_of cut ≡ reads → write_cuts_of cut ≡ writes →
+        space new s faults starved calls ≡ record was { read_cuts = reads; write_cuts = writes }
+    cuts reads writes r w =
+        seen_as new s (record was { read_cuts = reads; write_cuts = writes })
+        (ap (λ (c : Columns). mode_of c s) changed ∙ mode ∙ same.mode s sound)
+        (ap contents_of changed ∙ contents ∙ same.contents) (ap read_cuts_of changed ∙ r)
+        (ap write_cuts_of changed ∙ w)
+
+  pub cuts_reading : (after : ℕ) → IsInPlace old s → new ≡ with_read_cut mid i after →
+      space new s faults starved calls ≡ record was { read_cuts = insert was.read_cuts name after }
+  cuts_reading after sound changed =
+      cuts (with_read_cut mid i after) sound changed refl refl (insert was.read_cuts name after) was.write_cuts
+      (by_name-at mid.names mid.read_cuts i name after is even.read_cuts
+      ∙ ap (λ m. insert m name after) same.read_cuts) same.write_cuts
+
+  pub cuts_writing : (after : ℕ) → IsInPlace old s → new ≡ with_write_cut mid i after →
+      space new s faults starved calls ≡ record was { write_cuts = insert was.write_cuts name after }
+  cuts_writing after sound changed =
+      cuts (with_write_cut mid i after) sound changed refl refl was.read_cuts (insert was.write_cuts name after)
+      same.read_cuts (by_name-at mid.names mid.write_cuts i name after is even.write_cuts
+      ∙ ap (λ m. insert m name after) same.write_cuts)
 
 -- a start of reading
 

@@ -3,26 +3,20 @@ use Rattle.std.specs.Prelude.{Some}
 use Rattle.std.specs.Option.{option_map}
 use Rattle.std.specs.FinMap.{get}
 use Rattle.cq_space.specs.MemSpace.{MemSpace}
-use Rattle.cq_space.proofs.Columns.{finds, finds_none}
-use Rattle.cq_space.proofs.InMemory.{told_first, told_none}
+use Rattle.cq_space.proofs.Columns.{finds_none}
+use Rattle.cq_space.proofs.InMemory.{told_found, told_none}
 use Rattle.cq_space.proofs.mem_files.MemFiles.bytes.Goals as goal
 
 pub returns-in-Some-bytes : goal.returns-in-Some-bytes
 returns-in-Some-bytes c =
-    let is =
-    finds c.self.inside.entries.items c.deref.result.now c.args.name.now c.in-Some.at c.deref.ensures.value
-    c.in-Some.ensures in
-    ap (λ (m : MemSpace). get m.contents c.args.name.now) (sym c.self.view_is)
-    ∙ told_first c.self.inside.entries.items c.in-Some.at c.args.name.now c.index.result.now is c.index.ensures
+    told_found c.self.inside.entries.items c.deref.result.now _ _ _ _ c.args.self.now c.args.name.now c.in-Some.at
+    c.index.result.now c.self.view_is c.deref.ensures.value c.in-Some.ensures c.index.ensures
     ∙ ap (option_map (λ v. v.items)) c.in-Some-bytes.is ∙ ap Some (sym c.as_slice.ensures.value)
 
 pub returns-in-None-bytes : goal.returns-in-None-bytes
 returns-in-None-bytes c =
-    let is =
-    finds c.self.inside.entries.items c.deref.result.now c.args.name.now c.in-Some.at c.deref.ensures.value
-    c.in-Some.ensures in
-    ap (λ (m : MemSpace). get m.contents c.args.name.now) (sym c.self.view_is)
-    ∙ told_first c.self.inside.entries.items c.in-Some.at c.args.name.now c.index.result.now is c.index.ensures
+    told_found c.self.inside.entries.items c.deref.result.now _ _ _ _ c.args.self.now c.args.name.now c.in-Some.at
+    c.index.result.now c.self.view_is c.deref.ensures.value c.in-Some.ensures c.index.ensures
     ∙ ap (option_map (λ v. v.items)) c.in-None-bytes.is
 
 pub returns-in-None : goal.returns-in-None

@@ -14,6 +14,6 @@ returns-clause-ok c =
     (λ (k : Columns). with_read_cut k c.in_ok-at.at c.args.after) c.deref_mut.ensures.value
     c.cut_reading.auto.entries c.cut_reading.ensures in
     cuts_reading (columns_of c.self.inside.entries.items) (columns_of mid.items) _ c.self.inside.state
-    c.self.inside.faults c.self.inside.starved c.self.inside.calls c.in_ok-at.at c.args.name.now c.args.after
-    c.in_ok-at.ensures.same (are_even mid.items) c.in_ok-at.ensures.ok c.self.invariant changed
+    c.self.inside.faults c.self.inside.starved c.self.inside.calls c.in_ok-at.at c.args.name.now
+    c.in_ok-at.ensures.same (are_even mid.items) c.in_ok-at.ensures.ok c.args.after c.self.invariant changed
     ∙ ap (λ (m : MemSpace). record m { read_cuts = insert m.read_cuts c.args.name.now c.args.after }) c.self.view_is

@@ -16,8 +16,8 @@ returns-clause-ok c =
     let copied : c.in_ok-bytes.bytes.items ≡ c.args.bytes.now = search rules in
     let closed = ap (λ (m : MemSpace). m.mode) c.self.view_is ∙ c.requires in
     sets (columns_of c.self.inside.entries.items) (columns_of mid.items) _ c.self.inside.state c.self.inside.faults
-    c.self.inside.starved c.self.inside.calls c.in_ok-at.at c.args.name.now c.in_ok-bytes.bytes.items
-    c.in_ok-at.ensures.same (are_even mid.items) c.in_ok-at.ensures.ok closed changed
+    c.self.inside.starved c.self.inside.calls c.in_ok-at.at c.args.name.now c.in_ok-at.ensures.same
+    (are_even mid.items) c.in_ok-at.ensures.ok c.in_ok-bytes.bytes.items closed changed
     ∙ ap (λ (m : MemSpace). record m { contents = insert m.contents c.args.name.now c.in_ok-bytes.bytes.items })
     c.self.view_is
     ∙ ap (λ (bs : List ℕ). record c.args.self.now { contents = insert c.args.self.now.contents c.args.name.now bs })
