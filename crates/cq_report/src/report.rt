@@ -41,6 +41,7 @@ pub fn report_text(
     Ok(text)
 }
 
+#[tactic(auto, using(std::proofs::Common::append_assoc), unfolding(crate::specs::Report::run_lines))]
 fn put_run(text: &mut Vec<u8>, figures: &Figures) -> Result<(), NoMemory>
     ensures { OnOk result (text.new.items ≡ text.old.items ++ run_lines figures.now) }
 {
@@ -58,6 +59,7 @@ fn put_inputs(text: &mut Vec<u8>, inputs: &[InputFigures]) -> Result<(), NoMemor
     Ok(())
 }
 
+#[tactic(auto, using(std::proofs::Common::append_assoc), unfolding(crate::specs::Report::input_line))]
 fn put_input(text: &mut Vec<u8>, number: u64, input: &InputFigures) -> Result<(), NoMemory>
     ensures { OnOk result (text.new.items ≡ text.old.items ++ input_line number input.now) }
 {
@@ -77,6 +79,7 @@ fn put_outputs(text: &mut Vec<u8>, slots: u64, outputs: &[OutputFigures]) -> Res
     Ok(())
 }
 
+#[tactic(auto, using(std::proofs::Common::append_assoc), unfolding(crate::specs::Report::output_line))]
 fn put_output(
     text: &mut Vec<u8>,
     slots: u64,
@@ -92,6 +95,7 @@ fn put_output(
     put_named(text, b"wait", output.wait, b'\n')
 }
 
+#[tactic(auto, using(crate::proofs::OneMore::one_line_more))]
 fn put_limits(text: &mut Vec<u8>, refused: &[Refused]) -> Result<(), NoMemory>
     ensures { OnOk result (text.new.items ≡ text.old.items ++ flat_map limit_line refused.now) }
 {
@@ -101,6 +105,7 @@ fn put_limits(text: &mut Vec<u8>, refused: &[Refused]) -> Result<(), NoMemory>
     Ok(())
 }
 
+#[tactic(auto, using(std::proofs::Common::append_assoc), unfolding(crate::specs::Report::limit_line))]
 fn put_limit(text: &mut Vec<u8>, count: Refused) -> Result<(), NoMemory>
     ensures { OnOk result (text.new.items ≡ text.old.items ++ limit_line count) }
 {

@@ -200,6 +200,7 @@ fn put_short(bytes: &mut [u8; SHEET], at: usize, numerals: &Numerals, number: u6
 
 // The hundreds, which have a numeral, and then the last two digits.
 #[inline(always)]
+#[tactic(auto, using(crate::proofs::Hundreds::two_longer))]
 fn put_middle(bytes: &mut [u8; SHEET], at: usize, numerals: &Numerals, number: u64) -> usize
     requires more { 100 ≤ number }
     requires few { number < 100000 }
@@ -213,6 +214,7 @@ fn put_middle(bytes: &mut [u8; SHEET], at: usize, numerals: &Numerals, number: u
 }
 
 // The same for any number, by its hundreds and their hundreds.
+#[tactic(auto, using(crate::proofs::Hundreds::two_longer))]
 fn put_long(bytes: &mut [u8; SHEET], at: usize, numerals: &Numerals, number: u64) -> usize
     requires room { at + length (decimal number) + 4 ≤ 4096 }
     ensures text { take result bytes.new ≡ take at bytes.old ++ (decimal number ++ 32 ∷ []) }

@@ -2,18 +2,6 @@ use Rattle.std.proofs.Common.{◌≤◌, take, arith}
 use Rattle.cq_report.proofs.Hundreds.{two_digits_behind, two_longer}
 use Rattle.cq_report.proofs.sheet.+put_long.Goals as goal
 
-pub put_long-behind-requires : goal.put_long-behind-requires
-put_long-behind-requires t c =
-    let more : 100 ≤ c.args.number = omega (arith, c.if-number-lt1000.false) in
-    let longer = two_longer c.args.number more in
-    (omega (arith, c.decreases, c.if-number-lt1000.false), omega (arith, longer, c.requires))
-
-pub put_pair-requires-clause-room : goal.put_pair-requires-clause-room
-put_pair-requires-clause-room t c =
-    let more : 100 ≤ c.args.number = omega (arith, c.if-number-lt1000.false) in
-    let longer = two_longer c.args.number more in
-    omega (arith, longer, c.requires, c.put_long-behind.ensures.end)
-
 pub returns-clause-text : goal.returns-clause-text
 returns-clause-text t c =
     let more : 100 ≤ c.args.number = omega (arith, c.if-number-lt1000.false) in
@@ -22,9 +10,3 @@ returns-clause-text t c =
     c.put_long-behind.new.bytes
     _ more (omega (arith, longer, c.requires, c.put_long-behind.ensures.end, c.put_long-behind.ensures.long))
     c.put_long-behind.ensures.text c.put_pair.ensures.text
-
-pub returns-clause-end : goal.returns-clause-end
-returns-clause-end t c =
-    let more : 100 ≤ c.args.number = omega (arith, c.if-number-lt1000.false) in
-    let longer = two_longer c.args.number more in
-    omega (arith, longer, c.put_long-behind.ensures.end, c.put_pair.ensures.end)

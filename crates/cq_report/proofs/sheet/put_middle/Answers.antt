@@ -2,15 +2,6 @@ use Rattle.std.proofs.Common.{take, arith}
 use Rattle.cq_report.proofs.Hundreds.{two_digits_behind, two_longer}
 use Rattle.cq_report.proofs.sheet.put_middle.Goals as goal
 
-pub put_short-behind-requires-clause-room : goal.put_short-behind-requires-clause-room
-put_short-behind-requires-clause-room c =
-    let longer = two_longer c.args.number c.requires.more in omega (arith, longer, c.requires.room)
-
-pub put_pair-requires-clause-room : goal.put_pair-requires-clause-room
-put_pair-requires-clause-room c =
-    let longer = two_longer c.args.number c.requires.more in
-    omega (arith, longer, c.requires.room, c.put_short-behind.ensures.end)
-
 pub returns-clause-text : goal.returns-clause-text
 returns-clause-text c =
     let longer = two_longer c.args.number c.requires.more in
@@ -19,8 +10,3 @@ returns-clause-text c =
     _ c.requires.more
     (omega (arith, longer, c.requires.room, c.put_short-behind.ensures.end, c.put_short-behind.ensures.long))
     c.put_short-behind.ensures.text c.put_pair.ensures.text
-
-pub returns-clause-end : goal.returns-clause-end
-returns-clause-end c =
-    let longer = two_longer c.args.number c.requires.more in
-    omega (arith, longer, c.put_short-behind.ensures.end, c.put_pair.ensures.end)
