@@ -233,75 +233,62 @@ const BURST: [&str; 9] = [
 
 #[test]
 fn a_report_tells_what_was_refused_at_outputs_with_limits(rt: HostRuntime) -> Result<(), Fail> {
-    let at_zero = Refused {
-        output: 0,
-        limit: 1,
-        packets: 2,
-        cells: 3,
-    };
-    let at_one = Refused {
-        output: 1,
-        limit: 100,
-        packets: 0,
-        cells: 0,
-    };
+    let refused = [(0, 1, 2, 3), (1, 100, 0, 0)].map(|row: (u16, u64, u64, u64)| Refused {
+        output: row.0,
+        limit: row.1,
+        packets: row.2,
+        cells: row.3,
+    });
     has_lines(
         &rt,
         rt.alloc(),
         (3, 3, 1),
         &[(2, 1, Some(0)), (1, 1, Some(0))],
         &[(3, Some(0)), (0, None)],
-        &[at_zero, at_one],
+        &refused,
         &BURST,
     )
 }
 
+// What is told of a run, with the lines of its report.
+type Told = (
+    (u64, u64, u64),
+    &'static [(u64, u64, Option<u64>)],
+    &'static [(u64, Option<u64>)],
+    &'static [&'static str],
+);
+
 #[test]
 fn a_report_has_the_figures_behind_their_names(rt: HostRuntime) -> Result<(), Fail> {
-    has_lines(
-        &rt,
-        rt.alloc(),
-        (0, 0, 0),
-        &[(0, 0, None)],
-        &[(0, None)],
-        &[],
-        &NOTHING_CAME,
-    )?;
-    has_lines(
-        &rt,
-        rt.alloc(),
-        (2, 3, 2),
-        &[(1, 1, Some(0)), (1, 1, Some(0))],
-        &[(2, Some(1)), (0, None)],
-        &[],
-        &CONTENTION,
-    )?;
-    has_lines(
-        &rt,
-        rt.alloc(),
-        (3, 4, 2),
-        &[(2, 1, Some(0)), (1, 1, Some(0))],
-        &[(3, Some(1)), (0, None)],
-        &[],
-        &FAIR,
-    )?;
-    has_lines(
-        &rt,
-        rt.alloc(),
-        (3, 7, 3),
-        &[(1, 1, Some(0)), (1, 1, Some(0)), (2, 2, Some(0))],
-        &[(3, Some(2)), (1, Some(0)), (0, None)],
-        &[],
-        &GOES_AHEAD,
-    )?;
-    has_lines(
-        &rt,
-        rt.alloc(),
-        (7, 14, 2),
-        &[(4, 1, Some(0)), (6, 1, Some(0)), (0, 0, None), (0, 0, None)],
-        &[(1, Some(0)), (7, Some(3)), (2, Some(1)), (0, None)],
-        &[],
-        &OFFICE,
-    )?;
+    let cases: [Told; 5] = [
+        ((0, 0, 0), &[(0, 0, None)], &[(0, None)], &NOTHING_CAME),
+        (
+            (2, 3, 2),
+            &[(1, 1, Some(0)), (1, 1, Some(0))],
+            &[(2, Some(1)), (0, None)],
+            &CONTENTION,
+        ),
+        (
+            (3, 4, 2),
+            &[(2, 1, Some(0)), (1, 1, Some(0))],
+            &[(3, Some(1)), (0, None)],
+            &FAIR,
+        ),
+        (
+            (3, 7, 3),
+            &[(1, 1, Some(0)), (1, 1, Some(0)), (2, 2, Some(0))],
+            &[(3, Some(2)), (1, Some(0)), (0, None)],
+            &GOES_AHEAD,
+        ),
+        (
+            (7, 14, 2),
+            &[(4, 1, Some(0)), (6, 1, Some(0)), (0, 0, None), (0, 0, None)],
+            &[(1, Some(0)), (7, Some(3)), (2, Some(1)), (0, None)],
+            &OFFICE,
+        ),
+    ];
+    for (run, inputs, outputs, lines) in cases {
+        has_lines(&rt, rt.alloc(), run, inputs, outputs, &[], lines)?;
+    }
     Ok(())
 }

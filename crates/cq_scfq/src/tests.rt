@@ -1,8 +1,21 @@
 //! Worked ranks, and the calls that want memory, with ample memory.
+ghost use Rattle.std.specs.Prelude.{◌≡◌};
+
 use crate::{Discipline, Fair};
 use cq_base::{ClassRow, Kind, Sequence, Setup};
 use cq_rank::Rank;
 use std::test::Fail;
+
+// A class of the level, which costs so much.
+fn class(level: u8, cost: u128) -> ClassRow
+    ensures { result ≡ record { level = level; priority = 0; cost = cost } }
+{
+    ClassRow {
+        level,
+        priority: 0,
+        cost,
+    }
+}
 
 // The rank of a cell of the class, or None where it does not fit or there is no such class.
 fn rank_of<R: Rank>(machine: &mut R, class: u16) -> Option<u128> {
@@ -15,18 +28,7 @@ fn rank_of<R: Rank>(machine: &mut R, class: u16) -> Option<u128> {
 
 #[test]
 fn a_cell_is_ranked_behind_its_class_and_the_virtual_time(rt: HostRuntime) -> Result<(), Fail> {
-    let classes = [
-        ClassRow {
-            level: 0,
-            priority: 0,
-            cost: 1,
-        },
-        ClassRow {
-            level: 0,
-            priority: 0,
-            cost: 2,
-        },
-    ];
+    let classes = [class(0, 1), class(0, 2)];
     let mut fair = Fair::new(rt.alloc(), &classes)?;
     assert_eq!(rt; rank_of(&mut fair, 0), Some(1));
     assert_eq!(rt; rank_of(&mut fair, 1), Some(2));
@@ -42,18 +44,7 @@ fn a_cell_is_ranked_behind_its_class_and_the_virtual_time(rt: HostRuntime) -> Re
 
 #[test]
 fn each_level_has_its_own_virtual_time(rt: HostRuntime) -> Result<(), Fail> {
-    let classes = [
-        ClassRow {
-            level: 1,
-            priority: 0,
-            cost: 5,
-        },
-        ClassRow {
-            level: 0,
-            priority: 0,
-            cost: 100,
-        },
-    ];
+    let classes = [class(1, 5), class(0, 100)];
     let mut fair = Fair::new(rt.alloc(), &classes)?;
     assert_eq!(rt; rank_of(&mut fair, 1), Some(100));
     fair.sent(0, 100);
@@ -65,11 +56,7 @@ fn each_level_has_its_own_virtual_time(rt: HostRuntime) -> Result<(), Fail> {
 
 #[test]
 fn a_rank_does_not_fit_until_the_output_was_idle(rt: HostRuntime) -> Result<(), Fail> {
-    let classes = [ClassRow {
-        level: 0,
-        priority: 0,
-        cost: u128::MAX,
-    }];
+    let classes = [class(0, u128::MAX)];
     let mut fair = Fair::new(rt.alloc(), &classes)?;
     assert_eq!(rt; rank_of(&mut fair, 0), Some(u128::MAX));
     fair.sent(0, u128::MAX);
@@ -121,18 +108,7 @@ fn copied<R: Rank, S: Rank>(from: &R, to: &mut S) {
 
 #[test]
 fn a_machine_goes_on_from_the_numbers_of_another(rt: HostRuntime) -> Result<(), Fail> {
-    let classes = [
-        ClassRow {
-            level: 1,
-            priority: 0,
-            cost: 3,
-        },
-        ClassRow {
-            level: 0,
-            priority: 0,
-            cost: 5,
-        },
-    ];
+    let classes = [class(1, 3), class(0, 5)];
     let mut first = Fair::new(rt.alloc(), &classes)?;
     assert_eq!(rt; first.width(), 18);
     assert_eq!(rt; rank_of(&mut first, 1), Some(5));
