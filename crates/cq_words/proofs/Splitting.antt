@@ -6,7 +6,7 @@ use Rattle.std.specs.Prelude.{option_and_then}
 use Rattle.std.specs.List.{AllByRecursion, list_all}
 use Rattle.std.specs.Str.{bytes_eq}
 use Rattle.std.proofs.lemmas.Slice.Eq.{bytes_eq-Decides}
-use Rattle.clap.specs.Walk.{Held, Rule, Text, Walk, arg_by_index, finished, first_of, nothing_held, rows_after, to_positional, value, walk, walked}
+use Rattle.clap.specs.Walk.{Held, Rule, Text, Walk, arg_by_index, finished, first_of, nothing_held, rows_after, to_positional, value, walked}
 use Rattle.clap.specs.Simple.{Shape, filled, new_shape, subcommand_of, with_index}
 use Rattle.clap.specs.Takes.{default_passes, is_valid, level_passes, settle_passes, step_passes, takes, walk_passes}
 use Rattle.cq_words.specs.Words.{command_for, is_value, numbered, parted, with_config, with_three, with_two}

@@ -22,32 +22,37 @@ bare_line = on_top (λ top. record top {
   disable_help_subcommand = true;
 }) (new_app (codes "cq_switch"))
 
+-- a word, and one value that the words must give
+abbrev pub one_form : List ℕ → List ℕ → App
+one_form word value = with_rule (new_app word) (value_rule value)
+
+-- a word and two values
+abbrev pub two_form : List ℕ → List ℕ → List ℕ → App
+two_form word first second = with_rule (one_form word first) (value_rule second)
+
+-- a word and three values
+abbrev pub three_form : List ℕ → List ℕ → List ℕ → List ℕ → App
+three_form word first second third = with_rule (two_form word first second) (value_rule third)
+
 -- `pass IN OUT`
 abbrev pub pass_form : App
-pass_form = with_rule (with_rule (new_app (codes "pass")) (value_rule (codes "IN"))) (value_rule (codes "OUT"))
+pass_form = two_form (codes "pass") (codes "IN") (codes "OUT")
 
 -- `check CONFIG`, `ideal CONFIG`, `run CONFIG` or `audit CONFIG`
 abbrev pub config_form : List ℕ → App
-config_form word = with_rule (new_app word) (value_rule (codes "CONFIG"))
+config_form word = one_form word (codes "CONFIG")
 
 -- `soak SEED PORTS SLOTS`
 abbrev pub soak_form : App
-soak_form =
-    with_rule
-    (with_rule (with_rule (new_app (codes "soak")) (value_rule (codes "SEED"))) (value_rule (codes "PORTS")))
-    (value_rule (codes "SLOTS"))
+soak_form = three_form (codes "soak") (codes "SEED") (codes "PORTS") (codes "SLOTS")
 
 -- `part CONFIG SLOTS STATE`
 abbrev pub part_form : App
-part_form =
-    with_rule
-    (with_rule (with_rule (new_app (codes "part")) (value_rule (codes "CONFIG"))) (value_rule (codes "SLOTS")))
-    (value_rule (codes "STATE"))
+part_form = three_form (codes "part") (codes "CONFIG") (codes "SLOTS") (codes "STATE")
 
 -- `resume CONFIG STATE`
 abbrev pub resume_form : App
-resume_form =
-    with_rule (with_rule (new_app (codes "resume")) (value_rule (codes "CONFIG"))) (value_rule (codes "STATE"))
+resume_form = two_form (codes "resume") (codes "CONFIG") (codes "STATE")
 
 -- a form is added as a subcommand
 abbrev pub with_form : App → App → App

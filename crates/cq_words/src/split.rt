@@ -14,12 +14,10 @@ ghost use Rattle.cq_words.specs.Words.{command_for};
 ghost use Rattle.cq_words.specs.Line.{
   IsForm,
   command_found,
-  config_form,
   line as whole_line,
-  part_form,
-  pass_form,
-  resume_form,
-  soak_form,
+  one_form,
+  three_form,
+  two_form,
   value_rule,
   with_form,
 };
@@ -55,55 +53,51 @@ fn line<'a>(alloc: Global) -> Result<Command<'a>, AllocError>
         .no_binary_name(true)
         .disable_help_flag(true)
         .disable_help_subcommand(true);
-    let line = with_subcommand(line, pass(alloc)?)?;
-    let line = with_subcommand(line, config(alloc, "check")?)?;
-    let line = with_subcommand(line, config(alloc, "ideal")?)?;
-    let line = with_subcommand(line, config(alloc, "run")?)?;
-    let line = with_subcommand(line, soak(alloc)?)?;
-    let line = with_subcommand(line, config(alloc, "audit")?)?;
-    let line = with_subcommand(line, part(alloc)?)?;
-    with_subcommand(line, resume(alloc)?)
+    let line = with_subcommand(line, two_values(alloc, "pass", "IN", "OUT")?)?;
+    let line = with_subcommand(line, one_value(alloc, "check", "CONFIG")?)?;
+    let line = with_subcommand(line, one_value(alloc, "ideal", "CONFIG")?)?;
+    let line = with_subcommand(line, one_value(alloc, "run", "CONFIG")?)?;
+    let soak = three_values(alloc, "soak", "SEED", "PORTS", "SLOTS")?;
+    let line = with_subcommand(line, soak)?;
+    let line = with_subcommand(line, one_value(alloc, "audit", "CONFIG")?)?;
+    let part = three_values(alloc, "part", "CONFIG", "SLOTS", "STATE")?;
+    let line = with_subcommand(line, part)?;
+    with_subcommand(line, two_values(alloc, "resume", "CONFIG", "STATE")?)
 }
 
-fn pass<'a>(alloc: Global) -> Result<Command<'a>, AllocError>
-    ensures { IfOk result (IsForm pass_form) }
+// A form of a word and one value.
+fn one_value<'a>(alloc: Global, word: &'a str, value: &'a str) -> Result<Command<'a>, AllocError>
+    ensures { IfOk result (IsForm (one_form word.entry.now value.entry.now)) }
 {
-    let pass = Command::new(alloc, "pass");
-    let pass = with_value(alloc, pass, "IN")?;
-    with_value(alloc, pass, "OUT")
+    let form = Command::new(alloc, word);
+    with_value(alloc, form, value)
 }
 
-fn config<'a>(alloc: Global, word: &'a str) -> Result<Command<'a>, AllocError>
-    ensures { IfOk result (IsForm (config_form word.entry.now)) }
+// A form of a word and two values.
+fn two_values<'a>(
+    alloc: Global,
+    word: &'a str,
+    first: &'a str,
+    second: &'a str,
+) -> Result<Command<'a>, AllocError>
+    ensures { IfOk result (IsForm (two_form word.entry.now first.entry.now second.entry.now)) }
 {
-    let config = Command::new(alloc, word);
-    with_value(alloc, config, "CONFIG")
+    let form = one_value(alloc, word, first)?;
+    with_value(alloc, form, second)
 }
 
-fn soak<'a>(alloc: Global) -> Result<Command<'a>, AllocError>
-    ensures { IfOk result (IsForm soak_form) }
+// A form of a word and three values.
+fn three_values<'a>(
+    alloc: Global,
+    word: &'a str,
+    first: &'a str,
+    second: &'a str,
+    third: &'a str,
+) -> Result<Command<'a>, AllocError>
+    ensures { IfOk result (IsForm (three_form word.entry.now first.entry.now second.entry.now third.entry.now)) }
 {
-    let soak = Command::new(alloc, "soak");
-    let soak = with_value(alloc, soak, "SEED")?;
-    let soak = with_value(alloc, soak, "PORTS")?;
-    with_value(alloc, soak, "SLOTS")
-}
-
-fn part<'a>(alloc: Global) -> Result<Command<'a>, AllocError>
-    ensures { IfOk result (IsForm part_form) }
-{
-    let part = Command::new(alloc, "part");
-    let part = with_value(alloc, part, "CONFIG")?;
-    let part = with_value(alloc, part, "SLOTS")?;
-    with_value(alloc, part, "STATE")
-}
-
-fn resume<'a>(alloc: Global) -> Result<Command<'a>, AllocError>
-    ensures { IfOk result (IsForm resume_form) }
-{
-    let resume = Command::new(alloc, "resume");
-    let resume = with_value(alloc, resume, "CONFIG")?;
-    with_value(alloc, resume, "STATE")
+    let form = two_values(alloc, word, first, second)?;
+    with_value(alloc, form, third)
 }
 
 // The form with one more value, which the words must give.
