@@ -1,5 +1,5 @@
 -- Places in blocks: what is done to one block is done to the places where it stands, behind those of the blocks ahead.
-use Rattle.std.proofs.Common.{◌≡◌, ℕ, zero, suc, ◌+◌, ◌-◌, ◌<◌, ◌≤◌, List, [], ◌∷◌, ◌++◌, length, get_or, set, take, drop, Some, refl, sym, ap, ◌∙◌, arith, length-append, length-set, length-take, get_or-set_same, take-append-drop, append_assoc}
+use Rattle.std.proofs.Common.{◌≡◌, ℕ, zero, suc, ◌+◌, ◌-◌, ◌<◌, ◌≤◌, List, [], ◌∷◌, ◌++◌, length, get_or, set, take, drop, Some, refl, sym, ap, ◌∙◌, subst, arith, length-append, length-set, length-take, get_or-set_same, take-append-drop, append_assoc}
 use Rattle.std.specs.Prelude.{insert, remove, slice_get}
 use Rattle.std.specs.List.{concat}
 use Rattle.std.proofs.lemmas.List.{take_more, drop_more, take_all, take-set, take-set-le, take-take, take-append-le, get_or_read}
@@ -266,3 +266,8 @@ module _ (blocks : List (List ℕ)) (place i o : ℕ) (read : List ℕ) (spot : 
       ap (λ b. concat (set blocks i b)) (is ∙ ap (λ b. remove b o) block_is)
       ∙ remove_in blocks i o spot.inside spot.short
       ∙ ap (remove (concat blocks)) spot.at
+
+-- a spot of the same blocks
+pub spot_along : (old new : List (List ℕ)) (place block within : ℕ) → old ≡ new → IsSpot old place block within →
+    IsSpot new place block within
+spot_along old new place block within same spot = subst (λ (l : List (List ℕ)). IsSpot l place block within) same spot

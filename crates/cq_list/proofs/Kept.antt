@@ -37,12 +37,6 @@ pub kept : (outputs : ℕ) (places : PlacesView) (pool : PoolView) (xs : List Qu
     StandFor outputs places pool (cells_in places pool)
 kept outputs places pool xs s = subst (StandFor outputs places pool) (sym (cells_are outputs places pool xs s)) s
 
-pub seen : (outputs : ℕ) (places : PlacesView) (pool : PoolView) (w : Waiting) →
-    StandFor outputs places pool (cells_in places pool) →
-    record { cells = cells_in places pool; outputs = outputs; spare = pool.spare } ≡ w →
-    StandFor outputs places pool w.cells
-seen outputs places pool w s is = subst (StandFor outputs places pool) (ap (λ (v : Waiting). v.cells) is) s
-
 -- one queue is changed
 queue_of-set : (queues : List (List Queued)) (j : ℕ) (f : List Queued → List Queued) (i : ℕ) → j < length queues →
     queue_of (set queues j (f (queue_of queues j))) i ≡ cond (eqb j i) (f (queue_of queues i)) (queue_of queues i)
@@ -55,15 +49,6 @@ queue_of-set queues j f i inside =
     ∙ get_or-set_same queues j (f (queue_of queues j)) [] inside
     ∙ ap (λ k. f (queue_of queues k)) same)
     (λ e. get_or-set_other queues j i (f (queue_of queues j)) [] (λ same. eqb-false j i e (sym same)))
-
--- an output beyond the last has no cell
-has_queue : (queues : List (List Queued)) (j : ℕ) (x : Queued) → slice_get (queue_of queues j) 0 ≡ Some x →
-    j < length queues
-has_queue queues j x head =
-    ⊎_elim (λ inside. inside)
-    (λ past. absurd (let gone : slice_get (queue_of queues j) 0 ≡ None = ap (λ l. slice_get l 0)
-    (get_or_past queues j [] past) in let P : ⊥ = cc in P))
-    (cases_lt j (length queues))
 
 something_inside : {X : Type 0} (xs : List X) (k : ℕ) → k < length xs → slice_get xs k ≡ None → ⊥
 something_inside [] k inside none = omega arith
@@ -81,51 +66,57 @@ all_filter P p (x ∷ xs) a =
     cond_both (p x) (x ∷ filter p xs) (filter p xs) (AllByRecursion P) (λ _. (a.0, all_filter P p xs a.1))
     (λ _. all_filter P p xs a.1)
 
-module _ (outputs : ℕ) (places : PlacesView) (pool : PoolView) (xs : List Queued)
-    (had : StandFor outputs places pool xs) where
+module _ (outputs : ℕ) (places : PlacesView) (pool : PoolView) (w : Waiting)
+    (stand : StandFor outputs places pool (cells_in places pool))
+    (is : record { cells = cells_in places pool; outputs = outputs; spare = pool.spare } ≡ w) where
+  -- what they stand for is what is seen
+  pub had : StandFor outputs places pool w.cells
+  had = subst (StandFor outputs places pool) (ap (λ (v : Waiting). v.cells) is) stand
+
   -- ## An arrival
 
   -- no cell of the queue has its key
-  pub queue_has_other_key : (c : Queued) (j : ℕ) → HasOtherKey c xs → HasOtherKey c (queue_of pool.queues j)
+  pub queue_has_other_key : (c : Queued) (j : ℕ) → HasOtherKey c w.cells → HasOtherKey c (queue_of pool.queues j)
   queue_has_other_key c j other =
-      subst (HasOtherKey c) (sym (had.split.queued j)) (all_filter (λ x. (x.key ≡ c.key) → ⊥) (is_for j) xs other)
+      subst (HasOtherKey c) (sym (had.split.queued j))
+      (all_filter (λ x. (x.key ≡ c.key) → ⊥) (is_for j) w.cells other)
 
-  pub as_many : length places.outputs ≡ length xs
-  as_many = ap length had.split.outputs ∙ length-map xs (λ (x : Queued). x.cell.output)
+  pub as_many : length places.outputs ≡ length w.cells
+  as_many = ap length had.split.outputs ∙ length-map w.cells (λ (x : Queued). x.cell.output)
 
   -- an output has as many places as cells
   pub counted : (j : ℕ) → length (queue_of pool.queues j) ≡ count_of j places.outputs
   counted j =
       ap length (had.split.queued j)
-      ∙ sym (length-filter-map (is_output j) (λ (x : Queued). x.cell.output) xs)
+      ∙ sym (length-filter-map (is_output j) (λ (x : Queued). x.cell.output) w.cells)
       ∙ ap (count_of j) (sym had.split.outputs)
 
   -- the place at which it goes in, as it is computed
   pub place_is : (cushion : ℕ) (c : Queued) (ahead later place : ℕ) →
       ahead ≡ position_or_len (λ x. is_before c.key x.key) (queue_of pool.queues c.cell.output) → later ≡ place_of_nth
       (is_output c.cell.output) ahead places.outputs → place ≡ min cushion
-      (min later (length places.outputs)) → place ≡ place_of_arrival cushion c xs
+      (min later (length places.outputs)) → place ≡ place_of_arrival cushion c w.cells
   place_is cushion c ahead later place a l p =
       let nth = l ∙ ap (λ k. place_of_nth (is_output c.cell.output) k places.outputs) a
-      ∙ sym (both_is_nth places.outputs (queue_of pool.queues) xs c.cell.output
+      ∙ sym (both_is_nth places.outputs (queue_of pool.queues) w.cells c.cell.output
       (λ x. is_before c.key x.key) had.split) in
       p ∙ ap (λ m. min cushion (min m (length places.outputs))) nth
-      ∙ ap (λ m. min cushion (min (place_of_later c xs) m)) as_many
+      ∙ ap (λ m. min cushion (min (place_of_later c w.cells) m)) as_many
 
   pub arrived : (cushion : ℕ) (c : Queued) (new_places : PlacesView) (new_pool : PoolView) → c.cell.output < outputs →
-      HasOtherKey c xs → MoreUrgentAhead cushion c xs → new_places.outputs ≡ insert places.outputs
-      (place_of_arrival cushion c xs) c.cell.output → new_pool.queues ≡ set pool.queues c.cell.output
+      HasOtherKey c w.cells → MoreUrgentAhead cushion c w.cells → new_places.outputs ≡ insert places.outputs
+      (place_of_arrival cushion c w.cells) c.cell.output → new_pool.queues ≡ set pool.queues c.cell.output
       (put c (queue_of pool.queues c.cell.output)) → new_places.spare ≡ new_pool.spare →
-      StandFor outputs new_places new_pool (with_arrival cushion c xs)
+      StandFor outputs new_places new_pool (with_arrival cushion c w.cells)
   arrived cushion c new_places new_pool inside other ahead outs queues spare =
       let j : ℕ = c.cell.output in
       let old : Queues = queue_of pool.queues in
       let own : j < length pool.queues = let as_many = had.queues in omega arith in
-      let split = split_arrived places.outputs old xs cushion c had.split had.waiting.in_order other ahead in
+      let split = split_arrived places.outputs old w.cells cushion c had.split had.waiting.in_order other ahead in
       record {
-        waiting = are_waiting_arrived outputs xs c cushion had.waiting inside other ahead;
+        waiting = are_waiting_arrived outputs w.cells c cushion had.waiting inside other ahead;
         split = replaced _ _ _ _ (λ i. ap (λ l. queue_of l i) queues ∙ queue_of-set pool.queues j (put c) i own)
-            (subst (λ (l : List ℕ). IsSplit l (with_queued c old) (with_arrival cushion c xs)) (sym outs) split);
+            (subst (λ (l : List ℕ). IsSplit l (with_queued c old) (with_arrival cushion c w.cells)) (sym outs) split);
         queues = ap length queues ∙ length-set pool.queues j (put c (old j)) ∙ had.queues;
         spare = spare;
       }
@@ -133,16 +124,17 @@ module _ (outputs : ℕ) (places : PlacesView) (pool : PoolView) (xs : List Queu
   -- the place of the first cell for an output that passes a test, as it is computed
   pub place_found :
       (j : ℕ) (q : Queued → Bool) (ahead place : ℕ) → ahead ≡ position_or_len q (queue_of pool.queues j) →
-      place ≡ place_of_nth (is_output j) ahead places.outputs → place ≡ position_or_len (λ x. is_for j x && q x) xs
+      place ≡ place_of_nth (is_output j) ahead places.outputs → place ≡ position_or_len (λ x. is_for j x && q x) w.cells
   place_found j q ahead place a p =
       p ∙ ap (λ k. place_of_nth (is_output j) k places.outputs) a
-      ∙ sym (both_is_nth places.outputs (queue_of pool.queues) xs j q had.split)
+      ∙ sym (both_is_nth places.outputs (queue_of pool.queues) w.cells j q had.split)
 
-  -- no more cells are ahead than there are in the queue
+  -- all are the places of the output, and no more cells are ahead
   pub ahead_fits :
       (j : ℕ) (q : Queued → Bool) (ahead all : ℕ) → ahead ≡ position_or_len q (queue_of pool.queues j) →
-      all ≡ length (queue_of pool.queues j) → ahead ≤ all
-  ahead_fits j q ahead all a l = let short = first_inside q (queue_of pool.queues j) in omega arith
+      all ≡ length (queue_of pool.queues j) → (all ≡ count_of j places.outputs) × (ahead ≤ all)
+  ahead_fits j q ahead all a l =
+      let short = first_inside q (queue_of pool.queues j) in (l ∙ counted j, omega arith)
 
   -- an output with a cell has a place
   pub some_places : (j : ℕ) (x : Queued) → slice_get (queue_of pool.queues j) 0 ≡ Some x → 0 < count_of j places.outputs
@@ -155,53 +147,56 @@ module _ (outputs : ℕ) (places : PlacesView) (pool : PoolView) (xs : List Queu
       slice_get (queue_of pool.queues j) 0 ≡ Some x → new_places.outputs ≡ remove places.outputs
       (position_or_len (is_output j) places.outputs) → new_pool.queues ≡ set pool.queues j
       (drop 1 (queue_of pool.queues j)) → new_places.spare ≡ new_pool.spare → StandFor outputs new_places new_pool
-      (without_first j xs)
+      (without_first j w.cells)
   left j x new_places new_pool head outs queues spare =
       let old : Queues = queue_of pool.queues in
-      let split = split_left places.outputs old xs j had.split in
+      let split = split_left places.outputs old w.cells j had.split in
       record {
-        waiting = are_waiting_left outputs xs j had.waiting;
+        waiting = are_waiting_left outputs w.cells j had.waiting;
         split = replaced _ _ _ _ (λ i. ap (λ l. queue_of l i) queues
-            ∙ queue_of-set pool.queues j (drop 1) i (has_queue pool.queues j x head))
-            (subst (λ (l : List ℕ). IsSplit l (without_head j old) (without_first j xs)) (sym outs) split);
+            ∙ queue_of-set pool.queues j (drop 1) i (queue_inside pool.queues j x head))
+            (subst (λ (l : List ℕ). IsSplit l (without_head j old) (without_first j w.cells)) (sym outs) split);
         queues = ap length queues ∙ length-set pool.queues j (drop 1 (old j)) ∙ had.queues;
         spare = spare;
       }
 
   -- ## The first cell for an output
 
-  pub first_is : (j : ℕ) → slice_get (queue_of pool.queues j) 0 ≡ first_for j xs
-  first_is j = ap (λ l. slice_get l 0) (had.split.queued j) ∙ sym (first-is-head j xs)
+  pub first_is : (j : ℕ) → slice_get (queue_of pool.queues j) 0 ≡ first_for j w.cells
+  first_is j = ap (λ l. slice_get l 0) (had.split.queued j) ∙ sym (first-is-head j w.cells)
 
-  first_place : (j : ℕ) → position_or_len (is_output j) places.outputs ≡ place_for j xs
+  first_place : (j : ℕ) → position_or_len (is_output j) places.outputs ≡ place_for j w.cells
   first_place j = ap (position_or_len (is_output j)) had.split.outputs
-      ∙ position_or_len-map (is_output j) (λ (x : Queued). x.cell.output) xs
+      ∙ position_or_len-map (is_output j) (λ (x : Queued). x.cell.output) w.cells
 
   -- none waits for it
-  pub position-none : (j : ℕ) → slice_get (queue_of pool.queues j) 0 ≡ None → position (is_for j) xs ≡ None
+  pub position-none : (j : ℕ) → slice_get (queue_of pool.queues j) 0 ≡ None → position (is_for j) w.cells ≡ None
   position-none j head =
       let none : Option ℕ = None in
-      let gone : slice_get xs (place_for j xs) ≡ None = sym (find_at (is_for j) xs) ∙ sym (first_is j) ∙ head in
-      cond_both (ltb (place_for j xs) (length xs)) (Some (place_for j xs)) none (λ o. o ≡ none)
-      (λ yes. absurd (something_inside xs (place_for j xs) (ltb-true (place_for j xs) (length xs) yes) gone))
+      let gone : slice_get w.cells (place_for j w.cells) ≡ None =
+      sym (find_at (is_for j) w.cells) ∙ sym (first_is j) ∙ head in
+      cond_both (ltb (place_for j w.cells) (length w.cells)) (Some (place_for j w.cells)) none (λ o. o ≡ none)
+      (λ yes. absurd (something_inside w.cells (place_for j w.cells)
+      (ltb-true (place_for j w.cells) (length w.cells) yes) gone))
       (λ _. refl)
 
   -- one waits for it
   pub place_inside : (j : ℕ) (x : Queued) → slice_get (queue_of pool.queues j) 0 ≡ Some x →
       position_or_len (is_output j) places.outputs < length places.outputs
   place_inside j x head =
-      let shown : slice_get xs (place_for j xs) ≡ Some x = sym (find_at (is_for j) xs) ∙ sym (first_is j) ∙ head in
-      let inside = slice_get_within xs (place_for j xs) x shown in
+      let shown : slice_get w.cells (place_for j w.cells) ≡ Some x =
+      sym (find_at (is_for j) w.cells) ∙ sym (first_is j) ∙ head in
+      let inside = slice_get_within w.cells (place_for j w.cells) x shown in
       let same = first_place j in
       let many = as_many in
       omega arith
 
   pub position-some : (j : ℕ) (x : Queued) → slice_get (queue_of pool.queues j) 0 ≡ Some x →
-      position (is_for j) xs ≡ Some (position_or_len (is_output j) places.outputs)
+      position (is_for j) w.cells ≡ Some (position_or_len (is_output j) places.outputs)
   position-some j x head =
-      let inside : place_for j xs < length xs = let h = place_inside j x head in let same = first_place j in
+      let inside : place_for j w.cells < length w.cells = let h = place_inside j x head in let same = first_place j in
       let many = as_many in omega arith in
-      ap (λ b. cond b (Some (place_for j xs)) None) (lt-ltb (place_for j xs) (length xs) inside)
+      ap (λ b. cond b (Some (place_for j w.cells)) None) (lt-ltb (place_for j w.cells) (length w.cells) inside)
       ∙ ap Some (sym (first_place j))
 
   -- ## The cell at a place
@@ -209,20 +204,20 @@ module _ (outputs : ℕ) (places : PlacesView) (pool : PoolView) (xs : List Queu
   -- it stands in the queue of the output of the place
   pub shown : (i j : ℕ) → slice_get places.outputs i ≡ Some j →
       (x : Queued) × (slice_get (queue_of pool.queues j)
-      (count_of j (take i places.outputs)) ≡ Some x) × (slice_get xs i ≡ Some x)
-  shown i j at = go (slice_get xs i) refl
+      (count_of j (take i places.outputs)) ≡ Some x) × (slice_get w.cells i ≡ Some x)
+  shown i j at = go (slice_get w.cells i) refl
     where
-      outputs_at : Some j ≡ option_map (λ (c : Queued). c.cell.output) (slice_get xs i)
+      outputs_at : Some j ≡ option_map (λ (c : Queued). c.cell.output) (slice_get w.cells i)
       outputs_at = sym at ∙ ap (λ l. slice_get l i) had.split.outputs
-          ∙ slice_get-map (λ (c : Queued). c.cell.output) xs i
+          ∙ slice_get-map (λ (c : Queued). c.cell.output) w.cells i
 
-      go : (o : Option Queued) → slice_get xs i ≡ o →
+      go : (o : Option Queued) → slice_get w.cells i ≡ o →
           (x : Queued) × (slice_get (queue_of pool.queues j)
-          (count_of j (take i places.outputs)) ≡ Some x) × (slice_get xs i ≡ Some x)
+          (count_of j (take i places.outputs)) ≡ Some x) × (slice_get w.cells i ≡ Some x)
       go None e = absurd (let gone : Some j ≡ None = outputs_at ∙ ap (option_map (λ (c : Queued). c.cell.output)) e in
           let P : ⊥ = cc in P)
       go (Some x) e =
           let own : j ≡ x.cell.output = same_Some _ _
           (outputs_at ∙ ap (option_map (λ (c : Queued). c.cell.output)) e) in
-          let queued = cell_at places.outputs (queue_of pool.queues) xs i x had.split e in
+          let queued = cell_at places.outputs (queue_of pool.queues) w.cells i x had.split e in
           (x, ap (λ k. slice_get (queue_of pool.queues k) (count_of k (take i places.outputs))) own ∙ queued, e)

@@ -1,7 +1,7 @@
 -- The place of the first cell with an id, looked for in one queue after another. The cells for the outputs so far
 -- that have the id first stand somewhere, and those for the next output first stand somewhere: the first of both
 -- stands at the lesser of the two places. In the end these are the cells for all outputs.
-use Rattle.std.proofs.Common.{◌≡◌, ℕ, ◌+◌, ◌<◌, ◌≤◌, ltb, min, Bool, true, false, cond, List, [], ◌∷◌, length, Option, Some, None, refl, sym, ap, ◌∙◌, ⊎_elim, arith}
+use Rattle.std.proofs.Common.{◌≡◌, ◌≢◌, ℕ, ◌+◌, ◌<◌, ◌≤◌, ltb, min, Bool, true, false, cond, List, [], ◌∷◌, length, Option, Some, None, refl, sym, ap, ◌∙◌, ⊎_elim, arith}
 use Rattle.std.specs.Prelude.{◌&&◌, position}
 use Rattle.std.specs.List.{AllByRecursion, position_or_len}
 use Rattle.std.proofs.Math.Bool.{and-false}
@@ -9,7 +9,7 @@ use Rattle.std.proofs.lemmas.Bool.{lt-ltb, le-ltb, eq-eqb, ne_eqb, cases_Bool, c
 use Rattle.cq_base.specs.declared.cell.CellId.{CellId}
 use Rattle.cq_base.specs.declared.cell.Queued.{Queued}
 use Rattle.cq_base.specs.Cells.{is_for, has_id}
-use Rattle.cq_base.proofs.Lists.{first_here, first_later}
+use Rattle.cq_base.proofs.Lists.{first_here, first_later, first_inside}
 
 -- whether it is for one of the first so many outputs, and has the id
 abbrev pub is_below : CellId → ℕ → Queued → Bool
@@ -85,18 +85,29 @@ least_of_all id n (x ∷ xs) all =
     omega arith)
     (cases_Bool (has_id id x))
 
--- ## A place that was found, or not
+-- ## A place that was found, or not, among the cells for all outputs
 
-pub found_at : (p : Queued → Bool) (xs : List Queued) (place : ℕ) → place ≡ position_or_len p xs → place < length xs →
-    Some place ≡ position p xs
-found_at p xs place is inside =
-    let none : Option ℕ = None in
-    let some : ℕ → Option ℕ = λ n. Some n in
-    ap some is ∙ sym (ap (λ b. cond b (some (position_or_len p xs)) none)
-    (lt-ltb (position_or_len p xs) (length xs) (omega arith)))
+module _ (id : CellId) (n outputs place : ℕ) (xs : List Queued)
+    (all : AllByRecursion (λ x. x.cell.output < outputs) xs) (few : n ≤ outputs) (many : outputs ≤ n)
+    (is : place ≡ position_or_len (is_below id n) xs) (len : ℕ) (long : len ≡ length xs) where
+  place_is : place ≡ position_or_len (has_id id) xs
+  place_is =
+      let same : n ≡ outputs = omega arith in
+      is ∙ ap (λ m. position_or_len (is_below id m) xs) same ∙ least_of_all id outputs xs all
 
-pub found_nowhere : (p : Queued → Bool) (xs : List Queued) → length xs ≤ position_or_len p xs → None ≡ position p xs
-found_nowhere p xs past =
-    let none : Option ℕ = None in
-    let some : ℕ → Option ℕ = λ n. Some n in
-    sym (ap (λ b. cond b (some (position_or_len p xs)) none) (le-ltb (position_or_len p xs) (length xs) past))
+  pub found_at : place ≢ len → Some place ≡ position (has_id id) xs
+  found_at other =
+      let none : Option ℕ = None in
+      let some : ℕ → Option ℕ = λ m. Some m in
+      let here = place_is in
+      let short = first_inside (has_id id) xs in
+      ap some here ∙ sym (ap (λ b. cond b (some (position_or_len (has_id id) xs)) none)
+      (lt-ltb (position_or_len (has_id id) xs) (length xs) (omega arith)))
+
+  pub found_nowhere : place ≡ len → None ≡ position (has_id id) xs
+  found_nowhere end =
+      let none : Option ℕ = None in
+      let some : ℕ → Option ℕ = λ m. Some m in
+      let here = place_is in
+      sym (ap (λ b. cond b (some (position_or_len (has_id id) xs)) none)
+      (le-ltb (position_or_len (has_id id) xs) (length xs) (omega arith)))

@@ -196,6 +196,9 @@ module _ (old new : Nodes) (j : ℕ) (queue more : Queue) (count k : ℕ) (c : Q
             (all_put _ c (cells (linked old queue)) own had.own);
       }
 
+  pub are_more : IsLinked new j more × (cells (linked new more) ≡ put c (cells (linked old queue)))
+  are_more = (linked_more, cells_more)
+
 -- ## The head taken out
 
 pub head_own : (nodes : Nodes) (j n : ℕ) (queue : Queue) (node : Node) → IsLinked nodes j queue → queue.len ≡ n + 1 →

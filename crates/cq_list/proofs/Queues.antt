@@ -7,7 +7,7 @@ use Rattle.slab.specs.Slab.{Slab, get, slab_len}
 use Rattle.cq_list.specs.declared.pool.Node.{Node}
 use Rattle.cq_base.specs.declared.cell.Queued.{Queued}
 use Rattle.cq_list.specs.declared.pool.Queue.{Queue}
-use Rattle.cq_list.specs.Pool.{Nodes, linked, cells, IsLinked, OthersStay, AreLinked, IsPool, no_queue, queue_at, cells_in_queues, queue_of}
+use Rattle.cq_list.specs.Pool.{PoolView, Nodes, linked, cells, IsLinked, OthersStay, AreLinked, IsPool, no_queue, queue_at, cells_in_queues, queue_of}
 use Rattle.cq_list.proofs.Linked.{linked_stays, is_linked_along}
 
 -- what is seen of a queue, also beyond the last
@@ -86,31 +86,6 @@ cells_read nodes queues seen j queue is inside read =
     ap (λ l. queue_of l j) (sym is) ∙ queue_seen nodes queues j
     ∙ ap (λ (q : Queue). cells (linked nodes q)) (sym (get_or_read queues j queue inside read no_queue))
 
-module _ (old new : Slab Node) (j room : ℕ) (queues : List Queue) (read queue : Queue) (had : IsPool old queues room)
-    (inside : j < length queues) (is_read : read ≡ get_or queues j read) (stay : OthersStay j (get old) (get new)) where
-  pub is_pool_changed : IsLinked (get new) j queue → slab_len new + read.len ≡ slab_len old + queue.len →
-      slab_len new ≤ room → new.capacity ≡ old.capacity → IsPool new (set queues j queue) room
-  is_pool_changed changed len fits capacity =
-      record {
-        linked = are_linked_changed (get old) (get new) j queues queue had.linked inside stay changed;
-        counted =
-            let sum = sum_by-set (λ (q : Queue). q.len) queues j queue read inside in
-            let same = ap (λ (q : Queue). q.len) is_read in
-            let counted = had.counted in
-            omega arith;
-        fits = fits;
-        memory = let memory = had.memory in omega arith;
-      }
-
-  pub view_changed : (seen : List (List Queued)) (f : List Queued → List Queued) →
-      cells_in_queues (get old) queues ≡ seen → cells (linked (get new) queue) ≡ f
-      (cells (linked (get old) read)) → cells_in_queues (get new) (set queues j queue) ≡ set seen j
-      (f (queue_of seen j))
-  view_changed seen f is same =
-      cells_changed (get old) (get new) j queues queue had.linked inside stay
-      ∙ ap (λ l. set l j (cells (linked (get new) queue))) is
-      ∙ ap (set seen j) (same ∙ ap f (sym (cells_read (get old) queues seen j read is inside is_read)))
-
 -- ## A queue that was read
 
 pub inside_seen : (nodes : Nodes) (queues : List Queue) (seen : List (List Queued)) (j : ℕ) →
@@ -146,7 +121,43 @@ is_read nodes queues seen j queue had view inside read =
       are_cells = cells_read nodes queues seen j queue view inside read;
     }
 
+-- so of a queue of the pool
+pub read_of : (nodes : Slab Node) (queues : List Queue) (room spare : ℕ) (seen : PoolView) (j : ℕ) (queue : Queue) →
+    IsPool nodes queues room → record { queues = cells_in_queues (get nodes) queues; spare = spare } ≡ seen →
+    j < length seen.queues → queue ≡ get_or queues j queue → IsRead (get nodes) queues seen.queues j queue
+read_of nodes queues room spare seen j queue had is inside read =
+    let view = ap (λ (v : PoolView). v.queues) is in
+    is_read (get nodes) queues seen.queues j queue had.linked view
+    (inside_seen (get nodes) queues seen.queues j view inside) read
+
 pub as_many : (nodes : Nodes) (queues : List Queue) (seen : List (List Queued)) (j : ℕ) (queue : Queue) →
     IsRead nodes queues seen j queue → length (queue_of seen j) ≡ queue.len
 as_many nodes queues seen j queue r =
     ap length r.are_cells ∙ length-map (linked nodes queue) (λ (e : ℕ × Queued). e.1) ∙ r.is_linked.chained.whole
+
+-- ## Another queue in its place
+
+module _ (old new : Slab Node) (j room : ℕ) (queues : List Queue) (seen : List (List Queued)) (read queue : Queue)
+    (had : IsPool old queues room) (r : IsRead (get old) queues seen j read)
+    (stay : OthersStay j (get old) (get new)) where
+  pub is_pool_changed : IsLinked (get new) j queue → slab_len new + read.len ≡ slab_len old + queue.len →
+      slab_len new ≤ room → new.capacity ≡ old.capacity → IsPool new (set queues j queue) room
+  is_pool_changed changed len fits capacity =
+      record {
+        linked = are_linked_changed (get old) (get new) j queues queue had.linked r.inside stay changed;
+        counted =
+            let sum = sum_by-set (λ (q : Queue). q.len) queues j queue read r.inside in
+            let same = ap (λ (q : Queue). q.len) r.read in
+            let counted = had.counted in
+            omega arith;
+        fits = fits;
+        memory = let memory = had.memory in omega arith;
+      }
+
+  pub view_changed : (f : List Queued → List Queued) → cells (linked (get new) queue) ≡ f
+      (cells (linked (get old) read)) → cells_in_queues (get new) (set queues j queue) ≡ set seen j
+      (f (queue_of seen j))
+  view_changed f same =
+      cells_changed (get old) (get new) j queues queue had.linked r.inside stay
+      ∙ ap (λ l. set l j (cells (linked (get new) queue))) r.view
+      ∙ ap (set seen j) (same ∙ ap f (sym r.are_cells))

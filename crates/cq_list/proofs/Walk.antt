@@ -82,6 +82,12 @@ pub record LooksAt (nodes : Nodes) (queue : Queue) (p : Queued → Bool) (count 
   pub inside : count < queue.len
   pub here : nodes place ≡ Some node
 
+pub looks_at : (nodes : Nodes) (queue : Queue) (p : Queued → Bool) (count place : ℕ) (node : Node) →
+    IsChained nodes queue → HasPassed nodes queue p count place → count < queue.len → nodes place ≡ Some node →
+    LooksAt nodes queue p count place node
+looks_at nodes queue p count place node chained passed inside here =
+    record { chained = chained; passed = passed; inside = inside; here = here }
+
 module _ (nodes : Nodes) (queue : Queue) (p : Queued → Bool) (count place : ℕ) (node : Node)
     (looks : LooksAt nodes queue p count place node) where
   shown : slice_get (cells (linked nodes queue)) count ≡ Some node.queued

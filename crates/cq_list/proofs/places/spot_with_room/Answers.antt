@@ -6,7 +6,7 @@ use Rattle.std.proofs.lemmas.List.{get_or_read}
 use Rattle.cq_list.specs.declared.places.Spot.{Spot}
 use Rattle.cq_list.specs.Places.{IsSpot, AreFilled}
 use Rattle.cq_list.proofs.Waiting.{left_by_ok}
-use Rattle.cq_list.proofs.Blocks.{split_in, in_front_half, in_back_half}
+use Rattle.cq_list.proofs.Blocks.{spot_along, split_in, in_front_half, in_back_half}
 use Rattle.cq_list.proofs.Filled.{room_for_block, filled_split}
 use Rattle.cq_list.proofs.places.spot_with_room.Goals as goal
 
@@ -26,12 +26,7 @@ record Halved (c : goal.After-in_halves) : Type 0 where
 
 halved : (c : goal.After-in_halves) → Halved c
 halved c =
-    let spot =
-    subst
-    (λ
-    (l : List
-    (List ℕ)). IsSpot l c.args.place c.spot_of-spot.result.block c.spot_of-spot.result.within) c.deref.ensures.value
-    c.spot_of-spot.ensures in
+    let spot = spot_along _ _ _ _ _ c.deref.ensures.value c.spot_of-spot.ensures in
     record {
       spot = spot;
       parts = sym (get_or_read c.args.blocks.now.items _ _ spot.inside c.index_mut-block.ensures.value [])

@@ -1,7 +1,7 @@
 use Rattle.std.proofs.Common.{◌∙◌, sym, ap, is_some, arith}
 use Rattle.slab.specs.Slab.{get}
 use Rattle.cq_list.proofs.Put.{is_no_sooner}
-use Rattle.cq_list.proofs.Walk.{node_there, search_starts, search_ends, search_on, ends_on, searched_all}
+use Rattle.cq_list.proofs.Walk.{looks_at, node_there, search_starts, search_ends, search_on, ends_on, searched_all}
 use Rattle.cq_list.proofs.pool.walk.Goals as goal
 
 pub nodes-init : goal.nodes-init
@@ -11,35 +11,18 @@ pub index-node-requires : goal.index-node-requires
 index-node-requires c = ap is_some (node_there _ _ _ _ c.requires c.nodes.invariant.0.reached c.nodes-test.true).1
 
 pub returns-then-is_no_sooner-clause-count : goal.returns-then-is_no_sooner-clause-count
-returns-then-is_no_sooner-clause-count c = search_ends (get c.args.nodes.now) c.args.queue
-    (is_no_sooner c.args.key) _ _ _ (record {
-      chained = c.requires;
-      passed = c.nodes.invariant.0;
-      inside =
-          c.nodes-test.true;
-      here = c.index-node.ensures;
-    }) (sym c.is_no_sooner.ensures ∙ c.if-is_no_sooner.true)
+returns-then-is_no_sooner-clause-count c =
+    search_ends _ _ _ _ _ _
+    (looks_at (get c.args.nodes.now) c.args.queue (is_no_sooner c.args.key) _ _ _ c.requires c.nodes.invariant.0
+    c.nodes-test.true c.index-node.ensures) (sym c.is_no_sooner.ensures ∙ c.if-is_no_sooner.true)
 
 pub nodes-preserved : goal.nodes-preserved
-nodes-preserved c = (
-  search_on (get c.args.nodes.now) c.args.queue (is_no_sooner c.args.key) _ _ _
-      (record {
-        chained = c.requires;
-        passed = c.nodes.invariant.0;
-        inside = c.nodes-test.true;
-        here =
-            c.index-node.ensures;
-      }) (sym c.is_no_sooner.ensures ∙ c.if-is_no_sooner.false),
-  ends_on
-      (get c.args.nodes.now) c.args.queue (is_no_sooner c.args.key) _ _ _
-      (record {
-        chained = c.requires;
-        passed = c.nodes.invariant.0;
-        inside = c.nodes-test.true;
-        here =
-            c.index-node.ensures;
-      }),
-)
+nodes-preserved c =
+    let looks = looks_at (get c.args.nodes.now) c.args.queue (is_no_sooner c.args.key) _ _ _ c.requires
+    c.nodes.invariant.0 c.nodes-test.true c.index-node.ensures in (
+      search_on _ _ _ _ _ _ looks (sym c.is_no_sooner.ensures ∙ c.if-is_no_sooner.false),
+      ends_on _ _ _ _ _ _ looks,
+    )
 
 pub returns-clause-count : goal.returns-clause-count
 returns-clause-count c = searched_all _ _ _ _ _ c.requires c.nodes.invariant.0 c.nodes-test.false

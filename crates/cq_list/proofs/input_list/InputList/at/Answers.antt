@@ -2,19 +2,17 @@ use Rattle.std.proofs.Common.{◌∙◌, ◌<◌, sym, ap, length, subst}
 use Rattle.std.specs.Prelude.{ℕ, slice_get}
 use Rattle.std.proofs.lemmas.Option.{slice_get_within}
 use Rattle.cq_list.specs.Pool.{queue_of}
-use Rattle.cq_list.proofs.Kept.{seen, shown}
+use Rattle.cq_list.proofs.Kept.{shown}
 use Rattle.cq_list.proofs.input_list.InputList.at.Goals as goal
 
 pub at-requires : goal.at-requires
 at-requires c =
-    let had = seen _ _ _ _ c.self.invariant c.self.view_is in
-    let there = shown _ _ _ _ had c.args.place c.at-output.result c.at-output.ensures in
+    let there = shown _ _ _ _ c.self.invariant c.self.view_is c.args.place c.at-output.result c.at-output.ensures in
     let queue = queue_of c.self.inside.pool.queues c.at-output.result in
     subst (λ (k : ℕ). k < length queue) (sym c.count_ahead-ahead.ensures) (slice_get_within queue _ there.0 there.1)
 
 pub returns : goal.returns
 returns c =
-    let had = seen _ _ _ _ c.self.invariant c.self.view_is in
-    let there = shown _ _ _ _ had c.args.place c.at-output.result c.at-output.ensures in
+    let there = shown _ _ _ _ c.self.invariant c.self.view_is c.args.place c.at-output.result c.at-output.ensures in
     there.2 ∙ sym there.1 ∙ ap (slice_get (queue_of c.self.inside.pool.queues c.at-output.result))
     (sym c.count_ahead-ahead.ensures) ∙ c.at.ensures

@@ -2,40 +2,38 @@ use Rattle.std.proofs.Common.{◌∙◌, ◌≡◌, ◌<◌, ap, min, arith}
 use Rattle.std.specs.Prelude.{insert}
 use Rattle.cq_base.specs.Cells.{with_arrival}
 use Rattle.cq_list.specs.InputList.{Waiting, StandFor}
-use Rattle.cq_list.proofs.Kept.{seen, kept, cells_are, queue_has_other_key, place_is, arrived, counted, ahead_fits}
+use Rattle.cq_list.proofs.Kept.{had, kept, cells_are, queue_has_other_key, place_is, arrived, ahead_fits}
 use Rattle.cq_list.proofs.input_list.InputList.insert.Goals as goal
 
 pub put-ahead-requires-clause-other_key : goal.put-ahead-requires-clause-other_key
 put-ahead-requires-clause-other_key c =
-    let had = seen _ _ _ _ c.self.invariant c.self.view_is in
-    queue_has_other_key _ _ _ _ had c.args.queued c.args.queued.cell.output c.requires.other_key
+    queue_has_other_key _ _ _ _ c.self.invariant c.self.view_is c.args.queued c.args.queued.cell.output
+    c.requires.other_key
 
-pub place_behind-later-requires-clause-all : goal.place_behind-later-requires-clause-all
-place_behind-later-requires-clause-all c =
-    let had = seen _ _ _ _ c.self.invariant c.self.view_is in
-    c.len_of-all.ensures ∙ counted _ _ _ _ had c.args.queued.cell.output
-
-pub place_behind-later-requires-clause-some : goal.place_behind-later-requires-clause-some
-place_behind-later-requires-clause-some c =
-    let had = seen _ _ _ _ c.self.invariant c.self.view_is in
-    ahead_fits _ _ _ _ had c.args.queued.cell.output _ _ _ c.put-ahead.ensures.place c.len_of-all.ensures
+pub place_behind-later-requires : goal.place_behind-later-requires
+place_behind-later-requires c =
+    let fits = ahead_fits _ _ _ _ c.self.invariant c.self.view_is c.args.queued.cell.output _ _ _
+    c.put-ahead.ensures.place c.len_of-all.ensures in
+    record { all = fits.0; some = fits.1 }
 
 -- what the new places and the new pool stand for
 now : (c : goal.After-insert) → StandFor c.self.inside.outputs c.insert.new.self c.put-ahead.new.self
     (with_arrival c.args.cushion c.args.queued c.args.self.now.cells)
 now c =
-    let had = seen _ _ _ _ c.self.invariant c.self.view_is in
     let least = c.min-place.ensures ∙ ap (min c.args.cushion)
     (c.min.ensures ∙ ap (min c.place_behind-later.result) c.len.ensures) in
     let place =
-    place_is _ _ _ _ had c.args.cushion c.args.queued _ _ _ c.put-ahead.ensures.place c.place_behind-later.ensures
+    place_is _ _ _ _ c.self.invariant c.self.view_is c.args.cushion c.args.queued _ _ _ c.put-ahead.ensures.place
+    c.place_behind-later.ensures
     least in
     let range : c.args.queued.cell.output < c.self.inside.outputs =
     let outputs = ap (λ (w : Waiting). w.outputs) c.self.view_is in let range = c.requires.in_range in omega arith in
     let spare : c.insert.new.self.spare ≡ c.put-ahead.new.self.spare =
-    let same = had.spare in let places = c.insert.ensures.spare in let pool = c.put-ahead.ensures.spare in
+    let same = (had _ _ _ _ c.self.invariant c.self.view_is).spare in
+    let places = c.insert.ensures.spare in let pool = c.put-ahead.ensures.spare in
     omega arith in
-    arrived _ _ _ _ had c.args.cushion c.args.queued _ _ range c.requires.other_key c.requires.ahead
+    arrived _ _ _ _ c.self.invariant c.self.view_is c.args.cushion c.args.queued _ _ range c.requires.other_key
+    c.requires.ahead
     (c.insert.ensures.outputs ∙ ap (λ p. insert c.self.inside.places.outputs p c.args.queued.cell.output) place)
     c.put-ahead.ensures.queues spare
 

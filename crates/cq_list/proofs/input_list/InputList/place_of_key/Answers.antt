@@ -1,20 +1,14 @@
-use Rattle.std.proofs.Common.{◌∙◌}
-use Rattle.cq_list.proofs.Kept.{seen, counted, place_found, ahead_fits}
+use Rattle.cq_list.proofs.Kept.{place_found, ahead_fits}
 use Rattle.cq_list.proofs.Put.{is_no_sooner}
 use Rattle.cq_list.proofs.input_list.InputList.place_of_key.Goals as goal
 
-pub place_behind-requires-clause-all : goal.place_behind-requires-clause-all
-place_behind-requires-clause-all c =
-    let had = seen _ _ _ _ c.self.invariant c.self.view_is in
-    c.len_of.ensures ∙ counted _ _ _ _ had c.args.output
-
-pub place_behind-requires-clause-some : goal.place_behind-requires-clause-some
-place_behind-requires-clause-some c =
-    let had = seen _ _ _ _ c.self.invariant c.self.view_is in
-    ahead_fits _ _ _ _ had c.args.output (is_no_sooner c.args.key) _ _ c.ahead_of_key-ahead.ensures c.len_of.ensures
+pub place_behind-requires : goal.place_behind-requires
+place_behind-requires c =
+    let fits = ahead_fits _ _ _ _ c.self.invariant c.self.view_is c.args.output _ _ _ c.ahead_of_key-ahead.ensures
+    c.len_of.ensures in
+    record { all = fits.0; some = fits.1 }
 
 pub returns : goal.returns
 returns c =
-    let had = seen _ _ _ _ c.self.invariant c.self.view_is in
-    place_found _ _ _ _ had c.args.output
-    (is_no_sooner c.args.key) _ _ c.ahead_of_key-ahead.ensures c.place_behind.ensures
+    place_found _ _ _ _ c.self.invariant c.self.view_is c.args.output (is_no_sooner c.args.key) _ _
+    c.ahead_of_key-ahead.ensures c.place_behind.ensures

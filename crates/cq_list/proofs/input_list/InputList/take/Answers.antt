@@ -1,53 +1,43 @@
-use Rattle.std.proofs.Common.{◌∙◌, ◌≡◌, sym, arith}
+use Rattle.std.proofs.Common.{◌∙◌, ◌≡◌, refl, sym, arith}
 use Rattle.cq_base.specs.Cells.{without_first}
 use Rattle.cq_base.proofs.Lists.{taken_none}
 use Rattle.cq_list.specs.InputList.{StandFor}
-use Rattle.cq_list.proofs.Kept.{seen, kept, cells_are, position-none, counted, queue_inside, some_places, first_is, left}
+use Rattle.cq_list.proofs.Kept.{had, kept, cells_are, position-none, counted, queue_inside, some_places, first_is, left}
 use Rattle.cq_list.proofs.input_list.InputList.take.Goals as goal
 
-pub returns-in-None-clause-first : goal.returns-in-None-clause-first
-returns-in-None-clause-first c =
-    let had = seen _ _ _ _ c.self.invariant c.self.view_is in
-    (taken_none c.args.output c.args.self.now.cells
-    (position-none _ _ _ _ had c.args.output (sym c.first.ensures ∙ c.in-None.is))).0
-
-pub returns-in-None-clause-cells : goal.returns-in-None-clause-cells
-returns-in-None-clause-cells c =
-    let had = seen _ _ _ _ c.self.invariant c.self.view_is in
-    (taken_none c.args.output c.args.self.now.cells
-    (position-none _ _ _ _ had c.args.output (sym c.first.ensures ∙ c.in-None.is))).1
+pub returns-in-None : goal.returns-in-None
+returns-in-None c =
+    let none = taken_none c.args.output c.args.self.now.cells
+    (position-none _ _ _ _ c.self.invariant c.self.view_is c.args.output (sym c.first.ensures ∙ c.in-None.is)) in
+    record { first = none.0; cells = none.1; spare = omega arith; outputs = refl }
 
 pub len_of-requires : goal.len_of-requires
 len_of-requires c = queue_inside _ c.args.output _ (sym c.first.ensures ∙ c.in-Some.is)
 
-pub remove_first-requires-clause-all : goal.remove_first-requires-clause-all
-remove_first-requires-clause-all c =
-    let had = seen _ _ _ _ c.self.invariant c.self.view_is in
-    c.len_of.ensures ∙ counted _ _ _ _ had c.args.output
-
-pub remove_first-requires-clause-some : goal.remove_first-requires-clause-some
-remove_first-requires-clause-some c =
-    let had = seen _ _ _ _ c.self.invariant c.self.view_is in
-    let some = some_places _ _ _ _ had c.args.output _ (sym c.first.ensures ∙ c.in-Some.is) in
-    let all = c.len_of.ensures ∙ counted _ _ _ _ had c.args.output in omega arith
+pub remove_first-requires : goal.remove_first-requires
+remove_first-requires c =
+    let some = some_places _ _ _ _ c.self.invariant c.self.view_is c.args.output _
+    (sym c.first.ensures ∙ c.in-Some.is) in
+    let all = c.len_of.ensures ∙ counted _ _ _ _ c.self.invariant c.self.view_is c.args.output in
+    record { all = all; some = omega arith }
 
 -- what the new places and the new pool stand for
 now : (c : goal.After-take) → StandFor c.self.inside.outputs c.remove_first.new.self c.take.new.self
     (without_first c.args.output c.args.self.now.cells)
 now c =
-    let had = seen _ _ _ _ c.self.invariant c.self.view_is in
     let spare : c.remove_first.new.self.spare ≡ c.take.new.self.spare =
-    let same = had.spare in let places = c.remove_first.ensures.spare in let pool = c.take.ensures.spare in
+    let same = (had _ _ _ _ c.self.invariant c.self.view_is).spare in
+    let places = c.remove_first.ensures.spare in let pool = c.take.ensures.spare in
     omega arith in
-    left _ _ _ _ had c.args.output _ _ _ c.take.ensures.first c.remove_first.ensures.outputs c.take.ensures.queues spare
+    left _ _ _ _ c.self.invariant c.self.view_is c.args.output _ _ _ c.take.ensures.first
+    c.remove_first.ensures.outputs c.take.ensures.queues spare
 
 pub invariant_of-self : goal.invariant_of-self
 invariant_of-self c = kept _ _ _ _ (now c)
 
 pub returns-in-Some-clause-first : goal.returns-in-Some-clause-first
 returns-in-Some-clause-first c =
-    let had = seen _ _ _ _ c.self.invariant c.self.view_is in
-    sym c.take.ensures.first ∙ first_is _ _ _ _ had c.args.output
+    sym c.take.ensures.first ∙ first_is _ _ _ _ c.self.invariant c.self.view_is c.args.output
 
 pub returns-in-Some-clause-cells : goal.returns-in-Some-clause-cells
 returns-in-Some-clause-cells c = cells_are _ _ _ _ (now c)

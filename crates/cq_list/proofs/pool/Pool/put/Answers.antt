@@ -3,46 +3,38 @@ use Rattle.std.specs.List.{position_or_len}
 use Rattle.cq_base.specs.Cells.{HasOtherKey, put}
 use Rattle.cq_list.specs.Pool.{PoolView}
 use Rattle.cq_list.proofs.Put.{is_no_sooner, no_sooner_is_later}
-use Rattle.cq_list.proofs.Queues.{is_read, inside_seen, is_pool_changed, view_changed}
+use Rattle.cq_list.proofs.Queues.{read_of, is_pool_changed, view_changed}
 use Rattle.cq_list.proofs.pool.Pool.put.Goals as goal
 
 pub put_into-requires-clause-linked : goal.put_into-requires-clause-linked
 put_into-requires-clause-linked c =
-    let view = ap (λ (v : PoolView). v.queues) c.self.view_is in
-    (is_read _ _ _ _ _ c.self.invariant.linked view
-    (inside_seen _ _ _ _ view c.requires.in_range) c.index-queue.ensures).is_linked
+    (read_of _ _ _ _ _ _ _ c.self.invariant c.self.view_is c.requires.in_range c.index-queue.ensures).is_linked
 
 pub put_into-requires-clause-count : goal.put_into-requires-clause-count
 put_into-requires-clause-count c =
-    let view = ap (λ (v : PoolView). v.queues) c.self.view_is in
-    let read = is_read _ _ _ _ _ c.self.invariant.linked view
-    (inside_seen _ _ _ _ view c.requires.in_range) c.index-queue.ensures in
+    let read = read_of _ _ _ _ _ _ _ c.self.invariant c.self.view_is c.requires.in_range c.index-queue.ensures in
     c.ahead_of-ahead.ensures.count ∙ no_sooner_is_later c.args.queued _
     (subst (HasOtherKey c.args.queued) read.are_cells c.requires.other_key)
 
 pub returns-clause-place : goal.returns-clause-place
 returns-clause-place c =
-    let view = ap (λ (v : PoolView). v.queues) c.self.view_is in
-    let read = is_read _ _ _ _ _ c.self.invariant.linked view
-    (inside_seen _ _ _ _ view c.requires.in_range) c.index-queue.ensures in
+    let read = read_of _ _ _ _ _ _ _ c.self.invariant c.self.view_is c.requires.in_range c.index-queue.ensures in
     c.ahead_of-ahead.ensures.count
     ∙ ap (position_or_len (is_no_sooner c.args.queued.key)) (sym read.are_cells)
     ∙ no_sooner_is_later c.args.queued _ c.requires.other_key
 
 pub invariant_of-self : goal.invariant_of-self
 invariant_of-self c =
-    let view = ap (λ (v : PoolView). v.queues) c.self.view_is in
+    let read = read_of _ _ _ _ _ _ _ c.self.invariant c.self.view_is c.requires.in_range c.index-queue.ensures in
     let spare = ap (λ (v : PoolView). v.spare) c.self.view_is in
     let some = c.requires.spare in
     let len = c.put_into.ensures.len in
     let longer = c.put_into.ensures.longer in
-    is_pool_changed c.self.inside.nodes _ _ _ c.self.inside.queues.items c.index-queue.result.now _ c.self.invariant
-    (inside_seen _ _ _ _ view c.requires.in_range) c.index-queue.ensures
-    c.put_into.ensures.others c.put_into.ensures.linked (omega arith) (omega arith) c.put_into.ensures.capacity
+    is_pool_changed c.self.inside.nodes _ _ _ c.self.inside.queues.items _ c.index-queue.result.now _ c.self.invariant
+    read c.put_into.ensures.others c.put_into.ensures.linked (omega arith) (omega arith) c.put_into.ensures.capacity
 
 pub returns-clause-queues : goal.returns-clause-queues
 returns-clause-queues c =
-    let view = ap (λ (v : PoolView). v.queues) c.self.view_is in
-    view_changed c.self.inside.nodes c.put_into.new.nodes _ c.self.inside.room c.self.inside.queues.items
-    c.index-queue.result.now _ c.self.invariant (inside_seen _ _ _ _ view c.requires.in_range) c.index-queue.ensures
-    c.put_into.ensures.others c.args.self.now.queues (put c.args.queued) view c.put_into.ensures.cells
+    view_changed c.self.inside.nodes c.put_into.new.nodes _ c.self.inside.room _ _ _ _ c.self.invariant
+    (read_of _ _ _ _ _ _ _ c.self.invariant c.self.view_is c.requires.in_range c.index-queue.ensures)
+    c.put_into.ensures.others (put c.args.queued) c.put_into.ensures.cells

@@ -2,18 +2,17 @@ use Rattle.std.proofs.Common.{◌≡◌, ◌≢◌, ◌<◌, ◌+◌, ◌-◌, �
 use Rattle.std.specs.Prelude.{slice_get}
 use Rattle.slab.specs.Slab.{get}
 use Rattle.cq_list.specs.declared.pool.Node.{Node}
-use Rattle.cq_list.specs.Pool.{PoolView, OthersStay}
+use Rattle.cq_list.specs.Pool.{OthersStay}
 use Rattle.cq_list.proofs.Linked.{head_own, linked_less, cells_less}
-use Rattle.cq_list.proofs.Queues.{IsRead, is_read, as_many, inside_seen, inside_some, is_pool_changed, view_changed}
+use Rattle.cq_list.proofs.Queues.{IsRead, read_of, as_many, inside_some, is_pool_changed, view_changed}
 use Rattle.cq_list.proofs.Relink.{removed_stay}
 use Rattle.cq_list.proofs.Walk.{head_there, head_shown}
 use Rattle.cq_list.proofs.pool.Pool.take.Goals as goal
 
 pub remove-node-requires : goal.remove-node-requires
 remove-node-requires c =
-    let view = ap (λ (v : PoolView). v.queues) c.self.view_is in
-    let read = is_read _ _ _ _ _ c.self.invariant.linked view
-    (inside_seen _ _ _ c.args.output view (inside_some _ c.args.output 0 c.requires)) c.index-queue.ensures in
+    let read = read_of _ _ _ _ _ _ _ c.self.invariant c.self.view_is (inside_some _ c.args.output 0 c.requires)
+    c.index-queue.ensures in
     let some : 0 < c.index-queue.result.now.len = let many = as_many _ _ _ _ _ read in let some = c.requires in
     omega arith in
     ap is_some (head_there _ _ read.is_linked.chained some).1
@@ -29,9 +28,8 @@ record Taken (c : goal.After-result-1) : Type 0 where
 
 taken : (c : goal.After-result-1) → Taken c
 taken c =
-    let view = ap (λ (v : PoolView). v.queues) c.self.view_is in
-    let read = is_read _ _ _ _ _ c.self.invariant.linked view
-    (inside_seen _ _ _ c.args.output view (inside_some _ c.args.output 0 c.requires)) c.index-queue.ensures in
+    let read = read_of _ _ _ _ _ _ _ c.self.invariant c.self.view_is (inside_some _ c.args.output 0 c.requires)
+    c.index-queue.ensures in
     let some : c.index-queue.result.now.len ≡ c.index-queue.result.now.len - 1 + 1 = let many =
     as_many _ _ _ _ _ read in let some = c.requires in omega arith in
     let own = head_own _ _ _ _ _ read.is_linked some c.remove-node.ensures.value in
@@ -48,8 +46,8 @@ invariant_of-self c =
     let len = c.remove-node.ensures.len in
     let fits = c.self.invariant.fits in
     let some = t.some in
-    is_pool_changed c.self.inside.nodes c.remove-node.new.self _ c.self.inside.room c.self.inside.queues.items
-    c.index-queue.result.now _ c.self.invariant t.read.inside c.index-queue.ensures t.stay
+    is_pool_changed c.self.inside.nodes c.remove-node.new.self _ c.self.inside.room _ _ _ _ c.self.invariant t.read
+    t.stay
     (linked_less _ _ _ _ _ _ t.read.is_linked t.some c.remove-node.ensures.value t.others)
     (omega arith) (omega arith) c.remove-node.ensures.capacity
 
@@ -63,7 +61,6 @@ returns-clause-first c =
 pub returns-clause-queues : goal.returns-clause-queues
 returns-clause-queues c =
     let t = taken c in
-    view_changed c.self.inside.nodes c.remove-node.new.self _ c.self.inside.room c.self.inside.queues.items
-    c.index-queue.result.now _ c.self.invariant t.read.inside c.index-queue.ensures t.stay
-    c.args.self.now.queues (drop 1) t.read.view
+    view_changed c.self.inside.nodes c.remove-node.new.self _ c.self.inside.room _ _ _ _ c.self.invariant t.read t.stay
+    (drop 1)
     (sym (ap (drop 1) (cells_less _ _ _ _ _ _ t.read.is_linked t.some c.remove-node.ensures.value t.others)))
