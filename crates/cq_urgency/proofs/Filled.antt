@@ -13,25 +13,34 @@ use Rattle.cq_urgency.proofs.Flattened.{flattened-halved}
 abbrev AreHalf : List (List Queued) → Type 0
 AreHalf blocks = AllByRecursion (λ block. 32 ≤ length block) blocks
 
-half_halved : (blocks : List (List Queued)) (i : ℕ) → AreHalf blocks → length (block_at blocks i) ≡ 64 →
-    AreHalf (halved blocks i)
-half_halved [] i a full = absurd (omega arith)
-half_halved (b ∷ bs) zero a
-    full = (let len = length-take 32 b in omega arith, (let len = length-drop 32 b in omega arith, a.1))
-half_halved (b ∷ bs) (suc i) a full =
+-- and the first one has so many
+abbrev AreLed : ℕ → List (List Queued) → Type 0
+AreLed least [] = Unit {0}
+AreLed least (block ∷ blocks) = (least ≤ length block) × AreHalf blocks
+
+all_half : (blocks : List (List Queued)) → AreLed 32 blocks → AreHalf blocks
+all_half [] a = a
+all_half (b ∷ bs) a = a
+
+all_filled : (blocks : List (List Queued)) → AreLed 1 blocks → AreFilled blocks
+all_filled [] a = a
+all_filled (b ∷ bs) a = a
+
+led_halved : (least : ℕ) (b : List Queued) (bs : List (List Queued)) (i : ℕ) → least ≤ 32 → AreLed least (b ∷ bs) →
+    length (block_at (b ∷ bs) i) ≡ 64 → AreLed least (halved (b ∷ bs) i)
+led_halved least b bs zero few a full =
+    (let len = length-take 32 b in omega arith, (let len = length-drop 32 b in omega arith, a.1))
+led_halved least b [] (suc i) few a full = absurd (omega arith)
+led_halved least b (c ∷ bs) (suc i) few a full =
     let next : suc i + 1 ≡ suc (i + 1) = omega arith in
-    subst (λ n. AreHalf (insert (b ∷ set bs i (take 32 (block_at bs i))) n (drop 32 (block_at bs i)))) (sym next)
-    (a.0, half_halved bs i a.1 full)
+    let half : List Queued = take 32 (block_at (c ∷ bs) i) in
+    subst (λ n. AreLed least (insert (b ∷ set (c ∷ bs) i half) n (drop 32 (block_at (c ∷ bs) i)))) (sym next)
+    (a.0, all_half (halved (c ∷ bs) i) (led_halved 32 c bs i (omega arith) a.1 full))
 
 pub filled_halved : (blocks : List (List Queued)) (i : ℕ) → AreFilled blocks → length (block_at blocks i) ≡ 64 →
     AreFilled (halved blocks i)
 filled_halved [] i f full = absurd (omega arith)
-filled_halved (b ∷ bs) zero f
-    full = (let len = length-take 32 b in omega arith, (let len = length-drop 32 b in omega arith, f.1))
-filled_halved (b ∷ bs) (suc i) f full =
-    let next : suc i + 1 ≡ suc (i + 1) = omega arith in
-    subst (λ n. AreFilled (insert (b ∷ set bs i (take 32 (block_at bs i))) n (drop 32 (block_at bs i)))) (sym next)
-    (f.0, half_halved bs i f.1 full)
+filled_halved (b ∷ bs) i f full = all_filled (halved (b ∷ bs) i) (led_halved 1 b bs i (omega arith) f full)
 
 -- ## Few blocks
 

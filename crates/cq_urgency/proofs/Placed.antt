@@ -2,7 +2,7 @@
 -- changed in the pool changes at its one place in the order and nowhere else; a block that comes in under a number that
 -- was free or is new stands nowhere in the order, so that the blocks there stay; and so do the others where the first
 -- one becomes free.
-use Rattle.std.proofs.Common.{◌≡◌, ◌≢◌, ℕ, zero, suc, ◌+◌, ◌-◌, ◌<◌, ◌≤◌, Bool, true, false, cond, Result, Ok, is_ok, List, [], ◌∷◌, ◌++◌, length, map, get_or, set, take, drop, refl, sym, ap, ◌∙◌, ⊎_elim, arith, Some, length-set, length-take, length-drop, get_or-set_same, get_or-set_other, get_or-drop}
+use Rattle.std.proofs.Common.{◌≡◌, ◌≢◌, ℕ, zero, suc, ◌+◌, ◌-◌, ◌<◌, ◌≤◌, Bool, true, false, cond, Result, Ok, is_ok, List, [], ◌∷◌, ◌++◌, length, map, get_or, set, take, drop, refl, sym, subst, ap, ◌∙◌, ⊎_elim, arith, Some, length-set, length-take, length-drop, get_or-set_same, get_or-set_other, get_or-drop}
 use Rattle.std.specs.Prelude.{◌==◌, nat_lt, insert, remove, slice_get}
 use Rattle.std.specs.List.{sum_by}
 use Rattle.std.proofs.lemmas.Bool.{cases_Bool, cases_eq, cases_lt, ltb-true, lt-ltb, eq-eqb, ne_eqb, cond-true, cond-false}
@@ -11,7 +11,7 @@ use Rattle.std.proofs.lemmas.List.Edits.{length-insert, insert_end}
 use Rattle.std.proofs.lemmas.List.Sums.{sum_by-cons, sum_by_push, sum_by-insert, sum_by-take-drop, get_or-le-sum_by}
 use Rattle.std.proofs.lemmas.Option.{slice_get_read, slice_get_within, get_or_from_slice_get}
 use Rattle.cq_base.specs.declared.cell.Queued.{Queued}
-use Rattle.cq_urgency.specs.Blocks.{BlocksView, block_at, cells_in_all, halved, without_first, in_order, bit, times, has, ArePlaced, ComesIn}
+use Rattle.cq_urgency.specs.Blocks.{HaveMemory, BlocksView, block_at, cells_in_all, halved, without_first, in_order, bit, times, has, ArePlaced, ComesIn}
 
 -- ## How often a number stands in a list
 
@@ -338,6 +338,13 @@ without_cell (b ∷ bs) some more = cond-false (length b == 1) bs (drop 1 b ∷ 
 -- what a call leaves where it did not fail
 pub left_by_ok : {T E X : Type 0} (r : Result T E) (t : T) (x y z : X) → x ≡ cond (is_ok r) y z → r ≡ Ok t → x ≡ y
 left_by_ok r t x y z e ok = e ∙ ap (λ v. cond (is_ok v) y z) ok
+
+-- there is as much memory for as many blocks
+pub memory_same : (most in_pool in_order in_counts in_free pool now : ℕ) →
+    HaveMemory most pool in_pool in_order in_counts in_free → now ≡ pool →
+    HaveMemory most now in_pool in_order in_counts in_free
+memory_same most in_pool in_order in_counts in_free pool now m same =
+    subst (λ (n : ℕ). HaveMemory most n in_pool in_order in_counts in_free) (sym same) m
 
 -- the fields are in order, and stand for these blocks
 pub record Kept (pool : List (List Queued)) (order counts free : List ℕ) (blocks : List (List Queued)) : Type 0 where

@@ -8,23 +8,20 @@ use Rattle.cq_urgency.proofs.blocks.Blocks.ahead.Goals as goal
 
 pub sum_ahead-requires-clause-inside : goal.sum_ahead-requires-clause-inside
 sum_ahead-requires-clause-inside c =
-    let b = c.self.inside in
-    let w = kept b.pool.items b.order.items b.counts.items b.free.items b.most _ c.self.invariant.0 c.self.view_is in
+    let w = kept _ _ _ _ _ _ c.self.invariant.0 c.self.view_is in
     let many = ap (λ (l : List ℕ). length l) (c.deref.ensures.value ∙ as_many_counts _ _ _ _ _ w)
     ∙ length-map c.args.self.now.blocks (λ (block : List Queued). length block) in
     let inside = c.requires.inside in omega arith
 
 pub sum_ahead-requires-clause-whole : goal.sum_ahead-requires-clause-whole
 sum_ahead-requires-clause-whole c =
-    let b = c.self.inside in
-    let w = kept b.pool.items b.order.items b.counts.items b.free.items b.most _ c.self.invariant.0 c.self.view_is in
+    let w = kept _ _ _ _ _ _ c.self.invariant.0 c.self.view_is in
     let all = ap (λ (l : List ℕ). sum_by (λ n. n) l) c.deref.ensures.value ∙ counts_all _ _ _ _ _ w in
     c.requires.cells ∙ sym all
 
 pub returns : goal.returns
 returns c =
-    let b = c.self.inside in
-    let w = kept b.pool.items b.order.items b.counts.items b.free.items b.most _ c.self.invariant.0 c.self.view_is in
+    let w = kept _ _ _ _ _ _ c.self.invariant.0 c.self.view_is in
     c.sum_ahead.ensures
     ∙ ap (λ (l : List ℕ). sum_by (λ n. n) (take c.args.place l)) c.deref.ensures.value
     ∙ counts_ahead _ _ _ _ _ w c.args.place

@@ -9,24 +9,21 @@ use Rattle.cq_urgency.proofs.blocks.Blocks.at.Goals as goal
 
 pub place_of-at-requires : goal.place_of-at-requires
 place_of-at-requires c =
-    let b = c.self.inside in
-    let w = kept b.pool.items b.order.items b.counts.items b.free.items b.most _ c.self.invariant.0 c.self.view_is in
+    let w = kept _ _ _ _ _ _ c.self.invariant.0 c.self.view_is in
     let all = ap (λ (l : List ℕ). sum_by (λ n. n) l) c.deref.ensures.value
     ∙ counts_all _ _ _ _ _ w in
     let size = length-flattened c.args.self.now.blocks in let asked = c.requires in omega arith
 
 pub block-requires : goal.block-requires
 block-requires c =
-    let b = c.self.inside in
-    let w = kept b.pool.items b.order.items b.counts.items b.free.items b.most _ c.self.invariant.0 c.self.view_is in
+    let w = kept _ _ _ _ _ _ c.self.invariant.0 c.self.view_is in
     count_there _ _ _ _ _ w c.place_of-at.result.block _
     (subst (λ (l : List ℕ). c.place_of-at.result.within < slice_index_or l c.place_of-at.result.block 0)
     c.deref.ensures.value c.place_of-at.ensures.within)
 
 pub returns : goal.returns
 returns c =
-    let b = c.self.inside in
-    let w = kept b.pool.items b.order.items b.counts.items b.free.items b.most _ c.self.invariant.0 c.self.view_is in
+    let w = kept _ _ _ _ _ _ c.self.invariant.0 c.self.view_is in
     let at = c.place_of-at.result in
     let ahead = ap (λ (l : List ℕ). sum_by (λ n. n) (take at.block l)) c.deref.ensures.value
     ∙ counts_ahead _ _ _ _ _ w at.block in

@@ -4,13 +4,11 @@ use Rattle.cq_urgency.proofs.blocks.Blocks.block.Goals as goal
 
 pub index-requires-2 : goal.index-requires-2
 index-requires-2 c =
-    let b = c.self.inside in
     let there = in_pool _ _ _ _ _
-    (kept b.pool.items b.order.items b.counts.items b.free.items b.most _ c.self.invariant.0 c.self.view_is)
+    (kept _ _ _ _ _ _ c.self.invariant.0 c.self.view_is)
     c.args.place _ c.requires c.index.ensures in omega arith
 
 pub returns : goal.returns
 returns c =
-    let b = c.self.inside in
-    read_is _ _ _ _ _ (kept b.pool.items b.order.items b.counts.items b.free.items b.most _ c.self.invariant.0
-    c.self.view_is) c.args.place _ c.requires c.index.ensures _ c.index-2.ensures
+    read_is _ _ _ _ _ (kept _ _ _ _ _ _ c.self.invariant.0 c.self.view_is) c.args.place _ c.requires c.index.ensures _
+    c.index-2.ensures

@@ -1,32 +1,23 @@
 use Rattle.std.proofs.Common.{◌-◌, ◌∙◌, length, drop, ap, sym, length-drop, length-set, arith}
 use Rattle.std.specs.Prelude.{slice_set}
-use Rattle.cq_urgency.proofs.Placed.{kept, in_order_there, read_is, read_count, seen_changed, placed_changed, freed_order, freed_placed, without_block, without_cell}
+use Rattle.cq_urgency.proofs.Placed.{memory_same, kept, in_order_there, read_is, read_count, seen_changed, placed_changed, freed_order, freed_placed, without_block, without_cell}
 use Rattle.cq_urgency.proofs.blocks.Blocks.pop.Goals as goal
 
 pub invariant_of-self : goal.invariant_of-self
 invariant_of-self c =
-    let b = c.self.inside in
-    let w = kept b.pool.items b.order.items b.counts.items b.free.items b.most _ c.self.invariant.0 c.self.view_is in
+    let w = kept _ _ _ _ _ _ c.self.invariant.0 c.self.view_is in
     let count = read_count _ _ _ _ _ w 0 _ c.requires.block c.index-number.ensures _ _
     c.index_mut-then-index-gt1.ensures.value c.index_mut.ensures.value in
     let less = ap length c.pop-queued.ensures.rest ∙ length-drop 1 c.index_mut.result.now in (
       placed_changed _ _ _ _ _ w 0 _ c.requires.block c.index-number.ensures c.pop-queued.new.self
           (c.index_mut-then-index-gt1.result.now - 1) (omega arith),
-      let m = c.self.invariant.1 in
-          let size = length-set b.pool.items c.index-number.result.now c.pop-queued.new.self in
-          record {
-            few = let few = m.few in omega arith;
-            blocks = m.blocks;
-            ordered = m.ordered;
-            counted = m.counted;
-            freed = m.freed;
-          },
+      memory_same _ _ _ _ _ _ _ c.self.invariant.1
+          (length-set c.self.inside.pool.items c.index-number.result.now c.pop-queued.new.self),
     )
 
 pub returns-then-index-gt1-clause-blocks : goal.returns-then-index-gt1-clause-blocks
 returns-then-index-gt1-clause-blocks c =
-    let b = c.self.inside in
-    let w = kept b.pool.items b.order.items b.counts.items b.free.items b.most _ c.self.invariant.0 c.self.view_is in
+    let w = kept _ _ _ _ _ _ c.self.invariant.0 c.self.view_is in
     let same = read_is _ _ _ _ _ w 0 _ c.requires.block c.index-number.ensures _ c.index_mut.ensures.value in
     let count = read_count _ _ _ _ _ w 0 _ c.requires.block c.index-number.ensures _ _ c.index.ensures
     c.index_mut.ensures.value in
@@ -38,7 +29,7 @@ returns-then-index-gt1-clause-blocks c =
 pub invariant_of-self-2 : goal.invariant_of-self-2
 invariant_of-self-2 c =
     let b = c.self.inside in
-    let w = kept b.pool.items b.order.items b.counts.items b.free.items b.most _ c.self.invariant.0 c.self.view_is in
+    let w = kept _ _ _ _ _ _ c.self.invariant.0 c.self.view_is in
     let some = in_order_there _ _ _ _ _ w 0 _ c.requires.block c.index-number.ensures in
     let all = w.placed.all in (
       rw (c.remove.ensures.items, c.remove-2.ensures.items, c.push_reserved.ensures.items)
@@ -61,8 +52,7 @@ invariant_of-self-2 c =
 
 pub returns-clause-blocks : goal.returns-clause-blocks
 returns-clause-blocks c =
-    let b = c.self.inside in
-    let w = kept b.pool.items b.order.items b.counts.items b.free.items b.most _ c.self.invariant.0 c.self.view_is in
+    let w = kept _ _ _ _ _ _ c.self.invariant.0 c.self.view_is in
     let some = in_order_there _ _ _ _ _ w 0 _ c.requires.block c.index-number.ensures in
     let same = read_is _ _ _ _ _ w 0 _ c.requires.block c.index-number.ensures _ c.index_mut.ensures.value in
     let count = read_count _ _ _ _ _ w 0 _ c.requires.block c.index-number.ensures _ _ c.index.ensures

@@ -8,26 +8,23 @@ use Rattle.cq_urgency.proofs.blocks.Blocks.split.Goals as goal
 
 pub put_upper-other-requires-clause-there : goal.put_upper-other-requires-clause-there
 put_upper-other-requires-clause-there c =
-    let b = c.self.inside in
-    let w = kept b.pool.items b.order.items b.counts.items b.free.items b.most _ c.self.invariant.0 c.self.view_is in
+    let w = kept _ _ _ _ _ _ c.self.invariant.0 c.self.view_is in
     in_pool _ _ _ _ _ w c.args.block _ c.requires.block c.index-number.ensures
 
 pub put_upper-other-requires-clause-used : goal.put_upper-other-requires-clause-used
 put_upper-other-requires-clause-used c =
-    let b = c.self.inside in
-    let w = kept b.pool.items b.order.items b.counts.items b.free.items b.most _ c.self.invariant.0 c.self.view_is in
+    let w = kept _ _ _ _ _ _ c.self.invariant.0 c.self.view_is in
     not_freed _ _ _ _ _ w c.args.block _ c.requires.block c.index-number.ensures
 
 pub put_upper-other-requires-clause-full : goal.put_upper-other-requires-clause-full
 put_upper-other-requires-clause-full c =
-    let b = c.self.inside in
-    let w = kept b.pool.items b.order.items b.counts.items b.free.items b.most _ c.self.invariant.0 c.self.view_is in
+    let w = kept _ _ _ _ _ _ c.self.invariant.0 c.self.view_is in
     ap length (block_same _ _ _ _ _ w c.args.block _ c.requires.block c.index-number.ensures) ∙ c.requires.full
 
 pub invariant_of-self : goal.invariant_of-self
 invariant_of-self c =
     let b = c.self.inside in
-    let w = kept b.pool.items b.order.items b.counts.items b.free.items b.most _ c.self.invariant.0 c.self.view_is in
+    let w = kept _ _ _ _ _ _ c.self.invariant.0 c.self.view_is in
     let many = as_many _ _ _ _ _ w in let there = c.requires.block in let room = c.requires.room in
     let block : List Queued = block_at b.pool.items c.index-number.result.now in
     let size = ap length (block_same _ _ _ _ _ w c.args.block _ c.requires.block c.index-number.ensures) in
@@ -63,7 +60,7 @@ invariant_of-self c =
 pub returns-clause-blocks : goal.returns-clause-blocks
 returns-clause-blocks c =
     let b = c.self.inside in
-    let w = kept b.pool.items b.order.items b.counts.items b.free.items b.most _ c.self.invariant.0 c.self.view_is in
+    let w = kept _ _ _ _ _ _ c.self.invariant.0 c.self.view_is in
     let block : List Queued = block_at b.pool.items c.index-number.result.now in
     let same = block_same _ _ _ _ _ w c.args.block _ c.requires.block c.index-number.ensures in
     let size = ap length same in let full = c.requires.full in

@@ -11,7 +11,7 @@ use Rattle.cq_urgency.proofs.blocks.Blocks.start.Goals as goal
 pub invariant_of-self : goal.invariant_of-self
 invariant_of-self c =
     let b = c.self.inside in
-    let w = kept b.pool.items b.order.items b.counts.items b.free.items b.most _ c.self.invariant.0 c.self.view_is in
+    let w = kept _ _ _ _ _ _ c.self.invariant.0 c.self.view_is in
     let many = as_many _ _ _ _ _ w in
     let none = ap (λ (l : List (List Queued)). length l) c.requires.none in
     let even : length b.counts.items ≡ length b.order.items = ap (λ (l : List ℕ). length l) (as_many_counts _ _ _ _ _ w)
