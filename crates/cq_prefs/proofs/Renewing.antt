@@ -270,14 +270,14 @@ module _ (m : Partners) (n j : ℕ) (outputs inputs : List (List ℕ)) (lists : 
       outputs_at (cells_of lists) n
       ∙ ap output_order (cells_at lists n list (omega arith) ∙ ap (λ (w : Waiting). w.cells) (sym at))
 
-  pub row_known : Next → (row : List ℕ) (list : Waiting) → row ≡ get_or outputs n row → list ≡ get_or lists n list →
+  row_known : Next → (row : List ℕ) (list : Waiting) → row ≡ get_or outputs n row → list ≡ get_or lists n list →
       without j row ≡ without j (output_order list.cells)
   row_known x row list e at =
       ap (without j) (e ∙ get_or_default outputs n row [] (has_row x))
       ∙ x.renewing.outputs_wait n j (let le : n ≤ n = omega arith in le) x.partner
       ∙ ap (without j) (row_is x list at)
 
-  pub row_few : Next → (list : Waiting) → list ≡ get_or lists n list → length (output_order list.cells) ≤ 64
+  row_few : Next → (list : Waiting) → list ≡ get_or lists n list → length (output_order list.cells) ≤ 64
   row_few x list at =
       let most = outputs_at_most (orders_of (cells_of lists)) x.offers.0 n in
       let few = x.offers.1 in
@@ -288,35 +288,46 @@ module _ (m : Partners) (n j : ℕ) (outputs inputs : List (List ℕ)) (lists : 
       row ≡ output_order list.cells → row ≡ outputs_of (orders_of (cells_of lists)) n
   row_renewed x row list at e = e ∙ sym (row_is x list at)
 
-  pub row_differs : Next → (row : List ℕ) → row ≡ get_or outputs n row → IsDistinct eqb row
+  row_differs : Next → (row : List ℕ) → row ≡ get_or outputs n row → IsDistinct eqb row
   row_differs x row e =
       subst (IsDistinct eqb) (sym (e ∙ get_or_default outputs n row [] (has_row x))) (x.renewing.outputs_differ n)
 
+  -- what its renewal asks
+  pub row_asks : Next → (row : List ℕ) (list : Waiting) → row ≡ get_or outputs n row → list ≡ get_or lists n list →
+      IsDistinct eqb row × (without j row ≡ without j (output_order list.cells))
+      × (length (output_order list.cells) ≤ 64)
+  row_asks x row list e at = (row_differs x row e, row_known x row list e at, row_few x list at)
+
   -- the order that its partner is to have
-  pub column_is : Next → inputs_of (orders_of (cells_of lists)) j ≡ input_order (cells_of lists) j
+  column_is : Next → inputs_of (orders_of (cells_of lists)) j ≡ input_order (cells_of lists) j
   column_is x =
       let size = length-map lists (λ (w : Waiting). w.cells) in
       let long = x.long in
       let inside = x.pairs.ports n j x.partner in
       inputs_at (cells_of lists) j (omega arith)
 
-  pub column_differs : Next → (column : List ℕ) → column ≡ get_or inputs j column → IsDistinct eqb column
+  column_differs : Next → (column : List ℕ) → column ≡ get_or inputs j column → IsDistinct eqb column
   column_differs x column e =
       subst (IsDistinct eqb) (sym (e ∙ get_or_default inputs j column [] (has_column x))) (x.renewing.inputs_differ j)
 
-  pub column_known : Next → (column : List ℕ) → column ≡ get_or inputs j column →
+  column_known : Next → (column : List ℕ) → column ≡ get_or inputs j column →
       without n column ≡ without n (input_order (cells_of lists) j)
   column_known x column e =
       ap (without n) (e ∙ get_or_default inputs j column [] (has_column x))
       ∙ x.renewing.inputs_wait n j (let le : n ≤ n = omega arith in le) x.partner
       ∙ ap (without n) (column_is x)
 
-  pub column_few : Next → length (input_order (cells_of lists) j) ≤ 64
+  column_few : Next → length (input_order (cells_of lists) j) ≤ 64
   column_few x =
       let most = inputs_at_most (orders_of (cells_of lists)) x.offers.0 j in
       let few = x.offers.1 in
       let same = ap length (column_is x) in
       omega arith
+
+  pub column_asks : Next → (column : List ℕ) → column ≡ get_or inputs j column →
+      IsDistinct eqb column × (without n column ≡ without n (input_order (cells_of lists) j))
+      × (length (input_order (cells_of lists) j) ≤ 64)
+  column_asks x column e = (column_differs x column e, column_known x column e, column_few x)
 
   pub next_renewed : Next → (row column : List ℕ) → row ≡ outputs_of (orders_of (cells_of lists)) n →
       column ≡ input_order (cells_of lists) j →
