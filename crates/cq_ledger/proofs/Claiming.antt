@@ -1,11 +1,10 @@
 -- A claim that finds the input unclaimed keeps the rule, and is no event. The input has not proposed and nobody holds
 -- it, so it is free where its order is not empty, and the hand takes it at its first place.
-use Rattle.std.proofs.Common.{ℕ, suc, ◌≡◌, ◌≢◌, ◌⊎◌, inl, inr, ◌<◌, ◌^◌, List, length, get_or, set, Some, None, sym, ◌∙◌, ap, arith, subst, bit_or}
+use Rattle.std.proofs.Common.{ℕ, suc, ◌≡◌, ◌≢◌, ◌⊎◌, inl, inr, ◌<◌, ◌^◌, List, length, set, Some, None, sym, ◌∙◌, ap, arith, subst, bit_or}
 use Rattle.std.specs.List.{sum_by}
 use Rattle.std.proofs.lemmas.Bool.{cases_eq}
 use Rattle.std.proofs.lemmas.List.{get_or-set_same, get_or-set_other, length-set}
-use Rattle.std.proofs.lemmas.List.Sums.{sum_by-set}
-use Rattle.atomic_table.proofs.Lists.{at_set, set_here, set_else}
+use Rattle.atomic_table.proofs.Lists.{at_set}
 use Rattle.cq_prefs.specs.Orders.{Orders, ports, outputs_of}
 use Rattle.cq_prefs.proofs.Steps.{sound-after}
 use Rattle.cq_prefs.specs.Proposals.{State, next_place, IsFree, state_after, IsSound}
@@ -14,7 +13,8 @@ use Rattle.cq_ledger.specs.Steps.{hand_at, claim_taken}
 use Rattle.cq_ledger.specs.Views.{Waits, Sits, bit, claim_word}
 use Rattle.cq_ledger.specs.declared.view.View.{View}
 use Rattle.cq_ledger.proofs.Hands.{hand_at-left, hand_at-shows}
-use Rattle.cq_ledger.proofs.Views.{at_known, same_at, bit-or_same, bit-or_other, bit-zero}
+use Rattle.cq_ledger.proofs.Dealt.{stays, sits_now, by_one_still, made_with}
+use Rattle.cq_ledger.proofs.Views.{bit-or_same, bit-or_other, bit-zero}
 
 module _ (o : Orders) (words : List ℕ) (views : List View) (k : IsLedger o words views) (id i : ℕ) (v : View)
     (at_id : Sits views id v)
@@ -34,11 +34,8 @@ module _ (o : Orders) (words : List ℕ) (views : List View) (k : IsLedger o wor
   abbrev views_now : List View
   views_now = set views id view_now
 
-  pub id_in_range : id < length views
-  id_in_range = (at_known views id v v at_id).0
-
   pub here : Sits views_now id view_now
-  here = set_here views id view_now id_in_range
+  here = sits_now views id v view_now at_id
 
   pub word_now : claim_word words_now ≡ bit_or (claim_word words) (2 ^ i)
   word_now = get_or-set_same words 0 _ 0 (let a = k.size in omega arith)
@@ -128,18 +125,9 @@ module _ (o : Orders) (words : List ℕ) (views : List View) (k : IsLedger o wor
       by_one_now : (q : ℕ) → bit (claim_word words_now) q ≡ 1 → (q ≡ i) ⊎ (q ≢ i) →
           (a : ℕ) × (u : View) × Sits views_now a u × (bit u.claims q ≡ 1)
       by_one_now q h (inl e) = (id, view_now, here, rw e (bit-or_same v.claims i))
-      by_one_now q h (inr n) = old (k.claims.by_one q (sym (others q n) ∙ h))
-        where
-          old : (a : ℕ) × (u : View) × Sits views a u × (bit u.claims q ≡ 1) →
-              (a : ℕ) × (u : View) × Sits views_now a u × (bit u.claims q ≡ 1)
-          old x = at (cases_eq x.0 id)
-            where
-              at : (x.0 ≡ id) ⊎ (x.0 ≢ id) → (a : ℕ) × (u : View) × Sits views_now a u × (bit u.claims q ≡ 1)
-              at (inl e) =
-                  let P : ℕ → Type 0 = λ m. Sits views m x.1 in
-                  let same : v ≡ x.1 = same_at views id v x.1 at_id (subst P e x.2) in
-                  (id, view_now, here, bit-or_other v.claims i q n ∙ ap (λ (y : View). bit y.claims q) same ∙ x.3)
-              at (inr m) = (x.0, x.1, set_else views id x.0 view_now m ∙ x.2, x.3)
+      by_one_now q h (inr n) =
+          by_one_still views id v view_now at_id q (λ has. bit-or_other v.claims i q n ∙ has)
+          (k.claims.by_one q (sym (others q n) ∙ h))
 
       apart_now : (b c q : ℕ) → ((b ≡ id) × (q ≡ i)) ⊎ ((x : View) × Sits views b x × (bit x.claims q ≡ 1)) →
           ((c ≡ id) × (q ≡ i)) ⊎ ((x : View) × Sits views c x × (bit x.claims q ≡ 1)) → b ≡ c
@@ -193,24 +181,18 @@ module _ (o : Orders) (words : List ℕ) (views : List View) (k : IsLedger o wor
                 here,
                 hand_is ∙ hand_at-left o i 0 (let a = fresh_i in omega arith) ∙ ap (λ n. Some (n, 0)) (sym e),
               )
-      undropped_now q g (inr x) = inr (x.0, x.1, x.2, set_else views id x.0 view_now apart ∙ x.3, x.4)
+      undropped_now q g (inr x) = at (stays views id v view_now at_id x.0 x.1 x.3)
         where
-          apart : x.0 ≢ id
-          apart e =
-              let P : ℕ → Type 0 = λ m. Sits views m x.1 in
-              let same : v ≡ x.1 = same_at views id v x.1 at_id (subst P e x.3) in
-              let h : v.hand ≡ Some (q, x.2) = ap (λ y. y.hand) same ∙ x.4 in
-              let Q : ⊥ = cc in Q
+          at : ((x.0 ≡ id) × (v ≡ x.1)) ⊎ ((x.0 ≢ id) × Sits views_now x.0 x.1) → Waits words_now views_now q
+          at (inl y) = absurd (let h : v.hand ≡ Some (q, x.2) = ap (λ z. z.hand) y.1 ∙ x.4 in let Q : ⊥ = cc in Q)
+          at (inr y) = inr (x.0, x.1, x.2, y.1, x.4)
 
       fresh_now : (q : ℕ) → bit (claim_word words_now) q ≡ 0 → (q ≡ i) ⊎ (q ≢ i) → next_place s q ≡ 0
       fresh_now q h (inl e) = rw e fresh_i
       fresh_now q h (inr n) = k.unclaimed q (sym (others q n) ∙ h)
 
       made_now : sum_by (λ (y : View). y.made) views_now ≡ length k.events
-      made_now =
-          let a = sum_by-set (λ (y : View). y.made) views id view_now v id_in_range in
-          let b : (get_or views id v).made ≡ v.made = ap (λ y. y.made) (at_known views id v v at_id).1 in
-          let c = k.made in omega arith
+      made_now = let a = made_with views id v view_now at_id in let c = k.made in omega arith
 
       idle_now : (b : ℕ) (u : View) → u.claims ≡ 0 → ((b ≡ id) × (view_now ≡ u)) ⊎ ((b ≢ id) × Sits views b u) →
           (u.hand ≡ None) × (u.made ≡ 0)

@@ -17,6 +17,7 @@ use Rattle.cq_ledger.proofs.Claiming.{claim-keeps}
 use Rattle.cq_ledger.proofs.CoreState.{core_state-is}
 use Rattle.cq_ledger.proofs.Proposing.{propose-keeps}
 use Rattle.cq_ledger.proofs.Refusing.{refuse-keeps}
+use Rattle.cq_ledger.proofs.Dealt.{dealt}
 use Rattle.cq_ledger.proofs.Seats.{start-keeps, longer-keeps, join-keeps}
 use Rattle.cq_ledger.proofs.Views.{or_set}
 
@@ -89,20 +90,20 @@ module _ (o : Orders) (words : List ℕ) (views : List View) (k : IsLedger o wor
 
     pub refused-shows : IsClaimed words i →
         core_state o (words_claimed words i) (set views id (claim_refused v i)) ≡ core_state o words views
-    unfolding refuse-keeps
+    unfolding refuse-keeps dealt
     refused-shows claimed =
         ap (λ l. core_state o l (set views id (claim_refused v i))) (words-same claimed)
         ∙ as_before words (set views id (claim_refused v i)) (refuse-keeps o words views k id i v at claimed) refl
 
   pub split-shows : core_state o words (set views id v ++ blank v.offers ∷ []) ≡ core_state o words views
-  unfolding longer-keeps
+  unfolding longer-keeps dealt
   split-shows =
       ap (λ l. core_state o words (l ++ blank v.offers ∷ [])) (set_again views id v at)
       ∙ as_before words (views ++ blank v.offers ∷ []) (longer-keeps o words views k v.offers) refl
 
   pub join-shows : (other : ℕ) (u : View) → other ≢ id → Sits views other u → v.hand ≡ None → u.hand ≡ None →
       core_state o words (set (set views id (joined v u)) other spent) ≡ core_state o words views
-  unfolding join-keeps
+  unfolding join-keeps dealt
   join-shows other u apart at_other empty empty_other =
       as_before words (set (set views id (joined v u)) other spent)
       (join-keeps o words views k id v at other u apart at_other empty empty_other) refl

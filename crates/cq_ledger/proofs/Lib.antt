@@ -1,4 +1,5 @@
 pub mod Views
+pub mod Dealt
 pub mod Hands
 pub mod Proposing
 pub mod Claiming

@@ -28,7 +28,7 @@ pub output_free : (o : Orders) (s : State) (m : Partners) (n : ℕ) → IsRead o
 output_free o s m n r x e = let l = (r.there x n e).0 in absurd (omega arith)
 
 module _ (o : Orders) (v : AreOffers o) (s : State) (w : IsSound o s) (m : Partners) (n : ℕ) (r : IsRead o s m n) where
-  pub reads_skip : position_held s n ≡ ports o → IsRead o s m (n + 1)
+  reads_skip : position_held s n ≡ ports o → IsRead o s m (n + 1)
   reads_skip e =
       record {
         size = r.size;
@@ -51,10 +51,10 @@ module _ (o : Orders) (v : AreOffers o) (s : State) (w : IsSound o s) (m : Partn
     hold : Holds o s n k
     hold = holder-holds o v s w n range somebody
 
-    pub k_in_range : k < ports o
+    k_in_range : k < ports o
     k_in_range = input_in_range o k n (v.shown_back k n hold.1)
 
-    pub k_free : (k < length m) × (partner_of m k ≡ None)
+    k_free : (k < length m) × (partner_of m k ≡ None)
     k_free = (
       let a = k_in_range in let b = r.size in omega arith,
       none_unless _ (λ q e.
@@ -65,7 +65,7 @@ module _ (o : Orders) (v : AreOffers o) (s : State) (w : IsSound o s) (m : Partn
           let l = a.0 in absurd (omega arith)),
     )
 
-    pub reads_more : IsRead o s (set m k (Some n)) (n + 1)
+    reads_more : IsRead o s (set m k (Some n)) (n + 1)
     reads_more =
         record {
           size = length-set m k _ ∙ r.size;
@@ -101,31 +101,45 @@ reads_all o v s w m r =
     matching_of-is o v s w m r.size (λ k q e. (r.there k q e).1) (λ k q h. r.back k q
     (output_in_range o v k q (v.shown_back k q h.1)) h)
 
-pub word-read : (o : Orders) (items : List ℕ) (s : State) → Shows o items s → (n x : ℕ) → n < ports o →
-    get_elem? items (n + 1) ≡ some x → x ≡ position_held s n
-word-read o items s agree n x range e =
-    sym (at_known items (n + 1) x 0 e).1 ∙ ap (λ m. get_or items m 0) (add-one n) ∙ agree n range
+-- ## The word of an output
 
-pub holder-read : (o : Orders) (s : State) → IsSound o s → (n x : ℕ) → n < ports o → x ≡ position_held s n →
-    x ≢ ports o → (order : List ℕ) → order ≡ inputs_of o n → (x < length order) × (get_or order x 0 ≡ holder o s n)
-holder-read o s w n x range e apart order same =
-    (go (w.held_in n range), ap (λ l. get_or l x 0) same ∙ ap (λ y. get_or (inputs_of o n) y 0) e)
-  where
-    go : (position_held s n ≡ ports o) ⊎ (position_held s n < length (inputs_of o n)) → x < length order
-    go (inl p) = absurd (apart (e ∙ p))
-    go (inr l) = let a = ap length same in omega arith
+pub record IsWord (o : Orders) (items : List ℕ) (s : State) (n x : ℕ) : Type 0 where
+  pub sound : IsSound o s
+  pub shows : Shows o items s
+  pub range : n < ports o
+  pub read : get_elem? items (n + 1) ≡ some x
 
--- the same at an input that was read
-pub read_free : (o : Orders) (v : AreOffers o) (s : State) (w : IsSound o s) (m : Partners) (n : ℕ)
-    (r : IsRead o s m n) → n < ports o → position_held s n ≢ ports o → (input : ℕ) → input ≡ holder o s n →
-    (input < length m) × (partner_of m input ≡ None)
-read_free o v s w m n r range apart input e =
-    let P : ℕ → Type 0 = λ x. (x < length m) × (partner_of m x ≡ None) in
-    subst P (sym e) (k_free o v s w m n r range apart)
+module _ (o : Orders) (items : List ℕ) (s : State) (n x : ℕ) (is : IsWord o items s n x) where
+  word_is : x ≡ position_held s n
+  word_is =
+      sym (at_known items (n + 1) x 0 is.read).1 ∙ ap (λ m. get_or items m 0) (add-one n) ∙ is.shows n is.range
 
-pub read_more : (o : Orders) (v : AreOffers o) (s : State) (w : IsSound o s) (m : Partners) (n : ℕ)
-    (r : IsRead o s m n) → n < ports o → position_held s n ≢ ports o → (input : ℕ) → input ≡ holder o s n →
-    IsRead o s (set m input (Some n)) (n + 1)
-read_more o v s w m n r range apart input e =
-    let P : ℕ → Type 0 = λ x. IsRead o s (set m x (Some n)) (n + 1) in
-    subst P (sym e) (reads_more o v s w m n r range apart)
+  pub word_skips : (v : AreOffers o) (m : Partners) → IsRead o s m n → x ≡ ports o → IsRead o s m (n + 1)
+  word_skips v m r free = reads_skip o v s is.sound m n r (sym word_is ∙ free)
+
+  -- where it holds somebody, who stands in the order of the output
+  module _ (p : ℕ) (all : p ≡ ports o) (somebody : x ≢ p) (order : List ℕ) (same : order ≡ inputs_of o n) where
+    held : position_held s n ≢ ports o
+    held e = somebody (word_is ∙ e ∙ sym all)
+
+    pub holder_inside : x < length order
+    holder_inside = go (is.sound.held_in n is.range)
+      where
+        go : (position_held s n ≡ ports o) ⊎ (position_held s n < length (inputs_of o n)) → x < length order
+        go (inl e) = absurd (held e)
+        go (inr l) = let a = ap length same in let b = word_is in omega arith
+
+    holder_is : get_or order x 0 ≡ holder o s n
+    holder_is = ap (λ l. get_or l x 0) same ∙ ap (λ y. get_or (inputs_of o n) y 0) word_is
+
+    pub holder_free : (v : AreOffers o) (m : Partners) → IsRead o s m n →
+        (get_or order x 0 < length m) × (partner_of m (get_or order x 0) ≡ None)
+    holder_free v m r =
+        let P : ℕ → Type 0 = λ y. (y < length m) × (partner_of m y ≡ None) in
+        subst P (sym holder_is) (k_free o v s is.sound m n r is.range held)
+
+    pub word_joins : (v : AreOffers o) (m : Partners) → IsRead o s m n →
+        IsRead o s (set m (get_or order x 0) (Some n)) (n + 1)
+    word_joins v m r =
+        let P : ℕ → Type 0 = λ y. IsRead o s (set m y (Some n)) (n + 1) in
+        subst P (sym holder_is) (reads_more o v s is.sound m n r is.range held)

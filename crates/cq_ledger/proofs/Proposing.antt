@@ -5,8 +5,7 @@ use Rattle.std.proofs.Common.{ℕ, suc, ◌≡◌, ◌≢◌, ◌⊎◌, inl, in
 use Rattle.std.specs.List.{sum_by}
 use Rattle.std.proofs.lemmas.Bool.{cases_eq}
 use Rattle.std.proofs.lemmas.List.{get_or-set_same, get_or-set_other, length-set}
-use Rattle.std.proofs.lemmas.List.Sums.{sum_by-set}
-use Rattle.atomic_table.proofs.Lists.{at_set, set_here, set_else}
+use Rattle.atomic_table.proofs.Lists.{at_set}
 use Rattle.cq_prefs.specs.Orders.{Orders, ports, position_of}
 use Rattle.cq_prefs.proofs.Steps.{IsStep, step, sound-after}
 use Rattle.cq_prefs.specs.Proposals.{State, position_held, next_place, Holds, IsFree, next_output, propose, state_after, IsSound}
@@ -16,7 +15,8 @@ use Rattle.cq_ledger.specs.Views.{Waits, Sits, bit, claim_word}
 use Rattle.cq_prefs.proofs.Places.{output_in_range}
 use Rattle.cq_ledger.specs.declared.view.View.{View}
 use Rattle.cq_ledger.proofs.Hands.{hand_found, still_free, IsHand, hand-shows, free-before}
-use Rattle.cq_ledger.proofs.Views.{at_known, same_at, bit-lt}
+use Rattle.cq_ledger.proofs.Dealt.{stays, sits_now, by_one_still, made_with}
+use Rattle.cq_ledger.proofs.Views.{bit-lt}
 
 module _ (o : Orders) (words : List ℕ) (views : List View) (k : IsLedger o words views) (id i : ℕ) (v : View)
     (at_id : Sits views id v)
@@ -59,11 +59,8 @@ module _ (o : Orders) (words : List ℕ) (views : List View) (k : IsLedger o wor
       ap (λ x. hand_found x i (next_place s i) (get_or words (suc j) 0)) same_offers
       ∙ ap (λ n. hand_found o i (next_place s i) n) found_is
 
-  pub id_in_range : id < length views
-  id_in_range = (at_known views id v v at_id).0
-
   pub here : Sits views_now id view_now
-  here = set_here views id view_now id_in_range
+  here = sits_now views id v view_now at_id
 
   pub claims_stay : claim_word words_now ≡ claim_word words
   claims_stay = let n : 0 ≢ suc j = omega arith in get_or-set_other words (suc j) 0 _ 0 n
@@ -107,21 +104,6 @@ module _ (o : Orders) (words : List ℕ) (views : List View) (k : IsLedger o wor
       go (inr n) =
           let m : suc q ≢ suc j = λ e. n (omega arith) in
           get_or-set_other words (suc j) (suc q) _ 0 m ∙ k.positions q r ∙ sym (st.held_other q n)
-
-  pub by_one_now : (q : ℕ) → bit (claim_word words_now) q ≡ 1 →
-      (a : ℕ) × (u : View) × Sits views_now a u × (bit u.claims q ≡ 1)
-  by_one_now q h = go (k.claims.by_one q (was_set q 1 h))
-    where
-      go : (a : ℕ) × (u : View) × Sits views a u × (bit u.claims q ≡ 1) →
-          (a : ℕ) × (u : View) × Sits views_now a u × (bit u.claims q ≡ 1)
-      go x = at (cases_eq x.0 id)
-        where
-          at : (x.0 ≡ id) ⊎ (x.0 ≢ id) → (a : ℕ) × (u : View) × Sits views_now a u × (bit u.claims q ≡ 1)
-          at (inl e) =
-              let P : ℕ → Type 0 = λ n. Sits views n x.1 in
-              let same : v ≡ x.1 = same_at views id v x.1 at_id (subst P e x.2) in
-              (id, view_now, here, ap (λ (y : View). bit y.claims q) same ∙ x.3)
-          at (inr n) = (x.0, x.1, set_else views id x.0 view_now n ∙ x.2, x.3)
 
   -- what the hand that made the proposal shows
   pub my_hand : (u : View) (q p : ℕ) → view_now ≡ u → u.hand ≡ Some (q, p) → IsHand o k.offers s w i f q p
@@ -182,16 +164,14 @@ module _ (o : Orders) (words : List ℕ) (views : List View) (k : IsLedger o wor
     where
       old : q ≢ i → Waits words views q → Waits words_now views_now q
       old n (inl z) = inl (ap (λ n. bit n q) claims_stay ∙ z)
-      old n (inr x) = at (cases_eq x.0 id)
+      old n (inr x) = at (stays views id v view_now at_id x.0 x.1 x.3)
         where
-          at : (x.0 ≡ id) ⊎ (x.0 ≢ id) → Waits words_now views_now q
-          at (inl e) =
-              let P : ℕ → Type 0 = λ n. Sits views n x.1 in
-              let same : v ≡ x.1 = same_at views id v x.1 at_id (subst P e x.3) in
-              let both : Some (i, next_place s i) ≡ Some (q, x.2) = sym in_hand ∙ ap (λ y. y.hand) same ∙ x.4 in
+          at : ((x.0 ≡ id) × (v ≡ x.1)) ⊎ ((x.0 ≢ id) × Sits views_now x.0 x.1) → Waits words_now views_now q
+          at (inl y) =
+              let both : Some (i, next_place s i) ≡ Some (q, x.2) = sym in_hand ∙ ap (λ z. z.hand) y.1 ∙ x.4 in
               let pair : (i, next_place s i) ≡ (q, x.2) = cc both in
               absurd (n (sym (ap (λ (y : ℕ × ℕ). y.0) pair)))
-          at (inr m) = inr (x.0, x.1, x.2, set_else views id x.0 view_now m ∙ x.3, x.4)
+          at (inr y) = inr (x.0, x.1, x.2, y.1, x.4)
 
       go : (hand_found o i (next_place s i) (position_held s j) ≡ Some (q, next_place t q))
           ⊎ ((q ≢ i) × IsFree o s q) → Waits words_now views_now q
@@ -211,7 +191,7 @@ module _ (o : Orders) (words : List ℕ) (views : List View) (k : IsLedger o wor
           claimed =
               λ b q u a c. let x = was b u a in
               still_set q (k.claims.claimed b q x.old x.at_old (ap (λ n. bit n q) x.claims ∙ c));
-          by_one = by_one_now;
+          by_one = λ q h. by_one_still views id v view_now at_id q (λ has. has) (k.claims.by_one q (was_set q 1 h));
           apart = λ b c q x y ax ay hx hy.
               let m = was b x ax in let n = was c y ay in
               k.claims.apart b c q m.old n.old m.at_old n.at_old (ap (λ z. bit z q) m.claims ∙ hx)
@@ -242,10 +222,7 @@ module _ (o : Orders) (words : List ℕ) (views : List View) (k : IsLedger o wor
       fresh_now q z (inr n) = st.others_stay q n ∙ k.unclaimed q z
 
       made_now : sum_by (λ (y : View). y.made) views_now ≡ length (i ∷ k.events)
-      made_now =
-          let a = sum_by-set (λ (y : View). y.made) views id view_now v id_in_range in
-          let b : (get_or views id v).made ≡ v.made = ap (λ y. y.made) (at_known views id v v at_id).1 in
-          let c = k.made in omega arith
+      made_now = let a = made_with views id v view_now at_id in let c = k.made in omega arith
 
       idle_now : (b : ℕ) (u : View) → u.claims ≡ 0 → ((b ≡ id) × (view_now ≡ u)) ⊎ ((b ≢ id) × Sits views b u) →
           (u.hand ≡ None) × (u.made ≡ 0)

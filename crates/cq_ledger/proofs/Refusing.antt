@@ -1,14 +1,14 @@
 -- A claim that finds the input claimed keeps the rule: it changes only what its seat has seen.
-use Rattle.std.proofs.Common.{ℕ, ◌≡◌, ◌≢◌, ◌⊎◌, inl, inr, ◌<◌, List, length, get_or, set, refl, sym, ◌∙◌, ap, arith, subst}
+use Rattle.std.proofs.Common.{ℕ, ◌≡◌, ◌≢◌, ◌⊎◌, inl, inr, List, set, refl, sym, ◌∙◌, ap, arith, subst}
 use Rattle.std.proofs.lemmas.Bool.{cases_eq}
-use Rattle.std.proofs.lemmas.List.Sums.{sum_by-set}
-use Rattle.atomic_table.proofs.Lists.{at_set, set_here, set_else}
+use Rattle.atomic_table.proofs.Lists.{at_set}
 use Rattle.cq_prefs.specs.Orders.{Orders}
 use Rattle.cq_ledger.specs.declared.view.View.{View}
 use Rattle.cq_ledger.specs.Rule.{IsLedger}
 use Rattle.cq_ledger.specs.Steps.{claim_refused}
 use Rattle.cq_ledger.specs.Views.{Waits, Sits, bit, claim_word}
-use Rattle.cq_ledger.proofs.Views.{at_known, same_at, bit-or_other}
+use Rattle.cq_ledger.proofs.Dealt.{stays, sits_now, by_one_still, made_with, dealt}
+use Rattle.cq_ledger.proofs.Views.{bit-or_other}
 
 module _ (o : Orders) (words : List ℕ) (views : List View) (k : IsLedger o words views) (id i : ℕ) (v : View)
     (at_id : Sits views id v) (found : bit (claim_word words) i ≡ 1) where
@@ -17,12 +17,6 @@ module _ (o : Orders) (words : List ℕ) (views : List View) (k : IsLedger o wor
 
   abbrev views_now : List View
   views_now = set views id view_now
-
-  pub id_in : id < length views
-  id_in = (at_known views id v v at_id).0
-
-  pub here : Sits views_now id view_now
-  here = set_here views id view_now id_in
 
   -- the view that stood there before
   pub record Was (b : ℕ) (u : View) : Type 0 where
@@ -61,58 +55,46 @@ module _ (o : Orders) (words : List ℕ) (views : List View) (k : IsLedger o wor
 
   pub now : (a : ℕ) (u : View) → Sits views a u →
       (x : View) × Sits views_now a x × (x.claims ≡ u.claims) × (x.hand ≡ u.hand)
-  now a u at = go (cases_eq a id)
+  now a u at = go (stays views id v view_now at_id a u at)
     where
-      go : (a ≡ id) ⊎ (a ≢ id) → (x : View) × Sits views_now a x × (x.claims ≡ u.claims) × (x.hand ≡ u.hand)
-      go (inl e) =
-          let P : ℕ → Type 0 = λ m. Sits views m u in
-          let Q : ℕ → Type 0 = λ m. Sits views_now m view_now in
-          let same : v ≡ u = same_at views id v u at_id (subst P e at) in
-          (view_now, subst Q (sym e) here, ap (λ y. y.claims) same, ap (λ y. y.hand) same)
-      go (inr n) = (u, set_else views id a view_now n ∙ at, refl, refl)
+      go : ((a ≡ id) × (v ≡ u)) ⊎ ((a ≢ id) × Sits views_now a u) →
+          (x : View) × Sits views_now a x × (x.claims ≡ u.claims) × (x.hand ≡ u.hand)
+      go (inl x) =
+          let P : ℕ → Type 0 = λ m. Sits views_now m view_now in (
+            view_now,
+            subst P (sym x.0) (sits_now views id v view_now at_id),
+            ap (λ y. y.claims) x.1,
+            ap (λ y. y.hand) x.1,
+          )
+      go (inr x) = (u, x.1, refl, refl)
 
   unfoldable pub refuse-keeps : IsLedger o words views_now
   refuse-keeps =
-      record {
-        offers = k.offers;
-        few = k.few;
-        events = k.events;
-        are_events = k.are_events;
-        size = k.size;
-        positions = k.positions;
-        claims = record {
-          claimed =
-              λ b q u a h. let x = was b u a in k.claims.claimed b q x.old x.at_old (ap (λ n. bit n q) x.claims ∙ h);
-          by_one =
-              λ q h. let x = k.claims.by_one q h in
-              let y = now x.0 x.1 x.2 in
-              (x.0, y.0, y.1, ap (λ n. bit n q) y.2 ∙ x.3);
-          apart = λ b c q x y ax ay hx hy.
-              let m = was b x ax in let n = was c y ay in
-              k.claims.apart b c q m.old n.old m.at_old n.at_old (ap (λ z. bit z q) m.claims ∙ hx)
-              (ap (λ z. bit z q) n.claims ∙ hy);
-          in_range = k.claims.in_range;
-          seen = λ b q u a h. (was b u a).seen q h;
-        };
-        hands = record {
-          free = λ b q p u a h. let x = was b u a in k.hands.free b q p x.old x.at_old (x.hand ∙ h);
-          place = λ b q p u a h. let x = was b u a in k.hands.place b q p x.old x.at_old (x.hand ∙ h);
-          claimed = λ b q p u a h. let x = was b u a in k.hands.claimed b q p x.old x.at_old (x.hand ∙ h);
-          apart = λ b c q p r x y ax ay hx hy.
-              let m = was b x ax in let n = was c y ay in
-              k.hands.apart b c q p r m.old n.old m.at_old n.at_old (m.hand ∙ hx) (n.hand ∙ hy);
-          undropped = λ q g. undropped_now q (k.hands.undropped q g);
-        };
-        unclaimed = k.unclaimed;
-        made =
-            let a = sum_by-set (λ (y : View). y.made) views id view_now v id_in in
-            let b : (get_or views id v).made ≡ v.made = ap (λ y. y.made) (at_known views id v v at_id).1 in
-            let c = k.made in omega arith;
-        idle =
-            λ b u a h. let x = was b u a in
-            let y = k.idle b x.old x.at_old (x.claims ∙ h) in
-            (sym x.hand ∙ y.0, sym x.made ∙ y.1);
-      }
+      dealt o words views views_now k
+      (record {
+        claimed =
+            λ b q u a h. let x = was b u a in k.claims.claimed b q x.old x.at_old (ap (λ n. bit n q) x.claims ∙ h);
+        by_one = λ q h. by_one_still views id v view_now at_id q (λ has. has) (k.claims.by_one q h);
+        apart = λ b c q x y ax ay hx hy.
+            let m = was b x ax in let n = was c y ay in
+            k.claims.apart b c q m.old n.old m.at_old n.at_old (ap (λ z. bit z q) m.claims ∙ hx)
+            (ap (λ z. bit z q) n.claims ∙ hy);
+        in_range = k.claims.in_range;
+        seen = λ b q u a h. (was b u a).seen q h;
+      })
+      (record {
+        free = λ b q p u a h. let x = was b u a in k.hands.free b q p x.old x.at_old (x.hand ∙ h);
+        place = λ b q p u a h. let x = was b u a in k.hands.place b q p x.old x.at_old (x.hand ∙ h);
+        claimed = λ b q p u a h. let x = was b u a in k.hands.claimed b q p x.old x.at_old (x.hand ∙ h);
+        apart = λ b c q p r x y ax ay hx hy.
+            let m = was b x ax in let n = was c y ay in
+            k.hands.apart b c q p r m.old n.old m.at_old n.at_old (m.hand ∙ hx) (n.hand ∙ hy);
+        undropped = λ q g. undropped_now q (k.hands.undropped q g);
+      })
+      (let a = made_with views id v view_now at_id in omega arith)
+      (λ b u a h. let x = was b u a in
+      let y = k.idle b x.old x.at_old (x.claims ∙ h) in
+      (sym x.hand ∙ y.0, sym x.made ∙ y.1))
     where
       undropped_now : (q : ℕ) → Waits words views q → Waits words views_now q
       undropped_now q (inl z) = inl z

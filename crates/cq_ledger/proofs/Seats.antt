@@ -1,19 +1,20 @@
 -- Making the first seat, a split and a join keep the rule, and are no event: the words stay, and what the seats have
 -- claimed, seen, made and in their hands is only dealt out anew.
-use Rattle.std.proofs.Common.{ℕ, zero, suc, ◌≡◌, ◌≢◌, ◌⊎◌, inl, inr, ◌+◌, ◌<◌, ◌≤◌, List, [], ◌∷◌, ◌++◌, length, get_or, set, replicate, Some, None, refl, sym, ◌∙◌, ap, arith, subst, bit_or}
+use Rattle.std.proofs.Common.{ℕ, zero, suc, ◌≡◌, ◌≢◌, ◌⊎◌, inl, inr, ◌+◌, ◌<◌, ◌≤◌, List, [], ◌∷◌, ◌++◌, length, set, replicate, Some, None, refl, sym, ◌∙◌, ap, arith, subst, bit_or}
 use mathlib.Core.Option.{some}
 use Rattle.std.specs.List.{sum_by}
 use Rattle.std.proofs.lemmas.Bool.{cases_eq}
-use Rattle.std.proofs.lemmas.List.{length-set, length-replicate, get_or-replicate}
-use Rattle.std.proofs.lemmas.List.Sums.{sum_by-set, sum_by_push}
-use Rattle.atomic_table.proofs.Lists.{at_set, set_here, set_else, set_again, at_longer, at_snoc}
+use Rattle.std.proofs.lemmas.List.{length-replicate, get_or-replicate}
+use Rattle.std.proofs.lemmas.List.Sums.{sum_by_push}
+use Rattle.atomic_table.proofs.Lists.{at_set, set_else, set_again, at_longer, at_snoc}
 use Rattle.cq_prefs.specs.Orders.{Orders, AreOffers, ports}
 use Rattle.cq_prefs.proofs.Steps.{held-start, next_place-start}
 use Rattle.cq_ledger.specs.Rule.{IsLedger}
 use Rattle.cq_ledger.specs.Steps.{blank, joined, spent}
 use Rattle.cq_ledger.specs.Views.{Waits, Sits, bit, claim_word}
 use Rattle.cq_ledger.specs.declared.view.View.{View}
-use Rattle.cq_ledger.proofs.Views.{at_known, same_at, bit-zero, no_bits, bit-either, bit-left, bit-right}
+use Rattle.cq_ledger.proofs.Dealt.{sits_now, made_with, dealt}
+use Rattle.cq_ledger.proofs.Views.{same_at, bit-zero, no_bits, bit-either, bit-left, bit-right}
 
 pub only : (o : Orders) (x : View) (b : ℕ) (u : View) → Sits (x ∷ []) b u → x ≡ u
 only o x zero u e = mathlib.Core.Option.some-injective x u e
@@ -69,68 +70,51 @@ module _ (o : Orders) (words : List ℕ) (views : List View) (k : IsLedger o wor
   abbrev longer : List View
   longer = views ++ blank other ∷ []
 
-  pub no_claim : (u : View) (q : ℕ) → blank other ≡ u → bit u.claims q ≡ 1 → ⊥
-  no_claim u q e h = let f = ap (λ (y : View). bit y.claims q) e in let z = bit-zero q in absurd (omega arith)
-
-  pub no_seen : (u : View) (q : ℕ) → blank other ≡ u → bit u.seen q ≡ 1 → ⊥
-  no_seen u q e h = let f = ap (λ (y : View). bit y.seen q) e in let z = bit-zero q in absurd (omega arith)
-
-  pub no_hand : (u : View) (q p : ℕ) → blank other ≡ u → u.hand ≡ Some (q, p) → ⊥
-  no_hand u q p e h = let f : (blank other).hand ≡ u.hand = ap (λ (y : View). y.hand) e in let P : ⊥ = cc (f, h) in P
+  -- a view that is not blank stood there before
+  stood : (b : ℕ) (u : View) → Sits longer b u → (blank other ≡ u → ⊥) → Sits views b u
+  stood b u a apart = go (at_snoc views (blank other) u b a)
+    where
+      go : Sits views b u ⊎ (blank other ≡ u) → Sits views b u
+      go (inl x) = x
+      go (inr e) = absurd (apart e)
 
   pub with_claim : (b q : ℕ) (u : View) → Sits longer b u → bit u.claims q ≡ 1 → Sits views b u
-  with_claim b q u a h = go (at_snoc views (blank other) u b a)
-    where
-      go : Sits views b u ⊎ (blank other ≡ u) → Sits views b u
-      go (inl x) = x
-      go (inr e) = absurd (no_claim u q e h)
+  with_claim b q u a h =
+      stood b u a (λ e. let f = ap (λ (y : View). bit y.claims q) e in let z = bit-zero q in absurd (omega arith))
 
   pub with_seen : (b q : ℕ) (u : View) → Sits longer b u → bit u.seen q ≡ 1 → Sits views b u
-  with_seen b q u a h = go (at_snoc views (blank other) u b a)
-    where
-      go : Sits views b u ⊎ (blank other ≡ u) → Sits views b u
-      go (inl x) = x
-      go (inr e) = absurd (no_seen u q e h)
+  with_seen b q u a h =
+      stood b u a (λ e. let f = ap (λ (y : View). bit y.seen q) e in let z = bit-zero q in absurd (omega arith))
 
   pub with_hand : (b q p : ℕ) (u : View) → Sits longer b u → u.hand ≡ Some (q, p) → Sits views b u
-  with_hand b q p u a h = go (at_snoc views (blank other) u b a)
-    where
-      go : Sits views b u ⊎ (blank other ≡ u) → Sits views b u
-      go (inl x) = x
-      go (inr e) = absurd (no_hand u q p e h)
+  with_hand b q p u a h =
+      stood b u a (λ e. let f : (blank other).hand ≡ u.hand = ap (λ (y : View). y.hand) e in
+      let P : ⊥ = cc (f, h) in P)
 
   unfoldable pub longer-keeps : IsLedger o words longer
   longer-keeps =
-      record {
-        offers = k.offers;
-        few = k.few;
-        events = k.events;
-        are_events = k.are_events;
-        size = k.size;
-        positions = k.positions;
-        claims = record {
-          claimed = λ b q u a h. k.claims.claimed b q u (with_claim b q u a h) h;
-          by_one =
-              λ q h. let x = k.claims.by_one q h in (x.0, x.1, at_longer views (blank other ∷ []) x.0 x.1 x.2, x.3);
-          apart =
-              λ b c q x y ax ay hx hy. k.claims.apart b c q x y (with_claim b q x ax hx) (with_claim c q y ay hy) hx
-              hy;
-          in_range = k.claims.in_range;
-          seen = λ b q u a h. k.claims.seen b q u (with_seen b q u a h) h;
-        };
-        hands = record {
-          free = λ b q p u a h. k.hands.free b q p u (with_hand b q p u a h) h;
-          place = λ b q p u a h. k.hands.place b q p u (with_hand b q p u a h) h;
-          claimed = λ b q p u a h. k.hands.claimed b q p u (with_hand b q p u a h) h;
-          apart =
-              λ b c q p r x y ax ay hx hy. k.hands.apart b c q p r x y (with_hand b q p x ax hx)
-              (with_hand c q r y ay hy) hx hy;
-          undropped = λ q g. undropped_now q (k.hands.undropped q g);
-        };
-        unclaimed = k.unclaimed;
-        made = let a = sum_by_push (λ (y : View). y.made) views (blank other) in let b = k.made in omega arith;
-        idle = λ b u a h. idle_now b u (at_snoc views (blank other) u b a) h;
-      }
+      dealt o words views longer k
+      (record {
+        claimed = λ b q u a h. k.claims.claimed b q u (with_claim b q u a h) h;
+        by_one =
+            λ q h. let x = k.claims.by_one q h in (x.0, x.1, at_longer views (blank other ∷ []) x.0 x.1 x.2, x.3);
+        apart =
+            λ b c q x y ax ay hx hy. k.claims.apart b c q x y (with_claim b q x ax hx) (with_claim c q y ay hy) hx
+            hy;
+        in_range = k.claims.in_range;
+        seen = λ b q u a h. k.claims.seen b q u (with_seen b q u a h) h;
+      })
+      (record {
+        free = λ b q p u a h. k.hands.free b q p u (with_hand b q p u a h) h;
+        place = λ b q p u a h. k.hands.place b q p u (with_hand b q p u a h) h;
+        claimed = λ b q p u a h. k.hands.claimed b q p u (with_hand b q p u a h) h;
+        apart =
+            λ b c q p r x y ax ay hx hy. k.hands.apart b c q p r x y (with_hand b q p x ax hx)
+            (with_hand c q r y ay hy) hx hy;
+        undropped = λ q g. undropped_now q (k.hands.undropped q g);
+      })
+      (let a = sum_by_push (λ (y : View). y.made) views (blank other) in omega arith)
+      (λ b u a h. idle_now b u (at_snoc views (blank other) u b a) h)
     where
       undropped_now : (q : ℕ) → Waits words views q → Waits words longer q
       undropped_now q (inl z) = inl z
@@ -156,14 +140,10 @@ module _ (o : Orders) (words : List ℕ) (views : List View) (k : IsLedger o wor
   abbrev whole : List View
   whole = set half gone spent
 
-  pub id_in : id < length views
-  id_in = (at_known views id v v at_id).0
-
-  pub gone_in : gone < length half
-  gone_in = let a = (at_known views gone w w at_gone).0 in let b = length-set views id (joined v w) in omega arith
-
   pub here : Sits whole id (joined v w)
-  here = let n : id ≢ gone = λ e. apart (sym e) in set_else half gone id spent n ∙ set_here views id (joined v w) id_in
+  here =
+      let n : id ≢ gone = λ e. apart (sym e) in
+      set_else half gone id spent n ∙ sits_now views id v (joined v w) at_id
 
   -- where a view stood before, and where it is now
   pub Home : ℕ → ℕ → Type 0
@@ -234,38 +214,30 @@ module _ (o : Orders) (words : List ℕ) (views : List View) (k : IsLedger o wor
   unfoldable pub join-keeps : IsLedger o words whole
   unfolding Kind
   join-keeps =
-      record {
-        offers = k.offers;
-        few = k.few;
-        events = k.events;
-        are_events = k.are_events;
-        size = k.size;
-        positions = k.positions;
-        claims = record {
-          claimed = λ b q u a h. let x = claimed_by b q u (kind b u a) h in k.claims.claimed x.at q x.by x.stood x.has;
-          by_one = λ q h. by_one_now q (k.claims.by_one q h);
-          apart = λ b c q x y ax ay hx hy.
-              let m = claimed_by b q x (kind b x ax) hx in
-              let n = claimed_by c q y (kind c y ay) hy in
-              let e = k.claims.apart m.at n.at q m.by n.by m.stood n.stood m.has n.has in
-              let P : ℕ → Type 0 = λ z. Home b z in
-              same_home b c n.at (subst P e m.home) n.home;
-          in_range = k.claims.in_range;
-          seen = λ b q u a h. seen_by b q u (kind b u a) h;
-        };
-        hands = record {
-          free = λ b q p u a h. k.hands.free b q p u (with_hand' b q p u (kind b u a) h) h;
-          place = λ b q p u a h. k.hands.place b q p u (with_hand' b q p u (kind b u a) h) h;
-          claimed = λ b q p u a h. k.hands.claimed b q p u (with_hand' b q p u (kind b u a) h) h;
-          apart =
-              λ b c q p r x y ax ay hx hy. k.hands.apart b c q p r x y (with_hand' b q p x (kind b x ax) hx)
-              (with_hand' c q r y (kind c y ay) hy) hx hy;
-          undropped = λ q g. undropped_now q (k.hands.undropped q g);
-        };
-        unclaimed = k.unclaimed;
-        made = made_now;
-        idle = λ b u a h. idle_now b u (kind b u a) h;
-      }
+      dealt o words views whole k
+      (record {
+        claimed = λ b q u a h. let x = claimed_by b q u (kind b u a) h in k.claims.claimed x.at q x.by x.stood x.has;
+        by_one = λ q h. by_one_now q (k.claims.by_one q h);
+        apart = λ b c q x y ax ay hx hy.
+            let m = claimed_by b q x (kind b x ax) hx in
+            let n = claimed_by c q y (kind c y ay) hy in
+            let e = k.claims.apart m.at n.at q m.by n.by m.stood n.stood m.has n.has in
+            let P : ℕ → Type 0 = λ z. Home b z in
+            same_home b c n.at (subst P e m.home) n.home;
+        in_range = k.claims.in_range;
+        seen = λ b q u a h. seen_by b q u (kind b u a) h;
+      })
+      (record {
+        free = λ b q p u a h. k.hands.free b q p u (with_hand' b q p u (kind b u a) h) h;
+        place = λ b q p u a h. k.hands.place b q p u (with_hand' b q p u (kind b u a) h) h;
+        claimed = λ b q p u a h. k.hands.claimed b q p u (with_hand' b q p u (kind b u a) h) h;
+        apart =
+            λ b c q p r x y ax ay hx hy. k.hands.apart b c q p r x y (with_hand' b q p x (kind b x ax) hx)
+            (with_hand' c q r y (kind c y ay) hy) hx hy;
+        undropped = λ q g. undropped_now q (k.hands.undropped q g);
+      })
+      made_now
+      (λ b u a h. idle_now b u (kind b u a) h)
     where
       by_one_now : (q : ℕ) → (a : ℕ) × (u : View) × Sits views a u × (bit u.claims q ≡ 1) →
           (a : ℕ) × (u : View) × Sits whole a u × (bit u.claims q ≡ 1)
@@ -300,14 +272,10 @@ module _ (o : Orders) (words : List ℕ) (views : List View) (k : IsLedger o wor
               ap (λ y. y.hand) (same_at views gone w x.1 at_gone (subst P e x.3)) ∙ x.4 in
               let Q : ⊥ = cc (h, empty_gone) in Q
 
-      made_now : sum_by (λ (y : View). y.made) whole ≡ length k.events
+      made_now : sum_by (λ (y : View). y.made) whole ≡ sum_by (λ (y : View). y.made) views
       made_now =
-          let a = sum_by-set (λ (y : View). y.made) views id (joined v w) v id_in in
-          let b : (get_or views id v).made ≡ v.made = ap (λ y. y.made) (at_known views id v v at_id).1 in
-          let c = sum_by-set (λ (y : View). y.made) half gone spent w gone_in in
-          let d : (get_or half gone w).made ≡ w.made =
-          ap (λ y. y.made) (at_known half gone w w (set_else views id gone (joined v w) apart ∙ at_gone)).1 in
-          let e = k.made in omega arith
+          let a = made_with views id v (joined v w) at_id in
+          let b = made_with half gone w spent (set_else views id gone (joined v w) apart ∙ at_gone) in omega arith
 
       idle_now : (b : ℕ) (u : View) → Kind b u → u.claims ≡ 0 → (u.hand ≡ None) × (u.made ≡ 0)
       idle_now b u (inl e) h = (sym (ap (λ (y : View). y.hand) e), sym (ap (λ (y : View). y.made) e))

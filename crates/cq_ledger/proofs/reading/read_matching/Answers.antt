@@ -1,101 +1,71 @@
-use Rattle.std.proofs.Common.{ℕ, ◌≡◌, ◌≢◌, ◌<◌, ◌+◌, ◌∙◌, ap, sym, subst, length, arith}
+use Rattle.std.proofs.Common.{ℕ, ◌≡◌, ◌+◌, ◌∙◌, ap, sym, subst, length, arith}
 use Rattle.std.specs.Slots.{slots_items}
 use Rattle.cq_prefs.specs.Orders.{ports}
 use Rattle.cq_prefs.specs.Pairing.{Partners}
+use Rattle.cq_prefs.specs.Proposals.{State, IsSound}
 use Rattle.cq_prefs.proofs.Places.{inputs_at_most}
-use Rattle.cq_ledger.proofs.Matched.{IsRead, word-read, holder-read, read_free, read_more, output_free, reads_skip, reads_all}
+use Rattle.cq_ledger.specs.Reading.{Shows}
+use Rattle.cq_ledger.proofs.Matched.{IsRead, IsWord, holder_inside, holder_free, word_joins, word_skips, output_free, reads_all}
 use Rattle.cq_ledger.proofs.reading.read_matching.Goals as goal
-use Rattle.cq_ledger.proofs.reading.read_matching.Goals.{then-word-ports, else-word-ports}
+use Rattle.cq_ledger.proofs.reading.read_matching.Goals.{After-word-word, then-word-ports, else-word-ports}
+
+-- the word that is read, of any state that the words show
+word : (c : After-word-word) (s : State) → IsSound c.args.offers.now s →
+    Shows c.args.offers.now (slots_items c.args.closed.now.words) s →
+    IsWord c.args.offers.now (slots_items c.args.closed.now.words) s c.loop-output.output c.word-word.result
+word c s w shows =
+    record {
+      sound = w;
+      shows = shows;
+      range = let early = c.loop-output-test.true in let all = c.ports-ports.ensures.value in omega arith;
+      read = c.word-word.ensures;
+    }
+
+-- and of one that they do show
+shown : (c : After-word-word) → IsWord c.args.offers.now (slots_items c.args.closed.now.words) c.requires.shown.0
+    c.loop-output.output c.word-word.result
+shown c = let s = c.requires.shown in word c s.0 s.1 s.2
 
 pub bounds-inputs_of-word : goal.bounds-inputs_of-word
 bounds-inputs_of-word c =
-    let o = c.args.offers.now in
-    let sound = c.requires.shown in
-    let range : c.loop-output.output < ports o =
-    let a = c.loop-output-test.true in let b = c.ports-ports.ensures.value in omega arith in
-    let x =
-    word-read o (slots_items c.args.closed.now.words) sound.0 sound.2 c.loop-output.output c.word-word.result
-    range c.word-word.ensures in
-    (holder-read o sound.0 sound.1 c.loop-output.output c.word-word.result range x
-    (λ e. c.if-word-ports.true (e ∙ sym c.ports-ports.ensures.value)) c.inputs_of.result.now
-    c.inputs_of.ensures).0
+    holder_inside _ _ _ _ _ (shown (goal.at.bounds-inputs_of-word c).After-word-word)
+    _ c.ports-ports.ensures.value c.if-word-ports.true _ c.inputs_of.ensures
 
 pub offset_bounds-inputs_of-word : goal.offset_bounds-inputs_of-word
 offset_bounds-inputs_of-word c =
-    let o = c.args.offers.now in
-    let sound = c.requires.shown in
-    let range : c.loop-output.output < ports o =
-    let a = c.loop-output-test.true in let b = c.ports-ports.ensures.value in omega arith in
-    let x =
-    word-read o (slots_items c.args.closed.now.words) sound.0 sound.2 c.loop-output.output c.word-word.result
-    range c.word-word.ensures in
-    let l =
-    (holder-read o sound.0 sound.1 c.loop-output.output c.word-word.result range x
-    (λ e. c.if-word-ports.true (e ∙ sym c.ports-ports.ensures.value)) c.inputs_of.result.now
-    c.inputs_of.ensures).0 in
-    let m = inputs_at_most o c.ports-ports.ensures.offers c.loop-output.output in
-    let f = c.ports-ports.ensures.few in
-    let e = ap length c.inputs_of.ensures in omega arith
+    let inside = holder_inside _ _ _ _ _ (shown (goal.at.offset_bounds-inputs_of-word c).After-word-word)
+    _ c.ports-ports.ensures.value c.if-word-ports.true _ c.inputs_of.ensures in
+    let most = inputs_at_most c.args.offers.now c.ports-ports.ensures.offers c.loop-output.output in
+    let few = c.ports-ports.ensures.few in
+    let size = ap length c.inputs_of.ensures in omega arith
 
-pub join-requires-clause-input : goal.join-requires-clause-input
-join-requires-clause-input c =
-    let o = c.args.offers.now in
-    let sound = c.requires.shown in
-    let range : c.loop-output.output < ports o =
-    let a = c.loop-output-test.true in let b = c.ports-ports.ensures.value in omega arith in
-    let x =
-    word-read o (slots_items c.args.closed.now.words) sound.0 sound.2 c.loop-output.output c.word-word.result
-    range c.word-word.ensures in
-    let n : c.word-word.result ≢ ports o = λ e. c.if-word-ports.true (e ∙ sym c.ports-ports.ensures.value) in
-    let h =
-    holder-read o sound.0 sound.1 c.loop-output.output c.word-word.result range x n c.inputs_of.result.now
-    c.inputs_of.ensures in
-    (read_free o c.ports-ports.ensures.offers sound.0 sound.1 c.loop-output.matching c.loop-output.output
-    (c.loop-output.invariant sound.0 sound.1 sound.2) range (λ e. n (x ∙ e)) _ h.1).0
-
-pub join-requires-clause-free_input : goal.join-requires-clause-free_input
-join-requires-clause-free_input c =
-    let o = c.args.offers.now in
-    let sound = c.requires.shown in
-    let range : c.loop-output.output < ports o =
-    let a = c.loop-output-test.true in let b = c.ports-ports.ensures.value in omega arith in
-    let x =
-    word-read o (slots_items c.args.closed.now.words) sound.0 sound.2 c.loop-output.output c.word-word.result
-    range c.word-word.ensures in
-    let n : c.word-word.result ≢ ports o = λ e. c.if-word-ports.true (e ∙ sym c.ports-ports.ensures.value) in
-    let h =
-    holder-read o sound.0 sound.1 c.loop-output.output c.word-word.result range x n c.inputs_of.result.now
-    c.inputs_of.ensures in
-    (read_free o c.ports-ports.ensures.offers sound.0 sound.1 c.loop-output.matching c.loop-output.output
-    (c.loop-output.invariant sound.0 sound.1 sound.2) range (λ e. n (x ∙ e)) _ h.1).1
-
-pub join-requires-clause-free_output : goal.join-requires-clause-free_output
-join-requires-clause-free_output c =
-    let sound = c.requires.shown in
-    output_free c.args.offers.now sound.0 c.loop-output.matching c.loop-output.output
-    (c.loop-output.invariant sound.0 sound.1 sound.2)
+pub join-requires : goal.join-requires
+join-requires c =
+    let s = c.requires.shown in
+    let read = c.loop-output.invariant s.0 s.1 s.2 in
+    let free = holder_free _ _ _ _ _ (shown (goal.at.join-requires c).After-word-word)
+    _ c.ports-ports.ensures.value c.if-word-ports.true _ c.inputs_of.ensures c.ports-ports.ensures.offers _ read in
+    record {
+      input = free.0;
+      output = let size = read.size in let early = c.loop-output-test.true in let all = c.ports-ports.ensures.value in
+          omega arith;
+      free_input = free.1;
+      free_output = output_free c.args.offers.now s.0 c.loop-output.matching c.loop-output.output read;
+    }
 
 pub loop-output-preserved : goal.loop-output-preserved
 loop-output-preserved c = λ s w shows.
-    let o = c.args.offers.now in
-    let range : c.loop-output.output < ports o =
-    let a = c.loop-output-test.true in let b = c.ports-ports.ensures.value in omega arith in
-    let x =
-    word-read o (slots_items c.args.closed.now.words) s shows c.loop-output.output c.word-word.result range
-    c.word-word.ensures in
+    let is = word (goal.at.loop-output-preserved c).After-word-word s w shows in
     let r = c.loop-output.invariant s w shows in
-    let P : Partners → Type 0 = λ m. IsRead o s m (c.loop-output.output + 1) in
+    let v = c.ports-ports.ensures.offers in
+    let P : Partners → Type 0 = λ m. IsRead c.args.offers.now s m (c.loop-output.output + 1) in
     elim c.if-word-ports.branch [
       | then-word-ports b ↦
-          let n : c.word-word.result ≢ ports o = λ e. b.if-word-ports.true (e ∙ sym c.ports-ports.ensures.value) in
-          let h =
-          holder-read o s w c.loop-output.output c.word-word.result range x n b.inputs_of.result.now
-          b.inputs_of.ensures in
-          subst P (sym (b.matching-is ∙ b.join.ensures)) (read_more o c.ports-ports.ensures.offers s w
-          c.loop-output.matching c.loop-output.output r range (λ e. n (x ∙ e)) _ h.1)
+          subst P (sym (b.matching-is ∙ b.join.ensures)) (word_joins _ _ _ _ _ is
+          _ c.ports-ports.ensures.value b.if-word-ports.true _ b.inputs_of.ensures v _ r)
       | else-word-ports b ↦
-          subst P (sym b.matching-is) (reads_skip o c.ports-ports.ensures.offers s w c.loop-output.matching
-          c.loop-output.output r (sym x ∙ b.if-word-ports.false ∙ c.ports-ports.ensures.value))
+          subst P (sym b.matching-is)
+          (word_skips _ _ _ _ _ is v _ r (b.if-word-ports.false ∙ c.ports-ports.ensures.value))
     ]
 
 pub returns : goal.returns

@@ -1,4 +1,4 @@
-use Rattle.std.proofs.Common.{◌∙◌, ap, sym, arith}
+use Rattle.std.proofs.Common.{◌≡◌, ◌∙◌, ap, sym, arith}
 use Rattle.cq_prefs.specs.Orders.{ports}
 use Rattle.cq_ledger.specs.Plays.{Seated}
 use Rattle.cq_ledger.specs.Steps.{hand_at, claim_taken}
@@ -6,6 +6,7 @@ use Rattle.cq_ledger.proofs.Allowed.{claim-allowed-at}
 use Rattle.cq_ledger.proofs.SeatFields.{matched, taken-seat}
 use Rattle.cq_ledger.proofs.Views.{clear_if}
 use Rattle.cq_ledger.proofs.ledger.Ledger.claim.Goals as goal
+use Rattle.cq_ledger.proofs.ledger.Ledger.claim.Goals.{Else-has_bit}
 
 pub fetch_or-found-requires : goal.fetch_or-found-requires
 fetch_or-found-requires c =
@@ -19,41 +20,34 @@ fetch_or-found-requires c =
           c.bit_of-bit.result c.bit_of-bit.ensures,
     )
 
+-- the step found the input unclaimed
+taken : (c : Else-has_bit) → c.fetch_or-found.new.seat.me
+    ≡ (claim_taken c.seat.inside.seat.me.0 c.args.input, c.seat.inside.seat.me.1)
+taken c =
+    (c.fetch_or-found.ensures.2 c.args.input c.bit_of-bit.ensures).taken
+    (clear_if c.fetch_or-found.result c.args.input (λ e. let a = c.has_bit.ensures.1 e in
+    let b = c.if-has_bit.false in
+    let Q : ⊥ = cc in
+    Q))
+
 pub invariant_of-seat-2 : goal.invariant_of-seat-2
 invariant_of-seat-2 c =
     let m = matched c.args.self.now c.args.seat.now _ _ _ _ c.self.view_is c.seat.view_is c.requires.seat in
-    let told = c.fetch_or-found.ensures.2 c.args.input c.bit_of-bit.ensures in
-    let clear =
-    clear_if c.fetch_or-found.result c.args.input (λ e. let a = c.has_bit.ensures.1 e in
-    let b = c.if-has_bit.false in
-    let Q : ⊥ = cc in
-    Q) in
     taken-seat c.seat.inside.seat.me c.seat.inside.claims c.seat.inside.hand c.seat.inside.made c.seat.invariant
-    c.fetch_or-found.new.seat.me
-    c.args.input c.bit_of-bit.result c.hand_from-seat-inside.result (told.taken clear) c.bit_of-bit.ensures
+    c.fetch_or-found.new.seat.me c.args.input c.bit_of-bit.result c.hand_from-seat-inside.result
+    (taken (goal.at.invariant_of-seat-2 c).Else-has_bit) c.bit_of-bit.ensures
     (c.hand_from-seat-inside.ensures ∙ ap (λ o. hand_at o c.args.input 0) (sym m.offers_are))
 
 pub returns-clause-seat : goal.returns-clause-seat
 returns-clause-seat c =
     let m = matched c.args.self.now c.args.seat.now _ _ _ _ c.self.view_is c.seat.view_is c.requires.seat in
-    let told = c.fetch_or-found.ensures.2 c.args.input c.bit_of-bit.ensures in
-    let clear =
-    clear_if c.fetch_or-found.result c.args.input (λ e. let a = c.has_bit.ensures.1 e in
-    let b = c.if-has_bit.false in
-    let Q : ⊥ = cc in
-    Q) in
     record {
       table = c.fetch_or-found.ensures.0 ∙ m.table_is ∙ m.table_seen;
-      offers = ap (λ (x : Seated). x.0.offers) (told.taken clear) ∙ m.offers_are ∙ m.offers_seen;
+      offers = ap (λ (x : Seated). x.0.offers) (taken (goal.at.returns-clause-seat c).Else-has_bit)
+          ∙ m.offers_are ∙ m.offers_seen;
     }
 
 pub returns-clause-taken : goal.returns-clause-taken
 returns-clause-taken c = λ _.
-    let m = matched c.args.self.now c.args.seat.now _ _ _ _ c.self.view_is c.seat.view_is c.requires.seat in
-    let told = c.fetch_or-found.ensures.2 c.args.input c.bit_of-bit.ensures in
-    let clear =
-    clear_if c.fetch_or-found.result c.args.input (λ e. let a = c.has_bit.ensures.1 e in
-    let b = c.if-has_bit.false in
-    let Q : ⊥ = cc in
-    Q) in
-    ap (λ (x : Seated). x.0) (told.taken clear) ∙ ap (λ v. claim_taken v c.args.input) m.view_seen
+    ap (λ (x : Seated). x.0) (taken (goal.at.returns-clause-taken c).Else-has_bit)
+    ∙ ap (λ s. claim_taken s.view c.args.input) c.seat.view_is

@@ -1,10 +1,11 @@
-use Rattle.std.proofs.Common.{◌∙◌, ap, sym, subst}
+use Rattle.std.proofs.Common.{◌≡◌, ◌∙◌, ap, sym, subst}
 use Rattle.std.specs.Slots.{slots_items}
 use Rattle.cq_prefs.specs.Orders.{Orders}
 use Rattle.cq_prefs.specs.Pairing.{IsInputBest, proposals}
 use Rattle.cq_ledger.proofs.Closing.{closing-shown, closing-phase}
 use Rattle.cq_ledger.proofs.SeatFields.{matched, all_claimed}
 use Rattle.cq_ledger.proofs.ledger.Ledger.close.Goals as goal
+use Rattle.cq_ledger.proofs.ledger.Ledger.close.Goals.{After-read_matching-matching}
 
 pub read_matching-matching-requires-clause-shown : goal.read_matching-matching-requires-clause-shown
 read_matching-matching-requires-clause-shown c =
@@ -12,29 +13,25 @@ read_matching-matching-requires-clause-shown c =
     closing-shown c.self.inside.table.shared.key c.self.inside.offers c.self.invariant.0 final.0.words
     (slots_items c.close_with-closed.result.words) final.0.views final.1.0 final.2
 
-pub returns-clause-best : goal.returns-clause-best
-returns-clause-best c =
+-- the matching is the one, and the seat made its proposals
+phase : (c : After-read_matching-matching) → IsInputBest c.self.inside.offers c.read_matching-matching.result
+    × (c.seat.inside.seat.me.0.made ≡ proposals c.self.inside.offers c.read_matching-matching.result)
+phase c =
     let final = c.close_with-closed.ensures.values.2 in
     let m = matched c.args.self c.args.seat _ _ _ _ c.self.view_is c.seat.view_is c.requires.seat in
-    let phase =
     closing-phase c.self.inside.table.shared.key c.self.inside.offers c.self.invariant.0 final.0.words
     (slots_items c.close_with-closed.result.words) final.0.views final.1.0 final.2
     c.seat.inside.seat.id c.seat.inside.seat.me.0 final.1.1
     (all_claimed c.args.self c.args.seat _ _ _ _ m c.requires.claimed)
     (ap (λ v. v.hand) m.view_seen ∙ c.requires.hand)
-    c.read_matching-matching.result c.read_matching-matching.ensures in
+    c.read_matching-matching.result c.read_matching-matching.ensures
+
+pub returns-clause-best : goal.returns-clause-best
+returns-clause-best c =
     let P : Orders → Type 0 = λ o. IsInputBest o c.read_matching-matching.result in
-    subst P m.offers_seen phase.0
+    subst P (ap (λ x. x.offers) c.self.view_is) (phase (goal.at.returns-clause-best c).After-read_matching-matching).0
 
 pub returns-clause-proposals : goal.returns-clause-proposals
 returns-clause-proposals c =
-    let final = c.close_with-closed.ensures.values.2 in
-    let m = matched c.args.self c.args.seat _ _ _ _ c.self.view_is c.seat.view_is c.requires.seat in
-    let phase =
-    closing-phase c.self.inside.table.shared.key c.self.inside.offers c.self.invariant.0 final.0.words
-    (slots_items c.close_with-closed.result.words) final.0.views final.1.0 final.2
-    c.seat.inside.seat.id c.seat.inside.seat.me.0 final.1.1
-    (all_claimed c.args.self c.args.seat _ _ _ _ m c.requires.claimed)
-    (ap (λ v. v.hand) m.view_seen ∙ c.requires.hand)
-    c.read_matching-matching.result c.read_matching-matching.ensures in
-    sym c.seat.invariant.counted ∙ phase.1 ∙ ap (λ o. proposals o c.read_matching-matching.result) m.offers_seen
+    sym c.seat.invariant.counted ∙ (phase (goal.at.returns-clause-proposals c).After-read_matching-matching).1
+    ∙ ap (λ x. proposals x.offers c.read_matching-matching.result) c.self.view_is
