@@ -1,4 +1,5 @@
 pub mod Waiting
+pub mod Showing
 pub mod Leaving
 pub mod Turns
 pub mod Reached

@@ -12,7 +12,7 @@ use Rattle.cq_prefs.specs.Orders.{Orders, AreOffers, ports, outputs_of}
 use Rattle.cq_prefs.specs.Pairing.{Partners, partner_of}
 use Rattle.cq_prefs.specs.Proposals.{State, next_place, start, is_free, matching_of, free_inputs}
 use Rattle.cq_prefs.proofs.ByKey.{length-put, length-filter-le}
-use Rattle.cq_prefs.proofs.Members.{apart_filter, apart_range, distinct}
+use Rattle.cq_prefs.proofs.Members.{apart_filter, apart_range, distinct, range_next}
 use Rattle.cq_prefs.proofs.Steps.{next_place-start}
 use Rattle.cq_prefs.proofs.Pairs.{nobody}
 use Rattle.cq_prefs.proofs.Holding.{partner-is}
@@ -247,15 +247,10 @@ no_offers_if o n order empty e is none =
     let zero : length order ≡ 0 = eqb-true (length order) 0 (sym is ∙ none) in
     le-ltb 0 (length (outputs_of o n)) (omega arith)
 
-range-more : (a n j : ℕ) → a + n ≡ j → range_with_len a (suc n) ≡ range_with_len a n ++ j ∷ []
-range-more a zero j e = ap (λ k. k ∷ []) (let f : a ≡ j = omega arith in f)
-range-more a (suc n) j e = ap (λ l. a ∷ l) (range-more (a + 1) n j (omega arith))
-
 offers-next : (o : Orders) (n : ℕ) →
     inputs_with_offers o (n + 1) ≡ inputs_with_offers o n ++ filter (has_offer o) (n ∷ [])
 offers-next o n =
-    ap (λ k. filter (has_offer o) (range_with_len 0 k)) (let f : n + 1 ≡ suc n = omega arith in f)
-    ∙ ap (filter (has_offer o)) (range-more 0 n n (omega arith))
+    ap (filter (has_offer o)) (range_next n)
     ∙ filter-append (has_offer o) (range_with_len 0 n) (n ∷ [])
 
 pub offers-more : (o : Orders) (n : ℕ) → has_offer o n ≡ true →

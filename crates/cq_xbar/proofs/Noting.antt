@@ -9,6 +9,7 @@ use Rattle.cq_base.specs.declared.cell.Queued.{Queued}
 use Rattle.cq_base.specs.declared.cell.Transfer.{Transfer}
 use Rattle.cq_base.specs.Cells.{first_for}
 use Rattle.cq_prefs.specs.FirstCells.{list_of}
+use Rattle.cq_prefs.proofs.Members.{range_next}
 use Rattle.cq_prefs.specs.Moves.{noted, transfers_of}
 use Rattle.cq_prefs.specs.Pairing.{Partners, partner_of}
 
@@ -26,12 +27,6 @@ pub noted_none : (m : Partners) (lists : List (List Queued)) (slot phase : ℕ) 
 unfolding noted_until
 noted_none m lists slot phase = refl
 
-range_more : (a n : ℕ) → range_with_len a (suc n) ≡ range_with_len a n ++ (a + n) ∷ []
-range_more a zero = let e : a ≡ a + 0 = omega arith in ap (λ k. k ∷ []) e
-range_more a (suc n) =
-    let e : a + 1 + n ≡ a + suc n = omega arith in
-    ap (λ l. a ∷ l) (range_more (a + 1) n ∙ ap (λ k. range_with_len (a + 1) n ++ k ∷ []) e)
-
 one_or_none : {X : Type 0} (o : Option X) → cons_option o [] ≡ option_to_list o
 one_or_none None = refl
 one_or_none (Some x) = refl
@@ -42,10 +37,7 @@ noted_more : (m : Partners) (lists : List (List Queued)) (slot phase n : ℕ) �
 unfolding noted_until
 noted_more m lists slot phase n =
     let f : ℕ → Option Transfer = λ i. noted slot phase i (list_of lists i) (partner_of m i) in
-    let next : n + 1 ≡ suc n = omega arith in
-    let last : 0 + n ≡ n = omega arith in
-    ap (λ k. filter_map f (range_with_len 0 k)) next
-    ∙ ap (filter_map f) (range_more 0 n ∙ ap (λ k. range_with_len 0 n ++ k ∷ []) last)
+    ap (filter_map f) (range_next n)
     ∙ filter_map-append f (range_with_len 0 n) (n ∷ [])
     ∙ ap (λ l. filter_map f (range_with_len 0 n) ++ l) (one_or_none (f n))
 

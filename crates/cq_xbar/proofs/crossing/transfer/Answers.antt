@@ -23,9 +23,6 @@ loop-input-init c =
 pub unwrap-queued-requires : goal.unwrap-queued-requires
 unwrap-queued-requires c =
     let p = sym c.partner_of.ensures.partner ∙ c.in-Some.is in
-    let size = c.requires.lists in
-    let inside = c.loop-input-test.true in
-    let sizes = c.loop-input.invariant.crossed.sizes in
     let cell = cell_there c.args.matching.now c.args.lists.now c.loop-input.input c.in-Some.output c.requires.cells p in
     let list = next_list _ _ _ _ _ _ c.loop-input.invariant.crossed c.index-lists-input.result (omega arith) in
     let taken = c.take.ensures.first ∙ ap (λ (w : Waiting). first_for c.in-Some.output w.cells) list ∙ cell.1 in
@@ -34,28 +31,19 @@ unwrap-queued-requires c =
 pub put-requires-clause-spare : goal.put-requires-clause-spare
 put-requires-clause-spare c =
     let p = sym c.partner_of.ensures.partner ∙ c.in-Some.is in
-    let pairs = c.partner_of.ensures.pairs in
-    let there = pairs.ports c.loop-input.input c.in-Some.output p in
-    let size = c.requires.buffers in
     let buffer =
     next_buffer _ _ _ _ _ _ c.loop-input.invariant.crossed c.in-Some.output c.index-buffers-output.result
-    (omega arith) pairs p in
+    c.requires.buffers c.partner_of.ensures.pairs p in
     subst (λ (b : Buffered). 0 < b.spare) (sym buffer) (room_there c.args.matching.now c.args.buffers.now
     c.loop-input.input c.in-Some.output c.requires.room p)
 
 pub put-requires-clause-other_key : goal.put-requires-clause-other_key
 put-requires-clause-other_key c =
     let p = sym c.partner_of.ensures.partner ∙ c.in-Some.is in
-    let pairs = c.partner_of.ensures.pairs in
-    let there = pairs.ports c.loop-input.input c.in-Some.output p in
-    let size = c.requires.buffers in
-    let lists = c.requires.lists in
-    let inside = c.loop-input-test.true in
-    let sizes = c.loop-input.invariant.crossed.sizes in
     let list = next_list _ _ _ _ _ _ c.loop-input.invariant.crossed c.index-lists-input.result (omega arith) in
     let buffer =
     next_buffer _ _ _ _ _ _ c.loop-input.invariant.crossed c.in-Some.output c.index-buffers-output.result
-    (omega arith) pairs p in
+    c.requires.buffers c.partner_of.ensures.pairs p in
     let found =
     ap (λ (w : Waiting). first_for c.in-Some.output w.cells) (sym list) ∙ sym c.take.ensures.first
     ∙ c.unwrap-queued.ensures in
@@ -66,11 +54,6 @@ put-requires-clause-other_key c =
 pub push-requires : goal.push-requires
 push-requires c =
     let few = noted_few c.args.matching.now (cells_of c.args.lists.now) c.args.slot c.args.phase c.loop-input.input in
-    let room = c.loop-input.invariant.room in
-    let inside = c.loop-input-test.true in
-    let sizes = c.loop-input.invariant.crossed.sizes in
-    let size = c.requires.lists in
-    let spare = c.requires.note in
     omega arith
 
 pub loop-input-preserved : goal.loop-input-preserved
@@ -86,12 +69,9 @@ loop-input-preserved c =
           let q = w.unwrap-queued.result in
           let p = sym c.partner_of.ensures.partner ∙ w.in-Some.is in
           let there = pairs.ports n j p in
-          let size = c.requires.lists in
-          let buffers_size = c.requires.buffers in
-          let inside = c.loop-input-test.true in
-          let sizes = inv.crossed.sizes in
           let list = next_list _ _ _ _ _ _ inv.crossed w.index-lists-input.result (omega arith) in
-          let buffer = next_buffer _ _ _ _ _ _ inv.crossed j w.index-buffers-output.result (omega arith) pairs p in
+          let buffer = next_buffer _ _ _ _ _ _ inv.crossed j w.index-buffers-output.result c.requires.buffers
+          pairs p in
           let found =
           ap (λ (l : Waiting). first_for j l.cells) (sym list) ∙ sym w.take.ensures.first
           ∙ w.unwrap-queued.ensures in
@@ -111,8 +91,6 @@ loop-input-preserved c =
           let until = noted_until m (cells_of lists) c.args.slot c.args.phase n in
           let t : Transfer =
           record { slot = c.args.slot; phase = c.args.phase; input = n; output = j; id = q.cell.id } in
-          let room = inv.room in
-          let pushed = w.push.ensures.spare in
           rw (w.lists-is, w.buffers-is, w.note-is) (record {
             crossed =
                 crossed_one _ _ _ _ _ _ inv.crossed j q w.take.new.self w.put.new.self pairs p found (omega arith)
@@ -127,7 +105,6 @@ loop-input-preserved c =
           let past =
           noted_past m (cells_of lists) c.args.slot c.args.phase n
           (sym c.partner_of.ensures.partner ∙ w.in_default.is) in
-          let room = inv.room in
           rw (w.lists-is, w.buffers-is, w.note-is) (record {
             crossed = crossed_past _ _ _ _ _ _ inv.crossed (sym c.partner_of.ensures.partner ∙ w.in_default.is);
             noted = inv.noted ∙ ap (λ l. c.args.note.now.items ++ l) (sym past);
@@ -140,13 +117,9 @@ returns c =
     let m = c.args.matching.now in
     let lists = cells_of c.args.lists.now in
     let inv = c.loop-input.invariant in
-    let past = c.loop-input-test.false in
-    let most = c.loop-input.auto.input-end in
-    let size = c.requires.lists in
     let end : c.loop-input.input ≡ length m = omega arith in
     let all = ap (noted_until m lists c.args.slot c.args.phase) end ∙ noted_all m lists c.args.slot c.args.phase in
     let all_long = ap length all in
-    let room = inv.room in
     record {
       moves = crossed_moves _ _ _ _ _ _ inv.crossed end;
       room = crossed_room _ _ _ _ _ _ inv.crossed end c.requires.cells c.requires.room;
