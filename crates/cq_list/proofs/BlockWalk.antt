@@ -72,7 +72,7 @@ module _ (blocks : List (List ℕ)) (i : ℕ) (block : List ℕ) (inside : i < l
   module _ (j k places own : ℕ) (ahead : IsAhead blocks j i places own) (late : own ≤ k)
       (early : k < count_of j (concat (take (i + 1) blocks))) where
     pub own_inside : k - own < count_of j block
-    own_inside = let next = count_next j in let few = ahead.few in omega arith
+    own_inside = let next = count_next j in omega arith
 
     pub nth_place : (within : ℕ) → within ≡ place_of_nth (is_output j) (k - own) block →
         places + within ≡ place_of_nth (is_output j) k (concat blocks)
@@ -80,7 +80,7 @@ module _ (blocks : List (List ℕ)) (i : ℕ) (block : List ℕ) (inside : i < l
         let p : ℕ → Bool = is_output j in
         let whole : concat blocks ≡ concat (take i blocks) ++ concat (drop i blocks) =
         ap concat (sym (take-append-drop i blocks)) ∙ concat-append (take i blocks) (drop i blocks) in
-        let all = ahead.all in let few = ahead.few in let inside = own_inside in
+        let inside = own_inside in
         let left : k - count_of j (concat (take i blocks)) ≡ k - own = omega arith in
         let found = ap (place_of_nth p k) whole
         ∙ nth_behind p k (concat (take i blocks)) (concat (drop i blocks)) (omega arith) in
@@ -96,7 +96,7 @@ module _ (blocks : List (List ℕ)) (i : ℕ) (block : List ℕ) (inside : i < l
           inside = inside;
           short = let there = nth_inside (is_output j) (k - own) block own_inside in
               let same = ap length block_is in omega arith;
-          at = let all = ahead.all in omega arith;
+          at = omega arith;
         }
 
   pub count_in_block : (j n : ℕ) → n ≤ length block →
@@ -121,7 +121,7 @@ none_ahead blocks j = record { all = refl; few = refl }
 
 pub some_blocks : (blocks : List (List ℕ)) (j k places own : ℕ) → IsAhead blocks j (length blocks) places own →
     k < own → 0 < length blocks
-some_blocks [] j k places own all there = absurd (let few = all.few in omega arith)
+some_blocks [] j k places own all there = absurd (omega arith)
 some_blocks (b ∷ bs) j k places own all there = omega arith
 
 -- ## From the last block back

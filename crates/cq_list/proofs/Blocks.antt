@@ -160,7 +160,7 @@ module _ (blocks : List (List ℕ)) (i : ℕ) (inside : i + 1 < length blocks) w
       ∙ take-take i (i + 1) blocks (omega arith) in
       record {
         inside = omega arith;
-        short = let len = ap length joined_at ∙ length-append block next in let short = spot.short in omega arith;
+        short = let len = ap length joined_at ∙ length-append block next in omega arith;
         at = ap (λ l. length (concat l) + o) ahead ∙ spot.at;
       }
 
@@ -178,7 +178,7 @@ module _ (blocks : List (List ℕ)) (i : ℕ) (inside : i + 1 < length blocks) w
       ∙ take-set-le i blocks (i + 1) (drop 1 next) (omega arith) in
       record {
         inside = omega arith;
-        short = let len = ap length pulled_at ∙ length-append block (take 1 next) in let short = spot.short in
+        short = let len = ap length pulled_at ∙ length-append block (take 1 next) in
             omega arith;
         at = ap (λ l. length (concat l) + o) ahead ∙ spot.at;
       }
@@ -190,7 +190,6 @@ module _ (blocks : List (List ℕ)) (place i o : ℕ) (front back : List ℕ) (s
   longer : length (insert (set blocks i front) (i + 1) back) ≡ length blocks + 1
   longer =
       let same = length-set blocks i front in
-      let inside = spot.inside in
       length-insert (set blocks i front) (i + 1) back (omega arith) ∙ ap (λ n. n + 1) same
 
   first_half : get_or (insert (set blocks i front) (i + 1) back) i [] ≡ front
@@ -203,13 +202,11 @@ module _ (blocks : List (List ℕ)) (place i o : ℕ) (front back : List ℕ) (s
   second_half : get_or (insert (set blocks i front) (i + 1) back) (i + 1) [] ≡ back
   second_half =
       let same = length-set blocks i front in
-      let inside = spot.inside in
       get_or-insert_at (set blocks i front) (i + 1) back [] (omega arith)
 
   ahead_same : take i (insert (set blocks i front) (i + 1) back) ≡ take i blocks
   ahead_same =
       let same = length-set blocks i front in
-      let inside = spot.inside in
       let long : i ≤ length (take (i + 1) (set blocks i front)) = let len = length-take (i + 1) (set blocks i front) in
       omega arith in
       take-append-le i (take (i + 1) (set blocks i front)) (back ∷ drop (i + 1) (set blocks i front)) long
@@ -219,7 +216,7 @@ module _ (blocks : List (List ℕ)) (place i o : ℕ) (front back : List ℕ) (s
   pub in_front_half : o < 32 → IsSpot (insert (set blocks i front) (i + 1) back) place i o
   in_front_half early =
       record {
-        inside = let len = longer in let inside = spot.inside in omega arith;
+        inside = let len = longer in omega arith;
         short = let len = ap length first_half in omega arith;
         at = ap (λ l. length (concat l) + o) ahead_same ∙ spot.at;
       }
@@ -233,13 +230,11 @@ module _ (blocks : List (List ℕ)) (place i o : ℕ) (front back : List ℕ) (s
         short =
             let len = ap length second_half in
             let whole = ap length parts ∙ length-append front back in
-            let short = spot.short in
             omega arith;
         at =
             let more = ahead_more (insert (set blocks i front) (i + 1) back) i inside in
             let first = ap length first_half in
             let same = ap (λ l. length (concat l)) ahead_same in
-            let at = spot.at in
             omega arith;
       }
 
@@ -258,7 +253,7 @@ module _ (blocks : List (List ℕ)) (place i o : ℕ) (read : List ℕ) (spot : 
       concat (set blocks i new) ≡ insert (concat blocks) place y
   inserted_at y new is =
       ap (λ b. concat (set blocks i b)) (is ∙ ap (λ b. insert b o y) block_is)
-      ∙ insert_in blocks i o y spot.inside (let short = spot.short in omega arith)
+      ∙ insert_in blocks i o y spot.inside (omega arith)
       ∙ ap (λ n. insert (concat blocks) n y) spot.at
 
   pub removed_at : (new : List ℕ) → new ≡ remove read o → concat (set blocks i new) ≡ remove (concat blocks) place

@@ -47,7 +47,6 @@ all_remove P (x ∷ xs) (suc i) all = (all.0, all_remove P xs i all.1)
 pub count_beyond : (xs : List ℕ) (j : ℕ) → AllByRecursion (λ i. i < 64) xs → 64 ≤ j → 0 ≡ count_of j xs
 count_beyond [] j all beyond = refl
 count_beyond (x ∷ xs) j all beyond =
-    let here = all.0 in
     count_beyond xs j all.1 beyond ∙ ap length (sym (fails (is_output j) x xs (ne_eqb x j (λ same. omega arith))))
 
 pub no_places : (places counts : List ℕ) → places ≡ [] → counts ≡ replicate 64 0 → AreCounts places counts
@@ -62,7 +61,7 @@ no_places places counts none zeros =
 
 module _ (places counts : List ℕ) (had : AreCounts places counts) where
   pub count_fits : (j : ℕ) → j < 64 → get_or counts j 0 ≤ 64
-  count_fits j inside = let same = had.counted j inside in let le = count_le j places in let short = had.short in
+  count_fits j inside = let same = had.counted j inside in let le = count_le j places in
       omega arith
 
   pub counts_insert : (i j : ℕ) → i ≤ length places → length places < 64 → j < 64 →
@@ -126,7 +125,7 @@ module _ (places counts : List ℕ) (had : AreCounts places counts) where
               ∙ count_of-other (remove places i) i j k (λ same. ne (sym same)))
               (cases_eq k j);
           in_range = all_remove (λ k. k < 64) places i had.in_range;
-          short = let len = length-remove places i inside in let short = had.short in omega arith;
+          short = let len = length-remove places i inside in omega arith;
           each = length-set counts j (get_or counts j 0 - 1) ∙ had.each;
         }
 

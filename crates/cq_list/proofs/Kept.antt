@@ -111,7 +111,7 @@ module _ (outputs : ℕ) (places : PlacesView) (pool : PoolView) (w : Waiting)
   arrived cushion c new_places new_pool inside other ahead outs queues spare =
       let j : ℕ = c.cell.output in
       let old : Queues = queue_of pool.queues in
-      let own : j < length pool.queues = let as_many = had.queues in omega arith in
+      let own : j < length pool.queues = omega arith in
       let split = split_arrived places.outputs old w.cells cushion c had.split had.waiting.in_order other ahead in
       record {
         waiting = are_waiting_arrived outputs w.cells c cushion had.waiting inside other ahead;

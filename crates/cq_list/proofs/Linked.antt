@@ -145,7 +145,6 @@ module _ (old new : Nodes) (j : ℕ) (queue more : Queue) (count k : ℕ) (c : Q
   count_inside =
       let inside = first_inside (is_later c.key) (cells (linked old queue)) in
       let same = length-map (linked old queue) (λ (e : ℕ × Queued). e.1) in
-      let whole = had.chained.whole in
       omega arith
 
   pub cells_more : cells (linked new more) ≡ put c (cells (linked old queue))
@@ -187,7 +186,7 @@ module _ (old new : Nodes) (j : ℕ) (queue more : Queue) (count k : ℕ) (c : Q
           whole =
               ap length chained
               ∙ length-insert (linked old queue) count (k, c)
-              (let inside = count_inside in let whole = had.chained.whole in omega arith)
+              (let inside = count_inside in omega arith)
               ∙ ap (λ n. n + 1) had.chained.whole ∙ sym len;
           rising = subst IsRising (sym cells_more) (rising_put c (cells (linked old queue)) had.chained.rising other);
           last = ends_more;
@@ -239,7 +238,7 @@ module _ (old new : Nodes) (j n : ℕ) (queue : Queue) (node : Node) (had : IsLi
       record {
         chained = record {
           whole = let same = ap length (seen ∙ ap (λ l. (queue.first, node.queued) ∷ l) (sym rest_stays)) in
-              let whole = had.chained.whole in omega arith;
+              omega arith;
           rising = rising.1;
           last = λ m is.
               ap (λ l. slice_get (places l) m) rest_stays

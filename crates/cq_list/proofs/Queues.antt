@@ -148,10 +148,9 @@ module _ (old new : Slab Node) (j room : ℕ) (queues : List Queue) (seen : List
         counted =
             let sum = sum_by-set (λ (q : Queue). q.len) queues j queue read r.inside in
             let same = ap (λ (q : Queue). q.len) r.read in
-            let counted = had.counted in
             omega arith;
         fits = fits;
-        memory = let memory = had.memory in omega arith;
+        memory = omega arith;
       }
 
   pub view_changed : (f : List Queued → List Queued) → cells (linked (get new) queue) ≡ f

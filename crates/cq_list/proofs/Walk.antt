@@ -35,7 +35,6 @@ module _ (nodes : Nodes) (queue : Queue) (count place : ℕ) (had : IsChained no
   pub node_there : (node : Node) × (nodes place ≡ Some node)
   node_there =
       let long = length-drop count (linked nodes queue) in
-      let whole = had.whole in
       let same = ap length reached in
       let all : length (chain nodes (queue.len - count) place) ≡ suc (queue.len - (count + 1)) = omega arith in
       begins nodes (queue.len - (count + 1)) place (ap (λ n. length (chain nodes n place)) (sym left) ∙ all)
@@ -98,7 +97,6 @@ module _ (nodes : Nodes) (queue : Queue) (p : Queued → Bool) (count place : �
       let here =
       ap (position_or_len p) (drop_shown (cells (linked nodes queue)) count node.queued shown)
       ∙ first_here p node.queued (drop (count + 1) (cells (linked nodes queue))) passes in
-      let behind = looks.passed.behind in
       omega arith
 
   pub search_on : p node.queued ≡ false → HasPassed nodes queue p (count + 1) node.next
@@ -122,8 +120,6 @@ pub searched_all :
     HasPassed nodes queue p count place → queue.len ≤ count → queue.len ≡ position_or_len p (cells (linked nodes queue))
 searched_all nodes queue p count place had passed past =
     let many = length-map (linked nodes queue) (λ (e : ℕ × Queued). e.1) in
-    let whole = had.whole in
     let none = ap (position_or_len p) (drop_all count (cells (linked nodes queue)) (omega arith)) in
     let short = first_inside p (cells (linked nodes queue)) in
-    let behind = passed.behind in
     omega arith

@@ -9,19 +9,16 @@ pub overflow_add-result : goal.overflow_add-result
 overflow_add-result c =
     let few = count_le c.args.output (take c.each.left c.places-item.result) in
     let short = length-take c.each.left c.places-item.result in
-    let count = c.count_ahead.ensures in let sum = c.each.invariant.1 in let small = c.ranges.place in
     omega arith
 
 pub overflow_add-count : goal.overflow_add-count
 overflow_add-count c =
     let few = count_le c.args.output c.places-item.result in
-    let count = c.count-count.ensures in let sum = c.each.invariant.1 in let late = c.if-left-len.false in
-    let len = c.len-len.ensures.len in let small = c.ranges.place in
     omega arith
 
 pub each-preserved : goal.each-preserved
 each-preserved c =
-    let late = c.if-left-len.false in let count = c.count-count.ensures in let len = c.len-len.ensures.len in
+    let len = c.len-len.ensures.len in
     let past =
     count_past_block c.args.blocks.now _ c.places-item.result c.each-test.true c.places-item.is c.args.output
     c.each.left (omega arith) in
@@ -29,5 +26,4 @@ each-preserved c =
     (take (c.each.left - n) (concat (drop (c.each.places-index + 1) c.args.blocks.now)))) len in
     let few = count_le c.args.output c.places-item.result in
     let more = rest_next c.args.blocks.now _ c.places-item.result c.each-test.true c.places-item.is in
-    let rest = c.each.invariant.0 in let sum = c.each.invariant.1 in let inside = c.each.invariant.2 in
     (omega arith, omega arith, omega arith)

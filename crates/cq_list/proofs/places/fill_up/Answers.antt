@@ -8,14 +8,12 @@ use Rattle.cq_list.proofs.places.fill_up.Goals as goal
 pub returns-then-len-gt16-clause-longer : goal.returns-then-len-gt16-clause-longer
 returns-then-len-gt16-clause-longer c =
     let read = ap length (get_or_read c.args.blocks.now.items _ _ c.requires.inside c.index-block.ensures []) in
-    let len = c.len-len.ensures.len in
-    let many = c.if-len-gt16.true in
     λ l. omega arith
 
 pub returns-then-many-le32 : goal.returns-then-many-le32
 returns-then-many-le32 c =
     let inside : c.args.at + 1 < length c.args.blocks.now.items =
-    let count = c.len-count.ensures in let other = c.if-next-count.false in let inside = c.requires.inside in
+    let inside = c.requires.inside in
     omega arith in
     record {
       places = ap concat c.join_next.ensures.joined ∙ joined_in c.args.blocks.now.items c.args.at inside;
@@ -29,12 +27,9 @@ returns-then-many-le32 c =
 
 pub returns-else-many-le32 : goal.returns-else-many-le32
 returns-else-many-le32 c =
-    let inside : c.args.at + 1 < length c.args.blocks.now.items =
-    let count = c.len-count.ensures in let other = c.if-next-count.false in let at = c.requires.inside in
-    omega arith in
+    let inside : c.args.at + 1 < length c.args.blocks.now.items = omega arith in
     let read = ap length (get_or_read c.args.blocks.now.items _ _ inside c.index-behind.ensures []) in
-    let long : 32 < length (get_or c.args.blocks.now.items (c.args.at + 1) []) =
-    let len = c.len-many.ensures.len in let many = c.if-many-le32.false in omega arith in
+    let long : 32 < length (get_or c.args.blocks.now.items (c.args.at + 1) []) = omega arith in
     record {
       places = ap concat c.pull_next.ensures.pulled ∙ pulled_in c.args.blocks.now.items c.args.at inside;
       filled = rw c.pull_next.ensures.pulled

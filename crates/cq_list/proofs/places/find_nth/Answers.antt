@@ -13,4 +13,4 @@ nth_in-requires-clause-early c =
     let inside = some_blocks c.args.blocks.now c.args.output _ _ _ c.requires.all c.requires.there in
     let next = count_next c.args.blocks.now 0 c.index-blocks-0.result inside c.index-blocks-0.is c.args.output in
     let none = (none_ahead c.args.blocks.now c.args.output).few in
-    let count = c.count.ensures in let few = c.if-number-count.true in omega arith
+    omega arith

@@ -15,7 +15,6 @@ pub returns-clause-filled : goal.returns-clause-filled
 returns-clause-filled c =
     let spot = c.spot_with_room-spot.ensures.spot in
     let read = ap length (get_or_read _ _ _ spot.inside c.index_mut-block.ensures.value []) in
-    let short = spot.short in
     let longer = ap length c.insert.ensures ∙ length-insert c.index_mut-block.result.now _ c.args.output
     (omega arith) in
     filled_longer c.spot_with_room-spot.new.blocks.items c.spot_with_room-spot.result.block _

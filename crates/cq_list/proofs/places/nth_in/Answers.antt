@@ -11,8 +11,7 @@ overflow_add-result c =
     c.args.output c.args.number _ _ c.requires.ahead c.requires.late c.requires.early in
     let inside = nth_inside (is_output c.args.output) (c.args.number - c.args.ahead.own) c.index-blocks-block.result
     own in
-    let place = c.place_of-within.ensures in
-    let all = c.requires.ahead.all in let small = c.requires.fits in omega arith
+    omega arith
 
 pub returns-clause-place : goal.returns-clause-place
 returns-clause-place c =

@@ -13,7 +13,6 @@ pub remove-requires : goal.remove-requires
 remove-requires c =
     let spot = c.fill_up.ensures.spot _ _ c.requires.spot in
     let read = ap length (get_or_read c.fill_up.new.blocks.items _ _ spot.inside c.index_mut-block.ensures.value []) in
-    let short = spot.short in
     omega arith
 
 pub returns-clause-places : goal.returns-clause-places
@@ -26,7 +25,6 @@ pub returns-clause-filled : goal.returns-clause-filled
 returns-clause-filled c =
     let spot = c.fill_up.ensures.spot _ _ c.requires.spot in
     let read = ap length (get_or_read c.fill_up.new.blocks.items _ _ spot.inside c.index_mut-block.ensures.value []) in
-    let short = spot.short in
     let less = length-remove c.index_mut-block.result.now c.args.spot.within (omega arith) in
     let left = ap length c.remove.ensures.rest in
     filled_set c.fill_up.new.blocks.items c.args.spot.block _ c.fill_up.ensures.filled

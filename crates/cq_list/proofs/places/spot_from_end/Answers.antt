@@ -27,7 +27,6 @@ pub each-preserved : goal.each-preserved
 each-preserved c =
     let start = starts_back c.args.blocks.now c.each.passed c.index-blocks-block.result _ _ c.each-test.true
     c.index-blocks-block.is c.len-end.ensures.len c.each.invariant.end in
-    let left = c.each-test.true in let late = c.if-end-place.false in
     let same : length c.args.blocks.now - 1 - c.each.passed ≡ length c.args.blocks.now - (c.each.passed + 1) =
     omega arith in
     let end = ap (λ n. length (concat (take n c.args.blocks.now))) same in

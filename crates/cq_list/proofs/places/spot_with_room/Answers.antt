@@ -69,7 +69,5 @@ returns-clause-capacity c =
 pub returns-clause-filled : goal.returns-clause-filled
 returns-clause-filled c =
     let h = halved c in
-    let front = c.split_off-back.ensures.front in
-    let back = c.split_off-back.ensures.back in
     subst AreFilled (sym h.items) (filled_split c.args.blocks.now.items _ _ _ c.requires.filled h.spot.inside
     (omega arith) (omega arith))

@@ -5,14 +5,14 @@ use Rattle.cq_list.proofs.places.with_block.Goals as goal
 pub overflow_add-result : goal.overflow_add-result
 overflow_add-result c =
     let fits = block_fits c.args.blocks.now _ c.index-blocks-block.result c.requires.inside c.index-blocks-block.is in
-    let all = c.requires.ahead.all in let len = c.len.ensures.len in let small = c.requires.fits in omega arith
+    omega arith
 
 pub overflow_add-result-2 : goal.overflow_add-result-2
 overflow_add-result-2 c =
     let next = count_next c.args.blocks.now _ c.index-blocks-block.result c.requires.inside c.index-blocks-block.is
     c.args.output in
     let le = count_all_le c.args.blocks.now (c.args.block + 1) c.args.output in
-    let few = c.requires.ahead.few in let count = c.count.ensures in let small = c.requires.fits in omega arith
+    omega arith
 
 pub returns : goal.returns
 returns c =

@@ -5,13 +5,13 @@ use Rattle.cq_list.proofs.places.without_block.Goals as goal
 pub overflow_sub-result : goal.overflow_sub-result
 overflow_sub-result c =
     let next = ahead_next c.args.blocks.now _ c.index-blocks-block.result c.requires.inside c.index-blocks-block.is in
-    let all = c.requires.ahead.all in let len = c.len.ensures.len in omega arith
+    omega arith
 
 pub overflow_sub-result-2 : goal.overflow_sub-result-2
 overflow_sub-result-2 c =
     let next = count_next c.args.blocks.now _ c.index-blocks-block.result c.requires.inside c.index-blocks-block.is
     c.args.output in
-    let few = c.requires.ahead.few in let count = c.count.ensures in omega arith
+    omega arith
 
 pub returns : goal.returns
 returns c =

@@ -7,26 +7,22 @@ use Rattle.cq_list.proofs.pool.cell_at.Goals as goal
 
 pub index-requires : goal.index-requires
 index-requires c =
-    let inside : c.nodes.counter < c.args.queue.len = let in_range = c.requires.inside in let at = c.nodes-test.true in
-    omega arith in
+    let inside : c.nodes.counter < c.args.queue.len = omega arith in
     ap is_some (node_there _ _ _ _ c.requires.chained c.nodes.invariant inside).1
 
 pub nodes-preserved : goal.nodes-preserved
 nodes-preserved c =
-    let inside : c.nodes.counter < c.args.queue.len = let in_range = c.requires.inside in let at = c.nodes-test.true in
-    omega arith in
+    let inside : c.nodes.counter < c.args.queue.len = omega arith in
     reached_next _ _ _ _ c.requires.chained c.nodes.invariant inside _ c.index.ensures
 
 pub index-requires-2 : goal.index-requires-2
 index-requires-2 c =
-    let inside : c.nodes.counter < c.args.queue.len = let in_range = c.requires.inside in
-    let far = c.nodes.auto.counter-end in omega arith in
+    let inside : c.nodes.counter < c.args.queue.len = omega arith in
     ap is_some (node_there _ _ _ _ c.requires.chained c.nodes.invariant inside).1
 
 pub returns : goal.returns
 returns c =
-    let at : c.args.ahead ≡ c.nodes.counter = let far = c.nodes.auto.counter-end in let end = c.nodes-test.false in
-    omega arith in
-    let inside : c.nodes.counter < c.args.queue.len = let in_range = c.requires.inside in omega arith in
+    let at : c.args.ahead ≡ c.nodes.counter = omega arith in
+    let inside : c.nodes.counter < c.args.queue.len = omega arith in
     ap (slice_get (cells (linked (get c.args.nodes.now) c.args.queue))) at
     ∙ cell_shown _ _ _ _ c.requires.chained c.nodes.invariant inside _ c.index-2.ensures

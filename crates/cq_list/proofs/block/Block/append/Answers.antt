@@ -12,7 +12,6 @@ pub insert-requires-clause-room : goal.insert-requires-clause-room
 insert-requires-clause-room c =
     let whole = ap length c.moved.invariant ∙ length-append c.args.self.now (take c.moved.place c.args.more.now) in
     let short = length-take c.moved.place c.args.more.now in
-    let fits = c.requires in let early = c.moved-test.true in let len = c.len-place-end.ensures.len in
     omega arith
 
 pub moved-preserved : goal.moved-preserved
@@ -26,6 +25,5 @@ moved-preserved c =
 
 pub returns : goal.returns
 returns c =
-    let all : length c.args.more.now ≡ c.moved.place = let end = c.moved-test.false in
-    let far = c.moved.auto.place-end in let len = c.len-place-end.ensures.len in omega arith in
+    let all : length c.args.more.now ≡ c.moved.place = omega arith in
     c.moved.invariant ∙ ap (λ l. c.args.self.now ++ l) (take_all c.moved.place c.args.more.now (omega arith))

@@ -30,7 +30,6 @@ now c =
     let outputs = ap (λ (w : Waiting). w.outputs) c.self.view_is in let range = c.requires.in_range in omega arith in
     let spare : c.insert.new.self.spare ≡ c.put-ahead.new.self.spare =
     let same = (had _ _ _ _ c.self.invariant c.self.view_is).spare in
-    let places = c.insert.ensures.spare in let pool = c.put-ahead.ensures.spare in
     omega arith in
     arrived _ _ _ _ c.self.invariant c.self.view_is c.args.cushion c.args.queued _ _ range c.requires.other_key
     c.requires.ahead

@@ -27,7 +27,6 @@ now : (c : goal.After-take) → StandFor c.self.inside.outputs c.remove_first.ne
 now c =
     let spare : c.remove_first.new.self.spare ≡ c.take.new.self.spare =
     let same = (had _ _ _ _ c.self.invariant c.self.view_is).spare in
-    let places = c.remove_first.ensures.spare in let pool = c.take.ensures.spare in
     omega arith in
     left _ _ _ _ c.self.invariant c.self.view_is c.args.output _ _ _ c.take.ensures.first
     c.remove_first.ensures.outputs c.take.ensures.queues spare

@@ -11,7 +11,6 @@ outputs-init c =
 pub outputs-preserved : goal.outputs-preserved
 outputs-preserved c =
     let next = least_next c.args.id c.outputs.output c.args.self.now.cells in
-    let place = c.outputs.invariant in let own = c.place_of_id.ensures in let least = c.min-place.ensures in
     omega arith
 
 pub returns-then-place-len : goal.returns-then-place-len

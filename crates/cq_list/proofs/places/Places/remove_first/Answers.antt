@@ -10,8 +10,7 @@ pub invariant_of-self : goal.invariant_of-self
 invariant_of-self c =
     let all = concat c.self.inside.blocks.items in
     let counts = ap (λ (v : PlacesView). count_of c.args.output v.outputs) c.self.view_is in
-    let there : 0 < count_of c.args.output all =
-    let some = c.requires.some in let many = c.requires.all in omega arith in
+    let there : 0 < count_of c.args.output all = omega arith in
     let early = nth_inside (is_output c.args.output) 0 all there in
     let place : c.find_nth-place.result.0 ≡ place_of_nth (is_output c.args.output) 0 all =
     c.find_nth-place.ensures.place ∙ ap (λ l. place_of_nth (is_output c.args.output) 0
@@ -24,5 +23,5 @@ invariant_of-self c =
       filled = c.remove_at.ensures.filled;
       counted = omega arith;
       fits = omega arith;
-      memory = let memory = c.self.invariant.memory in let same = c.remove_at.ensures.capacity in omega arith;
+      memory = omega arith;
     }

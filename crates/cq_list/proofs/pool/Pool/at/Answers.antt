@@ -8,5 +8,5 @@ cell_at-requires c =
     (inside_some _ c.args.output c.args.ahead c.requires) c.index.ensures in
     record {
       chained = read.is_linked.chained;
-      inside = let many = as_many _ _ _ _ _ read in let ahead = c.requires in omega arith;
+      inside = let many = as_many _ _ _ _ _ read in omega arith;
     }

@@ -23,7 +23,7 @@ read_queue c =
       read = is_read _ _ _ _ _ c.self.invariant.linked view
           (subst (λ (l : List Queue). c.args.output < length l) items lookup.3.0)
           (lookup.1 ∙ ap (λ l. get_or l c.args.output c.in_ok-queue.field-0.now) items);
-      some = let some = c.if-queue-eq0.false in omega arith;
+      some = omega arith;
     }
 
 pub index-requires : goal.index-requires

@@ -27,9 +27,6 @@ pub invariant_of-self : goal.invariant_of-self
 invariant_of-self c =
     let read = read_of _ _ _ _ _ _ _ c.self.invariant c.self.view_is c.requires.in_range c.index-queue.ensures in
     let spare = ap (λ (v : PoolView). v.spare) c.self.view_is in
-    let some = c.requires.spare in
-    let len = c.put_into.ensures.len in
-    let longer = c.put_into.ensures.longer in
     is_pool_changed c.self.inside.nodes _ _ _ c.self.inside.queues.items _ c.index-queue.result.now _ c.self.invariant
     read c.put_into.ensures.others c.put_into.ensures.linked (omega arith) (omega arith) c.put_into.ensures.capacity
 

@@ -43,9 +43,6 @@ taken c =
 pub invariant_of-self : goal.invariant_of-self
 invariant_of-self c =
     let t = taken c in
-    let len = c.remove-node.ensures.len in
-    let fits = c.self.invariant.fits in
-    let some = t.some in
     is_pool_changed c.self.inside.nodes c.remove-node.new.self _ c.self.inside.room _ _ _ _ c.self.invariant t.read
     t.stay
     (linked_less _ _ _ _ _ _ t.read.is_linked t.some c.remove-node.ensures.value t.others)
