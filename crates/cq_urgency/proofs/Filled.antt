@@ -46,12 +46,12 @@ filled_halved (b ∷ bs) i f full = all_filled (halved (b ∷ bs) i) (led_halved
 
 half_few : (blocks : List (List Queued)) → AreHalf blocks → 32 * length blocks ≤ length (flattened blocks)
 half_few [] a = omega arith
-half_few (b ∷ bs) a = let rest = half_few bs a.1 in let l = a.0 in
+half_few (b ∷ bs) a = let rest = half_few bs a.1 in
     let len = length-append b (flattened bs) in omega arith
 
 few_blocks : (blocks : List (List Queued)) → AreFilled blocks → 32 * length blocks ≤ length (flattened blocks) + 31
 few_blocks [] f = omega arith
-few_blocks (b ∷ bs) f = let rest = half_few bs f.1 in let l = f.0 in
+few_blocks (b ∷ bs) f = let rest = half_few bs f.1 in
     let len = length-append b (flattened bs) in omega arith
 
 -- there is room for one more block where a full one is split

@@ -173,7 +173,7 @@ module _ (pool : List (List Queued)) (order counts free : List ℕ) (p : ArePlac
         once = λ n.
             let more = sum_by-insert (λ (other : ℕ). bit (other == n)) order i number in
             let had = p.once n in let come = q.once n in omega arith;
-        all = let more = length-insert order i number le in let had = p.all in let come = q.all in omega arith;
+        all = let more = length-insert order i number le in omega arith;
         counted =
             ap (insert counts i) long
             ∙ ap (λ l. insert l i (length block)) p.counted
@@ -231,7 +231,7 @@ module _ (pool pool' : List (List Queued)) (free free' : List ℕ) (block : List
             let one : has (set pool number front) n ≡ has pool n = ap (λ k. bit (nat_lt n k)) size in
             let two : has (set (set pool' other back) number front) n ≡ has pool' n =
             ap (λ k. bit (nat_lt n k)) size' in omega arith;
-        all = let all = q.all in omega arith;
+        all = omega arith;
         fewer = q.fewer;
         grown = λ l. q.grown (omega arith);
       }
@@ -306,7 +306,7 @@ freed_placed pool (x ∷ xs) counts free block number p some is =
           let first : bit (number == n) ≡ bit (x == n) = ap (λ k. bit (k == n)) is in
           let same : has (set pool number block) n ≡ has pool n = ap (λ k. bit (nat_lt n k))
           (length-set pool number block) in omega arith;
-      all = let had = p.all in let push = length_push free number in
+      all = let push = length_push free number in
           let same = length-set pool number block in omega arith;
       counted =
           ap (λ l. remove l 0) p.counted

@@ -69,7 +69,7 @@ AreSome blocks = AllByRecursion (λ block. 0 < length block) blocks
 
 longer_some : (blocks : List (List Queued)) → AllByRecursion (λ block. 32 ≤ length block) blocks → AreSome blocks
 longer_some [] a = tt
-longer_some (b ∷ bs) a = (let l = a.0 in omega arith, longer_some bs a.1)
+longer_some (b ∷ bs) a = (omega arith, longer_some bs a.1)
 
 filled_some : (blocks : List (List Queued)) → AreFilled blocks → AreSome blocks
 filled_some [] f = tt
@@ -89,7 +89,7 @@ none_lesser key x xs first after =
 none_behind : (key : Key) (blocks : List (List Queued)) → IsRising (flattened blocks) → AreSome blocks →
     (0 < length blocks → starts_before key (block_at blocks 0) ≡ false) → cushion key (flattened blocks) ≡ 0
 none_behind key [] r some first = cushion_none key [] tt
-none_behind key ([] ∷ bs) r some first = absurd (let l = some.0 in omega arith)
+none_behind key ([] ∷ bs) r some first = absurd (omega arith)
 none_behind key ((x ∷ xs) ∷ bs) r some first = none_lesser key x (xs ++ flattened bs) (first (omega arith)) r.0
 
 cushion_in : (key : Key) (blocks : List (List Queued)) (i : ℕ) → IsRising (flattened blocks) → AreSome blocks →
@@ -163,7 +163,6 @@ module _ (key : Key) (blocks : List (List Queued)) (r : IsRising (flattened bloc
   pub spot_in : (place block within : ℕ) → AreBegun key blocks place → block + 1 ≡ place →
       within ≡ cushion key (block_at blocks block) → IsSpot blocks (cushion key (flattened blocks)) block within
   spot_in place block within begun next is =
-      let le = begun.inside in
       record {
         inside = omega arith;
         short = let few = cushion_le key (block_at blocks block) in omega arith;
@@ -201,7 +200,6 @@ module _ (blocks : List (List Queued)) (ahead i o : ℕ) (spot : IsSpot blocks a
   pub longer : length (halved blocks i) ≡ length blocks + 1
   longer =
       let same = length-set blocks i (take 32 (block_at blocks i)) in
-      let inside = spot.inside in
       length-insert (set blocks i (take 32 (block_at blocks i))) (i + 1) (drop 32 (block_at blocks i)) (omega arith)
       ∙ ap (λ n. n + 1) same
 
@@ -216,14 +214,12 @@ module _ (blocks : List (List Queued)) (ahead i o : ℕ) (spot : IsSpot blocks a
   second_half : block_at (halved blocks i) (i + 1) ≡ drop 32 (block_at blocks i)
   second_half =
       let same = length-set blocks i (take 32 (block_at blocks i)) in
-      let inside = spot.inside in
       get_or-insert_at (set blocks i (take 32 (block_at blocks i))) (i + 1) (drop 32 (block_at blocks i)) []
       (omega arith)
 
   ahead_same : take i (halved blocks i) ≡ take i blocks
   ahead_same =
       let same = length-set blocks i (take 32 (block_at blocks i)) in
-      let inside = spot.inside in
       let long : i ≤ length (take (i + 1) (set blocks i (take 32 (block_at blocks i)))) = let len = length-take
       (i + 1) (set blocks i (take 32 (block_at blocks i))) in omega arith in
       take-append-le i (take (i + 1) (set blocks i (take 32 (block_at blocks i))))
@@ -240,7 +236,7 @@ module _ (blocks : List (List Queued)) (ahead i o : ℕ) (spot : IsSpot blocks a
   pub in_front_half : o ≤ 32 → IsSpot (halved blocks i) ahead i o
   in_front_half early =
       record {
-        inside = let len = longer in let inside = spot.inside in omega arith;
+        inside = let len = longer in omega arith;
         short = let len = front_length in omega arith;
         at = ap (λ l. cells_in_all l + o) ahead_same ∙ spot.at;
       }
@@ -250,8 +246,8 @@ module _ (blocks : List (List Queued)) (ahead i o : ℕ) (spot : IsSpot blocks a
       let len = longer in let inside = spot.inside in
       record {
         inside = omega arith;
-        short = let size = back_length in let short = spot.short in omega arith;
+        short = let size = back_length in omega arith;
         at =
             let more = sum_by_more (λ (block : List Queued). length block) (halved blocks i) i [] (omega arith) in
-            let size = front_length in let same = ap cells_in_all ahead_same in let at = spot.at in omega arith;
+            let size = front_length in let same = ap cells_in_all ahead_same in omega arith;
       }

@@ -6,7 +6,6 @@ use Rattle.cq_urgency.proofs.block.move_front.Goals as goal
 
 pub returns-clause-front : goal.returns-clause-front
 returns-clause-front c =
-    let inside = c.requires.inside in let each = c.requires.each in
     let left = length-drop c.args.head c.args.cells.now in
     let count : 64 - c.args.head ≡ 0 + (64 - c.args.head) = omega arith in
     ap (take (64 - c.args.head)) c.copy_within.ensures.after

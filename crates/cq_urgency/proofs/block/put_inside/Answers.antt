@@ -8,8 +8,6 @@ use Rattle.cq_urgency.proofs.block.put_inside.Goals as goal
 pub returns-then-end-lt64-clause-cells : goal.returns-then-end-lt64-clause-cells
 returns-then-end-lt64-clause-cells c =
     let xs : List Queued = c.args.cells.now in
-    let place = c.requires.inside in let inside = c.requires.piece.inside in let each = c.requires.piece.each in
-    let early = c.if-end-lt64.true in
     let from : ℕ = c.args.head + c.args.place in
     let behind : ℕ = c.args.len - c.args.place in
     let part : ℕ = c.args.head + c.args.len + 1 - from in
@@ -22,8 +20,6 @@ returns-then-end-lt64-clause-cells c =
 pub returns-clause-cells : goal.returns-clause-cells
 returns-clause-cells c =
     let xs : List Queued = c.move_front.new.cells in
-    let place = c.requires.inside in let inside = c.requires.piece.inside in let each = c.requires.piece.each in
-    let late = c.if-end-lt64.false in let room = c.requires.room in let whole = c.move_front.ensures.each in
     let len : ℕ = c.args.len in
     let behind : ℕ = len - c.args.place in
     let part : ℕ = len + 1 - c.args.place in

@@ -17,19 +17,17 @@ pub at-queued-requires : goal.at-queued-requires
 at-queued-requires c =
     let same = ap length (read_other _ _ _ _ _ _ c.requires.apart c.requires.from c.moved.invariant.moved
     c.index.ensures) in
-    let full = c.requires.full in let early = c.moved-test.true in omega arith
+    omega arith
 
 pub insert-requires-clause-inside : goal.insert-requires-clause-inside
 insert-requires-clause-inside c =
     let same = ap length (read_set _ _ _ _ _ c.requires.to c.moved.invariant.moved c.index_mut.ensures.value) in
-    let full = c.requires.full in let early = c.moved-test.true in
     let half = length-drop 32 (block_at c.args.pool.now.items c.args.from) in
     let size = length-take c.moved.place (drop 32 (block_at c.args.pool.now.items c.args.from)) in omega arith
 
 pub insert-requires-clause-room : goal.insert-requires-clause-room
 insert-requires-clause-room c =
     let same = ap length (read_set _ _ _ _ _ c.requires.to c.moved.invariant.moved c.index_mut.ensures.value) in
-    let early = c.moved-test.true in
     let size = length-take c.moved.place (drop 32 (block_at c.args.pool.now.items c.args.from)) in omega arith
 
 pub moved-preserved : goal.moved-preserved
@@ -57,7 +55,6 @@ returns-clause-moved c =
     let block = read_other _ _ _ _ _ _ c.requires.apart c.requires.from c.moved.invariant.moved
     c.index_mut-2.ensures.value in
     let half = length-drop 32 (block_at c.args.pool.now.items c.args.from) in
-    let full = c.requires.full in let end = c.moved-test.false in
     ap (λ l. slice_set l c.args.from c.keep_half.new.self)
     (c.moved.invariant.moved
     ∙ ap (slice_set c.args.pool.now.items c.args.to)

@@ -9,7 +9,7 @@ use Rattle.cq_urgency.proofs.blocks.put_upper.Goals as goal
 pub at-first-requires : goal.at-first-requires
 at-first-requires c =
     let read = ap length (get_or_read c.args.pool.now.items c.args.number _ c.requires.there c.index.ensures []) in
-    let full = c.requires.full in omega arith
+    omega arith
 
 pub move_upper-requires-clause-first : goal.move_upper-requires-clause-first
 move_upper-requires-clause-first c =

@@ -6,10 +6,9 @@ use Rattle.cq_urgency.proofs.output_buffer.cushion_in.Goals as goal
 
 pub ahead-requires-clause-cells : goal.ahead-requires-clause-cells
 ahead-requires-clause-cells c =
-    let size = length-flattened c.args.blocks.now.blocks in let counted = c.requires.counted in omega arith
+    let size = length-flattened c.args.blocks.now.blocks in omega arith
 
 pub overflow_add-result : goal.overflow_add-result
 overflow_add-result c =
     let few = cushion_le c.args.key (flattened c.args.blocks.now.blocks) in
-    let ahead = c.ahead.ensures in let at = c.spot_of-spot.ensures.at in
-    let counted = c.requires.counted in let small = c.ranges.len in omega arith
+    omega arith

@@ -6,9 +6,6 @@ use Rattle.cq_urgency.proofs.output_buffer.spot_at_end.Goals.{After-len-within}
 -- the last block has a cell
 some : (c : After-len-within) → 0 < c.len-within.result
 some c =
-    let many = c.len-last.ensures in
-    let long = c.len-within.ensures.len in
-    let some = c.requires.some in
     let cells = some_at c.args.blocks.now.blocks (c.len-last.result - 1) c.block-end.result.now c.requires.filled
     (omega arith) c.block-end.ensures in
     omega arith
@@ -18,13 +15,11 @@ overflow_sub-place c = some (goal.at.overflow_sub-place c).After-len-within
 
 pub at-requires : goal.at-requires
 at-requires c =
-    let cells = some (goal.at.at-requires c).After-len-within in let long = c.len-within.ensures.len in omega arith
+    let cells = some (goal.at.at-requires c).After-len-within in omega arith
 
 pub returns-then-precedes : goal.returns-then-precedes
 returns-then-precedes c =
     let cells = some (goal.at.returns-then-precedes c).After-len-within in
-    let many = c.len-last.ensures in
-    let some_blocks = c.requires.some in
     spot_end c.args.key c.args.blocks.now.blocks c.requires.rising c.requires.filled (c.len-last.result - 1)
     c.len-within.result (c.len-within.result - 1) c.block-end.result.now _ (omega arith) c.block-end.ensures
     c.len-within.ensures.len (omega arith) c.at.ensures (sym c.precedes.ensures ∙ c.if-precedes.true)

@@ -14,7 +14,6 @@ cushion-requires c = subst IsRising (sym c.block.ensures)
 
 pub returns : goal.returns
 returns c =
-    let some = c.if-place-eq0.false in
     let next : c.begun-place.result - 1 + 1 ≡ c.begun-place.result = omega arith in
     spot_in c.args.key c.args.blocks.now.blocks c.requires.rising c.requires.filled c.begun-place.result
     (c.begun-place.result - 1) c.cushion.result c.begun-place.ensures next

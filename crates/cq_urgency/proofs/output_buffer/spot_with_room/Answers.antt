@@ -28,7 +28,7 @@ in_halves-requires c =
     let spot = c.spot_of-spot.ensures in
     let few = room_to_split c.args.blocks.now.blocks c.spot_of-spot.result.block c.args.blocks.now.most c.args.room
     c.requires.filled spot.inside all (longer _ _ _ _ spot all) c.requires.fits c.requires.enough in
-    let inside = spot.inside in let enough = c.requires.enough in let small = c.ranges.room in omega arith
+    omega arith
 
 pub returns-clause-cells : goal.returns-clause-cells
 returns-clause-cells c = ap flattened c.split.ensures.blocks

@@ -6,6 +6,6 @@ pub returns-clause-rest : goal.returns-clause-rest
 returns-clause-rest c =
     let b = c.self.inside in
     let one : b.len ≡ 1 + (b.len - 1) = let len = length_piece b.cells b.head b.len
-    (let inside = c.self.invariant.inside in let each = c.self.invariant.each in omega arith) in
-    let same = ap length c.self.view_is in let some = c.requires in omega arith in
+    (omega arith) in
+    let same = ap length c.self.view_is in omega arith in
     popped b.cells b.head b.len (b.len - 1) one ∙ ap (drop 1) c.self.view_is

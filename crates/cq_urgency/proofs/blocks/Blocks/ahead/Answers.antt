@@ -11,7 +11,7 @@ sum_ahead-requires-clause-inside c =
     let w = kept _ _ _ _ _ _ c.self.invariant.0 c.self.view_is in
     let many = ap (λ (l : List ℕ). length l) (c.deref.ensures.value ∙ as_many_counts _ _ _ _ _ w)
     ∙ length-map c.args.self.now.blocks (λ (block : List Queued). length block) in
-    let inside = c.requires.inside in omega arith
+    omega arith
 
 pub sum_ahead-requires-clause-whole : goal.sum_ahead-requires-clause-whole
 sum_ahead-requires-clause-whole c =

@@ -12,7 +12,7 @@ place_of-at-requires c =
     let w = kept _ _ _ _ _ _ c.self.invariant.0 c.self.view_is in
     let all = ap (λ (l : List ℕ). sum_by (λ n. n) l) c.deref.ensures.value
     ∙ counts_all _ _ _ _ _ w in
-    let size = length-flattened c.args.self.now.blocks in let asked = c.requires in omega arith
+    let size = length-flattened c.args.self.now.blocks in omega arith
 
 pub block-requires : goal.block-requires
 block-requires c =
@@ -27,7 +27,6 @@ returns c =
     let at = c.place_of-at.result in
     let ahead = ap (λ (l : List ℕ). sum_by (λ n. n) (take at.block l)) c.deref.ensures.value
     ∙ counts_ahead _ _ _ _ _ w at.block in
-    let place = c.place_of-at.ensures.block in
     let inside = count_there _ _ _ _ _ w c.place_of-at.result.block _
     (subst (λ (l : List ℕ). c.place_of-at.result.within < slice_index_or l c.place_of-at.result.block 0)
     c.deref.ensures.value c.place_of-at.ensures.within) in

@@ -15,7 +15,7 @@ insert-requires-clause-room c =
     let same = ap length (read_is _ _ _ _ _
     (kept _ _ _ _ _ _ c.self.invariant.0 c.self.view_is)
     c.args.block _ c.requires.block c.index-number.ensures _ c.index_mut.ensures.value) in
-    let room = c.requires.room in omega arith
+    omega arith
 
 pub invariant_of-self : goal.invariant_of-self
 invariant_of-self c =
@@ -26,7 +26,7 @@ invariant_of-self c =
     c.index_mut-2.ensures.value c.index_mut.ensures.value in
     let more = ap length c.insert.ensures
     ∙ length-insert c.index_mut.result.now c.args.place c.args.queued
-    (let inside = c.requires.inside in omega arith) in (
+    (omega arith) in (
       placed_changed _ _ _ _ _ w c.args.block _ c.requires.block c.index-number.ensures c.insert.new.self
           (c.index_mut-2.result.now + 1) (omega arith),
       memory_same _ _ _ _ _ _ _ c.self.invariant.1

@@ -21,7 +21,7 @@ returns-then-index-gt1-clause-blocks c =
     let same = read_is _ _ _ _ _ w 0 _ c.requires.block c.index-number.ensures _ c.index_mut.ensures.value in
     let count = read_count _ _ _ _ _ w 0 _ c.requires.block c.index-number.ensures _ _ c.index.ensures
     c.index_mut.ensures.value in
-    let size = ap length same in let more = c.if-index-gt1.true in
+    let size = ap length same in
     seen_changed _ _ _ _ _ w 0 _ c.requires.block c.index-number.ensures c.pop-queued.new.self
     ∙ ap (slice_set c.args.self.now.blocks 0) (c.pop-queued.ensures.rest ∙ ap (drop 1) same)
     ∙ sym (without_cell c.args.self.now.blocks c.requires.block (omega arith))
@@ -30,16 +30,13 @@ pub invariant_of-self-2 : goal.invariant_of-self-2
 invariant_of-self-2 c =
     let b = c.self.inside in
     let w = kept _ _ _ _ _ _ c.self.invariant.0 c.self.view_is in
-    let some = in_order_there _ _ _ _ _ w 0 _ c.requires.block c.index-number.ensures in
-    let all = w.placed.all in (
+    let some = in_order_there _ _ _ _ _ w 0 _ c.requires.block c.index-number.ensures in (
       rw (c.remove.ensures.items, c.remove-2.ensures.items, c.push_reserved.ensures.items)
           (freed_placed _ _ _ _ c.pop-queued.new.self _ w.placed some c.index-number.ensures),
       let m = c.self.invariant.1 in
           let size = length-set b.pool.items c.index-number.result.now c.pop-queued.new.self in
           let few = m.few in let blocks = m.blocks in let ordered = m.ordered in let counted = m.counted in
           let freed = m.freed in
-          let in_order = c.remove.ensures.capacity in let in_counts = c.remove-2.ensures.capacity in
-          let in_free = c.push_reserved.ensures.capacity in
           record {
             few = omega arith;
             blocks = m.blocks;
@@ -57,7 +54,7 @@ returns-clause-blocks c =
     let same = read_is _ _ _ _ _ w 0 _ c.requires.block c.index-number.ensures _ c.index_mut.ensures.value in
     let count = read_count _ _ _ _ _ w 0 _ c.requires.block c.index-number.ensures _ _ c.index.ensures
     c.index_mut.ensures.value in
-    let size = ap length same in let last = c.if-index-gt1.false in let had = c.requires.some in
+    let size = ap length same in
     rw c.remove.ensures.items
     (freed_order _ _ _ _ c.pop-queued.new.self _ w.placed some c.index-number.ensures
     ∙ ap (drop 1) w.seen

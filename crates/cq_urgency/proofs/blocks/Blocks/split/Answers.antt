@@ -25,10 +25,9 @@ pub invariant_of-self : goal.invariant_of-self
 invariant_of-self c =
     let b = c.self.inside in
     let w = kept _ _ _ _ _ _ c.self.invariant.0 c.self.view_is in
-    let many = as_many _ _ _ _ _ w in let there = c.requires.block in let room = c.requires.room in
+    let many = as_many _ _ _ _ _ w in
     let block : List Queued = block_at b.pool.items c.index-number.result.now in
     let size = ap length (block_same _ _ _ _ _ w c.args.block _ c.requires.block c.index-number.ensures) in
-    let full = c.requires.full in
     let front : 32 ≡ length (take 32 block) = let len = length-take 32 block in omega arith in
     let back : 32 ≡ length (drop 32 block) = let len = length-drop 32 block in omega arith in
     let come = c.put_upper-other.ensures.comes in
@@ -40,12 +39,9 @@ invariant_of-self c =
       rw (order, counts) placed,
       let m = c.self.invariant.1 in
           let same = length-set b.pool.items c.index-number.result.now (take 32 block) in
-          let had = w.placed.all in let all = come.all in let fewer = come.fewer in
           let few = m.few in let blocks = m.blocks in let ordered = m.ordered in let counted = m.counted in
           let freed = m.freed in
           let view = ap (λ (v : BlocksView). v.most) c.self.view_is in
-          let pool = c.put_upper-other.ensures.pool in let free = c.put_upper-other.ensures.free in
-          let in_order = c.insert.ensures.capacity in let in_counts = c.insert-2.ensures.capacity in
           record {
             few = ⊎_elim (λ l. let empty = come.grown l in omega arith) (λ le. omega arith)
                 (cases_lt (length (slice_set b.pool.items c.index-number.result.now (take 32 block)))
@@ -63,7 +59,7 @@ returns-clause-blocks c =
     let w = kept _ _ _ _ _ _ c.self.invariant.0 c.self.view_is in
     let block : List Queued = block_at b.pool.items c.index-number.result.now in
     let same = block_same _ _ _ _ _ w c.args.block _ c.requires.block c.index-number.ensures in
-    let size = ap length same in let full = c.requires.full in
+    let size = ap length same in
     let front : 32 ≡ length (take 32 block) = let len = length-take 32 block in omega arith in
     let halved = placed_changed _ _ _ _ _ w c.args.block _ c.requires.block c.index-number.ensures (take 32 block) 32
     front in

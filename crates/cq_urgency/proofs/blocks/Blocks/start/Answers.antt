@@ -25,13 +25,9 @@ invariant_of-self c =
       rw (order, counts) placed,
       let m = c.self.invariant.1 in
           let come = c.put_block-number.ensures.comes in
-          let had = w.placed.all in let all = come.all in let fewer = come.fewer in let grown = come.grown in
-          let room = c.requires.room in
           let view = ap (λ (v : BlocksView). v.most) c.self.view_is in
           let few = m.few in let blocks = m.blocks in let ordered = m.ordered in let counted = m.counted in
           let freed = m.freed in
-          let in_pool = c.put_block-number.ensures.pool in let in_free = c.put_block-number.ensures.free in
-          let in_order = c.push_reserved.ensures.capacity in let in_counts = c.push_reserved-2.ensures.capacity in
           record {
             few = ⊎_elim (λ l. let empty = come.grown l in omega arith) (λ le. omega arith)
                 (cases_lt (length (b.pool.items)) (length c.put_block-number.new.pool.items));
