@@ -31,7 +31,7 @@ sum-places o v (i ∷ events) es =
     let w = sound-after o v events es.0 in
     let r = input_in_range o i (next_output o s i) (step o v s w i es.1).offered in
     let a = sum-places o v events es.0 in
-    let b = sum_by-set (λ x. x) s.places i (next_place s i + 1) 0 (let e = w.inputs in omega arith) in omega arith
+    let b = sum_by-set (λ x. x) s.places i (next_place s i + 1) 0 (omega arith) in omega arith
 
 pub events_at_most : (o : Orders) → AreOffers o → (events : List ℕ) → AreEvents o events →
     length events ≤ ports o * ports o
@@ -56,10 +56,9 @@ places-quiet : (o : Orders) → AreOffers o → (s : State) → IsSound o s → 
 places-quiet o v s w q =
     let f : ℕ → ℕ = λ i. spent (outputs_of o i) (partner_of (matching_of o s) i) in
     ext_get_or 0 s.places (map f (range_with_len 0 (ports o))) (let a = length-map-range_with_len f 0 (ports o) in
-    let b = w.inputs in
     omega arith)
     (λ i l. spent-is o s i (kept o v s w q i) _ refl
-    ∙ sym (get_or-map-range_with_len f 0 (ports o) i i 0 (let b = w.inputs in omega arith) (omega arith)))
+    ∙ sym (get_or-map-range_with_len f 0 (ports o) i i 0 (omega arith) (omega arith)))
 
 pub events-quiet : (o : Orders) → AreOffers o → (events : List ℕ) → AreEvents o events →
     IsQuiescent o (state_after o events) → length events ≡ proposals o (matching_of o (state_after o events))

@@ -74,9 +74,9 @@ orders_made lists outputs inputs e m =
     ext_get_or [] inputs (map (input_order (cells_of lists)) (range_with_len 0 (length (cells_of lists))))
     (m.size ∙ sym n ∙ sym (length-map-range_with_len (input_order (cells_of lists)) 0 (length (cells_of lists))))
     (λ j l.
-    m.row j (let s = m.size in omega arith)
+    m.row j (omega arith)
     ∙ sym (get_or-map-range_with_len (input_order (cells_of lists)) 0 (length (cells_of lists)) j j []
-    (let s = m.size in omega arith) (omega arith))) in
+    (omega arith) (omega arith))) in
     let order : outputs ≡ map output_order (cells_of lists) =
     e ∙ mapped_twice output_order (λ (w : Waiting). w.cells) lists in
     cc

@@ -95,7 +95,7 @@ matching-of o v s =
       once = λ i k j e f.
           let a = partner-holds o v s i j e in
           let b = partner-holds o v s k j f in
-          same_at_place (inputs_of o j) i k (let x = a.0 in let y = b.0 in omega arith) a.1;
+          same_at_place (inputs_of o j) i k (omega arith) a.1;
     }
 
 -- the matching is what shows exactly who is held

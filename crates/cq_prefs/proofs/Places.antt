@@ -72,7 +72,7 @@ places_at_most xs n d below = length-le_from_distinct_below xs n d (λ q h. at_i
     at_index q a =
         let e : q ≡ get_or xs a.0 0 = eqb-true _ _ a.4 ∙ sym a.3 ∙ get_or_default xs a.0 a.1 0 a.2 in
         let P : ℕ → Type 0 = λ m. place_in xs m < length xs in
-        below q (subst P (sym e) (let f = place_in-get_or xs a.0 d a.2 in let g = a.2 in omega arith))
+        below q (subst P (sym e) (let f = place_in-get_or xs a.0 d a.2 in omega arith))
 
 pub outputs_at_most : (o : Orders) → AreOffers o → (i : ℕ) → length (outputs_of o i) ≤ ports o
 outputs_at_most o v i =

@@ -225,8 +225,7 @@ still_offers m o now lists pairs v is long many same =
     let before : AreSameWithout m o t = subst (λ x. AreSameWithout m x t) (sym is) same in
     let seen = ap ports is in
     let size = length-map lists (λ (w : Waiting). w.cells) in
-    let sizes = length-map (cells_of lists) output_order in
-    let most = v.1 in (
+    let sizes = length-map (cells_of lists) output_order in (
       are_offers (cells_of lists) (in_range_still m o (cells_of lists) pairs v.0 (omega arith) (omega arith) before),
       omega arith,
     )
@@ -247,17 +246,12 @@ module _ (m : Partners) (n j : ℕ) (outputs inputs : List (List ℕ)) (lists : 
   has_row x =
       let size = length-map lists (λ (w : Waiting). w.cells) in
       let sizes = length-map (cells_of lists) output_order in
-      let as_many = x.renewing.ports.0 in
-      let long = x.long in
-      let inside = x.inside in
       omega arith
 
   pub has_column : Next → j < length inputs
   has_column x =
       let size = length-map lists (λ (w : Waiting). w.cells) in
       let sizes = length-map-range_with_len (input_order (cells_of lists)) 0 (length (cells_of lists)) in
-      let as_many = x.renewing.ports.1 in
-      let long = x.long in
       let inside = x.pairs.ports n j x.partner in
       omega arith
 
@@ -265,8 +259,6 @@ module _ (m : Partners) (n j : ℕ) (outputs inputs : List (List ℕ)) (lists : 
   row_is : Next → (list : Waiting) → list ≡ get_or lists n list →
       outputs_of (orders_of (cells_of lists)) n ≡ output_order list.cells
   row_is x list at =
-      let long = x.long in
-      let inside = x.inside in
       outputs_at (cells_of lists) n
       ∙ ap output_order (cells_at lists n list (omega arith) ∙ ap (λ (w : Waiting). w.cells) (sym at))
 
@@ -280,7 +272,6 @@ module _ (m : Partners) (n j : ℕ) (outputs inputs : List (List ℕ)) (lists : 
   row_few : Next → (list : Waiting) → list ≡ get_or lists n list → length (output_order list.cells) ≤ 64
   row_few x list at =
       let most = outputs_at_most (orders_of (cells_of lists)) x.offers.0 n in
-      let few = x.offers.1 in
       let same = ap length (row_is x list at) in
       omega arith
 
@@ -302,7 +293,6 @@ module _ (m : Partners) (n j : ℕ) (outputs inputs : List (List ℕ)) (lists : 
   column_is : Next → inputs_of (orders_of (cells_of lists)) j ≡ input_order (cells_of lists) j
   column_is x =
       let size = length-map lists (λ (w : Waiting). w.cells) in
-      let long = x.long in
       let inside = x.pairs.ports n j x.partner in
       inputs_at (cells_of lists) j (omega arith)
 
@@ -320,7 +310,6 @@ module _ (m : Partners) (n j : ℕ) (outputs inputs : List (List ℕ)) (lists : 
   column_few : Next → length (input_order (cells_of lists) j) ≤ 64
   column_few x =
       let most = inputs_at_most (orders_of (cells_of lists)) x.offers.0 j in
-      let few = x.offers.1 in
       let same = ap length (column_is x) in
       omega arith
 

@@ -96,10 +96,8 @@ asked_before-step o v s w i t st k j h = go (cases_eq k i)
             rw e (omega arith)
         at_asker (inr l) =
             let before : place_of o i j < next_place t i = rw e at h in
-            let a = st.moved_on in
-            let here : place_of o i (next_output o s i) ≡ place_of o i j = let b = st.to in omega arith in
+            let here : place_of o i (next_output o s i) ≡ place_of o i j = omega arith in
             let same : next_output o s i ≡ j = same_at_place (outputs_of o i) (next_output o s i) j here st.offered in
-            let c = st.held_asked in
             let d : position_held t (next_output o s i) ≤ position_of o (next_output o s i) i = omega arith in
             rw e (rw same at d)
 
@@ -130,12 +128,11 @@ last-step o v s w i f t st k j h = go (cases_eq j (next_output o s i))
             next_place t k ≡ place_of o k j + 1
         at_asked (inr l) =
             let n : position_held t j ≡ min (position_held s j) (position_of o j i) = now in
-            kept (let a = h.0 in omega arith, h.1)
+            kept (omega arith, h.1)
         at_asked (inl l) =
             let n : position_held t j ≡ min (position_held s j) (position_of o j i) = now in
-            let p : position_of o j k ≡ position_of o j i = let a = h.0 in omega arith in
+            let p : position_of o j k ≡ position_of o j i = omega arith in
             let same : k ≡ i = same_at_place (inputs_of o j) k i p h.1 in
-            let a = st.moved_on in
             let b : place_of o i j ≡ next_place s i = to in
             rw same (omega arith)
 
@@ -148,7 +145,6 @@ held_in-step o v s w i t st j r = go (cases_eq j (next_output o s i))
     go (inr n) = rw (st.held_other j n) (w.held_in j r)
     go (inl e) =
         inr (
-        let a = st.held_asked in
         let b = v.shown i (next_output o s i) st.offered in
         rw e (omega arith))
 
@@ -202,7 +198,7 @@ sound-start o v =
         let r = output_in_range o v i j (v.shown_back i j h.1) in
         let a = held-start o j r in
         let b = inputs_at_most o v j in
-        let x = h.0 in let y = h.1 in omega arith
+        omega arith
 
 pub sound-after : (o : Orders) → AreOffers o → (events : List ℕ) → AreEvents o events → IsSound o (state_after o events)
 sound-after o v [] es = sound-start o v

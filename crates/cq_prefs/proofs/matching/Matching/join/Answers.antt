@@ -25,6 +25,5 @@ returns c =
     let none : Option ℕ = None in
     let size = length_shown none c.self.inside.ports c.self.inside.partners c.self.invariant.0 in
     let seen = ap length c.self.view_is in
-    let inside = c.requires.input in
     take-set-lt c.self.inside.ports c.self.inside.partners c.args.input (Some c.args.output) (omega arith)
     ∙ ap (λ t. set t c.args.input (Some c.args.output)) c.self.view_is

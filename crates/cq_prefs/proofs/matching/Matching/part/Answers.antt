@@ -25,6 +25,5 @@ returns c =
     let none : Option ℕ = None in
     let size = length_shown none c.self.inside.ports c.self.inside.partners c.self.invariant.0 in
     let seen = ap length c.self.view_is in
-    let inside = c.requires in
     take-set-lt c.self.inside.ports c.self.inside.partners c.args.input none (omega arith)
     ∙ ap (λ t. set t c.args.input none) c.self.view_is

@@ -9,9 +9,7 @@ pub invariant_of-self : goal.invariant_of-self
 invariant_of-self c =
     let inv = c.loop-output.invariant in
     let size = c.requires.lists in
-    let few = inv.few in
-    let end : c.loop-output.output ≡ length c.args.lists.now =
-    let not_less = c.loop-output-test.false in let most = c.loop-output.auto.output-end in omega arith in
+    let end : c.loop-output.output ≡ length c.args.lists.now = omega arith in
     offers_made c.args.lists.now _ _ inv.outputs
     (subst (λ n. Made c.args.lists.now n c.loop-output.self-inside.by_output.items) end inv.made) _ inv.waiting
     c.requires.outputs size (omega arith)
@@ -19,8 +17,7 @@ invariant_of-self c =
 pub returns : goal.returns
 returns c =
     let inv = c.loop-output.invariant in
-    let end : c.loop-output.output ≡ length c.args.lists.now =
-    let not_less = c.loop-output-test.false in let most = c.loop-output.auto.output-end in omega arith in
+    let end : c.loop-output.output ≡ length c.args.lists.now = omega arith in
     let orders =
     orders_made c.args.lists.now _ _ inv.outputs (subst
     (λ n. Made c.args.lists.now n c.loop-output.self-inside.by_output.items) end inv.made) in

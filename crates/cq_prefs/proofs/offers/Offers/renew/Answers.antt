@@ -28,7 +28,7 @@ next c j is =
       pairs = c.ports-input-end.ensures.pairs;
       partner = sym c.partner_of.ensures.partner ∙ is;
       long = c.requires.ports ∙ sym c.requires.lists;
-      inside = let end = c.ports-input-end.ensures.value in let early = c.inputs-test.true in omega arith;
+      inside = omega arith;
       offers = still_offers _ _ c.args.self.now _ c.ports-input-end.ensures.pairs c.self.invariant c.self.view_is
           c.requires.ports c.requires.lists c.requires.others;
     }
@@ -69,7 +69,7 @@ inputs-preserved c =
 ended : (c : After-inputs) → shown c.inputs.self-inside ≡ orders_of (cells_of c.args.lists.now)
 ended c =
     all_renewed c.args.changed.now c.inputs.input _ (orders_of (cells_of c.args.lists.now)) c.inputs.invariant
-    (let past = c.inputs-test.false in let all = c.ports-input-end.ensures.value in omega arith)
+    (omega arith)
 
 pub invariant_of-self : goal.invariant_of-self
 invariant_of-self c =
