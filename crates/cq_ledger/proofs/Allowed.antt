@@ -29,7 +29,6 @@ made-most o words views k id v at =
     let a = at_known views id v v at in
     let b = get_or-le-sum_by (λ (y : View). y.made) views id v a.0 in
     let c : (get_or views id v).made ≡ v.made = ap (λ y. y.made) a.1 in
-    let d = k.made in
     let e = events_at_most o k.offers k.events k.are_events in omega arith
 
 pub proposal-keeps : (o : Orders) (words : List ℕ) (views : List View) (k : IsLedger o words views) (id i p : ℕ)

@@ -38,7 +38,7 @@ module _ (o : Orders) (words : List ℕ) (views : List View) (k : IsLedger o wor
   here = sits_now views id v view_now at_id
 
   pub word_now : claim_word words_now ≡ bit_or (claim_word words) (2 ^ i)
-  word_now = get_or-set_same words 0 _ 0 (let a = k.size in omega arith)
+  word_now = get_or-set_same words 0 _ 0 (omega arith)
 
   pub now_set : bit (claim_word words_now) i ≡ 1
   now_set = ap (λ n. bit n i) word_now ∙ bit-or_same (claim_word words) i
@@ -192,7 +192,7 @@ module _ (o : Orders) (words : List ℕ) (views : List View) (k : IsLedger o wor
       fresh_now q h (inr n) = k.unclaimed q (sym (others q n) ∙ h)
 
       made_now : sum_by (λ (y : View). y.made) views_now ≡ length k.events
-      made_now = let a = made_with views id v view_now at_id in let c = k.made in omega arith
+      made_now = let a = made_with views id v view_now at_id in omega arith
 
       idle_now : (b : ℕ) (u : View) → u.claims ≡ 0 → ((b ≡ id) × (view_now ≡ u)) ⊎ ((b ≢ id) × Sits views b u) →
           (u.hand ≡ None) × (u.made ≡ 0)

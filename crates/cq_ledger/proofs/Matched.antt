@@ -32,7 +32,7 @@ module _ (o : Orders) (v : AreOffers o) (s : State) (w : IsSound o s) (m : Partn
   reads_skip e =
       record {
         size = r.size;
-        there = λ k q h. let a = r.there k q h in (let b = a.0 in omega arith, a.1);
+        there = λ k q h. let a = r.there k q h in (omega arith, a.1);
         back = λ k q l h. go k q l h (cases_eq q n);
       }
     where
@@ -42,7 +42,7 @@ module _ (o : Orders) (v : AreOffers o) (s : State) (w : IsSound o s) (m : Partn
           let P : ℕ → Type 0 = λ x. Holds o s x k in
           let b : Holds o s n k = subst P d h in
           let most = inputs_at_most o v n in
-          absurd (let x = b.0 in let y = b.1 in omega arith)
+          absurd (omega arith)
 
   module _ (range : n < ports o) (somebody : position_held s n ≢ ports o) where
     abbrev k : ℕ
@@ -56,13 +56,13 @@ module _ (o : Orders) (v : AreOffers o) (s : State) (w : IsSound o s) (m : Partn
 
     k_free : (k < length m) × (partner_of m k ≡ None)
     k_free = (
-      let a = k_in_range in let b = r.size in omega arith,
+      let a = k_in_range in omega arith,
       none_unless _ (λ q e.
           let a = r.there k q e in
           let x = w.last k q a.1 in let y = w.last k n hold in
           let z : place_of o k q ≡ place_of o k n = omega arith in
           let same = same_at_place (outputs_of o k) q n z (v.shown_back k q a.1.1) in
-          let l = a.0 in absurd (omega arith)),
+          absurd (omega arith)),
     )
 
     reads_more : IsRead o s (set m k (Some n)) (n + 1)
@@ -82,13 +82,13 @@ module _ (o : Orders) (v : AreOffers o) (s : State) (w : IsSound o s) (m : Partn
             rw d (omega arith, subst P same hold)
         forth x q e (inr d) =
             let a = r.there x q (sym (get_or-set_other m k x (Some n) None d) ∙ e) in
-            (let b = a.0 in omega arith, a.1)
+            (omega arith, a.1)
 
         fro : (x q : ℕ) → q < n + 1 → Holds o s q x → (q ≡ n) ⊎ (q ≢ n) → partner_of (set m k (Some n)) x ≡ Some q
         fro x q l h (inl d) =
             let P : ℕ → Type 0 = λ z. Holds o s z x in
             let b : Holds o s n x = subst P d h in
-            let same : x ≡ k = same_at_place (inputs_of o n) x k (let y = b.0 in let z = hold.0 in omega arith) b.1 in
+            let same : x ≡ k = same_at_place (inputs_of o n) x k (let z = hold.0 in omega arith) b.1 in
             rw (same, d) (get_or-set_same m k (Some n) None k_free.0)
         fro x q l h (inr d) =
             let before = r.back x q (omega arith) h in

@@ -97,7 +97,7 @@ module _ (o : Orders) (words : List ℕ) (views : List View) (k : IsLedger o wor
       go : (q ≡ j) ⊎ (q ≢ j) → get_or words_now (suc q) 0 ≡ position_held t q
       go (inl e) =
           let a : get_or words_now (suc j) 0 ≡ min (get_or words (suc j) 0) (position_of o j i) =
-          get_or-set_same words (suc j) _ 0 (let x = k.size in let y = j_in_range in omega arith) in
+          get_or-set_same words (suc j) _ 0 (let y = j_in_range in omega arith) in
           let b = found_is in
           let c = st.held_asked in
           rw e (omega arith)
@@ -222,7 +222,7 @@ module _ (o : Orders) (words : List ℕ) (views : List View) (k : IsLedger o wor
       fresh_now q z (inr n) = st.others_stay q n ∙ k.unclaimed q z
 
       made_now : sum_by (λ (y : View). y.made) views_now ≡ length (i ∷ k.events)
-      made_now = let a = made_with views id v view_now at_id in let c = k.made in omega arith
+      made_now = let a = made_with views id v view_now at_id in omega arith
 
       idle_now : (b : ℕ) (u : View) → u.claims ≡ 0 → ((b ≡ id) × (view_now ≡ u)) ⊎ ((b ≢ id) × Sits views b u) →
           (u.hand ≡ None) × (u.made ≡ 0)

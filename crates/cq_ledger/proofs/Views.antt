@@ -13,7 +13,7 @@ pub at_known : {A : Type 0} → (xs : List A) (i : ℕ) (a d : A) → get_elem? 
     (i < length xs) × (get_or xs i d ≡ a)
 at_known [] i a d e = absurd (some-ne-none a (sym e))
 at_known (x ∷ xs) zero a d e = (omega arith, some-injective x a e)
-at_known (x ∷ xs) (suc i) a d e = let r = at_known xs i a d e in (let z = r.0 in omega arith, r.1)
+at_known (x ∷ xs) (suc i) a d e = let r = at_known xs i a d e in (omega arith, r.1)
 
 pub same_at : {A : Type 0} → (xs : List A) (i : ℕ) (a b : A) → get_elem? xs i ≡ some a → get_elem? xs i ≡ some b → a ≡ b
 same_at xs i a b e f = some-injective a b (sym e ∙ f)

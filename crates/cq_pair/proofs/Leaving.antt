@@ -50,7 +50,6 @@ pub parted-next : (n ports : ℕ) (m : Partners) → n < ports → ArePartedBefo
 parted-next n ports m inside before =
     let free : Option ℕ = None in
     let more : suc n ≡ n + 1 = omega arith in
-    let long = before.size in
     record {
       size = length-set m n free ∙ before.size;
       parted =
@@ -61,5 +60,4 @@ parted-next n ports m inside before =
 pub parted-all : (n ports : ℕ) (m : Partners) → n ≡ ports → ArePartedBefore n ports m → m ≡ replicate ports None
 parted-all n ports m all before =
     let free : Option ℕ = None in
-    let long = before.size in
     sym (take_all n m (omega arith)) ∙ before.parted ∙ ap (λ (k : ℕ). replicate k free) all

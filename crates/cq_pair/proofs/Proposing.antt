@@ -42,7 +42,7 @@ taken_less o c i j p h a l =
     let shown = a.offers.shown i (next_output o c.state i) (asked_offered o a.offers c i a.free) in
     let apart : position_held c.state (next_output o c.state i) ≢ position_of o (next_output o c.state i) i =
     λ e. a.free.unheld (next_output o c.state i) (e, shown) in
-    let x = a.position in let y = a.held in omega arith
+    omega arith
 
 -- there is one proposal more to make
 pub few_made : (o : Orders) (c : Progress) (i j p h : ℕ) → IsAsk o c i j p h → ports o ≤ 64 → c.made < 4096
@@ -51,7 +51,7 @@ few_made o c i j p h a few =
     let r = a.reached in
     let most = events_at_most o a.offers (i ∷ r.events) (r.are_events, subst F r.state a.free) in
     let square : ports o * ports o ≤ 64 * 64 = mul-le-mul few few in
-    let m = r.made in omega arith
+    omega arith
 
 state_from : (s t : State) → s.positions ≡ t.positions → s.places ≡ t.places → s ≡ t
 state_from s t e f = λ k. record { positions = e k; places = f k }
@@ -72,8 +72,6 @@ pub rejected : (o : Orders) (c : Progress) (i j p h : ℕ) → IsAsk o c i j p h
     MovesOn o c d i → Proposed o c d i Rejected
 unfolding outcome_of
 rejected o c i j p h a less d m =
-    let x = a.position in
-    let y = a.held in
     let w = sound o c i j p h a in
     let more : position_held c.state (next_output o c.state i) ≤ position_of o (next_output o c.state i) i =
     omega arith in
@@ -188,7 +186,7 @@ held_inside o c i j p h a n =
     (holder-is o a.offers c.state (sound o c i j p h a) (next_output o c.state i) (next_known o c i j p h a)
     (other_held o c i j p h a n)).0 in
     let e = ap (λ x. length (inputs_of o x)) a.output in
-    let y = a.held in omega arith
+    omega arith
 
 pub other_known : (o : Orders) (c : Progress) (i j p h k : ℕ) → IsAsk o c i j p h → h ≢ ports o →
     k ≡ holder o c.state (next_output o c.state i) → k < ports o
@@ -222,7 +220,7 @@ free_input_then o c i j p h k a n is d e m s =
     λ same. a.free.unheld (next_output o c.state i) (let P : ℕ →
     Type 0 = λ x. Holds o c.state (next_output o c.state i) x in
     subst P (sym same) (holds_other o c i j p h k a n is)) in (
-      let z = length-set d.matching k None in let y = f.0 in let x = ap length s.matching in omega arith,
+      let z = length-set d.matching k None in let x = ap length s.matching in omega arith,
       ap (λ l. partner_of l i) s.matching ∙ get_or-set_other d.matching k i None None apart ∙ f.1,
     )
 

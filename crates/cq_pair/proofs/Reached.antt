@@ -58,7 +58,7 @@ matching-start o v =
     let r = output_in_range o v k q (v.shown_back k q h.1) in
     let a = held-start o q r in
     let b = inputs_at_most o v q in
-    absurd (let x = h.0 in let y = h.1 in omega arith))
+    absurd (omega arith))
 
 pub start-shown : (o : Orders) (n : ℕ) (positions places : List ℕ) → n ≡ ports o → positions ≡ replicate n n →
     places ≡ replicate n 0 → record { positions = positions; places = places } ≡ start o
@@ -95,7 +95,7 @@ reached-step o v c d i r f state matching waiting made =
       state = state ∙ ap (λ t. propose o t i) r.state;
       matching = held;
       free = waiting ∙ ap (waiting_inputs o d.state.places) held ∙ waiting-free o v d.state;
-      made = let a = r.made in omega arith;
+      made = omega arith;
     }
 
 -- ## Who is shown as free

@@ -109,14 +109,14 @@ module _ (m : Partners) (lists : List Waiting) (buffers : List Buffered) (n : �
   -- the next input's list is as before
   pub next_list : (d : Waiting) → n < length lists → get_or lists' n d ≡ list_at lists n
   unfolding list_at
-  next_list d l = get_or_in lists' n d no_list (let size = x.sizes.0 in omega arith) ∙ x.waits n (omega arith)
+  next_list d l = get_or_in lists' n d no_list (omega arith) ∙ x.waits n (omega arith)
 
   -- and so is the buffer of its partner
   pub next_buffer : (j : ℕ) (d : Buffered) → length buffers ≡ length m → ArePairs m → partner_of m n ≡ Some j →
       get_or buffers' j d ≡ buffer_at buffers j
   unfolding buffer_at
   next_buffer j d as_many pairs p =
-      get_or_in buffers' j d no_buffer (let size = x.sizes.1 in let there = pairs.ports n j p in omega arith)
+      get_or_in buffers' j d no_buffer (let there = pairs.ports n j p in omega arith)
       ∙ x.kept j (λ i below q. let same = pairs.once i n j q p in absurd (omega arith))
 
   -- the next input's first cell for its partner crosses

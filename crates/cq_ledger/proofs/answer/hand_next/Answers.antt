@@ -5,4 +5,4 @@ use Rattle.cq_ledger.proofs.answer.hand_next.Goals as goal
 pub overflow_add-place : goal.overflow_add-place
 overflow_add-place c =
     let a = outputs_at_most c.args.offers.now c.ports-ports.ensures.offers c.args.input in
-    let b = c.ports-ports.ensures.few in let d = c.requires.place in omega arith
+    omega arith

@@ -17,7 +17,7 @@ word c s w shows =
     record {
       sound = w;
       shows = shows;
-      range = let early = c.loop-output-test.true in let all = c.ports-ports.ensures.value in omega arith;
+      range = omega arith;
       read = c.word-word.ensures;
     }
 
@@ -36,7 +36,6 @@ offset_bounds-inputs_of-word c =
     let inside = holder_inside _ _ _ _ _ (shown (goal.at.offset_bounds-inputs_of-word c).After-word-word)
     _ c.ports-ports.ensures.value c.if-word-ports.true _ c.inputs_of.ensures in
     let most = inputs_at_most c.args.offers.now c.ports-ports.ensures.offers c.loop-output.output in
-    let few = c.ports-ports.ensures.few in
     let size = ap length c.inputs_of.ensures in omega arith
 
 pub join-requires : goal.join-requires
@@ -47,8 +46,7 @@ join-requires c =
     _ c.ports-ports.ensures.value c.if-word-ports.true _ c.inputs_of.ensures c.ports-ports.ensures.offers _ read in
     record {
       input = free.0;
-      output = let size = read.size in let early = c.loop-output-test.true in let all = c.ports-ports.ensures.value in
-          omega arith;
+      output = omega arith;
       free_input = free.1;
       free_output = output_free c.args.offers.now s.0 c.loop-output.matching c.loop-output.output read;
     }
@@ -71,10 +69,7 @@ loop-output-preserved c = λ s w shows.
 pub returns : goal.returns
 returns c = λ s w shows.
     let o = c.args.offers.now in
-    let done : c.loop-output.output ≡ ports o = let a = c.loop-output-test.false in
-    let b = c.ports-ports.ensures.value in
-    let d = c.loop-output.auto.output-end in
-    omega arith in
+    let done : c.loop-output.output ≡ ports o = omega arith in
     let P : ℕ → Type 0 = λ n. IsRead o s c.loop-output.matching n in
     reads_all o c.ports-ports.ensures.offers s w c.loop-output.matching
     (subst P done (c.loop-output.invariant s w shows))

@@ -14,8 +14,8 @@ returns-then-input-lt64 c = (
 
 pub returns-else-input-lt64 : goal.returns-else-input-lt64
 returns-else-input-lt64 c = (
-  (λ yes. absurd (let l = ltb-true _ _ yes in let f = c.if-input-lt64.false in omega arith)),
+  (λ yes. absurd (let l = ltb-true _ _ yes in omega arith)),
   (λ set. absurd (let z = bit-past c.args.word c.args.input c.ranges.word.fits
-      (let f = c.if-input-lt64.false in omega arith) in
+      (omega arith) in
       omega arith)),
 )

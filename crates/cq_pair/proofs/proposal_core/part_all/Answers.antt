@@ -4,15 +4,14 @@ use Rattle.cq_pair.proofs.Leaving.{ArePartedBefore, parted-next, parted-all}
 use Rattle.cq_pair.proofs.proposal_core.part_all.Goals as goal
 
 pub part-requires : goal.part-requires
-part-requires c = let long = c.inputs.invariant.size in let inside = c.inputs-test.true in omega arith
+part-requires c = omega arith
 
 pub inputs-preserved : goal.inputs-preserved
 inputs-preserved c =
-    let inside = c.inputs-test.true in
     subst (λ (m : Partners). ArePartedBefore (c.inputs.input + 1) c.args.ports m) (sym c.part.ensures)
     (parted-next c.inputs.input c.args.ports c.inputs.matching (omega arith) c.inputs.invariant)
 
 pub returns : goal.returns
 returns c =
-    parted-all c.inputs.input c.args.ports c.inputs.matching (let end = c.inputs-test.false in omega arith)
+    parted-all c.inputs.input c.args.ports c.inputs.matching (omega arith)
     c.inputs.invariant

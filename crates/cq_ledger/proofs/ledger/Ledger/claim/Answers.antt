@@ -12,10 +12,10 @@ pub fetch_or-found-requires : goal.fetch_or-found-requires
 fetch_or-found-requires c =
     let m = matched c.args.self.now c.args.seat.now _ _ _ _ c.self.view_is c.seat.view_is c.requires.seat in (
       m.table_is,
-      (let z = c.self.invariant.2 in omega arith),
+      (omega arith),
       claim-allowed-at c.self.inside.table.shared.key c.self.inside.offers c.self.invariant.0 _ c.seat.inside.seat.id
           c.args.input c.seat.inside.seat.me
-          (let a = ap ports m.offers_seen in let b = c.requires.input in omega arith)
+          (let a = ap ports m.offers_seen in omega arith)
           (ap (λ v. v.hand) m.view_seen ∙ c.requires.hand) m.offers_are
           c.bit_of-bit.result c.bit_of-bit.ensures,
     )

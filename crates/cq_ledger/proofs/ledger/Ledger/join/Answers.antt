@@ -11,7 +11,7 @@ join_seat-requires c =
       m.table_is,
       n.table_is,
       c.other.invariant.no_slot,
-      (let z = c.self.invariant.2 in omega arith),
+      (omega arith),
       join-allowed c.self.inside.table.shared.key c.into.inside.seat.id c.into.inside.seat.me.0 c.other.inside.seat.id
           c.other.inside.seat.me.0
           (ap (λ v. v.hand) m.view_seen ∙ c.requires.hand) (ap (λ v. v.hand) n.view_seen ∙ c.requires.other_hand),
@@ -21,7 +21,7 @@ pub load-requires : goal.load-requires
 load-requires c =
     let m = matched c.args.self.now c.args.into.now _ _ _ _ c.self.view_is c.into.view_is c.requires.seat in (
       c.join_seat.ensures.0 ∙ m.table_is,
-      (let z = c.self.invariant.2 in omega arith),
+      (omega arith),
       look-allowed c.self.inside.table.shared.key c.self.inside.offers c.self.invariant.0 _ c.join_seat.new.seat.id
           c.join_seat.new.seat.me
           (ap (λ (x : Seated). x.0.offers) c.join_seat.ensures.2 ∙ m.offers_are),

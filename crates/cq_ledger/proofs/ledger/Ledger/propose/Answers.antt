@@ -19,7 +19,6 @@ fetch_min-found-requires c =
       m.table_is,
       (let r = output_in_range c.self.inside.offers c.asked_by-asked.ensures.offers c.in-Some.hand.0
           c.asked_by-asked.result.output c.asked_by-asked.ensures.offered in
-          let z = c.self.invariant.2 in
           omega arith),
       proposal-allowed-at c.self.inside.table.shared.key c.self.inside.offers c.self.invariant.0 _
           c.seat.inside.seat.id c.in-Some.hand.0 c.in-Some.hand.1 c.seat.inside.seat.me

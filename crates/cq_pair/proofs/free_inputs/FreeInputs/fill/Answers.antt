@@ -10,9 +10,6 @@ push-requires c =
     let e : length c.loop-input.self-inside.inputs.items
     ≡ length (inputs_with_offers c.args.offers.now c.loop-input.input) =
     ap length c.loop-input.invariant in
-    let l = c.loop-input-test.true in
-    let m = c.ports-input-end.ensures.few in
-    let v = c.ports-input-end.ensures.value in
     let room : length c.loop-input.self-inside.inputs.items < 64 = omega arith in
     (omega arith, room)
 

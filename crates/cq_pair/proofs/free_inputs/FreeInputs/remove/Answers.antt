@@ -24,8 +24,7 @@ returns-then-place-len c =
     let differ : IsDistinct eqb inputs = subst (IsDistinct eqb) (sym c.self.view_is) c.requires in
     let place : c.place_or_end-place.result ≡ place_in inputs input =
     c.place_or_end-place.ensures.place ∙ ap (λ l. place_in l input) c.as_slice-2.ensures.value in
-    let inside : c.place_or_end-place.result < length inputs =
-    let test = c.if-place-len.true in let len = c.len.ensures in omega arith in
+    let inside : c.place_or_end-place.result < length inputs = omega arith in
     c.remove.ensures.items ∙ left_by input c.place_or_end-place.result inputs differ place inside
     ∙ ap (without_input input) c.self.view_is
 
@@ -38,4 +37,4 @@ returns-else-place-len c =
     c.place_or_end-place.ensures.place ∙ ap (λ l. place_in l input) (c.as_slice-2.ensures.value ∙ c.self.view_is) in
     not_there input inputs
     (λ (listed : place_in inputs input < length inputs).
-    let test = c.if-place-len.false in let len = c.len.ensures in omega arith)
+    omega arith)

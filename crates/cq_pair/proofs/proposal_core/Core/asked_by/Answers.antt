@@ -21,7 +21,7 @@ at-held-requires c =
     let size = positions_known o v c.args.self.now c.requires.reached in
     let same : length c.self.inside.positions ≡ length c.args.self.now.state.positions =
     ap (λ x. length x.state.positions) c.self.view_is in
-    let is = c.next_output-output.ensures in omega arith
+    omega arith
 
 pub returns-clause-ask : goal.returns-clause-ask
 returns-clause-ask c =

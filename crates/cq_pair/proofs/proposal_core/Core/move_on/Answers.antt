@@ -7,15 +7,13 @@ pub overflow_add-next : goal.overflow_add-next
 overflow_add-next c =
     let now : get_or c.self.inside.places c.args.input 0 ≡ next_place c.args.self.now.state c.args.input =
     ap (λ x. next_place x.state c.args.input) c.self.view_is in
-    let e = c.at-next.ensures in
-    let l = c.requires.left in
-    let m = c.requires.few in omega arith
+    omega arith
 
 pub returns-then-next-outputs_of : goal.returns-then-next-outputs_of
 returns-then-next-outputs_of c =
     moves_out c.args.offers.now _ _ c.self.view_is c.requires.waiting c.args.input c.at-next.result _ c.set.ensures
     c.at-next.ensures c.requires.input _
-    (let end = c.if-next-outputs_of.true in let all = ap length c.outputs_of.ensures in omega arith) c.remove.ensures
+    (let all = ap length c.outputs_of.ensures in omega arith) c.remove.ensures
 
 pub returns-else-next-outputs_of : goal.returns-else-next-outputs_of
 returns-else-next-outputs_of c =
@@ -23,7 +21,7 @@ returns-else-next-outputs_of c =
     ap (λ x. next_place x.state c.args.input) c.self.view_is in
     moves_still c.args.offers.now _ _ c.self.view_is c.requires.waiting c.args.input c.at-next.result _ c.set.ensures
     c.at-next.ensures c.requires.input
-    (let other = c.if-next-outputs_of.false in let at = c.at-next.ensures in let left = c.requires.left in
+    (
     let all = ap length c.outputs_of.ensures in omega arith)
 
 pub remove-requires : goal.remove-requires

@@ -81,7 +81,7 @@ part-requires c =
     let known = other_known _ _ _ _ _ _ _ a n is in
     let size = sizes _ _ _ _ _ _ a c.move_on.new.self m in
     record {
-      input = let e = size.0 in omega arith;
+      input = omega arith;
       known = known;
       few = c.asked_by-asked.ensures.few;
       matching = size.1;

@@ -16,7 +16,6 @@ propose-requires-clause-free g c =
 pub loop-order-smaller : goal.loop-order-smaller
 loop-order-smaller g c =
     let most = made-most c.args.offers.now c.ports-ports.ensures.offers c.propose.new.self c.propose.ensures.reached in
-    let more = c.propose.ensures.made in
     omega arith
 
 pub returns-clause-best : goal.returns-clause-best

@@ -11,7 +11,7 @@ pub returns-else-next-outputs_of : goal.returns-else-next-outputs_of
 returns-else-next-outputs_of c =
     takes_still c.args.offers.now _ _ c.self.view_is c.requires.waiting c.args.input c.args.output c.args.position _ _
     c.set.ensures c.join.ensures
-    (let end = c.if-next-outputs_of.false in let at = c.at-next.ensures in let all = ap length c.outputs_of.ensures in
+    (let all = ap length c.outputs_of.ensures in
     omega arith)
 
 pub remove-requires : goal.remove-requires
