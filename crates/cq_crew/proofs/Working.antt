@@ -22,7 +22,7 @@ grows-after u v w a b =
     record {
       claims = λ i h. b.claims i (a.claims i h);
       seen = λ i h. b.seen i (a.seen i h);
-      made = let x = a.made in let y = b.made in omega arith;
+      made = omega arith;
     }
 
 pub grows-proposing : (v w : View) → ProposesFor v w → Grows v w
@@ -195,7 +195,7 @@ proposes-next u v w answer before some is = go v.hand refl some
           claims = ap (λ (x : View). x.claims) view ∙ before.claims;
           seen = ap (λ (x : View). x.seen) view ∙ before.seen;
           began = ap (λ (x : View). x.began) view ∙ before.began;
-          made = let m = before.made in omega arith;
+          made = omega arith;
         }
 
 -- fewer proposals are left

@@ -7,35 +7,27 @@ use Rattle.cq_crew.proofs.phase.count_offering.Goals as goal
 pub overflow_add-count : goal.overflow_add-count
 overflow_add-count c =
     let few = few_offers c.args.offers.now c.inputs.input in
-    let count = c.inputs.invariant in
-    let more = c.inputs-test.true in
-    let end = c.ports-input-end.ensures.few in
-    let value = c.ports-input-end.ensures.value in
     omega arith
 
 pub inputs-preserved : goal.inputs-preserved
 inputs-preserved c =
     let o = c.args.offers.now in
     let n = c.inputs.input in
-    let i = c.inputs.invariant in
     elim c.if-not-is_empty.branch [
       | then-not-is_empty w ↦
           let more =
           ap length (offers-more o n (offers_if o n c.outputs_of.result.now c.is_empty.result c.outputs_of.ensures
           c.is_empty.ensures w.if-not-is_empty.true)) in
           let size = length-append (inputs_with_offers o n) (n ∷ []) in
-          let is = w.count-is in omega arith
+          omega arith
       | else-not-is_empty w ↦
           let same =
           ap length (offers-same o n (no_offers_if o n c.outputs_of.result.now c.is_empty.result
           c.outputs_of.ensures c.is_empty.ensures w.if-not-is_empty.false)) in
-          let is = w.count-is in omega arith
+          omega arith
     ]
 
 pub returns-clause-few : goal.returns-clause-few
 returns-clause-few c =
     let few = few_offers c.args.offers.now c.inputs.input in
-    let count = c.inputs.invariant in
-    let end = c.inputs.auto.input-end in
-    let value = c.ports-input-end.ensures.value in
     omega arith
