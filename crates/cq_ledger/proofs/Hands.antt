@@ -67,63 +67,57 @@ module _ (o : Orders) (v : AreOffers o) (s : State) (w : IsSound o s) (i : ℕ) 
   taken_if : position_held s j ≤ position_of o j i → position_held s j ≢ ports o
   taken_if l e = let a = v.shown i j st.offered in let b = inputs_at_most o v j in absurd (omega arith)
 
+  -- nobody holds an input now, where none of the others did before and the output that was asked does not
+  unheld_now : (k : ℕ) → ((q : ℕ) → q ≢ j → Holds o s q k → ⊥) → (Holds o t j k → ⊥) → (q : ℕ) → Holds o t q k → ⊥
+  unheld_now k others asked q h = go (cases_eq q j)
+    where
+      go : (q ≡ j) ⊎ (q ≢ j) → ⊥
+      go (inr m) = others q m (sym (st.held_other q m) ∙ h.0, h.1)
+      go (inl e) = asked (let P : ℕ → Type 0 = λ n. Holds o t n k in subst P e h)
+
   -- another input that was free still is, at its place
   pub still_free : (k : ℕ) → k ≢ i → IsFree o s k → IsFree o t k
   still_free k n g =
       record {
-        left = let a = st.others_stay k n in let b = g.left in omega arith;
-        unheld = λ q h. at q h (cases_eq q j);
+        left = let a = st.others_stay k n in omega arith;
+        unheld = unheld_now k (λ q _ b. g.unheld q b)
+            (λ here. taken here (cases_lt (position_of o j i) (position_held s j)));
       }
     where
-      at : (q : ℕ) → Holds o t q k → (q ≡ j) ⊎ (q ≢ j) → ⊥
-      at q h (inr m) = g.unheld q (sym (st.held_other q m) ∙ h.0, h.1)
-      at q h (inl e) =
-          let P : ℕ → Type 0 = λ n. Holds o t n k in
-          let here : Holds o t j k = subst P e h in
-          taken here (cases_lt (position_of o j i) (position_held s j))
-        where
-          taken : Holds o t j k → (position_of o j i < position_held s j) ⊎ (position_held s j ≤ position_of o j i) → ⊥
-          taken here (inl l) =
-              n (same_at_place (inputs_of o j) k i (let a = st.held_asked in let b = here.0 in omega arith) here.1)
-          taken here (inr l) = g.unheld j (let a = st.held_asked in let b = here.0 in omega arith, here.1)
+      taken : Holds o t j k → (position_of o j i < position_held s j) ⊎ (position_held s j ≤ position_of o j i) → ⊥
+      taken here (inl l) = n (same_at_place (inputs_of o j) k i (let a = st.held_asked in omega arith) here.1)
+      taken here (inr l) = g.unheld j (let a = st.held_asked in omega arith, here.1)
 
   -- the one that is displaced is free now, at the place after this output
   pub displaced_free : (k : ℕ) → Holds o s j k → position_of o j i < position_held s j →
       place_of o k j + 1 < length (outputs_of o k) → (IsFree o t k) × (next_place t k ≡ place_of o k j + 1) × (k ≢ i)
   displaced_free k h l left =
-      let apart : k ≢ i = λ e. let x = ap (λ n. position_of o j n) e in let y = h.0 in absurd (omega arith) in
+      let apart : k ≢ i = λ e. let x = ap (λ n. position_of o j n) e in absurd (omega arith) in
       let place_now : next_place t k ≡ place_of o k j + 1 = st.others_stay k apart ∙ w.last k j h in (
         record {
           left = omega arith;
-          unheld = λ q g. at q g apart (cases_eq q j);
+          unheld = unheld_now k
+              (λ q m b.
+              let x = w.last k q b in let y = w.last k j h in
+              let z : place_of o k q ≡ place_of o k j = omega arith in
+              m (same_at_place (outputs_of o k) q j z (v.shown_back k q b.1)))
+              (λ here. apart (same_at_place (inputs_of o j) k i (let a = st.held_asked in omega arith) here.1));
         },
         place_now,
         apart,
       )
-    where
-      at : (q : ℕ) → Holds o t q k → k ≢ i → (q ≡ j) ⊎ (q ≢ j) → ⊥
-      at q g apart (inr m) =
-          let b : Holds o s q k = (sym (st.held_other q m) ∙ g.0, g.1) in
-          let x = w.last k q b in let y = w.last k j h in
-          let z : place_of o k q ≡ place_of o k j = omega arith in
-          m (same_at_place (outputs_of o k) q j z (v.shown_back k q b.1))
-      at q g apart (inl e) =
-          let P : ℕ → Type 0 = λ n. Holds o t n k in
-          let here : Holds o t j k = subst P e g in
-          apart (same_at_place (inputs_of o j) k i (let a = st.held_asked in let b = here.0 in omega arith) here.1)
 
   -- the one that is refused is free still
   pub refused_free : position_held s j ≤ position_of o j i → next_place s i + 1 < length (outputs_of o i) →
       (IsFree o t i) × (next_place t i ≡ next_place s i + 1)
-  refused_free l left =
-      (record { left = let a = st.moved_on in omega arith; unheld = λ q h. at q h (cases_eq q j) }, st.moved_on)
-    where
-      at : (q : ℕ) → Holds o t q i → (q ≡ j) ⊎ (q ≢ j) → ⊥
-      at q h (inr m) = f.unheld q (sym (st.held_other q m) ∙ h.0, h.1)
-      at q h (inl e) =
-          let P : ℕ → Type 0 = λ n. Holds o t n i in
-          let here : Holds o t j i = subst P e h in
-          f.unheld j (let a = st.held_asked in let b = here.0 in omega arith, here.1)
+  refused_free l left = (
+    record {
+      left = let a = st.moved_on in omega arith;
+      unheld = unheld_now i (λ q _ b. f.unheld q b)
+          (λ here. f.unheld j (let a = st.held_asked in omega arith, here.1));
+    },
+    st.moved_on,
+  )
 
   -- what the new hand shows
   pub record IsHand (k q : ℕ) : Type 0 where
@@ -189,7 +183,7 @@ module _ (o : Orders) (v : AreOffers o) (s : State) (w : IsSound o s) (i : ℕ) 
           inr (
             n,
             record {
-              left = let a = st.others_stay k n in let b = g.left in omega arith;
+              left = let a = st.others_stay k n in omega arith;
               unheld = λ q h. g.unheld q (same q (cases_eq q j) ∙ h.0, h.1);
             },
           )
@@ -202,7 +196,7 @@ module _ (o : Orders) (v : AreOffers o) (s : State) (w : IsSound o s) (i : ℕ) 
           (cases_lt (position_of o j k) (length (inputs_of o j)))
         where
           left : next_place s k < length (outputs_of o k)
-          left = let a = st.others_stay k n in let b = g.left in omega arith
+          left = let a = st.others_stay k n in omega arith
 
           elsewhere : (Holds o s j k → ⊥) →
               (hand_found o i (next_place s i) (position_held s j) ≡ Some (k, next_place t k))
@@ -234,7 +228,7 @@ pub hand_at-placed : (o : Orders) (i p : ℕ) (x : ℕ × ℕ) → hand_at o i p
 hand_at-placed o i p x h =
     let a = hand_at-shows o i p x.0 x.1 h in
     let P : ℕ → Type 0 = λ n. p < length (outputs_of o n) in
-    let b : p < length (outputs_of o x.0) = subst P a.0 a.2 in let c = a.1 in omega arith
+    let b : p < length (outputs_of o x.0) = subst P a.0 a.2 in omega arith
 
 pub hand_after-placed : (o : Orders) (i p : ℕ) (answer : Outcome) (x : ℕ × ℕ) → hand_after o i p answer ≡ Some x →
     x.1 < length (outputs_of o x.0)

@@ -53,13 +53,11 @@ module _ (blocks : List (List ℕ)) (i : ℕ) (block : List ℕ) (inside : i < l
   pub ahead_with : (j places own more count : ℕ) → IsAhead blocks j i places own → more ≡ length block →
       count ≡ count_of j block → IsAhead blocks j (i + 1) (places + more) (own + count)
   ahead_with j places own more count ahead long many =
-      let all = ahead.all in let few = ahead.few in
       record { all = let next = ahead_next in omega arith; few = let next = count_next j in omega arith }
 
   pub ahead_without : (j places own less count : ℕ) → IsAhead blocks j (i + 1) places own → less ≡ length block →
       count ≡ count_of j block → IsAhead blocks j i (places - less) (own - count)
   ahead_without j places own less count ahead long many =
-      let all = ahead.all in let few = ahead.few in
       record { all = let next = ahead_next in omega arith; few = let next = count_next j in omega arith }
 
   pub rest_next : length (concat (drop i blocks)) ≡ length block + length (concat (drop (i + 1) blocks))

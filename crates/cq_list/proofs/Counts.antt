@@ -67,7 +67,7 @@ module _ (places counts : List ℕ) (had : AreCounts places counts) where
   pub counts_insert : (i j : ℕ) → i ≤ length places → length places < 64 → j < 64 →
       AreCounts (insert places i j) (set counts j (get_or counts j 0 + 1))
   counts_insert i j inside room in_range =
-      let within : j < length counts = let each = had.each in omega arith in
+      let within : j < length counts = omega arith in
       record {
         counted = λ k inside_k.
             ⊎_elim
@@ -107,7 +107,7 @@ module _ (places counts : List ℕ) (had : AreCounts places counts) where
 
     pub counts_remove : AreCounts (remove places i) (set counts j (get_or counts j 0 - 1))
     counts_remove =
-        let within : j < length counts = let each = had.each in let in_range = in_range_at in omega arith in
+        let within : j < length counts = let in_range = in_range_at in omega arith in
         record {
           counted = λ k inside_k.
               ⊎_elim

@@ -16,7 +16,7 @@ same_partner order (Some j) (Some k) a b e = ap (λ n. Some n) (same_at_place or
 
 pub one_input_best : (o : Orders) (m n : Partners) → IsInputBest o m → IsInputBest o n → m ≡ n
 one_input_best o m n a b =
-    ext_get_or None m n (let x = a.stable.matching.size in let y = b.stable.matching.size in omega arith)
+    ext_get_or None m n (omega arith)
     (λ i l.
     same_partner (outputs_of o i) (partner_of m i) (partner_of n i) (a.stable.matching.offered i)
     (b.stable.matching.offered i)

@@ -89,25 +89,6 @@ none_renewed m o t pairs v same =
           sym (filter_same _ _ (inputs_of o j) one) ∙ same.inputs j ∙ filter_same _ _ (inputs_of t j) one;
     }
 
--- the next input has no partner
-pub none_more : (m : Partners) (n : ℕ) (o t : Orders) → Renewing m n o t → partner_of m n ≡ None →
-    Renewing m (n + 1) o t
-none_more m n o t r none =
-    record {
-      ports = r.ports;
-      outputs_differ = r.outputs_differ;
-      inputs_differ = r.inputs_differ;
-      outputs_done = λ i f.
-          r.outputs_done i (λ l. ⊎_elim (λ is. ap (partner_of m) is ∙ none)
-          (λ other. f (let later : n + 1 ≤ i = omega arith in later)) (cases_eq i n));
-      outputs_wait = λ i j l e. r.outputs_wait i j (omega arith) e;
-      inputs_done = λ j free. r.inputs_done j (λ i l h. ⊎_elim
-          (λ is. let no : None ≡ Some j = sym none ∙ ap (partner_of m) (sym is) ∙ h in let P : ⊥ = cc in P)
-          (λ other. free i (let later : n + 1 ≤ i = omega arith in later) h)
-          (cases_eq i n));
-      inputs_wait = λ i j l e. r.inputs_wait i j (omega arith) e;
-    }
-
 -- the next input has one: its order and that of its partner are renewed
 pub one_more :
     (m : Partners) (n j : ℕ) (o t : Orders) (row column : List ℕ) → ArePairs m → AreOffers t → Renewing m n o t →
@@ -191,6 +172,13 @@ none_between m a b o t r le none =
           (cases_lt i b));
       inputs_wait = λ i j l e. r.inputs_wait i j (omega arith) e;
     }
+
+-- as where the next input has none
+pub none_more : (m : Partners) (n : ℕ) (o t : Orders) → Renewing m n o t → partner_of m n ≡ None →
+    Renewing m (n + 1) o t
+none_more m n o t r none =
+    none_between m n (n + 1) o t r (omega arith)
+    (λ i low high. let is : i ≡ n = omega arith in ap (partner_of m) is ∙ none)
 
 -- ## Ports in range
 

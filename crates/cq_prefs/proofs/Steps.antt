@@ -70,7 +70,7 @@ pub held-falls : (o : Orders) (s : State) (i : ℕ) (t : State) → IsStep o s i
 held-falls o s i t st j = go (cases_eq j (next_output o s i))
   where
     go : (j ≡ next_output o s i) ⊎ (j ≢ next_output o s i) → position_held t j ≤ position_held s j
-    go (inl e) = rw e (let a = st.held_asked in omega arith)
+    go (inl e) = rw e (omega arith)
     go (inr n) = let a = st.held_other j n in omega arith
 
 asked_before-step : (o : Orders) → AreOffers o → (s : State) → IsSound o s → (i : ℕ) (t : State) → IsStep o s i t →
@@ -163,7 +163,7 @@ sound-step o v s w i f =
     }
   where
     within : (k : ℕ) → (k ≡ i) ⊎ (k ≢ i) → next_place (propose o s i) k ≤ length (outputs_of o k)
-    within k (inl e) = let a = (step o v s w i f).moved_on in let b = f.left in rw e (omega arith)
+    within k (inl e) = let a = (step o v s w i f).moved_on in rw e (omega arith)
     within k (inr n) = let a = (step o v s w i f).others_stay k n in let b = w.within k in omega arith
 
 -- nobody has proposed

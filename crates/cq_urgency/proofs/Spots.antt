@@ -243,7 +243,7 @@ module _ (blocks : List (List Queued)) (ahead i o : ℕ) (spot : IsSpot blocks a
 
   pub in_back_half : (p : ℕ) → p + 32 ≡ o → IsSpot (halved blocks i) ahead (i + 1) p
   in_back_half p late =
-      let len = longer in let inside = spot.inside in
+      let len = longer in
       record {
         inside = omega arith;
         short = let size = back_length in omega arith;

@@ -17,8 +17,6 @@ invariant_of-self c =
     (concat l)) c.deref.ensures.value in
     let less = length-remove all c.find_nth-place.result.0 (omega arith) in
     let left = ap length c.remove_at.ensures.places in
-    let counted = c.self.invariant.counted in
-    let fits = c.self.invariant.fits in
     record {
       filled = c.remove_at.ensures.filled;
       counted = omega arith;

@@ -1,4 +1,4 @@
-use Rattle.std.proofs.Common.{◌≡◌, ◌+◌, get_or, length, ap, arith}
+use Rattle.std.proofs.Common.{◌≡◌, get_or, length, ap, arith}
 use Rattle.cq_prefs.specs.Proposals.{next_place}
 use Rattle.cq_pair.proofs.Showing.{free_differ, moves_out, moves_still}
 use Rattle.cq_pair.proofs.proposal_core.Core.move_on.Goals as goal

@@ -35,8 +35,6 @@ invariant_of-self-2 c =
           (freed_placed _ _ _ _ c.pop-queued.new.self _ w.placed some c.index-number.ensures),
       let m = c.self.invariant.1 in
           let size = length-set b.pool.items c.index-number.result.now c.pop-queued.new.self in
-          let few = m.few in let blocks = m.blocks in let ordered = m.ordered in let counted = m.counted in
-          let freed = m.freed in
           record {
             few = omega arith;
             blocks = m.blocks;

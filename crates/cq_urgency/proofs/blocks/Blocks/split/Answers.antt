@@ -37,10 +37,7 @@ invariant_of-self c =
     let order = left_by_ok c.insert.result c.unwrap.result _ _ _ c.insert.ensures.items c.unwrap.ensures in
     let counts = left_by_ok c.insert-2.result c.unwrap-2.result _ _ _ c.insert-2.ensures.items c.unwrap-2.ensures in (
       rw (order, counts) placed,
-      let m = c.self.invariant.1 in
-          let same = length-set b.pool.items c.index-number.result.now (take 32 block) in
-          let few = m.few in let blocks = m.blocks in let ordered = m.ordered in let counted = m.counted in
-          let freed = m.freed in
+      let same = length-set b.pool.items c.index-number.result.now (take 32 block) in
           let view = ap (λ (v : BlocksView). v.most) c.self.view_is in
           record {
             few = ⊎_elim (λ l. let empty = come.grown l in omega arith) (λ le. omega arith)

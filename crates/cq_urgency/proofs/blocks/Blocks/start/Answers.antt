@@ -23,11 +23,8 @@ invariant_of-self c =
     let counts = c.push_reserved-2.ensures.items ∙ sym (insert_end b.counts.items 1)
     ∙ ap (λ n. insert b.counts.items n 1) even in (
       rw (order, counts) placed,
-      let m = c.self.invariant.1 in
-          let come = c.put_block-number.ensures.comes in
+      let come = c.put_block-number.ensures.comes in
           let view = ap (λ (v : BlocksView). v.most) c.self.view_is in
-          let few = m.few in let blocks = m.blocks in let ordered = m.ordered in let counted = m.counted in
-          let freed = m.freed in
           record {
             few = ⊎_elim (λ l. let empty = come.grown l in omega arith) (λ le. omega arith)
                 (cases_lt (length (b.pool.items)) (length c.put_block-number.new.pool.items));

@@ -12,7 +12,6 @@ invariant_of-self c =
     let cells : flattened c.self.inside.blocks.blocks ≡ c.args.self.now.cells = ap (λ (b : Buffered). b.cells)
     c.self.view_is in
     let spare = ap (λ (b : Buffered). b.spare) c.self.view_is in
-    let counted = had.counted in
     let more = ap length c.put_into.ensures.cells ∙ length_put q (flattened c.self.inside.blocks.blocks) in
     record {
       rising = subst IsRising (sym c.put_into.ensures.cells)
