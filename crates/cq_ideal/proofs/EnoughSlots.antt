@@ -10,11 +10,12 @@ use Rattle.cq_ideal.specs.Admission.{Admission, admission, admitted, admitted_in
 use Rattle.cq_ideal.specs.IdealRun.{Ran}
 use Rattle.cq_ideal.specs.LimitedIdeal.{empty_limited, limited_run}
 use Rattle.cq_ideal.specs.WholePackets.{AreJudged}
+use Rattle.cq_ideal.proofs.Ends.{nothing_left}
 use Rattle.cq_ideal.proofs.FlowCount.{come_count-traffic_of, length-traffic_of, quiet_at_end}
 use Rattle.cq_ideal.proofs.FlowRank.{present}
 use Rattle.cq_ideal.proofs.FlowRun.{come_count, QuietAfter}
 use Rattle.cq_ideal.proofs.LimitedRuns.{is_run_of, judged}
-use Rattle.cq_ideal.proofs.Whole.{empties, none_wait, waiting, waiting-empty}
+use Rattle.cq_ideal.proofs.Whole.{empties, if_ok, waiting-empty}
 
 -- ## What is admitted
 
@@ -67,10 +68,6 @@ module _ (limits : List (Option ℕ)) where
 
 -- ## The run of all arrivals
 
-if_ok : {A : Type 0} (P : A → Type 0) (x : Result A TagFault) → ((a : A) → x ≡ Ok a → P a) → IfOk x P
-if_ok P (Ok a) f = f a refl
-if_ok P (Err fault) f = tt
-
 pub limited_empty_at_end : (limits : List (Option ℕ)) (ms : List Machine) (ports : ℕ) (ranks : List (List ℕ))
     (came : List Arrival) →
     IfOk (limited_run limits ms 0 (traffic_of came) (empty_limited ports ranks))
@@ -86,7 +83,7 @@ limited_empty_at_end limits ms ports ranks came =
     let few = come_count-traffic_of came in
     let slots = length-traffic_of came in
     let none = waiting-empty ports in
-    let over = empties ms (admitted_in ran.admissions) 0 (end_of came) start.state quiet (omega arith) in
-    none_wait ran.after.state.lists
-    (subst (λ (x : Result Ran TagFault). IfOk x (λ end. waiting end.after.lists ≡ 0))
-    (is_run_of limits ms 0 (traffic_of came) start ran is) over))
+    nothing_left ran.after.state.lists
+    (empties ms (admitted_in ran.admissions) 0 (end_of came) start.state
+    (record { gone = ran.gone; after = ran.after.state }) (is_run_of limits ms 0 (traffic_of came) start ran is) quiet
+    (omega arith)))

@@ -11,37 +11,8 @@ use Rattle.cq_base.specs.Arriving.{Arrival, arriving_at, arriving, end_of, enoug
 use Rattle.cq_ideal.proofs.FlowPut.{all_from}
 use Rattle.cq_ideal.proofs.FlowRank.{present}
 use Rattle.cq_ideal.proofs.FlowRun.{come_count, QuietAfter}
+use Rattle.cq_ideal.proofs.Waiting.{total, total_more, total_none, total_same}
 use Rattle.cq_ideal.proofs.FlowFound.{cell_listed, found, other_slot, other_input, found_none, length-found, arriving_is, present-cons}
-
--- ## Numbers that are added over a range
-
--- the numbers at n places from a on, added
-total : (ℕ → ℕ) → ℕ → ℕ → ℕ
-total f a zero = 0
-total f a (suc n) = f a + total f (a + 1) n
-
-total_none : (f : ℕ → ℕ) (a n : ℕ) → ((t : ℕ) → f t ≡ 0) → total f a n ≡ 0
-unfolding total
-total_none f a zero z = refl
-total_none f a (suc n) z = let here = z a in let rest = total_none f (a + 1) n z in omega arith
-
-total_same : (f g : ℕ → ℕ) (a n : ℕ) → ((t : ℕ) → a ≤ t → f t ≡ g t) → total f a n ≡ total g a n
-unfolding total
-total_same f g a zero e = refl
-total_same f g a (suc n) e =
-    let here = e a (omega arith) in let rest = total_same f g (a + 1) n (λ t l. e t (omega arith)) in omega arith
-
--- one more at one place at most
-total_more : (f g : ℕ → ℕ) (s a n : ℕ) → ((t : ℕ) → t ≢ s → f t ≡ g t) → f s ≤ g s + 1 → total f a n ≤ total g a n + 1
-unfolding total
-total_more f g s a zero e le = omega arith
-total_more f g s a (suc n) e le =
-    ⊎_elim
-    (λ same.
-    let here : f a ≤ g a + 1 = subst (λ (k : ℕ). f k ≤ g k + 1) (sym same) le in
-    let rest = total_same f g (a + 1) n (λ t l. e t (λ is. omega arith)) in omega arith)
-    (λ ne. let here = e a ne in let rest = total_more f g s (a + 1) n e le in omega arith)
-    (cases_eq a s)
 
 -- ## The cells of one slot
 
@@ -75,7 +46,7 @@ module _ (inputs : ℕ) (are : inputs ≡ 64) where
   in_slot-cons : (a : Arrival) (came : List Arrival) → in_slot (a ∷ came) a.slot ≤ in_slot came a.slot + 1
   unfolding in_slot
   in_slot-cons a came =
-      total_more (λ k. length (found (a ∷ came) a.slot k)) (λ k. length (found came a.slot k)) a.cell.id.input 0 inputs
+      total_more (λ k. length (found (a ∷ came) a.slot k)) (λ k. length (found came a.slot k)) a.cell.id.input 1 0 inputs
       (λ k ne. ap length (other_input a came a.slot k (λ e. ne (sym e))))
       (let one = length-found (a ∷ came) a.slot a.cell.id.input in omega arith)
 
@@ -86,7 +57,7 @@ module _ (inputs : ℕ) (are : inputs ≡ 64) where
       (λ t. total_none (λ k. length (found [] t k)) 0 inputs (λ k. ap length (found_none [] t k tt))) in
       omega arith
   no_more_than (a ∷ came) n =
-      let more = total_more (in_slot (a ∷ came)) (in_slot came) a.slot 0 n
+      let more = total_more (in_slot (a ∷ came)) (in_slot came) a.slot 1 0 n
       (λ t ne. total_same (λ k. length (found (a ∷ came) t k)) (λ k. length (found came t k)) 0 inputs
       (λ k l. ap length (other_slot a came t k (λ e. ne (sym e)))))
       (in_slot-cons a came) in

@@ -22,7 +22,7 @@ present (None ∷ cells) = present cells
 present (Some cell ∷ cells) = cell ∷ present cells
 
 -- what came of the inputs from this one on, where no rank was too great
-after_ok : (P : Ranking → Type 0) (o : Option Queued) (x : Result Ranking TagFault) (r : Ranking) →
+pub after_ok : (P : Ranking → Type 0) (o : Option Queued) (x : Result Ranking TagFault) (r : Ranking) →
     after_input o x ≡ Ok r →
     ((rest : Ranking) → x ≡ Ok rest → P (record { came = o ∷ rest.came; ranks = rest.ranks })) → P r
 after_ok P o (Ok rest) r h f =
@@ -30,7 +30,7 @@ after_ok P o (Ok rest) r h f =
     let same : made ≡ r = cc in subst P same (f rest refl)
 after_ok P o (Err fault) r h f = absurd (let P : ⊥ = cc in P)
 
-fits_ok : (b : Bool) (x : Result Ranking TagFault) (fault : TagFault) (r : Ranking) → cond b x (Err fault) ≡ Ok r →
+pub fits_ok : (b : Bool) (x : Result Ranking TagFault) (fault : TagFault) (r : Ranking) → cond b x (Err fault) ≡ Ok r →
     x ≡ Ok r
 fits_ok true x fault r h = h
 fits_ok false x fault r h = absurd (let P : ⊥ = cc in P)

@@ -15,6 +15,7 @@ use Rattle.cq_ideal.specs.IdealSlot.{IdealState, Sent, put_all, filled, fronts, 
 use Rattle.cq_ideal.proofs.FlowPut.{all_from}
 use Rattle.cq_ideal.proofs.FlowStands.{Stands, HasWaited, is_kind, shown, of_flow}
 use Rattle.cq_ideal.proofs.FlowRank.{present, AreOfClasses, Filled, filled_from}
+use Rattle.cq_ideal.proofs.Waiting.{filled_at, length-filled, sends_ok}
 
 -- the cell that was sent, as a list
 abbrev pub listed : Option Queued → List Queued
@@ -54,18 +55,6 @@ shown_sent i c (y ∷ ys) = first_shown (is_kind i c y) y (filter (is_kind i c) 
 
 -- ## What stands at one output after the slot
 
-filled_at : (came : List (Option Queued)) (lists : List (List Queued)) (j : ℕ) → j < length lists →
-    slice_index_or (filled came lists) j [] ≡ put_all j came (slice_index_or lists j [])
-unfolding filled
-filled_at came lists j inside =
-    get_or-map-range_with_len (λ (k : ℕ). put_all k came (slice_index_or lists k [])) 0 (length lists) j j [] inside
-    (omega arith)
-
-length-filled : (came : List (Option Queued)) (lists : List (List Queued)) → length (filled came lists) ≡ length lists
-unfolding filled
-length-filled came lists =
-    length-map-range_with_len (λ (k : ℕ). put_all k came (slice_index_or lists k [])) 0 (length lists)
-
 told_at : (ms : List Machine) (gone : List (Option Queued)) (ranks : List (List ℕ)) (j : ℕ) → j < length ranks →
     slice_index_or (all_told ms gone ranks) j []
     ≡ told (machine_at ms j) (slice_index_or ranks j []) (slice_index_or gone j None)
@@ -81,28 +70,6 @@ unfolding all_told
 length-all_told ms gone ranks =
     length-map-range_with_len
     (λ (k : ℕ). told (machine_at ms k) (slice_index_or ranks k []) (slice_index_or gone k None)) 0 (length ranks)
-
-sends_ok : (P : Sent → Type 0) (ms : List Machine) (old : IdealState) (x : Result Ranking TagFault) (sent : Sent) →
-    ideal_sends ms old x ≡ Ok sent →
-    ((r : Ranking) → x ≡ Ok r →
-    P (record {
-      gone = fronts (filled r.came old.lists);
-      after = record {
-        lists = rests (filled r.came old.lists);
-        ranks = all_told ms (fronts (filled r.came old.lists)) r.ranks;
-      };
-    })) → P sent
-sends_ok P ms old (Ok r) sent h f =
-    let made : Sent =
-    record {
-      gone = fronts (filled r.came old.lists);
-      after = record {
-        lists = rests (filled r.came old.lists);
-        ranks = all_told ms (fronts (filled r.came old.lists)) r.ranks;
-      };
-    } in
-    let same : made ≡ sent = cc in subst P same (f r refl)
-sends_ok P ms old (Err fault) sent h f = absurd (let P : ⊥ = cc in P)
 
 module _ (ms : List Machine) (j slot : ℕ) (laws : KeepsLaws (machine_at ms j)) (i c : ℕ) where
   -- what a slot made of the output's list, where these cells came to the switch

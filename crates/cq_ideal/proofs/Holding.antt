@@ -13,7 +13,7 @@ use Rattle.cq_ideal.specs.IdealSlot.{filled}
 use Rattle.cq_ideal.specs.Limiter.{HoldsLists, JudgesAsBefore, LimiterView, held_without}
 use Rattle.cq_ideal.specs.Parts.{QueuesView, RanksView, count_to, list_at}
 use Rattle.cq_ideal.proofs.Sending.{Sending}
-use Rattle.cq_ideal.proofs.Spare.{filled_long, length-filled}
+use Rattle.cq_ideal.proofs.Waiting.{filled_long, length-filled}
 
 no_cells : (n : ℕ) → replicate n 0 ≡ map length (replicate n (let none : List Queued = [] in none))
 no_cells zero = refl

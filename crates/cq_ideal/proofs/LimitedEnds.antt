@@ -1,7 +1,7 @@
--- Where the run of the ideal switch ends where outputs have limits. It is what `Ends` says of the run without limits:
--- as many slots as are enough end with empty lists, so there is a least number of slots after which no cell is to
--- come and none waits, and from there on the slots send nothing.
-use Rattle.std.proofs.Common.{◌≡◌, ℕ, ◌+◌, ◌-◌, ◌<◌, ◌≤◌, Bool, true, false, List, ◌++◌, length, get_or, Option, Result, Ok, Err, refl, sym, ap, ◌∙◌, subst, ⊎_elim, arith}
+-- Where the run of the ideal switch ends, where outputs have limits: as many slots as are enough end with empty lists,
+-- so there is a least number of slots after which no cell is to come and none waits, and from there on the slots send
+-- nothing. A switch without limits is one with limits that refuses nothing, so its run ends where that one's does.
+use Rattle.std.proofs.Common.{◌≡◌, ℕ, ◌+◌, ◌-◌, ◌<◌, ◌≤◌, Bool, true, false, List, [], ◌++◌, length, get_or, Option, Result, Ok, Err, refl, sym, ap, ◌∙◌, subst, ⊎_elim, arith}
 use Rattle.std.specs.Prelude.{IfOk, IsOkAnd}
 use Rattle.std.specs.List.{position_or_len, range_with_len}
 use Rattle.std.proofs.lemmas.Bool.{cases_lt}
@@ -14,9 +14,9 @@ use Rattle.cq_base.specs.declared.cell.Cell.{Cell}
 use Rattle.cq_base.specs.declared.cell.Departure.{Departure}
 use Rattle.cq_base.specs.declared.cell.TagFault.{TagFault}
 use Rattle.cq_rank.specs.Machine.{Machine}
-use Rattle.cq_ideal.specs.Admission.{Admission, Marked, NoLimits, admitted_in, marks_down}
-use Rattle.cq_ideal.specs.Ending.{arriving_from, first_slots, is_over, slots_of_run, whole_ideal_run}
-use Rattle.cq_ideal.specs.IdealRun.{IsEmptyIdeal, Ran, departures_of, empty_ideal, ideal_run}
+use Rattle.cq_ideal.specs.Admission.{Admission, Marked, NoLimits, admitted_in, marked, marks_down}
+use Rattle.cq_ideal.specs.Ending.{IdealEnds, arriving_from, first_slots, is_over, slots_of_run, whole_ideal_run}
+use Rattle.cq_ideal.specs.IdealRun.{IsEmptyIdeal, Ran, departures_of, departures_ran, empty_ideal, ideal_run}
 use Rattle.cq_ideal.specs.IdealSlot.{IdealState}
 use Rattle.cq_ideal.specs.LimitedEnding.{LimitedIdealEnds, departures_limited, slots_of_limited_run, whole_limited_run}
 use Rattle.cq_ideal.specs.LimitedIdeal.{LimitedRan, empty_limited, limited_run, unlimited}
@@ -24,7 +24,7 @@ use Rattle.cq_ideal.specs.Refused.{refused_in}
 use Rattle.cq_ideal.proofs.Ends.{all_slots, none_waits, over_from_test, test_after}
 use Rattle.cq_ideal.proofs.EnoughSlots.{as_many_slots, limited_empty_at_end}
 use Rattle.cq_ideal.proofs.LimitedParts.{LimitedHalves, behind, limited_going_on, limited_halves, limited_parts, limited_stays_empty}
-use Rattle.cq_ideal.proofs.LimitedRuns.{is_run_of, judged, none_refused_in, run_of_all}
+use Rattle.cq_ideal.proofs.LimitedRuns.{is_run_of, judged, none_refused_in, none_refused_ran, run_of_all, run_of_none}
 use Rattle.cq_ideal.proofs.Parted.{arriving_length, arriving_parts, departures_append, measured}
 
 -- the run without what is said of limits
@@ -283,3 +283,134 @@ module _ (limits : List (Option ℕ)) (ms : List Machine) (ports : ℕ) (ranks :
   run_as_before =
       same_runs (slots_of_limited_run limits ms came (empty_limited ports ranks))
       ∙ ap (λ (n : ℕ). ideal_run ms 0 (first_slots came n) (empty_ideal ports ranks)) slots_as_before
+
+-- ## The switch without limits
+
+pub no_limit : NoLimits []
+no_limit j = refl
+
+ok_unlimited : (x : Result LimitedRan TagFault) (s : Marked IdealState) → IsOkAnd x (λ ran. ran.after ≡ s) →
+    IsOkAnd (unlimited x) (λ ran. ran.after ≡ s.state)
+ok_unlimited (Ok ran) s e = ap (λ (m : Marked IdealState). m.state) e
+ok_unlimited (Err fault) s e = absurd e
+
+ok_none_refused : (marks : List Bool) (traffic : List (List (Option Cell))) (x : Result Ran TagFault) (s : IdealState)
+    → IsOkAnd x (λ ran. ran.after ≡ s) →
+    IsOkAnd (none_refused_ran marks traffic x) (λ ran. ran.after ≡ marked marks s)
+ok_none_refused marks traffic (Ok ran) s e = ap (marked marks) e
+ok_none_refused marks traffic (Err fault) s e = absurd e
+
+sent_unlimited : (x : Result LimitedRan TagFault) → departures_ran (unlimited x) ≡ departures_limited x
+sent_unlimited (Ok ran) = refl
+sent_unlimited (Err fault) = refl
+
+-- a run with limits that is this one
+pub record RanAs (x : Result LimitedRan TagFault) (ran : Ran) : Type 0 where
+  pub limited : LimitedRan
+  pub is : x ≡ Ok limited
+  pub same : state_ran limited ≡ ran
+
+ran_as : (x : Result LimitedRan TagFault) (ran : Ran) → unlimited x ≡ Ok ran → RanAs x ran
+ran_as (Ok limited) ran e = record { limited = limited; is = refl; same = cc }
+ran_as (Err fault) ran e = absurd (let P : ⊥ = cc in P)
+
+module _ (ms : List Machine) (ports : ℕ) (ranks : List (List ℕ)) (came : List Arrival) where
+  abbrev plain_run : ℕ → Result Ran TagFault
+  plain_run n = ideal_run ms 0 (first_slots came n) (empty_ideal ports ranks)
+
+  abbrev limited : ℕ → Result LimitedRan TagFault
+  limited n = limited_run [] ms 0 (first_slots came n) (empty_limited ports ranks)
+
+  its_runs : (n : ℕ) → unlimited (limited n) ≡ plain_run n
+  its_runs n = same_runs [] ms ports ranks came no_limit n
+
+  refusing_none : (n : ℕ) → limited n ≡ none_refused_ran (marks_down ports) (first_slots came n) (plain_run n)
+  refusing_none n =
+      run_of_none [] ms (marks_down ports) 0 (first_slots came n) (empty_ideal ports ranks)
+      (none_refused_in [] ms ports (first_slots came n) no_limit)
+
+  limited_after : (n : ℕ) (s : IdealState) → IsOkAnd (plain_run n) (λ ran. ran.after ≡ s) →
+      IsOkAnd (limited n) (λ ran. ran.after ≡ marked (marks_down ports) s)
+  limited_after n s e =
+      subst (λ (x : Result LimitedRan TagFault). IsOkAnd x (λ ran. ran.after ≡ marked (marks_down ports) s))
+      (sym (refusing_none n)) (ok_none_refused (marks_down ports) (first_slots came n) (plain_run n) s e)
+
+  plain_after : (n : ℕ) (s : Marked IdealState) → IsOkAnd (limited n) (λ ran. ran.after ≡ s) →
+      IsOkAnd (plain_run n) (λ ran. ran.after ≡ s.state)
+  plain_after n s e =
+      subst (λ (x : Result Ran TagFault). IsOkAnd x (λ ran. ran.after ≡ s.state)) (its_runs n)
+      (ok_unlimited (limited n) s e)
+
+  plain_ends : (n : ℕ) (end : Marked IdealState) → LimitedIdealEnds [] ms came (empty_limited ports ranks) n end →
+      IdealEnds ms came (empty_ideal ports ranks) n end.state
+  plain_ends n end y = record {
+    after = plain_after n end y.after;
+    all_came = y.all_came;
+    empty = y.empty;
+    first = λ m s after le empty. y.first m (marked (marks_down ports) s) (limited_after m s after) le empty;
+  }
+
+  its_ends : (n : ℕ) (end : IdealState) → IdealEnds ms came (empty_ideal ports ranks) n end →
+      LimitedIdealEnds [] ms came (empty_limited ports ranks) n (marked (marks_down ports) end)
+  its_ends n end y = record {
+    after = limited_after n end y.after;
+    all_came = y.all_came;
+    empty = y.empty;
+    first = λ m s after le empty. y.first m s.state (plain_after m s after) le empty;
+  }
+
+  pub not_more : slots_of_run ms came (empty_ideal ports ranks) ≤ enough came
+  not_more =
+      let same = slots_as_before [] ms ports ranks came no_limit in
+      let le = limited_not_more [] ms ports ranks came in
+      omega arith
+
+  -- the whole run with limits that is this one
+  pub whole_as : (ran : Ran) → whole_ideal_run ms came (empty_ideal ports ranks) ≡ Ok ran →
+      RanAs (whole_limited_run [] ms came (empty_limited ports ranks)) ran
+  whole_as ran is = ran_as _ ran (run_as_before [] ms ports ranks came no_limit ∙ is)
+
+  pub ends : (ran : Ran) → whole_ideal_run ms came (empty_ideal ports ranks) ≡ Ok ran →
+      IdealEnds ms came (empty_ideal ports ranks) (slots_of_run ms came (empty_ideal ports ranks)) ran.after
+  ends ran is =
+      let w = whole_as ran is in
+      subst (λ (r : Ran). IdealEnds ms came (empty_ideal ports ranks)
+      (slots_of_run ms came (empty_ideal ports ranks)) r.after) w.same
+      (subst (λ (n : ℕ). IdealEnds ms came (empty_ideal ports ranks) n w.limited.after.state)
+      (slots_as_before [] ms ports ranks came no_limit)
+      (plain_ends (slots_of_limited_run [] ms came (empty_limited ports ranks)) w.limited.after
+      (limited_ends [] ms ports ranks came w.limited w.is)))
+
+  pub found_end : (n : ℕ) (end : IdealState) → IdealEnds ms came (empty_ideal ports ranks) n end →
+      slots_of_run ms came (empty_ideal ports ranks) ≡ n
+  found_end n end y =
+      sym (slots_as_before [] ms ports ranks came no_limit)
+      ∙ limited_found_end [] ms ports ranks came n (marked (marks_down ports) end) (its_ends n end y)
+
+  -- what a run of more slots says of one of fewer
+  pub fewer_slots : (m n : ℕ) (ran : Ran) → m ≤ n → plain_run n ≡ Ok ran → (first : Ran) × (plain_run m ≡ Ok first)
+  fewer_slots m n ran le is =
+      let r = ran_as (limited n) ran (its_runs n ∙ is) in
+      let cut = cut_at [] ms ports ranks came m n r.limited le r.is in
+      (state_ran cut.first, sym (its_runs m) ∙ ap unlimited cut.ran_first)
+
+  pub whole_fault : (n : ℕ) (fault : TagFault) → plain_run n ≡ Err fault →
+      whole_ideal_run ms came (empty_ideal ports ranks) ≡ Err fault
+  whole_fault n fault is =
+      sym (run_as_before [] ms ports ranks came no_limit)
+      ∙ ap unlimited (limited_whole_fault [] ms ports ranks came n fault (refusing_none n
+      ∙ ap (none_refused_ran (marks_down ports) (first_slots came n)) is))
+
+  pub same_sent : departures_ran (ideal_run ms 0 (traffic_of came) (empty_ideal ports ranks)) ≡ departures_ran
+      (whole_ideal_run ms came (empty_ideal ports ranks))
+  same_sent =
+      let before = its_runs (enough came) in
+      let all = all_slots came in
+      let whole = run_as_before [] ms ports ranks came no_limit in
+      let same = limited_same_sent [] ms ports ranks came in
+      let one = sent_unlimited (limited (enough came)) in
+      let other = sent_unlimited (whole_limited_run [] ms came (empty_limited ports ranks)) in
+      ap (λ l. departures_ran (ideal_run ms 0 l (empty_ideal ports ranks))) (sym all)
+      ∙ sym (ap departures_ran before) ∙ one
+      ∙ ap (λ l. departures_limited (limited_run [] ms 0 l (empty_limited ports ranks))) all
+      ∙ same ∙ sym other ∙ ap departures_ran whole

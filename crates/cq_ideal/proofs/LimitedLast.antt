@@ -1,25 +1,29 @@
 -- The slots of a run with limits are those up to the last arrival, or up to the last departure where that is later.
 -- Behind the last arrival the run goes on only while a cell waits. So a cell waits as the last such slot begins, and
--- one departs in it.
+-- one departs in it. Without limits a cell departs in the slot of the last arrival too, so the last departure is in the
+-- last slot.
 use Rattle.std.proofs.Common.{◌≡◌, ℕ, zero, suc, ◌+◌, ◌-◌, ◌<◌, ◌≤◌, true, false, List, [], ◌∷◌, ◌++◌, length, Option, Ok, refl, sym, ap, ◌∙◌, ⊎_elim, arith}
 use Rattle.std.specs.Prelude.{max}
+use Rattle.std.specs.List.{AllByRecursion}
 use Rattle.std.proofs.lemmas.Bool.{cases_lt}
-use Rattle.cq_base.specs.Arriving.{Arrival, end_of}
+use Rattle.std.proofs.lemmas.List.{length-replicate}
+use Rattle.cq_base.specs.Arriving.{Arrival, arriving, end_of}
 use Rattle.cq_base.specs.declared.cell.Cell.{Cell}
 use Rattle.cq_base.specs.declared.cell.Queued.{Queued}
 use Rattle.cq_rank.specs.Machine.{Machine}
 use Rattle.cq_ideal.specs.Admission.{admitted_in}
-use Rattle.cq_ideal.specs.Ending.{arriving_from, first_slots, slots_of}
-use Rattle.cq_ideal.specs.IdealRun.{Ran, departures_of, ideal_run}
+use Rattle.cq_ideal.specs.Ending.{arriving_from, first_slots, slots_of, slots_of_run, whole_ideal_run}
+use Rattle.cq_ideal.specs.Flows.{IsForSwitch}
+use Rattle.cq_ideal.specs.IdealRun.{Ran, departures_of, empty_ideal, ideal_run}
 use Rattle.cq_ideal.specs.IdealSlot.{IdealState, departures_in}
 use Rattle.cq_ideal.specs.LimitedEnding.{slots_of_limited_run, whole_limited_run}
 use Rattle.cq_ideal.specs.LimitedIdeal.{LimitedRan, empty_limited}
 use Rattle.cq_ideal.proofs.Ends.{nothing_left}
 use Rattle.cq_ideal.proofs.EnoughSlots.{as_many_slots}
-use Rattle.cq_ideal.proofs.LastSlot.{of_slot, slots_of-append, slots_within}
-use Rattle.cq_ideal.proofs.LimitedEnds.{at_ok, cut_at, gone_long, limited_over_at_end, limited_test, not_before, run_to, state_ran}
+use Rattle.cq_ideal.proofs.LastSlot.{comes, counted_in, of_slot, slots_of-append, slots_within}
+use Rattle.cq_ideal.proofs.LimitedEnds.{at_ok, cut_at, ends, gone_long, limited_over_at_end, limited_test, no_limit, not_before, run_to, slots_as_before, state_ran, whole_as}
 use Rattle.cq_ideal.proofs.LimitedRuns.{is_run_of, judged}
-use Rattle.cq_ideal.proofs.Parted.{arriving_length, departures_append, first_slot, measured}
+use Rattle.cq_ideal.proofs.Parted.{arriving_here, arriving_length, departures_append, first_slot, measured}
 use Rattle.cq_ideal.proofs.Waiting.{counted, some_waits, waiting}
 
 -- ## One slot
@@ -104,3 +108,55 @@ module _ (limits : List (Option ℕ)) (ms : List Machine) (ports : ℕ) (ranks :
       by_number (suc slot) e come within =
           ⊎_elim (λ (soon : end_of came < suc slot). let l = late slot (omega arith) (omega arith) in omega arith)
           (λ (all : suc slot ≤ end_of came). omega arith) (cases_lt (end_of came) (suc slot))
+
+-- ## The switch without limits
+
+module _ (ms : List Machine) (ports : ℕ) (came : List Arrival) (all : AllByRecursion (IsForSwitch ms ports) came) where
+  -- a cell comes in the slot of the last arrival, so one departs in it
+  departs_at_end : (n k slot : ℕ) (s : IdealState) (ran : Ran) → length s.lists ≡ ports → end_of came ≡ slot + k + 1 →
+      k < n → ideal_run ms slot (arriving_from came slot n) s ≡ Ok ran →
+      end_of came ≤ slots_of (departures_of slot ran.gone)
+  unfolding departures_of
+  departs_at_end zero k slot s ran many e lt is = absurd (omega arith)
+  departs_at_end (suc n) k slot s ran many e lt is =
+      let p = first_slot ms slot (arriving came slot) (arriving_from came (slot + 1) n) s ran
+      (ap (λ l. ideal_run ms slot l s) (sym (arriving_here came slot n)) ∙ is) in
+      let count = counted ms slot (arriving came slot) s p.sent p.ran_slot in
+      let as_many = count.ports in
+      let both = slots_of-append (departures_in slot p.sent.gone) (departures_of (slot + 1) p.second.gone) in
+      let are : slots_of (departures_of slot ran.gone) ≡ slots_of
+      (departures_in slot p.sent.gone ++ departures_of (slot + 1) p.second.gone) =
+      ap (λ (r : Ran). slots_of (departures_of slot r.gone)) p.both in
+      ⊎_elim
+      (λ (later : 0 < k).
+      let rest = departs_at_end n (k - 1) (slot + 1) p.sent.after p.second (omega arith) (omega arith) (omega arith)
+      p.ran_second in
+      omega arith)
+      (λ (now : k ≤ 0).
+      let c = comes ms ports came slot all (omega arith) in
+      let inside = c.output in
+      let one = counted_in ports came slot 64 refl c in
+      let sent = of_slot slot p.sent.gone (count.departs c.cell.output (omega arith) (omega arith)) in
+      omega arith)
+      (cases_lt 0 k)
+
+pub last_departs : (ms : List Machine) (ports : ℕ) (ranks : List (List ℕ)) (came : List Arrival) →
+    AllByRecursion (IsForSwitch ms ports) came → (ran : Ran) →
+    whole_ideal_run ms came (empty_ideal ports ranks) ≡ Ok ran →
+    slots_of (departures_of 0 ran.gone) ≡ slots_of_run ms came (empty_ideal ports ranks)
+unfolding whole_ideal_run
+last_departs ms ports ranks came all ran whole =
+    let nil : List Queued = [] in
+    let w = whole_as ms ports ranks came ran whole in
+    let same = slots_as_before [] ms ports ranks came no_limit in
+    let slots = limited_slots [] ms ports ranks came w.limited w.is in
+    let gone = ap (λ (r : Ran). slots_of (departures_of 0 r.gone)) w.same in
+    let by = (ends ms ports ranks came ran whole).all_came in
+    let long = length-replicate ports nil in
+    ⊎_elim
+    (λ (some : 0 < end_of came).
+    let last = departs_at_end ms ports came all (slots_of_run ms came (empty_ideal ports ranks)) (end_of came - 1) 0
+    (empty_ideal ports ranks) ran (omega arith) (omega arith) (omega arith) whole in
+    omega arith)
+    (λ (none : end_of came ≤ 0). omega arith)
+    (cases_lt 0 (end_of came))

@@ -16,7 +16,7 @@ use Rattle.cq_ideal.specs.Parts.{AllArrivedBefore, HaveOwnKeys, list_at}
 use Rattle.cq_ideal.specs.Ranking.{Ranking, ranking}
 use Rattle.cq_ideal.proofs.Came.{came_from}
 use Rattle.cq_ideal.proofs.FlowPut.{all_from, all_put}
-use Rattle.cq_ideal.proofs.Spare.{filled_at, length-filled}
+use Rattle.cq_ideal.proofs.Waiting.{filled_at, length-filled}
 
 pub arrived_later : (a b : ℕ) (lists : List (List Queued)) → a ≤ b → AllArrivedBefore a lists → AllArrivedBefore b lists
 arrived_later a b lists le arrived j =

@@ -1,5 +1,5 @@
--- A run over some slots and then others sends what the first send, and then what the others send from where those
--- ended. And slots in which nothing comes, from a state in which nothing waits, send nothing and meet no fault.
+-- What arrives in some slots and in those behind them, and what is sent in these. The first slot of a run, and the run
+-- behind it. Slots in which nothing comes, from a state in which nothing waits, send nothing and meet no fault.
 use Rattle.std.proofs.Common.{◌≡◌, ℕ, zero, suc, ◌+◌, ◌≤◌, List, [], ◌∷◌, ◌++◌, length, map, replicate, Option, None, Some, Result, Ok, Err, refl, sym, ap, ◌∙◌, subst, arith, append_assoc}
 use Rattle.std.specs.List.{range_with_len}
 use Rattle.std.proofs.lemmas.List.{nil_from_length}
@@ -54,7 +54,7 @@ nobody (None ∷ cells) (suc n) long none =
     ap (λ (l : List (Option Cell)). None ∷ l) (nobody cells n (omega arith) none)
 nobody (Some cell ∷ cells) (suc n) long none = absurd (omega arith)
 
-none_arrive : (came : List Arrival) (t inputs : ℕ) → inputs ≡ 64 → end_of came ≤ t →
+pub none_arrive : (came : List Arrival) (t inputs : ℕ) → inputs ≡ 64 → end_of came ≤ t →
     arriving came t ≡ replicate inputs None
 none_arrive came t inputs are le =
     nobody (arriving came t) inputs (length-arriving came t inputs are) (none_after came t le)
@@ -74,79 +74,7 @@ abbrev pub next_slot : List Machine → ℕ → List (List (Option Cell)) → Re
 next_slot ms slot traffic x =
     elim x [ Ok sent ↦ then_ran sent.gone (ideal_run ms slot traffic sent.after) | Err fault ↦ Err fault ]
 
--- ## Two runs on end
-
--- a run, with what was sent before it
-abbrev pub sent_before : List (List (Option Queued)) → Result Ran TagFault → Result Ran TagFault
-sent_before gone (Ok ran) = Ok (record { gone = gone ++ ran.gone; after = ran.after })
-sent_before gone (Err fault) = Err fault
-
--- a run, and then the slots from this one on
-abbrev pub going_on : List Machine → ℕ → List (List (Option Cell)) → Result Ran TagFault → Result Ran TagFault
-going_on ms slot traffic (Ok ran) = sent_before ran.gone (ideal_run ms slot traffic ran.after)
-going_on ms slot traffic (Err fault) = Err fault
-
-sent_before-none : (x : Result Ran TagFault) → x ≡ sent_before [] x
-sent_before-none (Ok ran) = refl
-sent_before-none (Err fault) = refl
-
-one_more : (gone : List (Option Queued)) (before : List (List (Option Queued))) (x : Result Ran TagFault) →
-    then_ran gone (sent_before before x) ≡ sent_before (gone ∷ before) x
-one_more gone before (Ok ran) = refl
-one_more gone before (Err fault) = refl
-
 module _ (ms : List Machine) where
-  then_going_on : (n : ℕ) (after : List (List (Option Cell))) (gone : List (Option Queued))
-      (y : Result Ran TagFault) → then_ran gone (going_on ms n after y) ≡ going_on ms n after (then_ran gone y)
-  then_going_on n after gone (Ok ran) = one_more gone ran.gone (ideal_run ms n after ran.after)
-  then_going_on n after gone (Err fault) = refl
-
-  pub run_parts : (slot n : ℕ) (before after : List (List (Option Cell))) (s : IdealState) →
-      n ≡ slot + length before →
-      ideal_run ms slot (before ++ after) s ≡ going_on ms n after (ideal_run ms slot before s)
-  unfolding ideal_run
-  run_parts slot n [] after s e =
-      let at : slot ≡ n = omega arith in
-      ap (λ (k : ℕ). ideal_run ms k after s) at ∙ sent_before-none (ideal_run ms n after s)
-  run_parts slot n (cells ∷ before) after s e =
-      go (ideal_slot ms slot cells s) (λ t. run_parts (slot + 1) n before after t (omega arith))
-    where
-      go : (x : Result Sent TagFault) →
-          ((t : IdealState) → ideal_run ms (slot + 1) (before ++ after) t ≡ going_on ms n after
-          (ideal_run ms (slot + 1) before t)) →
-          next_slot ms (slot + 1) (before ++ after) x ≡ going_on ms n after (next_slot ms (slot + 1) before x)
-      go (Ok sent) rest = ap (then_ran sent.gone) (rest sent.after)
-          ∙ then_going_on n after sent.gone (ideal_run ms (slot + 1) before sent.after)
-      go (Err fault) rest = refl
-
-  -- the two parts of a run that meets no fault
-  pub record Parts (slot n : ℕ) (before after : List (List (Option Cell))) (s : IdealState) (ran : Ran) : Type 0 where
-    pub first : Ran
-    pub second : Ran
-    pub ran_first : ideal_run ms slot before s ≡ Ok first
-    pub ran_second : ideal_run ms n after first.after ≡ Ok second
-    pub both : ran ≡ record { gone = first.gone ++ second.gone; after = second.after }
-
-  parts_of : (slot n : ℕ) (before after : List (List (Option Cell))) (s : IdealState) (ran : Ran)
-      (x : Result Ran TagFault) → ideal_run ms slot before s ≡ x → going_on ms n after x ≡ Ok ran →
-      Parts slot n before after s ran
-  parts_of slot n before after s ran (Ok first) is e = by (ideal_run ms n after first.after) refl e
-    where
-      by : (y : Result Ran TagFault) → ideal_run ms n after first.after ≡ y → sent_before first.gone y ≡ Ok ran →
-          Parts slot n before after s ran
-      by (Ok second) ran_second f =
-          let joined : Ran = record { gone = first.gone ++ second.gone; after = second.after } in
-          let same : joined ≡ ran = cc in
-          record { first = first; second = second; ran_first = is; ran_second = ran_second; both = sym same }
-      by (Err fault) ran_second f = absurd (let P : ⊥ = cc in P)
-  parts_of slot n before after s ran (Err fault) is e = absurd (let P : ⊥ = cc in P)
-
-  pub parted : (slot n : ℕ) (before after : List (List (Option Cell))) (s : IdealState) (ran : Ran) →
-      n ≡ slot + length before → ideal_run ms slot (before ++ after) s ≡ Ok ran → Parts slot n before after s ran
-  parted slot n before after s ran e is =
-      parts_of slot n before after s ran (ideal_run ms slot before s) refl (sym (run_parts slot n before after s e)
-      ∙ is)
-
   -- ## One slot
 
   pub record FirstSlot (slot : ℕ) (cells : List (Option Cell)) (traffic : List (List (Option Cell))) (s : IdealState)

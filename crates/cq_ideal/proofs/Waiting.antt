@@ -3,7 +3,7 @@
 -- sends one cell. So what waits and what is sent are together what waited and what arrived, and unless nothing waits
 -- after the slot fewer cells wait than waited and arrived.
 use Rattle.std.proofs.Common.{◌≡◌, ◌≢◌, ℕ, zero, suc, ◌+◌, ◌-◌, ◌<◌, ◌≤◌, ◌^◌, Bool, true, false, cond, List, [], ◌∷◌, length, map, drop, get_or, Option, Some, None, Result, Ok, Err, refl, sym, ap, ◌∙◌, subst, ⊎_elim, arith}
-use Rattle.std.specs.Prelude.{nat_lt, slice_index_or, slice_set}
+use Rattle.std.specs.Prelude.{is_some, nat_lt, slice_get, slice_index_or, slice_set}
 use Rattle.std.specs.List.{range_with_len}
 use Rattle.std.proofs.lemmas.Bool.{cond_both, cases_eq, ne_eqb, cond-false}
 use Rattle.std.proofs.lemmas.List.{get_or-map, length-map, ext_get_or}
@@ -15,9 +15,10 @@ use Rattle.cq_base.specs.Cells.{put, is_for}
 use Rattle.cq_rank.specs.Machine.{Machine, machine_at}
 use Rattle.cq_ideal.specs.Ideal.{count_for}
 use Rattle.cq_ideal.specs.Ranking.{Ranking, ranking, after_input, keyed}
+use Rattle.cq_ideal.specs.Parts.{count_to}
 use Rattle.cq_ideal.specs.IdealSlot.{IdealState, Sent, put_all, filled, fronts, rests, all_told, ideal_sends, ideal_slot, departures_from, departures_in}
 use Rattle.cq_ideal.proofs.FlowPut.{length_put}
-use Rattle.cq_ideal.proofs.FlowRank.{present}
+use Rattle.cq_ideal.proofs.FlowRank.{after_ok, fits_ok, present}
 
 -- ## Numbers that are added over a range
 
@@ -135,7 +136,7 @@ some_waits ((x ∷ xs) ∷ lists) some = (zero, omega arith, omega arith)
 
 -- ## One list
 
-cell_here : Option Queued → Option Cell
+pub cell_here : Option Queued → Option Cell
 cell_here None = None
 cell_here (Some q) = Some q.cell
 
@@ -145,13 +146,18 @@ count_here-cells [] = refl
 count_here-cells (None ∷ came) = count_here-cells came
 count_here-cells (Some q ∷ came) = let rest = count_here-cells came in omega arith
 
-length-put_all : (j : ℕ) (came : List (Option Queued)) (xs : List Queued) →
-    length (put_all j came xs) ≡ length xs + count_for j (map cell_here came)
+pub count_to-cells : (j : ℕ) (came : List (Option Queued)) → count_to j came ≡ count_for j (map cell_here came)
 unfolding cell_here
+count_to-cells j [] = refl
+count_to-cells j (None ∷ came) = count_to-cells j came
+count_to-cells j (Some q ∷ came) = let rest = count_to-cells j came in omega arith
+
+pub length-put_all : (j : ℕ) (came : List (Option Queued)) (xs : List Queued) →
+    length (put_all j came xs) ≡ length xs + count_to j came
 length-put_all j [] xs = omega arith
 length-put_all j (None ∷ came) xs = length-put_all j came xs
 length-put_all j (Some q ∷ came) xs =
-    length-put_all j came (cond (is_for j q) (put q xs) xs) ∙ one (is_for j q) (count_for j (map cell_here came))
+    length-put_all j came (cond (is_for j q) (put q xs) xs) ∙ one (is_for j q) (count_to j came)
   where
     one : (b : Bool) (n : ℕ) → length (cond b (put q xs) xs) + n ≡ length xs + (cond b 1 0 + n)
     one true n = let l = length_put q xs in omega arith
@@ -159,20 +165,7 @@ length-put_all j (Some q ∷ came) xs =
 
 -- ## The ranking keeps the cells
 
-after_ok : (P : Ranking → Type 0) (o : Option Queued) (x : Result Ranking TagFault) (r : Ranking) →
-    after_input o x ≡ Ok r →
-    ((rest : Ranking) → x ≡ Ok rest → P (record { came = o ∷ rest.came; ranks = rest.ranks })) → P r
-after_ok P o (Ok rest) r h f =
-    let made : Ranking = record { came = o ∷ rest.came; ranks = rest.ranks } in
-    let same : made ≡ r = cc in subst P same (f rest refl)
-after_ok P o (Err fault) r h f = absurd (let P : ⊥ = cc in P)
-
-fits_ok : (b : Bool) (x : Result Ranking TagFault) (fault : TagFault) (r : Ranking) → cond b x (Err fault) ≡ Ok r →
-    x ≡ Ok r
-fits_ok true x fault r h = h
-fits_ok false x fault r h = absurd (let P : ⊥ = cc in P)
-
-ranked_cells : (ms : List Machine) (slot input : ℕ) (cells : List (Option Cell)) (ranks : List (List ℕ)) (r : Ranking)
+pub ranked_cells : (ms : List Machine) (slot input : ℕ) (cells : List (Option Cell)) (ranks : List (List ℕ)) (r : Ranking)
     → ranking ms slot input cells ranks ≡ Ok r → map cell_here r.came ≡ cells
 unfolding cell_here
 ranked_cells ms slot input [] ranks r h =
@@ -198,8 +191,10 @@ ranked_cells ms slot input (Some cell ∷ cells) ranks r h =
 -- what a slot makes of the numbers of cells
 pub record Counted (slot : ℕ) (cells : List (Option Cell)) (old : IdealState) (sent : Sent) : Type 0 where
   pub ports : length sent.after.lists ≡ length old.lists
+  -- what an output sends, and what is left of its list
   pub each : (j : ℕ) → j < length old.lists →
-      length (slice_index_or sent.after.lists j []) ≤ length (slice_index_or old.lists j []) + count_for j cells
+      cond (is_some (slice_index_or sent.gone j None)) 1 0 + length (slice_index_or sent.after.lists j [])
+      ≡ length (slice_index_or old.lists j []) + count_for j cells
   pub all : length (departures_in slot sent.gone) + waiting sent.after.lists
       ≤ waiting old.lists + length (present cells)
   pub fewer : waiting sent.after.lists ≤ waiting old.lists + length (present cells) - 1
@@ -207,21 +202,29 @@ pub record Counted (slot : ℕ) (cells : List (Option Cell)) (old : IdealState) 
   pub departs : (j : ℕ) → j < length old.lists → 0 < length (slice_index_or old.lists j []) + count_for j cells →
       0 < length (departures_in slot sent.gone)
 
-length-filled : (came : List (Option Queued)) (lists : List (List Queued)) → length (filled came lists) ≡ length lists
+pub length-filled : (came : List (Option Queued)) (lists : List (List Queued)) → length (filled came lists) ≡ length lists
 unfolding filled
 length-filled came lists =
     length-map-range_with_len (λ (k : ℕ). put_all k came (slice_index_or lists k [])) 0 (length lists)
 
-filled_at : (came : List (Option Queued)) (lists : List (List Queued)) (j : ℕ) → j < length lists →
+pub filled_at : (came : List (Option Queued)) (lists : List (List Queued)) (j : ℕ) → j < length lists →
     slice_index_or (filled came lists) j [] ≡ put_all j came (slice_index_or lists j [])
 unfolding filled
 filled_at came lists j inside =
     get_or-map-range_with_len (λ (k : ℕ). put_all k came (slice_index_or lists k [])) 0 (length lists) j j [] inside
     (omega arith)
 
-drop_one : (xs : List Queued) → length (drop 1 xs) ≤ length xs
-drop_one [] = omega arith
-drop_one (x ∷ xs) = omega arith
+-- each list then has the cells that came for its output beside its own
+pub filled_long : (came : List (Option Queued)) (lists : List (List Queued)) (j : ℕ) → j < length lists →
+    length (slice_index_or (filled came lists) j []) ≡ length (slice_index_or lists j []) + count_to j came
+filled_long came lists j inside =
+    ap (λ (xs : List Queued). length xs) (filled_at came lists j inside)
+    ∙ length-put_all j came (slice_index_or lists j [])
+
+-- what a list gives away, and what is left of it
+front_and_rest : (xs : List Queued) → cond (is_some (slice_get xs 0)) 1 0 + length (drop 1 xs) ≡ length xs
+front_and_rest [] = omega arith
+front_and_rest (x ∷ xs) = omega arith
 
 counted_sent : (ms : List Machine) (slot : ℕ) (cells : List (Option Cell)) (old : IdealState) (r : Ranking) →
     map cell_here r.came ≡ cells →
@@ -245,29 +248,26 @@ counted_sent ms slot cells old r same =
     record {
       ports = length-map lists (λ (xs : List Queued). drop 1 xs) ∙ long;
       each = λ j inside.
-          let here : slice_index_or (rests lists) j [] ≡ drop 1 (slice_index_or lists j []) =
-          get_or-map (λ (xs : List Queued). drop 1 xs) lists j [] [] (omega arith) in
-          let at = filled_at r.came old.lists j inside in
-          let put = length-put_all j r.came (slice_index_or old.lists j []) in
-          let count : count_for j (map cell_here r.came) ≡ count_for j cells = ap (count_for j) same in
-          let shorter = drop_one (slice_index_or lists j []) in
-          let e1 : length (slice_index_or (rests lists) j []) ≡ length (drop 1 (slice_index_or lists j [])) =
-          ap length here in
-          let e2 : length (slice_index_or lists j []) ≡ length (put_all j r.came (slice_index_or old.lists j [])) =
-          ap length at in
+          let none : Option Queued = None in
+          let here : j < length lists = omega arith in
+          let front = ap (λ (o : Option Queued). let n : ℕ = cond (is_some o) 1 0 in n)
+          (get_or-map (λ (xs : List Queued). slice_get xs 0) lists j [] none here) in
+          let rest = ap (λ (xs : List Queued). length xs)
+          (get_or-map (λ (xs : List Queued). drop 1 xs) lists j [] [] here) in
+          let split = front_and_rest (slice_index_or lists j []) in
+          let full = filled_long r.came old.lists j inside in
+          let count : count_to j r.came ≡ count_for j cells = count_to-cells j r.came ∙ ap (count_for j) same in
           omega arith;
       all = omega arith;
       fewer = omega arith;
       departs = λ j inside some.
-          let at : length (slice_index_or lists j []) ≡ length (put_all j r.came (slice_index_or old.lists j [])) =
-          ap length (filled_at r.came old.lists j inside) in
-          let put = length-put_all j r.came (slice_index_or old.lists j []) in
-          let count : count_for j (map cell_here r.came) ≡ count_for j cells = ap (count_for j) same in
+          let full = filled_long r.came old.lists j inside in
+          let count : count_to j r.came ≡ count_for j cells = count_to-cells j r.came ∙ ap (count_for j) same in
           let one = one_of_all lists j in
           omega arith;
     }
 
-sends_ok : (P : Sent → Type 0) (ms : List Machine) (old : IdealState) (x : Result Ranking TagFault) (sent : Sent) →
+pub sends_ok : (P : Sent → Type 0) (ms : List Machine) (old : IdealState) (x : Result Ranking TagFault) (sent : Sent) →
     ideal_sends ms old x ≡ Ok sent →
     ((r : Ranking) → x ≡ Ok r →
     P (record {

@@ -22,8 +22,10 @@ use Rattle.cq_ideal.specs.Flows.{IsForSwitch}
 use Rattle.cq_ideal.specs.IdealRun.{IsEmptyIdeal, Ran, departures_of, empty_ideal, ideal_run}
 use Rattle.cq_ideal.specs.IdealSlot.{IdealState, departures_from, departures_in}
 use Rattle.cq_ideal.specs.Ranking.{AreForPorts}
-use Rattle.cq_ideal.proofs.Ends.{all_slots, ends, fewer_slots, found_end, not_more, whole_fault}
-use Rattle.cq_ideal.proofs.LastSlot.{last_departs, slots_of-append}
+use Rattle.cq_ideal.proofs.Ends.{all_slots}
+use Rattle.cq_ideal.proofs.LastSlot.{slots_of-append}
+use Rattle.cq_ideal.proofs.LimitedEnds.{ends, fewer_slots, found_end, not_more, whole_fault}
+use Rattle.cq_ideal.proofs.LimitedLast.{last_departs}
 use Rattle.cq_ideal.proofs.Parted.{arriving_length, quiet_from}
 use Rattle.cq_prefs.specs.Orders.{Orders}
 use Rattle.cq_prefs.specs.Pairing.{IsInputBest, IsStable, Partners}

@@ -17,10 +17,10 @@ use Rattle.cq_ideal.specs.Admission.{NoLimits}
 use Rattle.cq_ideal.specs.IdealRun.{Ran, departures_of, departures_ran, empty_ideal, ideal_run}
 use Rattle.cq_ideal.specs.LimitedEnding.{departures_limited, whole_limited_run}
 use Rattle.cq_ideal.specs.LimitedIdeal.{LimitedRan, empty_limited, unlimited}
-use Rattle.cq_ideal.proofs.Ends.{all_slots, same_sent}
+use Rattle.cq_ideal.proofs.Ends.{all_slots}
 use Rattle.cq_ideal.proofs.FlowCount.{before_end}
 use Rattle.cq_ideal.proofs.FlowPut.{all_from}
-use Rattle.cq_ideal.proofs.LimitedEnds.{run_as_before}
+use Rattle.cq_ideal.proofs.LimitedEnds.{run_as_before, same_sent}
 use Rattle.cq_pcap.specs.Captured.{Captured}
 use Rattle.cq_pcap.specs.declared.write.OutPacket.{OutPacket}
 use Rattle.cq_route.specs.Tables.{AreTables, classes_of, ports_of}

@@ -21,9 +21,8 @@ use Rattle.cq_ideal.specs.LimitedEnding.{departures_limited}
 use Rattle.cq_ideal.specs.LimitedIdeal.{LimitedRan, empty_limited, limited_run, unlimited}
 use Rattle.cq_ideal.proofs.FlowLimits.{flows_leave_in_packets}
 use Rattle.cq_ideal.proofs.FlowPut.{all_from}
-use Rattle.cq_ideal.proofs.LastSlot.{last_departs}
 use Rattle.cq_ideal.proofs.LimitedEnds.{limited_same_sent, run_as_before, slots_as_before}
-use Rattle.cq_ideal.proofs.LimitedLast.{limited_slots}
+use Rattle.cq_ideal.proofs.LimitedLast.{last_departs, limited_slots}
 use Rattle.cq_pcap.specs.Captured.{Captured}
 use Rattle.cq_route.specs.Tables.{AreTables, IsSetup, classes_of, ports_of}
 use Rattle.cq_route.specs.declared.tables.Tables.{Tables}

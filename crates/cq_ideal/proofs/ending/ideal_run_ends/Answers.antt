@@ -1,4 +1,4 @@
-use Rattle.cq_ideal.proofs.Ends.{ends, found_end}
+use Rattle.cq_ideal.proofs.LimitedEnds.{ends, found_end}
 use Rattle.cq_ideal.proofs.ending.ideal_run_ends.Goals as goal
 
 pub returns-clause-end : goal.returns-clause-end

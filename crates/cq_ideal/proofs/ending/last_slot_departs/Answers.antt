@@ -1,4 +1,4 @@
-use Rattle.cq_ideal.proofs.LastSlot.{last_departs}
+use Rattle.cq_ideal.proofs.LimitedLast.{last_departs}
 use Rattle.cq_ideal.proofs.ending.last_slot_departs.Goals as goal
 
 pub returns : goal.returns

@@ -1,4 +1,4 @@
-use Rattle.cq_ideal.proofs.Ends.{not_more, same_sent, whole_fault}
+use Rattle.cq_ideal.proofs.LimitedEnds.{not_more, same_sent, whole_fault}
 use Rattle.cq_ideal.proofs.ending.more_slots_send_nothing.Goals as goal
 
 pub returns-clause-enough : goal.returns-clause-enough

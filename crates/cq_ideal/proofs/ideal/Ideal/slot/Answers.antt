@@ -10,7 +10,8 @@ use Rattle.cq_ideal.specs.Refused.{with_refused}
 use Rattle.cq_ideal.proofs.Admitted.{admitted_for_ports}
 use Rattle.cq_ideal.proofs.Came.{came_to_ports}
 use Rattle.cq_ideal.proofs.Holding.{holds_filled}
-use Rattle.cq_ideal.proofs.Spare.{came_for, length-filled, spare_follows}
+use Rattle.cq_ideal.proofs.Spare.{came_for, spare_follows}
+use Rattle.cq_ideal.proofs.Waiting.{length-filled}
 use Rattle.cq_ideal.proofs.OwnKeys.{arrived_next, own_keys}
 use Rattle.cq_ideal.proofs.Slot.{admitted_ok, admitted_room, arrived_are, can_count, come_to_ports, done, fixed_is, holds, limited_fault, limited_ok, lists_are, nothing_done, numbers_fit, ports_are, ports_few, room_for_came, rooms_are, same_state}
 use Rattle.cq_ideal.proofs.TakenIn.{fit_same}
