@@ -70,6 +70,21 @@ module _ (ms : List Machine) (j slot : ℕ) (laws : KeepsLaws (machine_at ms j))
     FilledByOne : Type 0
     FilledByOne = Filled (cell ∷ come) xs (put_all j (Some new_cell ∷ rest.came) xs) ranks rest.ranks
 
+    -- the list that the cell leaves to those behind it
+    abbrev with_new : List Queued
+    with_new = cond (is_for j new_cell) (put new_cell xs) xs
+
+    from_list : (l : List Queued) → with_new ≡ l → Filled come l (put_all j rest.came l) (given_in ranks cell) rest.ranks →
+        shown i c l ++ of_flow i c j come ≡ shown i c xs ++ of_flow i c j (cell ∷ come) → FilledByOne
+    unfolding FilledByOne new_cell
+    from_list l is f shows =
+        subst (λ (l : List Queued). Filled (cell ∷ come) xs (put_all j rest.came l) ranks rest.ranks) (sym is)
+        (record {
+          stands = f.stands;
+          ports = f.ports ∙ length-set ranks cell.output (state_given ranks cell);
+          shows = f.shows ∙ shows;
+        })
+
     -- a cell for another output
     elsewhere : (cell.output ≡ j → ⊥) → FilledByOne
     unfolding of_flow FilledByOne new_cell
@@ -82,16 +97,9 @@ module _ (ms : List Machine) (j slot : ℕ) (laws : KeepsLaws (machine_at ms j))
         (stands_on (machine_at ms j) laws (slice_index_or ranks j []) slot input xs stands)) in
         let out : is_of_flow i c j cell ≡ false =
         and_left (cell.output == j) (cell.id.input == i && cell.class == c) other in
-        subst (λ (l : List Queued). Filled (cell ∷ come) xs (put_all j rest.came l) ranks rest.ranks)
-        (sym (cond-false (is_for j new_cell) (put new_cell xs) xs other))
-        (record {
-          stands = f.stands;
-          ports = f.ports ∙ length-set ranks cell.output (state_given ranks cell);
-          shows =
-              f.shows
-              ∙ ap (λ l. shown i c xs ++ l) (sym (cond-false (is_of_flow i c j cell) (cell ∷ of_flow i c j come)
-              (of_flow i c j come) out));
-        })
+        from_list xs (cond-false (is_for j new_cell) (put new_cell xs) xs other) f
+        (ap (λ l. shown i c xs ++ l)
+        (sym (cond-false (is_of_flow i c j cell) (cell ∷ of_flow i c j come) (of_flow i c j come) out)))
 
     -- a cell for this output
     here : cell.output ≡ j → cell.class < (machine_at ms j).classes → FilledByOne
@@ -113,18 +121,11 @@ module _ (ms : List Machine) (j slot : ℕ) (laws : KeepsLaws (machine_at ms j))
         go (put new_cell xs) (subst
         (λ (s : List ℕ). Stands (machine_at ms j) s slot (input + 1) (put new_cell xs)) (sym given)
         put_in) in
-        subst (λ (l : List Queued). Filled (cell ∷ come) xs (put_all j rest.came l) ranks rest.ranks)
-        (sym (cond-true (is_for j new_cell) (put new_cell xs) xs ours))
-        (record {
-          stands = f.stands;
-          ports = f.ports ∙ length-set ranks cell.output (state_given ranks cell);
-          shows =
-              f.shows
-              ∙ ap (λ l. l ++ of_flow i c j come) (shown-put (machine_at ms j) laws state slot input xs stands
-              new_cell known level_is rank_is refl refl i c j e)
-              ∙ append_assoc (shown i c xs) (of_flow i c j (cell ∷ [])) (of_flow i c j come)
-              ∙ ap (λ l. shown i c xs ++ l) (of_flow-cons i c j cell come);
-        })
+        from_list (put new_cell xs) (cond-true (is_for j new_cell) (put new_cell xs) xs ours) f
+        (ap (λ l. l ++ of_flow i c j come) (shown-put (machine_at ms j) laws state slot input xs stands
+        new_cell known level_is rank_is refl refl i c j e)
+        ∙ append_assoc (shown i c xs) (of_flow i c j (cell ∷ [])) (of_flow i c j come)
+        ∙ ap (λ l. shown i c xs ++ l) (of_flow-cons i c j cell come))
 
     of_either : (cell.output ≡ j → cell.class < (machine_at ms j).classes) → FilledByOne
     of_either are = ⊎_elim (λ e. here e (are e)) (λ ne. elsewhere ne) (cases_eq cell.output j)

@@ -107,7 +107,7 @@ drained zero cells traffic before after end quiet enough less go =
         let rest = quiet_count traffic q.1 in let here : length (present cells) ≡ 0 = q.0 in omega arith
 drained (suc e) cells traffic before after end quiet enough less go = go e quiet (omega arith)
 
-goes_on : List Machine → ℕ → List (List (Option Cell)) → Result Sent TagFault → Result Ran TagFault
+unfoldable pub goes_on : List Machine → ℕ → List (List (Option Cell)) → Result Sent TagFault → Result Ran TagFault
 goes_on ms slot traffic x =
     elim x [ Ok sent ↦ then_ran sent.gone (ideal_run ms (slot + 1) traffic sent.after) | Err fault ↦ Err fault ]
 
@@ -119,7 +119,7 @@ then_ok P gone (Ok rest) ran h f =
     let same : made ≡ ran = cc in subst P same (f rest refl)
 then_ok P gone (Err fault) ran h f = absurd (let P : ⊥ = cc in P)
 
-run_ok : (P : Ran → Type 0) (ms : List Machine) (slot : ℕ) (traffic : List (List (Option Cell)))
+pub run_ok : (P : Ran → Type 0) (ms : List Machine) (slot : ℕ) (traffic : List (List (Option Cell)))
     (x : Result Sent TagFault) (ran : Ran) → goes_on ms slot traffic x ≡ Ok ran →
     ((sent : Sent) (rest : Ran) → x ≡ Ok sent → ideal_run ms (slot + 1) traffic sent.after ≡ Ok rest →
     P (record { gone = sent.gone ∷ rest.gone; after = rest.after })) → P ran

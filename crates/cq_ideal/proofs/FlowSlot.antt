@@ -15,6 +15,7 @@ use Rattle.cq_ideal.specs.IdealSlot.{IdealState, Sent, put_all, filled, fronts, 
 use Rattle.cq_ideal.proofs.FlowPut.{all_from}
 use Rattle.cq_ideal.proofs.FlowStands.{Stands, HasWaited, is_kind, shown, of_flow}
 use Rattle.cq_ideal.proofs.FlowRank.{present, AreOfClasses, Filled, filled_from}
+use Rattle.cq_ideal.proofs.Sending.{length-told, told_at}
 use Rattle.cq_ideal.proofs.Waiting.{filled_at, length-filled, sends_ok}
 
 -- the cell that was sent, as a list
@@ -54,22 +55,6 @@ shown_sent i c [] = refl
 shown_sent i c (y ∷ ys) = first_shown (is_kind i c y) y (filter (is_kind i c) ys)
 
 -- ## What stands at one output after the slot
-
-told_at : (ms : List Machine) (gone : List (Option Queued)) (ranks : List (List ℕ)) (j : ℕ) → j < length ranks →
-    slice_index_or (all_told ms gone ranks) j []
-    ≡ told (machine_at ms j) (slice_index_or ranks j []) (slice_index_or gone j None)
-unfolding all_told
-told_at ms gone ranks j inside =
-    get_or-map-range_with_len
-    (λ (k : ℕ). told (machine_at ms k) (slice_index_or ranks k []) (slice_index_or gone k None)) 0 (length ranks)
-    j j [] inside (omega arith)
-
-length-all_told : (ms : List Machine) (gone : List (Option Queued)) (ranks : List (List ℕ)) →
-    length (all_told ms gone ranks) ≡ length ranks
-unfolding all_told
-length-all_told ms gone ranks =
-    length-map-range_with_len
-    (λ (k : ℕ). told (machine_at ms k) (slice_index_or ranks k []) (slice_index_or gone k None)) 0 (length ranks)
 
 module _ (ms : List Machine) (j slot : ℕ) (laws : KeepsLaws (machine_at ms j)) (i c : ℕ) where
   -- what a slot made of the output's list, where these cells came to the switch
@@ -118,7 +103,7 @@ module _ (ms : List Machine) (j slot : ℕ) (laws : KeepsLaws (machine_at ms j))
             subst (λ (zs : List Queued). Stands (machine_at ms j)
             (slice_index_or (all_told ms (fronts lists) r.ranks) j []) (slot + 1) 0 zs) (sym left)
             (subst (λ (s : List ℕ). Stands (machine_at ms j) s (slot + 1) 0 (drop 1 ys)) (sym state) kept);
-        states = length-all_told ms (fronts lists) r.ranks ∙ states;
+        states = length-told ms (fronts lists) r.ranks ∙ states;
         ports = length-map lists (λ (zs : List Queued). drop 1 zs) ∙ many;
         shows =
             sym f.shows ∙ shown_sent i c ys

@@ -17,6 +17,7 @@ use Rattle.cq_ideal.specs.IdealSlot.{IdealState, Sent, departures_in, ideal_slot
 use Rattle.cq_ideal.proofs.FlowCount.{none_after}
 use Rattle.cq_ideal.proofs.FlowFound.{length-arriving}
 use Rattle.cq_ideal.proofs.FlowRank.{present}
+use Rattle.cq_ideal.proofs.FlowRun.{goes_on, run_ok}
 use Rattle.cq_ideal.proofs.Waiting.{counted, quiet_slot, waiting}
 
 -- ## What arrives
@@ -87,22 +88,16 @@ module _ (ms : List Machine) where
 
   pub first_slot : (slot : ℕ) (cells : List (Option Cell)) (traffic : List (List (Option Cell))) (s : IdealState)
       (ran : Ran) → ideal_run ms slot (cells ∷ traffic) s ≡ Ok ran → FirstSlot slot cells traffic s ran
-  unfolding ideal_run
-  first_slot slot cells traffic s ran e = go (ideal_slot ms slot cells s) refl e
-    where
-      by : (sent : Sent) (y : Result Ran TagFault) → ideal_slot ms slot cells s ≡ Ok sent →
-          ideal_run ms (slot + 1) traffic sent.after ≡ y → then_ran sent.gone y ≡ Ok ran →
-          FirstSlot slot cells traffic s ran
-      by sent (Ok second) is ran_second f =
-          let joined : Ran = record { gone = sent.gone ∷ second.gone; after = second.after } in
-          let same : joined ≡ ran = cc in
-          record { sent = sent; second = second; ran_slot = is; ran_second = ran_second; both = sym same }
-      by sent (Err fault) is ran_second f = absurd (let P : ⊥ = cc in P)
-
-      go : (x : Result Sent TagFault) → ideal_slot ms slot cells s ≡ x → next_slot ms (slot + 1) traffic x ≡ Ok ran →
-          FirstSlot slot cells traffic s ran
-      go (Ok sent) is f = by sent (ideal_run ms (slot + 1) traffic sent.after) is refl f
-      go (Err fault) is f = absurd (let P : ⊥ = cc in P)
+  unfolding ideal_run goes_on
+  first_slot slot cells traffic s ran e =
+      run_ok (FirstSlot slot cells traffic s) ms slot traffic (ideal_slot ms slot cells s) ran e
+      (λ sent second is more. record {
+        sent = sent;
+        second = second;
+        ran_slot = is;
+        ran_second = more;
+        both = refl;
+      })
 
   -- a run sends in as many slots as it has, and has as many lists at its end as at its start
   pub record Measured (traffic : List (List (Option Cell))) (s : IdealState) (ran : Ran) : Type 0 where

@@ -16,23 +16,15 @@ use Rattle.cq_rank.specs.Machine.{Machine}
 use Rattle.cq_rank.specs.Switch.{AreForOneSwitch}
 use Rattle.cq_ideal.specs.IdealSlot.{filled, put_all}
 use Rattle.cq_ideal.specs.Limiter.{HoldsLists, LimiterView}
-use Rattle.cq_ideal.specs.Parts.{AreParts, RanksView, QueuesView, CameToPorts, FitTogether, AllArrivedBefore, HaveOwnKeys, HaveRoomFor, list_at, with_came, with_cell}
+use Rattle.cq_ideal.specs.Parts.{AreParts, CanPut, RanksView, QueuesView, CameToPorts, FitTogether, AllArrivedBefore, HaveOwnKeys, HaveRoomFor, list_at, with_came, with_cell}
 use Rattle.cq_ideal.proofs.FlowPut.{all_put, length_put}
+use Rattle.cq_ideal.proofs.Waiting.{filled_none}
 
 -- ## Putting cells into the lists
 
 map_same : {X Y : Type 0} (f g : X → Y) (xs : List X) → ((x : X) → f x ≡ g x) → map f xs ≡ map g xs
 map_same f g [] e = refl
 map_same f g (x ∷ xs) e = ap (λ y. y ∷ map f xs) (e x) ∙ ap (λ ys. g x ∷ ys) (map_same f g xs e)
-
-filled_none : (lists : List (List Queued)) → filled [] lists ≡ lists
-unfolding filled
-filled_none lists =
-    ext_get_or [] (filled [] lists) lists (length-map-range_with_len (λ j. get_or lists j []) 0 (length lists))
-    (λ i inside.
-    let here : i < length lists = let l = length-map-range_with_len (λ j. get_or lists j []) 0
-    (length lists) in omega arith in
-    get_or-map-range_with_len (λ j. get_or lists j []) 0 (length lists) i i [] here (omega arith))
 
 -- the list of an output, with one cell put into the list of its output
 one_put : (q : Queued) (lists : List (List Queued)) (j : ℕ) → q.cell.output < length lists →
@@ -193,9 +185,7 @@ at_input came first input queues few ports inside so_far =
 pub putting_room : (came : List (Option Queued)) (first : QueuesView) (input : ℕ) (queues : QueuesView) →
     length first.lists ≤ 64 → length first.rooms ≡ length first.lists → CameToPorts (length first.lists) came →
     input < length first.lists → Putting came first input queues → (q : Queued) → get_or came input None ≡ Some q →
-    (q.cell.output < length queues.lists) ×
-    (length (list_at queues.lists q.cell.output) < get_or queues.rooms q.cell.output 0) ×
-    HasOtherKey q (list_at queues.lists q.cell.output)
+    CanPut q queues
 putting_room came first input queues few as_many ports inside so_far q at =
     let here = at_input came first input queues few ports inside so_far in
     let out = here.inside q at in
@@ -203,11 +193,12 @@ putting_room came first input queues few as_many ports inside so_far q at =
     let rooms = ap (λ (r : List ℕ). length r) so_far.rooms in
     let room = subst (λ o. HaveRoomFor (o ∷ drop (input + 1) came) queues) at
     (subst (λ l. HaveRoomFor l queues) here.next so_far.room) in
-    let first = ap (λ (l : List (Option Queued)). get_or l 0 None) here.next ∙ at in (
-      out,
-      room_for_one q (drop (input + 1) came) queues room (omega arith),
-      so_far.keys.waiting 0 q first q.cell.output,
-    )
+    let first = ap (λ (l : List (Option Queued)). get_or l 0 None) here.next ∙ at in
+    record {
+      output = out;
+      room = room_for_one q (drop (input + 1) came) queues room (omega arith);
+      other_key = so_far.keys.waiting 0 q first q.cell.output;
+    }
 
 pub putting_next : (came : List (Option Queued)) (first : QueuesView) (input : ℕ) (old new : QueuesView) →
     length first.lists ≤ 64 → CameToPorts (length first.lists) came → input < length first.lists →

@@ -85,7 +85,7 @@ total_put (Some q ∷ came) f a n =
     (λ _. let l = length_put q (f q.cell.output) in omega arith) (λ _. omega arith)) in
     omega arith
 
-filled_none : (lists : List (List Queued)) → filled [] lists ≡ lists
+pub filled_none : (lists : List (List Queued)) → filled [] lists ≡ lists
 unfolding filled
 filled_none lists =
     ext_get_or [] (filled [] lists) lists (length-map-range_with_len (λ (j : ℕ). get_or lists j []) 0 (length lists))

@@ -36,6 +36,12 @@ list_at lists j = slice_index_or lists j []
 abbrev pub with_cell : Queued → List (List Queued) → List (List Queued)
 with_cell q lists = slice_set lists q.cell.output (put q (list_at lists q.cell.output))
 
+-- the list of the cell's output has room for it, and no cell of its key
+pub record CanPut (q : Queued) (queues : QueuesView) : Type 0 where
+  pub output : q.cell.output < length queues.lists
+  pub room : length (list_at queues.lists q.cell.output) < slice_index queues.rooms q.cell.output
+  pub other_key : HasOtherKey q (list_at queues.lists q.cell.output)
+
 -- the level of the class, as output j's machine knows it
 abbrev pub level_at : List Machine → ℕ → ℕ → ℕ
 level_at ms j class = (machine_at ms j).level class

@@ -1,9 +1,8 @@
 //! The lists of all outputs.
 ghost use Rattle.std.specs.Prelude.{◌≡◌, ◌<◌, ◌≤◌, ◌==◌, ◌^◌, ◌↔◌, ℕ, IsTrue, All, IfOk, IfSome, [], drop, length, replicate, slice_get, slice_index, slice_set};
 ghost use Rattle.std.specs.List.{list_all};
-ghost use Rattle.cq_base.specs.Cells.{HasOtherKey};
 ghost use Rattle.cq_ideal.specs.IdealSlot.{filled};
-ghost use Rattle.cq_ideal.specs.Parts.{AreWithinRooms, CameToPorts, HaveOwnKeys, HaveRoomFor, list_at, with_came, with_cell};
+ghost use Rattle.cq_ideal.specs.Parts.{AreWithinRooms, CameToPorts, CanPut, HaveOwnKeys, HaveRoomFor, list_at, with_came, with_cell};
 
 use crate::newcomers::Newcomers;
 use crate::queue::Queue;
@@ -63,10 +62,7 @@ impl Queues {
 
     /// Puts a cell into the list of its output, at its place in the order of keys.
     pub fn put(&mut self, queued: Queued)
-        requires output { queued.cell.output < length self.old.lists }
-        requires room { length (list_at self.old.lists queued.cell.output)
-            < slice_index self.old.rooms queued.cell.output }
-        requires other_key { HasOtherKey queued (list_at self.old.lists queued.cell.output) }
+        requires { CanPut queued self.old }
         ensures lists { self.new.lists ≡ with_cell queued self.old.lists }
         ensures rooms { self.new.rooms ≡ self.old.rooms }
     {
@@ -75,10 +71,7 @@ impl Queues {
 
     // Puts the cell that came to an input into the list of its output, if one came.
     fn put_if(&mut self, came: Option<Queued>)
-        requires output { IfSome came (λ q. q.cell.output < length self.old.lists) }
-        requires room { IfSome came (λ q. length (list_at self.old.lists q.cell.output)
-            < slice_index self.old.rooms q.cell.output) }
-        requires other_key { IfSome came (λ q. HasOtherKey q (list_at self.old.lists q.cell.output)) }
+        requires { IfSome came (λ q. CanPut q self.old) }
         ensures lists { self.new.lists ≡ with_came came self.old.lists }
         ensures rooms { self.new.rooms ≡ self.old.rooms }
     {

@@ -7,29 +7,13 @@ use Rattle.cq_ideal.proofs.queues.Queues.arrive.Goals as goal
 pub inputs-init : goal.inputs-init
 inputs-init c = record { rooms = refl; long = refl; room = c.requires.room; keys = c.requires.keys; filled = refl }
 
-pub put_if-requires-clause-output : goal.put_if-requires-clause-output
-put_if-requires-clause-output c =
+pub put_if-requires : goal.put_if-requires
+put_if-requires c =
     let ports = c.len-ports.ensures.len in
     let inside = c.inputs-test.true in
-    if_some c.at.result _
-    (λ q at. (putting_room c.args.came.now c.args.self.now c.inputs.input c.inputs.self c.requires.few
-    c.requires.as_many c.requires.ports (omega arith) c.inputs.invariant q (sym c.at.ensures ∙ at)).0)
-
-pub put_if-requires-clause-room : goal.put_if-requires-clause-room
-put_if-requires-clause-room c =
-    let ports = c.len-ports.ensures.len in
-    let inside = c.inputs-test.true in
-    if_some c.at.result _
-    (λ q at. (putting_room c.args.came.now c.args.self.now c.inputs.input c.inputs.self c.requires.few
-    c.requires.as_many c.requires.ports (omega arith) c.inputs.invariant q (sym c.at.ensures ∙ at)).1)
-
-pub put_if-requires-clause-other_key : goal.put_if-requires-clause-other_key
-put_if-requires-clause-other_key c =
-    let ports = c.len-ports.ensures.len in
-    let inside = c.inputs-test.true in
-    if_some c.at.result _
-    (λ q at. (putting_room c.args.came.now c.args.self.now c.inputs.input c.inputs.self c.requires.few
-    c.requires.as_many c.requires.ports (omega arith) c.inputs.invariant q (sym c.at.ensures ∙ at)).2)
+    if_some c.at.result _ (λ q at.
+    putting_room c.args.came.now c.args.self.now c.inputs.input c.inputs.self c.requires.few c.requires.as_many
+    c.requires.ports (omega arith) c.inputs.invariant q (sym c.at.ensures ∙ at))
 
 pub inputs-preserved : goal.inputs-preserved
 inputs-preserved c =
