@@ -35,7 +35,7 @@ use Rattle.cq_fabric.specs.Queues.{CanCross, ComeApart, FitLists, Queues, fabric
 use Rattle.cq_fabric.proofs.Known.{AreRanked, BuffersHaveRoom, HaveArrived, HaveJudged, HaveMoved, HaveReleased, HaveSent, ListsHaveRoom}
 use Rattle.cq_fabric.proofs.Limits.{admits_are, admitted_room, numbers_fit, still_holds}
 use Rattle.cq_fabric.proofs.Slot.{alike as sends_alike, arrive as slot_arrives, can_cross_first, can_cross_second, come_apart, depart as slot_departs, few_cross, fill as slot_fills, fits_lists, held_before, is_slot, recorded}
-use Rattle.cq_fabric.proofs.Told.{length-told}
+use Rattle.cq_ideal.proofs.Sending.{length-told}
 use Rattle.cq_audit.specs.Crossing.{AreNoted, HaveCrossed}
 use Rattle.cq_audit.specs.Log.{AreInOrder}
 use Rattle.cq_audit.specs.Phase.{AllBehind, AreOfPhase, AreParted, IsPhaseFault, NoneBefore, in_phase, is_at}

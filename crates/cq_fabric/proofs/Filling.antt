@@ -16,6 +16,7 @@ use Rattle.cq_base.proofs.Lists.{ahead_of_end, first_later}
 use Rattle.cq_list.specs.InputList.{Waiting, cells_of}
 use Rattle.cq_urgency.specs.OutputBuffer.{Buffered, cells_in}
 use Rattle.cq_prefs.specs.FirstCells.{list_of}
+use Rattle.cq_ideal.proofs.Changed.{map_next, map_same, take_next}
 use Rattle.cq_laws.proofs.Sound.{not_before_itself}
 use Rattle.cq_fabric.specs.Holding.{CanWait}
 use Rattle.cq_fabric.specs.Queues.{buffer_room, list_room}
@@ -150,21 +151,9 @@ one_filled sizes cells n lists more w so_far is inside as_many here room outputs
     let cells_at : Waiting → List Queued = λ x. x.cells in
     let outputs_at : Waiting → ℕ = λ x. x.outputs in
     record {
-      filled =
-          ap cells_of is ∙ map_push cells_at lists w
-          ∙ ap (λ (l : List (List Queued)). l ++ w.cells ∷ []) so_far.filled
-          ∙ ap (λ (c : List Queued). take n cells ++ c ∷ []) here
-          ∙ sym (take_more cells n none within);
-      rooms =
-          ap (map list_room) is ∙ map_push list_room lists w
-          ∙ ap (λ (l : List ℕ). l ++ list_room w ∷ []) so_far.rooms
-          ∙ ap (λ (r : ℕ). take n sizes ++ r ∷ []) room
-          ∙ sym (take_more sizes n 0 inside);
-      outputs =
-          ap (map outputs_at) is ∙ map_push outputs_at lists w
-          ∙ ap (λ (l : List ℕ). l ++ w.outputs ∷ []) so_far.outputs
-          ∙ ap (λ (o : ℕ). replicate n (length sizes) ++ o ∷ []) outputs
-          ∙ replicate_more n (length sizes);
+      filled = map_next cells_at cells n lists more w none so_far.filled is within here;
+      rooms = map_next list_room sizes n lists more w 0 so_far.rooms is inside room;
+      outputs = map_same outputs_at (length sizes) n lists more w so_far.outputs is outputs;
     }
 
 -- the buffers of the first n outputs have their cells, and these rooms
@@ -183,16 +172,8 @@ one_stored sizes cells n buffers more b so_far is inside as_many here room one =
     let cells_at : Buffered → List Queued = λ x. x.cells in
     let few : ℕ → Type 0 = λ r. r < 2 ^ 64 in
     record {
-      stored =
-          ap cells_in is ∙ map_push cells_at buffers b
-          ∙ ap (λ (l : List (List Queued)). l ++ b.cells ∷ []) so_far.stored
-          ∙ ap (λ (c : List Queued). take n cells ++ c ∷ []) here
-          ∙ sym (take_more cells n none within);
-      rooms =
-          ap (map buffer_room) is ∙ map_push buffer_room buffers b
-          ∙ ap (λ (l : List ℕ). l ++ buffer_room b ∷ []) so_far.rooms
-          ∙ ap (λ (r : ℕ). take n sizes ++ r ∷ []) room
-          ∙ sym (take_more sizes n 0 inside);
+      stored = map_next cells_at cells n buffers more b none so_far.stored is within here;
+      rooms = map_next buffer_room sizes n buffers more b 0 so_far.rooms is inside room;
       few =
           subst (All few) (sym (take_more sizes n 0 inside))
           (All-push few (take n sizes) (get_or sizes n 0) so_far.few one);
@@ -204,11 +185,8 @@ one_stored sizes cells n buffers more b so_far is inside as_many here room one =
 pub one_read : (cells : List Queued) (i : ℕ) (xs more : List Queued) (c : Queued) → xs ≡ take i cells →
     more ≡ xs ++ c ∷ [] → i < length cells → slice_get cells i ≡ Some c → more ≡ take (i + 1) cells
 one_read cells i xs more c so_far is inside at =
-    let here : c ≡ get_or cells i c = same_Some c (get_or cells i c) (sym at ∙ slice_get-get_or cells i c inside) in
-    is
-    ∙ ap (λ (l : List Queued). l ++ c ∷ []) so_far
-    ∙ ap (λ (x : Queued). take i cells ++ x ∷ []) here
-    ∙ sym (take_more cells i c inside)
+    take_next cells i xs more c c so_far is inside
+    (same_Some c (get_or cells i c) (sym at ∙ slice_get-get_or cells i c inside))
 
 -- the cells of one item behind those of the items before it
 pub one_told : {X : Type 0} (f : X → List Queued) (items : List X) (i : ℕ) (x : X) (all more : List (List Queued))
@@ -217,8 +195,5 @@ pub one_told : {X : Type 0} (f : X → List Queued) (items : List X) (i : ℕ) (
 one_told f items i x all more cells so_far is inside read told =
     let none : List Queued = [] in
     let long = length-map items f in
-    let here : cells ≡ get_or (map f items) i none = told ∙ ap f read ∙ sym (get_or-map f items i x none inside) in
-    is
-    ∙ ap (λ (l : List (List Queued)). l ++ cells ∷ []) so_far
-    ∙ ap (λ (c : List Queued). take i (map f items) ++ c ∷ []) here
-    ∙ sym (take_more (map f items) i none (omega arith))
+    take_next (map f items) i all more cells none so_far is (omega arith)
+    (told ∙ ap f read ∙ sym (get_or-map f items i x none inside))

@@ -7,7 +7,6 @@ pub mod Rooms
 pub mod Kept
 pub mod Known
 pub mod Limits
-pub mod Told
 pub mod Slot
 pub mod Rested
 pub mod Filling

@@ -5,6 +5,7 @@ use Rattle.std.proofs.lemmas.Bool.{cases_lt}
 use Rattle.std.proofs.lemmas.List.{get_or_past, map-append, replicate-append-replicate, take_more}
 use Rattle.std.proofs.lemmas.List.Elements.{All-push}
 use Rattle.cq_base.specs.declared.cell.Queued.{Queued}
+use Rattle.cq_ideal.proofs.Changed.{map_next, map_same}
 use Rattle.cq_urgency.specs.OutputBuffer.{Buffered, cells_in}
 use Rattle.cq_prefs.specs.FirstCells.{list_of}
 use Rattle.cq_fabric.specs.Queues.{buffer_room}
@@ -39,16 +40,8 @@ one_made sizes n buffers more b made is inside empty spare one =
     let few : ℕ → Type 0 = λ room. room < 2 ^ 64 in
     let room : buffer_room b ≡ get_or sizes n 0 = let long = ap length empty in omega (arith, spare) in
     record {
-      cells =
-          ap cells_in is ∙ map-append cells buffers (b ∷ [])
-          ∙ ap (λ (l : List (List Queued)). l ++ b.cells ∷ []) made.cells
-          ∙ ap (λ (c : List Queued). replicate n none ++ c ∷ []) empty
-          ∙ replicate-append-replicate n 1 none;
-      rooms =
-          ap (map buffer_room) is ∙ map-append buffer_room buffers (b ∷ [])
-          ∙ ap (λ (l : List ℕ). l ++ buffer_room b ∷ []) made.rooms
-          ∙ ap (λ (r : ℕ). take n sizes ++ r ∷ []) room
-          ∙ sym (take_more sizes n 0 inside);
+      cells = map_same cells none n buffers more b made.cells is empty;
+      rooms = map_next buffer_room sizes n buffers more b 0 made.rooms is inside room;
       few =
           subst (All few) (sym (take_more sizes n 0 inside))
           (All-push few (take n sizes) (get_or sizes n 0) made.few one);

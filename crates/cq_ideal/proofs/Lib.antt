@@ -22,6 +22,7 @@ pub mod AtInput
 pub mod Listed
 pub mod Ranked
 pub mod Refusals
+pub mod Changed
 pub mod Sending
 pub mod Slot
 pub mod Spare

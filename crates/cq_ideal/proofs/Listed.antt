@@ -10,6 +10,7 @@ use Rattle.std.proofs.lemmas.List.Sums.{AllPass-from_list_all, list_all-from_All
 use Rattle.std.proofs.lemmas.Bool.{eqb-true, eq-eqb}
 use Rattle.std.proofs.Math.Seq.{map-set_same}
 use Rattle.cq_base.specs.declared.cell.Queued.{Queued}
+use Rattle.cq_ideal.proofs.Changed.{map_next, map_same}
 use Rattle.cq_ideal.specs.Parts.{AreWithinRooms, IsWithin, QueueView, QueuesView, list_at}
 
 abbrev cells_in : QueueView → List Queued
@@ -61,16 +62,8 @@ one_made rooms n items more q made is inside empty room one =
     let none : List Queued = [] in
     let few : QueueView → Type 0 = λ q. q.room < 2 ^ 64 in
     record {
-      lists =
-          ap (map cells_in) is ∙ map-append cells_in items (q ∷ [])
-          ∙ ap (λ (l : List (List Queued)). l ++ q.cells ∷ []) made.lists
-          ∙ ap (λ (c : List Queued). replicate n none ++ c ∷ []) empty
-          ∙ replicate-append-replicate n 1 none;
-      rooms_are =
-          ap (map room_in) is ∙ map-append room_in items (q ∷ [])
-          ∙ ap (λ (l : List ℕ). l ++ q.room ∷ []) made.rooms_are
-          ∙ ap (λ (r : ℕ). take n rooms ++ r ∷ []) room
-          ∙ sym (take_more rooms n 0 inside);
+      lists = map_same cells_in none n items more q made.lists is empty;
+      rooms_are = map_next room_in rooms n items more q 0 made.rooms_are is inside room;
       few = subst (All few) (sym is) (All-push few items q made.few one);
     }
 

@@ -14,7 +14,8 @@ use Rattle.cq_ideal.specs.IdealSlot.{IdealState, Sent, all_told, fronts, ideal_s
 use Rattle.cq_ideal.specs.Parts.{FitTogether, QueuesView, RanksView, all_idle, state_of}
 use Rattle.cq_ideal.specs.Ranking.{after_input, ranking}
 use Rattle.cq_ideal.proofs.Parted.{next_slot}
-use Rattle.cq_ideal.proofs.Sending.{at_end, at_place, changed_to, length-told, next_place, told_at}
+use Rattle.cq_ideal.proofs.Changed.{at_end, at_place, changed_to, next_place}
+use Rattle.cq_ideal.proofs.Sending.{length-told, told_at}
 use Rattle.cq_ideal.proofs.TakenIn.{nobody_left}
 
 -- ## Nobody, nothing

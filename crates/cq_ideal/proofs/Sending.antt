@@ -11,46 +11,8 @@ use Rattle.cq_base.specs.Room.{RoomView}
 use Rattle.cq_rank.specs.Machine.{Machine, machine_at, told}
 use Rattle.cq_ideal.specs.Ideal.{HaveLeft}
 use Rattle.cq_ideal.specs.IdealSlot.{all_told, fronts, rests, departures_from, departures_in}
+use Rattle.cq_ideal.proofs.Changed.{at_end, at_place, changed_to, next_place}
 use Rattle.cq_ideal.specs.Parts.{AreTold, FirstsHaveLeft, FitTogether, RanksView, QueuesView, list_at}
-
--- ## Lists that are new up to a place, and old from it on
-
-abbrev pub changed_to : {X : Type 0} → List X → List X → ℕ → List X
-changed_to new old j = take j new ++ drop j old
-
-pub at_place : {X : Type 0} (new old : List X) (j : ℕ) (d : X) → length new ≡ length old → j < length old →
-    get_or (changed_to new old j) j d ≡ get_or old j d
-at_place new old j d same inside =
-    ap (λ l. get_or (take j new ++ l) j d) (drop_more old j d inside)
-    ∙ get_or_at (take j new) (get_or old j d) (drop (j + 1) old) d j (length-take-le j new (omega arith))
-
-pub next_place : {X : Type 0} (new old : List X) (j : ℕ) (y d : X) → length new ≡ length old → j < length old →
-    y ≡ get_or new j d → set (changed_to new old j) j y ≡ changed_to new old (j + 1)
-next_place new old j y d same inside is =
-    ap (λ l. set (take j new ++ l) j y) (drop_more old j d inside)
-    ∙ set_at (take j new) (get_or old j d) (drop (j + 1) old) y j (length-take-le j new (omega arith))
-    ∙ sym (append_assoc (take j new) (y ∷ []) (drop (j + 1) old))
-    ∙ ap (λ l. l ++ drop (j + 1) old) (ap (λ v. take j new ++ v ∷ []) is ∙ sym (take_more new j d (omega arith)))
-
--- what is put at its place alone
-pub put_next : {X : Type 0} (new old now next : List X) (j : ℕ) (y d : X) → now ≡ changed_to new old j →
-    next ≡ set now j y → y ≡ get_or new j d → length new ≡ length old → j < length old →
-    next ≡ changed_to new old (j + 1)
-put_next new old now next j y d so_far put is same inside =
-    put ∙ ap (λ l. set l j y) so_far ∙ next_place new old j y d same inside is
-
-pub length-changed : {X : Type 0} (new old : List X) (j : ℕ) → length new ≡ length old →
-    length (changed_to new old j) ≡ length old
-length-changed new old j same =
-    let whole = length-append (take j new) (drop j old) in
-    let front = length-take j new in
-    let rest = length-drop j old in
-    omega arith
-
-pub at_end : {X : Type 0} (new old : List X) (j : ℕ) → length new ≡ length old → length old ≤ j →
-    changed_to new old j ≡ new
-at_end new old j same end =
-    ap (λ l. take j new ++ l) (drop_all j old end) ∙ append-nil (take j new) ∙ take_all j new (omega arith)
 
 -- ## The walk
 
@@ -81,6 +43,21 @@ unfolding all_told
 told_at ms gone ranks j inside =
     get_or-map-range_with_len (λ j. told (machine_at ms j) (get_or ranks j []) (get_or gone j None)) 0 (length ranks)
     j j [] inside (omega arith)
+
+-- the machine of the next output is told
+pub told_next : (ms : List Machine) (gone : List (Option Queued)) (old states new : List (List ℕ)) (j : ℕ)
+    (q : Option Queued) → j < length old → states ≡ changed_to (all_told ms gone old) old j → q ≡ get_or gone j None →
+    new ≡ set states j (told (machine_at ms j) (get_or states j []) q) →
+    new ≡ changed_to (all_told ms gone old) old (j + 1)
+told_next ms gone old states new j q inside so_far is now =
+    let many = length-told ms gone old in
+    let here : get_or states j [] ≡ get_or old j [] =
+    ap (λ l. get_or l j []) so_far ∙ at_place (all_told ms gone old) old j [] many inside in
+    let as_told : told (machine_at ms j) (get_or states j []) q ≡ get_or (all_told ms gone old) j [] =
+    ap (λ s. told (machine_at ms j) s q) here ∙ ap (told (machine_at ms j) (get_or old j [])) is
+    ∙ sym (told_at ms gone old j inside) in
+    now ∙ ap (λ l. set l j (told (machine_at ms j) (get_or states j []) q)) so_far
+    ∙ next_place (all_told ms gone old) old j _ [] many inside as_told
 
 pub sending_first : (M : List ℕ → Machine) (slot : ℕ) (ranks : RanksView) (queues : QueuesView)
     (sent : RoomView Departure) → length queues.lists ≤ sent.spare →
@@ -130,7 +107,6 @@ sending_next M slot first_ranks first_queues first_sent output ranks queues sent
     let ms = map M first_ranks.fixed in
     let old = first_queues.lists in
     let none : Option Queued = None in
-    let new_states = all_told ms (fronts old) first_ranks.states in
     let here : list_at queues.lists output ≡ list_at old output =
     ap (λ l. get_or l output []) so_far.lists
     ∙ at_place (rests old) old output [] (length-map old (λ xs. drop 1 xs)) inside in
@@ -139,16 +115,6 @@ sending_next M slot first_ranks first_queues first_sent output ranks queues sent
     ∙ sym (get_or-map (λ (xs : List Queued). slice_get xs 0) old output [] none inside) in
     let rest : drop 1 (list_at queues.lists output) ≡ get_or (rests old) output [] =
     ap (drop 1) here ∙ sym (get_or-map (λ (xs : List Queued). drop 1 xs) old output [] [] inside) in
-    let within : output < length first_ranks.states = omega arith in
-    let many = length-told ms (fronts old) first_ranks.states in
-    let state : get_or ranks.states output [] ≡ get_or first_ranks.states output [] =
-    ap (λ l. get_or l output []) so_far.states ∙ at_place new_states first_ranks.states output [] many within in
-    let now_told : told (machine_at (map M ranks.fixed) output) (get_or ranks.states output []) gone
-    ≡ get_or new_states output [] =
-    ap (λ f. told (machine_at (map M f) output) (get_or ranks.states output []) gone) so_far.fixed
-    ∙ ap (λ s. told (machine_at ms output) s gone) state
-    ∙ ap (told (machine_at ms output) (get_or first_ranks.states output [])) front
-    ∙ sym (told_at ms (fronts old) first_ranks.states output within) in
     let fronts_long = length-map old (λ (xs : List Queued). slice_get xs 0) in
     let more : drop output (fronts old) ≡ gone ∷ drop (output + 1) (fronts old) =
     drop_more (fronts old) output none (omega arith)
@@ -164,10 +130,10 @@ sending_next M slot first_ranks first_queues first_sent output ranks queues sent
       rooms = rooms ∙ so_far.rooms;
       long = ap length lists ∙ length-set queues.lists output (drop 1 (list_at queues.lists output)) ∙ so_far.long;
       states =
-          states
-          ∙ ap (λ l. set l output (told (machine_at (map M ranks.fixed) output) (get_or ranks.states output [])
-          gone)) so_far.states
-          ∙ next_place new_states first_ranks.states output _ [] many within now_told;
+          told_next ms (fronts old) first_ranks.states ranks.states ranks_new.states output gone (omega arith)
+          so_far.states front
+          (states ∙ ap (λ f. set ranks.states output (told (machine_at (map M f) output)
+          (get_or ranks.states output []) gone)) so_far.fixed);
       lists =
           lists ∙ ap (λ l. set l output (drop 1 (list_at queues.lists output))) so_far.lists
           ∙ next_place (rests old) old output _ [] (length-map old (λ xs. drop 1 xs)) inside rest;

@@ -1,22 +1,33 @@
 -- A slot is what the parts do one after the other: the arrivals are judged, those that are admitted are ranked and go
 -- into the lists, and then the outputs send.
-use Rattle.std.proofs.Common.{◌≡◌, ℕ, ◌+◌, ◌<◌, ◌≤◌, ◌^◌, Bool, false, List, [], length, map, get_or, Option, Result, Ok, Err, sym, ap, ◌∙◌, subst, arith}
+use Rattle.std.proofs.Common.{◌≡◌, ℕ, ◌+◌, ◌<◌, ◌≤◌, ◌^◌, Bool, false, List, [], length, map, get_or, Option, Result, Ok, Err, refl, sym, ap, ◌∙◌, subst, arith}
 use Rattle.std.specs.Prelude.{IfOk}
 use Rattle.std.proofs.lemmas.List.{get_or-map}
 use Rattle.cq_base.specs.declared.cell.Cell.{Cell}
 use Rattle.cq_base.specs.declared.cell.Queued.{Queued}
 use Rattle.cq_base.specs.declared.cell.TagFault.{TagFault}
+use Rattle.cq_base.specs.declared.cell.Departure.{Departure}
+use Rattle.cq_base.specs.Room.{RoomView}
 use Rattle.cq_rank.specs.Machine.{Machine}
+use Rattle.cq_rank.specs.Switch.{class_count}
 use Rattle.cq_ideal.specs.declared.refused.Refused.{Refused}
 use Rattle.cq_ideal.specs.Admission.{Admission, Marked, admission, admitted, marked, marks_after, refused}
 use Rattle.cq_ideal.specs.Ideal.{IdealSwitch, HasRoomFor, count_for, marked_state}
 use Rattle.cq_ideal.specs.IdealSlot.{IdealState, Sent, ideal_slot, ideal_sends, filled, fronts, rests, all_told}
 use Rattle.cq_ideal.specs.LimitedIdeal.{LimitedSent, ideal_held, limited_slot, with_admission}
-use Rattle.cq_ideal.specs.Limiter.{CanCount, ComeToPorts, HoldsLists, LimiterView}
-use Rattle.cq_ideal.specs.Parts.{AreParts, AreWithinRooms, RanksView, QueuesView, AllArrivedBefore, HaveRoomFor, state_of}
+use Rattle.cq_ideal.specs.Limiter.{CanCount, HoldsLists, LimiterView}
+use Rattle.cq_ideal.specs.OneSlot.{CanHaveSlot}
+use Rattle.cq_ideal.specs.Parts.{AreParts, AreWithinRooms, CameToPorts, FitTogether, RanksView, QueuesView, AllArrivedBefore, HaveOwnKeys, HaveRoomFor, state_of}
 use Rattle.cq_ideal.specs.Ranking.{AreForPorts, Ranking, ranking}
+use Rattle.cq_ideal.specs.Taking.{CanTakeIn, HasJudged, HasTakenIn}
+use Rattle.cq_ideal.proofs.Admitted.{admitted_for_ports}
+use Rattle.cq_ideal.proofs.Came.{came_to_ports}
+use Rattle.cq_ideal.proofs.Holding.{holds_filled}
+use Rattle.cq_ideal.proofs.OwnKeys.{arrived_next, own_keys}
 use Rattle.cq_ideal.proofs.Refusals.{each_once}
 use Rattle.cq_ideal.proofs.Spare.{came_for}
+use Rattle.cq_ideal.proofs.TakenIn.{fit_same}
+use Rattle.cq_ideal.proofs.Waiting.{length-filled}
 
 -- what a slot leaves once the cells are in the lists
 abbrev pub sent_from : List Machine → IdealState → Sent
@@ -63,7 +74,7 @@ module _ (M : List ℕ → Machine) (slot : ℕ) (cells : List (Option Cell)) (v
   slot_fault fault err = slot_is ∙ ap (ideal_sends (map M ranks.fixed) (state_of ranks queues)) err
 
 -- where the lists have room for the cells that arrive they have it for those that came
-pub room_for_came : (ms : List Machine) (slot : ℕ) (cells : List (Option Cell)) (ranks : List (List ℕ)) (r : Ranking)
+room_for_came : (ms : List Machine) (slot : ℕ) (cells : List (Option Cell)) (ranks : List (List ℕ)) (r : Ranking)
     (v : IdealSwitch) (queues : QueuesView) → ranking ms slot 0 cells ranks ≡ Ok r → queues.lists ≡ v.state.lists →
     queues.rooms ≡ v.rooms → HasRoomFor cells v → HaveRoomFor r.came queues
 room_for_came ms slot cells ranks r v queues ok lists rooms room j inside =
@@ -109,101 +120,166 @@ limited_sent_from marks cells ms s =
     let sent = sent_from ms s in
     record { admission = by_marks marks cells; gone = sent.gone; after = marked marks sent.after }
 
-module _ (M : List ℕ → Machine) (cells : List (Option Cell)) (v : IdealSwitch) (ranks : RanksView) (queues : QueuesView)
-    (old : LimiterView) (next : ℕ) (stopped : Bool) (is : seen ranks queues old next stopped ≡ v)
-    (parts : AreParts (map M ranks.fixed) ranks queues old next stopped) (running : v.stopped ≡ false) where
-  pub fixed_is : ranks.fixed ≡ v.fixed
-  fixed_is = ap (λ (w : IdealSwitch). w.fixed) is
+-- ## What is known where a slot begins
 
-  pub state_is : state_of ranks queues ≡ v.state
-  state_is = ap (λ (w : IdealSwitch). w.state) is
+pub record Begun (M : List ℕ → Machine) (slot : ℕ) (cells : List (Option Cell)) (v : IdealSwitch) (ranks : RanksView)
+    (queues : QueuesView) (old : LimiterView) (room : RoomView Departure) : Type 0 where
+  pub fixed : ranks.fixed ≡ v.fixed
+  pub state : state_of ranks queues ≡ v.state
+  pub rooms : queues.rooms ≡ v.rooms
+  pub limits : old.limits ≡ v.limits
+  pub marks : old.marks ≡ v.marks
+  pub refused : old.refused ≡ v.refused
+  pub parts : AreParts (map M ranks.fixed) ranks queues old slot false
+  pub can : CanHaveSlot (map M v.fixed) slot cells v room
 
-  pub lists_are : queues.lists ≡ v.state.lists
-  lists_are = ap (λ (s : IdealState). s.lists) state_is
+pub begun : (M : List ℕ → Machine) (slot : ℕ) (cells : List (Option Cell)) (v : IdealSwitch) (ranks : RanksView)
+    (queues : QueuesView) (old : LimiterView) (room : RoomView Departure) (next : ℕ) (stopped : Bool) →
+    seen ranks queues old next stopped ≡ v → AreParts (map M ranks.fixed) ranks queues old next stopped →
+    CanHaveSlot (map M v.fixed) slot cells v room → Begun M slot cells v ranks queues old room
+begun M slot cells v ranks queues old room next stopped is parts can =
+    let at : next ≡ slot = ap (λ (w : IdealSwitch). w.next) is ∙ sym can.next in
+    record {
+      fixed = ap (λ (w : IdealSwitch). w.fixed) is;
+      state = ap (λ (w : IdealSwitch). w.state) is;
+      rooms = ap (λ (w : IdealSwitch). w.rooms) is;
+      limits = ap (λ (w : IdealSwitch). w.limits) is;
+      marks = ap (λ (w : IdealSwitch). w.marks) is;
+      refused = ap (λ (w : IdealSwitch). w.refused) is;
+      parts = record {
+        fit = parts.fit;
+        limits = parts.limits;
+        marks = parts.marks;
+        arrived = subst (λ (n : ℕ). AllArrivedBefore n queues.lists) at parts.arrived;
+        holds = λ _. parts.holds (ap (λ (w : IdealSwitch). w.stopped) is ∙ can.running);
+      };
+      can = can;
+    }
 
-  pub rooms_are : queues.rooms ≡ v.rooms
-  rooms_are = ap (λ (w : IdealSwitch). w.rooms) is
+-- ## What follows
 
-  pub ports_are : length v.fixed ≡ length old.limits
-  ports_are = sym (ap length fixed_is) ∙ parts.fit.fixed ∙ sym parts.limits
+module _ {M : List ℕ → Machine} {slot : ℕ} {cells : List (Option Cell)} {v : IdealSwitch} {ranks : RanksView}
+    {queues : QueuesView} {old : LimiterView} {room : RoomView Departure}
+    (known : Begun M slot cells v ranks queues old room) where
+  lists_are : queues.lists ≡ v.state.lists
+  lists_are = ap (λ (s : IdealState). s.lists) known.state
 
-  pub holds : HoldsLists queues.lists old
-  holds = parts.holds (ap (λ (w : IdealSwitch). w.stopped) is ∙ running)
+  holds : HoldsLists queues.lists old
+  holds = known.parts.holds refl
 
-  pub arrived_are : (slot : ℕ) → slot ≡ v.next → AllArrivedBefore slot queues.lists
-  arrived_are slot e =
-      let at : next ≡ slot = ap (λ (w : IdealSwitch). w.next) is ∙ sym e in
-      subst (λ (n : ℕ). AllArrivedBefore n queues.lists) at parts.arrived
+  comes : AreForPorts (length (map M ranks.fixed)) (class_count (map M ranks.fixed)) cells
+  comes =
+      subst (λ (f : List (List ℕ)). AreForPorts (length (map M ranks.fixed)) (class_count (map M f)) cells)
+      (sym known.fixed)
+      (subst (λ (n : ℕ). AreForPorts n (class_count (map M v.fixed)) cells)
+      (sym (ap length known.fixed) ∙ known.parts.fit.fixed) known.can.arrivals)
 
-  pub ports_few : length old.limits ≤ 64
-  ports_few = let few = parts.fit.machines.few in let limits = parts.limits in omega arith
-
-  pub come_to_ports : (classes : ℕ) → AreForPorts (length v.fixed) classes cells → ComeToPorts (length old.limits) cells
-  come_to_ports classes are =
-      let ports = ports_are in
-      record {
-        inputs = λ input cell at. let l = are.inputs input cell at in omega arith;
-        outputs = λ input cell at. let l = are.outputs input cell at in omega arith;
-      }
-
-  pub numbers_fit : HasRoomFor cells v → AreWithinRooms queues → ((j : ℕ) → get_or queues.rooms j 0 < 2 ^ 64) →
-      (j : ℕ) →
-      j < length old.limits → get_or old.held j 0 + count_for j cells < 2 ^ 64
-  numbers_fit room within few j inside =
-      let limits = parts.limits in
-      let rooms = parts.fit.rooms in
-      let lists = parts.fit.lists in
-      let long = ap length rooms_are in
-      let had = room j (omega arith) in
-      let list = ap (λ (l : List (List Queued)). length (get_or l j [])) lists_are in
-      let same = ap (λ (l : List ℕ). get_or l j 0) rooms_are in
-      let here = within j in
-      let top = few j in
-      let held : get_or old.held j 0 ≡ length (get_or queues.lists j []) =
-      ap (λ (l : List ℕ). get_or l j 0) holds.held ∙ get_or-map length queues.lists j [] 0 (omega arith) in
-      omega arith
-
-  pub can_count : (now : LimiterView) → CanCount (length v.fixed) v.refused →
-      now.limits ≡ old.limits → now.refused ≡ old.refused → CanCount (length now.limits) now.refused
-  can_count now can limits refused =
-      subst (λ (r : List Refused). CanCount (length now.limits) r)
-      (sym (refused ∙ ap (λ (w : IdealSwitch). w.refused) is))
-      (subst (λ (n : ℕ). CanCount n v.refused) (ports_are ∙ sym (ap length limits)) can)
+  -- its arrivals can be taken in
+  pub can_take_in : AreWithinRooms queues → ((j : ℕ) → get_or queues.rooms j 0 < 2 ^ 64) →
+      CanTakeIn (map M ranks.fixed) cells old
+  can_take_in within few = record {
+    machines = known.parts.fit.machines;
+    ports = known.parts.limits;
+    arrivals = comes;
+    held = λ j inside.
+        let limits = known.parts.limits in
+        let rooms = known.parts.fit.rooms in
+        let lists = known.parts.fit.lists in
+        let long = ap length known.rooms in
+        let had = known.can.spare j (omega arith) in
+        let list = ap (λ (l : List (List Queued)). length (get_or l j [])) lists_are in
+        let same = ap (λ (l : List ℕ). get_or l j 0) known.rooms in
+        let here = within j in
+        let top = few j in
+        let held : get_or old.held j 0 ≡ length (get_or queues.lists j []) =
+        ap (λ (l : List ℕ). get_or l j 0) holds.held ∙ get_or-map length queues.lists j [] 0 (omega arith) in
+        omega arith;
+    refused =
+        subst (λ (r : List Refused). CanCount (length old.limits) r) (sym known.refused)
+        (subst (λ (n : ℕ). CanCount n v.refused) (sym (ap length known.fixed) ∙ known.parts.fit.fixed
+        ∙ sym known.parts.limits) known.can.refused);
+  }
 
   -- what is admitted finds room too
-  pub admitted_room : (marks : List Bool) → HasRoomFor cells v → HasRoomFor (admitted marks cells) v
-  admitted_room marks room j inside =
-      let all = room j inside in
+  pub admitted_room : (marks : List Bool) → HasRoomFor (admitted marks cells) v
+  admitted_room marks j inside =
+      let all = known.can.spare j inside in
       let split = each_once j marks cells in omega arith
 
-  module _ (slot : ℕ) (marks : List Bool) (judged : marks ≡ marks_after old.limits old.held old.marks cells) where
-    marks_are : marks ≡ marks_after v.limits (ideal_held v.state) v.marks cells
+  module _ {judged : LimiterView} (judges : HasJudged cells old judged) where
+    marks_are : judged.marks ≡ marks_after v.limits (ideal_held v.state) v.marks cells
     marks_are =
-        judged
-        ∙ ap (λ (h : List ℕ). marks_after old.limits h old.marks cells) (holds.held ∙ ap (map length) lists_are)
-        ∙ ap (λ (w : IdealSwitch). marks_after w.limits (ideal_held v.state) w.marks cells) is
+        judges.marks
+        ∙ ap (λ (l : List (Option ℕ)). marks_after l old.held old.marks cells) known.limits
+        ∙ ap (λ (h : List ℕ). marks_after v.limits h old.marks cells) (holds.held ∙ ap (map length) lists_are)
+        ∙ ap (λ (m : List Bool). marks_after v.limits (ideal_held v.state) m cells) known.marks
 
     judged_slot : limited_slot v.limits (map M v.fixed) slot cells (marked_state v)
-        ≡ with_admission (by_marks marks cells) (ideal_slot (map M v.fixed) slot (admitted marks cells) v.state)
-    judged_slot = limited_is v.limits (map M v.fixed) slot cells (marked_state v) marks marks_are
+        ≡ with_admission (by_marks judged.marks cells)
+        (ideal_slot (map M v.fixed) slot (admitted judged.marks cells) v.state)
+    judged_slot = limited_is v.limits (map M v.fixed) slot cells (marked_state v) judged.marks marks_are
 
-    pub limited_fault : (fault : TagFault) →
-        ranking (map M ranks.fixed) slot 0 (admitted marks cells) ranks.states ≡ Err fault →
+    pub limited_fault : {fault : TagFault} →
+        ranking (map M ranks.fixed) slot 0 (admitted judged.marks cells) ranks.states ≡ Err fault →
         limited_slot v.limits (map M v.fixed) slot cells (marked_state v) ≡ Err fault
-    limited_fault fault err =
+    limited_fault {fault} err =
         judged_slot
-        ∙ ap (with_admission (by_marks marks cells))
-        (slot_fault M slot (admitted marks cells) v ranks queues fixed_is state_is fault err)
+        ∙ ap (with_admission (by_marks judged.marks cells))
+        (slot_fault M slot (admitted judged.marks cells) v ranks queues known.fixed known.state fault err)
 
-    module _ (ranks_new : RanksView) (queues_new : QueuesView) (came : List (Option Queued))
-        (ok : ranking (map M ranks.fixed) slot 0 (admitted marks cells) ranks.states
-        ≡ Ok (record { came = came; ranks = ranks_new.states }))
-        (lists : queues_new.lists ≡ filled came queues.lists) (same : ranks_new.fixed ≡ ranks.fixed) where
-      pub admitted_ok : ideal_slot (map M v.fixed) slot (admitted marks cells) v.state
-          ≡ Ok (sent_from (map M ranks_new.fixed) (state_of ranks_new queues_new))
-      admitted_ok =
-          slot_ok M slot (admitted marks cells) v ranks queues fixed_is state_is ranks_new queues_new came ok lists same
+    module _ {ranks_new : RanksView} {came : List (Option Queued)}
+        (taken : HasTakenIn (map M ranks.fixed) slot cells ranks ranks_new old judged came) where
+      abbrev r : Ranking
+      r = record { came = came; ranks = ranks_new.states }
 
-      pub limited_ok : limited_slot v.limits (map M v.fixed) slot cells (marked_state v)
-          ≡ Ok (limited_sent_from marks cells (map M ranks_new.fixed) (state_of ranks_new queues_new))
-      limited_ok = judged_slot ∙ ap (with_admission (by_marks marks cells)) admitted_ok
+      -- the cells come to the ports, the lists have room for them, and each has its own key
+      pub come_to_ports : CameToPorts (length queues.lists) came
+      come_to_ports =
+          let classes = class_count (map M ranks.fixed) in
+          came_to_ports (map M ranks.fixed) slot _ classes (admitted judged.marks cells) ranks.states r taken.ranked
+          (admitted_for_ports _ classes judged.marks cells
+          (subst (λ (n : ℕ). AreForPorts n classes cells) (sym known.parts.fit.lists) comes))
+          taken.long
+
+      pub have_room : HaveRoomFor came queues
+      have_room =
+          room_for_came (map M ranks.fixed) slot (admitted judged.marks cells) ranks.states r v queues taken.ranked
+          lists_are known.rooms (admitted_room judged.marks)
+
+      pub have_keys : HaveOwnKeys came queues.lists
+      have_keys =
+          own_keys (map M ranks.fixed) slot (admitted judged.marks cells) ranks.states r taken.ranked queues.lists
+          known.parts.arrived
+
+      -- once they are in the lists
+      module _ (queues_new : QueuesView) (lists : queues_new.lists ≡ filled came queues.lists)
+          (same : ranks_new.fixed ≡ ranks.fixed) where
+        pub fit_then : length ranks_new.states ≡ length ranks.states → queues_new.rooms ≡ queues.rooms →
+            FitTogether (map M ranks_new.fixed) ranks_new queues_new
+        fit_then many rooms =
+            fit_same M ranks ranks_new queues queues_new known.parts.fit same many
+            (ap length lists ∙ length-filled came queues.lists) rooms
+
+        pub holds_then : HoldsLists queues_new.lists judged
+        holds_then =
+            let limits = ap length judges.limits in
+            let ports = judges.ports.held in
+            holds_filled came (admitted judged.marks cells) queues.lists queues_new.lists old judged holds lists
+            judges.limits (omega arith) judges.held
+            (came_for (map M ranks.fixed) slot (admitted judged.marks cells) ranks.states r taken.ranked)
+
+        pub arrived_then : AllArrivedBefore (slot + 1) (rests queues_new.lists)
+        arrived_then =
+            subst (λ (l : List (List Queued)). AllArrivedBefore (slot + 1) (rests l)) (sym lists)
+            (arrived_next (map M ranks.fixed) slot (admitted judged.marks cells) ranks.states r taken.ranked
+            queues.lists known.parts.arrived)
+
+        pub admitted_ok : ideal_slot (map M v.fixed) slot (admitted judged.marks cells) v.state
+            ≡ Ok (sent_from (map M ranks_new.fixed) (state_of ranks_new queues_new))
+        admitted_ok =
+            slot_ok M slot (admitted judged.marks cells) v ranks queues known.fixed known.state ranks_new queues_new
+            came taken.ranked lists same
+
+        pub limited_ok : limited_slot v.limits (map M v.fixed) slot cells (marked_state v)
+            ≡ Ok (limited_sent_from judged.marks cells (map M ranks_new.fixed) (state_of ranks_new queues_new))
+        limited_ok = judged_slot ∙ ap (with_admission (by_marks judged.marks cells)) admitted_ok

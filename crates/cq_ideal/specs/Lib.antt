@@ -16,5 +16,6 @@ pub mod Parts
 pub mod Ranking
 pub mod Refused
 pub mod Rest
+pub mod Taking
 pub mod WholePackets
 pub mod Newcomers

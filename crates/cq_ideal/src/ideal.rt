@@ -13,6 +13,7 @@ use crate::newcomers::Newcomers;
 use crate::queues::Queues;
 use crate::ranks::Ranks;
 use crate::send::send;
+use crate::taking::take_in;
 use cq_base::{Arrivals, Departure, NoMemory, Room, Slot, TagFault};
 use cq_rank::Rank;
 use std::alloc::Global;
@@ -104,15 +105,16 @@ impl<R: Rank> Ideal<R> {
         ensures stopped { self.new.stopped ≡ is_err result }
     {
         self.queues.len();
-        self.limiter.judge(arrivals);
-        if let Err(fault) = self
-            .ranks
-            .take(slot, arrivals, &self.limiter, &mut self.came)
-        {
+        if let Err(fault) = take_in(
+            &mut self.ranks,
+            &mut self.limiter,
+            &mut self.came,
+            slot,
+            arrivals,
+        ) {
             self.stopped = true;
             return Err(fault);
         }
-        self.limiter.count(arrivals);
         self.queues.arrive(&self.came);
         send(
             &mut self.ranks,

@@ -18,6 +18,7 @@ mod queues;
 mod ranks;
 mod refused;
 mod send;
+mod taking;
 
 pub use ending::{ideal_run_ends, last_slot_departs, more_slots_send_nothing};
 pub use flows::flows_leave_as_they_came;
@@ -32,4 +33,5 @@ pub use limits::{
 };
 pub use newcomers::Newcomers;
 pub use ranks::Ranks;
+pub use taking::take_in;
 pub use refused::{Refused, count_refused, none_refused};

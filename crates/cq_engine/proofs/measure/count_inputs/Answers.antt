@@ -3,7 +3,8 @@ use Rattle.cq_base.specs.declared.cell.Queued.{Queued}
 use Rattle.cq_base.specs.declared.figures.InputFigures.{InputFigures}
 use Rattle.cq_laws.specs.Phases.{came_to}
 use Rattle.cq_engine.specs.Measuring.{input_counted}
-use Rattle.cq_fabric.proofs.Changed.{at_end, length-by_place, by_place_next, not_yet, still_long}
+use Rattle.cq_ideal.proofs.Changed.{at_end}
+use Rattle.cq_fabric.proofs.Changed.{length-by_place, by_place_next, not_yet, still_long}
 use Rattle.cq_engine.proofs.measure.count_inputs.Goals as goal
 
 pub bounds-as_slice-input : goal.bounds-as_slice-input

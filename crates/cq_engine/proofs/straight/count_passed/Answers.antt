@@ -4,7 +4,8 @@ use Rattle.cq_base.specs.declared.cell.Queued.{Queued}
 use Rattle.cq_base.specs.declared.figures.InputFigures.{InputFigures}
 use Rattle.cq_laws.specs.Phases.{came_to}
 use Rattle.cq_engine.specs.Straight.{input_passed}
-use Rattle.cq_fabric.proofs.Changed.{at_end, length-by_place, by_place_next, not_yet, still_long}
+use Rattle.cq_ideal.proofs.Changed.{at_end}
+use Rattle.cq_fabric.proofs.Changed.{length-by_place, by_place_next, not_yet, still_long}
 use Rattle.cq_engine.proofs.straight.count_passed.Goals as goal
 use Rattle.cq_engine.proofs.straight.count_passed.Goals.{in-Some, in_default}
 

@@ -2,7 +2,7 @@ use Rattle.std.proofs.Common.{◌≡◌, map}
 use Rattle.std.specs.List.{enumerate_from}
 use Rattle.cq_laws.specs.Phases.{came_to}
 use Rattle.cq_engine.specs.Straight.{input_passed}
-use Rattle.cq_fabric.proofs.Changed.{changed_to}
+use Rattle.cq_ideal.proofs.Changed.{changed_to}
 use Rattle.cq_engine.proofs.straight.count_passed.Given as goal
 
 -- the inputs before this one are counted

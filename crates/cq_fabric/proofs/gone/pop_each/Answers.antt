@@ -3,7 +3,8 @@ use Rattle.std.proofs.lemmas.List.{length-map, take_more, take_more_set, get_or-
 use Rattle.cq_base.specs.declared.cell.Queued.{Queued}
 use Rattle.cq_urgency.specs.OutputBuffer.{Buffered}
 use Rattle.cq_fabric.specs.Queues.{front_of, popped}
-use Rattle.cq_fabric.proofs.Changed.{at_place, next_place, still_behind}
+use Rattle.cq_ideal.proofs.Changed.{at_place, next_place}
+use Rattle.cq_fabric.proofs.Changed.{still_behind}
 use Rattle.cq_fabric.proofs.Queued.{popped_by}
 use Rattle.cq_fabric.proofs.gone.pop_each.Goals as goal
 

@@ -2,8 +2,8 @@ use Rattle.std.proofs.Common.{◌≡◌, ◌∙◌, [], map, set, get_or, refl, 
 use Rattle.std.specs.Prelude.{None}
 use Rattle.cq_rank.specs.Machine.{told, machine_at}
 use Rattle.cq_ideal.specs.IdealSlot.{all_told}
-use Rattle.cq_fabric.proofs.Changed.{at_end}
-use Rattle.cq_fabric.proofs.Told.{length-told, told_next}
+use Rattle.cq_ideal.proofs.Changed.{at_end}
+use Rattle.cq_ideal.proofs.Sending.{length-told, told_next}
 use Rattle.cq_fabric.proofs.sent.tell.Goals as goal
 
 pub outputs-preserved : goal.outputs-preserved

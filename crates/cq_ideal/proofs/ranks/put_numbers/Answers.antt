@@ -1,5 +1,5 @@
 use Rattle.std.proofs.Common.{length, refl, ap, ◌∙◌, arith}
-use Rattle.cq_ideal.proofs.Sending.{at_end, length-changed, put_next}
+use Rattle.cq_ideal.proofs.Changed.{at_end, length-changed, put_next}
 use Rattle.cq_ideal.proofs.ranks.put_numbers.Goals as goal
 
 pub places-init : goal.places-init

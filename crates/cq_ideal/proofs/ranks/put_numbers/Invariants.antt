@@ -1,5 +1,5 @@
 use Rattle.std.proofs.Common.{◌≡◌}
-use Rattle.cq_ideal.proofs.Sending.{changed_to}
+use Rattle.cq_ideal.proofs.Changed.{changed_to}
 use Rattle.cq_ideal.proofs.ranks.put_numbers.Given as goal
 
 -- the numbers before this place are the new ones

@@ -1,6 +1,6 @@
 use Rattle.std.proofs.Common.{◌≡◌, ◌∷◌, []}
 use Rattle.cq_ideal.specs.Refused.{with_refused}
-use Rattle.cq_ideal.proofs.Sending.{changed_to}
+use Rattle.cq_ideal.proofs.Changed.{changed_to}
 use Rattle.cq_ideal.proofs.refused.count_refused.Given as goal
 
 -- the counts before this place have the cell

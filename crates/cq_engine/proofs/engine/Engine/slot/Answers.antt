@@ -17,7 +17,7 @@ use Rattle.cq_fabric.specs.Queues.{fabric_of}
 use Rattle.cq_fabric.proofs.Known.{AreRanked, HaveArrived, HaveJudged, HaveReleased, HaveSent}
 use Rattle.cq_fabric.proofs.Limits.{admits_are, still_holds}
 use Rattle.cq_fabric.proofs.Slot.{came_newest, came_outputs, can_cross_first, can_cross_second, come_apart, few_cross, fits_lists, held_before}
-use Rattle.cq_fabric.proofs.Told.{length-told}
+use Rattle.cq_ideal.proofs.Sending.{length-told}
 use Rattle.cq_engine.specs.Engine.{EngineView, IsRunning, SlotDone, answer_to, its_admission}
 use Rattle.cq_engine.specs.Sending.{CanSend}
 use Rattle.cq_engine.specs.Straight.{GoStraight, crossings}

@@ -1,7 +1,7 @@
 use Rattle.std.proofs.Common.{ℕ, List, [], length, map, refl, ap, sym, ◌∙◌, arith}
 use Rattle.std.proofs.lemmas.List.{get_or_read}
 use Rattle.cq_rank.specs.Machine.{machine_at}
-use Rattle.cq_ideal.proofs.Sending.{at_end, put_next}
+use Rattle.cq_ideal.proofs.Changed.{at_end, put_next}
 use Rattle.cq_ideal.proofs.ranks.Ranks.put.Goals as goal
 
 pub outputs-init : goal.outputs-init

@@ -1,5 +1,5 @@
 use Rattle.std.proofs.Common.{◌≡◌}
-use Rattle.cq_ideal.proofs.Sending.{changed_to}
+use Rattle.cq_ideal.proofs.Changed.{changed_to}
 use Rattle.cq_ideal.proofs.ranks.Ranks.put.Given as goal
 
 -- the states of the outputs before this one are the new ones
