@@ -9,3 +9,4 @@ mod Counted
 mod Going
 mod NothingCounted
 mod StraightSlot
+mod Apart

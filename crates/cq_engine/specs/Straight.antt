@@ -9,9 +9,10 @@ use Rattle.cq_base.specs.declared.figures.InputFigures.{InputFigures}
 use Rattle.cq_laws.specs.Phases.{came_to}
 use Rattle.cq_fabric.specs.Queues.{Queues}
 
--- the cell came to one of the inputs, for output j
-pub record CameFor (came : List (Option Queued)) (j : ℕ) (c : Queued) : Type 0 where
+-- the cell came to one of the first inputs, for output j
+pub record CameFor (inputs : ℕ) (came : List (Option Queued)) (j : ℕ) (c : Queued) : Type 0 where
   pub input : ℕ
+  pub inside : input < inputs
   pub at : came_to came input ≡ Some c
   pub output : c.cell.output ≡ j
 
@@ -19,7 +20,19 @@ pub record CameFor (came : List (Option Queued)) (j : ℕ) (c : Queued) : Type 0
 -- cells are for one output
 pub record AreSent (inputs outputs : ℕ) (came gone : List (Option Queued)) : Type 0 where
   pub each : (i : ℕ) (c : Queued) → i < inputs → came_to came i ≡ Some c → came_to gone c.cell.output ≡ Some c
-  pub only : (j : ℕ) (c : Queued) → j < outputs → came_to gone j ≡ Some c → CameFor came j c
+  pub only : (j : ℕ) (c : Queued) → j < outputs → came_to gone j ≡ Some c → CameFor inputs came j c
+
+-- no two of the cells that came to the first inputs are for one output
+abbrev pub AreApart : ℕ → List (Option Queued) → Type 0
+AreApart inputs came =
+    (i k : ℕ) (c d : Queued) → i < inputs → k < inputs → came_to came i ≡ Some c → came_to came k ≡ Some d →
+    c.cell.output ≡ d.cell.output → i ≡ k
+
+-- no cell waits, and no two that came are for one output
+pub record CanGoStraight (q : Queues) (came : List (Option Queued)) : Type 0 where
+  pub lists : All (λ cells. cells ≡ []) q.inputs
+  pub buffers : All (λ cells. cells ≡ []) q.buffers
+  pub apart : AreApart (length q.inputs) came
 
 -- no cell waits, and each cell that came is sent by its output
 pub record GoStraight (q : Queues) (came gone : List (Option Queued)) : Type 0 where

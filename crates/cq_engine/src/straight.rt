@@ -2,13 +2,13 @@
 //!
 //! Where each cell that comes is for another output, the first matching has all of them, and each is sent in the slot
 //! in which it came. So no list and no buffer is touched, and no matching is looked for.
-ghost use Rattle.std.specs.Prelude.{◌≡◌, ◌+◌, ◌-◌, ◌<◌, ◌≤◌, ◌^◌, ◌++◌, ℕ, IsTrue, Some, length, map, slice_get, take};
+ghost use Rattle.std.specs.Prelude.{◌≡◌, ◌↔◌, ◌+◌, ◌-◌, ◌<◌, ◌≤◌, ◌^◌, ◌++◌, ℕ, IsTrue, Some, length, map, slice_get, take};
 ghost use Rattle.std.specs.List.{enumerate_from};
 ghost use Rattle.cq_base.specs.declared.cell.Queued.{Queued as OfCell};
 ghost use Rattle.cq_base.specs.declared.figures.InputFigures.{InputFigures as OfInput};
 ghost use Rattle.cq_laws.specs.Phases.{came_to};
 ghost use Rattle.cq_engine.specs.Sending.{CanSend, EachHasSent};
-ghost use Rattle.cq_engine.specs.Straight.{AreSent, GoStraight, crossings, input_passed};
+ghost use Rattle.cq_engine.specs.Straight.{AreApart, AreSent, CanGoStraight, GoStraight, crossings, input_passed};
 
 use crate::depart::leave;
 use cq_base::{Departure, Figures, InputFigures, Queued, Room, Sequence, Slot, Transfer};
@@ -21,6 +21,7 @@ fn fill(gone: &mut Gone, came: &Newcomers, ports: u16) -> bool
     requires few { ports ≤ 64 }
     requires outputs { (i : ℕ) (c : OfCell) → came_to came.now i ≡ Some c → c.cell.output < ports }
     ensures wide { ports ≤ length gone.new }
+    ensures apart { IsTrue result ↔ AreApart ports came.now }
     ensures sent { IsTrue result → AreSent ports ports came.now gone.new }
 {
     gone.clear(ports);
@@ -39,7 +40,8 @@ fn fill(gone: &mut Gone, came: &Newcomers, ports: u16) -> bool
 /// each of them is in `gone` at the place of its output.
 pub fn go_straight(queues: &Queues, came: &Newcomers, gone: &mut Gone) -> bool
     requires { (i : ℕ) (c : OfCell) → came_to came.now i ≡ Some c → c.cell.output < length queues.now.inputs }
-    ensures { IsTrue result → GoStraight queues.now came.now (take (length queues.now.inputs) gone.new) }
+    ensures goes { IsTrue result ↔ CanGoStraight queues.now came.now }
+    ensures sent { IsTrue result → GoStraight queues.now came.now (take (length queues.now.inputs) gone.new) }
 {
     queues.are_empty() && fill(gone, came, queues.ports())
 }
