@@ -32,7 +32,8 @@ use Rattle.cq_laws.specs.Phases.{Arrives, came_to}
 use Rattle.cq_laws.specs.Records.{transfers_in}
 use Rattle.cq_fabric.specs.Held.{HoldsFabric}
 use Rattle.cq_fabric.specs.Queues.{CanCross, ComeApart, FitLists, Queues, fabric_of}
-use Rattle.cq_fabric.proofs.Known.{AreRanked, BuffersHaveRoom, HaveArrived, HaveJudged, HaveMoved, HaveReleased, HaveSent, ListsHaveRoom}
+use Rattle.cq_fabric.specs.Released.{HasReleased}
+use Rattle.cq_fabric.proofs.Known.{AreRanked, BuffersHaveRoom, HaveArrived, HaveJudged, HaveMoved, HaveSent, ListsHaveRoom}
 use Rattle.cq_fabric.proofs.Limits.{admits_are, admitted_room, numbers_fit, still_holds}
 use Rattle.cq_fabric.proofs.Slot.{alike as sends_alike, arrive as slot_arrives, can_cross_first, can_cross_second, come_apart, depart as slot_departs, few_cross, fill as slot_fills, fits_lists, held_before, is_slot, recorded}
 use Rattle.cq_ideal.proofs.Sending.{length-told}
@@ -301,7 +302,7 @@ module _ {ms : List Machine} {slot : ℕ} {cells : List (Option Cell)} {lines : 
               second_of_phase = subst (λ (n : ℕ). AreOfPhase n slot 2 second) (sym second_long) parted2.of_phase
 
               module _ {q4 : Queues} (crossed2 : HaveCrossed slot 2 second q3 q4) {after : LimiterView}
-                  (released : HaveReleased (fronts q2.buffers) judged after) where
+                  (released : HasReleased (fronts q2.buffers) judged after) where
                 moved2 : HaveMoved crossed2.pairs q3 q4
                 moved2 = record { stable = crossed2.told.stable; moves = crossed2.moves }
 

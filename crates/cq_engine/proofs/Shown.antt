@@ -10,12 +10,13 @@ use Rattle.cq_rank.specs.Switch.{class_count}
 use Rattle.cq_ideal.specs.declared.refused.Refused.{Refused}
 use Rattle.cq_ideal.specs.Admission.{admitted}
 use Rattle.cq_ideal.specs.Ideal.{count_for}
-use Rattle.cq_ideal.specs.Limiter.{CanCount, ComeToPorts, LimiterView}
+use Rattle.cq_ideal.specs.Limiter.{CanCount, LimiterView}
+use Rattle.cq_ideal.specs.Taking.{CanTakeIn}
 use Rattle.cq_ideal.specs.Ranking.{AreForPorts, ranking}
 use Rattle.cq_ideal.proofs.Admitted.{admitted_arrives, admitted_for_ports}
 use Rattle.cq_prefs.specs.FirstCells.{list_of}
 use Rattle.cq_fabric.specs.Queues.{Queues, fabric_of}
-use Rattle.cq_fabric.proofs.Limits.{admitted_room, numbers_fit as held_numbers_fit}
+use Rattle.cq_fabric.proofs.Limits.{admitted_room, numbers_fit}
 use Rattle.cq_fabric.proofs.Known.{AreRanked, BuffersHaveRoom, ListsHaveRoom}
 use Rattle.cq_engine.specs.Engine.{EngineView, HaveBufferRoom, HaveListRoom, IsRunning, ports_of}
 use Rattle.cq_engine.specs.declared.measure.Look.{Look}
@@ -88,30 +89,17 @@ module _ {ms : List Machine} {slot : ℕ} {cells : List (Option Cell)} {q : Queu
   pub ports_are : length l.limits ≡ length ms
   ports_are = known.running.holds.ports ∙ known.running.in_step.ports
 
-  pub few : length l.limits ≤ 64
-  few = let few = known.running.in_step.machines.few in let ports = ports_are in omega arith
-
-  pub come_to_ports : ComeToPorts (length l.limits) cells
-  come_to_ports =
-      let ports = ports_are in
-      record {
-        inputs = λ input cell at. let lt = known.come.inputs input cell at in omega arith;
-        outputs = λ input cell at. let lt = known.come.outputs input cell at in omega arith;
-      }
-
-  -- the numbers of cells that outputs hold stay below 2^64
-  pub numbers_fit : ((j : ℕ) → length (list_of q.buffers j) ≤ get_or q.to_outputs j 0) →
-      ((j : ℕ) → get_or q.to_outputs j 0 < 2 ^ 64) → (j : ℕ) → j < length l.limits →
-      get_or l.held j 0 + count_for j cells < 2 ^ 64
-  numbers_fit =
-      held_numbers_fit q states l cells known.running.holds
-      (λ j inside. known.buffer_room j (let ports = known.running.in_step.ports in omega arith))
-
-  pub can_count : (now : LimiterView) → now.limits ≡ l.limits → now.refused ≡ l.refused →
-      CanCount (length now.limits) now.refused
-  can_count now limits refused =
-      subst (λ (r : List Refused). CanCount (length now.limits) r) (sym refused)
-      (subst (λ (n : ℕ). CanCount n l.refused) (sym (ap length limits)) known.refused)
+  -- its arrivals can be taken in: the numbers of cells that outputs hold stay below 2^64
+  pub can_take_in : ((j : ℕ) → length (list_of q.buffers j) ≤ get_or q.to_outputs j 0) →
+      ((j : ℕ) → get_or q.to_outputs j 0 < 2 ^ 64) → CanTakeIn ms cells l
+  can_take_in within fits = record {
+    machines = known.running.in_step.machines;
+    ports = ports_are;
+    arrivals = known.come;
+    held = numbers_fit q states l cells known.running.holds
+        (λ j inside. known.buffer_room j (let ports = known.running.in_step.ports in omega arith)) within fits;
+    refused = known.refused;
+  }
 
   -- ## What is admitted by some marks
 

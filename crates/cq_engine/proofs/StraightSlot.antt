@@ -31,6 +31,7 @@ use Rattle.cq_prefs.specs.Moves.{Moves, list_taken, noted, transfers_of}
 use Rattle.cq_prefs.specs.Orders.{outputs_of, ports, IsListed}
 use Rattle.cq_prefs.specs.Pairing.{Partners, partner_of, partner_place, depth, spent, proposals, IsFreeOutput, IsInputBest, IsStable}
 use Rattle.cq_prefs.proofs.Members.{among, place_head}
+use Rattle.cq_xbar.proofs.Noting.{kept_more}
 use Rattle.cq_laws.specs.Fabric.{Fabric, cushion_of}
 use Rattle.cq_laws.specs.Measures.{either_by, slacks}
 use Rattle.cq_laws.specs.Phases.{came_to, list_arrived}
@@ -174,27 +175,10 @@ rests_alone buffers gone long empty =
 
 -- ## What is noted, input by input
 
-range_more : (a n : ℕ) → range_with_len a (suc n) ≡ range_with_len a n ++ (a + n) ∷ []
-range_more a zero = let e : a ≡ a + 0 = omega arith in ap (λ k. k ∷ []) e
-range_more a (suc n) =
-    let e : a + 1 + n ≡ a + suc n = omega arith in
-    ap (λ l. a ∷ l) (range_more (a + 1) n ∙ ap (λ k. range_with_len (a + 1) n ++ k ∷ []) e)
-
-one_or_none : {X : Type 0} (o : Option X) → cons_option o [] ≡ option_to_list o
-one_or_none None = refl
-one_or_none (Some x) = refl
-
 crossings_more : (slot n : ℕ) (came : List (Option Queued)) →
     crossings slot (n + 1) came ≡ crossings slot n came ++ option_to_list (crossing slot n (came_to came n))
 unfolding crossings
-crossings_more slot n came =
-    let f : ℕ → Option Transfer = λ i. crossing slot i (came_to came i) in
-    let next : n + 1 ≡ suc n = omega arith in
-    let last : 0 + n ≡ n = omega arith in
-    ap (λ k. filter_map f (range_with_len 0 k)) next
-    ∙ ap (filter_map f) (range_more 0 n ∙ ap (λ k. range_with_len 0 n ++ k ∷ []) last)
-    ∙ filter_map-append f (range_with_len 0 n) (n ∷ [])
-    ∙ ap (λ l. filter_map f (range_with_len 0 n) ++ l) (one_or_none (f n))
+crossings_more slot n came = kept_more (λ i. crossing slot i (came_to came i)) n
 
 pub crossings_none : (slot : ℕ) (came : List (Option Queued)) → crossings slot 0 came ≡ []
 unfolding crossings

@@ -3,10 +3,17 @@
 use Rattle.std.specs.Prelude.{ℕ, ◌≡◌, ◌≤◌, ◌+◌, ◌*◌, ◌++◌, length}
 use Rattle.cq_base.specs.declared.cell.Transfer.{Transfer}
 use Rattle.cq_base.specs.Room.{RoomView}
-use Rattle.cq_fabric.specs.Queues.{Queues}
+use Rattle.cq_engine.specs.Engine.{AreWorkers}
+use Rattle.cq_fabric.specs.Queues.{CanCross, Queues}
 use Rattle.cq_prefs.specs.FirstCells.{orders_of}
 use Rattle.cq_prefs.specs.Moves.{Moves, transfers_of}
 use Rattle.cq_prefs.specs.Pairing.{IsInputBest, Partners, proposals}
+
+-- so many workers can find a matching of these queues, and it can be transferred and noted
+pub record CanBeCrossed (count : ℕ) (q : Queues) (note : RoomView Transfer) : Type 0 where
+  pub workers : AreWorkers count
+  pub cells : CanCross q
+  pub room : length q.inputs ≤ note.spare
 
 -- the input-best matching of the lists was transferred and noted, after so many proposals
 pub record HasCrossed (slot phase : ℕ) (q q' : Queues) (note note' : RoomView Transfer) (made : ℕ) : Type 0 where

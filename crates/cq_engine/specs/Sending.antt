@@ -21,7 +21,6 @@ use Rattle.cq_engine.specs.Measuring.{output_counted}
 pub record CanSend (slot : ℕ) (gone : List (Option Queued)) (ranks : RanksView) (limiter : LimiterView) (x : Figures)
     (room : RoomView Departure) : Type 0 where
   pub early : slot < 2 ^ 64 - 1
-  pub few : length gone ≤ 64
   pub machines : length ranks.fixed ≡ length gone
   pub states : length ranks.states ≡ length ranks.fixed
   pub held : length limiter.held ≡ length gone

@@ -67,7 +67,8 @@ pub fn leave<R: Rank>(
     slot: Slot,
     sent: &mut Room<Departure>,
 )
-    requires { CanSend slot gone.now ranks.old limiter.old figures.old sent.old }
+    requires few { length gone.now ≤ 64 }
+    requires send { CanSend slot gone.now ranks.old limiter.old figures.old sent.old }
     ensures sent { EachHasSent (map R.machine ranks.old.fixed) slot gone.now ranks.old ranks.new limiter.old limiter.new
         figures.old figures.new sent.old sent.new }
     ensures input_figures { figures.new.inputs ≡ figures.old.inputs }

@@ -18,7 +18,7 @@ use cq_base::{
 };
 use cq_crew::Gate;
 use cq_fabric::{Gone, Queues};
-use cq_ideal::{Limiter, Newcomers, Ranks, Refused};
+use cq_ideal::{Limiter, Newcomers, Ranks, Refused, take_in};
 use cq_laws::Frozen;
 use cq_pair::Core;
 use cq_rank::Rank;
@@ -270,15 +270,19 @@ impl<R: Rank> Engine<R> {
         ensures stays { OnErr result (HasStopped self.old self.new sent.old sent.new note.old note.new) }
     {
         let ports = self.queues.ports();
-        self.limiter.judge(arrivals);
-        if let Err(fault) = self
-            .ranks
-            .take(slot, arrivals, &self.limiter, &mut self.came)
-        {
+        if let Err(fault) = take_in(
+            &mut self.ranks,
+            &mut self.limiter,
+            &mut self.came,
+            slot,
+            arrivals,
+        ) {
             self.stopped = true;
             return Err(fault);
         }
-        self.limiter.count(arrivals);
+        let look = self.look;
+        self.look = Look::Arriving;
+        self.next = slot + 1;
         if go_straight(&self.queues, &self.came, &mut self.gone) {
             let crossed = pass(
                 &mut self.ranks,
@@ -291,18 +295,10 @@ impl<R: Rank> Engine<R> {
                 note,
             );
             count_proposals(&mut self.figures, crossed, 0);
-            self.look = Look::Arriving;
-            self.next = slot + 1;
             return Ok(());
         }
         self.queues.arrive(&self.came);
-        count_inputs(
-            self.look,
-            &mut self.figures.inputs,
-            &self.queues,
-            &self.came,
-        );
-        self.look = Look::Arriving;
+        count_inputs(look, &mut self.figures.inputs, &self.queues, &self.came);
         let workers = self.workers;
         let core = &mut self.core;
         let queues = &mut self.queues;
@@ -320,7 +316,6 @@ impl<R: Rank> Engine<R> {
         let queues = &mut self.queues;
         let second = cross(core, queues, rt, alloc, workers, slot, 2, gate, note);
         count_proposals(&mut self.figures, first, second);
-        self.next = slot + 1;
         Ok(())
     }
 

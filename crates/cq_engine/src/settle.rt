@@ -1,7 +1,6 @@
 //! Finding the matching of a phase, and transferring it.
-ghost use Rattle.std.specs.Prelude.{◌≡◌, ◌↔◌, ◌≤◌, ℕ, [], IsTrue, length};
-ghost use Rattle.cq_engine.specs.Crossing.{HasCrossed};
-ghost use Rattle.cq_fabric.specs.Queues.{CanCross};
+ghost use Rattle.std.specs.Prelude.{◌≡◌, ◌↔◌, ℕ, [], IsTrue};
+ghost use Rattle.cq_engine.specs.Crossing.{CanBeCrossed, HasCrossed};
 ghost use Rattle.cq_prefs.specs.Orders.{outputs_of};
 
 use cq_base::{Room, Slot, Transfer};
@@ -38,10 +37,7 @@ pub fn cross<T: Threads + Sync, G: Gate>(
     gate: &G,
     note: &mut Room<Transfer>,
 ) -> u64
-    requires some { 1 ≤ workers }
-    requires few { workers ≤ 64 }
-    requires cells { CanCross queues.old }
-    requires note { length queues.old.inputs ≤ note.old.spare }
+    requires can { CanBeCrossed workers queues.old note.old }
     ensures { HasCrossed slot phase queues.old queues.new note.old note.new result }
 {
     if nothing_offered(queues.offers()) {
@@ -67,10 +63,7 @@ fn cross_shared<T: Threads + Sync, G: Gate>(
     gate: &G,
     note: &mut Room<Transfer>,
 ) -> u64
-    requires some { 1 ≤ workers }
-    requires few { workers ≤ 64 }
-    requires cells { CanCross queues.old }
-    requires note { length queues.old.inputs ≤ note.old.spare }
+    requires can { CanBeCrossed workers queues.old note.old }
     ensures { HasCrossed slot phase queues.old queues.new note.old note.new result }
 {
     let settled = pair_phase(rt, alloc, queues.offers(), workers, gate).phase();

@@ -105,6 +105,7 @@ pub fn pass<R: Rank>(
     sent: &mut Room<Departure>,
     note: &mut Room<Transfer>,
 ) -> u64
+    requires few { length gone.now ≤ 64 }
     requires send { CanSend slot gone.now ranks.old limiter.old figures.old sent.old }
     requires note { length gone.now ≤ note.old.spare }
     requires inputs { length figures.old.inputs ≡ length gone.now }

@@ -1,6 +1,6 @@
 -- What is known of a slot, call by call. Its cells come and have their keys. They stand in the lists of their inputs.
 -- The pairs of a stable matching cross. The outputs send, and the machines are told. A limiter counts what came for
--- each output, and what that sent. Each of these is a record over what stood there before and what stands there
+-- each output. Each of these is a record over what stood there before and what stands there
 -- after, so that a lemma on a slot takes one argument for each call.
 use Rattle.std.proofs.Common.{◌≡◌, ℕ, ◌+◌, ◌-◌, ◌<◌, ◌≤◌, List, [], length, get_or, Option, Some, Ok}
 use Rattle.std.specs.Prelude.{if◌then◌else◌, is_some}
@@ -73,9 +73,3 @@ pub record HaveJudged (cells : List (Option Cell)) (before judged : LimiterView)
   pub limits : judged.limits ≡ before.limits
   pub as_many : length judged.held ≡ length before.limits
   pub more : (j : ℕ) → j < length before.limits → get_or judged.held j 0 ≡ get_or before.held j 0 + count_for j cells
-
--- each output holds the cell that it sent no longer
-pub record HaveReleased (gone : List (Option Queued)) (judged after : LimiterView) : Type 0 where
-  pub limits : after.limits ≡ judged.limits
-  pub as_many : length after.held ≡ length judged.held
-  pub less : (j : ℕ) → get_or after.held j 0 + bit (came_to gone j) ≡ get_or judged.held j 0

@@ -26,7 +26,8 @@ use Rattle.cq_laws.proofs.Held.{hold_as_many}
 use Rattle.cq_prefs.specs.FirstCells.{list_of}
 use Rattle.cq_fabric.specs.Held.{HoldsFabric}
 use Rattle.cq_fabric.specs.Queues.{Queues, fabric_of}
-use Rattle.cq_fabric.proofs.Known.{AreRanked, BuffersHaveRoom, HaveJudged, HaveReleased, bit}
+use Rattle.cq_fabric.specs.Released.{HasReleased}
+use Rattle.cq_fabric.proofs.Known.{AreRanked, BuffersHaveRoom, HaveJudged, bit}
 
 pub held_long : (f : Fabric) → length (fabric_held f) ≡ length f.inputs
 unfolding fabric_held
@@ -189,7 +190,7 @@ module _ {ms : List Machine} {slot : ℕ} {q : Queues} {ranks : List (List ℕ)}
   -- the outputs hold what the fabric has at the end of the slot
   pub still_holds : (gone : List (Option Queued)) (g : Fabric) (before judged after : LimiterView) →
       SendsAlike ms slot cells known.ideal gone g → HoldsFabric (fabric_of q ranks) before →
-      HaveJudged cells before judged → HaveReleased gone judged after → HoldsFabric g after
+      HaveJudged cells before judged → HasReleased gone judged after → HoldsFabric g after
   unfolding full
   still_holds gone g before judged after alike holds judges releases =
       let ranked : Ranking = record { came = came; ranks = ranks' } in
@@ -199,10 +200,10 @@ module _ {ms : List Machine} {slot : ℕ} {q : Queues} {ranks : List (List ℕ)}
       (holds_ideal slot (fabric_of q ranks) known.ideal before known.agrees holds) refl judges.limits judges.as_many
       judges.more (came_for ms slot cells ranks ranked known.ranked) in
       let left : HoldsLists (rests full) after =
-      holds_rests full judged after now releases.limits releases.as_many
+      holds_rests full judged after now releases.limits releases.ports
       (λ j.
       let e = ap (λ (l : List (Option Queued)). bit (came_to l j)) sends.0 in
-      let n = releases.less j in
+      let n = releases.held j in
       omega arith) in
       holds_fabric (slot + 1) g alike.next after alike.agrees
       (subst (λ (l : List (List Queued)). HoldsLists l after) sends.1 left)

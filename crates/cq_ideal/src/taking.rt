@@ -10,8 +10,8 @@ use crate::ranks::Ranks;
 use cq_base::{Arrivals, Slot, TagFault};
 use cq_rank::Rank;
 
-/// The arrivals of a slot are judged. Those that are admitted are ranked in order of input, and put into `came` in place
-/// of what stood there, and those that are refused are counted.
+/// The arrivals of a slot are judged. Those that are admitted are ranked in order of input, and put into `came` in
+/// place of what stood there, and those that are refused are counted.
 ///
 /// The error is the first rank, in order of input, that does not fit 128 bits. Then nothing is counted.
 pub fn take_in<R: Rank>(

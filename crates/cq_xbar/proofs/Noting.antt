@@ -31,15 +31,20 @@ one_or_none : {X : Type 0} (o : Option X) → cons_option o [] ≡ option_to_lis
 one_or_none None = refl
 one_or_none (Some x) = refl
 
+-- what is kept of one number more
+pub kept_more : {X : Type 0} (f : ℕ → Option X) (n : ℕ) →
+    filter_map f (range_with_len 0 (n + 1)) ≡ filter_map f (range_with_len 0 n) ++ option_to_list (f n)
+kept_more f n =
+    ap (filter_map f) (range_next n)
+    ∙ filter_map-append f (range_with_len 0 n) (n ∷ [])
+    ∙ ap (λ l. filter_map f (range_with_len 0 n) ++ l) (one_or_none (f n))
+
 noted_more : (m : Partners) (lists : List (List Queued)) (slot phase n : ℕ) →
     noted_until m lists slot phase (n + 1)
     ≡ noted_until m lists slot phase n ++ option_to_list (noted slot phase n (list_of lists n) (partner_of m n))
 unfolding noted_until
 noted_more m lists slot phase n =
-    let f : ℕ → Option Transfer = λ i. noted slot phase i (list_of lists i) (partner_of m i) in
-    ap (filter_map f) (range_next n)
-    ∙ filter_map-append f (range_with_len 0 n) (n ∷ [])
-    ∙ ap (λ l. filter_map f (range_with_len 0 n) ++ l) (one_or_none (f n))
+    kept_more (λ i. noted slot phase i (list_of lists i) (partner_of m i)) n
 
 -- an input without a partner has none
 pub noted_past : (m : Partners) (lists : List (List Queued)) (slot phase n : ℕ) → partner_of m n ≡ None →

@@ -9,6 +9,6 @@ fn nothing_waits_and_nothing_leaves_at_first(rt: HostRuntime) -> Result<(), Fail
     assert_eq!(rt; (queues.lists().len(), queues.offers().ports()), (2, 2));
     let mut gone = Gone::none();
     queues.depart(&mut gone);
-    assert!(rt; gone.of_outputs(2).iter().all(|queued| queued.is_none()));
+    assert!(rt; gone.of_outputs(64).iter().all(|queued| queued.is_none()));
     Ok(())
 }

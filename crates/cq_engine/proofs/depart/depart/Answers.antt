@@ -1,5 +1,6 @@
-use Rattle.std.proofs.Common.{◌≡◌, List, Option, take, sym, ap, ◌∙◌, subst}
-use Rattle.std.specs.Prelude.{map}
+use Rattle.std.proofs.Common.{◌≡◌, List, Option, length, take, sym, ap, ◌∙◌, subst, arith}
+use Rattle.std.specs.Prelude.{map, slice_get}
+use Rattle.std.proofs.lemmas.List.{length-map}
 use Rattle.cq_base.specs.declared.cell.Queued.{Queued}
 use Rattle.cq_ideal.specs.IdealSlot.{fronts}
 use Rattle.cq_engine.specs.Sending.{CanSend, EachHasSent}
@@ -12,9 +13,18 @@ sent : (g : given.Over) (c : After-of_outputs-gone g) → c.of_outputs-gone.resu
 sent g c =
     c.of_outputs-gone.ensures ∙ ap (λ n. take n c.depart.new.gone) c.ports-ports.ensures.value ∙ c.depart.ensures.gone
 
-pub leave-requires : goal.leave-requires
-leave-requires g c =
-    let at = goal.at.leave-requires g c in
+pub leave-requires-clause-few : goal.leave-requires-clause-few
+leave-requires-clause-few g c =
+    let at = goal.at.leave-requires-clause-few g c in
+    let few = c.ports-ports.ensures.few in
+    let long = ap length (sent g at.After-of_outputs-gone) in
+    let as_many = length-map c.args.queues.now.buffers (λ (cells : List Queued). slice_get cells 0) in
+    let square = c.ports-ports.ensures.buffers in
+    omega arith
+
+pub leave-requires-clause-send : goal.leave-requires-clause-send
+leave-requires-clause-send g c =
+    let at = goal.at.leave-requires-clause-send g c in
     subst
     (λ (gone : List (Option Queued)). CanSend c.args.slot gone c.args.ranks.now c.args.limiter.now c.args.figures.now
     c.args.sent.now)

@@ -5,7 +5,8 @@ use Rattle.cq_rank.specs.Switch.{class_count}
 use Rattle.cq_ideal.specs.IdealSlot.{all_told, fronts}
 use Rattle.cq_ideal.specs.Ranking.{AreForPorts}
 use Rattle.cq_laws.specs.Phases.{came_to}
-use Rattle.cq_fabric.proofs.Known.{HaveArrived, HaveReleased, HaveSent, bit}
+use Rattle.cq_fabric.specs.Released.{HasReleased}
+use Rattle.cq_fabric.proofs.Known.{HaveArrived, HaveSent}
 use Rattle.cq_audit.specs.Log.{AreInOrder}
 use Rattle.cq_audit.specs.Phase.{AreParted}
 use Rattle.cq_audit.specs.Replay.{IsFirstFault, IsSecondFault, ReplayView, SlotReplayed}
@@ -93,17 +94,9 @@ sent g c left =
 -- and hold it no longer
 released : (g : given.Over) (c : After-release g) →
     c.of_outputs-gone.result.now ≡ fronts c.cross.new.queues.buffers →
-    HaveReleased (fronts c.cross.new.queues.buffers) c.judge.new.self c.release.new.limiter
+    HasReleased (fronts c.cross.new.queues.buffers) c.judge.new.self c.release.new.limiter
 released g c left =
-    let held = c.release.new.limiter.held in
-    let was = c.judge.new.self.held in
-    record {
-      limits = c.release.ensures.limits;
-      as_many = c.release.ensures.ports;
-      less =
-          subst (λ (l : List (Option Queued)). (j : ℕ) → get_or held j 0 + bit (came_to l j) ≡ get_or was j 0)
-          left c.release.ensures.held;
-    }
+    subst (λ (l : List (Option Queued)). HasReleased l c.judge.new.self c.release.new.limiter) left c.release.ensures
 
 -- and the lines of the second phase are found
 parted_again : (g : given.Over) (c : After-part-2 g) →

@@ -14,20 +14,21 @@ use Rattle.cq_prefs.specs.Moves.{transfers_of}
 use Rattle.cq_laws.specs.Phases.{came_to}
 use Rattle.cq_fabric.specs.Held.{HoldsFabric}
 use Rattle.cq_fabric.specs.Queues.{fabric_of}
-use Rattle.cq_fabric.proofs.Known.{AreRanked, HaveArrived, HaveJudged, HaveReleased, HaveSent}
+use Rattle.cq_fabric.proofs.Known.{AreRanked, HaveArrived, HaveJudged, HaveSent}
 use Rattle.cq_fabric.proofs.Limits.{admits_are, still_holds}
 use Rattle.cq_fabric.proofs.Slot.{came_newest, came_outputs, can_cross_first, can_cross_second, come_apart, few_cross, fits_lists, held_before}
 use Rattle.cq_ideal.proofs.Sending.{length-told}
+use Rattle.cq_engine.specs.Crossing.{CanBeCrossed}
 use Rattle.cq_engine.specs.Engine.{EngineView, IsRunning, SlotDone, answer_to, its_admission}
 use Rattle.cq_engine.specs.Sending.{CanSend}
 use Rattle.cq_engine.specs.Straight.{GoStraight, crossings}
 use Rattle.cq_engine.specs.declared.measure.Look.TheVariants.{Arriving}
-use Rattle.cq_engine.proofs.Shown.{Begun, begun, buffers_room, can_count, come_to_ports, few, lists_room, numbers_fit, ports_are, ranked, seen}
+use Rattle.cq_engine.proofs.Shown.{Begun, begun, buffers_room, can_take_in, lists_room, ports_are, ranked, seen}
 use Rattle.cq_engine.proofs.Slot.{HaveCrossed, Whole, moved_of, whole_slot}
 use Rattle.cq_engine.proofs.StraightSlot.{at_most_square, crossings_few, held_straight, whole_straight}
 use Rattle.cq_engine.proofs.engine.Engine.slot.Given as given
 use Rattle.cq_engine.proofs.engine.Engine.slot.Goals as goal
-use Rattle.cq_engine.proofs.engine.Engine.slot.Goals.{After-arrive, After-count, After-cross-first, After-cross-second, After-depart, After-judge, After-of_outputs, After-pass-crossed, After-self, In_default}
+use Rattle.cq_engine.proofs.engine.Engine.slot.Goals.{After-arrive, After-cross-first, After-cross-second, After-depart, After-take_in, After-of_outputs, After-pass-crossed, After-self, In_default}
 
 -- ## What is known, call by call
 
@@ -48,11 +49,17 @@ known g c =
       refused = c.requires.ready.refused;
     })
 
+-- clauses see as many machines as there are inputs
+ports_seen : (g : given.Over) (c : After-self g) → length c.self.inside.queues.inputs ≡ length c.args.self.now.fixed
+ports_seen g c =
+    (known g c).running.in_step.ports ∙ length-map c.self.inside.ranks.fixed g.R.Rank.machine
+    ∙ ap (λ (v : EngineView). length v.fixed) c.self.view_is
+
 -- what the machines are asked to rank is what the fabric admits
-asks : (g : given.Over) (c : After-judge g) →
+asks : (g : given.Over) (c : After-take_in g) →
     HoldsFabric (fabric_of c.self.inside.queues c.self.inside.ranks.states) c.self.inside.limiter →
     ranking (map g.R.Rank.machine c.self.inside.ranks.fixed) c.args.slot 0
-    (admitted c.judge.new.self.marks c.args.arrivals.now) c.self.inside.ranks.states
+    (admitted c.take_in.new.limiter.marks c.args.arrivals.now) c.self.inside.ranks.states
     ≡ ranking (map g.R.Rank.machine c.args.self.now.fixed) c.args.slot 0
     (its_admission c.args.arrivals.now c.args.self.now).cells c.args.self.now.fabric.ranks
 asks g c holds =
@@ -60,8 +67,8 @@ asks g c holds =
     let M = g.R.Rank.machine in
     let cells = c.args.arrivals.now in
     ap (λ (a : Admission). ranking (map M e.ranks.fixed) c.args.slot 0 a.cells e.ranks.states)
-    (admits_are e.limiter (fabric_of e.queues e.ranks.states) cells c.judge.new.self.marks holds
-    c.judge.ensures.marks)
+    (admits_are e.limiter (fabric_of e.queues e.ranks.states) cells c.take_in.new.limiter.marks holds
+    c.take_in.ensures.judged.marks)
     ∙ ap (λ (v : EngineView). ranking (map M v.fixed) c.args.slot 0 (its_admission cells v).cells v.fabric.ranks)
     c.self.view_is
 
@@ -70,14 +77,14 @@ taken : (g : given.Over) (c : In_default g) →
     Begun (map g.R.Rank.machine c.self.inside.ranks.fixed) c.args.slot c.args.arrivals.now c.self.inside.queues
     c.self.inside.ranks.states c.self.inside.limiter c.self.inside.look c.self.inside.figures →
     AreRanked (map g.R.Rank.machine c.self.inside.ranks.fixed) c.args.slot c.self.inside.queues
-    c.self.inside.ranks.states (admitted c.judge.new.self.marks c.args.arrivals.now)
-    (class_count (map g.R.Rank.machine c.self.inside.ranks.fixed)) c.take.new.came c.take.new.self.states
+    c.self.inside.ranks.states (admitted c.take_in.new.limiter.marks c.args.arrivals.now)
+    (class_count (map g.R.Rank.machine c.self.inside.ranks.fixed)) c.take_in.new.came c.take_in.new.ranks.states
 taken g c begins =
-    ranked begins c.judge.new.self.marks c.take.new.came c.take.new.self.states c.in_default.ensures.came
+    ranked begins c.take_in.new.limiter.marks c.take_in.new.came c.take_in.new.ranks.states c.in_default.ensures.taken.ranked
 
 -- once it has arrived
 arrived : (g : given.Over) (c : After-arrive g) →
-    HaveArrived c.self.inside.queues c.take.new.came c.arrive.new.self
+    HaveArrived c.self.inside.queues c.take_in.new.came c.arrive.new.self
 arrived g c =
     record {
       ports = c.arrive.ensures.ports;
@@ -87,24 +94,20 @@ arrived g c =
     }
 
 -- what each output holds then
-judged : (g : given.Over) (c : After-count g) →
-    HaveJudged (admitted c.judge.new.self.marks c.args.arrivals.now) c.self.inside.limiter c.count.new.self
+judged : (g : given.Over) (c : After-take_in g) →
+    HaveJudged (admitted c.take_in.new.limiter.marks c.args.arrivals.now) c.self.inside.limiter c.take_in.new.limiter
 judged g c =
-    let was = c.judge.ensures in
-    record {
-      limits = c.count.ensures.limits ∙ was.limits;
-      as_many = ap length c.count.ensures.held ∙ was.ports.held ∙ ap length was.limits;
-      more = λ j inside. ap (λ (h : List ℕ). get_or h j 0) c.count.ensures.held ∙ was.held j inside;
-    }
+    let was = c.take_in.ensures.judged in
+    record { limits = was.limits; as_many = was.ports.held ∙ ap length was.limits; more = was.held }
 
 -- these cells can be sent, if each output that sends one holds a cell
-can_send : (g : given.Over) (c : After-count g) →
+can_send : (g : given.Over) (c : After-take_in g) →
     Begun (map g.R.Rank.machine c.self.inside.ranks.fixed) c.args.slot c.args.arrivals.now c.self.inside.queues
     c.self.inside.ranks.states c.self.inside.limiter c.self.inside.look c.self.inside.figures →
     (gone : List (Option Queued)) → length gone ≡ length c.self.inside.queues.inputs → {x : Figures} →
     x.outputs ≡ c.self.inside.figures.outputs →
-    ((j : ℕ) → IfSome (came_to gone j) (λ _. 0 < get_or c.count.new.self.held j 0)) →
-    CanSend c.args.slot gone c.take.new.self c.count.new.self x c.args.sent.now
+    ((j : ℕ) → IfSome (came_to gone j) (λ _. 0 < get_or c.take_in.new.limiter.held j 0)) →
+    CanSend c.args.slot gone c.take_in.new.ranks c.take_in.new.limiter x c.args.sent.now
 can_send g c begins gone long {x} outputs holds =
     let up = begins.running.in_step in
     let ports = up.ports in
@@ -112,15 +115,13 @@ can_send g c begins gone long {x} outputs holds =
     let held = (judged g c).as_many in
     let limits = ports_are begins in
     let looks = ap (λ (v : EngineView). length v.fixed) c.self.view_is in
-    let fixed = ap length c.take.ensures.fixed in
-    let states = c.take.ensures.many in
+    let fixed = ap length c.take_in.ensures.fixed in
+    let states = c.take_in.ensures.many in
     let ranks = begins.running.ranks in
     let room = c.requires.ready.sent_room in
-    let few = up.machines.few in
     let early = c.requires.early in
     record {
       early = early;
-      few = omega arith;
       machines = omega arith;
       states = omega arith;
       held = omega arith;
@@ -144,7 +145,7 @@ crossed g c =
 
 -- once the outputs have sent, and the machines are told
 sent : (g : given.Over) (c : After-depart g) →
-    HaveSent (map g.R.Rank.machine c.self.inside.ranks.fixed) c.arrive.new.self c.take.new.self.states
+    HaveSent (map g.R.Rank.machine c.self.inside.ranks.fixed) c.arrive.new.self c.take_in.new.ranks.states
     c.cross-first.new.queues c.depart.new.ranks.states c.depart.new.queues
 sent g c =
     let gone = fronts c.cross-first.new.queues.buffers in
@@ -153,16 +154,10 @@ sent g c =
       buffers = c.depart.ensures.buffers;
       told =
           c.depart.ensures.sent.told
-          ∙ ap (λ (fixed : List (List ℕ)). all_told (map g.R.Rank.machine fixed) gone c.take.new.self.states)
-          c.take.ensures.fixed;
+          ∙ ap (λ (fixed : List (List ℕ)). all_told (map g.R.Rank.machine fixed) gone c.take_in.new.ranks.states)
+          c.take_in.ensures.fixed;
       to_outputs = c.depart.ensures.to_outputs ∙ c.cross-first.ensures.to_outputs;
     }
-
--- and what each output holds then
-released : (g : given.Over) (c : After-depart g) →
-    HaveReleased (fronts c.cross-first.new.queues.buffers) c.count.new.self c.depart.new.limiter
-released g c =
-    let did = c.depart.ensures.sent.released in record { limits = did.limits; as_many = did.ports; less = did.held }
 
 -- once the second matching has crossed too
 crossed_again : (g : given.Over) (c : After-cross-second g) →
@@ -176,9 +171,9 @@ crossed_again g c =
     }
 
 -- all that the slot comes to
-whole : (g : given.Over) (c : goal.After-self-3-1 g) →
+whole : (g : given.Over) (c : goal.After-count_proposals-2 g) →
     Whole (map g.R.Rank.machine c.self.inside.ranks.fixed) c.args.slot
-    (admitted c.judge.new.self.marks c.args.arrivals.now) c.self.inside.figures c.count_proposals-2.new.figures
+    (admitted c.take_in.new.limiter.marks c.args.arrivals.now) c.self.inside.figures c.count_proposals-2.new.figures
     (fabric_of c.self.inside.queues c.self.inside.ranks.states)
     (fabric_of c.cross-second.new.queues c.depart.new.ranks.states)
     (taken g (goal.at.returns-clause-slot g c).In_default (known g (goal.at.returns-clause-slot g c).After-self)).ideal
@@ -193,7 +188,7 @@ whole g c =
     let left = c.depart.ensures.sent in
     let counted = c.count_proposals-2.ensures in
     whole_slot c.self.inside.figures begins.running.in_step (taken g at.In_default begins) (arrived g at.After-arrive)
-    (buffers_room begins c.judge.new.self.marks) (crossed g at.After-cross-first) (sent g at.After-depart)
+    (buffers_room begins c.take_in.new.limiter.marks) (crossed g at.After-cross-first) (sent g at.After-depart)
     (crossed_again g at.After-cross-second) c.self.inside.look begins.running.seen c.count_proposals-2.new.figures
     (record {
       slots = counted.slots ∙ left.slots;
@@ -207,37 +202,31 @@ whole g c =
 
 -- each cell that came is at the place of its output
 straight : (g : given.Over) (c : After-of_outputs g) →
-    GoStraight c.self.inside.queues c.take.new.came c.of_outputs.result.now
+    GoStraight c.self.inside.queues c.take_in.new.came c.of_outputs.result.now
 straight g c =
     let shown = c.of_outputs.ensures ∙ ap (λ n. take n c.go_straight.new.gone) c.ports-ports.ensures.value in
-    subst (GoStraight c.self.inside.queues c.take.new.came) (sym shown) (c.go_straight.ensures c.if-go_straight.true)
+    subst (GoStraight c.self.inside.queues c.take_in.new.came) (sym shown) (c.go_straight.ensures.sent c.if-go_straight.true)
 
 -- what the machines are told
 told_straight : (g : given.Over) (c : After-pass-crossed g) →
     c.pass-crossed.new.ranks.states
-    ≡ all_told (map g.R.Rank.machine c.self.inside.ranks.fixed) c.of_outputs.result.now c.take.new.self.states
+    ≡ all_told (map g.R.Rank.machine c.self.inside.ranks.fixed) c.of_outputs.result.now c.take_in.new.ranks.states
 told_straight g c =
     c.pass-crossed.ensures.sent.told
     ∙ ap
-    (λ (fixed : List (List ℕ)). all_told (map g.R.Rank.machine fixed) c.of_outputs.result.now c.take.new.self.states)
-    c.take.ensures.fixed
-
-released_straight : (g : given.Over) (c : After-pass-crossed g) →
-    HaveReleased c.of_outputs.result.now c.count.new.self c.pass-crossed.new.limiter
-released_straight g c =
-    let did = c.pass-crossed.ensures.sent.released in
-    record { limits = did.limits; as_many = did.ports; less = did.held }
+    (λ (fixed : List (List ℕ)). all_told (map g.R.Rank.machine fixed) c.of_outputs.result.now c.take_in.new.ranks.states)
+    c.take_in.ensures.fixed
 
 -- no more cells cross than there are ports
 few_proposed : (g : given.Over) (c : After-pass-crossed g) →
     Begun (map g.R.Rank.machine c.self.inside.ranks.fixed) c.args.slot c.args.arrivals.now c.self.inside.queues
     c.self.inside.ranks.states c.self.inside.limiter c.self.inside.look c.self.inside.figures →
-    GoStraight c.self.inside.queues c.take.new.came c.of_outputs.result.now →
+    GoStraight c.self.inside.queues c.take_in.new.came c.of_outputs.result.now →
     c.pass-crossed.new.figures.proposals + (c.pass-crossed.result + 0)
     ≤ c.args.self.now.figures.proposals + 2 * (length c.args.self.now.fixed * length c.args.self.now.fixed)
 few_proposed g c begins is =
     let did = c.pass-crossed.ensures in
-    let few = crossings_few c.args.slot (length c.of_outputs.result.now) c.take.new.came in
+    let few = crossings_few c.args.slot (length c.of_outputs.result.now) c.take_in.new.came in
     let many = did.many in
     let had = did.sent.proposals in
     let was = ap (λ (v : EngineView). v.figures.proposals) c.self.view_is in
@@ -249,24 +238,24 @@ few_proposed g c begins is =
     omega arith
 
 -- all that the slot comes to
-all_straight : (g : given.Over) (c : goal.After-self-then-go_straight-2-1 g) →
+all_straight : (g : given.Over) (c : goal.After-count_proposals g) →
     Whole (map g.R.Rank.machine c.self.inside.ranks.fixed) c.args.slot
-    (admitted c.judge.new.self.marks c.args.arrivals.now) c.self.inside.figures c.count_proposals.new.figures
+    (admitted c.take_in.new.limiter.marks c.args.arrivals.now) c.self.inside.figures c.count_proposals.new.figures
     (fabric_of c.self.inside.queues c.self.inside.ranks.states)
     (fabric_of c.self.inside.queues c.pass-crossed.new.ranks.states)
     (taken g (goal.at.returns-then-go_straight-clause-slot g c).In_default
     (known g (goal.at.returns-then-go_straight-clause-slot g c).After-self)).ideal
-    c.of_outputs.result.now (crossings c.args.slot (length c.self.inside.queues.inputs) c.take.new.came)
+    c.of_outputs.result.now (crossings c.args.slot (length c.self.inside.queues.inputs) c.take_in.new.came)
 all_straight g c =
     let at = goal.at.returns-then-go_straight-clause-slot g c in
     let slot = c.args.slot in
     let x = c.self.inside.figures in
     let begins = known g at.After-self in
-    let marks = c.judge.new.self.marks in
+    let marks = c.take_in.new.limiter.marks in
     let is = straight g at.After-of_outputs in
     let did = c.pass-crossed.ensures in
     let counted = c.count_proposals.ensures in
-    let many = did.many ∙ ap (λ (n : ℕ). length (crossings slot n c.take.new.came)) is.ports in
+    let many = did.many ∙ ap (λ (n : ℕ). length (crossings slot n c.take_in.new.came)) is.ports in
     whole_straight (taken g at.In_default begins) (lists_room begins marks) is (buffers_room begins marks) x
     begins.running.in_step c.self.inside.look begins.running.seen c.pass-crossed.new.ranks.states
     (told_straight g at.After-pass-crossed) c.count_proposals.new.figures
@@ -284,34 +273,10 @@ all_straight g c =
 
 -- ## What the calls ask for
 
-pub judge-requires-clause-few : goal.judge-requires-clause-few
-judge-requires-clause-few g c = few (known g (goal.at.judge-requires-clause-few g c).After-self)
-
-pub judge-requires-clause-arrivals : goal.judge-requires-clause-arrivals
-judge-requires-clause-arrivals g c =
-    come_to_ports (known g (goal.at.judge-requires-clause-arrivals g c).After-self)
-
-pub judge-requires-clause-held : goal.judge-requires-clause-held
-judge-requires-clause-held g c =
-    numbers_fit (known g (goal.at.judge-requires-clause-held g c).After-self) c.ports-ports.ensures.within
+pub take_in-requires : goal.take_in-requires
+take_in-requires g c =
+    can_take_in (known g (goal.at.take_in-requires g c).After-self) c.ports-ports.ensures.within
     c.ports-ports.ensures.rooms
-
-pub take-requires-clause-marks : goal.take-requires-clause-marks
-take-requires-clause-marks g c =
-    let begins = known g (goal.at.take-requires-clause-marks g c).After-self in
-    c.judge.ensures.ports.marks ∙ ap length c.judge.ensures.limits ∙ ports_are begins
-    ∙ length-map c.self.inside.ranks.fixed g.R.Rank.machine
-
-pub count-requires-clause-few : goal.count-requires-clause-few
-count-requires-clause-few g c =
-    let most = few (known g (goal.at.count-requires-clause-few g c).After-self) in
-    let limits = ap length c.judge.ensures.limits in
-    omega arith
-
-pub count-requires-clause-refused : goal.count-requires-clause-refused
-count-requires-clause-refused g c =
-    can_count (known g (goal.at.count-requires-clause-refused g c).After-self) c.judge.new.self
-    c.judge.ensures.limits c.judge.ensures.refused
 
 pub go_straight-requires : goal.go_straight-requires
 go_straight-requires g c =
@@ -322,11 +287,18 @@ pub pass-crossed-requires-clause-send : goal.pass-crossed-requires-clause-send
 pass-crossed-requires-clause-send g c =
     let at = goal.at.pass-crossed-requires-clause-send g c in
     let begins = known g at.After-self in
-    let marks = c.judge.new.self.marks in
+    let marks = c.take_in.new.limiter.marks in
     let is = straight g at.After-of_outputs in
-    can_send g at.After-count begins c.of_outputs.result.now is.ports refl
+    can_send g at.After-take_in begins c.of_outputs.result.now is.ports refl
     (held_straight (taken g at.In_default begins) (lists_room begins marks) is (buffers_room begins marks)
-    begins.running.holds (judged g at.After-count))
+    begins.running.holds (judged g at.After-take_in))
+
+pub pass-crossed-requires-clause-few : goal.pass-crossed-requires-clause-few
+pass-crossed-requires-clause-few g c =
+    let at = goal.at.pass-crossed-requires-clause-few g c in
+    let long = (straight g at.After-of_outputs).ports in
+    let few = c.ports-ports.ensures.few in
+    omega arith
 
 pub count_proposals-requires : goal.count_proposals-requires
 count_proposals-requires g c =
@@ -339,7 +311,7 @@ pub arrive-requires-clause-fit : goal.arrive-requires-clause-fit
 arrive-requires-clause-fit g c =
     let at = goal.at.arrive-requires-clause-fit g c in
     let begins = known g at.After-self in
-    fits_lists (taken g at.In_default begins) (lists_room begins c.judge.new.self.marks)
+    fits_lists (taken g at.In_default begins) (lists_room begins c.take_in.new.limiter.marks)
 
 pub arrive-requires-clause-come : goal.arrive-requires-clause-come
 arrive-requires-clause-come g c =
@@ -357,12 +329,20 @@ count_inputs-requires-clause-newest g c =
     let at = goal.at.count_inputs-requires-clause-newest g c in
     came_newest (taken g at.In_default (known g at.After-self)) (arrived g at.After-arrive)
 
-pub cross-first-requires-clause-cells : goal.cross-first-requires-clause-cells
-cross-first-requires-clause-cells g c =
-    let at = goal.at.cross-first-requires-clause-cells g c in
+pub cross-first-requires-clause-can : goal.cross-first-requires-clause-can
+cross-first-requires-clause-can g c =
+    let at = goal.at.cross-first-requires-clause-can g c in
     let begins = known g at.After-self in
-    let room = buffers_room begins c.judge.new.self.marks in
-    λ _ _. can_cross_first (taken g at.In_default begins) (arrived g at.After-arrive) room
+    let room = c.requires.ready.note_room in
+    let ports = c.arrive.ensures.ports in
+    let looks = ports_seen g at.After-self in
+    let can : CanBeCrossed c.self.inside.workers c.arrive.new.self c.args.note.now = record {
+      workers = c.self.invariant.0;
+      cells = can_cross_first (taken g at.In_default begins) (arrived g at.After-arrive)
+          (buffers_room begins c.take_in.new.limiter.marks);
+      room = omega arith;
+    } in
+    λ _ _. can
 
 pub depart-requires : goal.depart-requires
 depart-requires g c =
@@ -373,34 +353,31 @@ depart-requires g c =
     let moved = c.cross-first.ensures.moves.ports.1 in
     let came = ap length c.arrive.ensures.buffers in
     let square = c.ports-ports.ensures.buffers in
-    can_send g at.After-count begins (fronts buffers) (long ∙ moved ∙ came ∙ square) refl
+    can_send g at.After-take_in begins (fronts buffers) (long ∙ moved ∙ came ∙ square) refl
     (held_before (taken g at.In_default begins) (arrived g at.After-arrive)
-    (buffers_room begins c.judge.new.self.marks) (moved_of (crossed g at.After-cross-first)) begins.running.holds
-    (judged g at.After-count))
+    (buffers_room begins c.take_in.new.limiter.marks) (moved_of (crossed g at.After-cross-first)) begins.running.holds
+    (judged g at.After-take_in))
 
-pub cross-second-requires-clause-cells : goal.cross-second-requires-clause-cells
-cross-second-requires-clause-cells g c =
-    let at = goal.at.cross-second-requires-clause-cells g c in
+pub cross-second-requires-clause-can : goal.cross-second-requires-clause-can
+cross-second-requires-clause-can g c =
+    let at = goal.at.cross-second-requires-clause-can g c in
     let begins = known g at.After-self in
-    let room = buffers_room begins c.judge.new.self.marks in
     let moved = moved_of (crossed g at.After-cross-first) in
-    λ _ _. can_cross_second (taken g at.In_default begins) (arrived g at.After-arrive) room moved
-    (sent g at.After-depart)
-
-pub cross-second-requires-clause-note : goal.cross-second-requires-clause-note
-cross-second-requires-clause-note g c =
-    let begins = known g (goal.at.cross-second-requires-clause-note g c).After-self in
     let best = c.cross-first.ensures.best in
     let few = few_cross c.cross-first.ensures.matching c.arrive.new.self.inputs c.args.slot 1 best.stable.matching in
     let room = c.requires.ready.note_room in
     let left = c.cross-first.ensures.note_room in
     let gone = ap length c.depart.ensures.inputs in
-    let moved = c.cross-first.ensures.moves.ports.0 in
+    let ports = c.cross-first.ensures.moves.ports.0 in
     let came_ports = c.arrive.ensures.ports in
-    let ports = begins.running.in_step.ports in
-    let long = length-map c.self.inside.ranks.fixed g.R.Rank.machine in
-    let looks = ap (λ (v : EngineView). length v.fixed) c.self.view_is in
-    omega arith
+    let looks = ports_seen g at.After-self in
+    let can : CanBeCrossed c.self.inside.workers c.depart.new.queues c.cross-first.new.note = record {
+      workers = c.self.invariant.0;
+      cells = can_cross_second (taken g at.In_default begins) (arrived g at.After-arrive)
+          (buffers_room begins c.take_in.new.limiter.marks) moved (sent g at.After-depart);
+      room = omega arith;
+    } in
+    λ _ _. can
 
 -- ## What the slot comes to
 
@@ -419,24 +396,24 @@ invariant_of-self-2 g c =
           (λ (fixed : List (List ℕ)).
           IsRunning (map g.R.Rank.machine fixed) (c.args.slot + 1) Arriving c.count_proposals-2.new.figures new
           c.depart.new.limiter)
-          (sym (c.depart.ensures.sent.fixed ∙ c.take.ensures.fixed))
+          (sym (c.depart.ensures.sent.fixed ∙ c.take_in.ensures.fixed))
           (record {
             in_step = done.in_step;
             seen = done.seen;
             ranks =
                 ap length next.told
-                ∙ length-told (map g.R.Rank.machine c.self.inside.ranks.fixed) gone c.take.new.self.states
-                ∙ c.take.ensures.many ∙ begins.running.ranks;
+                ∙ length-told (map g.R.Rank.machine c.self.inside.ranks.fixed) gone c.take_in.new.ranks.states
+                ∙ c.take_in.ensures.many ∙ begins.running.ranks;
             holds =
-                still_holds come gone new c.self.inside.limiter c.count.new.self c.depart.new.limiter done.alike
-                begins.running.holds (judged g at.After-count) (released g at.After-depart);
+                still_holds come gone new c.self.inside.limiter c.take_in.new.limiter c.depart.new.limiter done.alike
+                begins.running.holds (judged g at.After-take_in) c.depart.ensures.sent.released;
           }),
     )
 
 pub returns-in-Err-clause-answer : goal.returns-in-Err-clause-answer
 returns-in-Err-clause-answer g c =
     let at = goal.at.returns-in-Err-clause-answer g c in
-    let asked = asks g at.After-judge (known g at.After-self).running.holds in
+    let asked = asks g at.After-take_in (known g at.After-self).running.holds in
     sym (ap answer_to (sym asked ∙ c.in-Err.ensures.fault))
 
 pub invariant_of-self-then-go_straight : goal.invariant_of-self-then-go_straight
@@ -452,25 +429,25 @@ invariant_of-self-then-go_straight g c =
           (λ (fixed : List (List ℕ)).
           IsRunning (map g.R.Rank.machine fixed) (c.args.slot + 1) Arriving c.count_proposals.new.figures new
           c.pass-crossed.new.limiter)
-          (sym (c.pass-crossed.ensures.sent.fixed ∙ c.take.ensures.fixed))
+          (sym (c.pass-crossed.ensures.sent.fixed ∙ c.take_in.ensures.fixed))
           (record {
             in_step = done.in_step;
             seen = done.seen;
             ranks =
                 ap length (told_straight g at.After-pass-crossed)
-                ∙ length-told (map g.R.Rank.machine c.self.inside.ranks.fixed) gone c.take.new.self.states
-                ∙ c.take.ensures.many ∙ begins.running.ranks;
+                ∙ length-told (map g.R.Rank.machine c.self.inside.ranks.fixed) gone c.take_in.new.ranks.states
+                ∙ c.take_in.ensures.many ∙ begins.running.ranks;
             holds =
-                still_holds come gone new c.self.inside.limiter c.count.new.self c.pass-crossed.new.limiter
-                done.alike begins.running.holds (judged g at.After-count) (released_straight g at.After-pass-crossed);
+                still_holds come gone new c.self.inside.limiter c.take_in.new.limiter c.pass-crossed.new.limiter
+                done.alike begins.running.holds (judged g at.After-take_in) c.pass-crossed.ensures.sent.released;
           }),
     )
 
 pub returns-then-go_straight-clause-answer : goal.returns-then-go_straight-clause-answer
 returns-then-go_straight-clause-answer g c =
     let at = goal.at.returns-then-go_straight-clause-answer g c in
-    let asked = asks g at.After-judge (known g at.After-self).running.holds in
-    sym (ap answer_to (sym asked ∙ c.in_default.ensures.came))
+    let asked = asks g at.After-take_in (known g at.After-self).running.holds in
+    sym (ap answer_to (sym asked ∙ c.in_default.ensures.taken.ranked))
 
 pub returns-then-go_straight-clause-slot : goal.returns-then-go_straight-clause-slot
 returns-then-go_straight-clause-slot g c =
@@ -478,8 +455,8 @@ returns-then-go_straight-clause-slot g c =
     let e = c.self.inside in
     let slot = c.args.slot in
     let cells = c.args.arrivals.now in
-    let marks = c.judge.new.self.marks in
-    let came = c.take.new.came in
+    let marks = c.take_in.new.limiter.marks in
+    let came = c.take_in.new.came in
     let begins = known g at.After-self in
     let done = all_straight g c in
     let is = straight g at.After-of_outputs in
@@ -503,9 +480,9 @@ returns-then-go_straight-clause-slot g c =
           record {
             admits =
                 admits_are e.limiter (fabric_of e.queues e.ranks.states) cells marks begins.running.holds
-                c.judge.ensures.marks;
+                c.take_in.ensures.judged.marks;
             runs = done.is_slot;
-            marks = did.sent.released.marks ∙ c.count.ensures.marks;
+            marks = did.sent.released.marks;
           };
       departed = did.sent.left.items ∙ ap (λ l. c.args.sent.now.items ++ departures_in slot l) (sym done.gone);
       departed_room = omega arith;
@@ -515,22 +492,21 @@ returns-then-go_straight-clause-slot g c =
       crossed_room = omega arith;
       counted = done.figures;
       refused =
-          did.sent.released.refused ∙ c.count.ensures.refused
-          ∙ ap (with_refused (refused marks cells)) c.judge.ensures.refused;
+          did.sent.released.refused ∙ c.in_default.ensures.taken.refused;
     })
 
 pub returns-clause-answer : goal.returns-clause-answer
 returns-clause-answer g c =
     let at = goal.at.returns-clause-answer g c in
-    let asked = asks g at.After-judge (known g at.After-self).running.holds in
-    sym (ap answer_to (sym asked ∙ c.in_default.ensures.came))
+    let asked = asks g at.After-take_in (known g at.After-self).running.holds in
+    sym (ap answer_to (sym asked ∙ c.in_default.ensures.taken.ranked))
 
 pub returns-clause-slot : goal.returns-clause-slot
 returns-clause-slot g c =
     let e = c.self.inside in
     let slot = c.args.slot in
     let cells = c.args.arrivals.now in
-    let marks = c.judge.new.self.marks in
+    let marks = c.take_in.new.limiter.marks in
     let begins = known g (goal.at.returns-clause-slot g c).After-self in
     let done = whole g c in
     let one = c.cross-first.ensures in
@@ -558,9 +534,9 @@ returns-clause-slot g c =
           record {
             admits =
                 admits_are e.limiter (fabric_of e.queues e.ranks.states) cells marks begins.running.holds
-                c.judge.ensures.marks;
+                c.take_in.ensures.judged.marks;
             runs = done.is_slot;
-            marks = left.released.marks ∙ c.count.ensures.marks;
+            marks = left.released.marks;
           };
       departed = left.left.items ∙ ap (λ l. c.args.sent.now.items ++ departures_in slot l) (sym done.gone);
       departed_room = omega arith;
@@ -570,8 +546,7 @@ returns-clause-slot g c =
       crossed_room = omega arith;
       counted = done.figures;
       refused =
-          left.released.refused ∙ c.count.ensures.refused
-          ∙ ap (with_refused (refused marks cells)) c.judge.ensures.refused;
+          left.released.refused ∙ c.in_default.ensures.taken.refused;
     })
 
 -- ## What stays
@@ -582,7 +557,7 @@ returns-in-Err-clause-stays g c =
       unsent = refl;
       unnoted = refl;
       figures = ap (λ (v : EngineView). v.figures) c.self.view_is;
-      refused = c.judge.ensures.refused ∙ ap (λ (v : EngineView). v.refused) c.self.view_is;
+      refused = c.in-Err.ensures.stays ∙ ap (λ (v : EngineView). v.refused) c.self.view_is;
       lists = ap (λ (v : EngineView). v.fabric.inputs) c.self.view_is;
       buffers = ap (λ (v : EngineView). v.fabric.buffers) c.self.view_is;
       next = ap (λ (v : EngineView). v.next) c.self.view_is;
@@ -591,8 +566,8 @@ returns-in-Err-clause-stays g c =
 pub returns-in-Err-clause-made : goal.returns-in-Err-clause-made
 returns-in-Err-clause-made g c =
     record {
-      fixed = c.take.ensures.fixed ∙ ap (λ (v : EngineView). v.fixed) c.self.view_is;
-      limits = c.judge.ensures.limits ∙ ap (λ (v : EngineView). v.limits) c.self.view_is;
+      fixed = c.take_in.ensures.fixed ∙ ap (λ (v : EngineView). v.fixed) c.self.view_is;
+      limits = c.take_in.ensures.judged.limits ∙ ap (λ (v : EngineView). v.limits) c.self.view_is;
       from_inputs = ap (λ (v : EngineView). v.from_inputs) c.self.view_is;
       to_outputs = ap (λ (v : EngineView). v.to_outputs) c.self.view_is;
     }
@@ -601,9 +576,9 @@ pub returns-then-go_straight-clause-made : goal.returns-then-go_straight-clause-
 returns-then-go_straight-clause-made g c =
     record {
       fixed =
-          c.pass-crossed.ensures.sent.fixed ∙ c.take.ensures.fixed ∙ ap (λ (v : EngineView). v.fixed) c.self.view_is;
+          c.pass-crossed.ensures.sent.fixed ∙ c.take_in.ensures.fixed ∙ ap (λ (v : EngineView). v.fixed) c.self.view_is;
       limits =
-          c.pass-crossed.ensures.sent.released.limits ∙ c.count.ensures.limits ∙ c.judge.ensures.limits
+          c.pass-crossed.ensures.sent.released.limits ∙ c.take_in.ensures.judged.limits
           ∙ ap (λ (v : EngineView). v.limits) c.self.view_is;
       from_inputs = ap (λ (v : EngineView). v.from_inputs) c.self.view_is;
       to_outputs = ap (λ (v : EngineView). v.to_outputs) c.self.view_is;
@@ -612,9 +587,9 @@ returns-then-go_straight-clause-made g c =
 pub returns-clause-made : goal.returns-clause-made
 returns-clause-made g c =
     record {
-      fixed = c.depart.ensures.sent.fixed ∙ c.take.ensures.fixed ∙ ap (λ (v : EngineView). v.fixed) c.self.view_is;
+      fixed = c.depart.ensures.sent.fixed ∙ c.take_in.ensures.fixed ∙ ap (λ (v : EngineView). v.fixed) c.self.view_is;
       limits =
-          c.depart.ensures.sent.released.limits ∙ c.count.ensures.limits ∙ c.judge.ensures.limits
+          c.depart.ensures.sent.released.limits ∙ c.take_in.ensures.judged.limits
           ∙ ap (λ (v : EngineView). v.limits) c.self.view_is;
       from_inputs =
           c.cross-second.ensures.from_inputs ∙ c.depart.ensures.from_inputs ∙ c.cross-first.ensures.from_inputs
