@@ -1,11 +1,11 @@
 -- Lists that are new up to a place, and old from it on.
-use Rattle.std.proofs.Common.{◌≡◌, ℕ, ◌+◌, ◌<◌, ◌≤◌, List, [], ◌∷◌, ◌++◌, length, map, get_or, set, take, drop, Some, sym, ap, ◌∙◌, arith, append_assoc, length-append, length-drop}
+use Rattle.std.proofs.Common.{◌≡◌, ℕ, ◌+◌, ◌<◌, ◌≤◌, List, length, map, get_or, set, drop, Some, sym, ap, ◌∙◌, arith}
 use Rattle.std.specs.Prelude.{slice_get}
 use Rattle.std.specs.List.{enumerate_from}
 use Rattle.std.proofs.lemmas.List.FromFn.{length-enumerate_from, get_or-enumerate_from}
 use Rattle.std.proofs.lemmas.Option.{slice_get-get_or}
 use Rattle.cq_ideal.proofs.Changed.{at_place, changed_to, length-changed, next_place}
-use Rattle.std.proofs.lemmas.List.{length-take-le, get_or_at, set_at, take_more, drop_more, drop-drop, drop-set-lt, take_all, drop_all, append-nil, length-map, get_or-map}
+use Rattle.std.proofs.lemmas.List.{drop-drop, drop-set-lt, length-map, get_or-map}
 
 -- one item more is written, and those behind it are as they were
 pub still_behind : {X : Type 0} (now old : List X) (j : ℕ) (y : X) → drop j now ≡ drop j old →

@@ -13,6 +13,7 @@ use std::alloc::Global;
 
 // A list for so many outputs, with room for so many cells, in which these wait. Each comes behind the others. The error
 // is want of memory.
+#[tactic(auto, using(std::proofs::lemmas::List::take_all))]
 fn filled_list(
     alloc: Global,
     outputs: u16,
@@ -33,6 +34,7 @@ fn filled_list(
 }
 
 // A buffer with room for so many cells, in which these wait. The error is want of memory.
+#[tactic(auto, using(std::proofs::lemmas::List::take_all))]
 fn filled_buffer(alloc: Global, room: u64, cells: &[Queued]) -> Result<OutputBuffer, NoMemory>
     requires { CanStand room cells.now }
     ensures cells { IfOk result (λ buffer. buffer.cells ≡ cells.now) }
@@ -46,6 +48,7 @@ fn filled_buffer(alloc: Global, room: u64, cells: &[Queued]) -> Result<OutputBuf
 }
 
 /// A list for each of these rooms, over as many outputs, in which these cells wait. The error is want of memory.
+#[tactic(auto, using(std::proofs::lemmas::List::take_all))]
 pub fn filled_lists(
     alloc: Global,
     rooms: &[u64],
@@ -70,6 +73,7 @@ pub fn filled_lists(
 }
 
 /// A buffer for each of these rooms, in which these cells wait. The error is want of memory.
+#[tactic(auto, using(std::proofs::lemmas::List::take_all))]
 pub fn filled_buffers(
     alloc: Global,
     rooms: &[u64],
@@ -91,6 +95,7 @@ pub fn filled_buffers(
 }
 
 // The cells of a list, in order. The error is want of memory.
+#[tactic(auto, using(std::proofs::lemmas::List::take_all))]
 fn listed(alloc: Global, list: &InputList) -> Result<Sequence<Queued>, NoMemory>
     ensures { IfOk result (λ cells. cells ≡ list.now.cells) }
 {
@@ -103,6 +108,7 @@ fn listed(alloc: Global, list: &InputList) -> Result<Sequence<Queued>, NoMemory>
 }
 
 // The cells of a buffer, the most urgent first. The error is want of memory.
+#[tactic(auto, using(std::proofs::lemmas::List::take_all))]
 fn buffered(alloc: Global, buffer: &OutputBuffer) -> Result<Sequence<Queued>, NoMemory>
     ensures { IfOk result (λ cells. cells ≡ buffer.now.cells) }
 {
@@ -115,6 +121,7 @@ fn buffered(alloc: Global, buffer: &OutputBuffer) -> Result<Sequence<Queued>, No
 }
 
 /// The cells of each of some lists, in order. The error is want of memory.
+#[tactic(auto, using(std::proofs::lemmas::List::take_all))]
 pub fn all_listed(
     alloc: Global,
     lists: &[InputList],
@@ -130,6 +137,7 @@ pub fn all_listed(
 }
 
 /// The cells of each of some buffers, the most urgent first. The error is want of memory.
+#[tactic(auto, using(std::proofs::lemmas::List::take_all))]
 pub fn all_buffered(
     alloc: Global,
     buffers: &[OutputBuffer],

@@ -1,13 +1,11 @@
 -- Slots that are enough for a run are enough with limits: no more cells are admitted in a slot than come, and there
 -- are as many slots.
-use Rattle.std.proofs.Common.{◌≡◌, ℕ, zero, suc, ◌≤◌, Bool, true, false, List, [], ◌∷◌, length, Option, Some, None, Result, Ok, Err, refl, sym, ap, subst, arith}
+use Rattle.std.proofs.Common.{◌≡◌, ℕ, zero, suc, ◌≤◌, Bool, true, false, List, [], ◌∷◌, length, Option, Some, None, refl, sym, ap, subst, arith}
 use Rattle.std.specs.Prelude.{All, IfOk}
 use Rattle.cq_base.specs.declared.cell.Cell.{Cell}
-use Rattle.cq_base.specs.declared.cell.TagFault.{TagFault}
 use Rattle.cq_base.specs.Arriving.{Arrival, end_of, traffic_of}
 use Rattle.cq_rank.specs.Machine.{Machine}
 use Rattle.cq_ideal.specs.Admission.{Admission, admission, admitted, admitted_in, marks_after}
-use Rattle.cq_ideal.specs.IdealRun.{Ran}
 use Rattle.cq_ideal.specs.LimitedIdeal.{empty_limited, limited_run}
 use Rattle.cq_ideal.specs.WholePackets.{AreJudged}
 use Rattle.cq_ideal.proofs.Ends.{nothing_left}

@@ -1,17 +1,15 @@
 -- One slot at one output. After its arrivals the output sends the first cell of its list, and a sending lowers no
 -- floor; where it sends nothing its list is empty. So what is known of the list stays known. And what the list showed
 -- of a flow, and then what arrived of it, is what the output sent of it, and then what the list shows afterwards.
-use Rattle.std.proofs.Common.{◌≡◌, ℕ, ◌+◌, ◌<◌, Bool, true, false, cond, List, [], ◌∷◌, ◌++◌, length, map, drop, Option, Some, None, Result, Ok, Err, refl, sym, ap, ◌∙◌, subst, arith}
+use Rattle.std.proofs.Common.{◌≡◌, ℕ, ◌+◌, ◌<◌, Bool, true, false, cond, List, [], ◌∷◌, ◌++◌, length, map, drop, Option, Some, None, Ok, refl, sym, ap, ◌∙◌, subst, arith}
 use Rattle.std.specs.Prelude.{slice_get, slice_index_or}
 use Rattle.std.specs.List.{filter}
 use Rattle.std.proofs.lemmas.List.{get_or-map, length-map}
-use Rattle.std.proofs.lemmas.List.FromFn.{get_or-map-range_with_len, length-map-range_with_len}
 use Rattle.cq_base.specs.declared.cell.Cell.{Cell}
 use Rattle.cq_base.specs.declared.cell.Queued.{Queued}
-use Rattle.cq_base.specs.declared.cell.TagFault.{TagFault}
 use Rattle.cq_rank.specs.Machine.{Machine, KeepsLaws, machine_at, told}
 use Rattle.cq_ideal.specs.Ranking.{Ranking, ranking}
-use Rattle.cq_ideal.specs.IdealSlot.{IdealState, Sent, put_all, filled, fronts, rests, all_told, ideal_sends, ideal_slot}
+use Rattle.cq_ideal.specs.IdealSlot.{IdealState, Sent, put_all, filled, fronts, rests, all_told, ideal_slot}
 use Rattle.cq_ideal.proofs.FlowPut.{all_from}
 use Rattle.cq_ideal.proofs.FlowStands.{Stands, HasWaited, is_kind, shown, of_flow}
 use Rattle.cq_ideal.proofs.FlowRank.{present, AreOfClasses, Filled, filled_from}

@@ -1,20 +1,18 @@
 -- The slots of departures: no departure of a run is behind its slots. And in the slot of the last arrival a cell comes.
-use Rattle.std.proofs.Common.{◌≡◌, ℕ, zero, suc, ◌+◌, ◌<◌, ◌≤◌, eqb, Bool, cond, List, [], ◌∷◌, ◌++◌, length, map, Option, Some, None, Result, Ok, refl, sym, ap, ◌∙◌, subst, ⊎_elim, arith}
-use Rattle.std.specs.Prelude.{IsOkAnd, max}
+use Rattle.std.proofs.Common.{◌≡◌, ℕ, zero, suc, ◌+◌, ◌<◌, ◌≤◌, eqb, Bool, cond, List, [], ◌∷◌, ◌++◌, length, map, Option, Some, None, refl, sym, ap, ◌∙◌, subst, ⊎_elim, arith}
+use Rattle.std.specs.Prelude.{max}
 use Rattle.std.specs.List.{AllByRecursion, range_with_len}
 use Rattle.std.proofs.lemmas.Bool.{cases_eq, cases_lt, eq-eqb}
-use Rattle.std.proofs.lemmas.List.{append-nil, length-replicate}
 use Rattle.cq_base.specs.Arriving.{Arrival, arriving, arriving_at, end_of}
 use Rattle.cq_base.specs.declared.cell.Cell.{Cell}
 use Rattle.cq_base.specs.declared.cell.Departure.{Departure}
 use Rattle.cq_base.specs.declared.cell.Queued.{Queued}
-use Rattle.cq_base.specs.declared.cell.TagFault.{TagFault}
 use Rattle.cq_rank.specs.Machine.{Machine}
-use Rattle.cq_ideal.specs.Ending.{IdealAfter, arriving_from, first_slots, slots_of, slots_of_run, whole_ideal_run}
+use Rattle.cq_ideal.specs.Ending.{slots_of}
 use Rattle.cq_ideal.specs.Flows.{IsForSwitch}
 use Rattle.cq_ideal.specs.Ideal.{count_for}
-use Rattle.cq_ideal.specs.IdealRun.{Ran, departures_of, empty_ideal, ideal_run}
-use Rattle.cq_ideal.specs.IdealSlot.{IdealState, Sent, departures_from, departures_in, ideal_slot}
+use Rattle.cq_ideal.specs.IdealRun.{departures_of}
+use Rattle.cq_ideal.specs.IdealSlot.{departures_from, departures_in}
 use Rattle.cq_ideal.proofs.FlowFound.{arriving_is, cell_listed, found, found_here, other_slot}
 
 -- ## The slots of departures

@@ -1,9 +1,9 @@
 -- The walk over the outputs. Behind this output all is as the slot leaves it, and from it on as the slot found it:
 -- that is so for the lists and for the states of the machines. What is sent so far, and then the departures of the
 -- outputs from this one on, are all departures of the slot.
-use Rattle.std.proofs.Common.{◌≡◌, ℕ, ◌+◌, ◌<◌, ◌≤◌, List, [], ◌∷◌, ◌++◌, length, map, get_or, set, take, drop, Option, Some, None, refl, sym, ap, ◌∙◌, arith, append_assoc, length-append, length-set}
+use Rattle.std.proofs.Common.{◌≡◌, ℕ, ◌+◌, ◌<◌, ◌≤◌, List, [], ◌∷◌, ◌++◌, length, map, get_or, set, drop, Option, Some, None, refl, sym, ap, ◌∙◌, arith, append_assoc, length-append, length-set}
 use Rattle.std.specs.Prelude.{slice_get}
-use Rattle.std.proofs.lemmas.List.{get_or-map, length-drop, length-map, length-take, length-take-le, get_or_at, set_at, take_more, drop_more, take_all, drop_all, append-nil}
+use Rattle.std.proofs.lemmas.List.{get_or-map, length-map, drop_more, drop_all, append-nil}
 use Rattle.std.proofs.lemmas.List.FromFn.{get_or-map-range_with_len, length-map-range_with_len}
 use Rattle.cq_base.specs.declared.cell.Departure.{Departure}
 use Rattle.cq_base.specs.declared.cell.Queued.{Queued}

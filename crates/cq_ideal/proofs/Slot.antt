@@ -1,6 +1,6 @@
 -- A slot is what the parts do one after the other: the arrivals are judged, those that are admitted are ranked and go
 -- into the lists, and then the outputs send.
-use Rattle.std.proofs.Common.{◌≡◌, ℕ, ◌+◌, ◌<◌, ◌≤◌, ◌^◌, Bool, false, List, [], length, map, get_or, Option, Result, Ok, Err, refl, sym, ap, ◌∙◌, subst, arith}
+use Rattle.std.proofs.Common.{◌≡◌, ℕ, ◌+◌, ◌<◌, ◌^◌, Bool, false, List, [], length, map, get_or, Option, Result, Ok, Err, refl, sym, ap, ◌∙◌, subst, arith}
 use Rattle.std.specs.Prelude.{IfOk}
 use Rattle.std.proofs.lemmas.List.{get_or-map}
 use Rattle.cq_base.specs.declared.cell.Cell.{Cell}
@@ -12,7 +12,7 @@ use Rattle.cq_rank.specs.Machine.{Machine}
 use Rattle.cq_rank.specs.Switch.{class_count}
 use Rattle.cq_ideal.specs.declared.refused.Refused.{Refused}
 use Rattle.cq_ideal.specs.Admission.{Admission, Marked, admission, admitted, marked, marks_after, refused}
-use Rattle.cq_ideal.specs.Ideal.{IdealSwitch, HasRoomFor, count_for, marked_state}
+use Rattle.cq_ideal.specs.Ideal.{IdealSwitch, HasRoomFor, marked_state}
 use Rattle.cq_ideal.specs.IdealSlot.{IdealState, Sent, ideal_slot, ideal_sends, filled, fronts, rests, all_told}
 use Rattle.cq_ideal.specs.LimitedIdeal.{LimitedSent, ideal_held, limited_slot, with_admission}
 use Rattle.cq_ideal.specs.Limiter.{CanCount, HoldsLists, LimiterView}

@@ -1,16 +1,11 @@
 -- The spare of each list. A list takes in the cells that come for its output, and gives one away if it then has any.
-use Rattle.std.proofs.Common.{◌≡◌, ℕ, ◌+◌, ◌<◌, ◌≤◌, ◌^◌, Bool, true, false, cond, List, [], ◌∷◌, length, get_or, drop, Option, Some, None, Result, Ok, Err, refl, ap, ◌∙◌, subst, arith}
-use Rattle.std.specs.Prelude.{nat_lt, is_some, IfOk, slice_get, slice_set}
-use Rattle.std.proofs.lemmas.List.{get_or-map}
-use Rattle.std.proofs.lemmas.List.FromFn.{get_or-map-range_with_len, length-map-range_with_len}
+use Rattle.std.proofs.Common.{◌≡◌, ℕ, ◌<◌, ◌≤◌, List, [], length, get_or, Option, Ok, ap, ◌∙◌, arith}
 use Rattle.cq_base.specs.declared.cell.Cell.{Cell}
-use Rattle.cq_base.specs.declared.cell.Queued.{Queued}
-use Rattle.cq_base.specs.declared.cell.TagFault.{TagFault}
-use Rattle.cq_rank.specs.Machine.{Machine, machine_at}
+use Rattle.cq_rank.specs.Machine.{Machine}
 use Rattle.cq_ideal.specs.Ideal.{IdealSwitch, HasRoomFor, SpareFollows, count_for}
-use Rattle.cq_ideal.specs.IdealSlot.{IdealState, Sent, ideal_slot, ideal_sends, filled, fronts, rests, put_all}
+use Rattle.cq_ideal.specs.IdealSlot.{IdealState, Sent, ideal_slot}
 use Rattle.cq_ideal.specs.Parts.{count_to}
-use Rattle.cq_ideal.specs.Ranking.{Ranking, ranking, after_input, keyed}
+use Rattle.cq_ideal.specs.Ranking.{Ranking, ranking}
 use Rattle.cq_ideal.proofs.Waiting.{count_to-cells, counted, ranked_cells}
 
 -- each output gets as many as came for it

@@ -33,5 +33,5 @@ pub use limits::{
 };
 pub use newcomers::Newcomers;
 pub use ranks::Ranks;
-pub use taking::take_in;
 pub use refused::{Refused, count_refused, none_refused};
+pub use taking::take_in;

@@ -5,6 +5,18 @@ use Rattle.cq_prefs.specs.FirstCells.{list_of}
 use Rattle.cq_laws.specs.Frozen.{fabric_in}
 use Rattle.cq_engine.proofs.Counted.{cells_fit, cells_inside, held_first, held_last, held_next}
 use Rattle.cq_engine.proofs.copied.held_in.Goals as goal
+use Rattle.cq_engine.proofs.copied.held_in.Goals.{After-as_slice}
+
+-- the cells that are counted are those of the input's list
+here : (c : After-as_slice) → c.as_slice.result.now ≡ list_of (fabric_in c.args.from.now).inputs c.inputs.input
+here c =
+    c.as_slice.ensures
+    ∙ get_or_read c.as_slice-lists.result.now c.inputs.input c.index-lists-input.result c.inputs-test.true
+    c.index-lists-input.is []
+    ∙ ap (λ (l : List (List Queued)). list_of l c.inputs.input) c.as_slice-lists.ensures
+
+inside : (c : After-as_slice) → c.inputs.input < length c.args.from.now.lists
+inside c = let long = ap length c.as_slice-lists.ensures in let test = c.inputs-test.true in omega arith
 
 pub inputs-init : goal.inputs-init
 inputs-init c =
@@ -13,43 +25,21 @@ inputs-init c =
 
 pub count_each-requires-clause-outputs : goal.count_each-requires-clause-outputs
 count_each-requires-clause-outputs c =
-    let f = fabric_in c.args.from.now in
-    let input = c.inputs.input in
-    let long = ap length c.as_slice-lists.ensures in
-    let test = c.inputs-test.true in
-    let inside : input < length c.args.from.now.lists = omega arith in
-    let here : c.as_slice.result.now ≡ list_of f.inputs input =
-    c.as_slice.ensures
-    ∙ get_or_read c.as_slice-lists.result.now input c.index-lists-input.result test c.index-lists-input.is []
-    ∙ ap (λ (l : List (List Queued)). list_of l input) c.as_slice-lists.ensures in
-    cells_inside f input c.inputs.held c.inputs.invariant inside c.as_slice.result.now here c.requires.outputs
+    let at = (goal.at.count_each-requires-clause-outputs c).After-as_slice in
+    cells_inside (fabric_in c.args.from.now) c.inputs.input c.inputs.held c.inputs.invariant (inside at)
+    c.as_slice.result.now (here at) c.requires.outputs
 
 pub count_each-requires-clause-fit : goal.count_each-requires-clause-fit
 count_each-requires-clause-fit c =
-    let f = fabric_in c.args.from.now in
-    let input = c.inputs.input in
-    let long = ap length c.as_slice-lists.ensures in
-    let test = c.inputs-test.true in
-    let inside : input < length c.args.from.now.lists = omega arith in
-    let here : c.as_slice.result.now ≡ list_of f.inputs input =
-    c.as_slice.ensures
-    ∙ get_or_read c.as_slice-lists.result.now input c.index-lists-input.result test c.index-lists-input.is []
-    ∙ ap (λ (l : List (List Queued)). list_of l input) c.as_slice-lists.ensures in
-    cells_fit f input c.inputs.held c.inputs.invariant inside c.as_slice.result.now here c.requires.fit
+    let at = (goal.at.count_each-requires-clause-fit c).After-as_slice in
+    cells_fit (fabric_in c.args.from.now) c.inputs.input c.inputs.held c.inputs.invariant (inside at)
+    c.as_slice.result.now (here at) c.requires.fit
 
 pub inputs-preserved : goal.inputs-preserved
 inputs-preserved c =
-    let f = fabric_in c.args.from.now in
-    let input = c.inputs.input in
-    let long = ap length c.as_slice-lists.ensures in
-    let test = c.inputs-test.true in
-    let inside : input < length c.args.from.now.lists = omega arith in
-    let here : c.as_slice.result.now ≡ list_of f.inputs input =
-    c.as_slice.ensures
-    ∙ get_or_read c.as_slice-lists.result.now input c.index-lists-input.result test c.index-lists-input.is []
-    ∙ ap (λ (l : List (List Queued)). list_of l input) c.as_slice-lists.ensures in
-    held_next f input c.inputs.held c.inputs.invariant inside c.as_slice.result.now here c.count_each.new.held
-    c.count_each.ensures.ports c.count_each.ensures.counts
+    let at = (goal.at.inputs-preserved c).After-as_slice in
+    held_next (fabric_in c.args.from.now) c.inputs.input c.inputs.held c.inputs.invariant (inside at)
+    c.as_slice.result.now (here at) c.count_each.new.held c.count_each.ensures.ports c.count_each.ensures.counts
 
 pub returns : goal.returns
 returns c =

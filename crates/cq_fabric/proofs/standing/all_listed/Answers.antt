@@ -1,7 +1,6 @@
-use Rattle.std.proofs.Common.{List, ◌∙◌, arith}
-use Rattle.std.proofs.lemmas.List.{length-map, take_all}
+use Rattle.std.proofs.Common.{List}
 use Rattle.cq_base.specs.declared.cell.Queued.{Queued}
-use Rattle.cq_list.specs.InputList.{Waiting, cells_of}
+use Rattle.cq_list.specs.InputList.{Waiting}
 use Rattle.cq_fabric.proofs.Filling.{one_told}
 use Rattle.cq_fabric.proofs.standing.all_listed.Goals as goal
 
@@ -12,10 +11,3 @@ inputs-preserved c =
     c.push.new.self.items
     c.in_ok-cells.cells c.inputs.invariant c.in_ok-push.ensures.items c.inputs-test.true c.index-lists-input.is
     c.in_ok-cells.ensures
-
-pub returns : goal.returns
-returns c =
-    let cells_at : Waiting → List Queued = λ x. x.cells in
-    let many = length-map c.args.lists.now cells_at in
-    let past = c.inputs-test.false in
-    c.of.ensures ∙ c.inputs.invariant ∙ take_all c.inputs.input (cells_of c.args.lists.now) (omega arith)

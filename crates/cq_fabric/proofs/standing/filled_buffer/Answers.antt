@@ -1,5 +1,5 @@
 use Rattle.std.proofs.Common.{length, ap, ◌+◌, ◌∙◌, arith}
-use Rattle.std.proofs.lemmas.List.{length-take, take_all}
+use Rattle.std.proofs.lemmas.List.{length-take}
 use Rattle.cq_fabric.proofs.Filling.{stands_anew, stands_last}
 use Rattle.cq_fabric.proofs.standing.filled_buffer.Goals as goal
 
@@ -36,11 +36,3 @@ places-preserved c =
     let now = ap length cells in
     let now_cut = length-take (c.places.at + 1) c.args.cells.now in
     record { cells = cells; room = omega arith }
-
-pub returns-clause-cells : goal.returns-clause-cells
-returns-clause-cells c =
-    let past = c.places-test.false in
-    c.places.invariant.cells ∙ take_all c.places.at c.args.cells.now (omega arith)
-
-pub returns-clause-room : goal.returns-clause-room
-returns-clause-room c = c.places.invariant.room

@@ -1,6 +1,5 @@
-use Rattle.std.proofs.Common.{◌≡◌, ℕ, ◌^◌, ◌<◌, List, [], get_or, sym, ◌∙◌, subst, arith}
-use Rattle.std.specs.Prelude.{All}
-use Rattle.std.proofs.lemmas.List.{get_or_read, take_all}
+use Rattle.std.proofs.Common.{◌≡◌, List, [], get_or, sym, ◌∙◌, subst, arith}
+use Rattle.std.proofs.lemmas.List.{get_or_read}
 use Rattle.cq_base.specs.declared.cell.Queued.{Queued}
 use Rattle.cq_prefs.specs.FirstCells.{list_of}
 use Rattle.cq_fabric.specs.Holding.{CanStand}
@@ -33,20 +32,3 @@ outputs-preserved c =
     c.outputs.invariant
     c.in_ok-push.ensures.items inside as_many (c.in_ok-buffer.ensures.cells ∙ here) c.in_ok-buffer.ensures.room
     (omega (arith, c.type_inv.rooms output))
-
-pub returns-clause-cells : goal.returns-clause-cells
-returns-clause-cells c =
-    let as_many = c.requires.as_many in
-    let past = c.outputs-test.false in
-    c.outputs.invariant.stored ∙ take_all c.outputs.output c.args.cells.now (omega arith)
-
-pub returns-clause-rooms : goal.returns-clause-rooms
-returns-clause-rooms c =
-    let past = c.outputs-test.false in
-    c.outputs.invariant.rooms ∙ take_all c.outputs.output c.args.rooms.now (omega arith)
-
-pub returns-clause-few : goal.returns-clause-few
-returns-clause-few c =
-    let past = c.outputs-test.false in
-    subst (λ (rooms : List ℕ). All (λ room. room < 2 ^ 64) rooms)
-    (take_all c.outputs.output c.args.rooms.now (omega arith)) c.outputs.invariant.few

@@ -1,5 +1,5 @@
-use Rattle.std.proofs.Common.{◌≡◌, ℕ, List, [], length, get_or, replicate, sym, ap, ◌∙◌, subst, arith}
-use Rattle.std.proofs.lemmas.List.{get_or_read, take_all}
+use Rattle.std.proofs.Common.{◌≡◌, ℕ, List, [], length, get_or, sym, ◌∙◌, subst, arith}
+use Rattle.std.proofs.lemmas.List.{get_or_read}
 use Rattle.cq_base.specs.declared.cell.Queued.{Queued}
 use Rattle.cq_prefs.specs.FirstCells.{list_of}
 use Rattle.cq_fabric.specs.Holding.{CanWait}
@@ -33,21 +33,3 @@ inputs-preserved c =
     one_filled rooms cells input c.inputs.lists.items c.push.new.self.items c.in_ok-list.list c.inputs.invariant
     c.in_ok-push.ensures.items inside as_many (c.in_ok-list.ensures.cells ∙ here) c.in_ok-list.ensures.room
     c.in_ok-list.ensures.outputs
-
-pub returns-clause-cells : goal.returns-clause-cells
-returns-clause-cells c =
-    let as_many = c.requires.as_many in
-    let past = c.inputs-test.false in
-    c.inputs.invariant.filled ∙ take_all c.inputs.input c.args.cells.now (omega arith)
-
-pub returns-clause-rooms : goal.returns-clause-rooms
-returns-clause-rooms c =
-    let past = c.inputs-test.false in
-    c.inputs.invariant.rooms ∙ take_all c.inputs.input c.args.rooms.now (omega arith)
-
-pub returns-clause-outputs : goal.returns-clause-outputs
-returns-clause-outputs c =
-    let past = c.inputs-test.false in
-    let end = c.inputs.auto.input-end in
-    let all : c.inputs.input ≡ length c.args.rooms.now = omega arith in
-    c.inputs.invariant.outputs ∙ ap (λ (n : ℕ). replicate n (length c.args.rooms.now)) all

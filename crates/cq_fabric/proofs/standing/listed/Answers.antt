@@ -1,5 +1,4 @@
-use Rattle.std.proofs.Common.{◌∙◌, arith}
-use Rattle.std.proofs.lemmas.List.{take_all}
+use Rattle.std.proofs.Common.{arith}
 use Rattle.cq_fabric.proofs.Filling.{one_read}
 use Rattle.cq_fabric.proofs.standing.listed.Goals as goal
 
@@ -9,9 +8,3 @@ places-preserved c =
     let inside = c.places-test.true in
     one_read c.args.list.now.cells c.places.place c.places.cells.items c.push.new.self.items c.at.result
     c.places.invariant c.in_ok-push.ensures.items (omega arith) c.at.ensures
-
-pub returns : goal.returns
-returns c =
-    let count = c.len-count.ensures.len in
-    let past = c.places-test.false in
-    c.of.ensures ∙ c.places.invariant ∙ take_all c.places.place c.args.list.now.cells (omega arith)

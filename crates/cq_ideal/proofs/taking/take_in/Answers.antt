@@ -1,4 +1,4 @@
-use Rattle.std.proofs.Common.{◌+◌, List, length, map, ap, ◌∙◌, sym, subst, arith, ℕ}
+use Rattle.std.proofs.Common.{List, length, map, ap, ◌∙◌, sym, subst, arith, ℕ}
 use Rattle.std.proofs.lemmas.List.{length-map}
 use Rattle.cq_rank.specs.Switch.{class_count}
 use Rattle.cq_ideal.specs.Limiter.{CanCount}

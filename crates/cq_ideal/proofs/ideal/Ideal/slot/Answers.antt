@@ -2,7 +2,7 @@ use Rattle.std.proofs.Common.{◌≡◌, ℕ, ◌+◌, ◌≤◌, List, [], leng
 use Rattle.std.specs.Prelude.{Bool}
 use Rattle.cq_ideal.specs.Admission.{admitted, marked, refused}
 use Rattle.cq_ideal.specs.Ideal.{IdealSwitch, answer_to}
-use Rattle.cq_ideal.specs.IdealSlot.{IdealState, rests}
+use Rattle.cq_ideal.specs.IdealSlot.{IdealState}
 use Rattle.cq_ideal.specs.Parts.{AllArrivedBefore}
 use Rattle.cq_ideal.specs.Refused.{with_refused}
 use Rattle.cq_ideal.proofs.Spare.{spare_follows}
