@@ -1,15 +1,13 @@
 -- What the parts of an engine show of what a slot asks. It is asked of the engine as clauses see it. Moved to the
 -- parts it is one record, which the lemmas take.
-use Rattle.std.proofs.Common.{◌≡◌, ◌+◌, ◌<◌, ◌≤◌, ◌^◌, ℕ, Bool, false, List, Option, length, map, get_or, sym, ap, ◌∙◌, subst, arith, Ok}
+use Rattle.std.proofs.Common.{◌≡◌, ◌<◌, ◌≤◌, ◌^◌, ℕ, Bool, false, List, Option, length, map, get_or, sym, ap, ◌∙◌, subst, arith, Ok}
 use Rattle.std.proofs.lemmas.List.{length-map}
 use Rattle.cq_base.specs.declared.cell.Cell.{Cell}
 use Rattle.cq_base.specs.declared.figures.Figures.{Figures}
 use Rattle.cq_base.specs.declared.cell.Queued.{Queued}
 use Rattle.cq_rank.specs.Machine.{Machine}
 use Rattle.cq_rank.specs.Switch.{class_count}
-use Rattle.cq_ideal.specs.declared.refused.Refused.{Refused}
 use Rattle.cq_ideal.specs.Admission.{admitted}
-use Rattle.cq_ideal.specs.Ideal.{count_for}
 use Rattle.cq_ideal.specs.Limiter.{CanCount, LimiterView}
 use Rattle.cq_ideal.specs.Taking.{CanTakeIn}
 use Rattle.cq_ideal.specs.Ranking.{AreForPorts, ranking}

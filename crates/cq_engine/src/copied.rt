@@ -6,27 +6,15 @@ ghost use Rattle.cq_laws.specs.Fabric.{IsAmong, input};
 ghost use Rattle.cq_laws.specs.Frozen.{fabric_in};
 ghost use Rattle.cq_laws.specs.Holding.{fabric_held, held_for};
 
-use cq_base::{Figures, InputFigures, NoMemory, OutputFigures, Port, Queued, Sequence};
+use cq_base::{Figures, NoMemory, Port, Queued, Sequence};
 use cq_laws::Frozen;
 use std::alloc::Global;
 
-fn copied_inputs(
-    alloc: Global,
-    inputs: &Sequence<InputFigures>,
-) -> Result<Sequence<InputFigures>, NoMemory>
-    ensures { IfOk result (λ copy. copy ≡ inputs.now) }
+// The same items. The error is want of memory.
+fn copied<T: Copy>(alloc: Global, items: &Sequence<T>) -> Result<Sequence<T>, NoMemory>
+    ensures { IfOk result (λ copy. copy ≡ items.now) }
 {
-    let copy = Vec::from_slice(alloc, inputs.as_slice())?;
-    Ok(Sequence::of(copy))
-}
-
-fn copied_outputs(
-    alloc: Global,
-    outputs: &Sequence<OutputFigures>,
-) -> Result<Sequence<OutputFigures>, NoMemory>
-    ensures { IfOk result (λ copy. copy ≡ outputs.now) }
-{
-    let copy = Vec::from_slice(alloc, outputs.as_slice())?;
+    let copy = Vec::from_slice(alloc, items.as_slice())?;
     Ok(Sequence::of(copy))
 }
 
@@ -34,8 +22,8 @@ fn copied_outputs(
 pub fn copied_figures(alloc: Global, figures: &Figures) -> Result<Figures, NoMemory>
     ensures { IfOk result (λ copy. copy ≡ figures.now) }
 {
-    let inputs = copied_inputs(alloc, &figures.inputs)?;
-    let outputs = copied_outputs(alloc, &figures.outputs)?;
+    let inputs = copied(alloc, &figures.inputs)?;
+    let outputs = copied(alloc, &figures.outputs)?;
     Ok(Figures {
         slots: figures.slots,
         proposals: figures.proposals,
@@ -46,6 +34,7 @@ pub fn copied_figures(alloc: Global, figures: &Figures) -> Result<Figures, NoMem
 }
 
 // How many cells each of these has. The error is want of memory.
+#[tactic(auto, using(std::proofs::lemmas::List::take_all))]
 fn lengths_of(alloc: Global, buffers: &[Sequence<Queued>]) -> Result<Sequence<u64>, NoMemory>
     ensures { IfOk result (λ counts. counts ≡ map length buffers.now) }
 {
@@ -68,6 +57,7 @@ fn count_one(held: &mut Sequence<u64>, output: Port)
 }
 
 // The cells of a list are counted, each for its output.
+#[tactic(auto, using(std::proofs::lemmas::List::take_all))]
 fn count_each(held: &mut Sequence<u64>, cells: &[Queued])
     requires outputs { All (λ c. c.cell.output < length held.old) cells.now }
     requires fit { (j : ℕ) → j < length held.old →

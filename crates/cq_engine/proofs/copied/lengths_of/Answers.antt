@@ -1,5 +1,5 @@
 use Rattle.std.proofs.Common.{ℕ, List, [], ◌∷◌, ◌++◌, length, map, take, sym, ap, ◌∙◌}
-use Rattle.std.proofs.lemmas.List.{get_or_read, map_more, take_all}
+use Rattle.std.proofs.lemmas.List.{get_or_read, map_more}
 use Rattle.cq_engine.proofs.copied.lengths_of.Goals as goal
 
 pub outputs-preserved : goal.outputs-preserved
@@ -13,8 +13,3 @@ outputs-preserved c =
     ∙ ap (λ (l : List ℕ). l ++ length c.as_slice-cells.result.now ∷ []) c.outputs.invariant
     ∙ ap (λ (n : ℕ). map length (take output buffers) ++ n ∷ []) (ap length here)
     ∙ sym (map_more length buffers output [] inside)
-
-pub returns : goal.returns
-returns c =
-    let past = c.outputs-test.false in
-    c.of.ensures ∙ c.outputs.invariant ∙ ap (map length) (take_all c.outputs.output c.args.buffers.now past)

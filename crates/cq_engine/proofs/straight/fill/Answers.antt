@@ -1,8 +1,8 @@
-use Rattle.std.proofs.Common.{◌≡◌, ◌+◌, ◌≤◌, ◌∙◌, length, List, Option, Some, None, true, false, sym, ap, subst, arith, length-set}
-use Rattle.std.specs.Prelude.{is_some, slice_set}
+use Rattle.std.proofs.Common.{◌+◌, ◌≤◌, ◌∙◌, length, List, Option, Some, sym, ap, subst, arith, length-set}
+use Rattle.std.specs.Prelude.{is_some}
 use Rattle.cq_base.specs.declared.cell.Queued.{Queued}
 use Rattle.cq_laws.specs.Phases.{came_to}
-use Rattle.cq_engine.specs.Straight.{AreApart, AreSent}
+use Rattle.cq_engine.specs.Straight.{AreSent}
 use Rattle.cq_engine.proofs.Apart.{apart_more, apart_past, free_of, not_apart, sent_more, sent_past, taken_of}
 use Rattle.cq_engine.proofs.straight.fill.Goals as goal
 use Rattle.cq_engine.proofs.straight.fill.Goals.{in-Some+else-is_some, in_default}

@@ -5,10 +5,9 @@ use Rattle.cq_base.specs.declared.cell.Queued.{Queued}
 use Rattle.cq_base.specs.declared.figures.Figures.{Figures}
 use Rattle.cq_base.specs.declared.figures.OutputFigures.{OutputFigures}
 use Rattle.cq_rank.specs.Switch.{class_count}
-use Rattle.cq_ideal.specs.Admission.{Admission, admitted, refused}
+use Rattle.cq_ideal.specs.Admission.{Admission, admitted}
 use Rattle.cq_ideal.specs.IdealSlot.{all_told, fronts, departures_in}
 use Rattle.cq_ideal.specs.Ranking.{ranking}
-use Rattle.cq_ideal.specs.Refused.{with_refused}
 use Rattle.cq_ideal.proofs.Slot.{by_marks}
 use Rattle.cq_prefs.specs.Moves.{transfers_of}
 use Rattle.cq_laws.specs.Phases.{came_to}
