@@ -19,18 +19,18 @@ use Rattle.cq_laws.specs.Fabric.{Fabric}
 use Rattle.cq_laws.specs.LimitedFabric.{empty_limited_fabric}
 use Rattle.cq_audit.specs.Audit.{IsNo, IsNoOf, IsYes, opening_fabric, unread}
 use Rattle.cq_audit.specs.Log.{AreInOrder, IsLog, IsLogFault}
-use Rattle.cq_audit.specs.Refusals.{IsCause}
 use Rattle.cq_audit.specs.Replay.{IsInStep, ReplayView, ports_in}
 use Rattle.cq_audit.specs.Running.{IsReady, RunEnds}
 use Rattle.cq_audit.specs.StableRun.{IsOfStableRun}
-use Rattle.cq_audit.specs.declared.log.LogRefusal.{LogRefusal}
-use Rattle.cq_audit.specs.declared.log.LogRefusal.TheVariants.{Line as NoLine, NoMemory as Unread}
+use Rattle.cq_lines.specs.Refusals.{IsCause}
+use Rattle.cq_lines.specs.declared.refusal.LineRefusal.{LineRefusal}
+use Rattle.cq_lines.specs.declared.refusal.LineRefusal.TheVariants.{Line as NoLine, NoMemory as Unread}
 use Rattle.cq_audit.specs.declared.refusal.AuditRefusal.{AuditRefusal}
 use Rattle.cq_audit.specs.declared.refusal.AuditRefusal.TheVariants.{Line, Transfer as Wrong, Blocking, Left, NoMemory}
 
 -- a log that cannot be read is none, for the same reason
 pub no_log : (setup : Setup) (limits : List (Option ℕ)) (came : List Arrival) (log : List ℕ) (ports : ℕ)
-    (why : LogRefusal) → ports ≡ length setup.kinds → IsCause ports log why → IsNo setup limits came log (unread why)
+    (why : LineRefusal) → ports ≡ length setup.kinds → IsCause (IsLogFault ports log) why → IsNo setup limits came log (unread why)
 no_log setup limits came log ports (NoLine n) are cause =
     subst (λ (k : ℕ). IsLogFault k log n) are cause
 no_log setup limits came log ports Unread are cause = tt

@@ -15,8 +15,8 @@ use Rattle.cq_laws.specs.Fabric.{Fabric}
 use Rattle.cq_laws.specs.LimitedFabric.{empty_limited_fabric}
 use Rattle.cq_audit.specs.Log.{IsLog, IsLogFault}
 use Rattle.cq_audit.specs.StableRun.{IsFaultAt, IsLeftAt, IsOfStableRun}
-use Rattle.cq_audit.specs.declared.log.LogRefusal.{LogRefusal}
-use Rattle.cq_audit.specs.declared.log.LogRefusal.TheVariants.{Line as NoLine, NoMemory as Unread}
+use Rattle.cq_lines.specs.declared.refusal.LineRefusal.{LineRefusal}
+use Rattle.cq_lines.specs.declared.refusal.LineRefusal.TheVariants.{Line as NoLine, NoMemory as Unread}
 use Rattle.cq_audit.specs.declared.phase.PhaseFault.{PhaseFault}
 use Rattle.cq_audit.specs.declared.phase.PhaseFault.TheVariants.{WrongLine, Blocking as Unsettled}
 use Rattle.cq_audit.specs.declared.refusal.AuditRefusal.{AuditRefusal}
@@ -42,7 +42,7 @@ pub record CanBeAudited (setup : Setup) (limits : List (Option ℕ)) (schedule :
 -- ## Refusals
 
 -- a log that cannot be read, as a refusal
-abbrev pub unread : LogRefusal → AuditRefusal
+abbrev pub unread : LineRefusal → AuditRefusal
 unread (NoLine n) = Line n
 unread Unread = NoMemory
 

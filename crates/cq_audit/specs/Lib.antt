@@ -1,7 +1,6 @@
 pub mod Audit
 pub mod Crossing
 pub mod Log
-pub mod Refusals
 pub mod Replay
 pub mod Running
 pub mod Pairs

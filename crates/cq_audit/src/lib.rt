@@ -23,7 +23,7 @@ pub use crossing::cross;
 pub use laws::{
     audits_are_exact, logs_are_exact, phases_are_exact, traces_are_exact, transfers_tell_the_run,
 };
-pub use log::{LogRefusal, read_log};
+pub use log::read_log;
 pub use pairs::Pairs;
 pub use parted::part;
 pub use phase::{PhaseFault, stable_told};

@@ -2,10 +2,10 @@
 ghost use Rattle.std.specs.Prelude.{◌≡◌};
 ghost use Rattle.cq_audit.specs.Audit.{refusal_of};
 
-use crate::log::LogRefusal;
 use crate::phase::PhaseFault;
 use crate::replay::SlotFault;
 use cq_base::{NoMemory, Port, Slot};
+use cq_lines::LineRefusal;
 
 /// Why a log is not that of a stable run: the first of these that applies. The faults of phases come in the order of
 /// the phases.
@@ -67,16 +67,16 @@ impl From<NoMemory> for AuditRefusal {
     }
 }
 
-impl From<LogRefusal> for AuditRefusal {
+impl From<LineRefusal> for AuditRefusal {
     ghost use Rattle.std.specs.Prelude.{◌≡◌};
     ghost use Rattle.cq_audit.specs.Audit.{unread};
 
     ghost from_gives = { λ log refusal. refusal ≡ unread log };
 
-    fn from(refusal: LogRefusal) -> Self {
+    fn from(refusal: LineRefusal) -> Self {
         match refusal {
-            LogRefusal::Line { line } => AuditRefusal::Line { line },
-            LogRefusal::NoMemory => AuditRefusal::NoMemory,
+            LineRefusal::Line { line } => AuditRefusal::Line { line },
+            LineRefusal::NoMemory => AuditRefusal::NoMemory,
         }
     }
 }

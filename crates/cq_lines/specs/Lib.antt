@@ -1,3 +1,4 @@
 pub mod Lines
 pub mod Ranges
 pub mod Texts
+pub mod Refusals

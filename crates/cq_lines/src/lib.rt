@@ -8,6 +8,7 @@ mod fields;
 mod laws;
 mod number;
 mod range;
+mod refusal;
 #[cfg(test)]
 mod tests;
 mod write;
@@ -16,4 +17,5 @@ pub use fields::{behind, take_field, take_fields};
 pub use laws::lines_are_read_in_one_way;
 pub use number::take_number;
 pub use range::{Range, take_fields_within};
+pub use refusal::LineRefusal;
 pub use write::put_line;

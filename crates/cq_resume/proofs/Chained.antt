@@ -1,8 +1,9 @@
 -- A relation that goes on from one to the next. Where it holds of neighbours it holds of each and each later one, so a
--- walk that compares neighbours decides it. And what is known of each and each later one is known by places, by
+-- test of neighbours decides it. And what is known of each and each later one is known by places, by
 -- recursion, and of any two that stand in the list in this order.
-use Rattle.std.proofs.Common.{◌≡◌, ℕ, zero, suc, ◌+◌, ◌-◌, ◌<◌, ◌≤◌, ◌↔◌, Bool, true, false, List, [], ◌∷◌, length, get_or, refl, sym, ◌∙◌, subst, inl, inr, arith}
-use Rattle.std.specs.List.{AllByRecursion, AllPairs}
+use Rattle.std.proofs.Common.{◌≡◌, ℕ, zero, suc, ◌+◌, ◌-◌, ◌<◌, ◌≤◌, ◌↔◌, Bool, true, false, List, [], ◌∷◌, length, get_or, refl, ap, sym, ◌∙◌, subst, inl, inr, arith}
+use Rattle.std.specs.List.{AllAdjacentBelow, AllByRecursion, AllPairs}
+use Rattle.cq_resume.specs.Neighbours.{IsOfNeighbours}
 use Rattle.std.proofs.lemmas.Bool.{cases_eq}
 use Rattle.std.proofs.lemmas.List.{get_or_default}
 use Rattle.std.proofs.lemmas.List.Elements.{All-from_recursion}
@@ -12,44 +13,62 @@ use Rattle.std.proofs.lemmas.List.Kept.{AllPairs-cons}
 abbrev pub PairsBelow : {X : Type 0} → (X → X → Type 0) → List X → ℕ → Type 0
 PairsBelow {X} R xs n = (i j : ℕ) (d : X) → i < j → j < n → R (get_or xs i d) (get_or xs j d)
 
+-- ## Neighbours
+
 module _ {X : Type 0} (R : X → X → Type 0) (xs : List X) where
-  pub pairs_first : PairsBelow R xs 1
-  pairs_first i j d lt le = absurd (omega arith)
+  -- what holds of two neighbours, wherever they are read from
+  next_at : (n : ℕ) (x y : X) → n < length xs → x ≡ get_or xs (n - 1) x → y ≡ get_or xs n y → R x y → (k : ℕ) (d : X) →
+      k + 1 ≡ n → R (get_or xs k d) (get_or xs (k + 1) d)
+  next_at n x y inside first second next k d near =
+      let at : n - 1 ≡ k = omega arith in
+      let before = first ∙ ap (λ m. get_or xs m x) at ∙ get_or_default xs k x d (omega arith) in
+      let here = second ∙ get_or_default xs n y d inside ∙ ap (λ m. get_or xs m d) (sym near) in
+      subst (R (get_or xs k d)) here (subst (λ z. R z y) before next)
 
-  pub pairs_last : (n : ℕ) → length xs ≤ n → PairsBelow R xs n → AllPairs R xs
-  pairs_last n past pairs i j d lt le = pairs i j d lt (omega arith)
+  pub next_more : (n : ℕ) (x y : X) → n < length xs → x ≡ get_or xs (n - 1) x → y ≡ get_or xs n y → R x y →
+      AllAdjacentBelow R xs n → AllAdjacentBelow R xs (n + 1)
+  next_more n x y inside first second next all k d low = elim (cases_eq (k + 1) n) [
+    | inl near ↦ next_at n x y inside first second next k d near
+    | inr far ↦ all k d (omega arith)
+  ]
 
-  -- where it does not hold of two neighbours it does not hold throughout
-  pub pairs_fail : (n : ℕ) (d : X) (r : Bool) → 1 ≤ n → n < length xs →
-      ((r ≡ true) ↔ R (get_or xs (n - 1) d) (get_or xs n d)) → r ≡ false → (false ≡ true) ↔ AllPairs R xs
-  pairs_fail n d r one inside is fails = (
-    (λ clash. absurd (let P : ⊥ = cc in P)),
-    (λ pairs. sym fails ∙ is.1 (pairs (n - 1) n d (omega arith) inside)),
-  )
-
-  pub pairs_hold : (n : ℕ) → length xs ≤ n → PairsBelow R xs n → (true ≡ true) ↔ AllPairs R xs
-  pairs_hold n past pairs = ((λ _. pairs_last n past pairs), (λ _. refl))
+  pub next_found : (n : ℕ) (x y : X) → 1 ≤ n → n < length xs → x ≡ get_or xs (n - 1) x → y ≡ get_or xs n y → R x y →
+      (k : ℕ) × (k + 1 < length xs) × ((d : X) → R (get_or xs k d) (get_or xs (k + 1) d))
+  next_found n x y one inside first second next =
+      (n - 1, omega arith, λ d. next_at n x y inside first second next (n - 1) d (omega arith))
 
   module _ (goes_on : (a b c : X) → R a b → R b c → R a c) where
-    pub pairs_more : (n : ℕ) (e : X) → 1 ≤ n → n < length xs → PairsBelow R xs n →
-        R (get_or xs (n - 1) e) (get_or xs n e) → PairsBelow R xs (n + 1)
-    pairs_more n e one inside pairs next i j d lt le =
-        let before : get_or xs (n - 1) e ≡ get_or xs (n - 1) d = get_or_default xs (n - 1) e d (omega arith) in
-        let here : get_or xs n e ≡ get_or xs n d = get_or_default xs n e d inside in
-        let step : R (get_or xs (n - 1) d) (get_or xs n d) =
-        subst (λ (y : X). R (get_or xs (n - 1) d) y) here (subst (λ (y : X). R y (get_or xs n e)) before next) in
-        elim (cases_eq j n) [
-          | inr other ↦ pairs i j d lt (omega arith)
-          | inl same ↦
-              let last : R (get_or xs i d) (get_or xs n d) =
-              elim (cases_eq i (n - 1)) [
-                | inl near ↦ subst (λ (k : ℕ). R (get_or xs k d) (get_or xs n d)) (sym near) step
-                | inr far ↦
-                    goes_on (get_or xs i d) (get_or xs (n - 1) d) (get_or xs n d)
-                    (pairs i (n - 1) d (omega arith) (omega arith)) step
-              ] in
-              subst (λ (k : ℕ). R (get_or xs i d) (get_or xs k d)) (sym same) last
-        ]
+    reached : AllAdjacentBelow R xs (length xs) → (m i j : ℕ) (d : X) → j ≡ i + m + 1 → j < length xs →
+        R (get_or xs i d) (get_or xs j d)
+    reached all zero i j d e inside =
+        let last : i + 1 ≡ j = omega arith in
+        subst (λ k. R (get_or xs i d) (get_or xs k d)) last (all i d (omega arith))
+    reached all (suc m) i j d e inside =
+        let last : (j - 1) + 1 ≡ j = omega arith in
+        goes_on (get_or xs i d) (get_or xs (j - 1) d) (get_or xs j d)
+        (reached all m i (j - 1) d (omega arith) (omega arith))
+        (subst (λ k. R (get_or xs (j - 1) d) (get_or xs k d)) last (all (j - 1) d (omega arith)))
+
+    pub next_pairs : AllAdjacentBelow R xs (length xs) → AllPairs R xs
+    next_pairs all i j d lt inside = reached all ((j - i) - 1) i j d (omega arith) inside
+
+    -- the answer of a test that decides the relation, asked of each and the next one
+    pub neighbours_decide : {Test : X → X → Bool → Type 0} {r : Bool} → IsOfNeighbours Test xs r →
+        ((a b : X) (r : Bool) → Test a b r → (r ≡ true) ↔ R a b) → (r ≡ true) ↔ AllPairs R xs
+    neighbours_decide {r = true} answer decides =
+        ((λ _. next_pairs (λ k d inside. (decides _ _ true (answer.each k d inside)).0 refl)), (λ _. refl))
+    neighbours_decide {r = false} answer decides = (
+      (λ clash. absurd (let P : ⊥ = cc in P)),
+      (λ pairs.
+          let failed = answer.each in
+          let inside = failed.1 in
+          let d = some_item xs (omega arith) in
+          (decides _ _ false (failed.2 d)).1 (pairs failed.0 (failed.0 + 1) d (omega arith) inside)),
+    )
+      where
+        some_item : (ys : List X) → 0 < length ys → X
+        some_item [] inside = absurd (omega arith)
+        some_item (y ∷ ys) inside = y
 
 -- ## By recursion
 

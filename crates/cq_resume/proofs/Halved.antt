@@ -38,13 +38,13 @@ lesser_part key xs rising i j d le inside is =
     ]
 
 -- items of which each later one has no lesser number do not fall
-pub not_falling : {X : Type 0} (key : X → ℕ) (xs : List X) → AllPairs (λ a b. key a ≤ key b) xs →
-    IsNonDecreasingBy key xs
-not_falling key xs pairs i j d le inside =
+pub not_falling : {X : Type 0} (R : X → X → Type 0) (key : X → ℕ) → ((a b : X) → R a b → key a ≤ key b) →
+    (xs : List X) → AllPairs R xs → IsNonDecreasingBy key xs
+not_falling R key no_less xs pairs i j d le inside =
     elim (cases_eq i j) [
       | inl same ↦
           let is : key (get_or xs i d) ≡ key (get_or xs j d) = ap (λ (k : ℕ). key (get_or xs k d)) same in omega arith
-      | inr other ↦ pairs i j d (omega arith) inside
+      | inr other ↦ no_less (get_or xs i d) (get_or xs j d) (pairs i j d (omega arith) inside)
     ]
 
 pub output_no_less : (a b : Queued) → IsBufferedBefore a b → a.cell.output ≤ b.cell.output

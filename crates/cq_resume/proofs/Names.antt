@@ -13,7 +13,7 @@ use Rattle.std.proofs.lemmas.Fn.{always_returns_same}
 use Rattle.std.proofs.lemmas.Map.Keys.{IsDistinct-IsPermutation, IsDistinct-from_apart, apart_from_distinct, ge_from_not_lt}
 use Rattle.cq_resume.specs.Finding.{IsNameBefore, IsNameNotAfter}
 use Rattle.cq_resume.specs.declared.found.Name.{Name}
-use Rattle.cq_resume.proofs.Chained.{PairsBelow, pairs_first, pairs_last, pairs_more}
+use Rattle.cq_resume.proofs.Chained.{next_pairs}
 use Rattle.cq_resume.proofs.Orders.{name_on}
 
 -- ## Sorted names
@@ -86,31 +86,12 @@ strictly a b (inr (same, le)) other =
         (λ apart. omega arith) (cases_eq a.queued.key.slot b.queued.key.slot)
 
 -- names that stand in order and differ stand strictly in order
-rising_below : (xs : List Name) → AllAdjacentBelow IsNameNotAfter xs (length xs) → IsDistinct same_name xs →
-    (n : ℕ) → 1 ≤ n → n ≤ length xs → PairsBelow IsNameBefore xs n
-rising_below xs order differ zero one few = absurd (omega arith)
-rising_below xs order differ (suc zero) one few = pairs_first IsNameBefore xs
-rising_below xs order differ (suc (suc n)) one few = λ i j d lt le.
-    let before = rising_below xs order differ (suc n) (omega arith) (omega arith) in
-    let more : suc n + 1 ≡ suc (suc n) = omega arith in
-    let back : suc n - 1 ≡ n = omega arith in
-    let next : n + 1 ≡ suc n = omega arith in
-    let near : IsNameNotAfter (get_or xs n d) (get_or xs (n + 1) d) = order n d (omega arith) in
-    let apart : same_name (get_or xs n d) (get_or xs (n + 1) d) ≡ false =
-    apart_from_distinct same_name xs n (n + 1) d differ (omega arith) (omega arith) in
-    let step : IsNameBefore (get_or xs n d) (get_or xs (n + 1) d) =
-    strictly (get_or xs n d) (get_or xs (n + 1) d) near apart in
-    let step_at : IsNameBefore (get_or xs (suc n - 1) d) (get_or xs (suc n) d) =
-    subst (λ (k : ℕ). IsNameBefore (get_or xs k d) (get_or xs (suc n) d)) (sym back)
-    (subst (λ (k : ℕ). IsNameBefore (get_or xs n d) (get_or xs k d)) next step) in
-    pairs_more IsNameBefore xs name_on (suc n) d (omega arith) (omega arith) before step_at i j d lt (omega arith)
-
 pub rising_names : (xs : List Name) → AllAdjacentBelow IsNameNotAfter xs (length xs) → IsDistinct same_name xs →
     AllPairs IsNameBefore xs
-rising_names [] order differ = λ i j d lt inside. absurd (omega arith)
-rising_names (x ∷ xs) order differ =
-    pairs_last IsNameBefore (x ∷ xs) (length (x ∷ xs)) (omega arith)
-    (rising_below (x ∷ xs) order differ (length (x ∷ xs)) (omega arith) (omega arith))
+rising_names xs order differ =
+    next_pairs IsNameBefore xs name_on
+    (λ k d inside. strictly (get_or xs k d) (get_or xs (k + 1) d) (order k d inside)
+    (apart_from_distinct same_name xs k (k + 1) d differ (omega arith) inside))
 
 pub still_differ : (xs ys : List Name) → IsPermutation xs ys → IsDistinct same_name xs → IsDistinct same_name ys
 still_differ = IsDistinct-IsPermutation same_name name_flips

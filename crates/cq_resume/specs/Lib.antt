@@ -8,3 +8,4 @@ pub mod Taking
 pub mod Reading
 pub mod Resumed
 pub mod Parts
+pub mod Neighbours

@@ -5,10 +5,12 @@ ghost use Rattle.cq_resume.specs.Finding.{AreGone, AreTold, IsFound, IsNameBefor
 ghost use Rattle.cq_resume.specs.Sound.{AreArrivals, IsForPorts, IsOnlyFor};
 
 use crate::StateRefusal;
+use crate::between::between;
+use crate::neighbours::neighbours_hold;
 use cq_base::{Key, NoMemory, Port, Queued, Slot};
 use cq_cells::Schedule;
 use cq_state::{Named, Sent, State};
-use std::alloc::Global;
+use std::alloc::{AllocError, Global};
 
 /// A cell that was sent, and when.
 #[derive(Clone, Copy)]
@@ -103,30 +105,41 @@ fn gone_all(
     Ok(Some(all))
 }
 
-// The names of cells that wait are put behind the others.
-fn put_waiting(names: &mut Vec<Name>, cells: &[Queued]) -> Result<(), NoMemory>
-    ensures { OnOk result (names.new.items ≡ names.old.items ++ map waiting_name cells.now) }
+// The name of a cell that waits.
+fn waiting_name(queued: &Queued) -> Name
+    ensures { result ≡ waiting_name queued.now }
 {
-    'cells: for queued in cells {
-        names.push(Name {
-            queued: *queued,
-            sent: None,
-        })?;
+    Name {
+        queued: *queued,
+        sent: None,
     }
-    Ok(())
 }
 
-// And those of cells that were sent.
-fn put_sent(names: &mut Vec<Name>, sent: &[Gone]) -> Result<(), NoMemory>
-    ensures { OnOk result (names.new.items ≡ names.old.items ++ map sent_name sent.now) }
+// And that of a cell that was sent.
+fn sent_name(gone: &Gone) -> Name
+    ensures { result ≡ sent_name gone.now }
 {
-    'sent: for gone in sent {
-        names.push(Name {
-            queued: gone.queued,
-            sent: Some(gone.slot),
-        })?;
+    Name {
+        queued: gone.queued,
+        sent: Some(gone.slot),
     }
-    Ok(())
+}
+
+// All names, as the lines stand.
+fn all_names(
+    alloc: Global,
+    listed: &[Queued],
+    buffered: &[Queued],
+    sent: &[Gone],
+) -> Result<Vec<Name>, AllocError>
+    ensures { IfOk result (λ names. names.items ≡ names_told listed.now buffered.now sent.now) }
+{
+    listed
+        .iter()
+        .map(waiting_name)
+        .chain(buffered.iter().map(waiting_name))
+        .chain(sent.iter().map(sent_name))
+        .collect(alloc)
 }
 
 // All names, by input and then by slot of arrival.
@@ -139,10 +152,7 @@ fn names_of(
     ensures same { IfOk result (λ names. IsPermutation (names_told listed.now buffered.now sent.now) names.items) }
     ensures ordered { IfOk result (λ names. AllAdjacentBelow IsNameNotAfter names.items (length names.items)) }
 {
-    let mut names = Vec::new(alloc);
-    put_waiting(&mut names, listed)?;
-    put_waiting(&mut names, buffered)?;
-    put_sent(&mut names, sent)?;
+    let mut names = all_names(alloc, listed, buffered, sent)?;
     names.sort_unstable_by_key(|name| arrived(name));
     Ok(names)
 }
@@ -158,12 +168,7 @@ fn is_before(name: &Name, other: &Name) -> bool
 fn differ(names: &[Name]) -> bool
     ensures { IsTrue result ↔ AllPairs IsNameBefore names.now }
 {
-    'places: for at in 1..names.len() {
-        if !is_before(&names[at - 1], &names[at]) {
-            return false;
-        }
-    }
-    true
+    neighbours_hold(names, is_before)
 }
 
 /// The cells that a state names. It is refused where one of them does not arrive before the next slot, or is named twice.
@@ -231,8 +236,9 @@ pub fn names_at(names: &[Name], input: Port) -> &[Name]
     requires { AllPairs IsNameBefore names.now }
     ensures { result.now ≡ filter (λ n. n.queued.key.input == input) names.now }
 {
-    let end = names.partition_point(|name| name.queued.key.input <= input);
-    let upto = &names[..end];
-    let start = upto.partition_point(|name| name.queued.key.input < input);
-    &upto[start..]
+    between(
+        names,
+        |name| name.queued.key.input <= input,
+        |name| name.queued.key.input < input,
+    )
 }

@@ -4,10 +4,12 @@
 //! and the state is judged: whether it is one that the switch could be in.
 #![tactic(auto)]
 
+mod between;
 mod floors;
 mod flows;
 mod found;
 mod laws;
+mod neighbours;
 mod order;
 mod packets;
 mod read;

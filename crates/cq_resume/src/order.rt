@@ -6,6 +6,7 @@ ghost use Rattle.cq_resume.specs.Finding.{BuffersStand, IsBufferedBefore, IsList
 ghost use Rattle.cq_resume.specs.Sound.{IsMovedBefore};
 
 use crate::found::{Found, Gone};
+use crate::neighbours::neighbours_hold;
 use cq_base::{Key, Queued, Slot, Transfer};
 
 // Whether a cell is more urgent than another.
@@ -27,12 +28,7 @@ fn is_no_later(queued: &Queued, other: &Queued) -> bool
 fn inputs_in_order(listed: &[Queued]) -> bool
     ensures { IsTrue result ↔ AllPairs IsNoLaterInput listed.now }
 {
-    'places: for at in 1..listed.len() {
-        if !is_no_later(&listed[at - 1], &listed[at]) {
-            return false;
-        }
-    }
-    true
+    neighbours_hold(listed, is_no_later)
 }
 
 /// Whether the cell at a place is the first one of its input, of cells that stand by input.
@@ -104,12 +100,7 @@ fn is_buffered_before(queued: &Queued, other: &Queued) -> bool
 fn buffers_in_order(buffered: &[Queued]) -> bool
     ensures { IsTrue result ↔ BuffersStand buffered.now }
 {
-    'places: for at in 1..buffered.len() {
-        if !is_buffered_before(&buffered[at - 1], &buffered[at]) {
-            return false;
-        }
-    }
-    true
+    neighbours_hold(buffered, is_buffered_before)
 }
 
 // Whether a departure is before another: by slot, then by output.
@@ -124,12 +115,7 @@ fn is_sent_before(gone: &Gone, other: &Gone) -> bool
 fn sent_in_order(sent: &[Gone]) -> bool
     ensures { IsTrue result ↔ AllPairs IsSentBefore sent.now }
 {
-    'places: for at in 1..sent.len() {
-        if !is_sent_before(&sent[at - 1], &sent[at]) {
-            return false;
-        }
-    }
-    true
+    neighbours_hold(sent, is_sent_before)
 }
 
 // Whether a departure is in a slot from its cell's arrival up to the next one.
@@ -143,12 +129,7 @@ fn is_timely(gone: &Gone, next: Slot) -> bool
 fn are_timely(sent: &[Gone], next: Slot) -> bool
     ensures { IsTrue result ↔ AllByRecursion (IsTimely next) sent.now }
 {
-    'places: for at in 0..sent.len() {
-        if !is_timely(&sent[at], next) {
-            return false;
-        }
-    }
-    true
+    sent.iter().all(|gone| is_timely(gone, next))
 }
 
 // Whether the departures stand by slot and then by output, and each has its time.
@@ -172,12 +153,7 @@ fn is_moved_before(transfer: &Transfer, other: &Transfer) -> bool
 fn moved_in_order(moved: &[Transfer]) -> bool
     ensures { IsTrue result ↔ AllPairs IsMovedBefore moved.now }
 {
-    'places: for at in 1..moved.len() {
-        if !is_moved_before(&moved[at - 1], &moved[at]) {
-            return false;
-        }
-    }
-    true
+    neighbours_hold(moved, is_moved_before)
 }
 
 // Whether a transfer is before the next slot.
@@ -191,12 +167,7 @@ fn is_early(transfer: &Transfer, next: Slot) -> bool
 fn are_before(moved: &[Transfer], next: Slot) -> bool
     ensures { IsTrue result ↔ AllByRecursion (λ t. t.slot < next) moved.now }
 {
-    'places: for at in 0..moved.len() {
-        if !is_early(&moved[at], next) {
-            return false;
-        }
-    }
-    true
+    moved.iter().all(|transfer| is_early(transfer, next))
 }
 
 // Whether the transfers stand by slot, then by phase, then by input, and each is before the next slot.

@@ -1,6 +1,6 @@
 //! Why a text is not taken as a state.
 use cq_base::NoMemory;
-use cq_state::TextRefusal;
+use cq_lines::LineRefusal;
 
 /// Why a text is not taken as a state.
 #[derive(Clone, Copy, Debug, PartialEq, Eq)]
@@ -32,16 +32,16 @@ impl From<NoMemory> for StateRefusal {
     }
 }
 
-impl From<TextRefusal> for StateRefusal {
+impl From<LineRefusal> for StateRefusal {
     ghost use Rattle.std.specs.Prelude.{◌≡◌};
     ghost use Rattle.cq_resume.specs.Refused.{refusal_of};
 
     ghost from_gives = { λ text refusal. refusal ≡ refusal_of text };
 
-    fn from(refusal: TextRefusal) -> Self {
+    fn from(refusal: LineRefusal) -> Self {
         match refusal {
-            TextRefusal::Line { line } => StateRefusal::Text { line },
-            TextRefusal::NoMemory => StateRefusal::NoMemory,
+            LineRefusal::Line { line } => StateRefusal::Text { line },
+            LineRefusal::NoMemory => StateRefusal::NoMemory,
         }
     }
 }

@@ -3,6 +3,7 @@ ghost use Rattle.std.specs.Prelude.{◌≡◌, ◌↔◌, ◌==◌, AllPairs, Is
 ghost use Rattle.cq_base.specs.Cells.{IsRising, cushion};
 ghost use Rattle.cq_resume.specs.Finding.{BuffersStand, IsNoLaterInput, SlackStands, cushion_in};
 
+use crate::between::between;
 use crate::order::begins;
 use cq_base::{Key, Port, Queued};
 
@@ -11,10 +12,11 @@ fn cells_for(buffered: &[Queued], output: Port) -> &[Queued]
     requires { BuffersStand buffered.now }
     ensures { result.now ≡ filter (λ q. q.cell.output == output) buffered.now }
 {
-    let end = buffered.partition_point(|queued| queued.cell.output <= output);
-    let upto = &buffered[..end];
-    let start = upto.partition_point(|queued| queued.cell.output < output);
-    &upto[start..]
+    between(
+        buffered,
+        |queued| queued.cell.output <= output,
+        |queued| queued.cell.output < output,
+    )
 }
 
 /// The cells of one output's buffer, of cells that stand by output and then by their keys.

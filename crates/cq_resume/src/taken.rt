@@ -7,6 +7,7 @@ ghost use Rattle.cq_resume.specs.Finding.{BuffersStand, IsFound, IsNameBefore, I
 ghost use Rattle.cq_resume.specs.Switch.{Switch};
 ghost use Rattle.cq_resume.specs.Taking.{CanTakeUp, departed, figures_at_input, longer, with_departure};
 
+use crate::between::between;
 use crate::found::{Found, Gone, Name, names_at};
 use crate::packets::Tally;
 use crate::slack::buffer_at;
@@ -16,7 +17,7 @@ use cq_base::{
 };
 use cq_laws::Frozen;
 use cq_state::{Seen, State};
-use std::alloc::Global;
+use std::alloc::{AllocError, Global};
 
 /// A stopped run that can go on.
 #[derive(Drop)]
@@ -34,10 +35,11 @@ fn list_at(listed: &[Queued], input: Port) -> &[Queued]
     requires { AllPairs IsNoLaterInput listed.now }
     ensures { result.now ≡ filter (λ q. q.key.input == input) listed.now }
 {
-    let end = listed.partition_point(|queued| queued.key.input <= input);
-    let upto = &listed[..end];
-    let start = upto.partition_point(|queued| queued.key.input < input);
-    &upto[start..]
+    between(
+        listed,
+        |queued| queued.key.input <= input,
+        |queued| queued.key.input < input,
+    )
 }
 
 // These cells, as a value.
@@ -93,14 +95,10 @@ fn departed(gone: Gone) -> Departure
 }
 
 // The departures.
-fn departures_of(alloc: Global, sent: &[Gone]) -> Result<Vec<Departure>, NoMemory>
+fn departures_of(alloc: Global, sent: &[Gone]) -> Result<Vec<Departure>, AllocError>
     ensures { IfOk result (λ departures. departures.items ≡ map departed sent.now) }
 {
-    let mut departures = Vec::new(alloc);
-    'sent: for gone in sent {
-        departures.push(departed(*gone))?;
-    }
-    Ok(departures)
+    sent.iter().map(|gone| departed(*gone)).collect(alloc)
 }
 
 // What was seen of each input: the cells that are named, and what the lines tell.

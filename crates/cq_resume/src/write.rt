@@ -8,7 +8,7 @@ ghost use Rattle.cq_state.specs.State.{state_text};
 use crate::Frozen;
 use cq_base::{Departure, InputFigures, NoMemory, Port, Queued, Sequence, Transfer};
 use cq_state::{Head, Named, Seen, Sent, State, StateLong, text_of};
-use std::alloc::Global;
+use std::alloc::{AllocError, Global};
 
 // A cell by its name, with its key.
 fn named_as(queued: Queued) -> Named
@@ -43,14 +43,13 @@ fn sent_as(departure: Departure) -> Sent
 }
 
 // What was seen of each input.
-fn all_seen(alloc: Global, inputs: &[InputFigures]) -> Result<Sequence<Seen>, NoMemory>
-    ensures { IfOk result (λ seen. seen ≡ map seen_as inputs.now) }
+fn all_seen(alloc: Global, inputs: &[InputFigures]) -> Result<Vec<Seen>, AllocError>
+    ensures { IfOk result (λ seen. seen.items ≡ map seen_as inputs.now) }
 {
-    let mut seen = Vec::new(alloc);
-    'inputs: for figures in inputs {
-        seen.push(seen_as(*figures))?;
-    }
-    Ok(Sequence::of(seen))
+    inputs
+        .iter()
+        .map(|figures| seen_as(*figures))
+        .collect(alloc)
 }
 
 // The numbers of a rank state.
@@ -76,13 +75,10 @@ fn all_numbers(
 }
 
 // The names of these cells are put behind the others.
-fn put_named(named: &mut Vec<Named>, cells: &[Queued]) -> Result<(), NoMemory>
+fn put_named(named: &mut Vec<Named>, cells: &[Queued]) -> Result<(), AllocError>
     ensures { OnOk result (named.new.items ≡ named.old.items ++ map named_as cells.now) }
 {
-    'cells: for queued in cells {
-        named.push(named_as(*queued))?;
-    }
-    Ok(())
+    named.extend(cells.iter().map(|queued| named_as(*queued)))
 }
 
 // The cells of all these queues by their names, one queue after the other.
@@ -97,14 +93,12 @@ fn all_named(alloc: Global, queues: &[Sequence<Queued>]) -> Result<Sequence<Name
 }
 
 // The departures by the names of their cells.
-fn all_sent(alloc: Global, sent: &[Departure]) -> Result<Sequence<Sent>, NoMemory>
-    ensures { IfOk result (λ lines. lines ≡ map sent_as sent.now) }
+fn all_sent(alloc: Global, sent: &[Departure]) -> Result<Vec<Sent>, AllocError>
+    ensures { IfOk result (λ lines. lines.items ≡ map sent_as sent.now) }
 {
-    let mut lines = Vec::new(alloc);
-    'sent: for departure in sent {
-        lines.push(sent_as(*departure))?;
-    }
-    Ok(Sequence::of(lines))
+    sent.iter()
+        .map(|departure| sent_as(*departure))
+        .collect(alloc)
 }
 
 // The transfers.
@@ -112,6 +106,40 @@ fn all_moved(alloc: Global, note: &[Transfer]) -> Result<Sequence<Transfer>, NoM
     ensures { IfOk result (λ moved. moved ≡ note.now) }
 {
     Ok(Sequence::of(Vec::from_slice(alloc, note)?))
+}
+
+// What a stopped run tells.
+fn told(
+    alloc: Global,
+    frozen: &Frozen,
+    sent: &[Departure],
+    note: &[Transfer],
+    t0: u64,
+    classes: u16,
+    total: u64,
+) -> Result<State, NoMemory>
+    requires ports { length frozen.now.lists < 2 ^ 16 }
+    ensures { IfOk result (λ state. state ≡ state_of frozen.now sent.now note.now t0 classes total) }
+{
+    let ports = frozen.lists.as_slice().len() as Port;
+    let head = Head {
+        next: frozen.next,
+        ports,
+        classes,
+        t0,
+        total,
+        proposals: frozen.figures.proposals,
+        most: frozen.figures.most,
+    };
+    Ok(State {
+        head,
+        inputs: Sequence::of(all_seen(alloc, frozen.figures.inputs.as_slice())?),
+        ranks: all_numbers(alloc, frozen.ranks.as_slice())?,
+        listed: all_named(alloc, frozen.lists.as_slice())?,
+        buffered: all_named(alloc, frozen.buffers.as_slice())?,
+        sent: Sequence::of(all_sent(alloc, sent)?),
+        moved: all_moved(alloc, note)?,
+    })
 }
 
 /// The text of a stopped run: its frozen state, its departures and its transfers so far, the stamp from which slots are
@@ -133,30 +161,6 @@ pub fn state_bytes(
     ensures short { IfOk result (λ text. length text.items ≤ 2 ^ 28) }
     ensures long { IfErr result (IsTooLong (state_text (state_of frozen.now sent.now note.now t0 classes total))) }
 {
-    let ports = frozen.lists.as_slice().len() as Port;
-    let head = Head {
-        next: frozen.next,
-        ports,
-        classes,
-        t0,
-        total,
-        proposals: frozen.figures.proposals,
-        most: frozen.figures.most,
-    };
-    let inputs = all_seen(alloc, frozen.figures.inputs.as_slice())?;
-    let ranks = all_numbers(alloc, frozen.ranks.as_slice())?;
-    let listed = all_named(alloc, frozen.lists.as_slice())?;
-    let buffered = all_named(alloc, frozen.buffers.as_slice())?;
-    let lines = all_sent(alloc, sent)?;
-    let moved = all_moved(alloc, note)?;
-    let state = State {
-        head,
-        inputs,
-        ranks,
-        listed,
-        buffered,
-        sent: lines,
-        moved,
-    };
+    let state = told(alloc, frozen, sent, note, t0, classes, total)?;
     text_of(alloc, &state)
 }

@@ -1,5 +1,6 @@
 //! Shows what no clause says: that memory is enough for whole states, and what a worked one says.
-use crate::{StateLong, TextRefusal, read_text, text_of};
+use crate::{StateLong, read_text, text_of};
+use cq_lines::LineRefusal;
 use std::alloc::Global;
 use std::test::Fail;
 
@@ -12,8 +13,8 @@ const STATE: &[u8] =
 fn fault(alloc: Global, text: &[u8]) -> Option<u64> {
     match read_text(alloc, text) {
         Ok(_) => None,
-        Err(TextRefusal::Line { line }) => Some(line),
-        Err(TextRefusal::NoMemory) => Some(0),
+        Err(LineRefusal::Line { line }) => Some(line),
+        Err(LineRefusal::NoMemory) => Some(0),
     }
 }
 

@@ -4,8 +4,9 @@ ghost use Rattle.cq_list.specs.InputList.{cells_of};
 ghost use Rattle.cq_prefs.specs.FirstCells.{orders_of};
 ghost use Rattle.cq_audit.specs.Phase.{AreOfPhase};
 
-use cq_audit::{LogRefusal, PhaseFault, audit_trace, part, read_log, stable_told};
+use cq_audit::{PhaseFault, audit_trace, part, read_log, stable_told};
 use cq_base::{Cell, CellId, Key, NoMemory, Port, Queued, Transfer};
+use cq_lines::LineRefusal;
 use cq_list::InputList;
 use cq_prefs::Offers;
 use std::alloc::Global;
@@ -43,8 +44,8 @@ fn the_log_of_two_cells_for_one_output_is_read(rt: HostRuntime) {
 fn fault(alloc: Global, log: &[u8]) -> Option<u64> {
     match read_log(alloc, log, 2) {
         Ok(_) => None,
-        Err(LogRefusal::Line { line }) => Some(line),
-        Err(LogRefusal::NoMemory) => Some(0),
+        Err(LineRefusal::Line { line }) => Some(line),
+        Err(LineRefusal::NoMemory) => Some(0),
     }
 }
 

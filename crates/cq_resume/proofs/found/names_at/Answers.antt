@@ -1,28 +1,14 @@
-use Rattle.std.proofs.Common.{◌≤◌, leb, ltb, refl, take, rules, tests}
-use Rattle.std.proofs.lemmas.List.Sorted.{IsNonDecreasingBy-take, IsPartitionPoint-from_clause, IsPartitionedBy-leb, IsPartitionedBy-ltb}
+use Rattle.std.proofs.Common.{leb, ltb, rules, tests}
 use Rattle.cq_resume.specs.declared.found.Name.{Name}
 use Rattle.cq_resume.specs.Finding.{IsNameBefore}
-use Rattle.cq_resume.proofs.Chained.{weaker_pairs}
-use Rattle.cq_resume.proofs.Cut.{cut_at}
+use Rattle.cq_resume.proofs.Cut.{computes}
 use Rattle.cq_resume.proofs.Halved.{not_falling}
 use Rattle.cq_resume.proofs.Orders.{name_inputs}
 use Rattle.cq_resume.proofs.found.names_at.Goals as goal
 
 pub returns : goal.returns
 returns c =
-    let xs = c.args.names.now in
-    let t = c.args.input in
-    let key = λ (q : Name). q.queued.key.input in
-    let end = c.partition_point-end.result in
-    let rising = not_falling key xs
-    (weaker_pairs IsNameBefore (λ (a b : Name). a.queued.key.input ≤ b.queued.key.input) name_inputs xs c.requires) in
-    let to = IsPartitionPoint-from_clause (λ (q : Name). leb q.queued.key.input t) xs end
-    c.partition_point-end.ensures.partitioned (IsPartitionedBy-leb key xs t rising)
-    (λ a r q k. search (rules, tests)) in
-    let from =
-    IsPartitionPoint-from_clause (λ (q : Name). ltb q.queued.key.input t) (take end xs) c.partition_point-start.result
-    c.partition_point-start.ensures.partitioned
-    (IsPartitionedBy-ltb key (take end xs) t (IsNonDecreasingBy-take key end xs rising))
-    (λ a r q k. search (rules, tests)) in
-    cut_at key t c.partition_point-start.result end xs (take end xs) c.partition_point-end.ensures.bound
-    c.partition_point-start.ensures.bound refl to from
+    let input = λ (n : Name). n.queued.key.input in
+    c.between.ensures input c.args.input (computes (λ n. leb (input n) c.args.input) (λ a r q k. search (rules, tests)))
+    (computes (λ n. ltb (input n) c.args.input) (λ a r q k. search (rules, tests)))
+    (not_falling IsNameBefore input name_inputs c.args.names.now c.requires)

@@ -1,13 +1,12 @@
-use Rattle.cq_state.proofs.Mapped.{image_put, images_put}
+use Rattle.std.proofs.Common.{rules}
+use Rattle.std.proofs.lemmas.Iterator.{YieldsList-from_map, YieldsList-from_slice}
+use Rattle.std.proofs.lemmas.Iterator.Adapters.{items_from_extend}
 use Rattle.cq_resume.specs.Reading.{named_as}
 use Rattle.cq_resume.proofs.write.put_named.Goals as goal
 
-pub cells-preserved : goal.cells-preserved
-cells-preserved c =
-    image_put named_as c.args.named.now.items c.args.cells.now c.cells.queued-index _ _ _ _ c.cells-test.true
-    c.cells.invariant c.named_as.ensures c.in_ok-push.ensures.items
-
 pub returns : goal.returns
 returns c =
-    images_put named_as c.args.named.now.items c.args.cells.now c.cells.queued-index _ c.cells-test.false
-    c.cells.invariant
+    let put =
+    items_from_extend c.extend.result c.extend.ensures.ran
+    (YieldsList-from_map _ named_as (YieldsList-from_slice c.args.cells.now cc) (cc) (λ x r q k. search rules)) in
+    search rules
