@@ -1,6 +1,6 @@
 -- The first clause, of found cells. Each name that was found arrives; and no cell is named twice exactly where the
 -- names, by input and then by slot, stand strictly in order: order changes nothing of which names are the same.
-use Rattle.std.proofs.Common.{◌≡◌, ◌≢◌, ℕ, ◌<◌, eqb, true, false, List, [], ◌∷◌, ◌++◌, None, length, map, sym, ◌∙◌}
+use Rattle.std.proofs.Common.{◌≡◌, ◌≢◌, ◌↔◌, ℕ, ◌<◌, eqb, true, false, List, [], ◌∷◌, ◌++◌, None, length, map, sym, ◌∙◌}
 use Rattle.std.specs.Prelude.{IsPermutation, IsSome}
 use Rattle.std.specs.List.{AllAdjacentBelow, AllByRecursion, AllPairs, AllZip}
 use Rattle.std.proofs.lemmas.Bool.{and_from, and_parts, eq-eqb, eqb-true, false_from_ne_true}
@@ -9,16 +9,15 @@ use Rattle.std.proofs.lemmas.List.Sorted.{IsPermutation-sym}
 use Rattle.std.proofs.lemmas.Map.Keys.{IsDistinct-from_apart, apart_from_distinct}
 use Rattle.cq_base.specs.Arriving.{Arrival}
 use Rattle.cq_base.specs.declared.cell.Queued.{Queued}
-use Rattle.cq_resume.specs.Finding.{AreGone, AreTold, IsNameBefore, IsNameNotAfter, SomeMissed, names_of, told_of}
+use Rattle.cq_resume.specs.Finding.{AreGone, HaveTheirCells, IsNameBefore, IsNameNotAfter, SomeMissed, names_of, told_of}
 use Rattle.cq_resume.specs.Sound.{AreArrivals}
 use Rattle.cq_resume.specs.Told.{arriving_cell, named_in}
 use Rattle.cq_resume.specs.declared.found.Gone.{Gone}
 use Rattle.cq_resume.specs.declared.found.Name.{Name}
-use Rattle.cq_resume.proofs.Chained.{all_pairs, each_pair}
 use Rattle.cq_resume.proofs.Each.{all_left, all_right, all_weaker}
 use Rattle.cq_resume.proofs.Names.{rising_differ, rising_names, same_name, still_differ}
 use Rattle.cq_resume.proofs.Telling.{IsOf, can_be_told, it_arrives, its_input, its_slot, names_zip}
-use Rattle.cq_resume.proofs.Zipped.{all_left as each_left, pairs_back, pairs_over}
+use Rattle.cq_resume.proofs.Zipped.{all_left as each_left, pairs_alike}
 use Rattle.cq_state.specs.declared.state.Named.{Named}
 use Rattle.cq_state.specs.declared.state.Sent.{Sent}
 use Rattle.cq_state.specs.declared.state.State.{State}
@@ -92,11 +91,19 @@ module _ (came : List Arrival) (s : State) where
       missed (images_held (λ (d : Sent). d.cell) IsMiss s.sent
       (all_right IsMiss (s.listed ++ s.buffered) (map (λ (d : Sent). d.cell) s.sent) (none_missed are)))
 
-  module _ (listed buffered : List Queued) (sent : List Gone) (first : AreTold came s.head.next s.listed listed)
-      (second : AreTold came s.head.next s.buffered buffered) (third : AreGone came s.head.next s.sent sent)
+  module _ (listed buffered : List Queued) (sent : List Gone) (first : HaveTheirCells came s.head.next s.listed listed)
+      (second : HaveTheirCells came s.head.next s.buffered buffered) (third : AreGone came s.head.next s.sent sent)
       (names : List Name) (same : IsPermutation (names_of listed buffered sent) names) where
     zips : AllZip (IsOf came s.head.next) (named_in s) (names_of listed buffered sent)
     zips = names_zip came s listed buffered sent first second third
+
+    abbrev told : List Name
+    told = names_of listed buffered sent
+
+    apart_alike : AllPairs Differ (named_in s) ↔ AllPairs IsApart told
+    apart_alike =
+        pairs_alike (IsOf came s.head.next) Differ IsApart
+        (λ c d m n a b. (apart came s.head.next c d m n a b, differ came s.head.next c d m n a b)) (named_in s) told zips
 
     -- names that stand strictly in order are of different arrivals, and each arrives
     pub are_arrivals : AllPairs IsNameBefore names → AreArrivals came s
@@ -108,16 +115,10 @@ module _ (came : List Arrival) (s : State) where
               (λ c n is.
               (is.facts.early, it_arrives came s.head.next c n.queued is.facts)) (named_in s)
               (names_of listed buffered sent) zips);
-          once =
-              all_pairs Differ (named_in s)
-              (pairs_back (IsOf came s.head.next) Differ IsApart
-              (λ c d m n own other. differ came s.head.next c d m n own other) (named_in s)
-              (names_of listed buffered sent) zips
-              (each_pair IsApart (names_of listed buffered sent)
+          once = apart_alike.1
               (λ i j d lt inside.
-              apart_from_distinct same_name (names_of listed buffered sent) i j d
-              (still_differ names (names_of listed buffered sent)
-              (IsPermutation-sym (names_of listed buffered sent) names same) (rising_differ names rising)) lt inside)));
+              apart_from_distinct same_name told i j d
+              (still_differ names told (IsPermutation-sym told names same) (rising_differ names rising)) lt inside);
         }
 
     -- and the other way
@@ -125,9 +126,4 @@ module _ (came : List Arrival) (s : State) where
         AllPairs IsNameBefore names
     arrivals_rise order are =
         rising_names names order
-        (still_differ (names_of listed buffered sent) names same
-        (IsDistinct-from_apart same_name (names_of listed buffered sent)
-        (all_pairs IsApart (names_of listed buffered sent)
-        (pairs_over (IsOf came s.head.next) Differ IsApart
-        (λ c d m n own other. apart came s.head.next c d m n own other) (named_in s)
-        (names_of listed buffered sent) zips (each_pair Differ (named_in s) are.once)))))
+        (still_differ told names same (IsDistinct-from_apart same_name told (apart_alike.0 are.once)))

@@ -1,7 +1,8 @@
 -- A walk that asks something of each item, one after another, decides whether it holds of all.
 use Rattle.std.proofs.Common.{◌≡◌, ℕ, zero, suc, ◌+◌, ◌<◌, ◌≤◌, ◌↔◌, Bool, true, false, List, [], ◌∷◌, ◌++◌, length, get_or, take, refl, sym, ◌∙◌, subst, arith}
-use Rattle.std.specs.List.{AllByRecursion}
+use Rattle.std.specs.List.{All, AllByRecursion}
 use Rattle.std.proofs.lemmas.List.{take_all, take_more}
+use Rattle.std.proofs.lemmas.List.Elements.{All-from_recursion, recursion_from_All}
 
 module _ {X : Type 0} (P : X → Type 0) where
   pub all_at : (xs : List X) (k : ℕ) (d : X) → k < length xs → AllByRecursion P xs → P (get_or xs k d)
@@ -43,3 +44,15 @@ pub all_weaker : {X : Type 0} (P Q : X → Type 0) → ((x : X) → P x → Q x)
     AllByRecursion Q xs
 all_weaker P Q weaker [] all = tt
 all_weaker P Q weaker (x ∷ xs) all = (weaker x all.0, all_weaker P Q weaker xs all.1)
+
+-- what holds of both sides of a clause alike holds of all items alike
+pub all_same : {X : Type 0} (P Q : X → Type 0) → ((x : X) → P x ↔ Q x) → (xs : List X) → All P xs ↔ AllByRecursion Q xs
+all_same P Q same xs = (
+  (λ all. all_weaker P Q (λ x. (same x).0) xs (recursion_from_All P xs all)),
+  (λ all. All-from_recursion P xs (all_weaker Q P (λ x. (same x).1) xs all)),
+)
+
+pub all_each : {X : Type 0} (P Q : X → Type 0) (xs : List X) → AllByRecursion (λ x. P x × Q x) xs →
+    AllByRecursion P xs × AllByRecursion Q xs
+all_each P Q xs all =
+    (all_weaker (λ x. P x × Q x) P (λ x both. both.0) xs all, all_weaker (λ x. P x × Q x) Q (λ x both. both.1) xs all)

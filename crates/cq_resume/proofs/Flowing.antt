@@ -1,29 +1,28 @@
 -- The fifth clause, of found cells. Of any two names of one flow the one that arrived first leaves first: said of the
 -- names by input and slot, each and each later one; or of any two that stand among the lines. Of departures it says
 -- that they were sent in the order of arrival, since those of one output stand by the slots in which they were sent.
-use Rattle.std.proofs.Common.{◌≡◌, ℕ, ◌<◌, ◌≤◌, ◌⊎◌, eqb, true, false, List, [], ◌∷◌, ◌++◌, length, map, get_or, sym, ap, ◌∙◌, subst, inl, inr, ⊎_elim, arith}
+use Rattle.std.proofs.Common.{◌≡◌, ℕ, ◌<◌, ◌≤◌, ◌↔◌, ◌⊎◌, eqb, true, false, List, [], ◌∷◌, ◌++◌, length, map, get_or, sym, ap, ◌∙◌, subst, inl, inr, ⊎_elim, arith}
 use Rattle.std.specs.Prelude.{All, IsPermutation}
 use Rattle.std.specs.List.{AllByRecursion, AllPairs, AllZip}
 use Rattle.std.proofs.lemmas.Bool.{and_from, cases_eq, cases_lt, cases_order, eq-eqb}
 use Rattle.std.proofs.lemmas.List.{get_or_default}
-use Rattle.std.proofs.lemmas.List.Elements.{All-from_recursion, recursion_from_All}
 use Rattle.std.proofs.lemmas.List.Sorted.{Contains-permutation, IsPermutation-sym}
 use Rattle.cq_base.specs.Cells.{IsBefore}
 use Rattle.cq_base.specs.declared.cell.Queued.{Queued}
-use Rattle.cq_resume.specs.Finding.{AreGone, AreTold, FlowsStand, InOneFlow, IsGone, IsNameBefore, IsSentBefore, IsTold, Leaves, LeavesEarlier, SentStand, names_of, sent_name, waiting_name}
+use Rattle.cq_resume.specs.Finding.{AreGone, HaveTheirCells, FlowsStand, InOneFlow, IsGone, IsNameBefore, IsSentBefore, IsTold, Leaves, LeavesEarlier, SentStand, names_of, sent_name, waiting_name}
 use Rattle.cq_resume.specs.Sound.{KeepArrivalOrder, OfOneFlow}
 use Rattle.cq_resume.specs.Switch.{Switch}
 use Rattle.cq_resume.specs.Told.{is_ahead, queued_in}
 use Rattle.cq_resume.specs.declared.found.Gone.{Gone}
 use Rattle.cq_resume.specs.declared.found.Name.{Name}
-use Rattle.cq_resume.proofs.Chained.{EachPair, all_pairs, each_pair}
+use Rattle.cq_resume.proofs.Chained.{EachPair, all_pairs}
 use Rattle.cq_resume.proofs.Each.{all_right}
 use Rattle.cq_resume.proofs.Having.{Has, all_from_has, all_of_has, has_at, has_cases, has_from_place, has_image, has_left, has_place, has_right, image_has}
 use Rattle.cq_resume.proofs.Names.{same_name}
-use Rattle.cq_resume.proofs.Ordered.{back_ahead, same_ahead}
+use Rattle.cq_resume.proofs.Ordered.{same_ahead}
 use Rattle.cq_resume.proofs.Orders.{name_on}
 use Rattle.cq_resume.proofs.Telling.{Facts, its_class, its_input, its_output, its_slot, told_facts, zip_both}
-use Rattle.cq_resume.proofs.Zipped.{all_back, all_over, pairs_back, pairs_over}
+use Rattle.cq_resume.proofs.Zipped.{alls_alike, implied, pairs_alike}
 use Rattle.cq_state.specs.declared.state.Named.{Named}
 use Rattle.cq_state.specs.declared.state.Sent.{Sent}
 use Rattle.cq_state.specs.declared.state.State.{State}
@@ -333,7 +332,7 @@ module _ (listing buffering : List Queued) (sending : List Gone) (next : ℕ) (s
 -- ## Of names
 
 module _ (w : Switch) (s : State) (listing buffering : List Queued) (sending : List Gone)
-    (first : AreTold w.came s.head.next s.listed listing) (second : AreTold w.came s.head.next s.buffered buffering)
+    (first : HaveTheirCells w.came s.head.next s.listed listing) (second : HaveTheirCells w.came s.head.next s.buffered buffering)
     (third : AreGone w.came s.head.next s.sent sending) where
   abbrev Told : Named → Queued → Type 0
   Told = IsTold w.came s.head.next
@@ -344,34 +343,38 @@ module _ (w : Switch) (s : State) (listing buffering : List Queued) (sending : L
   zips : AllZip Told (queued_in s) (listing ++ buffering)
   zips = zip_both Told s.listed listing s.buffered buffering first second
 
-  to_found : (c d : Named) (q r : Queued) → Facts w.came s.head.next c q → Facts w.came s.head.next d r →
-      OfOneFlow w.came c d → OneFlow q r
-  to_found c d q r a b one =
-      record {
-        input = sym (its_input w.came s.head.next c q a) ∙ one.input ∙ its_input w.came s.head.next d r b;
-        output = sym (its_output w.came s.head.next c q a) ∙ one.output ∙ its_output w.came s.head.next d r b;
-        class = sym (its_class w.came s.head.next c q a) ∙ one.class ∙ its_class w.came s.head.next d r b;
-      }
-
-  to_named : (c d : Named) (q r : Queued) → Facts w.came s.head.next c q → Facts w.came s.head.next d r →
-      OneFlow q r → OfOneFlow w.came c d
-  to_named c d q r a b one =
-      record {
-        input = its_input w.came s.head.next c q a ∙ one.input ∙ sym (its_input w.came s.head.next d r b);
-        output = its_output w.came s.head.next c q a ∙ one.output ∙ sym (its_output w.came s.head.next d r b);
-        class = its_class w.came s.head.next c q a ∙ one.class ∙ sym (its_class w.came s.head.next d r b);
-      }
-
   module _ (c d : Named) (q r : Queued) (a : Facts w.came s.head.next c q) (b : Facts w.came s.head.next d r) where
-    later : c.slot < d.slot → q.key.slot < r.key.slot
-    later lt =
-        let x = its_slot w.came s.head.next c q a in
-        let y = its_slot w.came s.head.next d r b in omega arith
+    one_flow : OfOneFlow w.came c d ↔ OneFlow q r
+    one_flow =
+        let input = its_input w.came s.head.next c q a in
+        let output = its_output w.came s.head.next c q a in
+        let class = its_class w.came s.head.next c q a in
+        let to_input = its_input w.came s.head.next d r b in
+        let to_output = its_output w.came s.head.next d r b in
+        let to_class = its_class w.came s.head.next d r b in (
+          (λ one. record {
+            input = sym input ∙ one.input ∙ to_input;
+            output = sym output ∙ one.output ∙ to_output;
+            class = sym class ∙ one.class ∙ to_class;
+          }),
+          (λ one. record {
+            input = input ∙ one.input ∙ sym to_input;
+            output = output ∙ one.output ∙ sym to_output;
+            class = class ∙ one.class ∙ sym to_class;
+          }),
+        )
 
-    later_back : q.key.slot < r.key.slot → c.slot < d.slot
-    later_back lt =
+    later : (c.slot < d.slot) ↔ (q.key.slot < r.key.slot)
+    later =
         let x = its_slot w.came s.head.next c q a in
-        let y = its_slot w.came s.head.next d r b in omega arith
+        let y = its_slot w.came s.head.next d r b in ((λ lt. omega arith), (λ lt. omega arith))
+
+    later_in_flow : (OfOneFlow w.came c d → c.slot < d.slot) ↔ (OneFlow q r → q.key.slot < r.key.slot)
+    later_in_flow = implied one_flow later
+
+    in_turn : (OfOneFlow w.came c d → c.slot < d.slot → is_ahead c d ≡ true)
+        ↔ (OneFlow q r → q.key.slot < r.key.slot → IsBefore q r)
+    in_turn = implied one_flow (implied later (same_ahead w.came s.head.next c d q r a b))
 
   facts : (c : Named) (q : Queued) → Told c q → Facts w.came s.head.next c q
   facts = told_facts w.came s.head.next
@@ -385,85 +388,36 @@ module _ (w : Switch) (s : State) (listing buffering : List Queued) (sending : L
   abbrev NamedInTurn : Named → Named → Type 0
   NamedInTurn a b = OfOneFlow w.came a b → a.slot < b.slot → is_ahead a b ≡ true
 
-  keep_found : KeepArrivalOrder w s → Keep (listing ++ buffering) sending
-  keep_found keep =
-      record {
-        sent =
-            all_pairs GoneKeep sending
-            (pairs_over Sending NamedKeep GoneKeep
-            (λ d e g h a b is one.
-            later d.cell e.cell g.queued h.queued (facts d.cell g.queued a.1) (facts e.cell h.queued b.1)
-            (is (to_named d.cell e.cell g.queued h.queued (facts d.cell g.queued a.1) (facts e.cell h.queued b.1) one)))
-            s.sent sending third (each_pair NamedKeep s.sent keep.sent));
-        after =
-            all_over Sending (λ d. All (NamedBehind d) (queued_in s)) (λ g. AllByRecursion (StayBehind g) (listing
-            ++ buffering))
-            (λ d g a all.
-            all_over Told (NamedBehind d) (StayBehind g)
-            (λ c q b is one.
-            later d.cell c g.queued q (facts d.cell g.queued a.1) (facts c q b)
-            (is (to_named d.cell c g.queued q (facts d.cell g.queued a.1) (facts c q b) one)))
-            (queued_in s) (listing ++ buffering) zips (recursion_from_All (NamedBehind d) (queued_in s) all))
-            s.sent sending third (recursion_from_All (λ d. All (NamedBehind d) (queued_in s)) s.sent keep.after);
-        queued =
-            all_over Told (λ c. All (NamedInTurn c) (queued_in s)) (λ q. AllByRecursion (LeaveInTurn q) (listing
-            ++ buffering))
-            (λ c q a all.
-            all_over Told (NamedInTurn c) (LeaveInTurn q)
-            (λ d r b is one less.
-            same_ahead w.came s.head.next c d q r (facts c q a) (facts d r b)
-            (is (to_named c d q r (facts c q a) (facts d r b) one)
-            (later_back c d q r (facts c q a) (facts d r b) less)))
-            (queued_in s) (listing ++ buffering) zips (recursion_from_All (NamedInTurn c) (queued_in s) all))
-            (queued_in s) (listing ++ buffering) zips
-            (recursion_from_All (λ c. All (NamedInTurn c) (queued_in s)) (queued_in s) keep.queued);
-      }
-
-  names_keep : Keep (listing ++ buffering) sending → KeepArrivalOrder w s
-  names_keep keep =
-      record {
-        sent =
-            all_pairs NamedKeep s.sent
-            (pairs_back Sending NamedKeep GoneKeep
-            (λ d e g h a b is one.
-            later_back d.cell e.cell g.queued h.queued (facts d.cell g.queued a.1) (facts e.cell h.queued b.1)
-            (is (to_found d.cell e.cell g.queued h.queued (facts d.cell g.queued a.1) (facts e.cell h.queued b.1) one)))
-            s.sent sending third (each_pair GoneKeep sending keep.sent));
-        after =
-            All-from_recursion (λ d. All (NamedBehind d) (queued_in s)) s.sent
-            (all_back Sending (λ d. All (NamedBehind d) (queued_in s)) (λ g. AllByRecursion (StayBehind g) (listing
-            ++ buffering))
-            (λ d g a all.
-            All-from_recursion (NamedBehind d) (queued_in s)
-            (all_back Told (NamedBehind d) (StayBehind g)
-            (λ c q b is one.
-            later_back d.cell c g.queued q (facts d.cell g.queued a.1) (facts c q b)
-            (is (to_found d.cell c g.queued q (facts d.cell g.queued a.1) (facts c q b) one)))
-            (queued_in s) (listing ++ buffering) zips all)) s.sent sending third keep.after);
-        queued =
-            All-from_recursion (λ c. All (NamedInTurn c) (queued_in s)) (queued_in s)
-            (all_back Told (λ c. All (NamedInTurn c) (queued_in s)) (λ q. AllByRecursion (LeaveInTurn q) (listing
-            ++ buffering))
-            (λ c q a all.
-            All-from_recursion (NamedInTurn c) (queued_in s)
-            (all_back Told (NamedInTurn c) (LeaveInTurn q)
-            (λ d r b is one less.
-            back_ahead w.came s.head.next c d q r (facts c q a) (facts d r b)
-            (is (to_found c d q r (facts c q a) (facts d r b) one) (later c d q r (facts c q a) (facts d r b) less)))
-            (queued_in s) (listing ++ buffering) zips all)) (queued_in s) (listing ++ buffering) zips keep.queued);
-      }
+  keep_alike : KeepArrivalOrder w s ↔ Keep (listing ++ buffering) sending
+  keep_alike =
+      let waiting = listing ++ buffering in
+      let sent =
+      pairs_alike Sending NamedKeep GoneKeep
+      (λ d e g h a b. later_in_flow d.cell e.cell g.queued h.queued (facts d.cell g.queued a.1)
+      (facts e.cell h.queued b.1)) s.sent sending third in
+      let after =
+      alls_alike Sending (λ d. All (NamedBehind d) (queued_in s)) (λ g. AllByRecursion (StayBehind g) waiting)
+      (λ d g a. alls_alike Told (NamedBehind d) (StayBehind g)
+      (λ c q b. later_in_flow d.cell c g.queued q (facts d.cell g.queued a.1) (facts c q b)) (queued_in s) waiting zips)
+      s.sent sending third in
+      let queued =
+      alls_alike Told (λ c. All (NamedInTurn c) (queued_in s)) (λ q. AllByRecursion (LeaveInTurn q) waiting)
+      (λ c q a. alls_alike Told (NamedInTurn c) (LeaveInTurn q)
+      (λ d r b. in_turn c d q r (facts c q a) (facts d r b)) (queued_in s) waiting zips) (queued_in s) waiting zips in (
+        (λ keep. record { sent = sent.0 keep.sent; after = after.0 keep.after; queued = queued.0 keep.queued }),
+        (λ keep. record { sent = sent.1 keep.sent; after = after.1 keep.after; queued = queued.1 keep.queued }),
+      )
 
   -- the fifth clause, by the names that were found
   module _ (names : List Name) (same : IsPermutation (names_of listing buffering sending) names)
       (rising : AllPairs IsNameBefore names) (stand : SentStand s.head.next sending)
       (apart : EachPair IsApart (names_of listing buffering sending)) where
-    pub flows_found : KeepArrivalOrder w s → FlowsStand names
-    flows_found keep =
-        flows_stand (names_of listing buffering sending) names same rising
-        (keep_flows listing buffering sending s.head.next stand apart (keep_found keep))
-
-    pub flows_clause : FlowsStand names → KeepArrivalOrder w s
-    flows_clause flows =
-        names_keep
-        (flows_keep listing buffering sending s.head.next stand apart
-        (flows_hold (names_of listing buffering sending) names same rising flows))
+    pub flows_alike : KeepArrivalOrder w s ↔ FlowsStand names
+    flows_alike =
+        let told = names_of listing buffering sending in (
+          (λ keep. flows_stand told names same rising
+              (keep_flows listing buffering sending s.head.next stand apart (keep_alike.0 keep))),
+          (λ flows. keep_alike.1
+              (flows_keep listing buffering sending s.head.next stand apart
+              (flows_hold told names same rising flows))),
+        )

@@ -1,22 +1,22 @@
 -- What is named, by the names of a state and by those that were found, is the same. So the fourth clause and what is
 -- left out, said of the one, are said of the other.
-use Rattle.std.proofs.Common.{◌≡◌, ℕ, ◌<◌, ◌⊎◌, eqb, Bool, true, false, List, [], ◌∷◌, length, map, Option, None, Some, refl, sym, ap, ◌∙◌, inl, inr, ⊎_elim}
+use Rattle.std.proofs.Common.{◌≡◌, ℕ, ◌<◌, ◌↔◌, ◌⊎◌, eqb, Bool, true, false, List, [], ◌∷◌, length, map, Option, None, Some, refl, sym, ap, ◌∙◌, inl, inr, ⊎_elim}
 use Rattle.std.specs.Prelude.{All, IsPermutation, ◌&&◌, ◌||◌, nat_lt, not}
 use Rattle.std.specs.List.{AllByRecursion, AllZip, list_any, range_with_len}
-use Rattle.std.proofs.lemmas.List.Elements.{All-from_recursion, filter_agree, recursion_from_All}
+use Rattle.std.proofs.lemmas.List.Elements.{filter_agree}
 use Rattle.std.proofs.lemmas.List.Sorted.{list_any-IsPermutation}
 use Rattle.cq_base.specs.Arriving.{Arrival}
 use Rattle.cq_base.specs.declared.cell.Queued.{Queued}
 use Rattle.cq_ideal.specs.Refused.{refused_counts}
 use Rattle.cq_resume.specs.Counted.{IsTally, firsts_at, is_refused, latest, refused_arrivals}
-use Rattle.cq_resume.specs.Finding.{AreGone, AreTold, IsWholePacket, PacketsStand, TalliesUp, firsts_before, has_name, is_left_out, left_out, names_of}
+use Rattle.cq_resume.specs.Finding.{AreGone, HaveTheirCells, IsWholePacket, PacketsStand, TalliesUp, firsts_before, has_name, is_left_out, left_out, names_of}
 use Rattle.cq_resume.specs.Sound.{AllNamed, AreWholePackets, NoneNamed}
 use Rattle.cq_resume.specs.Switch.{HasLimit, Switch}
 use Rattle.cq_resume.specs.Told.{is_named, named_in, packet_before}
 use Rattle.cq_resume.specs.declared.found.Gone.{Gone}
 use Rattle.cq_resume.specs.declared.found.Name.{Name}
 use Rattle.cq_resume.specs.declared.packets.Tally.{Tally}
-use Rattle.cq_resume.proofs.Each.{all_weaker}
+use Rattle.cq_resume.proofs.Each.{all_same}
 use Rattle.cq_resume.proofs.Telling.{IsOf, its_input, its_slot, names_zip}
 use Rattle.cq_state.specs.declared.state.State.{State}
 
@@ -41,7 +41,7 @@ module _ {X Y : Type 0} (f g : X → Y) where
       ap (λ (y : Y). y ∷ map f xs) (same x) ∙ ap (λ (l : List Y). g x ∷ l) (mapped_alike same xs)
 
 module _ (w : Switch) (s : State) (listing buffering : List Queued) (sending : List Gone)
-    (first : AreTold w.came s.head.next s.listed listing) (second : AreTold w.came s.head.next s.buffered buffering)
+    (first : HaveTheirCells w.came s.head.next s.listed listing) (second : HaveTheirCells w.came s.head.next s.buffered buffering)
     (third : AreGone w.came s.head.next s.sent sending) (names : List Name)
     (same : IsPermutation (names_of listing buffering sending) names) where
   one_named : (a : Arrival) → is_named (named_in s) a ≡ has_name names a
@@ -67,35 +67,25 @@ module _ (w : Switch) (s : State) (listing buffering : List Queued) (sending : L
   abbrev ByNames : Arrival → Type 0
   ByNames a = a.cell.id.index ≡ 0 → a.slot < s.head.next → IsWholePacket w.limits s.head.next w.came names a
 
-  alike : (t : Bool) (xs : List Arrival) → All (λ b. is_named (named_in s) b ≡ t) xs →
-      AllByRecursion (λ b. has_name names b ≡ t) xs
-  alike t xs all =
-      all_weaker (λ (b : Arrival). is_named (named_in s) b ≡ t) (λ (b : Arrival). has_name names b ≡ t)
-      (λ b is. sym (one_named b) ∙ is) xs (recursion_from_All (λ (b : Arrival). is_named (named_in s) b ≡ t) xs all)
+  alike : (t : Bool) (xs : List Arrival) →
+      All (λ b. is_named (named_in s) b ≡ t) xs ↔ AllByRecursion (λ b. has_name names b ≡ t) xs
+  alike t xs =
+      all_same (λ (b : Arrival). is_named (named_in s) b ≡ t) (λ (b : Arrival). has_name names b ≡ t)
+      (λ b. ((λ is. sym (one_named b) ∙ is), (λ is. one_named b ∙ is))) xs
 
-  alike_back : (t : Bool) (xs : List Arrival) → AllByRecursion (λ b. has_name names b ≡ t) xs →
-      All (λ b. is_named (named_in s) b ≡ t) xs
-  alike_back t xs all =
-      All-from_recursion (λ (b : Arrival). is_named (named_in s) b ≡ t) xs
-      (all_weaker (λ (b : Arrival). has_name names b ≡ t) (λ (b : Arrival). is_named (named_in s) b ≡ t)
-      (λ b is. one_named b ∙ is) xs all)
-
-  pub packets_found : AreWholePackets w s → PacketsStand w.limits s.head.next w.came names
-  packets_found whole =
-      all_weaker ByState ByNames
-      (λ a by begins early.
-      ⊎_elim (λ all. inl (alike true (packet_before w.came s.head.next a) all))
-      (λ none. inr (alike false (packet_before w.came s.head.next a) none.0, none.1)) (by begins early)) w.came
-      (recursion_from_All ByState w.came whole)
-
-  pub packets_clause : PacketsStand w.limits s.head.next w.came names → AreWholePackets w s
-  packets_clause stand =
-      All-from_recursion ByState w.came
-      (all_weaker ByNames ByState
-      (λ a by begins early.
-      ⊎_elim (λ all. inl (alike_back true (packet_before w.came s.head.next a) all))
-      (λ none. inr (alike_back false (packet_before w.came s.head.next a) none.0, none.1)) (by begins early)) w.came
-      stand)
+  pub packets_alike : AreWholePackets w s ↔ PacketsStand w.limits s.head.next w.came names
+  packets_alike = all_same ByState ByNames whole w.came
+    where
+      whole : (a : Arrival) → ByState a ↔ ByNames a
+      whole a =
+          let packet = packet_before w.came s.head.next a in
+          let all = alike true packet in
+          let none = alike false packet in (
+            (λ by begins early.
+                ⊎_elim (λ named. inl (all.0 named)) (λ out. inr (none.0 out.0, out.1)) (by begins early)),
+            (λ by begins early.
+                ⊎_elim (λ named. inl (all.1 named)) (λ out. inr (none.1 out.0, out.1)) (by begins early)),
+          )
 
   -- ## What is left out
 

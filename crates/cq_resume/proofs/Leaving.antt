@@ -14,8 +14,8 @@ use Rattle.cq_resume.proofs.Orders.{LeavesFirst, flow_of, flows_as_lanes, input_
 module _ (names : List Name) (ports n : ℕ) (last : List (Option Name))
     (known : Lanes input_of flow_of LeavesFirst names (ports * 16) n last) (e : Name) (inside : n < length names)
     (ordered : AllPairs IsNameBefore names)
-    (outputs : AllByRecursion (λ (m : Name). m.queued.cell.output < ports) names)
-    (classes : AllByRecursion (λ (m : Name). m.queued.cell.class < 16) names) (begun : Bool)
+    (each : AllByRecursion (λ (m : Name). (m.queued.cell.output < ports) × (m.queued.cell.class < 16)) names)
+    (begun : Bool)
     (is : begun ≡ begins_at (map input_of names) n) (now : List (Option Name))
     (ways : ((begun ≡ true) × (now ≡ none_seen input_of flow_of LeavesFirst (ports * 16))) ⊎
     ((begun ≡ false) × (now ≡ last))) where
@@ -27,10 +27,10 @@ module _ (names : List Name) (ports n : ℕ) (last : List (Option Name))
 
   fits : flow_of here < ports * 16
   fits =
-      let output : here.queued.cell.output < ports =
-      all_at (λ (m : Name). m.queued.cell.output < ports) names n e inside outputs in
-      let class : here.queued.cell.class < 16 =
-      all_at (λ (m : Name). m.queued.cell.class < 16) names n e inside classes in
+      let own =
+      all_at (λ (m : Name). (m.queued.cell.output < ports) × (m.queued.cell.class < 16)) names n e inside each in
+      let output = own.0 in
+      let class = own.1 in
       omega arith
 
   flow_fits : flow_of here < length now
@@ -57,4 +57,4 @@ module _ (names : List Name) (ports n : ℕ) (last : List (Option Name))
     flow_stops fails =
         through
         (lanes_stop input_of flow_of LeavesFirst names (ports * 16) n last known e inside rising begun is now ways fits
-        r test_there fails) (flows_as_lanes names classes)
+        r test_there fails) (flows_as_lanes ports names each)

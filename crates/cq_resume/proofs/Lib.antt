@@ -26,7 +26,6 @@ pub mod Upheld
 pub mod Judging
 pub mod Scheduling
 pub mod Ranged
-pub mod Verdict
 pub mod Departed
 pub mod Departing
 pub mod Continued

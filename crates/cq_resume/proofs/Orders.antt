@@ -11,6 +11,7 @@ use Rattle.cq_resume.specs.Sound.{IsMovedBefore}
 use Rattle.cq_resume.specs.declared.found.Gone.{Gone}
 use Rattle.cq_resume.specs.declared.found.Name.{Name}
 use Rattle.cq_resume.proofs.Chained.{EachPair, all_pairs, each_pair}
+use Rattle.cq_resume.proofs.Each.{all_each}
 use Rattle.cq_resume.proofs.Lanes.{InLane}
 
 pub urgent_on : (a b c : Queued) → IsBefore a b → IsBefore b c → IsBefore a c
@@ -107,11 +108,14 @@ each_flow (x ∷ xs) pairs = (beside xs pairs.0, each_flow xs pairs.1)
     beside [] all = tt
     beside (y ∷ ys) all = ((λ one. all.0 one.input (flow_number x y one)), beside ys all.1)
 
-pub flows_as_lanes : (xs : List Name) → AllByRecursion (λ n. n.queued.cell.class < 16) xs →
+pub flows_as_lanes : (ports : ℕ) (xs : List Name) →
+    AllByRecursion (λ n. (n.queued.cell.output < ports) × (n.queued.cell.class < 16)) xs →
     AllPairs (InLane input_of flow_of LeavesFirst) xs ↔ FlowsStand xs
-flows_as_lanes xs low = (
+flows_as_lanes ports xs each = (
   (λ pairs. all_pairs LeavesEarlier xs (each_flow xs (each_pair (InLane input_of flow_of LeavesFirst) xs pairs))),
-  (λ pairs. all_pairs (InLane input_of flow_of LeavesFirst) xs (each_lane xs low (each_pair LeavesEarlier xs pairs))),
+  (λ pairs. all_pairs (InLane input_of flow_of LeavesFirst) xs 
+      (each_lane xs (all_each (λ (n : Name). n.queued.cell.output < ports) (λ n. n.queued.cell.class < 16) xs each).1
+      (each_pair LeavesEarlier xs pairs))),
 )
 
 pub through : {A B C : Type 0} → A ↔ B → B ↔ C → A ↔ C

@@ -1,7 +1,7 @@
 -- The third clause, of found cells. The list of an input in the fabric that is told of are the found cells of that
 -- input, in their order, so as many stand ahead of a cell there as cells of its input stand ahead of it among all. And
 -- its cushion is counted among all buffered cells.
-use Rattle.std.proofs.Common.{◌≡◌, ℕ, zero, suc, ◌<◌, ◌≤◌, eqb, Bool, true, false, cond, List, [], ◌∷◌, length, map, take, Option, None, Some, refl, sym, ap, ◌∙◌, inl, inr, ⊎_elim, arith}
+use Rattle.std.proofs.Common.{◌≡◌, ℕ, zero, suc, ◌<◌, ◌≤◌, ◌↔◌, eqb, Bool, true, false, cond, List, [], ◌∷◌, length, map, take, Option, None, Some, refl, sym, ap, ◌∙◌, inl, inr, ⊎_elim, arith}
 use Rattle.std.specs.Prelude.{◌&&◌, filter, filter_map, slice_get}
 use Rattle.std.specs.List.{AllByRecursion, cons_option, range_with_len}
 use Rattle.std.proofs.lemmas.Bool.{cases_Bool, cases_lt, eq-eqb, eqb-true}
@@ -12,7 +12,7 @@ use Rattle.cq_base.specs.Cells.{is_for}
 use Rattle.cq_base.specs.Key.{is_before}
 use Rattle.cq_base.specs.declared.cell.Queued.{Queued}
 use Rattle.cq_laws.specs.Fabric.{buffer, cushion_of, input}
-use Rattle.cq_resume.specs.Finding.{AreTold, IsTold, SlackStands, cushion_in, thread_in}
+use Rattle.cq_resume.specs.Finding.{HaveTheirCells, IsTold, SlackStands, cushion_in, thread_in}
 use Rattle.cq_resume.specs.Sound.{HaveSlack}
 use Rattle.cq_resume.specs.Switch.{Switch}
 use Rattle.cq_resume.specs.Told.{buffer_told, fabric_told, list_told, queued_of}
@@ -123,7 +123,7 @@ has_there (y ∷ ys) (suc place) x is = inr (has_there ys place x is)
 -- ## The fabric that is told of
 
 module _ (came : List Arrival) (next : ℕ) where
-  found_of_input : (i : ℕ) (names : List Named) (found : List Queued) → AreTold came next names found →
+  found_of_input : (i : ℕ) (names : List Named) (found : List Queued) → HaveTheirCells came next names found →
       filter_map (queued_of came) (filter (λ c. eqb c.input i) names) ≡ filter (λ q. eqb q.key.input i) found
   found_of_input i [] [] zips = refl
   found_of_input i [] (q ∷ found) zips = absurd zips
@@ -146,7 +146,7 @@ module _ (came : List Arrival) (next : ℕ) where
           ∙ ap (λ (l : List Queued). q ∷ l) rest
       by false rest = rest
 
-  all_found : (names : List Named) (found : List Queued) → AreTold came next names found →
+  all_found : (names : List Named) (found : List Queued) → HaveTheirCells came next names found →
       filter_map (queued_of came) names ≡ found
   all_found names found zips =
       same_mapped (IsTold came next) (queued_of came) (λ (q : Queued). q)
@@ -154,8 +154,8 @@ module _ (came : List Arrival) (next : ℕ) where
       ∙ map-id found
 
 module _ (w : Switch) (s : State) (listing buffering : List Queued)
-    (first : AreTold w.came s.head.next s.listed listing)
-    (second : AreTold w.came s.head.next s.buffered buffering) where
+    (first : HaveTheirCells w.came s.head.next s.listed listing)
+    (second : HaveTheirCells w.came s.head.next s.buffered buffering) where
   pub list_is : (i : ℕ) → list_told w.came s i ≡ filter (of_input i) listing
   list_is i = found_of_input w.came s.head.next i s.listed listing first
 
@@ -188,7 +188,7 @@ module _ (w : Switch) (s : State) (listing buffering : List Queued)
 
   module _ (inputs : AllByRecursion (λ q. q.key.input < s.head.ports) listing)
       (outputs : AllByRecursion (λ q. q.cell.output < s.head.ports) listing) where
-    pub slack_found : HaveSlack w s → SlackStands listing buffering
+    slack_found : HaveSlack w s → SlackStands listing buffering
     slack_found have place t is =
         let has = has_there listing place t is in
         let low = all_of_has (λ (q : Queued). q.key.input < s.head.ports) listing t inputs has in
@@ -201,7 +201,7 @@ module _ (w : Switch) (s : State) (listing buffering : List Queued)
         let enough = have t.key.input thread t there in
         omega arith
 
-    pub slack_clause : SlackStands listing buffering → HaveSlack w s
+    slack_clause : SlackStands listing buffering → HaveSlack w s
     slack_clause stands i thread c is =
         ⊎_elim
         (λ inside.
@@ -218,3 +218,6 @@ module _ (w : Switch) (s : State) (listing buffering : List Queued)
         let none : None ≡ Some c = sym (ap (λ (l : List Queued). slice_get l thread) (no_input i past)) ∙ is in
         absurd (let P : ⊥ = cc in P))
         (cases_lt i s.head.ports)
+
+    pub slack_alike : HaveSlack w s ↔ SlackStands listing buffering
+    slack_alike = (slack_found, slack_clause)

@@ -1,92 +1,91 @@
--- Judging, step by step: what a step that fails says of the clauses, and that a state is sound that passes all steps.
-use Rattle.std.proofs.Common.{◌≡◌, ◌↔◌, ℕ, ◌<◌, Bool, true, false, List, subst}
-use Rattle.std.specs.List.{AllByRecursion, AllPairs}
-use Rattle.cq_base.specs.declared.cell.Transfer.{Transfer}
+-- Judging, step by step. A clause is known by what a test of the found cells decides. Where a step fails it names the first
+-- clause that fails, since those before it are known; and a state is sound of which all are known.
+use Rattle.std.proofs.Common.{◌≡◌, ◌↔◌, ℕ, ◌+◌, ◌<◌, ◌∙◌, Bool, true, false, inl, inr, sym, subst, arith}
+use borrow.Author.Count.{below_more, below_none}
 use Rattle.cq_cells.specs.Scheduled.{Scheduled}
-use Rattle.cq_cells.specs.Traffic.{IsTraffic}
-use Rattle.cq_resume.specs.Finding.{BuffersStand, FlowsStand, IsFound, ListsStand, PacketsStand, SentStand, SlackStands, StandsBelow}
-use Rattle.cq_resume.specs.Sound.{AreArrivals, AreWholePackets, HaveSlack, IsFirstUnsound, IsMovedBefore, IsSound, KeepArrivalOrder, StandInOrder}
-use Rattle.cq_resume.specs.Switch.{HasShape, switch_of}
+use Rattle.cq_resume.specs.Finding.{FlowsStand, PacketsStand}
+use Rattle.cq_resume.specs.Sound.{Clause, IsFirstOf, IsFirstUnsound, IsSound}
+use Rattle.cq_resume.specs.Steps.{AreOrdered, HaveRoom, IsFirstOfTwo, StandBelow}
+use Rattle.cq_resume.specs.Switch.{Switch, switch_of}
 use Rattle.cq_resume.specs.declared.found.Found.{Found}
-use Rattle.cq_resume.proofs.Judged.{floors_from, floors_to, flows_from, flows_to, order_from, order_to, packets_from, packets_to, slack_from, slack_to}
-use Rattle.cq_resume.proofs.Verdict.{all_six, first_five, first_four, first_six, first_three, first_two}
-use Rattle.cq_route.specs.Tables.{AreTables, classes_of, ports_of}
+use Rattle.cq_resume.specs.declared.refusal.StateRefusal.{StateRefusal}
+use Rattle.cq_resume.specs.declared.refusal.StateRefusal.TheVariants as refusal
+use Rattle.cq_resume.proofs.Judged.{Known, floors_is, flows_is, order_is, packets_is, slack_is}
 use Rattle.cq_route.specs.declared.tables.Tables.{Tables}
-use Rattle.cq_state.specs.State.{IsInRange}
 use Rattle.cq_state.specs.declared.state.State.{State}
 
--- what was demanded and is refused does not hold
-pub not_demanded : {P : Type 0} (b : Bool) → ((false ≡ true) ↔ (b ≡ true)) → ((b ≡ true) ↔ P) → P → ⊥
-not_demanded b demand test holds =
-    let clash : false ≡ true = demand.1 (test.1 holds) in
+-- what is tested and fails does not hold
+pub denied : {P : Type 0} {b : Bool} → (b ≡ true) ↔ P → b ≡ false → P → ⊥
+denied test fails holds =
+    let clash : true ≡ false = sym (test.1 holds) ∙ fails in
     let Q : ⊥ = cc in Q
 
--- what a test says of one value it says of an equal one
-pub test_over : {X : Type 0} {x y : X} (b : Bool) (P : X → Type 0) → x ≡ y → ((b ≡ true) ↔ P x) → ((b ≡ true) ↔ P y)
-test_over {X} b P same test = subst (λ (z : X). (b ≡ true) ↔ P z) same test
+-- ## One clause after another
 
--- what stands in order, of found cells and of transfers
-abbrev pub AreOrdered : Found → ℕ → List Transfer → Type 0
-AreOrdered f next moved = ListsStand f.listed.items × BuffersStand f.buffered.items × SentStand next f.sent.items
-    × AllPairs IsMovedBefore moved × AllByRecursion (λ (m : Transfer). m.slot < next) moved
+module _ (w : Switch) (s : State) where
+  -- the clauses before this one are known
+  abbrev pub Before : ℕ → Type 0
+  Before n = (k : ℕ) → k < n → Clause w s k
 
--- what is known once the cells of a state were found
-pub record Known (t : Tables) (c : Scheduled) (s : State) (f : Found) : Type 0 where
-  pub tables : AreTables t
-  pub traffic : IsTraffic (ports_of t.setup) (classes_of t.setup) c.came
-  pub range : IsInRange s
-  pub shape : HasShape (switch_of t c) s
-  pub found : IsFound c.came s f
-  pub arrivals : AreArrivals c.came s
+  module _ (n : ℕ) (before : Before n) where
+    pub first_fails : (Clause w s n → ⊥) → IsFirstUnsound w s n
+    first_fails fails = record { before = before; fails = fails }
+
+    pub one_more : Clause w s n → Before (n + 1)
+    one_more holds = below_more (Clause w s) n before holds
+
+  module _ (n : ℕ) (before : Before n) (P Q : Type 0) (first : Clause w s n ↔ P) (second : Clause w s (n + 1) ↔ Q) where
+    pub two_more : P × Q → Before (n + 1 + 1)
+    two_more both = one_more (n + 1) (one_more n before (first.1 both.0)) (second.1 both.1)
+
+    pub two_refused : (r : StateRefusal) → IsFirstOfTwo n P Q r → IsFirstOf w s r
+    two_refused (refusal.Unsound clause) (inl (is, fails)) =
+        subst (IsFirstUnsound w s) (sym is) (first_fails n before (λ holds. fails (first.0 holds)))
+    two_refused (refusal.Unsound clause) (inr (is, had, fails)) =
+        subst (IsFirstUnsound w s) (sym is)
+        (first_fails (n + 1) (one_more n before (first.1 had)) (λ holds. fails (second.0 holds)))
+    two_refused refusal.NoMemory why = tt
+    two_refused (refusal.Text line) why = absurd why
+    two_refused refusal.Shape why = absurd why
+
+-- ## The clauses of a state whose cells were found
 
 module _ (t : Tables) (c : Scheduled) (s : State) (f : Found) (k : Known t c s f) where
-  pub fails_two : (AreOrdered f s.head.next s.moved → ⊥) → IsFirstUnsound (switch_of t c) s 2
-  fails_two fails =
-      first_two (switch_of t c) s k.arrivals
-      (λ stand. fails (order_to t c s f k.tables k.traffic k.range k.shape k.found stand))
+  arrivals_known : Before (switch_of t c) s 2
+  arrivals_known =
+      one_more (switch_of t c) s 1 (one_more (switch_of t c) s 0 (below_none (Clause (switch_of t c) s)) tt) k.arrivals
 
-  module _ (ordered : AreOrdered f s.head.next s.moved) where
-    order : StandInOrder (switch_of t c) s
-    order = order_from t c s f k.tables k.traffic k.range k.shape k.found ordered
+  pub stand_refused : (r : StateRefusal) → IsFirstOfTwo 2 (AreOrdered f s.head.next s.moved) (HaveRoom f) r →
+      IsFirstOf (switch_of t c) s r
+  stand_refused = two_refused (switch_of t c) s 2 arrivals_known _ _ (order_is t c s f k) (slack_is t c s f k)
 
-    pub fails_three : (SlackStands f.listed.items f.buffered.items → ⊥) → IsFirstUnsound (switch_of t c) s 3
-    fails_three fails =
-        first_three (switch_of t c) s k.arrivals order
-        (λ have. fails (slack_to t c s f k.tables k.traffic k.range k.shape k.found have))
+  module _ (stand : AreOrdered f s.head.next s.moved × HaveRoom f) where
+    order_known : Before (switch_of t c) s 4
+    order_known = two_more (switch_of t c) s 2 arrivals_known _ _ (order_is t c s f k) (slack_is t c s f k) stand
 
-    module _ (stands : SlackStands f.listed.items f.buffered.items) where
-      slack : HaveSlack (switch_of t c) s
-      slack = slack_from t c s f k.tables k.traffic k.range k.shape k.found stands
+    pub packets_refused : (PacketsStand t.limits s.head.next c.came f.names.items → ⊥) →
+        IsFirstUnsound (switch_of t c) s 4
+    packets_refused fails =
+        first_fails (switch_of t c) s 4 order_known (λ whole. fails ((packets_is t c s f k).0 whole))
 
-      pub fails_four : (PacketsStand t.limits s.head.next c.came f.names.items → ⊥) →
-          IsFirstUnsound (switch_of t c) s 4
-      fails_four fails =
-          first_four (switch_of t c) s k.arrivals order slack
-          (λ whole. fails (packets_to t c s f k.tables k.traffic k.range k.shape k.found whole))
+    module _ (packets : PacketsStand t.limits s.head.next c.came f.names.items) where
+      packets_known : Before (switch_of t c) s 5
+      packets_known = one_more (switch_of t c) s 4 order_known ((packets_is t c s f k).1 packets)
 
-      module _ (uncut : PacketsStand t.limits s.head.next c.came f.names.items) where
-        packets : AreWholePackets (switch_of t c) s
-        packets = packets_from t c s f k.tables k.traffic k.range k.shape k.found uncut
+      pub leave_refused : (r : StateRefusal) →
+          IsFirstOfTwo 5 (FlowsStand f.names.items) (StandBelow t.setup s.ranks f) r → IsFirstOf (switch_of t c) s r
+      leave_refused =
+          two_refused (switch_of t c) s 5 packets_known _ _ (flows_is t c s f k stand.0.2) (floors_is t c s f k)
 
-        pub fails_five : (FlowsStand f.names.items → ⊥) → IsFirstUnsound (switch_of t c) s 5
-        fails_five fails =
-            first_five (switch_of t c) s k.arrivals order slack packets
-            (λ keep. fails (flows_to t c s f k.tables k.traffic k.range k.shape k.found ordered.2 keep))
-
-        module _ (leave : FlowsStand f.names.items) where
-          flows : KeepArrivalOrder (switch_of t c) s
-          flows = flows_from t c s f k.tables k.traffic k.range k.shape k.found ordered.2 leave
-
-          abbrev pub StandBelow : Type 0
-          StandBelow = AllByRecursion (StandsBelow t.setup s.ranks) f.listed.items
-              × AllByRecursion (StandsBelow t.setup s.ranks) f.buffered.items
-
-          pub fails_six : (StandBelow → ⊥) → IsFirstUnsound (switch_of t c) s 6
-          fails_six fails =
-              first_six (switch_of t c) s k.arrivals order slack packets flows
-              (λ below. fails (floors_to t c s f k.tables k.traffic k.range k.shape k.found below))
-
-          pub is_sound : StandBelow → IsSound (switch_of t c) s
-          is_sound below =
-              all_six (switch_of t c) s k.arrivals order slack packets flows
-              (floors_from t c s f k.tables k.traffic k.range k.shape k.found below.0 below.1)
+      pub is_sound : FlowsStand f.names.items × StandBelow t.setup s.ranks f → IsSound (switch_of t c) s
+      is_sound leave =
+          let all : Before (switch_of t c) s 7 =
+          two_more (switch_of t c) s 5 packets_known _ _ (flows_is t c s f k stand.0.2) (floors_is t c s f k) leave in
+          record {
+            arrivals = all 1 (omega arith);
+            order = all 2 (omega arith);
+            slack = all 3 (omega arith);
+            packets = all 4 (omega arith);
+            flows = all 5 (omega arith);
+            floors = all 6 (omega arith);
+          }

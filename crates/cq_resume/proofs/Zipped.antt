@@ -1,10 +1,19 @@
 -- Two lists whose items belong together, place by place. What holds of the items of the one holds of those of the other
 -- where it holds of any two that belong together.
-use Rattle.std.proofs.Common.{◌≡◌, ℕ, ◌+◌, ◌<◌, ◌≤◌, List, [], ◌∷◌, ◌++◌, length, get_or, map, take, refl, sym, ap, ◌∙◌, subst}
-use Rattle.std.specs.Prelude.{filter_map, Option, Some}
-use Rattle.std.specs.List.{AllByRecursion, AllZip, cons_option}
+use Rattle.std.proofs.Common.{◌≡◌, ℕ, ◌+◌, ◌<◌, ◌≤◌, ◌↔◌, List, [], ◌∷◌, ◌++◌, length, get_or, map, take, refl, sym, ap, ◌∙◌, subst}
+use Rattle.std.specs.Prelude.{All, filter_map, Option, Some}
+use Rattle.std.specs.List.{AllByRecursion, AllPairs, AllZip, cons_option}
 use Rattle.std.proofs.lemmas.List.{take_all, take_more}
-use Rattle.cq_resume.proofs.Chained.{EachPair}
+use Rattle.std.proofs.lemmas.List.Elements.{All-from_recursion, recursion_from_All}
+use Rattle.cq_resume.proofs.Chained.{EachPair, all_pairs, each_pair}
+
+-- where premise and conclusion are said alike, so is what follows from the one
+pub implied : {A A' B B' : Type 0} → A ↔ A' → B ↔ B' → (A → B) ↔ (A' → B')
+implied first second = ((λ f a. second.0 (f (first.1 a))), (λ f a. second.1 (f (first.0 a))))
+
+nothing_of : {X : Type 0} (xs : List X) → AllByRecursion (λ _. Unit {0}) xs
+nothing_of [] = tt
+nothing_of (x ∷ xs) = (tt, nothing_of xs)
 
 module _ {A B : Type 0} (R : A → B → Type 0) where
   zip_push : (xs : List A) (ys : List B) (x : A) (y : B) → AllZip R xs ys → R x y →
@@ -25,58 +34,52 @@ module _ {A B : Type 0} (R : A → B → Type 0) where
   pub zip_all : (xs : List A) (i : ℕ) (ys : List B) → length xs ≤ i → AllZip R (take i xs) ys → AllZip R xs ys
   zip_all xs i ys past zips = subst (λ (l : List A). AllZip R l ys) (take_all i xs past) zips
 
-  -- what holds of one side holds of the other
-  module _ (P : A → Type 0) (Q : B → Type 0) where
-    pub all_over : ((x : A) (y : B) → R x y → P x → Q y) → (xs : List A) (ys : List B) → AllZip R xs ys →
-        AllByRecursion P xs → AllByRecursion Q ys
-    all_over give [] [] zips all = tt
-    all_over give [] (y ∷ ys) zips all = absurd zips
-    all_over give (x ∷ xs) [] zips all = absurd zips
-    all_over give (x ∷ xs) (y ∷ ys) zips all = (give x y zips.0 all.0, all_over give xs ys zips.1 all.1)
+  -- what is said of each item of the one list is said of its own in the other
+  pub all_alike : (P : A → Type 0) (Q : B → Type 0) → ((x : A) (y : B) → R x y → P x ↔ Q y) → (xs : List A)
+      (ys : List B) → AllZip R xs ys → AllByRecursion P xs ↔ AllByRecursion Q ys
+  all_alike P Q same [] [] zips = ((λ _. tt), (λ _. tt))
+  all_alike P Q same [] (y ∷ ys) zips = absurd zips
+  all_alike P Q same (x ∷ xs) [] zips = absurd zips
+  all_alike P Q same (x ∷ xs) (y ∷ ys) zips =
+      let here = same x y zips.0 in
+      let rest = all_alike P Q same xs ys zips.1 in
+      ((λ all. (here.0 all.0, rest.0 all.1)), (λ all. (here.1 all.0, rest.1 all.1)))
 
-    pub all_back : ((x : A) (y : B) → R x y → Q y → P x) → (xs : List A) (ys : List B) → AllZip R xs ys →
-        AllByRecursion Q ys → AllByRecursion P xs
-    all_back give [] [] zips all = tt
-    all_back give [] (y ∷ ys) zips all = absurd zips
-    all_back give (x ∷ xs) [] zips all = absurd zips
-    all_back give (x ∷ xs) (y ∷ ys) zips all = (give x y zips.0 all.0, all_back give xs ys zips.1 all.1)
+  pub alls_alike : (P : A → Type 0) (Q : B → Type 0) → ((x : A) (y : B) → R x y → P x ↔ Q y) → (xs : List A)
+      (ys : List B) → AllZip R xs ys → All P xs ↔ AllByRecursion Q ys
+  alls_alike P Q same xs ys zips =
+      let each = all_alike P Q same xs ys zips in
+      ((λ all. each.0 (recursion_from_All P xs all)), (λ all. All-from_recursion P xs (each.1 all)))
 
-  -- what holds of each item of the first list by its own
+  -- what holds of each item by its own
   pub all_left : (P : A → Type 0) → ((x : A) (y : B) → R x y → P x) → (xs : List A) (ys : List B) → AllZip R xs ys →
       AllByRecursion P xs
-  all_left P give [] [] zips = tt
-  all_left P give [] (y ∷ ys) zips = absurd zips
-  all_left P give (x ∷ xs) [] zips = absurd zips
-  all_left P give (x ∷ xs) (y ∷ ys) zips = (give x y zips.0, all_left P give xs ys zips.1)
+  all_left P give xs ys zips =
+      (all_alike P (λ _. Unit {0}) (λ x y own. ((λ _. tt), (λ _. give x y own))) xs ys zips).1 (nothing_of ys)
 
   pub all_right : (Q : B → Type 0) → ((x : A) (y : B) → R x y → Q y) → (xs : List A) (ys : List B) → AllZip R xs ys →
       AllByRecursion Q ys
-  all_right Q give [] [] zips = tt
-  all_right Q give [] (y ∷ ys) zips = absurd zips
-  all_right Q give (x ∷ xs) [] zips = absurd zips
-  all_right Q give (x ∷ xs) (y ∷ ys) zips = (give x y zips.0, all_right Q give xs ys zips.1)
+  all_right Q give xs ys zips =
+      (all_alike (λ _. Unit {0}) Q (λ x y own. ((λ _. give x y own), (λ _. tt))) xs ys zips).0 (nothing_of xs)
 
   -- and of two of one side
-  module _ (P : A → A → Type 0) (Q : B → B → Type 0) where
-    pub pairs_over : ((x x' : A) (y y' : B) → R x y → R x' y' → P x x' → Q y y') → (xs : List A) (ys : List B) →
-        AllZip R xs ys → EachPair P xs → EachPair Q ys
-    pairs_over give [] [] zips all = tt
-    pairs_over give [] (y ∷ ys) zips all = absurd zips
-    pairs_over give (x ∷ xs) [] zips all = absurd zips
-    pairs_over give (x ∷ xs) (y ∷ ys) zips all = (
-      all_over (P x) (Q y) (λ x' y' own. give x x' y y' zips.0 own) xs ys zips.1 all.0,
-      pairs_over give xs ys zips.1 all.1,
-    )
+  module _ (P : A → A → Type 0) (Q : B → B → Type 0)
+      (same : (x x' : A) (y y' : B) → R x y → R x' y' → P x x' ↔ Q y y') where
+    each_alike : (xs : List A) (ys : List B) → AllZip R xs ys → EachPair P xs ↔ EachPair Q ys
+    each_alike [] [] zips = ((λ _. tt), (λ _. tt))
+    each_alike [] (y ∷ ys) zips = absurd zips
+    each_alike (x ∷ xs) [] zips = absurd zips
+    each_alike (x ∷ xs) (y ∷ ys) zips =
+        let here = all_alike (P x) (Q y) (λ x' y' own. same x x' y y' zips.0 own) xs ys zips.1 in
+        let rest = each_alike xs ys zips.1 in
+        ((λ all. (here.0 all.0, rest.0 all.1)), (λ all. (here.1 all.0, rest.1 all.1)))
 
-    pub pairs_back : ((x x' : A) (y y' : B) → R x y → R x' y' → Q y y' → P x x') → (xs : List A) (ys : List B) →
-        AllZip R xs ys → EachPair Q ys → EachPair P xs
-    pairs_back give [] [] zips all = tt
-    pairs_back give [] (y ∷ ys) zips all = absurd zips
-    pairs_back give (x ∷ xs) [] zips all = absurd zips
-    pairs_back give (x ∷ xs) (y ∷ ys) zips all = (
-      all_back (P x) (Q y) (λ x' y' own. give x x' y y' zips.0 own) xs ys zips.1 all.0,
-      pairs_back give xs ys zips.1 all.1,
-    )
+    pub pairs_alike : (xs : List A) (ys : List B) → AllZip R xs ys → AllPairs P xs ↔ AllPairs Q ys
+    pairs_alike xs ys zips =
+        let each = each_alike xs ys zips in (
+          (λ pairs. all_pairs Q ys (each.0 (each_pair P xs pairs))),
+          (λ pairs. all_pairs P xs (each.1 (each_pair Q ys pairs))),
+        )
 
   -- where each item of the first list comes to something that its own comes to, the lists come to the same
   module _ {C : Type 0} (f : A → Option C) (g : B → C) where

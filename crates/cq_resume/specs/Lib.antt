@@ -9,3 +9,4 @@ pub mod Reading
 pub mod Resumed
 pub mod Parts
 pub mod Neighbours
+pub mod Steps

@@ -58,8 +58,8 @@ fn is_below_floor(setup: &Setup, ranks: &[Sequence<u128>], queued: Queued) -> bo
 pub fn are_below_floors(setup: &Setup, ranks: &[Sequence<u128>], cells: &[Queued]) -> bool
     requires ranks { length ranks.now ≡ length setup.now.kinds }
     requires sized { AreSized (machines_of setup.now) ranks.now }
-    requires outputs { AllByRecursion (λ q. q.cell.output < length setup.now.kinds) cells.now }
-    requires classes { AllByRecursion (λ q. q.cell.class < length setup.now.classes) cells.now }
+    requires cells { AllByRecursion (λ q. (q.cell.output < length setup.now.kinds)
+        × (q.cell.class < length setup.now.classes)) cells.now }
     ensures { IsTrue result ↔ AllByRecursion (StandsBelow setup.now ranks.now) cells.now }
 {
     'places: for at in 0..cells.len() {

@@ -1,23 +1,15 @@
 //! The cells of one input, output and class: they leave in the order of arrival.
 ghost use Rattle.std.specs.Prelude.{◌≡◌, ◌↔◌, ◌<◌, ◌≤◌, AllPairs, IfOk, IfSome, IsTrue, None, length, map, replicate};
 ghost use Rattle.std.specs.List.{AllByRecursion};
-ghost use Rattle.cq_base.specs.Cells.{IsBefore};
 ghost use Rattle.cq_resume.specs.Finding.{FlowsStand, IsNameBefore, Leaves, begins_at};
 
 use crate::found::Name;
-use cq_base::{NoMemory, Queued, Slot};
+use crate::order::is_before;
+use cq_base::{NoMemory, Slot};
 use std::alloc::Global;
 
 // A flow is numbered by its output and its class, of which there are so many at most.
 const MOST_CLASSES: usize = 16;
-
-// Whether a cell is more urgent than another.
-#[tactic(auto, unfolding(cq_base::specs::Key::is_before))]
-fn is_before(queued: &Queued, other: &Queued) -> bool
-    ensures { IsTrue result ↔ IsBefore queued.now other.now }
-{
-    queued.key < other.key
-}
 
 // Whether the first of two cells of a flow, which arrived before the other, leaves before it.
 fn leaves(first: &Name, other: &Name) -> bool
@@ -66,8 +58,7 @@ fn none_seen(alloc: Global, flows: usize) -> Result<Vec<Option<Name>>, NoMemory>
 pub fn keep_arrival_order(alloc: Global, names: &[Name], ports: u16) -> Result<bool, NoMemory>
     requires ordered { AllPairs IsNameBefore names.now }
     requires ports { ports ≤ 64 }
-    requires outputs { AllByRecursion (λ name. name.queued.cell.output < ports) names.now }
-    requires of_classes { AllByRecursion (λ name. name.queued.cell.class < 16) names.now }
+    requires names { AllByRecursion (λ name. (name.queued.cell.output < ports) × (name.queued.cell.class < 16)) names.now }
     ensures { IfOk result (λ holds. IsTrue holds ↔ FlowsStand names.now) }
 {
     let flows = ports as usize * MOST_CLASSES;

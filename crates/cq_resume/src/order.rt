@@ -9,9 +9,9 @@ use crate::found::{Found, Gone};
 use crate::neighbours::neighbours_hold;
 use cq_base::{Key, Queued, Slot, Transfer};
 
-// Whether a cell is more urgent than another.
+/// Whether a cell is more urgent than another.
 #[tactic(auto, unfolding(cq_base::specs::Key::is_before))]
-fn is_before(queued: &Queued, other: &Queued) -> bool
+pub fn is_before(queued: &Queued, other: &Queued) -> bool
     ensures { IsTrue result ↔ IsBefore queued.now other.now }
 {
     queued.key < other.key

@@ -1,12 +1,16 @@
 //! Whether a state is sound.
-ghost use Rattle.std.specs.Prelude.{◌≡◌, ◌↔◌, IfErr, IfOk, IsOk, IsTrue, OnOk};
+ghost use Rattle.std.specs.Prelude.{◌≡◌, ◌↔◌, ◌<◌, ◌≤◌, AllPairs, IfErr, IfOk, IsTrue, OnOk, length};
+ghost use Rattle.std.specs.List.{AllByRecursion};
 ghost use Rattle.cq_cells.specs.Traffic.{IsTraffic};
 ghost use Rattle.cq_resume.specs.Counted.{IsTally};
-ghost use Rattle.cq_resume.specs.Finding.{ArePackets, IsFound};
+ghost use Rattle.cq_rank.specs.Switch.{AreSized};
+ghost use Rattle.cq_resume.specs.Finding.{ArePackets, FlowsStand, IsFound, IsNameBefore};
+ghost use Rattle.cq_resume.specs.Steps.{AreCellsFor, AreNamesFor, AreOrdered, HaveRoom, IsFirstOfTwo, StandBelow};
 ghost use Rattle.cq_resume.specs.Sound.{IsFirstOf, IsSound};
 ghost use Rattle.cq_resume.specs.Switch.{HasShape, switch_of};
 ghost use Rattle.cq_resume.specs.Taking.{CanTakeUp};
 ghost use Rattle.cq_route.specs.Tables.{AreTables, classes_of, ports_of};
+ghost use Rattle.cq_scfq.specs.Disciplines.{machines_of};
 ghost use Rattle.cq_state.specs.State.{IsInRange};
 
 use crate::StateRefusal;
@@ -16,21 +20,64 @@ use crate::found::{Found, find};
 use crate::order::in_order;
 use crate::packets::{Tally, tally_packets};
 use crate::slack::have_slack;
+use cq_base::{Port, Setup};
 use cq_cells::Schedule;
 use cq_route::Tables;
 use cq_state::State;
 use std::alloc::Global;
 
-// The clause has to hold.
-fn demand(holds: bool, clause: u8) -> Result<(), StateRefusal>
-    ensures holds { IsOk result ↔ IsTrue holds }
-    ensures refused { IfErr result (λ r. r ≡ StateRefusal.Unsound clause) }
+// The second clause, then the third.
+fn stand(found: &Found, state: &State) -> Result<(), StateRefusal>
+    requires { AllByRecursion (λ q. q.cell.output < 64) found.now.listed.items }
+    ensures stand { OnOk result (AreOrdered found.now state.now.head.next state.now.moved × HaveRoom found.now) }
+    ensures refused { IfErr result
+        (IsFirstOfTwo 2 (AreOrdered found.now state.now.head.next state.now.moved) (HaveRoom found.now)) }
 {
-    if holds {
-        Ok(())
-    } else {
-        Err(StateRefusal::Unsound { clause })
+    if !in_order(found, state.moved.as_slice(), state.head.next) {
+        return Err(StateRefusal::Unsound { clause: 2 });
     }
+    if !have_slack(&found.listed, &found.buffered) {
+        return Err(StateRefusal::Unsound { clause: 3 });
+    }
+    Ok(())
+}
+
+// Whether each cell that waits is of its class's level, and its rank no greater than the floor of its class.
+fn stand_below(setup: &Setup, state: &State, found: &Found) -> bool
+    requires ranks { length state.now.ranks ≡ length setup.now.kinds }
+    requires sized { AreSized (machines_of setup.now) state.now.ranks }
+    requires cells { AreCellsFor setup.now found.now }
+    ensures { IsTrue result ↔ StandBelow setup.now state.now.ranks found.now }
+{
+    let ranks = state.ranks.as_slice();
+    are_below_floors(setup, ranks, &found.listed) && are_below_floors(setup, ranks, &found.buffered)
+}
+
+// The fifth clause, then the sixth.
+fn leave(
+    alloc: Global,
+    setup: &Setup,
+    state: &State,
+    found: &Found,
+) -> Result<(), StateRefusal>
+    requires ordered { AllPairs IsNameBefore found.now.names.items }
+    requires ports { length setup.now.kinds ≤ 64 }
+    requires names { AreNamesFor setup.now found.now }
+    requires ranks { length state.now.ranks ≡ length setup.now.kinds }
+    requires sized { AreSized (machines_of setup.now) state.now.ranks }
+    requires cells { AreCellsFor setup.now found.now }
+    ensures stand { OnOk result (FlowsStand found.now.names.items × StandBelow setup.now state.now.ranks found.now) }
+    ensures refused { IfErr result
+        (IsFirstOfTwo 5 (FlowsStand found.now.names.items) (StandBelow setup.now state.now.ranks found.now)) }
+{
+    let ports = setup.kinds.as_slice().len() as Port;
+    if !keep_arrival_order(alloc, &found.names, ports)? {
+        return Err(StateRefusal::Unsound { clause: 5 });
+    }
+    if !stand_below(setup, state, found) {
+        return Err(StateRefusal::Unsound { clause: 6 });
+    }
+    Ok(())
 }
 
 /// The cells that a state of this shape names, and what those come to that it does not name. It is refused for the first
@@ -54,11 +101,8 @@ pub fn judge(
     ensures refused { IfErr result (IsFirstOf (switch_of tables.now schedule.now) state.now) }
 {
     let next = state.head.next;
-    let setup = &tables.setup;
-    let ranks = state.ranks.as_slice();
     let found = find(alloc, state, schedule)?;
-    demand(in_order(&found, state.moved.as_slice(), next), 2)?;
-    demand(have_slack(&found.listed, &found.buffered), 3)?;
+    stand(&found, state)?;
     let tally = tally_packets(
         alloc,
         schedule,
@@ -69,9 +113,6 @@ pub fn judge(
     let Some(tally) = tally else {
         return Err(StateRefusal::Unsound { clause: 4 });
     };
-    let flows = keep_arrival_order(alloc, &found.names, state.head.ports)?;
-    demand(flows, 5)?;
-    demand(are_below_floors(setup, ranks, &found.listed), 6)?;
-    demand(are_below_floors(setup, ranks, &found.buffered), 6)?;
+    leave(alloc, &tables.setup, state, &found)?;
     Ok((found, tally))
 }

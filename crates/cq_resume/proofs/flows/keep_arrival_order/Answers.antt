@@ -16,7 +16,7 @@ pub places-preserved : goal.places-preserved
 places-preserved c =
     let inside = c.places-test.true in
     flow_next c.args.names.now c.args.ports c.places.at c.places.last.items c.places.invariant _ (omega arith)
-    c.requires.ordered c.requires.outputs c.requires.of_classes c.begins.result c.begins.ensures c.if-begins.last.items
+    c.requires.ordered c.requires.names c.begins.result c.begins.ensures c.if-begins.last.items
     (elim c.if-begins.branch [
       | then-begins+in_ok-last-2 w ↦ inl (w.if-begins.true, ap (λ v. v.items) w.last-is ∙ w.in_ok-last-2.ensures)
       | else-begins w ↦ inr (w.if-begins.false, ap (λ v. v.items) w.last-is)
@@ -27,7 +27,7 @@ pub returns-then-not-may_leave : goal.returns-then-not-may_leave
 returns-then-not-may_leave c =
     let inside = c.places-test.true in
     flow_stops c.args.names.now c.args.ports c.places.at c.places.last.items c.places.invariant _ (omega arith)
-    c.requires.ordered c.requires.outputs c.requires.of_classes c.begins.result c.begins.ensures c.if-begins.last.items
+    c.requires.ordered c.requires.names c.begins.result c.begins.ensures c.if-begins.last.items
     (elim c.if-begins.branch [
       | then-begins+in_ok-last-2 w ↦ inl (w.if-begins.true, ap (λ v. v.items) w.last-is ∙ w.in_ok-last-2.ensures)
       | else-begins w ↦ inr (w.if-begins.false, ap (λ v. v.items) w.last-is)
@@ -39,4 +39,4 @@ returns c =
     let past = c.places-test.false in
     through
     (lanes_hold input_of flow_of LeavesFirst c.args.names.now (c.args.ports * 16) c.places.at c.places.last.items
-    c.places.invariant (omega arith)) (flows_as_lanes c.args.names.now c.requires.of_classes)
+    c.places.invariant (omega arith)) (flows_as_lanes c.args.ports c.args.names.now c.requires.names)

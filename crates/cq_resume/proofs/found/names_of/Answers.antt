@@ -1,6 +1,4 @@
-use Rattle.std.proofs.Common.{List, subst, rules}
-use Rattle.std.specs.Prelude.{IsPermutation}
-use Rattle.cq_resume.specs.declared.found.Name.{Name}
+use Rattle.std.proofs.Common.{rules}
 use Rattle.cq_resume.proofs.Names.{names_sorted}
 use Rattle.cq_resume.proofs.found.names_of.Goals as goal
 
