@@ -1,41 +1,15 @@
--- What halving finds in cells that stand in order: how many have a lesser key, of cells that stand by their keys; and
--- the cells of one output, of cells that stand by output, which stand by their keys.
-use Rattle.std.proofs.Common.{◌≡◌, ℕ, ◌≤◌, eqb, Bool, true, false, cond, List, [], ◌∷◌, length, get_or, refl, sym, ap, ◌∙◌, subst, inl, inr, arith}
+-- What halving finds in cells that stand in order: the cells of one output, of cells that stand by output, which stand
+-- by their keys.
+use Rattle.std.proofs.Common.{◌≡◌, ℕ, ◌≤◌, eqb, Bool, true, false, cond, List, [], ◌∷◌, get_or, refl, sym, ap, subst, inl, inr, arith}
 use Rattle.std.specs.Prelude.{filter}
 use Rattle.std.specs.List.{AllPairs}
-use Rattle.std.specs.List.Sorted.{IsNonDecreasingBy, IsPartitionPoint, IsPartitionedBy}
+use Rattle.std.specs.List.Sorted.{IsNonDecreasingBy}
 use Rattle.std.proofs.lemmas.Bool.{cases_eq, eqb-true}
-use Rattle.std.proofs.lemmas.List.{length-take-le}
-use Rattle.std.proofs.lemmas.Option.{slice_get-get_or}
 use Rattle.cq_base.specs.Cells.{IsBefore, IsRising}
-use Rattle.cq_base.specs.Key.{is_before}
 use Rattle.cq_base.specs.declared.cell.Queued.{Queued}
-use Rattle.cq_base.specs.declared.key.Key.{Key}
-use Rattle.cq_base.proofs.Keys.{key_laws}
-use Rattle.cq_base.proofs.Lists.{each_pair_at}
 use Rattle.cq_resume.specs.Finding.{BuffersStand, IsBufferedBefore}
 use Rattle.cq_resume.proofs.Chained.{EachPair, each_pair}
-use Rattle.cq_resume.proofs.Cut.{first_kept}
 use Rattle.cq_resume.proofs.Having.{all_from_has, all_of_has, kept_has}
-
--- as many pass a test as stand before the point at which they end
-pub passed_at_point : {X : Type 0} (p : X → Bool) (xs : List X) (n : ℕ) → n ≤ length xs →
-    IsPartitionPoint (λ x. p x ≡ true) (λ x. p x ≡ false) xs n → n ≡ length (filter p xs)
-passed_at_point {X} p xs n few point =
-    sym (length-take-le n xs few)
-    ∙ ap (λ (l : List X). length l)
-    (first_kept p n xs few (λ k d lt. point.0 k d (omega arith) lt) (λ k d le inside. point.1 k d le inside))
-
--- cells of lesser key stand first
-pub lesser_part : (key : Key) (xs : List Queued) → IsRising xs → IsPartitionedBy (λ x. is_before x.key key) xs
-lesser_part key xs rising i j d le inside is =
-    elim (cases_eq i j) [
-      | inl same ↦ let P : ℕ → Type 0 = λ k. is_before (get_or xs k d).key key ≡ true in subst P (sym same) is
-      | inr other ↦
-          key_laws.on (get_or xs i d).key (get_or xs j d).key key
-          (each_pair_at IsBefore xs i j (get_or xs i d) (get_or xs j d) rising (slice_get-get_or xs i d (omega arith))
-          (slice_get-get_or xs j d inside) (omega arith)) is
-    ]
 
 -- items of which each later one has no lesser number do not fall
 pub not_falling : {X : Type 0} (R : X → X → Type 0) (key : X → ℕ) → ((a b : X) → R a b → key a ≤ key b) →

@@ -14,6 +14,7 @@ use Rattle.cq_resume.specs.declared.refusal.StateRefusal.TheVariants as refusal
 use Rattle.cq_resume.specs.declared.taken.Taken.{Taken}
 use Rattle.cq_state.specs.State.{IsInRange, state_text}
 use Rattle.cq_state.specs.StateText.{IsStateFault}
+use Rattle.cq_state.specs.declared.state.Head.{Head}
 use Rattle.cq_state.specs.declared.state.Named.{Named}
 use Rattle.cq_state.specs.declared.state.Seen.{Seen}
 use Rattle.cq_state.specs.declared.state.Sent.{Sent}
@@ -31,20 +32,11 @@ sent_as d = record { slot = d.slot; cell = named_as d.queued }
 abbrev pub seen_as : InputFigures → Seen
 seen_as x = record { longest = x.longest; slack = x.slack }
 
--- what the text of a stopped run tells: its frozen state, its departures and its transfers, and the stamp from which
--- slots are counted, the number of classes, and the number of cells in the schedule
-unfoldable pub state_of : Frozen → List Departure → List Transfer → ℕ → ℕ → ℕ → State
-state_of x sent note first_stamp classes total =
+-- what a stopped run tells, with this at its head
+abbrev pub told_by : Head → Frozen → List Departure → List Transfer → State
+told_by head x sent note =
     record {
-      head = record {
-        next = x.next;
-        ports = length x.lists;
-        classes = classes;
-        t0 = first_stamp;
-        total = total;
-        proposals = x.figures.proposals;
-        most = x.figures.most;
-      };
+      head = head;
       inputs = map seen_as x.figures.inputs;
       ranks = x.ranks;
       listed = map named_as (flat_map (λ cells. cells) x.lists);
@@ -52,6 +44,21 @@ state_of x sent note first_stamp classes total =
       sent = map sent_as sent;
       moved = note;
     }
+
+-- what the text of a stopped run tells: its frozen state, its departures and its transfers, and the stamp from which
+-- slots are counted, the number of classes, and the number of cells in the schedule
+unfoldable pub state_of : Frozen → List Departure → List Transfer → ℕ → ℕ → ℕ → State
+state_of x sent note first_stamp classes total =
+    told_by
+    (record {
+      next = x.next;
+      ports = length x.lists;
+      classes = classes;
+      t0 = first_stamp;
+      total = total;
+      proposals = x.figures.proposals;
+      most = x.figures.most;
+    }) x sent note
 
 -- ## Reading
 

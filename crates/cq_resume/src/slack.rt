@@ -1,11 +1,12 @@
 //! The slack of the cells that wait at inputs.
 ghost use Rattle.std.specs.Prelude.{◌≡◌, ◌↔◌, ◌==◌, AllPairs, IsTrue, filter, length};
-ghost use Rattle.cq_base.specs.Cells.{IsRising, cushion};
+ghost use Rattle.cq_base.specs.Cells.{IsRising};
 ghost use Rattle.cq_resume.specs.Finding.{BuffersStand, IsNoLaterInput, SlackStands, cushion_in};
 
 use crate::between::between;
 use crate::order::begins;
-use cq_base::{Key, Port, Queued};
+use cq_base::{Port, Queued};
+use cq_urgency::count_before;
 
 // The cells for one output, of cells that stand by output.
 fn cells_for(buffered: &[Queued], output: Port) -> &[Queued]
@@ -26,14 +27,6 @@ pub fn buffer_at(buffered: &[Queued], output: Port) -> &[Queued]
     ensures rising { IsRising result.now }
 {
     cells_for(buffered, output)
-}
-
-// How many cells have a lesser key, of cells that stand by their keys.
-fn count_before(cells: &[Queued], key: Key) -> usize
-    requires { IsRising cells.now }
-    ensures { result ≡ cushion key cells.now }
-{
-    cells.partition_point(|queued| queued.key < key)
 }
 
 // How many cells of its output's buffer are more urgent, where each buffer stands in order.

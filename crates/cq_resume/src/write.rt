@@ -1,7 +1,7 @@
 //! Writes a stopped run as the text of its state.
 ghost use Rattle.std.specs.Prelude.{◌≡◌, ◌<◌, ◌≤◌, ◌^◌, ◌++◌, IfErr, IfOk, OnOk, length, map};
 ghost use Rattle.std.specs.List.{flat_map};
-ghost use Rattle.cq_resume.specs.Reading.{named_as, seen_as, sent_as, state_of};
+ghost use Rattle.cq_resume.specs.Reading.{named_as, seen_as, sent_as, state_of, told_by};
 ghost use Rattle.cq_state.specs.Refusals.{IsTooLong};
 ghost use Rattle.cq_state.specs.State.{state_text};
 
@@ -108,29 +108,16 @@ fn all_moved(alloc: Global, note: &[Transfer]) -> Result<Sequence<Transfer>, NoM
     Ok(Sequence::of(Vec::from_slice(alloc, note)?))
 }
 
-// What a stopped run tells.
+// What a stopped run tells, with this at its head.
 fn told(
     alloc: Global,
+    head: Head,
     frozen: &Frozen,
     sent: &[Departure],
     note: &[Transfer],
-    t0: u64,
-    classes: u16,
-    total: u64,
 ) -> Result<State, NoMemory>
-    requires ports { length frozen.now.lists < 2 ^ 16 }
-    ensures { IfOk result (λ state. state ≡ state_of frozen.now sent.now note.now t0 classes total) }
+    ensures { IfOk result (λ state. state ≡ told_by head frozen.now sent.now note.now) }
 {
-    let ports = frozen.lists.as_slice().len() as Port;
-    let head = Head {
-        next: frozen.next,
-        ports,
-        classes,
-        t0,
-        total,
-        proposals: frozen.figures.proposals,
-        most: frozen.figures.most,
-    };
     Ok(State {
         head,
         inputs: Sequence::of(all_seen(alloc, frozen.figures.inputs.as_slice())?),
@@ -147,6 +134,7 @@ fn told(
 ///
 /// - `Long`: the text would have more than 268,435,456 bytes.
 /// - `NoMemory`: there was not the memory for it.
+#[tactic(auto, unfolding(crate::specs::Reading::state_of))]
 pub fn state_bytes(
     alloc: Global,
     frozen: &Frozen,
@@ -161,6 +149,15 @@ pub fn state_bytes(
     ensures short { IfOk result (λ text. length text.items ≤ 2 ^ 28) }
     ensures long { IfErr result (IsTooLong (state_text (state_of frozen.now sent.now note.now t0 classes total))) }
 {
-    let state = told(alloc, frozen, sent, note, t0, classes, total)?;
+    let head = Head {
+        next: frozen.next,
+        ports: frozen.lists.as_slice().len() as Port,
+        classes,
+        t0,
+        total,
+        proposals: frozen.figures.proposals,
+        most: frozen.figures.most,
+    };
+    let state = told(alloc, head, frozen, sent, note)?;
     text_of(alloc, &state)
 }

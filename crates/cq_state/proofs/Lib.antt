@@ -7,4 +7,3 @@ pub mod OneText
 pub mod Reading
 pub mod Writing
 pub mod Bounds
-pub mod Mapped

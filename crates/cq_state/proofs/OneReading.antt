@@ -1,7 +1,7 @@
 -- A state's text is read in one way. The words of the kinds differ, and each ends where its first field or the line
 -- ends, so a line tells its kind, and then its fields. The kinds that are due rise in the table, so a kind is due
 -- once, and a line leads to one place.
-use Rattle.std.proofs.Common.{◌≡◌, ℕ, ◌<◌, ◌≤◌, ltb, eqb, cond, List, [], ◌∷◌, ◌++◌, get_or, Option, refl, ap, sym, subst, ◌∙◌, arith, lit≤, ⊎_elim, append_assoc}
+use Rattle.std.proofs.Common.{◌≡◌, ℕ, ◌<◌, ◌≤◌, ltb, eqb, cond, List, [], ◌∷◌, ◌++◌, get_or, Option, refl, ap, sym, subst, ◌∙◌, arith, ⊎_elim, append_assoc}
 use Rattle.std.specs.Prelude.{⊤}
 use Rattle.std.proofs.lemmas.List.{append-nil}
 use Rattle.cq_lines.specs.Lines.{line, ending}
@@ -133,41 +133,7 @@ still_above n (k ∷ due) seen ports x q a c =
 
 rising : Above 0 kinds
 unfolding order
-rising = (
-  lit≤ tt,
-  (
-    lit≤ tt,
-    (
-      lit≤ tt,
-      (
-        lit≤ tt,
-        (
-          lit≤ tt,
-          (
-            lit≤ tt,
-            (
-              lit≤ tt,
-              (
-                lit≤ tt,
-                (
-                  lit≤ tt,
-                  (
-                    lit≤ tt,
-                    (
-                      lit≤
-                          tt,
-                      tt,
-                    ),
-                  ),
-                ),
-              ),
-            ),
-          ),
-        ),
-      ),
-    ),
-  ),
-)
+rising = search arith
 
 pub state_is_exact : IsStateExact
 state_is_exact = exact spelled Comes (λ p. Above 0 p.due) way start MayEnd rising

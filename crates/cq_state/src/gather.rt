@@ -6,7 +6,7 @@ ghost use Rattle.cq_state.specs.Gather.{AreLow, AreShape, AreSeen, AreNamedAt, A
 use crate::kind::Kind;
 use crate::state::{Head, Named, Seen, Sent, State};
 use cq_base::{CellId, NoMemory, Sequence, Transfer};
-use std::alloc::Global;
+use std::alloc::{AllocError, Global};
 
 // A state as far as its lines are read.
 #[derive(Drop)]
@@ -177,17 +177,13 @@ fn rank(alloc: Global, fields: &[Option<u128>]) -> Result<Sequence<u128>, NoMemo
     ensures { IfOk result (λ numbers. numbers ≡ rank_of fields.now) }
 {
     match fields {
-        [_, rest @ ..] => numbers(alloc, rest),
+        [_, rest @ ..] => Ok(Sequence::of(numbers(alloc, rest)?)),
         [] => Ok(Sequence::of(Vec::new(alloc))),
     }
 }
 
-fn numbers(alloc: Global, fields: &[Option<u128>]) -> Result<Sequence<u128>, NoMemory>
-    ensures { IfOk result (λ numbers. numbers ≡ map (λ f. unwrap_or f 0) fields.now) }
+fn numbers(alloc: Global, fields: &[Option<u128>]) -> Result<Vec<u128>, AllocError>
+    ensures { IfOk result (λ numbers. numbers.items ≡ map (λ f. unwrap_or f 0) fields.now) }
 {
-    let mut numbers = Vec::with_capacity(alloc, fields.len())?;
-    'fields: for field in fields {
-        numbers.push(field.unwrap_or(0))?;
-    }
-    Ok(Sequence::of(numbers))
+    fields.iter().map(|field| field.unwrap_or(0)).collect(alloc)
 }

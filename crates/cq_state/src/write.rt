@@ -9,7 +9,7 @@ use crate::kind::Kind;
 use crate::state::{Head, Named, Seen, Sent, State};
 use cq_base::{NoMemory, Sequence, Transfer};
 use cq_lines::put_line;
-use std::alloc::Global;
+use std::alloc::{AllocError, Global};
 
 /// Why there is no text.
 #[derive(Clone, Copy, Debug, PartialEq, Eq)]
@@ -121,14 +121,12 @@ fn rank_fields(
     alloc: Global,
     output: usize,
     numbers: &[u128],
-) -> Result<Vec<Option<u128>>, NoMemory>
+) -> Result<Vec<Option<u128>>, AllocError>
     ensures { IfOk result (λ fields. fields.items ≡ map Some (output ∷ numbers.now)) }
 {
     let mut fields = Vec::new(alloc);
     fields.push(Some(output as u128))?;
-    'numbers: for number in numbers {
-        fields.push(Some(*number))?;
-    }
+    fields.extend(numbers.iter().map(|number| Some(*number)))?;
     Ok(fields)
 }
 

@@ -86,8 +86,8 @@ fn put_inside(
     0
 }
 
-// How many cells have a lesser key. They stand before all others, so halving finds where they end.
-fn count_before(cells: &[Queued], key: Key) -> usize
+/// How many cells have a lesser key. They stand before all others, so halving finds where they end.
+pub fn count_before(cells: &[Queued], key: Key) -> usize
     requires { IsRising cells.now }
     ensures { result ≡ cushion key cells.now }
 {

@@ -9,4 +9,5 @@ mod block;
 mod blocks;
 mod output_buffer;
 
+pub use block::count_before;
 pub use output_buffer::OutputBuffer;

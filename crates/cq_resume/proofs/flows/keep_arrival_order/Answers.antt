@@ -1,10 +1,20 @@
-use Rattle.std.proofs.Common.{◌*◌, List, Option, inl, inr, sym, ap, ◌∙◌, subst, arith}
+use Rattle.std.proofs.Common.{◌≡◌, ◌*◌, ◌⊎◌, true, false, List, Option, inl, inr, sym, ap, ◌∙◌, subst, arith}
 use Rattle.cq_resume.specs.declared.found.Name.{Name}
-use Rattle.cq_resume.proofs.Lanes.{Lanes, lanes_first, lanes_hold}
+use Rattle.cq_resume.proofs.Lanes.{Lanes, lanes_first, lanes_hold, none_seen}
 use Rattle.cq_resume.proofs.Leaving.{flow_next, flow_stops}
 use Rattle.cq_resume.proofs.Orders.{LeavesFirst, flow_of, flows_as_lanes, input_of, through}
-use Rattle.cq_resume.proofs.flows.keep_arrival_order.Goals.{then-begins+in_ok-last-2, else-begins}
+use Rattle.cq_resume.proofs.flows.keep_arrival_order.Goals.{After-may_leave, then-begins+in_ok-last-2, else-begins}
 use Rattle.cq_resume.proofs.flows.keep_arrival_order.Goals as goal
+
+-- the names of an input begin here, or go on
+ways : (c : After-may_leave) →
+    ((c.begins.result ≡ true)
+    × (c.if-begins.last.items ≡ none_seen input_of flow_of LeavesFirst (c.args.ports * 16))) ⊎
+    ((c.begins.result ≡ false) × (c.if-begins.last.items ≡ c.places.last.items))
+ways c = elim c.if-begins.branch [
+  | then-begins+in_ok-last-2 w ↦ inl (w.if-begins.true, ap (λ v. v.items) w.last-is ∙ w.in_ok-last-2.ensures)
+  | else-begins w ↦ inr (w.if-begins.false, ap (λ v. v.items) w.last-is)
+]
 
 pub places-init : goal.places-init
 places-init c =
@@ -17,22 +27,16 @@ places-preserved c =
     let inside = c.places-test.true in
     flow_next c.args.names.now c.args.ports c.places.at c.places.last.items c.places.invariant _ (omega arith)
     c.requires.ordered c.requires.names c.begins.result c.begins.ensures c.if-begins.last.items
-    (elim c.if-begins.branch [
-      | then-begins+in_ok-last-2 w ↦ inl (w.if-begins.true, ap (λ v. v.items) w.last-is ∙ w.in_ok-last-2.ensures)
-      | else-begins w ↦ inr (w.if-begins.false, ap (λ v. v.items) w.last-is)
-    ])
-    c.index.result.now c.index.ensures c.may_leave.result c.may_leave.ensures c.if-not-may_leave.false
+    (ways (goal.at.places-preserved c).After-may_leave) c.index.result.now c.index.ensures c.may_leave.result
+    c.may_leave.ensures c.if-not-may_leave.false
 
 pub returns-then-not-may_leave : goal.returns-then-not-may_leave
 returns-then-not-may_leave c =
     let inside = c.places-test.true in
     flow_stops c.args.names.now c.args.ports c.places.at c.places.last.items c.places.invariant _ (omega arith)
     c.requires.ordered c.requires.names c.begins.result c.begins.ensures c.if-begins.last.items
-    (elim c.if-begins.branch [
-      | then-begins+in_ok-last-2 w ↦ inl (w.if-begins.true, ap (λ v. v.items) w.last-is ∙ w.in_ok-last-2.ensures)
-      | else-begins w ↦ inr (w.if-begins.false, ap (λ v. v.items) w.last-is)
-    ])
-    c.index.result.now c.index.ensures c.may_leave.result c.may_leave.ensures c.if-not-may_leave.true
+    (ways (goal.at.returns-then-not-may_leave c).After-may_leave) c.index.result.now c.index.ensures
+    c.may_leave.result c.may_leave.ensures c.if-not-may_leave.true
 
 pub returns : goal.returns
 returns c =

@@ -8,6 +8,7 @@ use Rattle.cq_resume.proofs.Adding.{Tallied, tallied_first, tallied_more, tally_
 use Rattle.cq_resume.proofs.Upheld.{all_stand, packet_fails, tallies_up}
 use Rattle.cq_resume.proofs.Walking.{cells_in}
 use Rattle.cq_resume.proofs.packets.tally_packets.Goals as goal
+use Rattle.cq_resume.proofs.packets.tally_packets.Goals.{After-of-2}
 
 pub inputs-init : goal.inputs-init
 inputs-init c =
@@ -57,24 +58,25 @@ returns-in-None-clause-none c stand =
     packet_fails c.args.limits.now c.args.next c.args.schedule.now.came c.args.names.now c.args.schedule.now.ports
     c.requires.packets c.inputs.input (omega arith) (sym c.in-None.is ∙ c.walk.ensures.mark) stand
 
-pub returns-clause-stand : goal.returns-clause-stand
-returns-clause-stand c =
+-- all inputs are walked
+ended : (c : After-of-2) →
+    Tallied c.args.limits.now c.args.next c.args.schedule.now.came c.args.names.now c.args.schedule.now.ports
+    c.inputs.marks.items c.inputs.refused.items
+ended c =
     let past = c.inputs-test.false in
     let most = c.inputs.auto.input-end in
     let many = c.requires.limits in
     let all : c.inputs.input ≡ c.args.schedule.now.ports = omega arith in
+    subst (λ (n : ℕ). Tallied c.args.limits.now c.args.next c.args.schedule.now.came c.args.names.now n
+    c.inputs.marks.items c.inputs.refused.items) all c.inputs.invariant
+
+pub returns-clause-stand : goal.returns-clause-stand
+returns-clause-stand c =
     all_stand c.args.limits.now c.args.next c.args.schedule.now.came c.args.names.now c.args.schedule.now.ports
-    c.requires.packets c.inputs.marks.items c.inputs.refused.items
-    (subst (λ (n : ℕ). Tallied c.args.limits.now c.args.next c.args.schedule.now.came c.args.names.now n
-    c.inputs.marks.items c.inputs.refused.items) all c.inputs.invariant)
+    c.requires.packets c.inputs.marks.items c.inputs.refused.items (ended c)
 
 pub returns-clause-tally : goal.returns-clause-tally
 returns-clause-tally c =
-    let past = c.inputs-test.false in
-    let most = c.inputs.auto.input-end in
-    let many = c.requires.limits in
-    let all : c.inputs.input ≡ c.args.schedule.now.ports = omega arith in
     tallies_up c.args.limits.now c.args.next c.args.schedule.now.came c.args.names.now c.args.schedule.now.ports
-    c.requires.packets c.inputs.marks.items c.inputs.refused.items
-    (subst (λ (n : ℕ). Tallied c.args.limits.now c.args.next c.args.schedule.now.came c.args.names.now n
-    c.inputs.marks.items c.inputs.refused.items) all c.inputs.invariant) _ many c.of.ensures c.of-2.ensures
+    c.requires.packets c.inputs.marks.items c.inputs.refused.items (ended c) _ c.requires.limits c.of.ensures
+    c.of-2.ensures

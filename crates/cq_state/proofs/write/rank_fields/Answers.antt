@@ -1,12 +1,11 @@
-use Rattle.std.proofs.Common.{[], ◌∷◌, Some, refl}
-use Rattle.cq_state.proofs.Mapped.{image_put, images_put}
+use Rattle.std.proofs.Common.{Some, rules}
+use Rattle.std.proofs.lemmas.Iterator.{YieldsList-from_map, YieldsList-from_slice}
+use Rattle.std.proofs.lemmas.Iterator.Adapters.{items_from_extend}
 use Rattle.cq_state.proofs.write.rank_fields.Goals as goal
 
-pub numbers-preserved : goal.numbers-preserved
-numbers-preserved c =
-    image_put Some (Some c.args.output ∷ []) c.args.numbers.now c.numbers.number-index _ _ _ _ c.numbers-test.true
-    c.numbers.invariant refl c.in_ok-push-2.ensures.items
-
 pub returns : goal.returns
-returns c = images_put Some (Some c.args.output ∷ []) c.args.numbers.now c.numbers.number-index _ c.numbers-test.false
-    c.numbers.invariant
+returns c =
+    let put =
+    items_from_extend c.extend.result c.extend.ensures.ran
+    (YieldsList-from_map _ Some (YieldsList-from_slice c.args.numbers.now cc) (cc) (λ x r q k. search rules)) in
+    search rules
