@@ -1,165 +1,87 @@
 -- That the worked records are the run with input-best matchings: in each phase in which a cell crosses, its input and
--- its output are each other's first, and all other inputs have cells for that output only.
-use Rattle.std.proofs.Common.{◌≡◌, ◌≢◌, ℕ, zero, suc, [], ◌∷◌, Some, None, refl, sym, ⊎_elim, arith}
-use Rattle.std.specs.Prelude.{slice_index_or}
+-- its output are each other's first, and all other inputs have cells for that output only. A test tells so.
+use Rattle.std.proofs.Common.{◌≡◌, ℕ, zero, suc, ◌<◌, true, List, [], ◌∷◌, length, Option, Some, None, refl, sym, ◌∙◌, subst, arith, set}
+use Rattle.std.specs.Prelude.{replicate}
+use Rattle.std.proofs.lemmas.List.{length-map, length-set}
+use Rattle.cq_base.specs.declared.cell.Cell.{Cell}
+use Rattle.cq_base.specs.declared.cell.Queued.{Queued}
+use Rattle.cq_base.specs.Cells.{put, first_for, without_first}
 use Rattle.cq_base.specs.Key.{is_before}
 use Rattle.cq_ideal.specs.IdealSlot.{all_told}
 use Rattle.cq_ideal.specs.LimitedExample.{first_come_all}
-use Rattle.cq_prefs.specs.Orders.{Orders, place_in, inputs_of, IsListed, IsOffered}
-use Rattle.cq_prefs.specs.Pairing.{IsInputBest}
-use Rattle.cq_prefs.specs.FirstCells.{orders_of}
-use Rattle.cq_prefs.proofs.Members.{among}
-use Rattle.cq_laws.specs.Fabric.{Fabric, input, empty_fabric}
-use Rattle.cq_laws.specs.Phases.{came_to, list_arrived}
-use Rattle.cq_laws.specs.FabricSlot.{FabricSlot}
+use Rattle.cq_prefs.specs.Orders.{place_in, ports}
+use Rattle.cq_prefs.specs.Pairing.{Partners, with_pair, IsInputBest}
+use Rattle.cq_prefs.specs.FirstCells.{orders_of, output_order}
+use Rattle.cq_laws.specs.Fabric.{Fabric, input, buffer, empty_fabric}
+use Rattle.cq_laws.specs.Phases.{came_to, list_arrived, Arrives, Transfers, Departs}
+use Rattle.cq_laws.specs.FabricSlot.{SlotRecord, FabricSlot}
 use Rattle.cq_laws.specs.FabricRun.{FabricRun}
 use Rattle.cq_laws.specs.Example.{lone_cell, from_input0, from_input1, from_input2, for_output1, three, three_empty, three_slots, slot0, slot1, slot2, worked_records}
-use Rattle.cq_laws.proofs.OnePair.{IsOnlyPair, AreFirst, pair_best, pair_moves}
+use Rattle.cq_laws.proofs.OnePair.{are_first, first_by_test, only_pair, pair_best, pair_moves}
 use Rattle.cq_laws.proofs.QuietSlots.{nobody_best, nothing_moves}
 
-only_one : (x l : ℕ) → IsListed (x ∷ []) l → l ≡ x
-only_one x l h = ⊎_elim (λ e. sym e) (λ no. absurd no) (among (x ∷ []) l h)
+-- ## Phases
 
-none_listed : (l : ℕ) → IsListed [] l → ⊥
-none_listed l h = among [] l h
+record Phase (m : Partners) (f g : Fabric) : Type 0 where
+  best : IsInputBest (orders_of f.inputs) m
+  moved : Transfers m f g
 
--- ## The offers
+-- the pair of these ports alone, of three
+abbrev pair : ℕ → ℕ → Partners
+pair i j = with_pair (replicate 3 None) i j
 
-offers0 : Orders
-offers0 = record { outputs = (0 ∷ []) ∷ (0 ∷ []) ∷ (0 ∷ []) ∷ []; inputs = (0 ∷ 1 ∷ 2 ∷ []) ∷ [] ∷ [] ∷ [] }
+-- a cell crosses
+crosses : (f : Fabric) (i j : ℕ) (c : Queued) → are_first (orders_of f.inputs) i j ≡ true → length f.inputs ≡ 3 →
+    first_for j (input f i) ≡ Some c → i < 3 → j < length f.buffers →
+    Phase (pair i j) f (record {
+      inputs = set f.inputs i (without_first j (input f i));
+      buffers = set f.buffers j (put c (buffer f j));
+      ranks = f.ranks;
+    })
+crosses f i j c first three_ports front inside inside' =
+    let o = orders_of f.inputs in
+    let none : Option ℕ = None in
+    let size : length (pair i j) ≡ ports o =
+    length-set (replicate 3 none) i (Some j) ∙ sym (length-map f.inputs output_order ∙ three_ports) in
+    record {
+      best = pair_best (pair i j) i j (only_pair 3 i j inside) o (first_by_test o i j first) size;
+      moved = record {
+        moves = pair_moves (pair i j) i j (only_pair 3 i j inside) c f.inputs f.buffers front (omega arith) inside';
+        ranks = refl;
+      };
+    }
 
-offers0_others : (k l : ℕ) → k ≢ 0 → IsOffered offers0 k l → l ≡ 0
-unfolding offers0
-offers0_others zero l ne h = absurd (ne refl)
-offers0_others (suc zero) l ne h = only_one 0 l h
-offers0_others (suc (suc zero)) l ne h = only_one 0 l h
-offers0_others (suc (suc (suc k))) l ne h = absurd (none_listed l h)
+nobody : (f : Fabric) → f.inputs ≡ replicate 3 [] → Phase (replicate 3 None) f f
+nobody f none = record {
+  best = subst (λ l. IsInputBest (orders_of l) (replicate 3 None)) (sym none) (nobody_best 3);
+  moved = nothing_moves 3 f;
+}
 
-offers0_shown : (k : ℕ) → IsOffered offers0 k 0 → IsListed (inputs_of offers0 0) k
-unfolding offers0 place_in
-offers0_shown zero h = omega arith
-offers0_shown (suc zero) h = omega arith
-offers0_shown (suc (suc zero)) h = omega arith
-offers0_shown (suc (suc (suc k))) h = absurd (none_listed 0 h)
+slot_of : {cells : List (Option Cell)} {old new : Fabric} (r : SlotRecord) →
+    Arrives first_come_all r.slot cells r.came old r.arrived → Phase r.first r.arrived r.filled →
+    Departs first_come_all r.gone r.filled r.sent → Phase r.second r.sent new →
+    FabricSlot IsInputBest first_come_all r.slot cells old r new
+slot_of r arrive fill depart finish = record {
+  numbered = refl;
+  arrive = arrive;
+  first_chosen = fill.best;
+  fill = fill.moved;
+  depart = depart;
+  second_chosen = finish.best;
+  finish = finish.moved;
+}
 
-first0 : AreFirst offers0 0 0
-unfolding offers0 place_in
-first0 = record { offered = omega arith; shown = offers0_shown; place = refl; position = refl; others = offers0_others }
+-- what comes to an input goes into its list
+abbrev ComesTo : Fabric → SlotRecord → ℕ → Type 0
+ComesTo old r i = input r.arrived i ≡ list_arrived old (came_to r.came i) (input old i)
 
-only0 : IsOnlyPair slot0.first 0 0
-only0 = record { pair = refl; others = λ k ne. go k ne }
-  where
-    go : (k : ℕ) → k ≢ 0 → slice_index_or slot0.first k None ≡ None
-    go zero ne = absurd (ne refl)
-    go (suc zero) ne = refl
-    go (suc (suc zero)) ne = refl
-    go (suc (suc (suc k))) ne = refl
-
-best0 : IsInputBest (orders_of slot0.arrived.inputs) slot0.first
-unfolding offers0 is_before
-best0 = pair_best slot0.first 0 0 only0 offers0 first0 refl
-
-offers1 : Orders
-offers1 = record { outputs = [] ∷ (0 ∷ []) ∷ (0 ∷ []) ∷ []; inputs = (1 ∷ 2 ∷ []) ∷ [] ∷ [] ∷ [] }
-
-offers1_others : (k l : ℕ) → k ≢ 1 → IsOffered offers1 k l → l ≡ 0
-unfolding offers1
-offers1_others zero l ne h = absurd (none_listed l h)
-offers1_others (suc zero) l ne h = only_one 0 l h
-offers1_others (suc (suc zero)) l ne h = only_one 0 l h
-offers1_others (suc (suc (suc k))) l ne h = absurd (none_listed l h)
-
-offers1_shown : (k : ℕ) → IsOffered offers1 k 0 → IsListed (inputs_of offers1 0) k
-unfolding offers1 place_in
-offers1_shown zero h = absurd (none_listed 0 h)
-offers1_shown (suc zero) h = omega arith
-offers1_shown (suc (suc zero)) h = omega arith
-offers1_shown (suc (suc (suc k))) h = absurd (none_listed 0 h)
-
-first1 : AreFirst offers1 1 0
-unfolding offers1 place_in
-first1 = record { offered = omega arith; shown = offers1_shown; place = refl; position = refl; others = offers1_others }
-
-only1 : IsOnlyPair slot0.second 1 0
-only1 = record { pair = refl; others = λ k ne. go k ne }
-  where
-    go : (k : ℕ) → k ≢ 1 → slice_index_or slot0.second k None ≡ None
-    go zero ne = refl
-    go (suc zero) ne = absurd (ne refl)
-    go (suc (suc zero)) ne = refl
-    go (suc (suc (suc k))) ne = refl
-
-best1 : IsInputBest (orders_of slot0.sent.inputs) slot0.second
-unfolding offers1 is_before
-best1 = pair_best slot0.second 1 0 only1 offers1 first1 refl
-
-offers2 : Orders
-offers2 = record { outputs = [] ∷ [] ∷ (1 ∷ 0 ∷ []) ∷ []; inputs = (2 ∷ []) ∷ (2 ∷ []) ∷ [] ∷ [] }
-
-offers2_others : (k l : ℕ) → k ≢ 2 → IsOffered offers2 k l → l ≡ 1
-unfolding offers2
-offers2_others zero l ne h = absurd (none_listed l h)
-offers2_others (suc zero) l ne h = absurd (none_listed l h)
-offers2_others (suc (suc zero)) l ne h = absurd (ne refl)
-offers2_others (suc (suc (suc k))) l ne h = absurd (none_listed l h)
-
-offers2_shown : (k : ℕ) → IsOffered offers2 k 1 → IsListed (inputs_of offers2 1) k
-unfolding offers2 place_in
-offers2_shown zero h = absurd (none_listed 1 h)
-offers2_shown (suc zero) h = absurd (none_listed 1 h)
-offers2_shown (suc (suc zero)) h = omega arith
-offers2_shown (suc (suc (suc k))) h = absurd (none_listed 1 h)
-
-first2 : AreFirst offers2 2 1
-unfolding offers2 place_in
-first2 = record { offered = omega arith; shown = offers2_shown; place = refl; position = refl; others = offers2_others }
-
-only2 : IsOnlyPair slot1.first 2 1
-only2 = record { pair = refl; others = λ k ne. go k ne }
-  where
-    go : (k : ℕ) → k ≢ 2 → slice_index_or slot1.first k None ≡ None
-    go zero ne = refl
-    go (suc zero) ne = refl
-    go (suc (suc zero)) ne = absurd (ne refl)
-    go (suc (suc (suc k))) ne = refl
-
-best2 : IsInputBest (orders_of slot1.arrived.inputs) slot1.first
-unfolding offers2 is_before
-best2 = pair_best slot1.first 2 1 only2 offers2 first2 refl
-
-offers3 : Orders
-offers3 = record { outputs = [] ∷ [] ∷ (0 ∷ []) ∷ []; inputs = (2 ∷ []) ∷ [] ∷ [] ∷ [] }
-
-offers3_others : (k l : ℕ) → k ≢ 2 → IsOffered offers3 k l → l ≡ 0
-unfolding offers3
-offers3_others zero l ne h = absurd (none_listed l h)
-offers3_others (suc zero) l ne h = absurd (none_listed l h)
-offers3_others (suc (suc zero)) l ne h = absurd (ne refl)
-offers3_others (suc (suc (suc k))) l ne h = absurd (none_listed l h)
-
-offers3_shown : (k : ℕ) → IsOffered offers3 k 0 → IsListed (inputs_of offers3 0) k
-unfolding offers3 place_in
-offers3_shown zero h = absurd (none_listed 0 h)
-offers3_shown (suc zero) h = absurd (none_listed 0 h)
-offers3_shown (suc (suc zero)) h = omega arith
-offers3_shown (suc (suc (suc k))) h = absurd (none_listed 0 h)
-
-first3 : AreFirst offers3 2 0
-unfolding offers3 place_in
-first3 = record { offered = omega arith; shown = offers3_shown; place = refl; position = refl; others = offers3_others }
-
-only3 : IsOnlyPair slot1.second 2 0
-only3 = record { pair = refl; others = λ k ne. go k ne }
-  where
-    go : (k : ℕ) → k ≢ 2 → slice_index_or slot1.second k None ≡ None
-    go zero ne = refl
-    go (suc zero) ne = refl
-    go (suc (suc zero)) ne = absurd (ne refl)
-    go (suc (suc (suc k))) ne = refl
-
-best3 : IsInputBest (orders_of slot1.sent.inputs) slot1.second
-unfolding offers3 is_before
-best3 = pair_best slot1.second 2 0 only3 offers3 first3 refl
+-- of three inputs, and past them
+at_inputs : (old : Fabric) (r : SlotRecord) → ComesTo old r 0 → ComesTo old r 1 → ComesTo old r 2 →
+    ((i : ℕ) → ComesTo old r (suc (suc (suc i)))) → (i : ℕ) → ComesTo old r i
+at_inputs old r a b c past zero = a
+at_inputs old r a b c past (suc zero) = b
+at_inputs old r a b c past (suc (suc zero)) = c
+at_inputs old r a b c past (suc (suc (suc i))) = past i
 
 -- ## The slots
 
@@ -169,88 +91,36 @@ after0 = three [] [] (from_input2 ∷ []) (from_input1 ∷ []) [] []
 abbrev none_left : Fabric
 none_left = three [] [] [] [] [] []
 
-arrived0 : (i : ℕ) → input slot0.arrived i ≡ list_arrived none_left (came_to slot0.came i) (input none_left i)
-unfolding is_before
-arrived0 zero = refl
-arrived0 (suc zero) = refl
-arrived0 (suc (suc zero)) = refl
-arrived0 (suc (suc (suc i))) = refl
-
-arrived1 : (i : ℕ) → input slot1.arrived i ≡ list_arrived after0 (came_to slot1.came i) (input after0 i)
-unfolding is_before
-arrived1 zero = refl
-arrived1 (suc zero) = refl
-arrived1 (suc (suc zero)) = refl
-arrived1 (suc (suc (suc i))) = refl
-
 abbrev after1 : Fabric
 after1 = three [] [] [] (from_input2 ∷ []) [] []
 
-arrived2 : (i : ℕ) → input slot2.arrived i ≡ list_arrived after1 (came_to slot2.came i) (input after1 i)
-arrived2 zero = refl
-arrived2 (suc zero) = refl
-arrived2 (suc (suc zero)) = refl
-arrived2 (suc (suc (suc i))) = refl
-
 worked0 : FabricSlot IsInputBest first_come_all 0
     (Some (lone_cell 0 0 0) ∷ Some (lone_cell 1 0 0) ∷ Some (lone_cell 2 0 0) ∷ []) none_left slot0 after0
-unfolding all_told
+unfolding all_told is_before place_in
 worked0 =
-    record {
-      numbered = refl;
-      arrive = record { ranked = refl; ports = refl; lists = arrived0; buffers = refl };
-      first_chosen = best0;
-      fill =
-          record {
-            moves = pair_moves slot0.first 0 0 only0 from_input0 slot0.arrived.inputs slot0.arrived.buffers
-                refl (omega arith) (omega arith);
-            ranks = refl;
-          };
-      depart = record { sent = refl; buffers = refl; inputs = refl; ranks = refl };
-      second_chosen = best1;
-      finish =
-          record {
-            moves = pair_moves slot0.second 1 0 only1 from_input1 slot0.sent.inputs slot0.sent.buffers refl
-                (omega arith) (omega arith);
-            ranks = refl;
-          };
-    }
+    let lists : (i : ℕ) → ComesTo none_left slot0 i = at_inputs none_left slot0 refl refl refl (λ i. refl) in
+    slot_of slot0 (record { ranked = refl; ports = refl; lists = lists; buffers = refl })
+    (crosses slot0.arrived 0 0 from_input0 refl refl refl (omega arith) (omega arith))
+    (record { sent = refl; buffers = refl; inputs = refl; ranks = refl })
+    (crosses slot0.sent 1 0 from_input1 refl refl refl (omega arith) (omega arith))
 
 worked1 : FabricSlot IsInputBest first_come_all 1 (None ∷ None ∷ Some (lone_cell 2 1 1) ∷ []) after0 slot1 after1
-unfolding all_told
+unfolding all_told is_before place_in
 worked1 =
-    record {
-      numbered = refl;
-      arrive = record { ranked = refl; ports = refl; lists = arrived1; buffers = refl };
-      first_chosen = best2;
-      fill =
-          record {
-            moves = pair_moves slot1.first 2 1 only2 for_output1 slot1.arrived.inputs slot1.arrived.buffers
-                refl (omega arith) (omega arith);
-            ranks = refl;
-          };
-      depart = record { sent = refl; buffers = refl; inputs = refl; ranks = refl };
-      second_chosen = best3;
-      finish =
-          record {
-            moves = pair_moves slot1.second 2 0 only3 from_input2 slot1.sent.inputs slot1.sent.buffers refl
-                (omega arith) (omega arith);
-            ranks = refl;
-          };
-    }
+    let lists : (i : ℕ) → ComesTo after0 slot1 i = at_inputs after0 slot1 refl refl refl (λ i. refl) in
+    slot_of slot1 (record { ranked = refl; ports = refl; lists = lists; buffers = refl })
+    (crosses slot1.arrived 2 1 for_output1 refl refl refl (omega arith) (omega arith))
+    (record { sent = refl; buffers = refl; inputs = refl; ranks = refl })
+    (crosses slot1.sent 2 0 from_input2 refl refl refl (omega arith) (omega arith))
 
 worked2 : FabricSlot IsInputBest first_come_all 2 (None ∷ None ∷ None ∷ []) after1 slot2 none_left
 unfolding all_told
 worked2 =
-    record {
-      numbered = refl;
-      arrive = record { ranked = refl; ports = refl; lists = arrived2; buffers = refl };
-      first_chosen = nobody_best 3;
-      fill = nothing_moves 3 slot2.arrived;
-      depart = record { sent = refl; buffers = refl; inputs = refl; ranks = refl };
-      second_chosen = nobody_best 3;
-      finish = nothing_moves 3 none_left;
-    }
+    let lists : (i : ℕ) → ComesTo after1 slot2 i = at_inputs after1 slot2 refl refl refl (λ i. refl) in
+    slot_of slot2 (record { ranked = refl; ports = refl; lists = lists; buffers = refl })
+    (nobody slot2.arrived refl)
+    (record { sent = refl; buffers = refl; inputs = refl; ranks = refl })
+    (nobody none_left refl)
 
 pub runs : FabricRun IsInputBest first_come_all 0 three_slots (empty_fabric 3 three_empty) worked_records
     (empty_fabric 3 three_empty)

@@ -1,9 +1,13 @@
 -- Slots in which nothing waits and nothing comes.
-use Rattle.std.specs.Prelude.{◌≡◌, ℕ, ◌+◌, ◌<◌, zero, suc, List, [], ◌∷◌, length, None, slice_index_or, replicate}
+use Rattle.std.specs.Prelude.{◌≡◌, ℕ, ◌+◌, ◌<◌, zero, suc, List, [], ◌∷◌, fold, length, None, slice_index_or, replicate}
+use Rattle.cq_base.specs.declared.figures.Figures.{Figures}
 use Rattle.cq_rank.specs.Machine.{Machine, KeepsLaws, machine_at}
+use Rattle.cq_ideal.specs.IdealRun.{departures_of}
 use Rattle.cq_ideal.specs.IdealSlot.{all_told}
 use Rattle.cq_laws.specs.Fabric.{empty_fabric}
 use Rattle.cq_laws.specs.FabricSlot.{SlotRecord}
+use Rattle.cq_laws.specs.Measures.{figures_after}
+use Rattle.cq_laws.specs.Records.{gone_in, transfers_of_run}
 
 -- the states of the rank machines after each output was told that it sent nothing
 unfoldable pub idled : List Machine → ℕ → List (List ℕ) → List (List ℕ)
@@ -33,6 +37,12 @@ quiet_slots ms (suc count) slot ports ranks =
 abbrev pub idled_for : List Machine → ℕ → ℕ → List (List ℕ) → List (List ℕ)
 idled_for ms zero ports ranks = ranks
 idled_for ms (suc count) ports ranks = idled_for ms count ports (idled ms ports ranks)
+
+-- nothing is sent in these slots, from this one on, nothing transferred, and no figure changes
+pub record AddNothing (slot : ℕ) (rs : List SlotRecord) : Type 0 where
+  pub departures : departures_of slot (gone_in rs) ≡ []
+  pub transfers : transfers_of_run rs ≡ []
+  pub figures : (x : Figures) → fold figures_after x rs ≡ x
 
 -- each rank state is one of a machine that keeps the laws
 pub record KeepLaws (ms : List Machine) (ranks : List (List ℕ)) : Type 0 where

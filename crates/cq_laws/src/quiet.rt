@@ -1,16 +1,12 @@
 //! Slots in which nothing waits and nothing comes. Each law is the contract of a function that does nothing.
-ghost use Rattle.std.specs.Prelude.{◌≡◌, ◌+◌, ℕ, List, [], fold, length, replicate};
-ghost use Rattle.cq_base.specs.declared.figures.Figures.{Figures};
+ghost use Rattle.std.specs.Prelude.{◌≡◌, ◌+◌, ℕ, List, length, replicate};
 ghost use Rattle.cq_base.specs.Arrivals.{no_arrivals};
 ghost use Rattle.cq_rank.specs.Machine.{Machine};
-ghost use Rattle.cq_ideal.specs.IdealRun.{departures_of};
 ghost use Rattle.cq_prefs.specs.Pairing.{IsInputBest};
 ghost use Rattle.cq_laws.specs.Fabric.{Fabric, empty_fabric, IsEmptyFabric};
 ghost use Rattle.cq_laws.specs.FabricSlot.{FabricSlot};
 ghost use Rattle.cq_laws.specs.FabricRun.{FabricRun};
-ghost use Rattle.cq_laws.specs.Records.{gone_in, transfers_of_run};
-ghost use Rattle.cq_laws.specs.Measures.{figures_after};
-ghost use Rattle.cq_laws.specs.Quiet.{KeepLaws, idled, idled_for, quiet_slot, quiet_slots};
+ghost use Rattle.cq_laws.specs.Quiet.{AddNothing, KeepLaws, idled, idled_for, quiet_slot, quiet_slots};
 
 /// From a state without cells, slots in which none arrives send nothing, transfer nothing and change no
 /// figure. They only tell the rank machines that their outputs were idle.
@@ -21,12 +17,8 @@ pub fn quiet_slots_add_nothing()
     ensures run { (ms : List Machine) (count slot ports : ℕ) (ranks : List (List ℕ)) →
         FabricRun IsInputBest ms slot (replicate count no_arrivals) (empty_fabric ports ranks)
         (quiet_slots ms count slot ports ranks) (empty_fabric ports (idled_for ms count ports ranks)) }
-    ensures departures { (ms : List Machine) (ports count slot : ℕ) (ranks : List (List ℕ)) →
-        departures_of slot (gone_in (quiet_slots ms count slot ports ranks)) ≡ [] }
-    ensures transfers { (ms : List Machine) (ports count slot : ℕ) (ranks : List (List ℕ)) →
-        transfers_of_run (quiet_slots ms count slot ports ranks) ≡ [] }
-    ensures figures { (ms : List Machine) (ports count slot : ℕ) (ranks : List (List ℕ)) (x : Figures) →
-        fold figures_after x (quiet_slots ms count slot ports ranks) ≡ x }
+    ensures nothing { (ms : List Machine) (ports count slot : ℕ) (ranks : List (List ℕ)) →
+        AddNothing slot (quiet_slots ms count slot ports ranks) }
     // many are one, for machines that keep the laws
     ensures idle { (ms : List Machine) (ports count : ℕ) (ranks : List (List ℕ)) →
         KeepLaws ms ranks → idled_for ms (count + 1) ports ranks ≡ idled ms ports ranks }

@@ -8,14 +8,12 @@ returns-clause-slot c = quiet
 pub returns-clause-run : goal.returns-clause-run
 returns-clause-run c = quiet_run
 
-pub returns-clause-departures : goal.returns-clause-departures
-returns-clause-departures c = quiet_departures
-
-pub returns-clause-transfers : goal.returns-clause-transfers
-returns-clause-transfers c = quiet_transfers_of_run
-
-pub returns-clause-figures : goal.returns-clause-figures
-returns-clause-figures c = quiet_figures_of_run
+pub returns-clause-nothing : goal.returns-clause-nothing
+returns-clause-nothing c = λ ms ports count slot ranks. record {
+  departures = quiet_departures ms ports count slot ranks;
+  transfers = quiet_transfers_of_run ms ports count slot ranks;
+  figures = quiet_figures_of_run ms ports count slot ranks;
+}
 
 pub returns-clause-empty : goal.returns-clause-empty
 returns-clause-empty c = empty_is
