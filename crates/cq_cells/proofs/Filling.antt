@@ -1,7 +1,7 @@
 -- The places of a slot's arrivals are filled input by input. Those before the next input have what arrives there, and
 -- the others have what stood there before. No cell stood behind the last line, and none arrives there. So in the end
 -- each place has what arrives.
-use Rattle.std.proofs.Common.{◌≡◌, ◌≢◌, ℕ, ◌+◌, ◌<◌, ◌≤◌, List, length, get_or, set, Option, None, Some, option_map, refl, sym, ap, ◌∙◌, ⊎_elim, length-set, get_or-set_same, get_or-set_other, arith}
+use Rattle.std.proofs.Common.{◌≡◌, ◌≢◌, ℕ, ◌+◌, ◌<◌, ◌≤◌, List, length, get_or, set, Option, None, Some, refl, sym, ap, ◌∙◌, ⊎_elim, length-set, get_or-set_same, get_or-set_other, arith}
 use Rattle.std.specs.Prelude.{IfSome}
 use Rattle.std.proofs.lemmas.Bool.{cases_eq, cases_lt}
 use Rattle.std.proofs.lemmas.List.{length-replicate}
@@ -13,7 +13,7 @@ use Rattle.cq_base.specs.declared.cell.Cell.{Cell}
 use Rattle.cq_base.proofs.Places.{arrival_at-no_arrivals}
 use Rattle.cq_cells.specs.Coming.{StandBelow}
 use Rattle.cq_cells.specs.Lines.{AreOwn, all_of}
-use Rattle.cq_cells.proofs.Owned.{ahead}
+use Rattle.cq_cells.proofs.Owned.{none_arrives_past}
 
 -- no cell stands anywhere
 pub none_stand : (ports : ℕ) → StandBelow ports no_arrivals
@@ -60,10 +60,6 @@ filling_next came slot n old now cell f inside is =
 
 module _ (lines : List (List Arrival)) (slot n : ℕ) (old now : List (Option Cell)) (own : AreOwn 0 lines)
     (past : length lines ≤ n) (stand : StandBelow (length lines) old) (f : Filling (all_of lines) slot n old now) where
-  none_arrives : (i : ℕ) → length lines ≤ i → arriving_at (all_of lines) slot i ≡ None
-  none_arrives i beyond =
-      ap (λ (o : Option Arrival). option_map (λ a. a.cell) o) (ahead slot i 0 lines own (omega arith))
-
   each_place : (i : ℕ) → get_or now i None ≡ arriving_at (all_of lines) slot i
   each_place i =
       let none : Option Cell = None in
@@ -71,7 +67,7 @@ module _ (lines : List (List Arrival)) (slot n : ℕ) (old now : List (Option Ce
       (λ (before : i < n). f.done i before)
       (λ (from : n ≤ i).
       f.left i from ∙ sym (unwrap_or-slice_get old i none) ∙ stand.beyond i (omega arith)
-      ∙ sym (none_arrives i (omega arith)))
+      ∙ sym (none_arrives_past slot i lines own (omega arith)))
       (cases_lt i n)
 
   pub all_filled : now ≡ arriving (all_of lines) slot
@@ -85,5 +81,5 @@ module _ (lines : List (List Arrival)) (slot n : ℕ) (old now : List (Option Ce
       let none : Option Cell = None in
       record {
         places = f.places ∙ stand.places;
-        beyond = λ i from. unwrap_or-slice_get now i none ∙ each_place i ∙ none_arrives i from;
+        beyond = λ i from. unwrap_or-slice_get now i none ∙ each_place i ∙ none_arrives_past slot i lines own from;
       }

@@ -1,10 +1,10 @@
 -- A slot is looked up in a line. The packets of a line arrive one after another, so of all packets only the last that
 -- has begun can have a cell in the slot, and that is the cell as many places on as slots have gone by since.
-use Rattle.std.proofs.Common.{◌≡◌, ◌≢◌, ℕ, zero, suc, ◌+◌, ◌-◌, ◌<◌, ◌≤◌, eqb, leb, Bool, true, false, List, length, map, slice_index_or, None, Some, refl, ap, ◌∙◌, inl, inr, subst, arith, tests}
+use Rattle.std.proofs.Common.{◌≡◌, ◌≢◌, ℕ, zero, suc, ◌+◌, ◌-◌, ◌<◌, ◌≤◌, eqb, leb, Bool, true, false, List, length, map, slice_index_or, None, Some, refl, sym, ap, ◌∙◌, inl, inr, subst, arith, tests}
 use Rattle.std.specs.List.{range_with_len, find}
 use Rattle.std.specs.List.Sorted.{IsPartitionPoint, IsNonDecreasingBy}
 use Rattle.std.proofs.lemmas.Bool.{cases_eq, cases_order, ne_eqb}
-use Rattle.std.proofs.lemmas.List.{get_or_default}
+use Rattle.std.proofs.lemmas.List.{get_or_default, get_or_read}
 use Rattle.cq_base.specs.Arriving.{Arrival}
 use Rattle.cq_base.specs.declared.cell.Cell.{Cell}
 use Rattle.cq_cells.specs.declared.line.Row.{Row}
@@ -101,6 +101,24 @@ starts_rise cell_bytes rows r i j d b h =
           omega (arith, ap (λ (row : Row). row.start) first, ap (λ (row : Row). row.start) second)
     ]
 
+-- the last packet that has begun, and its row as it was read
+pub record LastBegun (rows : List Row) (slot k : ℕ) (row : Row) : Type 0 where
+  pub inside : k < length rows
+  pub begun : IsBegun rows slot (k + 1)
+  pub is : row ≡ row_at rows k
+  pub before : row.start ≤ slot
+
+pub last_begun : (rows seen : List Row) (slot n k : ℕ) (row : Row) → seen ≡ rows → n ≤ length seen →
+    IsBegun seen slot n → n ≡ k + 1 → (k < length rows → row ≡ slice_index_or rows k row) →
+    LastBegun rows slot k row
+last_begun rows seen slot n k row same few begun next read =
+    let inside : k < length rows = omega (arith, ap (λ (rs : List Row). length rs) same) in
+    let here : IsBegun rows slot (k + 1) =
+    subst (λ (rs : List Row). IsBegun rs slot (k + 1)) same (subst (IsBegun seen slot) next begun) in
+    let is : row ≡ row_at rows k = get_or_read rows k row inside (read inside) no_row in
+    let started = here.before k (omega arith) in
+    record { inside = inside; begun = here; is = is; before = omega (arith, ap (λ (r : Row). r.start) is) }
+
 -- before the first packet nothing arrives
 pub line_none : (input cell_bytes : ℕ) (rows : List Row) (slot : ℕ) → IsBegun rows slot 0 →
     find (is_in slot) (line_arrivals input cell_bytes rows) ≡ None
@@ -129,19 +147,23 @@ line_at input cell_bytes rows slot k r inside b =
       ]
     ])
 
--- it has ended
-pub line_over : (input cell_bytes : ℕ) (rows : List Row) (slot k : ℕ) → AreRows cell_bytes rows → k < length rows →
-    IsBegun rows slot (k + 1) → (row_at rows k).start + (row_at rows k).cells ≤ slot →
-    find (is_in slot) (line_arrivals input cell_bytes rows) ≡ None
-line_over input cell_bytes rows slot k r inside b over =
-    line_at input cell_bytes rows slot k r inside b ∙ row_over input cell_bytes k (row_at rows k) slot over
+module _ (input cell_bytes : ℕ) (rows : List Row) (slot k : ℕ) (row : Row) (r : AreRows cell_bytes rows)
+    (last : LastBegun rows slot k row) where
+  -- it has ended
+  pub line_over : row.cells ≤ slot - row.start → find (is_in slot) (line_arrivals input cell_bytes rows) ≡ None
+  line_over over =
+      let before = last.before in
+      line_at input cell_bytes rows slot k r last.inside last.begun
+      ∙ row_over input cell_bytes k (row_at rows k) slot (subst (λ (x : Row). x.start + x.cells ≤ slot) last.is
+      (omega arith))
 
--- it has not
-pub line_found : (input cell_bytes : ℕ) (rows : List Row) (slot k i : ℕ) → AreRows cell_bytes rows → k < length rows →
-    IsBegun rows slot (k + 1) → (row_at rows k).start + i ≡ slot → i < (row_at rows k).cells →
-    find (is_in slot) (line_arrivals input cell_bytes rows)
-    ≡ Some (piece (row_at rows k).start (row_cell input cell_bytes k (row_at rows k)) i)
-line_found input cell_bytes rows slot k i r inside b here few =
-    line_at input cell_bytes rows slot k r inside b
-    ∙ found_in (row_at rows k).start (row_cell input cell_bytes k (row_at rows k)) 0 (row_at rows k).cells slot i
-    (omega arith) (omega arith) here
+  -- it has not
+  pub line_found : slot - row.start < row.cells →
+      find (is_in slot) (line_arrivals input cell_bytes rows)
+      ≡ Some (piece row.start (row_cell input cell_bytes k row) (slot - row.start))
+  line_found few =
+      let before = last.before in
+      line_at input cell_bytes rows slot k r last.inside last.begun
+      ∙ ap (λ (x : Row). find (is_in slot) (row_arrivals input cell_bytes k x)) (sym last.is)
+      ∙ found_in row.start (row_cell input cell_bytes k row) 0 row.cells slot (slot - row.start)
+      (omega arith) (omega arith) (omega arith)

@@ -85,13 +85,20 @@ impl Schedule {
         })
     }
 
+    // What arrives at the input.
+    fn line(&self, input: Port) -> &Line
+        requires { input < self.now.ports }
+        ensures { result.now ≡ filter (is_from input) self.now.came }
+    {
+        &self.lines[input as usize]
+    }
+
     /// The cell that arrives in the slot at the input, or None where none does.
     pub fn cell_at(&self, slot: Slot, input: Port) -> Option<Cell>
         requires { input < self.now.ports }
         ensures { result ≡ arriving_at self.now.came slot input }
     {
-        let line = &self.lines[input as usize];
-        line.cell_at(slot)
+        self.line(input).cell_at(slot)
     }
 
     /// All cells that arrive in the slot.
@@ -124,8 +131,7 @@ impl Schedule {
         requires { input < self.now.ports }
         ensures { IsNextArrival (filter (is_from input) self.now.came) from result }
     {
-        let line = &self.lines[input as usize];
-        line.next_arrival(from)
+        self.line(input).next_arrival(from)
     }
 
     /// The stamp from which slots are counted, in nanoseconds: the least one, or 0 where there is no
@@ -156,8 +162,7 @@ impl Schedule {
         requires { input < self.now.ports }
         ensures { result ≡ number_of (is_from input) self.now.came }
     {
-        let line = &self.lines[input as usize];
-        line.cells()
+        self.line(input).cells()
     }
 
     /// How many cells are for the output.

@@ -1,16 +1,19 @@
-use Rattle.std.proofs.Common.{◌≡◌, ℕ, ◌<◌, ◌≤◌, ◌+◌, ◌-◌, List, Option, Some, length, option_map, ap, sym, ◌∙◌, subst, arith}
+use Rattle.std.proofs.Common.{◌≡◌, ℕ, List, Option, Some, option_map, ap, sym, ◌∙◌, subst, arith}
 use Rattle.std.specs.List.{find}
 use Rattle.cq_base.specs.Arriving.{Arrival}
-use Rattle.std.proofs.lemmas.List.{get_or_read}
 use Rattle.cq_base.specs.declared.cell.Cell.{Cell}
 use Rattle.cq_cells.specs.declared.line.Row.{Row}
-use Rattle.cq_cells.specs.Lines.{IsBegun, row_at, row_cell}
-use Rattle.cq_cells.proofs.Looked.{is_in, no_row, starts_rise, line_none, line_over, line_found}
+use Rattle.cq_cells.specs.Lines.{IsBegun}
+use Rattle.cq_cells.proofs.Looked.{is_in, last_begun, starts_rise, line_none, line_over, line_found}
 use Rattle.cq_cells.proofs.line.Line.cell_near.Goals as goal
+
+-- the cell of what was found
+abbrev cell_of : Option Arrival → Option Cell
+cell_of o = option_map (λ a. a.cell) o
 
 -- the cell that is looked for
 abbrev shown : ℕ → List Arrival → Option Cell
-shown slot came = option_map (λ a. a.cell) (find (is_in slot) came)
+shown slot came = cell_of (find (is_in slot) came)
 
 pub begun_near-requires : goal.begun_near-requires
 begun_near-requires c =
@@ -26,88 +29,52 @@ returns-in_err-packet c =
     subst (P l.rows.items) none (subst (λ rows. P rows c.begun_near.result) c.deref.ensures.value
     c.begun_near.ensures.begun) in
     c.from_residual.ensures
-    ∙ ap (λ (o : Option Arrival). option_map (λ a. a.cell) o) (sym
-    (line_none l.input l.cell_bytes l.rows.items c.args.slot begun))
+    ∙ ap cell_of (sym (line_none l.input l.cell_bytes l.rows.items c.args.slot begun))
     ∙ ap (shown c.args.slot) c.self.view_is
 
 pub overflow_sub-index : goal.overflow_sub-index
 overflow_sub-index c =
-    let rows = c.self.inside.rows.items in
-    let k = c.in_ok-packet.packet in
-    let last = c.in_ok-packet.ensures in
-    let inside : k < length rows =
-    omega (arith, c.begun_near.ensures.few, ap (λ (rs : List Row). length rs) c.deref.ensures.value) in
-    let row : c.index.result.now ≡ row_at rows k = get_or_read rows k _ inside c.index.ensures no_row in
-    let begun : IsBegun rows c.args.slot c.begun_near.result =
-    subst (λ (rs : List Row). IsBegun rs c.args.slot c.begun_near.result) c.deref.ensures.value
-    c.begun_near.ensures.begun in
-    let before : (row_at rows k).start ≤ c.args.slot = begun.before k (omega arith) in
-    omega (arith, ap (λ (r : Row). r.start) row)
+    let begun = c.begun_near.ensures in
+    let some = c.in_ok-packet.ensures in
+    let last = last_begun c.self.inside.rows.items c.deref.result.now c.args.slot c.begun_near.result
+    c.in_ok-packet.packet c.index.result.now c.deref.ensures.value begun.few begun.begun (omega arith)
+    (λ inside. c.index.ensures) in
+    last.before
 
 pub returns-then-index-from : goal.returns-then-index-from
 returns-then-index-from c =
     let l = c.self.inside in
-    let rows = l.rows.items in
     let k = c.in_ok-packet.packet in
-    let last = c.in_ok-packet.ensures in
-    let inside : k < length rows =
-    omega (arith, c.begun_near.ensures.few, ap (λ (rs : List Row). length rs) c.deref.ensures.value) in
-    let row : c.index.result.now ≡ row_at rows k = get_or_read rows k _ inside c.index.ensures no_row in
-    let next : c.begun_near.result ≡ k + 1 = omega arith in
-    let begun : IsBegun rows c.args.slot c.begun_near.result =
-    subst (λ (rs : List Row). IsBegun rs c.args.slot c.begun_near.result) c.deref.ensures.value
-    c.begun_near.ensures.begun in
-    let before : (row_at rows k).start ≤ c.args.slot = begun.before k (omega arith) in
-    let over : (row_at rows k).start + (row_at rows k).cells ≤ c.args.slot =
-    omega (
-      arith,
-      c.from.ensures,
-      c.if-index-from.true,
-      ap (λ (r : Row). r.start) row,
-      ap (λ (r : Row). r.cells) row,
-    ) in
-    ap (λ (o : Option Arrival). option_map (λ a. a.cell) o) (sym (line_over l.input l.cell_bytes rows c.args.slot k
-    c.self.invariant.0 inside (subst (λ (n : ℕ). IsBegun rows c.args.slot n) next begun) over))
+    let row = c.index.result.now in
+    let begun = c.begun_near.ensures in
+    let some = c.in_ok-packet.ensures in
+    let last = last_begun l.rows.items c.deref.result.now c.args.slot c.begun_near.result k row
+    c.deref.ensures.value begun.few begun.begun (omega arith) (λ inside. c.index.ensures) in
+    ap cell_of (sym (line_over l.input l.cell_bytes l.rows.items c.args.slot k row c.self.invariant.0 last
+    (omega (arith, c.from.ensures, c.if-index-from.true))))
     ∙ ap (shown c.args.slot) c.self.view_is
 
 pub overflow_cast-id-2 : goal.overflow_cast-id-2
 overflow_cast-id-2 c =
     let rows = c.self.inside.rows.items in
-    let k = c.in_ok-packet.packet in
-    let last = c.in_ok-packet.ensures in
-    let inside : k < length rows =
-    omega (arith, c.begun_near.ensures.few, ap (λ (rs : List Row). length rs) c.deref.ensures.value) in
-    let row : c.index.result.now ≡ row_at rows k = get_or_read rows k _ inside c.index.ensures no_row in
-    let small = c.self.invariant.0.small k inside in
-    omega (arith, c.from.ensures, c.if-index-from.false, ap (λ (r : Row). r.cells) row)
+    let begun = c.begun_near.ensures in
+    let some = c.in_ok-packet.ensures in
+    let last = last_begun rows c.deref.result.now c.args.slot c.begun_near.result
+    c.in_ok-packet.packet c.index.result.now c.deref.ensures.value begun.few begun.begun (omega arith)
+    (λ inside. c.index.ensures) in
+    let small = c.self.invariant.0.small c.in_ok-packet.packet last.inside in
+    omega (arith, c.from.ensures, c.if-index-from.false, ap (λ (r : Row). r.cells) last.is)
 
 pub returns : goal.returns
 returns c =
     let l = c.self.inside in
-    let rows = l.rows.items in
     let k = c.in_ok-packet.packet in
-    let last = c.in_ok-packet.ensures in
-    let inside : k < length rows =
-    omega (arith, c.begun_near.ensures.few, ap (λ (rs : List Row). length rs) c.deref.ensures.value) in
-    let row : c.index.result.now ≡ row_at rows k = get_or_read rows k _ inside c.index.ensures no_row in
-    let next : c.begun_near.result ≡ k + 1 = omega arith in
-    let begun : IsBegun rows c.args.slot c.begun_near.result =
-    subst (λ (rs : List Row). IsBegun rs c.args.slot c.begun_near.result) c.deref.ensures.value
-    c.begun_near.ensures.begun in
-    let before : (row_at rows k).start ≤ c.args.slot = begun.before k (omega arith) in
-    let i : ℕ = c.args.slot - (row_at rows k).start in
-    let few : i < (row_at rows k).cells =
-    omega (
-      arith,
-      c.from.ensures,
-      c.if-index-from.false,
-      ap (λ (r : Row). r.start) row,
-      ap (λ (r : Row). r.cells) row,
-    ) in
-    let found =
-    line_found l.input l.cell_bytes rows c.args.slot k i c.self.invariant.0 inside
-    (subst (λ (n : ℕ). IsBegun rows c.args.slot n) next begun) (omega arith) few in
-    ap (λ (x : Cell). Some x) (c.cell.ensures
-    ∙ ap (λ (r : Row). row_cell l.input l.cell_bytes k r (c.args.slot - r.start)) row)
-    ∙ sym (ap (λ (o : Option Arrival). option_map (λ a. a.cell) o) found)
+    let row = c.index.result.now in
+    let begun = c.begun_near.ensures in
+    let some = c.in_ok-packet.ensures in
+    let last = last_begun l.rows.items c.deref.result.now c.args.slot c.begun_near.result k row
+    c.deref.ensures.value begun.few begun.begun (omega arith) (λ inside. c.index.ensures) in
+    ap (λ (x : Cell). Some x) c.cell.ensures
+    ∙ ap cell_of (sym (line_found l.input l.cell_bytes l.rows.items c.args.slot k row c.self.invariant.0 last
+    (omega (arith, c.from.ensures, c.if-index-from.false))))
     ∙ ap (shown c.args.slot) c.self.view_is
