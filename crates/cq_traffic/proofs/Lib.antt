@@ -1,4 +1,5 @@
 pub mod ForPorts
 pub mod Quiet
+mod Counting
 pub mod ToOutputs
 pub mod FromInputs

@@ -1,0 +1,22 @@
+-- A count for each port is put into a list that has room for all of them.
+use Rattle.std.proofs.Common.{◌≡◌, ℕ, ◌+◌, List, [], ◌∷◌, ◌++◌, map, sym, ap, ◌∙◌, arith}
+use Rattle.std.specs.List.{range_with_len}
+use Rattle.std.proofs.lemmas.List.FromFn.{map-range_with_len_more}
+
+-- the counts of the first n ports are there
+pub record Counting (count : ℕ → ℕ) (n ports : ℕ) (items : List ℕ) (len capacity : ℕ) : Type 0 where
+  pub counts : items ≡ map count (range_with_len 0 n)
+  pub filled : len ≡ n
+  pub room : capacity ≡ ports
+
+pub counting_more : (count : ℕ → ℕ) (n ports : ℕ) {old new : List ℕ} {len len' capacity capacity' : ℕ} (next : ℕ) →
+    Counting count n ports old len capacity → next ≡ count n → new ≡ old ++ next ∷ [] → len' ≡ len + 1 →
+    capacity' ≡ capacity → Counting count (n + 1) ports new len' capacity'
+counting_more count n ports next before is pushed longer same = record {
+  counts =
+      pushed ∙ ap (λ (l : List ℕ). l ++ next ∷ []) before.counts
+      ∙ ap (λ (k : ℕ). map count (range_with_len 0 n) ++ k ∷ []) is
+      ∙ sym (map-range_with_len_more count 0 n n (omega arith));
+  filled = longer ∙ ap (λ (k : ℕ). k + 1) before.filled;
+  room = same ∙ before.room;
+}
