@@ -1,14 +1,16 @@
--- How the run of a fabric that is made for tables begins, and what its end says of the tables.
-use Rattle.std.proofs.Common.{◌≡◌, ℕ, ◌+◌, ◌*◌, ◌≤◌, ◌^◌, false, List, [], length, map, Option, refl, sym, ap, ◌∙◌, subst, arith}
+-- How the run of a fabric that is made for tables begins, and what its end says of the tables. What the calls say that
+-- made it is one record. From it the engine can begin.
+use Rattle.std.proofs.Common.{◌≡◌, ℕ, ◌+◌, ◌*◌, ◌≤◌, ◌^◌, Bool, false, List, [], length, map, Option, refl, sym, ap, ◌∙◌, subst, arith}
 use Rattle.std.specs.Prelude.{slice_index}
 use Rattle.std.specs.List.{range_with_len}
-use Rattle.std.proofs.lemmas.List.FromFn.{get_or-map-range_with_len}
+use Rattle.std.proofs.lemmas.List.{length-map}
+use Rattle.std.proofs.lemmas.List.FromFn.{get_or-map-range_with_len, length-map-range_with_len}
 use Rattle.cq_base.specs.Arriving.{Arrival, traffic_of}
 use Rattle.cq_base.specs.Room.{RoomView}
 use Rattle.cq_base.specs.declared.cell.Departure.{Departure}
 use Rattle.cq_base.specs.declared.cell.Transfer.{Transfer}
 use Rattle.cq_cells.specs.Traffic.{IsShort, IsTraffic, is_from, is_to, number_of}
-use Rattle.cq_engine.specs.Engine.{EngineView, marked_fabric}
+use Rattle.cq_engine.specs.Engine.{CanBeMade, EngineView, fresh_engine, marked_fabric}
 use Rattle.cq_ideal.specs.Admission.{Marked, marks_down}
 use Rattle.cq_ideal.specs.Ideal.{IdealSwitch}
 use Rattle.cq_ideal.specs.IdealRun.{empty_ideal}
@@ -20,106 +22,110 @@ use Rattle.cq_laws.specs.LimitedFabric.{LimitedWholeRun, admissions_in, empty_li
 use Rattle.cq_laws.specs.Measures.{figures_of, no_figures}
 use Rattle.cq_prefs.specs.Pairing.{IsInputBest}
 use Rattle.cq_rank.specs.Machine.{Machine}
-use Rattle.cq_rank.specs.Switch.{class_count}
-use Rattle.cq_route.specs.Tables.{IsSetup, classes_of, ports_of}
+use Rattle.cq_rank.specs.Switch.{AreForOneSwitch, class_count}
+use Rattle.cq_route.specs.Tables.{AreTables, IsSetup, classes_of, ports_of}
 use Rattle.cq_route.specs.declared.tables.Tables.{Tables}
+use Rattle.cq_scfq.specs.Discipline.{fixed_of, machine_from, state_of}
 use Rattle.cq_scfq.specs.Disciplines.{machines_of, openings_of}
+use Rattle.cq_scfq.specs.declared.discipline.Discipline.{Discipline}
+use Rattle.cq_simulate.proofs.Onward.{first_fault, has_run, ready_on}
 use Rattle.cq_simulate.proofs.Opening.{machine_count, run_of_tables}
 use Rattle.cq_simulate.specs.FabricReady.{HasRun, IsReadyFabric}
-use Rattle.cq_simulate.specs.FabricRuns.{IsKeptOf}
-use Rattle.cq_simulate.specs.IdealRuns.{ideal_departures}
+use Rattle.cq_simulate.specs.FabricRuns.{IsKeptOf, unpacked_run}
+use Rattle.cq_simulate.specs.FreshFabric.{ArePortsOf, IsFreshFor, by_port}
+use Rattle.cq_simulate.specs.GoingOn.{HasKept, IsReadyOn, IsRefusalOn}
+use Rattle.cq_simulate.specs.IdealRuns.{IsRefusalOf, ideal_departures}
 use Rattle.cq_simulate.specs.declared.fabric_run.FabricRun.{FabricRun}
+use Rattle.cq_simulate.specs.declared.fabric_run.PackedFabricRun.{PackedFabricRun}
+use Rattle.cq_simulate.specs.declared.ports.Ports.{Ports}
+use Rattle.cq_simulate.specs.declared.refusal.RunRefusal.{RunRefusal}
+use Rattle.cq_simulate.specs.declared.refusal.RunRefusal.TheVariants as refusal
 
--- An engine that is made for the tables: the machines of their setup, their limits, no cell, and marks down.
-pub record IsBuiltFor (M : List ℕ → Machine) (t : Tables) (ports : ℕ) (states : List (List ℕ))
-    (first : EngineView) : Type 0 where
-  pub machines : map M first.fixed ≡ machines_of t.setup
-  pub limits : first.limits ≡ t.limits
-  pub fabric : first.fabric ≡ empty_fabric ports states
-  pub marks : first.marks ≡ marks_down ports
-  pub many : ports ≡ length t.setup.kinds
+-- ## What an engine is made of
 
-module _ (M : List ℕ → Machine) (t : Tables) (came : List Arrival) (ports : ℕ) (states : List (List ℕ))
-    (first : EngineView) (built : IsBuiltFor M t ports states first) where
+-- there is a room for each port
+rooms_long : (is : ℕ → Arrival → Bool) (t : Tables) (came : List Arrival) {rooms : List ℕ} → rooms ≡ by_port is t came →
+    length rooms ≡ ports_of t.setup
+rooms_long is t came are =
+    ap length are ∙ length-map-range_with_len (λ port. number_of (is port) came) 0 (ports_of t.setup)
+
+-- as many ranks as ports
+pub ranks_many : (t : Tables) (ranks : List Discipline) → map machine_from (map fixed_of ranks) ≡ machines_of t.setup →
+    length ranks ≡ ports_of t.setup
+ranks_many t ranks machines =
+    sym (length-map ranks fixed_of) ∙ machine_count machine_from (map fixed_of ranks) t.setup machines
+
+-- so an engine can be made of them
+pub can_be_made : (t : Tables) (came : List Arrival) (p : Ports) {from to : List ℕ} {limits : List (Option ℕ)} →
+    AreTables t → ArePortsOf t came p → from ≡ p.from_inputs.items → to ≡ p.to_outputs.items → limits ≡ t.limits →
+    CanBeMade (map machine_from (map fixed_of p.ranks.items)) (length p.ranks.items) from to limits t.workers
+can_be_made t came p tables are from to same =
+    record {
+      machines = subst AreForOneSwitch (sym are.machines) are.one_switch;
+      from_inputs = rooms_long is_from t came (from ∙ are.from_inputs) ∙ sym are.many;
+      to_outputs = rooms_long is_to t came (to ∙ are.to_outputs) ∙ sym are.many;
+      limits = ap length same ∙ tables.limits.ports_are ∙ sym are.many;
+      workers = record { some = tables.workers.0; few = tables.workers.1 };
+    }
+
+-- and one that was is fresh
+pub fresh_for : (t : Tables) (came : List Arrival) (p : Ports) (engine : EngineView) {from to : List ℕ}
+    {limits : List (Option ℕ)} → ArePortsOf t came p → from ≡ p.from_inputs.items → to ≡ p.to_outputs.items →
+    limits ≡ t.limits →
+    engine ≡ fresh_engine (length p.ranks.items) (map fixed_of p.ranks.items) (map state_of p.ranks.items) from to limits →
+    IsFreshFor t came engine
+fresh_for t came p engine are from to same is =
+    let fixed : engine.fixed ≡ map fixed_of p.ranks.items = ap (λ (e : EngineView). e.fixed) is in
+    let from_inputs = from ∙ are.from_inputs in
+    let to_outputs = to ∙ are.to_outputs in
+    record {
+      machines = ap (map machine_from) fixed ∙ are.machines;
+      classes = are.classes;
+      fresh =
+          is
+          ∙ (λ k. fresh_engine (are.many k) (sym fixed k) (are.openings k) (from_inputs k) (to_outputs k) (same k));
+    }
+
+-- ## A fresh engine
+
+module _ {t : Tables} {came : List Arrival} {first : EngineView} (fresh : IsFreshFor t came first) where
   pub port_count : length first.fixed ≡ length t.setup.kinds
-  port_count = machine_count M first.fixed t.setup built.machines
+  port_count = machine_count machine_from first.fixed t.setup fresh.machines
 
-  pub ready_fabric : (sent : RoomView Departure) (note : RoomView Transfer) → IsSetup t.setup →
-      class_count (machines_of t.setup) ≡ length t.setup.classes → first.stopped ≡ false → first.next ≡ 0 →
-      first.refused ≡ refused_counts t.limits [] → first.from_inputs ≡ map (λ i. number_of (is_from i) came)
-      (range_with_len 0 ports) → first.to_outputs ≡ map (λ j. number_of (is_to j) came) (range_with_len 0 ports) →
-      first.figures ≡ no_figures ports → IsTraffic (ports_of t.setup) (classes_of t.setup) came → IsShort came →
-      length came ≤ 2 ^ 34 → sent.items ≡ [] → sent.spare ≡ length came + ports → note.items ≡ [] →
-      note.spare ≡ length came + 2 * ports → IsReadyFabric (map M first.fixed) came first sent note
-  ready_fabric sent note is classes running next refused from_inputs to_outputs figures traffic short few nothing_sent
-      sent_spare nothing_noted note_spare =
-      let count = port_count in
-      let at_most = is.ports in
-      let many : ports ≡ length t.setup.kinds = built.many in
-      let same : ports ≡ length first.fixed = omega arith in
-      let known : class_count (map M first.fixed) ≡ length t.setup.classes = ap class_count built.machines ∙ classes in
-      let from : ℕ → ℕ = λ i. number_of (is_from i) came in
-      let to : ℕ → ℕ = λ j. number_of (is_to j) came in
-      record {
-        running = running;
-        next = next;
-        ports = omega arith;
-        traffic = subst (λ (n : ℕ). IsTraffic n (class_count (map M first.fixed)) came) (sym count) (subst (λ
-            (n : ℕ). IsTraffic (length t.setup.kinds) n came) (sym known) traffic);
-        short = short;
-        few = few;
-        fabric = built.fabric ∙ ap (λ (f : Fabric). empty_fabric ports f.ranks) (sym built.fabric)
-            ∙ ap (λ (n : ℕ). empty_fabric n first.fabric.ranks) same;
-        from_inputs = λ i inside. ap (λ (l : List ℕ). slice_index l i) from_inputs
-            ∙ get_or-map-range_with_len from 0 ports i i 0 (omega arith) (omega arith);
-        to_outputs = λ j inside. ap (λ (l : List ℕ). slice_index l j) to_outputs
-            ∙ get_or-map-range_with_len to 0 ports j j 0 (omega arith) (omega arith);
-        figures = figures ∙ ap no_figures same;
-        marks = built.marks ∙ ap marks_down same;
-        refused = refused ∙ ap (λ (l : List (Option ℕ)). refused_counts l []) (sym built.limits);
-        nothing_sent = nothing_sent;
-        sent_room = omega arith;
-        nothing_noted = nothing_noted;
-        note_room = omega arith;
-      }
+  pub limits_are : first.limits ≡ t.limits
+  limits_are = ap (λ (e : EngineView). e.limits) fresh.fresh
 
-  pub begun : states ≡ openings_of t.setup → marked_fabric first ≡ empty_limited_fabric (ports_of t.setup)
-      (openings_of t.setup)
-  begun openings =
-      let state : first.fabric ≡ empty_fabric (length t.setup.kinds) (openings_of t.setup) =
-      built.fabric ∙ ap (λ (n : ℕ). empty_fabric n states) built.many ∙ ap (λ (s : List (List ℕ)). empty_fabric
-      (length t.setup.kinds) s) openings in
-      let marks : first.marks ≡ marks_down (length t.setup.kinds) = built.marks ∙ ap marks_down built.many in
-      λ k. record { state = state k; marks = marks k }
+  -- with no cell and all marks down
+  pub begun : marked_fabric first ≡ empty_limited_fabric (ports_of t.setup) (openings_of t.setup)
+  begun = ap marked_fabric fresh.fresh
 
-  pub kept_of : (last : EngineView) (sent : RoomView Departure) (note : RoomView Transfer) (run : FabricRun) →
-      states ≡ openings_of t.setup → HasRun (map M first.fixed) came first last sent note → run.sent ≡ sent →
-      run.note ≡ note → run.figures ≡ last.figures → run.refused.items ≡ last.refused → IsKeptOf t came run
-  kept_of last sent note run openings has is_sent is_note is_figures is_refused =
+  pub kept_of : (last : EngineView) (run : FabricRun) → HasRun (map machine_from first.fixed) came first last run.sent
+      run.note → run.figures ≡ last.figures → run.refused.items ≡ last.refused → IsKeptOf t came run
+  kept_of last run has is_figures is_refused =
       record {
         records = has.records;
         is_run = record {
           end = has.end;
           runs =
               subst (λ (f : Marked Fabric). LimitedWholeRun IsInputBest t.limits
-              (machines_of t.setup) came f has.records has.end) (begun openings)
+              (machines_of t.setup) came f has.records has.end) begun
               (subst (λ (ms : List Machine). LimitedWholeRun IsInputBest t.limits ms came
-              (marked_fabric first) has.records has.end) built.machines
-              (subst (λ (l : List (Option ℕ)). LimitedWholeRun IsInputBest l (map M first.fixed) came
-              (marked_fabric first) has.records has.end) built.limits has.runs));
+              (marked_fabric first) has.records has.end) fresh.machines
+              (subst (λ (l : List (Option ℕ)). LimitedWholeRun IsInputBest l (map machine_from first.fixed) came
+              (marked_fabric first) has.records has.end) limits_are has.runs));
         };
-        sent = ap (λ (r : RoomView Departure). r.items) is_sent ∙ has.departed;
-        note = ap (λ (r : RoomView Transfer). r.items) is_note ∙ has.crossed;
+        sent = has.departed;
+        note = has.crossed;
         figures = is_figures ∙ has.counted ∙ ap (λ (n : ℕ). figures_of n (slots_in has.records)) port_count;
         refused = is_refused ∙ has.refused ∙ ap (λ (l : List (Option ℕ)). refused_counts l (refused_in
-            (admissions_in has.records))) built.limits;
+            (admissions_in has.records))) limits_are;
       }
 
   -- the ideal switch that runs beside the engine is made for the same tables
-  pub ideal_of_tables : states ≡ openings_of t.setup → departures_limited (limited_run first.limits
-      (map M first.fixed) 0 (traffic_of came) (empty_limited (length first.fixed) first.fabric.ranks)) ≡
+  pub ideal_of_tables : departures_limited (limited_run first.limits
+      (map machine_from first.fixed) 0 (traffic_of came) (empty_limited (length first.fixed) first.fabric.ranks)) ≡
       ideal_departures t came
-  ideal_of_tables openings =
+  ideal_of_tables =
       let beside : IdealSwitch = record {
         fixed = first.fixed;
         limits = first.limits;
@@ -130,6 +136,98 @@ module _ (M : List ℕ → Machine) (t : Tables) (came : List Arrival) (ports : 
         next = 0;
         stopped = false;
       } in
-      run_of_tables M t came (length first.fixed) first.fabric.ranks beside
-      (record { machines = built.machines; limits = built.limits; state = refl; marks = refl; many = port_count })
-      (ap (λ (f : Fabric). f.ranks) built.fabric ∙ openings)
+      run_of_tables machine_from t came (length first.fixed) first.fabric.ranks beside
+      (record { machines = fresh.machines; limits = limits_are; state = refl; marks = refl; many = port_count })
+      (ap (λ (e : EngineView). e.fabric.ranks) fresh.fresh)
+
+-- ## What is known once its run can begin
+
+pub record IsMade (t : Tables) (came : List Arrival) (first : EngineView) (sent : RoomView Departure)
+    (note : RoomView Transfer) : Type 0 where
+  -- the tables and the arrivals
+  pub setup : IsSetup t.setup
+  pub traffic : IsTraffic (ports_of t.setup) (classes_of t.setup) came
+  pub short : IsShort came
+  pub few : length came ≤ 2 ^ 34
+  -- the engine
+  pub fresh : IsFreshFor t came first
+  -- the rooms of what it sends and notes
+  pub nothing_sent : sent.items ≡ []
+  pub sent_room : sent.spare ≡ length came + ports_of t.setup
+  pub nothing_noted : note.items ≡ []
+  pub note_room : note.spare ≡ length came + 2 * ports_of t.setup
+
+pub made_for : {t : Tables} {came : List Arrival} {first : EngineView} {sent : RoomView Departure}
+    {note : RoomView Transfer} (ports total : ℕ) → AreTables t →
+    IsTraffic (ports_of t.setup) (classes_of t.setup) came → IsShort came → ports ≡ ports_of t.setup →
+    total ≡ length came → total ≤ 2 ^ 34 → IsFreshFor t came first → sent.items ≡ [] → sent.spare ≡ total + ports →
+    note.items ≡ [] → note.spare ≡ total + 2 * ports → IsMade t came first sent note
+made_for ports total tables traffic short many all few fresh nothing_sent sent_room nothing_noted note_room = record {
+  setup = tables.setup;
+  traffic = traffic;
+  short = short;
+  few = omega arith;
+  fresh = fresh;
+  nothing_sent = nothing_sent;
+  sent_room = omega arith;
+  nothing_noted = nothing_noted;
+  note_room = omega arith;
+}
+
+module _ {t : Tables} {came : List Arrival} {first : EngineView} {sent : RoomView Departure}
+    {note : RoomView Transfer} (made : IsMade t came first sent note) where
+  -- it can run from slot 0 on
+  pub ready : IsReadyFabric (map machine_from first.fixed) came first sent note
+  ready =
+      let fresh = made.fresh in
+      let is = fresh.fresh in
+      let n = ports_of t.setup in
+      let at_most = made.setup.ports in
+      let many : length first.fixed ≡ n = port_count fresh in
+      let known : class_count (map machine_from first.fixed) ≡ classes_of t.setup =
+      ap class_count fresh.machines ∙ fresh.classes in
+      let from : ℕ → ℕ = λ i. number_of (is_from i) came in
+      let to : ℕ → ℕ = λ j. number_of (is_to j) came in
+      record {
+        running = ap (λ (e : EngineView). e.stopped) is;
+        next = ap (λ (e : EngineView). e.next) is;
+        ports = omega arith;
+        traffic = subst (λ (k : ℕ). IsTraffic k (class_count (map machine_from first.fixed)) came) (sym many)
+            (subst (λ (k : ℕ). IsTraffic n k came) (sym known) made.traffic);
+        short = made.short;
+        few = made.few;
+        fabric = ap (λ (e : EngineView). e.fabric) is
+            ∙ (λ k. empty_fabric (sym many k) (sym (ap (λ (e : EngineView). e.fabric.ranks) is) k));
+        from_inputs = λ i inside. ap (λ (e : EngineView). slice_index e.from_inputs i) is
+            ∙ get_or-map-range_with_len from 0 n i i 0 (omega arith) (omega arith);
+        to_outputs = λ j inside. ap (λ (e : EngineView). slice_index e.to_outputs j) is
+            ∙ get_or-map-range_with_len to 0 n j j 0 (omega arith) (omega arith);
+        figures = ap (λ (e : EngineView). e.figures) is ∙ ap no_figures (sym many);
+        marks = ap (λ (e : EngineView). e.marks) is ∙ ap marks_down (sym many);
+        refused = ap (λ (e : EngineView). e.refused) is
+            ∙ ap (λ (l : List (Option ℕ)). refused_counts l []) (sym (limits_are fresh));
+        nothing_sent = made.nothing_sent;
+        sent_room = let room = made.sent_room in omega arith;
+        nothing_noted = made.nothing_noted;
+        note_room = let room = made.note_room in omega arith;
+      }
+
+  -- as an engine can that goes on
+  pub can_begin : IsReadyOn (map machine_from first.fixed) came first sent note
+  can_begin = ready_on (map machine_from first.fixed) came first sent note ready
+
+  -- what it has run is the run of the tables
+  pub run_is_kept : (run : PackedFabricRun) → HasKept (map machine_from first.fixed) came first sent note run →
+      IsKeptOf t came (unpacked_run run)
+  run_is_kept run kept =
+      kept_of made.fresh kept.last (unpacked_run run)
+      (has_run (map machine_from first.fixed) came first sent note ready kept.last run.sent run.note kept.ran)
+      kept.figures kept.refused
+
+  -- and where it has none, the ideal switch has none
+  pub no_run : (why : RunRefusal) → IsRefusalOn (map machine_from first.fixed) came first why →
+      IsRefusalOf (ideal_departures t came) why
+  no_run (refusal.Tag fault) stops =
+      sym (ideal_of_tables made.fresh)
+      ∙ first_fault (map machine_from first.fixed) came first sent note ready fault stops
+  no_run refusal.NoMemory stops = tt

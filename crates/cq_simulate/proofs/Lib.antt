@@ -30,7 +30,6 @@ pub mod EachPacket
 pub mod AllPacked
 pub mod ToCome
 pub mod Onward
-pub mod Making
 pub mod Parting
 pub mod Resuming
 pub mod TakenUp

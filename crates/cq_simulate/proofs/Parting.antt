@@ -23,100 +23,86 @@ use Rattle.cq_laws.specs.declared.frozen.Frozen.{Frozen}
 use Rattle.cq_prefs.specs.Pairing.{IsInputBest}
 use Rattle.cq_rank.specs.Machine.{Machine}
 use Rattle.cq_resume.specs.Parts.{IsParted}
+use Rattle.cq_resume.specs.Resumed.{Runs, Stops}
 use Rattle.cq_resume.specs.Switch.{switch_of}
 use Rattle.cq_route.specs.declared.tables.Tables.{Tables}
+use Rattle.cq_scfq.specs.Discipline.{machine_from}
 use Rattle.cq_scfq.specs.Disciplines.{machines_of, openings_of}
-use Rattle.cq_simulate.proofs.FabricOpening.{IsBuiltFor, begun, port_count}
-use Rattle.cq_simulate.specs.FabricReady.{IsReadyFabric}
+use Rattle.cq_simulate.proofs.FabricOpening.{IsMade, begun, limits_are, port_count, ready}
+use Rattle.cq_simulate.proofs.Resuming.{of_switch, stop_of_switch}
 use Rattle.cq_simulate.specs.GoingOn.{HasPartedTo, StopsWithin}
 use Rattle.cq_simulate.specs.PartedRuns.{IsPartFault}
 use Rattle.cq_simulate.specs.declared.refusal.RunRefusal.TheVariants as refusal
 
-module _ (M : List ℕ → Machine) (t : Tables) (s : Scheduled) (ports : ℕ) (states : List (List ℕ)) (first : EngineView)
-    (built : IsBuiltFor M t ports states first) (openings : states ≡ openings_of t.setup)
-    (first_sent : RoomView Departure)
-    (first_note : RoomView Transfer) (ready : IsReadyFabric
-    (map M first.fixed) s.came first first_sent first_note) where
+module _ (t : Tables) (s : Scheduled) {first : EngineView} {first_sent : RoomView Departure}
+    {first_note : RoomView Transfer} (made : IsMade t s.came first first_sent first_note) where
   machines_are : length first.fixed ≡ length (machines_of t.setup)
-  machines_are = sym (length-map first.fixed M) ∙ ap length built.machines
+  machines_are = sym (length-map first.fixed machine_from) ∙ ap length made.fresh.machines
 
   opens : marked_fabric first ≡ empty_limited_fabric (length (machines_of t.setup)) (openings_of t.setup)
   opens =
-      begun M t s.came ports states first built openings
-      ∙ ap (λ (n : ℕ). empty_limited_fabric n (openings_of t.setup))
-      (sym (port_count M t s.came ports states first built) ∙ machines_are)
+      begun made.fresh
+      ∙ ap (λ (n : ℕ). empty_limited_fabric n (openings_of t.setup)) (sym (port_count made.fresh) ∙ machines_are)
 
   pub parted_of : (slots : ℕ) (last : EngineView) (sent : RoomView Departure) (note : RoomView Transfer)
-      (frozen : Frozen) → HasPartedTo (map M first.fixed) s.came slots first last first_sent sent first_note note →
+      (frozen : Frozen) → HasPartedTo (map machine_from first.fixed) s.came slots first last first_sent sent first_note note →
       frozen ≡ frozen_of last →
       IsParted (switch_of t s) (openings_of t.setup) slots
       (record { frozen = frozen; sent = sent.items; note = note.items })
   parted_of slots last sent note frozen has is =
-      let next : first.next ≡ 0 = ready.next in
+      let begins = ready made in
+      let next : first.next ≡ 0 = begins.next in
       let rs = has.records in
       let reached = has.reached in
       let long : length rs ≡ slots = omega arith in
       let lost = refused_in (admissions_in rs) in
       let sent_is =
       has.went.departed
-      ∙ ap (λ (l : List Departure). l ++ departures_of first.next (gone_in (slots_in rs))) ready.nothing_sent
+      ∙ ap (λ (l : List Departure). l ++ departures_of first.next (gone_in (slots_in rs))) begins.nothing_sent
       ∙ ap (λ (n : ℕ). departures_of n (gone_in (slots_in rs))) next in
       let note_is =
-      has.went.crossed ∙ ap (λ (l : List Transfer). l ++ transfers_of_run (slots_in rs)) ready.nothing_noted in
+      has.went.crossed ∙ ap (λ (l : List Transfer). l ++ transfers_of_run (slots_in rs)) begins.nothing_noted in
       let figures_are =
       ap (λ (x : Frozen). x.figures) is
       ∙ has.went.counted
-      ∙ ap (λ (x : Figures). fold figures_after x (slots_in rs)) (ready.figures ∙ ap no_figures machines_are) in
+      ∙ ap (λ (x : Figures). fold figures_after x (slots_in rs)) (begins.figures ∙ ap no_figures machines_are) in
       let refused_are =
       ap (λ (x : Frozen). x.refused) is
       ∙ has.went.refused
-      ∙ ap (with_refused lost) (ready.refused ∙ ap (λ (l : List (Option ℕ)). refused_counts l []) built.limits) in
+      ∙ ap (with_refused lost) (begins.refused ∙ ap (λ (l : List (Option ℕ)). refused_counts l []) (limits_are made.fresh)) in
       record {
         records = rs;
         next = ap (λ (x : Frozen). x.next) is ∙ has.next;
         runs =
-            subst (λ (f : Marked Fabric).
-            LimitedFabricRun IsInputBest t.limits (machines_of t.setup) 0 (arriving_from s.came 0 slots)
-            (empty_limited_fabric (length (machines_of t.setup)) (openings_of t.setup)) rs f) (sym (ap marked_in is))
+            subst (Runs (switch_of t s) 0 (arriving_from s.came 0 slots)
+            (empty_limited_fabric (length (machines_of t.setup)) (openings_of t.setup)) rs) (sym (ap marked_in is))
             (subst (λ (f : Marked Fabric).
-            LimitedFabricRun IsInputBest t.limits (machines_of t.setup) 0 (arriving_from s.came 0 slots) f rs
-            (marked_fabric last)) opens
-            (subst (λ (ms : List Machine).
-            LimitedFabricRun IsInputBest t.limits ms 0 (arriving_from s.came 0 slots) (marked_fabric first) rs
-            (marked_fabric last)) built.machines
-            (subst (λ (l : List (Option ℕ)).
-            LimitedFabricRun IsInputBest l (map M first.fixed) 0 (arriving_from s.came 0 slots) (marked_fabric first) rs
-            (marked_fabric last)) built.limits
-            (subst (λ (k : ℕ).
-            LimitedFabricRun IsInputBest first.limits (map M first.fixed) 0 (arriving_from s.came 0 k)
-            (marked_fabric first) rs (marked_fabric last)) long
+            Runs (switch_of t s) 0 (arriving_from s.came 0 slots) f rs (marked_fabric last)) opens
             (subst (λ (n : ℕ).
-            LimitedFabricRun IsInputBest first.limits (map M first.fixed) n (arriving_from s.came n (length rs))
-            (marked_fabric first) rs (marked_fabric last)) next has.went.runs)))));
+            Runs (switch_of t s) n (arriving_from s.came n slots) (marked_fabric first) rs (marked_fabric last)) next
+            (subst (λ (k : ℕ).
+            Runs (switch_of t s) first.next (arriving_from s.came first.next k) (marked_fabric first) rs
+            (marked_fabric last)) long
+            (of_switch machine_from t s first made.fresh.machines (limits_are made.fresh) (length rs) rs
+            (marked_fabric last) has.went.runs))));
         kept = λ k. record { sent = sent_is k; note = note_is k; figures = figures_are k; refused = refused_are k };
       }
 
   pub part_fault : (slots : ℕ) (fault : TagFault) →
-      StopsWithin (map M first.fixed) s.came first (slots - first.next) fault →
+      StopsWithin (map machine_from first.fixed) s.came first (slots - first.next) fault →
       IsPartFault (switch_of t s) (openings_of t.setup) slots (refusal.Tag fault)
   part_fault slots fault at =
-      let next : first.next ≡ 0 = ready.next in
+      let begins = ready made in
+      let next : first.next ≡ 0 = begins.next in
       let all : slots - first.next ≡ slots = omega arith in (
         at.records,
         subst (λ (f : Marked Fabric).
-            LimitedFabricStops IsInputBest t.limits (machines_of t.setup) 0 (arriving_from s.came 0 slots) f at.records
-            fault) opens
-            (subst (λ (ms : List Machine).
-            LimitedFabricStops IsInputBest t.limits ms 0 (arriving_from s.came 0 slots) (marked_fabric first) at.records
-            fault) built.machines
-            (subst (λ (l : List (Option ℕ)).
-            LimitedFabricStops IsInputBest l (map M first.fixed) 0 (arriving_from s.came 0 slots) (marked_fabric first)
-            at.records fault) built.limits
-            (subst (λ (k : ℕ).
-            LimitedFabricStops IsInputBest first.limits (map M first.fixed) 0 (arriving_from s.came 0 k)
-            (marked_fabric first) at.records fault) all
+            Stops (switch_of t s) 0 (arriving_from s.came 0 slots) f at.records fault) opens
             (subst (λ (n : ℕ).
-            LimitedFabricStops IsInputBest first.limits (map M first.fixed) n
-            (arriving_from s.came n (slots - first.next))
-            (marked_fabric first) at.records fault) next at.stops)))),
+            Stops (switch_of t s) n (arriving_from s.came n slots) (marked_fabric first) at.records fault) next
+            (subst (λ (k : ℕ).
+            Stops (switch_of t s) first.next (arriving_from s.came first.next k) (marked_fabric first) at.records
+            fault) all
+            (stop_of_switch machine_from t s first made.fresh.machines (limits_are made.fresh) (slots - first.next)
+            at.records fault at.stops))),
       )

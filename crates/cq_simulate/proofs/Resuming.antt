@@ -19,18 +19,22 @@ use Rattle.cq_laws.specs.Records.{gone_in, transfers_of_run}
 use Rattle.cq_laws.specs.declared.frozen.Frozen.{Frozen}
 use Rattle.cq_prefs.specs.Pairing.{IsInputBest}
 use Rattle.cq_rank.specs.Machine.{Machine}
-use Rattle.cq_resume.specs.Resumed.{IsResumed, IsResumedFault, Kept, Runs, RunsOn, Stops, kept_on}
+use Rattle.cq_resume.specs.Resumed.{IsResumed, Kept, Runs, RunsOn, Stops, kept_on}
 use Rattle.cq_resume.specs.Switch.{switch_of}
 use Rattle.cq_resume.specs.declared.taken.Taken.{Taken}
 use Rattle.cq_route.specs.declared.tables.Tables.{Tables}
 use Rattle.cq_scfq.specs.Disciplines.{machines_of}
-use Rattle.cq_simulate.specs.GoingOn.{HasRunOn, StopsOn}
+use Rattle.cq_simulate.specs.FabricRuns.{unpacked_run}
+use Rattle.cq_simulate.specs.GoingOn.{HasKept, HasRunOn, IsRefusalOn}
+use Rattle.cq_simulate.specs.PartedRuns.{IsResumeFault, kept_of}
+use Rattle.cq_simulate.specs.declared.fabric_run.PackedFabricRun.{PackedFabricRun}
+use Rattle.cq_simulate.specs.declared.refusal.RunRefusal.{RunRefusal}
+use Rattle.cq_simulate.specs.declared.refusal.RunRefusal.TheVariants as refusal
 
-module _ (M : List ℕ → Machine) (t : Tables) (s : Scheduled) (first : EngineView) (taken : Taken)
-    (machines : map M first.fixed ≡ machines_of t.setup) (limits : first.limits ≡ t.limits)
-    (stood : frozen_of first ≡ taken.frozen) where
+module _ (M : List ℕ → Machine) (t : Tables) (s : Scheduled) (first : EngineView)
+    (machines : map M first.fixed ≡ machines_of t.setup) (limits : first.limits ≡ t.limits) where
   -- a run of the engine is one of the switch
-  of_switch : (m : ℕ) (rs : List LimitedRecord) (f : Marked Fabric) →
+  pub of_switch : (m : ℕ) (rs : List LimitedRecord) (f : Marked Fabric) →
       LimitedFabricRun IsInputBest first.limits (map M first.fixed) first.next (arriving_from s.came first.next m)
       (marked_fabric first) rs f →
       Runs (switch_of t s) first.next (arriving_from s.came first.next m) (marked_fabric first) rs f
@@ -56,12 +60,28 @@ module _ (M : List ℕ → Machine) (t : Tables) (s : Scheduled) (first : Engine
       f)
       (sym machines) run)
 
-  pub resumed_of : (last : EngineView) (first_sent sent : RoomView Departure) (first_note note : RoomView Transfer) →
+  -- and where it stops, the switch does
+  pub stop_of_switch : (m : ℕ) (rs : List LimitedRecord) (fault : TagFault) →
+      LimitedFabricStops IsInputBest first.limits (map M first.fixed) first.next (arriving_from s.came first.next m)
+      (marked_fabric first) rs fault →
+      Stops (switch_of t s) first.next (arriving_from s.came first.next m) (marked_fabric first) rs fault
+  stop_of_switch m rs fault stops =
+      subst (λ (ms : List Machine).
+      LimitedFabricStops IsInputBest t.limits ms first.next (arriving_from s.came first.next m) (marked_fabric first) rs
+      fault) machines
+      (subst (λ (l : List (Option ℕ)).
+      LimitedFabricStops IsInputBest l (map M first.fixed) first.next (arriving_from s.came first.next m)
+      (marked_fabric first) rs fault) limits stops)
+
+module _ (M : List ℕ → Machine) (t : Tables) (s : Scheduled) (first : EngineView) (taken : Taken)
+    (machines : map M first.fixed ≡ machines_of t.setup) (limits : first.limits ≡ t.limits)
+    (stood : frozen_of first ≡ taken.frozen) where
+  went_on : (last : EngineView) (first_sent sent : RoomView Departure) (first_note note : RoomView Transfer) →
       HasRunOn (map M first.fixed) s.came first last first_sent sent first_note note → first_sent.items ≡ taken.sent →
       first_note.items ≡ taken.note →
       IsResumed (switch_of t s) taken
       (record { sent = sent.items; note = note.items; figures = last.figures; refused = last.refused })
-  resumed_of last first_sent sent first_note note has sent_was note_was =
+  went_on last first_sent sent first_note note has sent_was note_was =
       let rs = has.records in
       let kept : Kept =
       record { sent = sent.items; note = note.items; figures = last.figures; refused = last.refused } in
@@ -76,14 +96,14 @@ module _ (M : List ℕ → Machine) (t : Tables) (s : Scheduled) (first : Engine
             subst (λ (x : Frozen). RunsOn (switch_of t s) x.next (marked_in x) rs (marked_fabric last)) stood
             (record {
               after =
-                  of_switch (length rs) (take (length rs) rs) (marked_fabric last)
+                  of_switch M t s first machines limits (length rs) (take (length rs) rs) (marked_fabric last)
                   (subst (λ (l : List LimitedRecord).
                   LimitedFabricRun IsInputBest first.limits (map M first.fixed) first.next
                   (arriving_from s.came first.next (length rs)) (marked_fabric first) l (marked_fabric last))
                   (sym (take_all (length rs) rs (omega arith))) has.went.runs);
               all_came = has.all_came;
               empty = has.empty;
-              first = λ m f run le none. has.first m f (of_engine m (take m rs) f run) le none;
+              first = λ m f run le none. has.first m f (of_engine M t s first machines limits m (take m rs) f run) le none;
             });
         kept_is =
             subst (λ (x : Frozen).
@@ -97,20 +117,28 @@ module _ (M : List ℕ → Machine) (t : Tables) (s : Scheduled) (first : Engine
             });
       }
 
-  pub resumed_fault : (fault : TagFault) → StopsOn (map M first.fixed) s.came first fault →
-      IsResumedFault (switch_of t s) taken fault
-  resumed_fault fault at =
+  pub resumed_of : (first_sent : RoomView Departure) (first_note : RoomView Transfer) (run : PackedFabricRun) →
+      HasKept (map M first.fixed) s.came first first_sent first_note run → first_sent.items ≡ taken.sent →
+      first_note.items ≡ taken.note → IsResumed (switch_of t s) taken (kept_of (unpacked_run run))
+  resumed_of first_sent first_note run kept sent_was note_was =
+      subst (λ (kept : Kept). IsResumed (switch_of t s) taken kept)
+      (λ k. record {
+        sent = run.sent.items;
+        note = run.note.items;
+        figures = sym kept.figures k;
+        refused = sym kept.refused k;
+      })
+      (went_on kept.last first_sent run.sent first_note run.note kept.ran sent_was note_was)
+
+  pub resumed_fault : (why : RunRefusal) → IsRefusalOn (map M first.fixed) s.came first why →
+      IsResumeFault (switch_of t s) taken why
+  resumed_fault (refusal.Tag fault) at =
       record {
         count = at.count;
         records = at.stops.records;
         stops =
             subst (λ (x : Frozen).
             Stops (switch_of t s) x.next (arriving_from s.came x.next at.count) (marked_in x) at.stops.records fault)
-            stood
-            (subst (λ (ms : List Machine).
-            LimitedFabricStops IsInputBest t.limits ms first.next (arriving_from s.came first.next at.count)
-            (marked_fabric first) at.stops.records fault) machines
-            (subst (λ (l : List (Option ℕ)).
-            LimitedFabricStops IsInputBest l (map M first.fixed) first.next (arriving_from s.came first.next at.count)
-            (marked_fabric first) at.stops.records fault) limits at.stops.stops));
+            stood (stop_of_switch M t s first machines limits at.count at.stops.records fault at.stops.stops);
       }
+  resumed_fault refusal.NoMemory at = tt

@@ -28,13 +28,16 @@ use Rattle.cq_rank.specs.Switch.{class_count}
 use Rattle.cq_resume.proofs.GoesOn.{GoesOn, came_before, goes_on}
 use Rattle.cq_resume.specs.Switch.{Switch, switch_of}
 use Rattle.cq_resume.specs.declared.taken.Taken.{Taken}
-use Rattle.cq_route.specs.Tables.{classes_of, ports_of}
+use Rattle.cq_route.specs.Tables.{AreTables, classes_of, ports_of}
 use Rattle.cq_route.specs.declared.tables.Tables.{Tables}
+use Rattle.cq_scfq.specs.Discipline.{fixed_of, machine_from}
 use Rattle.cq_scfq.specs.Disciplines.{machine_of, machines_of}
 use Rattle.cq_simulate.proofs.FabricCounts.{at_inputs}
 use Rattle.cq_simulate.proofs.FabricRunning.{all_at_inputs}
+use Rattle.cq_simulate.specs.FreshFabric.{ArePortsOf, by_port}
 use Rattle.cq_simulate.specs.GoingOn.{IsReadyOn, to_come}
 use Rattle.cq_simulate.specs.PartedRuns.{CanBeTakenUp}
+use Rattle.cq_simulate.specs.declared.ports.Ports.{Ports}
 use Rattle.cq_traffic.proofs.FromInputs.{bit}
 
 -- ## What came and what is to come
@@ -183,7 +186,7 @@ listed_before f xs few =
 pub machines_many : (t : Tables) → length (machines_of t.setup) ≡ ports_of t.setup
 machines_many t = length-map t.setup.kinds (λ kind. machine_of kind t.setup.classes)
 
-pub goes_of : (t : Tables) (s : Scheduled) (taken : Taken) → CanBeTakenUp (switch_of t s) taken →
+goes_of : (t : Tables) (s : Scheduled) (taken : Taken) → CanBeTakenUp (switch_of t s) taken →
     IsTraffic (ports_of t.setup) (classes_of t.setup) s.came → GoesOn (switch_of t s) taken.frozen
 goes_of t s taken sound traffic =
     let w = switch_of t s in
@@ -193,7 +196,7 @@ goes_of t s taken sound traffic =
 
 module _ (w : Switch) where
   -- the engine can be made to go on from there
-  pub can_go_on : (x : Frozen) (ms : List Machine) (limits : List (Option ℕ)) (from_inputs to_outputs : List ℕ) →
+  can_go_on : (x : Frozen) (ms : List Machine) (limits : List (Option ℕ)) (from_inputs to_outputs : List ℕ) →
       GoesOn w x → ms ≡ w.machines → class_count w.machines ≡ w.classes → limits ≡ w.limits →
       from_inputs ≡ map (λ i. number_of (is_from i) w.came) (range_with_len 0 (length w.machines)) →
       to_outputs ≡ map (λ j. number_of (is_to j) w.came) (range_with_len 0 (length w.machines)) →
@@ -226,7 +229,7 @@ module _ (w : Switch) where
       })
 
   -- and runs on over what is to come
-  pub ready_from : (M : List ℕ → Machine) (engine : EngineView) (sent : RoomView Departure) (note : RoomView Transfer) →
+  ready_from : (M : List ℕ → Machine) (engine : EngineView) (sent : RoomView Departure) (note : RoomView Transfer) →
       GoesOn w (frozen_of engine) → map M engine.fixed ≡ w.machines → engine.stopped ≡ false → length w.machines ≤ 64 →
       IsTraffic (length w.machines) w.classes w.came → class_count w.machines ≡ w.classes → IsShort w.came →
       length w.came ≤ 2 ^ 34 →
@@ -286,3 +289,39 @@ module _ (w : Switch) where
             let cells = lost.1 in
             (omega arith, omega arith);
       }
+
+-- ## By the tables
+
+by_machine : (is : ℕ → Arrival → Bool) (t : Tables) (came : List Arrival) →
+    by_port is t came ≡ map (λ port. number_of (is port) came) (range_with_len 0 (length (machines_of t.setup)))
+by_machine is t came =
+    ap (λ (n : ℕ). map (λ port. number_of (is port) came) (range_with_len 0 n)) (sym (machines_many t))
+
+module _ (t : Tables) (s : Scheduled) (taken : Taken) (p : Ports) (are : ArePortsOf t s.came p)
+    (sound : CanBeTakenUp (switch_of t s) taken)
+    (traffic : IsTraffic (ports_of t.setup) (classes_of t.setup) s.came) where
+  -- an engine can be made of the ports that goes on from what was taken up
+  pub can_thaw : {from to : List ℕ} {limits : List (Option ℕ)} → from ≡ p.from_inputs.items →
+      to ≡ p.to_outputs.items → limits ≡ t.limits →
+      CanGoOn (map machine_from (map fixed_of p.ranks.items)) limits from to taken.frozen
+  can_thaw from to same =
+      can_go_on (switch_of t s) taken.frozen _ _ _ _ (goes_of t s taken sound traffic) are.machines are.classes same
+      (from ∙ are.from_inputs ∙ by_machine is_from t s.came) (to ∙ are.to_outputs ∙ by_machine is_to t s.came)
+
+  -- and it runs on
+  pub runs_on : (engine : EngineView) (sent : RoomView Departure) (note : RoomView Transfer) (count total : ℕ) →
+      AreTables t → IsShort s.came → count ≡ ports_of t.setup → total ≡ length s.came → total ≤ 2 ^ 34 →
+      engine.fixed ≡ map fixed_of p.ranks.items → frozen_of engine ≡ taken.frozen →
+      engine.from_inputs ≡ p.from_inputs.items → engine.to_outputs ≡ p.to_outputs.items → engine.stopped ≡ false →
+      sent.spare ≡ total + count → note.spare ≡ total + 2 * count →
+      IsReadyOn (map machine_from engine.fixed) s.came engine sent note
+  runs_on engine sent note count total tables short counted all few fixed frozen from to running sent_room note_room =
+      let w = switch_of t s in
+      let at_most = tables.setup.ports in
+      let many : length (machines_of t.setup) ≡ ports_of t.setup = machines_many t in
+      ready_from w machine_from engine sent note
+      (subst (GoesOn w) (sym frozen) (goes_of t s taken sound traffic))
+      (ap (map machine_from) fixed ∙ are.machines) running (omega arith)
+      (subst (λ (n : ℕ). IsTraffic n (classes_of t.setup) s.came) (sym many) traffic) are.classes short (omega arith)
+      (from ∙ are.from_inputs ∙ by_machine is_from t s.came) (to ∙ are.to_outputs ∙ by_machine is_to t s.came)
+      (omega arith) (omega arith)

@@ -1,6 +1,6 @@
 -- Only proofs use this. A fabric that can go on from any slot over the cells that are still to come, and what its run
 -- leaves: up to its end, up to a slot, or up to a tag fault.
-use Rattle.std.specs.Prelude.{◌≡◌, ℕ, ◌+◌, ◌*◌, ◌<◌, ◌≤◌, ◌^◌, ◌++◌, nat_le, All, List, filter, false, fold, length, slice_index, sum, take}
+use Rattle.std.specs.Prelude.{◌≡◌, ℕ, ◌+◌, ◌*◌, ◌<◌, ◌≤◌, ◌^◌, ◌++◌, nat_le, All, List, filter, false, fold, length, slice_index, sum, take, ⊤}
 use Rattle.std.specs.List.{flat_map}
 use Rattle.cq_base.specs.Arrivals.{no_arrivals}
 use Rattle.cq_base.specs.Arriving.{Arrival, arriving, end_of}
@@ -23,6 +23,9 @@ use Rattle.cq_ideal.specs.Refused.{refused_in, with_refused}
 use Rattle.cq_prefs.specs.Pairing.{IsInputBest}
 use Rattle.cq_rank.specs.Machine.{Machine}
 use Rattle.cq_rank.specs.Switch.{class_count}
+use Rattle.cq_simulate.specs.declared.fabric_run.PackedFabricRun.{PackedFabricRun}
+use Rattle.cq_simulate.specs.declared.refusal.RunRefusal.{RunRefusal}
+use Rattle.cq_simulate.specs.declared.refusal.RunRefusal.TheVariants as refusal
 
 -- the arrivals from this slot on
 abbrev pub to_come : ℕ → List Arrival → List Arrival
@@ -96,6 +99,19 @@ pub record StopsWithin (ms : List Machine) (came : List Arrival) (old : EngineVi
 pub record StopsOn (ms : List Machine) (came : List Arrival) (old : EngineView) (fault : TagFault) : Type 0 where
   pub count : ℕ
   pub stops : StopsWithin ms came old count fault
+
+-- it went on to its end, and this is what was kept
+pub record HasKept (ms : List Machine) (came : List Arrival) (old : EngineView) (sent : RoomView Departure)
+    (note : RoomView Transfer) (run : PackedFabricRun) : Type 0 where
+  pub last : EngineView
+  pub ran : HasRunOn ms came old last sent run.sent note run.note
+  pub figures : run.figures ≡ last.figures
+  pub refused : run.refused.items ≡ last.refused
+
+-- or it did not: it meets this tag fault, or memory ran out
+abbrev pub IsRefusalOn : List Machine → List Arrival → EngineView → RunRefusal → Type 0
+IsRefusalOn ms came old (refusal.Tag fault) = StopsOn ms came old fault
+IsRefusalOn ms came old refusal.NoMemory = ⊤
 
 -- the engine can go on, and stands at this slot or before it
 pub record IsReadyPart (ms : List Machine) (came : List Arrival) (last : ℕ) (engine : EngineView)

@@ -2,6 +2,7 @@ pub mod EachPacket
 pub mod Emulation
 pub mod FabricReady
 pub mod FabricRuns
+pub mod FreshFabric
 pub mod IdealRuns
 pub mod Packets
 pub mod Pieces

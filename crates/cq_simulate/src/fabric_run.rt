@@ -7,18 +7,18 @@ ghost use Rattle.cq_laws.specs.Fabric.{IsEmptyFabric};
 ghost use Rattle.cq_route.specs.Tables.{AreTables, classes_of, ports_of};
 ghost use Rattle.cq_simulate.specs.FabricRuns.{IsKeptOf, unpacked_run};
 ghost use Rattle.cq_simulate.specs.IdealRuns.{ideal_departures, IsRefusalOf};
-ghost use Rattle.cq_simulate.specs.GoingOn.{HasRunOn, IsReadyOn, StopsOn};
+ghost use Rattle.cq_simulate.specs.GoingOn.{HasKept, HasRunOn, IsReadyOn, IsRefusalOn, StopsOn};
 ghost use Rattle.cq_traffic.specs.Stretch.{IsQuiet};
 
 use crate::RunRefusal;
+use crate::ports::{engine_for, port_count};
 use cq_base::{Departure, Departures, Figures, Room, Slot, TagFault, Transfer};
 use cq_cells::{Coming, Schedule};
 use cq_crew::Gate;
 use cq_engine::{Engine, Refused};
 use cq_rank::Rank;
 use cq_route::Tables;
-use cq_scfq::Discipline;
-use cq_traffic::{quiet_until, rooms_from, rooms_to};
+use cq_traffic::quiet_until;
 use std::alloc::Global;
 use std::thread::Threads;
 
@@ -102,22 +102,32 @@ pub fn run_fabric_packed<R: Threads + Sync, G: Gate>(
     ensures as_ideal { IfOk result (λ run. ideal_departures tables.now schedule.now.came ≡ Ok run.sent.items) }
     ensures refused { IfErr result (IsRefusalOf (ideal_departures tables.now schedule.now.came)) }
 {
-    let ranks = Discipline::all(alloc, &tables.setup)?;
-    let ports = ranks.len() as u16;
-    let from_inputs = rooms_from(alloc, schedule, ports)?;
-    let to_outputs = rooms_to(alloc, schedule, ports)?;
+    let ports = port_count(tables);
     let total = schedule.total();
-    let mut sent = Departures::new(alloc, total + ports as u64)?;
-    let mut note = Room::new(alloc, total + 2 * ports as u64)?;
-    let mut engine = Engine::new(
-        alloc,
-        ranks,
-        from_inputs.as_slice(),
-        to_outputs.as_slice(),
-        tables.limits.as_slice(),
-        tables.workers,
-    )?;
-    let mut leaving = Room::new(alloc, ports as u64)?;
+    let sent = Departures::new(alloc, total + ports)?;
+    let note = Room::new(alloc, total + 2 * ports)?;
+    let engine = engine_for(alloc, tables, schedule)?;
+    run_on(rt, alloc, engine, ports, schedule, gate, sent, note)
+}
+
+// Runs a fabric of so many ports on over all cells that are still to come, and gives what it kept.
+#[inline(always)]
+pub fn run_on<T: Threads + Sync, R: Rank, G: Gate>(
+    rt: &T,
+    alloc: Global,
+    mut engine: Engine<R>,
+    ports: u64,
+    schedule: &Schedule,
+    gate: &G,
+    mut sent: Departures,
+    mut note: Room<Transfer>,
+) -> Result<PackedFabricRun, RunRefusal>
+    requires ready { IsReadyOn (map R.machine engine.fixed) schedule.now.came engine sent note }
+    requires ports { ports ≡ length engine.fixed }
+    ensures run { IfOk result (HasKept (map R.machine engine.fixed) schedule.now.came engine sent note) }
+    ensures refused { IfErr result (IsRefusalOn (map R.machine engine.fixed) schedule.now.came engine) }
+{
+    let mut leaving = Room::new(alloc, ports)?;
     run_slots(
         rt,
         alloc,
@@ -163,6 +173,27 @@ fn skip<R: Rank>(
         return slot;
     }
     let next = quiet_until(schedule, slot);
+    rest_to(engine, schedule, slot, next, coming)
+}
+
+// The slots from this one up to the next are skipped: the fabric rests, and the cells of that slot come. The answer is
+// the slot whose cells came.
+pub fn rest_to<R: Rank>(
+    engine: &mut Engine<R>,
+    schedule: &Schedule,
+    slot: Slot,
+    next: Slot,
+    coming: &mut Coming,
+) -> Slot
+    requires running { engine.old.stopped ≡ false }
+    requires empty { IsEmptyFabric engine.old.fabric }
+    requires next { engine.old.next ≡ slot }
+    requires late { slot ≤ next }
+    requires came { coming.old ≡ arriving schedule.now.came slot }
+    ensures slot { result ≡ next }
+    ensures rested { HasRested (map R.machine engine.old.fixed) slot next engine.old engine.new }
+    ensures came { coming.new ≡ arriving schedule.now.came next }
+{
     if next == slot {
         return slot;
     }
@@ -173,7 +204,7 @@ fn skip<R: Rank>(
 
 // Runs a fabric on over all cells that are still to come. What is sent in a slot stands in a list for as many as there
 // are ports, until it is packed. The error is the first tag fault.
-pub fn run_slots<T: Threads + Sync, R: Rank, G: Gate>(
+fn run_slots<T: Threads + Sync, R: Rank, G: Gate>(
     rt: &T,
     alloc: Global,
     engine: &mut Engine<R>,

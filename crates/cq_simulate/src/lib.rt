@@ -8,6 +8,7 @@ mod laws;
 mod packets;
 mod packing;
 mod parted_run;
+mod ports;
 mod refusal;
 
 pub use cq_engine::Refused;

@@ -13,7 +13,8 @@ ghost use Rattle.cq_simulate.specs.PartedRuns.{CanBeTakenUp, IsPartFault, IsResu
 ghost use Rattle.cq_simulate.specs.FabricRuns.{unpacked_run};
 
 use crate::RunRefusal;
-use crate::fabric_run::{PackedFabricRun, run_slots};
+use crate::fabric_run::{PackedFabricRun, rest_to, run_on};
+use crate::ports::{engine_for, port_count, ports_for};
 use cq_base::{Departure, Departures, NoMemory, Room, Slot, TagFault, Transfer};
 use cq_cells::{Coming, Schedule};
 use cq_crew::Gate;
@@ -21,8 +22,6 @@ use cq_engine::Engine;
 use cq_rank::Rank;
 use cq_resume::{Frozen, Taken};
 use cq_route::Tables;
-use cq_scfq::Discipline;
-use cq_traffic::{rooms_from, rooms_to};
 use std::alloc::Global;
 use std::thread::Threads;
 
@@ -59,21 +58,11 @@ pub fn part_fabric<R: Threads + Sync, G: Gate>(
     ensures ports { IfOk result (λ run. length run.frozen.lists ≡ ports_of tables.now.setup) }
     ensures refused { IfErr result (IsPartFault (switch_of tables.now schedule.now) (openings_of tables.now.setup) slots) }
 {
-    let ranks = Discipline::all(alloc, &tables.setup)?;
-    let ports = ranks.len() as u16;
-    let from_inputs = rooms_from(alloc, schedule, ports)?;
-    let to_outputs = rooms_to(alloc, schedule, ports)?;
+    let ports = port_count(tables);
     let total = schedule.total();
-    let mut sent = Room::new(alloc, total + ports as u64)?;
-    let mut note = Room::new(alloc, total + 2 * ports as u64)?;
-    let mut engine = Engine::new(
-        alloc,
-        ranks,
-        from_inputs.as_slice(),
-        to_outputs.as_slice(),
-        tables.limits.as_slice(),
-        tables.workers,
-    )?;
+    let mut sent = Room::new(alloc, total + ports)?;
+    let mut note = Room::new(alloc, total + 2 * ports)?;
+    let mut engine = engine_for(alloc, tables, schedule)?;
     run_before(
         rt,
         alloc,
@@ -109,40 +98,21 @@ pub fn resume_fabric<R: Threads + Sync, G: Gate>(
     ensures run { IfOk result (λ run. IsResumed (switch_of tables.now schedule.now) taken.now (kept_of (unpacked_run run))) }
     ensures refused { IfErr result (IsResumeFault (switch_of tables.now schedule.now) taken.now) }
 {
-    let ranks = Discipline::all(alloc, &tables.setup)?;
-    let ports = ranks.len() as u16;
-    let from_inputs = rooms_from(alloc, schedule, ports)?;
-    let to_outputs = rooms_to(alloc, schedule, ports)?;
+    let count = port_count(tables);
     let total = schedule.total();
-    let mut sent = packed_holding(alloc, taken.sent.as_slice(), total + ports as u64)?;
-    let mut note = holding(alloc, taken.note.as_slice(), total + 2 * ports as u64)?;
-    let mut engine = Engine::thaw(
+    let ports = ports_for(alloc, tables, schedule)?;
+    let sent = packed_holding(alloc, taken.sent.as_slice(), total + count)?;
+    let note = holding(alloc, taken.note.as_slice(), total + 2 * count)?;
+    let engine = Engine::thaw(
         alloc,
-        ranks,
-        from_inputs.as_slice(),
-        to_outputs.as_slice(),
+        ports.ranks,
+        ports.from_inputs.as_slice(),
+        ports.to_outputs.as_slice(),
         tables.limits.as_slice(),
         tables.workers,
         &taken.frozen,
     )?;
-    let mut leaving = Room::new(alloc, ports as u64)?;
-    run_slots(
-        rt,
-        alloc,
-        &mut engine,
-        schedule,
-        gate,
-        &mut leaving,
-        &mut sent,
-        &mut note,
-    )?;
-    let seen = engine.into_seen();
-    Ok(PackedFabricRun {
-        sent,
-        note,
-        figures: seen.figures,
-        refused: seen.refused,
-    })
+    run_on(rt, alloc, engine, count, schedule, gate, sent, note)
 }
 
 // These items, with room for so many more. The error is want of memory: no memory holds more than 64 bits count.
@@ -209,12 +179,7 @@ fn skip_before<R: Rank>(
         return slot;
     }
     let next = quiet_before(schedule, slot, last);
-    if next == slot {
-        return slot;
-    }
-    engine.rest(next);
-    schedule.arrive(next, coming);
-    next
+    rest_to(engine, schedule, slot, next, coming)
 }
 
 // Runs a fabric over the slots from the next one up to the last, which it does not run.
