@@ -9,13 +9,15 @@ ghost use Rattle.cq_route.specs.Tables.{AreTables, classes_of, ports_of};
 /// Each cell that arrives comes to a port, goes to a port and is of a class of the tables, and the
 /// cells of an input arrive one after another: at most one in a slot.
 pub fn one_cell_arrives_a_slot()
-    ensures { (t : Tables) (captures : List (List Captured)) → AreTables t → length captures ≡ ports_of t.setup → IsTraffic (ports_of t.setup) (classes_of t.setup) (arrivals t captures) }
+    ensures { (t : Tables) (captures : List (List Captured)) → AreTables t → length captures ≡ ports_of t.setup →
+        IsTraffic (ports_of t.setup) (classes_of t.setup) (arrivals t captures) }
 {}
 
 /// The arrivals of captures that were read end early: 64 bits count the slots of a run, with one slot
 /// for each cell after the last has come.
 pub fn arrivals_end_early()
-    ensures { (t : Tables) (captures : List (List Captured)) → AreTables t → length captures ≡ ports_of t.setup → ((i : ℕ) → i < length captures → IsRecorded (packets_of captures i)) → IsShort (arrivals t captures) }
+    ensures { (t : Tables) (captures : List (List Captured)) → AreTables t → length captures ≡ ports_of t.setup →
+        ((i : ℕ) → i < length captures → IsRecorded (packets_of captures i)) → IsShort (arrivals t captures) }
 {}
 
 /// The cells that arrive at an input are those of its packets, packet after packet in the order of its capture,

@@ -50,7 +50,8 @@ impl Model for Line {
     ghost view = { λ l. line_arrivals l.input l.cell_bytes l.rows.items };
 
     ghost invariant = { λ l.
-        AreRows l.cell_bytes l.rows.items × (l.cells ≡ length (line_arrivals l.input l.cell_bytes l.rows.items)) × (l.cells ≤ 2 ^ 28) × (l.end ≡ end_of (line_arrivals l.input l.cell_bytes l.rows.items)) };
+        AreRows l.cell_bytes l.rows.items × (l.cells ≡ length (line_arrivals l.input l.cell_bytes l.rows.items)) ×
+        (l.cells ≤ 2 ^ 28) × (l.end ≡ end_of (line_arrivals l.input l.cell_bytes l.rows.items)) };
 }
 
 impl Line {
@@ -126,7 +127,8 @@ impl Line {
         ensures few { IfOk result (λ line. length line ≤ 2 ^ 28) }
         ensures recorded { IfOk result (λ _. IsRecorded (packets_of captures.now input)) }
         ensures outputs { length to_output.new ≡ length to_output.old }
-        ensures counts { IfOk result (λ _. AreAdded (arrivals_at tables.now captures.now input) to_output.old to_output.new) }
+        ensures counts { IfOk result (λ _.
+            AreAdded (arrivals_at tables.now captures.now input) to_output.old to_output.new) }
     {
         let capture = &captures[input as usize];
         let packets = capture.rows();
@@ -175,7 +177,8 @@ fn begun_near(rows: &[Row], slot: Slot, near: usize) -> usize
     begun(rows, slot)
 }
 
-// Whether so many packets have begun in the slot: there are so many, the last of them has, and the one after it has not.
+// Whether so many packets have begun in the slot: there are so many, the last of them has, and the one after it has
+// not.
 fn is_begun(rows: &[Row], slot: Slot, number: usize) -> bool
     requires { IsNonDecreasingBy (λ row. row.start) rows.now }
     ensures { IsTrue result → (number ≤ length rows.now) × IsBegun rows.now slot number }

@@ -1,8 +1,8 @@
 // Where the cells of a slot are looked for first.
 use cq_base::{Cell, CellId};
 
-/// How many packets of each input had begun when a cell of it was found last. It says where to look first and nothing of
-/// what is found there, so any value will do.
+/// How many packets of each input had begun when a cell of it was found last. It says where to look first and nothing
+/// of what is found there, so any value will do.
 #[derive(Clone, Copy)]
 pub(crate) struct Nearby {
     packets: [u32; 64],

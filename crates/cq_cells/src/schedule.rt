@@ -39,7 +39,8 @@ impl Model for Schedule {
 
     ghost Value = { Scheduled };
 
-    ghost view = { λ s. record { first_stamp = s.first_stamp; ports = length s.lines.items; came = all_of s.lines.items } };
+    ghost view = { λ s.
+        record { first_stamp = s.first_stamp; ports = length s.lines.items; came = all_of s.lines.items } };
 
     ghost invariant = { λ s. AreCounted s.lines.items s.total s.end s.to_output.items };
 }
@@ -58,9 +59,11 @@ impl Schedule {
         requires tables { AreTables tables.now }
         requires captures { length captures.now ≡ ports_of tables.now.setup }
         ensures schedule { IfOk result (λ s. s ≡ schedule_of tables.now captures.now) }
-        ensures traffic { IfOk result (λ s. IsTraffic (ports_of tables.now.setup) (classes_of tables.now.setup) s.came) }
+        ensures traffic { IfOk result (λ s.
+            IsTraffic (ports_of tables.now.setup) (classes_of tables.now.setup) s.came) }
         ensures short { IfOk result (λ s. IsShort s.came) }
-        ensures recorded { IfOk result (λ _. (i : ℕ) → i < length captures.now → IsRecorded (packets_of captures.now i)) }
+        ensures recorded { IfOk result (λ _.
+            (i : ℕ) → i < length captures.now → IsRecorded (packets_of captures.now i)) }
     {
         let first_stamp = first_stamp(captures);
         let directory = Directory::of(alloc, tables)?;
@@ -198,7 +201,8 @@ fn lines_of<R: Threads + Sync>(
     requires captures { length captures.now ≡ ports_of tables.now.setup }
     requires first_stamp { first_stamp ≡ first_stamp_of captures.now }
     requires outputs { to_output.old ≡ replicate (ports_of tables.now.setup) 0 }
-    ensures lines { IfOk result (λ lines. lines.items ≡ map (arrivals_at tables.now captures.now) (range_with_len 0 (length captures.now))) }
+    ensures lines { IfOk result (λ lines.
+        lines.items ≡ map (arrivals_at tables.now captures.now) (range_with_len 0 (length captures.now))) }
     ensures recorded { IfOk result (λ _. (i : ℕ) → i < length captures.now → IsRecorded (packets_of captures.now i)) }
     ensures outputs { length to_output.new ≡ length to_output.old }
     ensures counts { IfOk result (λ lines. AreAdded (all_of lines.items) to_output.old to_output.new) }

@@ -17,7 +17,7 @@ use Rattle.cq_pcap.specs.declared.write.OutPacket.{OutPacket}
 use Rattle.cq_route.specs.Tables.{AreTables, ports_of}
 use Rattle.cq_route.specs.declared.tables.Tables.{Tables}
 use Rattle.cq_simulate.specs.Packets.{ArePacked, LeaveWhole, packets_out}
-use Rattle.cq_simulate.specs.Pieces.{CanTake, IsEmptied, Took, left_with, records_of}
+use Rattle.cq_simulate.specs.Pieces.{CanBeJoined, IsEmptied, Took, left_with, records_of}
 use Rattle.cq_simulate.specs.declared.packing.Packing.{Packing}
 use Rattle.cq_simulate.proofs.Departed.{departed_captured, departed_class, departed_output}
 use Rattle.cq_simulate.proofs.Packed.{all_pushed, none_large}
@@ -68,8 +68,8 @@ none_yet t captures sent left places all outputs emptied = record {
       };
 }
 
-module _ (t : Tables) (captures : List (List Captured)) (sent left rest : List Departure) (places : List Packing)
-    (d : Departure) (so_far : AllSoFar t captures sent left places) (first : left ≡ d ∷ rest) where
+module _ {t : Tables} {captures : List (List Captured)} {sent left rest : List Departure} {places : List Packing}
+    {d : Departure} (so_far : AllSoFar t captures sent left places) (first : left ≡ d ∷ rest) where
   is_first : drop so_far.done sent ≡ d ∷ rest
   is_first = sym so_far.others ∙ first
 
@@ -107,14 +107,14 @@ module _ (t : Tables) (captures : List (List Captured)) (sent left rest : List D
           (so_far.each d.output place at_port)
 
       -- its cell is the next
-      pub can_take : CanTake captures place.joiner d
+      pub can_take : CanBeJoined captures place.joiner d
       can_take =
           let x : Departure = get_or sent so_far.done d in
           let came = departed_captured t captures sent are many whole so_far.done d inside in
           let class = departed_class t captures sent are many whole so_far.done d inside in
           let below : ℕ → Type 0 = λ n. x.queued.cell.id.input < n in
           let below_classes : ℕ → Type 0 = λ n. x.queued.cell.class < n in
-          subst (λ (y : Departure). CanTake captures place.joiner y) here (record {
+          subst (λ (y : Departure). CanBeJoined captures place.joiner y) here (record {
             input = subst below (sym own.so_far.inputs) came.input;
             class = subst below_classes (sym own.so_far.classes) class;
             captured = came;

@@ -188,14 +188,14 @@ in_range f is i j c first =
     omega arith
 
 module _ (f : Fabric) (m : Partners) (is : IsMatching (orders_of f.inputs) m) where
-  proposals_few : IsFabric f → proposals (orders_of f.inputs) m ≤ length f.inputs * length f.inputs
+  pub proposals_few : IsFabric f → proposals (orders_of f.inputs) m ≤ length f.inputs * length f.inputs
   proposals_few fabric =
       let o = orders_of f.inputs in
       let n : ports o ≡ length f.inputs = length-map f.inputs output_order in
       subst (λ (k : ℕ). proposals o m ≤ k * k) n (proposals_within o m is (ports o)
       (outputs_at_most o (are_offers f.inputs (in_range f fabric))))
 
-  proposals_none : ((i : ℕ) → length (input f i) ≡ 0) → proposals (orders_of f.inputs) m ≡ 0
+  pub proposals_none : ((i : ℕ) → length (input f i) ≡ 0) → proposals (orders_of f.inputs) m ≡ 0
   proposals_none none =
       let o = orders_of f.inputs in
       let within : proposals o m ≤ ports o * 0 = proposals_within o m is 0

@@ -42,7 +42,7 @@ use Rattle.cq_scfq.specs.Disciplines.{machines_of, openings_of}
 use Rattle.cq_simulate.proofs.Departed.{last_departs_without_limits, slots_are}
 use Rattle.cq_simulate.proofs.OnceASlot.{once_a_slot}
 use Rattle.cq_simulate.proofs.StableRuns.{stable_sends, stable_slots, whole_ran}
-use Rattle.cq_simulate.specs.Emulation.{Emulates}
+use Rattle.cq_simulate.specs.Emulation.{EmulatesIdeal}
 use Rattle.cq_simulate.specs.FabricRuns.{AlwaysHasSlack, AreInputBest, IsBestFor, IsFabricRun, IsKeptOf, SendsSlotBySlot, departures_in_run}
 use Rattle.cq_simulate.specs.IdealRuns.{ideal_departures, ran_ideal, slots_ran}
 use Rattle.cq_simulate.specs.declared.fabric_run.FabricRun as kept
@@ -225,7 +225,7 @@ module _ (t : Tables) (came : List Arrival) where
         let told = slots_sent rs is in
         omega arith
 
-    pub emulates : Emulates t came rs is
+    pub emulates : EmulatesIdeal t came rs is
     emulates = record {
       slot_by_slot = slot_by_slot;
       departures = sends_as_ideal;

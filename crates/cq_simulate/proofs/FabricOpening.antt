@@ -29,7 +29,7 @@ use Rattle.cq_scfq.specs.Discipline.{fixed_of, machine_from, state_of}
 use Rattle.cq_scfq.specs.Disciplines.{machines_of, openings_of}
 use Rattle.cq_scfq.specs.declared.discipline.Discipline.{Discipline}
 use Rattle.cq_simulate.proofs.Onward.{first_fault, has_run, ready_on}
-use Rattle.cq_simulate.proofs.Opening.{machine_count, run_of_tables}
+use Rattle.cq_simulate.proofs.Opening.{machine_count, room_at, run_of_tables}
 use Rattle.cq_simulate.specs.FabricReady.{HasRun, IsReadyFabric}
 use Rattle.cq_simulate.specs.FabricRuns.{IsKeptOf, unpacked_run}
 use Rattle.cq_simulate.specs.FreshFabric.{ArePortsOf, IsFreshFor, by_port}
@@ -198,10 +198,8 @@ module _ {t : Tables} {came : List Arrival} {first : EngineView} {sent : RoomVie
         few = made.few;
         fabric = ap (λ (e : EngineView). e.fabric) is
             ∙ (λ k. empty_fabric (sym many k) (sym (ap (λ (e : EngineView). e.fabric.ranks) is) k));
-        from_inputs = λ i inside. ap (λ (e : EngineView). slice_index e.from_inputs i) is
-            ∙ get_or-map-range_with_len from 0 n i i 0 (omega arith) (omega arith);
-        to_outputs = λ j inside. ap (λ (e : EngineView). slice_index e.to_outputs j) is
-            ∙ get_or-map-range_with_len to 0 n j j 0 (omega arith) (omega arith);
+        from_inputs = λ i inside. room_at from n i (ap (λ (e : EngineView). e.from_inputs) is) (omega arith);
+        to_outputs = λ j inside. room_at to n j (ap (λ (e : EngineView). e.to_outputs) is) (omega arith);
         figures = ap (λ (e : EngineView). e.figures) is ∙ ap no_figures (sym many);
         marks = ap (λ (e : EngineView). e.marks) is ∙ ap marks_down (sym many);
         refused = ap (λ (e : EngineView). e.refused) is

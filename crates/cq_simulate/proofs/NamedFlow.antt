@@ -165,6 +165,33 @@ both_cells : (xs : List Departure) (ys : List Queued) →
 both_cells [] ys = waiting_cells ys
 both_cells (d ∷ xs) ys = ap (λ (l : List Cell). d.queued.cell ∷ l) (both_cells xs ys)
 
+-- a cell that waits for an output is named, and its name tells it
+module _ (w : Switch) (s : State) (in_range : IsInRange s) (shape : HasShape w s) (sound : IsSound w s)
+    (traffic : IsTraffic (length w.machines) w.classes w.came)
+    (agrees : Agrees s.head.next (fabric_told w.came s) (ideal_of (fabric_told w.came s))) (j : ℕ) where
+  abbrev told : Fabric
+  told = fabric_told w.came s
+
+  abbrev for_output : List Queued
+  for_output = list_of (ideal_of told).lists j
+
+  pub record WaitsThere (q : Queued) : Type 0 where
+    pub name : Named
+    pub has : Has (queued_in s) name
+    pub is : queued_of w.came name ≡ Some q
+    pub output : q.cell.output ≡ j
+
+  pub waits_there : (q : Queued) → Has for_output q → WaitsThere q
+  waits_there q has =
+      ⊎_elim
+      (λ (at : (k : ℕ) × IsAmong q (input told k) × (q.cell.output ≡ j)).
+      let it = in_list w s in_range shape sound traffic at.0 q (has_of_among (input told at.0) q at.1) in
+      record { name = it.name; has = has_left s.listed s.buffered it.name it.has; is = it.is; output = at.2 })
+      (λ (at : IsAmong q (buffer told j)).
+      let it = in_buffer w s in_range shape sound traffic j q (has_of_among (buffer told j) q at) in
+      record { name = it.name; has = has_right s.listed s.buffered it.name it.has; is = it.is; output = it.here })
+      ((agrees.same j q).0 (among_of_has for_output q has))
+
 module _ (w : Switch) (s : State) (in_range : IsInRange s) (shape : HasShape w s) (sound : IsSound w s)
     (traffic : IsTraffic (length w.machines) w.classes w.came) (i c j : ℕ)
     (agrees : Agrees s.head.next (fabric_told w.came s) (ideal_of (fabric_told w.came s))) where
@@ -233,22 +260,8 @@ module _ (w : Switch) (s : State) (in_range : IsInRange s) (shape : HasShape w s
   waits : (q : Queued) → Has waiting q → Waits q
   waits q has =
       let kept = kept_has (is_kind i c) there q has in
-      ⊎_elim
-      (λ (at : (k : ℕ) × IsAmong q (input f k) × (q.cell.output ≡ j)).
-      let it = in_list w s in_range shape sound traffic at.0 q (has_of_among (input f at.0) q at.1) in
-      record {
-        name = it.name;
-        has = has_left s.listed s.buffered it.name it.has;
-        of = record { is = it.is; output = at.2; kind = kept.1 };
-      })
-      (λ (at : IsAmong q (buffer f j)).
-      let it = in_buffer w s in_range shape sound traffic j q (has_of_among (buffer f j) q at) in
-      record {
-        name = it.name;
-        has = has_right s.listed s.buffered it.name it.has;
-        of = record { is = it.is; output = it.here; kind = kept.1 };
-      })
-      ((agrees.same j q).0 (among_of_has there q kept.0))
+      let it = waits_there w s in_range shape sound traffic agrees j q kept.0 in
+      record { name = it.name; has = it.has; of = record { is = it.is; output = it.output; kind = kept.1 } }
 
   -- what its name is
   record NameInFlow (n : Named) : Type 0 where

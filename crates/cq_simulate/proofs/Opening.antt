@@ -1,6 +1,6 @@
 -- How a run of tables begins: the machines are those of the setup's disciplines, each in its opening state, all
 -- marks are down, and there is room for all cells that arrive.
-use Rattle.std.proofs.Common.{◌≡◌, ℕ, ◌+◌, ◌≤◌, Bool, List, [], length, map, Option, sym, ap, ◌∙◌, subst, arith}
+use Rattle.std.proofs.Common.{◌≡◌, ℕ, ◌+◌, ◌<◌, ◌≤◌, Bool, List, [], length, map, Option, sym, ap, ◌∙◌, subst, arith}
 use Rattle.std.specs.Prelude.{slice_index}
 use Rattle.std.specs.List.{range_with_len}
 use Rattle.std.proofs.lemmas.List.{length-map}
@@ -33,6 +33,12 @@ pub machine_count : (M : List ℕ → Machine) (fixed : List (List ℕ)) (setup 
 machine_count M fixed setup are =
     sym (length-map fixed M) ∙ ap (λ (l : List Machine). length l) are
     ∙ length-map setup.kinds (λ kind. machine_of kind setup.classes)
+
+-- the room for a port
+pub room_at : (f : ℕ → ℕ) (n i : ℕ) {rooms : List ℕ} → rooms ≡ map f (range_with_len 0 n) → i < n →
+    slice_index rooms i ≡ f i
+room_at f n i are inside =
+    ap (λ (l : List ℕ). slice_index l i) are ∙ get_or-map-range_with_len f 0 n i i 0 inside (omega arith)
 
 pub few_cells : (came : List Arrival) → length came ≤ enough came
 unfolding enough
@@ -107,8 +113,7 @@ module _ (M : List ℕ → Machine) (t : Tables) (ports : ℕ) (fixed states : L
         state = made.state ∙ ap (λ (s : IdealState). empty_ideal ports s.ranks) (sym made.state)
             ∙ ap (λ (n : ℕ). empty_ideal n first.state.ranks) as_many;
         lists = omega arith;
-        rooms = λ j inside. ap (λ (l : List ℕ). slice_index l j) room
-            ∙ get_or-map-range_with_len f 0 ports j j 0 (omega arith) (omega arith);
+        rooms = λ j inside. room_at f ports j room (omega arith);
         marks = made.marks ∙ ap marks_down as_many;
         refused = ap (λ (v : IdealSwitch). v.refused) is
             ∙ ap (λ (v : IdealSwitch). refused_counts v.limits []) (sym is);

@@ -38,19 +38,19 @@ machine_classes Priority rows = refl
 machine_classes Fair rows = refl
 
 module _ (setup : Setup) (j : ℕ) (inside : j < length setup.kinds) where
-  abbrev kind : Kind
+  abbrev pub kind : Kind
   kind = get_or setup.kinds j FirstCome
 
-  machine_is : machine_at (machines_of setup) j ≡ machine_of kind setup.classes
+  pub machine_is : machine_at (machines_of setup) j ≡ machine_of kind setup.classes
   machine_is = get_or-map (λ (k : Kind). machine_of k setup.classes) setup.kinds j FirstCome (first_come []) inside
 
   opening_is : slice_index_or (openings_of setup) j [] ≡ opening_of kind setup.classes
   opening_is = get_or-map (λ (k : Kind). opening_of k setup.classes) setup.kinds j FirstCome [] inside
 
-  keeps_laws : KeepsLaws (machine_at (machines_of setup) j)
+  pub keeps_laws : KeepsLaws (machine_at (machines_of setup) j)
   keeps_laws = subst KeepsLaws (sym machine_is) (machine_laws kind setup.classes)
 
-  right_size : length (slice_index_or (openings_of setup) j []) ≡ (machine_at (machines_of setup) j).size
+  pub right_size : length (slice_index_or (openings_of setup) j []) ≡ (machine_at (machines_of setup) j).size
   right_size =
       ap (λ (l : List ℕ). length l) opening_is ∙ opening_size kind setup.classes
       ∙ ap (λ (m : Machine). m.size) (sym machine_is)

@@ -20,7 +20,7 @@ use Rattle.cq_resume.specs.Switch.{HasShape, Switch}
 use Rattle.cq_resume.specs.Told.{class_in, class_of, fabric_told, output_of, queued_in, queued_of}
 use Rattle.cq_resume.proofs.GoesOn.{comes, has_of_among, in_buffer, in_list, is_cell_of, its_output, its_slot, of_traffic, ports_are, queued_named}
 use Rattle.cq_resume.proofs.Having.{Has, all_from_has, all_of_has, has_left, has_right}
-use Rattle.cq_simulate.proofs.NamedFlow.{among_of_has}
+use Rattle.cq_simulate.proofs.NamedFlow.{waits_there}
 use Rattle.cq_state.specs.State.{IsInRange}
 use Rattle.cq_state.specs.declared.state.Named.{Named}
 use Rattle.cq_state.specs.declared.state.State.{State}
@@ -45,36 +45,9 @@ module _ (w : Switch) (s : State) (in_range : IsInRange s) (shape : HasShape w s
   abbrev pub there : List Queued
   there = list_of (ideal_of f).lists j
 
-  record WaitsThere (q : Queued) : Type 0 where
-    pub name : Named
-    pub has : Has (queued_in s) name
-    pub is : queued_of w.came name ≡ Some q
-    pub output : q.cell.output ≡ j
-
-  waits_there : (q : Queued) → Has there q → WaitsThere q
-  waits_there q has =
-      ⊎_elim
-      (λ (at : (k : ℕ) × IsAmong q (input f k) × (q.cell.output ≡ j)).
-      let it = in_list w s in_range shape sound traffic at.0 q (has_of_among (input f at.0) q at.1) in
-      record {
-        name = it.name;
-        has = has_left s.listed s.buffered it.name it.has;
-        is = it.is;
-        output = at.2;
-      })
-      (λ (at : IsAmong q (buffer f j)).
-      let it = in_buffer w s in_range shape sound traffic j q (has_of_among (buffer f j) q at) in
-      record {
-        name = it.name;
-        has = has_right s.listed s.buffered it.name it.has;
-        is = it.is;
-        output = it.here;
-      })
-      ((agrees.same j q).0 (among_of_has there q has))
-
   has_waited : (q : Queued) → Has there q → HasWaited m (slice_index_or s.ranks j []) s.head.next 0 q
   has_waited q has =
-      let it = waits_there q has in
+      let it = waits_there w s in_range shape sound traffic agrees j q has in
       let n = it.name in
       let own = is_cell_of w.came n q it.is in
       let floor = all_of_has (IsBelowFloor w s) (queued_in s) n

@@ -34,6 +34,7 @@ use Rattle.cq_scfq.specs.Discipline.{fixed_of, machine_from}
 use Rattle.cq_scfq.specs.Disciplines.{machine_of, machines_of}
 use Rattle.cq_simulate.proofs.FabricCounts.{at_inputs}
 use Rattle.cq_simulate.proofs.FabricRunning.{all_at_inputs}
+use Rattle.cq_simulate.proofs.Opening.{room_at}
 use Rattle.cq_simulate.specs.FreshFabric.{ArePortsOf, by_port}
 use Rattle.cq_simulate.specs.GoingOn.{IsReadyOn, to_come}
 use Rattle.cq_simulate.specs.PartedRuns.{CanBeTakenUp}
@@ -216,15 +217,12 @@ module _ (w : Switch) where
         list_rooms = λ i inside.
             let had = goes.lists i in
             let parts = both_parts (is_from i) x.next w.came in
-            let room : slice_index from_inputs i ≡ number_of (is_from i) w.came =
-            ap (λ (l : List ℕ). slice_index l i) from ∙ get_or-map-range_with_len comes 0 n i i 0 inside
-            (omega arith) in
+            let room : slice_index from_inputs i ≡ number_of (is_from i) w.came = room_at comes n i from inside in
             omega arith;
         buffer_rooms = λ j inside.
             let had = goes.buffers j in
             let parts = both_parts (is_to j) x.next w.came in
-            let room : slice_index to_outputs j ≡ number_of (is_to j) w.came =
-            ap (λ (l : List ℕ). slice_index l j) to ∙ get_or-map-range_with_len leaves 0 n j j 0 inside (omega arith) in
+            let room : slice_index to_outputs j ≡ number_of (is_to j) w.came = room_at leaves n j to inside in
             omega arith;
       })
 
@@ -267,16 +265,14 @@ module _ (w : Switch) where
             let parts : number_of (is_from i) earlier + number_of (is_from i) (to_come engine.next w.came) ≡ number_of
             (is_from i) w.came = both_parts (is_from i) engine.next w.came in
             let room : slice_index engine.from_inputs i ≡ number_of (is_from i) w.came =
-            ap (λ (l : List ℕ). slice_index l i) from
-            ∙ get_or-map-range_with_len comes 0 n i i 0 (omega arith) (omega arith) in
+            room_at comes n i from (omega arith) in
             omega arith;
         buffers = λ j inside.
             let had : held_for j engine.fabric ≤ number_of (is_to j) earlier = goes.buffers j in
             let parts : number_of (is_to j) earlier + number_of (is_to j) (to_come engine.next w.came) ≡ number_of
             (is_to j) w.came = both_parts (is_to j) engine.next w.came in
             let room : slice_index engine.to_outputs j ≡ number_of (is_to j) w.came =
-            ap (λ (l : List ℕ). slice_index l j) to
-            ∙ get_or-map-range_with_len leaves 0 n j j 0 (omega arith) (omega arith) in
+            room_at leaves n j to (omega arith) in
             omega arith;
         sent_room = omega arith;
         note_room = omega arith;

@@ -10,7 +10,7 @@ use Rattle.cq_simulate.specs.FabricRuns.{AlwaysHasSlack, AreInputBest, IsFabricR
 use Rattle.cq_simulate.specs.IdealRuns.{ideal_departures, slots_ran}
 
 -- the run of the fabric emulates the ideal switch of the same tables over the same cells
-pub record Emulates (t : Tables) (came : List Arrival) (rs : List LimitedRecord) (is : IsFabricRun t came rs) : Type 0
+pub record EmulatesIdeal (t : Tables) (came : List Arrival) (rs : List LimitedRecord) (is : IsFabricRun t came rs) : Type 0
   where
     -- in each slot it admits, refuses and sends the same
     pub slot_by_slot : SendsSlotBySlot t came rs

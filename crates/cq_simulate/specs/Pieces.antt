@@ -53,7 +53,7 @@ pub record IsEmptied (inputs classes : ℕ) (p : Packing) : Type 0 where
   pub bytes : p.bytes.items ≡ written []
 
 -- the cell that departs is the next of its input and class
-pub record CanTake (captures : List (List Captured)) (joiner : JoinerView) (d : Departure) : Type 0 where
+pub record CanBeJoined (captures : List (List Captured)) (joiner : JoinerView) (d : Departure) : Type 0 where
   pub input : d.queued.cell.id.input < joiner.inputs
   pub class : d.queued.cell.class < joiner.classes
   pub captured : IsCaptured captures d.queued.cell

@@ -49,8 +49,8 @@ pub struct PackedFabricRun {
 }
 
 /// Runs the fabric of the tables' ranks and limits over a schedule of the same ports and classes, from slot 0 until no
-/// cell arrives any more and none waits. As many workers as the tables say propose at once, and `gate` is told of their steps.
-/// Neither changes anything of what is done. It takes time for the slots in which a cell waits or comes, and
+/// cell arrives any more and none waits. As many workers as the tables say propose at once, and `gate` is told of their
+/// steps. Neither changes anything of what is done. It takes time for the slots in which a cell waits or comes, and
 /// none for those between them.
 ///
 /// - `Tag`: a rank does not fit 128 bits; the first such fault of the ideal switch.
@@ -217,7 +217,8 @@ fn run_slots<T: Threads + Sync, R: Rank, G: Gate>(
     requires ready { IsReadyOn (map R.machine engine.old.fixed) schedule.now.came engine.old sent.old note.old }
     requires none { leaving.old.items ≡ [] }
     requires few { leaving.old.spare ≡ length engine.old.fixed }
-    ensures run { OnOk result (HasRunOn (map R.machine engine.old.fixed) schedule.now.came engine.old engine.new sent.old sent.new note.old note.new) }
+    ensures run { OnOk result (HasRunOn (map R.machine engine.old.fixed) schedule.now.came engine.old engine.new
+        sent.old sent.new note.old note.new) }
     ensures fault { IfErr result (StopsOn (map R.machine engine.old.fixed) schedule.now.came engine.old) }
 {
     let mut coming = Coming::none();

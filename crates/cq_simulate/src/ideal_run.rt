@@ -33,8 +33,8 @@ pub struct IdealRun {
 }
 
 /// Runs the ideal switch of the tables' ranks and limits over a schedule of the same ports and classes, from slot 0
-/// until no cell arrives any more and none waits. It takes time for the slots in which a cell waits or comes, and none for those
-/// between them.
+/// until no cell arrives any more and none waits. It takes time for the slots in which a cell waits or comes, and none
+/// for those between them.
 ///
 /// - `Tag`: a rank does not fit 128 bits; the first such fault of the ideal switch.
 /// - `NoMemory`: there was not the memory for the lists and the departures.
@@ -50,8 +50,10 @@ pub fn run_ideal(
     ensures sent { IfOk result (λ run. ideal_departures tables.now schedule.now.came ≡ Ok run.sent.items) }
     ensures slots { IfOk result (λ run. run.slots ≡ slots_of run.sent.items) }
     // after so many slots the run ends, or with the last arrival, where that is later: what arrives last may be refused
-    ensures ends { IfOk result (λ run. slots_ran tables.now schedule.now.came ≡ max (end_of schedule.now.came) run.slots) }
-    ensures ends_with_a_departure { NoLimits tables.now.limits → IfOk result (λ run. slots_ran tables.now schedule.now.came ≡ run.slots) }
+    ensures ends { IfOk result (λ run.
+        slots_ran tables.now schedule.now.came ≡ max (end_of schedule.now.came) run.slots) }
+    ensures ends_with_a_departure { NoLimits tables.now.limits →
+        IfOk result (λ run. slots_ran tables.now schedule.now.came ≡ run.slots) }
     ensures refused { IfErr result (IsRefusalOf (ideal_departures tables.now schedule.now.came)) }
 {
     let packed = run_ideal_packed(alloc, tables, schedule)?;
@@ -113,8 +115,8 @@ fn skip<R: Rank>(ideal: &mut Ideal<R>, schedule: &Schedule, slot: Slot, coming: 
     next
 }
 
-// Runs a switch over all cells that arrive. What is sent in a slot stands in a list for as many as there are ports, until it
-// is packed. The error is the switch's first tag fault.
+// Runs a switch over all cells that arrive. What is sent in a slot stands in a list for as many as there are ports,
+// until it is packed. The error is the switch's first tag fault.
 fn run_slots<R: Rank>(
     ideal: &mut Ideal<R>,
     schedule: &Schedule,

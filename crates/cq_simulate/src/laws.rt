@@ -1,5 +1,5 @@
-//! What holds of what arrives, and of the run of a fabric, whatever it is made of. Each law is the contract of a function
-//! that does nothing.
+//! What holds of what arrives, and of the run of a fabric, whatever it is made of. Each law is the contract of a
+//! function that does nothing.
 ghost use Rattle.std.specs.Prelude.{◌≡◌, ◌<◌, ℕ, List, length};
 ghost use Rattle.cq_base.specs.Arriving.{Arrival, traffic_of};
 ghost use Rattle.cq_cells.specs.Schedule.{arrivals};
@@ -12,7 +12,7 @@ ghost use Rattle.cq_pcap.specs.Captured.{Captured};
 ghost use Rattle.cq_route.specs.Tables.{AreTables, IsSetup, classes_of, ports_of};
 ghost use Rattle.cq_route.specs.declared.tables.Tables.{Tables};
 ghost use Rattle.cq_simulate.specs.EachPacket.{EachPacketOnce};
-ghost use Rattle.cq_simulate.specs.Emulation.{Emulates};
+ghost use Rattle.cq_simulate.specs.Emulation.{EmulatesIdeal};
 ghost use Rattle.cq_simulate.specs.FabricRuns.{IsFabricRun, departures_in_run, refused_in_run};
 
 /// The fabric of the tables' ranks and limits admits, refuses and sends what the ideal switch of the same ranks and
@@ -22,7 +22,8 @@ ghost use Rattle.cq_simulate.specs.FabricRuns.{IsFabricRun, departures_in_run, r
 /// that is later. And the records of its slots are the only ones.
 pub fn fabric_sends_as_the_ideal_switch()
     ensures emulates { (t : Tables) (came : List Arrival) (rs : List LimitedRecord) →
-        IsTraffic (ports_of t.setup) (classes_of t.setup) came → (is : IsFabricRun t came rs) → Emulates t came rs is }
+        IsTraffic (ports_of t.setup) (classes_of t.setup) came → (is : IsFabricRun t came rs) →
+        EmulatesIdeal t came rs is }
     // where no output has a limit a cell departs in the last slot
     ensures slots_without_limits { (t : Tables) (came : List Arrival) (rs : List LimitedRecord) →
         NoLimits t.limits → IsSetup t.setup → IsTraffic (ports_of t.setup) (classes_of t.setup) came →

@@ -62,13 +62,18 @@ pub(crate) fn take(
     requires input { departure.now.queued.cell.id.input < joiner.old.inputs }
     requires class { departure.now.queued.cell.class < joiner.old.classes }
     requires captured { IsCaptured captures.now departure.now.queued.cell }
-    requires fits { Fits captures.now (open_at joiner.old departure.now.queued.cell.id.input departure.now.queued.cell.class) departure.now.queued.cell }
+    requires fits { Fits captures.now
+        (open_at joiner.old departure.now.queued.cell.id.input departure.now.queued.cell.class)
+        departure.now.queued.cell }
     ensures packet { IfOk result (λ left. left ≡ left_with tables.now captures.now departure.now) }
     ensures body { IfOk result (λ left. IfSome left (λ p. length p.body ≤ 262144)) }
     ensures inputs { joiner.new.inputs ≡ joiner.old.inputs }
     ensures classes { joiner.new.classes ≡ joiner.old.classes }
-    ensures pair { OnOk result (open_at joiner.new departure.now.queued.cell.id.input departure.now.queued.cell.class ≡ open_after (open_at joiner.old departure.now.queued.cell.id.input departure.now.queued.cell.class) departure.now.queued.cell (piece_at captures.now departure.now.queued.cell)) }
-    ensures others { (input class : ℕ) → class < joiner.old.classes → IsOtherPair input class departure.now.queued.cell → open_at joiner.new input class ≡ open_at joiner.old input class }
+    ensures pair { OnOk result (open_at joiner.new departure.now.queued.cell.id.input departure.now.queued.cell.class ≡
+        open_after (open_at joiner.old departure.now.queued.cell.id.input departure.now.queued.cell.class)
+        departure.now.queued.cell (piece_at captures.now departure.now.queued.cell)) }
+    ensures others { (input class : ℕ) → class < joiner.old.classes → IsOtherPair input class departure.now.queued.cell →
+        open_at joiner.new input class ≡ open_at joiner.old input class }
 {
     let cell = &departure.queued.cell;
     let whole = frame_of(captures, cell).len();

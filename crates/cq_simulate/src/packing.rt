@@ -4,7 +4,7 @@ ghost use Rattle.cq_cells.specs.Schedule.{arrivals, first_stamp};
 ghost use Rattle.cq_pcap.specs.Written.{record_of};
 ghost use Rattle.cq_route.specs.Tables.{AreTables, ports_of};
 ghost use Rattle.cq_simulate.specs.Packets.{ArePacked, LeaveWhole, leaving};
-ghost use Rattle.cq_simulate.specs.Pieces.{CanTake, IsCaptured, IsEmptied, Took};
+ghost use Rattle.cq_simulate.specs.Pieces.{CanBeJoined, IsCaptured, IsEmptied, Took};
 
 use crate::packets::{frame_of, original_of, stamp_of, take};
 use cq_base::{Cell, Departure, Departures, NoMemory, PackedDeparture};
@@ -22,8 +22,8 @@ pub struct Packing {
 }
 
 /// The captures of the packets that leave each output, in order of output: at each those of
-/// [`packets_of`](crate::packets_of). The departures are used up, and give their memory back, while the captures grow. Each
-/// capture is given its room at the start. The error is want of memory.
+/// [`packets_of`](crate::packets_of). The departures are used up, and give their memory back, while the captures grow.
+/// Each capture is given its room at the start. The error is want of memory.
 pub fn packets_of_all(
     alloc: Global,
     sent: Departures,
@@ -101,7 +101,8 @@ fn put_whole(
     requires slot_ns { tables.now.slot_ns ≤ 1000000000 }
     requires t0 { t0 ≡ first_stamp captures.now }
     requires captured { IsCaptured captures.now departure.now.queued.cell }
-    ensures record { OnOk result (out.new.items ≡ out.old.items ++ record_of (leaving tables.now captures.now departure.now)) }
+    ensures record { OnOk result (out.new.items ≡
+        out.old.items ++ record_of (leaving tables.now captures.now departure.now)) }
     ensures small { length (leaving tables.now captures.now departure.now).body ≤ 262144 }
 {
     let cell = &departure.queued.cell;
@@ -133,7 +134,7 @@ impl Packing {
     ) -> Result<(), NoMemory>
         requires slot_ns { tables.now.slot_ns ≤ 1000000000 }
         requires t0 { t0 ≡ first_stamp captures.now }
-        requires can { CanTake captures.now self.old.joiner departure.now }
+        requires can { CanBeJoined captures.now self.old.joiner departure.now }
         ensures { OnOk result (Took tables.now captures.now departure.now self.old self.new) }
     {
         let cell = &departure.queued.cell;

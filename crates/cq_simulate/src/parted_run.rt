@@ -36,8 +36,9 @@ pub struct Parted {
     pub note: Room<Transfer>,
 }
 
-/// Runs the fabric over a schedule of the same ports and classes up to this slot, which it does not run, with or without
-/// arrivals. It takes time for the slots in which a cell waits or comes, and none for the others, also past the last.
+/// Runs the fabric over a schedule of the same ports and classes up to this slot, which it does not run, with or
+/// without arrivals. It takes time for the slots in which a cell waits or comes, and none for the others, also past the
+/// last.
 ///
 /// - `Tag`: a rank of these slots does not fit 128 bits.
 /// - `NoMemory`: there was not the memory for the lists, the buffers, the departures and the transfers.
@@ -54,9 +55,11 @@ pub fn part_fabric<R: Threads + Sync, G: Gate>(
     requires traffic { IsTraffic (ports_of tables.now.setup) (classes_of tables.now.setup) schedule.now.came }
     requires short { IsShort schedule.now.came }
     requires slots { slots < 2 ^ 63 }
-    ensures parted { IfOk result (λ run. IsParted (switch_of tables.now schedule.now) (openings_of tables.now.setup) slots (taken_at run)) }
+    ensures parted { IfOk result (λ run.
+        IsParted (switch_of tables.now schedule.now) (openings_of tables.now.setup) slots (taken_at run)) }
     ensures ports { IfOk result (λ run. length run.frozen.lists ≡ ports_of tables.now.setup) }
-    ensures refused { IfErr result (IsPartFault (switch_of tables.now schedule.now) (openings_of tables.now.setup) slots) }
+    ensures refused { IfErr result
+        (IsPartFault (switch_of tables.now schedule.now) (openings_of tables.now.setup) slots) }
 {
     let ports = port_count(tables);
     let total = schedule.total();
@@ -77,8 +80,8 @@ pub fn part_fabric<R: Threads + Sync, G: Gate>(
     Ok(Parted { frozen, sent, note })
 }
 
-/// Runs the fabric on from a state that was taken up, until no cell arrives any more and none waits. What was kept before
-/// stands ahead of what this run keeps. The departures are packed.
+/// Runs the fabric on from a state that was taken up, until no cell arrives any more and none waits. What was kept
+/// before stands ahead of what this run keeps. The departures are packed.
 ///
 /// - `Tag`: a rank of these slots does not fit 128 bits.
 /// - `NoMemory`: there was not the memory for the lists, the buffers, the departures and the transfers.
@@ -95,7 +98,8 @@ pub fn resume_fabric<R: Threads + Sync, G: Gate>(
     requires traffic { IsTraffic (ports_of tables.now.setup) (classes_of tables.now.setup) schedule.now.came }
     requires short { IsShort schedule.now.came }
     requires sound { CanBeTakenUp (switch_of tables.now schedule.now) taken.now }
-    ensures run { IfOk result (λ run. IsResumed (switch_of tables.now schedule.now) taken.now (kept_of (unpacked_run run))) }
+    ensures run { IfOk result (λ run.
+        IsResumed (switch_of tables.now schedule.now) taken.now (kept_of (unpacked_run run))) }
     ensures refused { IfErr result (IsResumeFault (switch_of tables.now schedule.now) taken.now) }
 {
     let count = port_count(tables);
@@ -156,8 +160,8 @@ fn quiet_before(schedule: &Schedule, slot: Slot, last: Slot) -> Slot
     schedule.next_arrival(slot).unwrap_or(last).min(last)
 }
 
-// The cells of the slot come. Where none comes and none waits, the slots up to the next arrival are skipped, but none from
-// the last one on: the fabric rests, and the cells of that slot come. The answer is the slot whose cells came.
+// The cells of the slot come. Where none comes and none waits, the slots up to the next arrival are skipped, but none
+// from the last one on: the fabric rests, and the cells of that slot come. The answer is the slot whose cells came.
 fn skip_before<R: Rank>(
     engine: &mut Engine<R>,
     schedule: &Schedule,
@@ -194,8 +198,10 @@ fn run_before<T: Threads + Sync, R: Rank, G: Gate>(
     note: &mut Room<Transfer>,
 ) -> Result<(), TagFault>
     requires ready { IsReadyPart (map R.machine engine.old.fixed) schedule.now.came last engine.old sent.old note.old }
-    ensures run { OnOk result (HasPartedTo (map R.machine engine.old.fixed) schedule.now.came last engine.old engine.new sent.old sent.new note.old note.new) }
-    ensures fault { IfErr result (StopsWithin (map R.machine engine.old.fixed) schedule.now.came engine.old (last - engine.old.next)) }
+    ensures run { OnOk result (HasPartedTo (map R.machine engine.old.fixed) schedule.now.came last engine.old
+        engine.new sent.old sent.new note.old note.new) }
+    ensures fault { IfErr result (StopsWithin (map R.machine engine.old.fixed) schedule.now.came engine.old
+        (last - engine.old.next)) }
 {
     let mut coming = Coming::none();
     let mut slot = engine.next();

@@ -46,8 +46,8 @@ pub fn ports_for(alloc: Global, tables: &Tables, schedule: &Schedule) -> Result<
     })
 }
 
-// A fabric of the tables' switch that has had no slot, with room for the cells of a schedule of as many ports. The error is
-// want of memory.
+// A fabric of the tables' switch that has had no slot, with room for the cells of a schedule of as many ports. The
+// error is want of memory.
 #[inline(always)]
 pub fn engine_for(
     alloc: Global,

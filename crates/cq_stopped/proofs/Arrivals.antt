@@ -13,7 +13,6 @@ use Rattle.cq_laws.proofs.Sound.{apart_from, not_before_itself}
 use Rattle.cq_laws.specs.Fabric.{Fabric, buffer, input}
 use Rattle.cq_laws.specs.Frozen.{fabric_in}
 use Rattle.cq_resume.proofs.Chained.{EachPair, all_pairs}
-use Rattle.cq_resume.proofs.Each.{all_weaker}
 use Rattle.cq_resume.proofs.GoesOn.{Differ}
 use Rattle.cq_resume.proofs.Having.{Has, all_from_has, all_of_has, image_has}
 use Rattle.cq_resume.proofs.Pooled.{pairs_with}
@@ -24,10 +23,10 @@ use Rattle.cq_resume.specs.Told.{arriving_cell, named_in, queued_in}
 use Rattle.cq_resume.specs.declared.taken.Taken.{Taken}
 use Rattle.cq_state.specs.declared.state.Named.{Named}
 use Rattle.cq_state.specs.declared.state.Sent.{Sent}
-use Rattle.cq_stopped.proofs.Joined.{all_of, is_at, pairs_by_number, pairs_join, pairs_of_all, pairs_of_images}
+use Rattle.cq_stopped.proofs.Joined.{all_of, is_at, pairs_join, pairs_of_all, pairs_of_images}
 use Rattle.cq_stopped.proofs.Named.{Waiting, is_of_one, is_waiting}
-use Rattle.cq_stopped.proofs.Ran.{Follows, IsSentRight, Known}
-use Rattle.cq_stopped.proofs.Standing.{differ_left, each_pair_of, has_left_it, left_pairs, same_cell, same_waiting, waits_at, waits_behind}
+use Rattle.cq_stopped.proofs.Ran.{IsSentRight, Known}
+use Rattle.cq_stopped.proofs.Standing.{differ_left, each_pair_of, each_sent, has_left_it, same_cell, same_waiting, waits_at, waits_behind}
 use Rattle.cq_stopped.proofs.Stepping.{among_of_has}
 use Rattle.cq_stopped.specs.Stopped.{told_state}
 
@@ -112,8 +111,7 @@ module _ (w : Switch) (at : Taken) (ideal : IdealState) (cs : List (List (Option
 
   sent_pairs : EachPair (λ (d e : Departure). Other d.queued e.queued) at.sent
   sent_pairs =
-      pairs_with (λ (d e : Departure). d.output ≡ e.output → Follows d.queued e.queued)
-      (λ (d e : Departure). Other d.queued e.queued) (λ (d : Departure). Has at.sent d)
+      each_sent w at.frozen.next f ideal cs at.sent known (λ (d e : Departure). Other d.queued e.queued)
       (λ d e first second follows slot place.
       let x = has_left_it w at.frozen.next f ideal cs at.sent known d first in
       let y = has_left_it w at.frozen.next f ideal cs at.sent known e second in
@@ -121,12 +119,6 @@ module _ (w : Switch) (at : Taken) (ideal : IdealState) (cs : List (List (Option
       let own = all_of_has (IsSentRight w at.frozen.next) at.sent d known.departed first in
       let other = all_of_has (IsSentRight w at.frozen.next) at.sent e known.departed second in
       (follows (own.own ∙ ap (λ (c : Cell). c.output) cell ∙ sym other.own)).differ slot place)
-      at.sent (all_from_has (λ (d : Departure). Has at.sent d) at.sent (λ d has. has))
-      (pairs_by_number (λ (d : Departure). d.output) (λ (d : Departure). d.queued) Follows
-      (λ j. j < length w.machines) at.sent
-      (all_weaker (IsSentRight w at.frozen.next) (λ (d : Departure). d.output < length w.machines)
-      (λ d right. right.inside) at.sent known.departed)
-      (left_pairs w at.frozen.next f ideal cs at.sent known))
 
   pub arrivals_are : AreArrivals w.came (told_state w at)
   unfolding state_of

@@ -31,6 +31,7 @@ use Rattle.cq_route.specs.declared.tables.Tables.{Tables}
 use Rattle.cq_scfq.specs.Disciplines.{machine_of, machines_of, opening_of, openings_of}
 use Rattle.cq_scfq.specs.Fair.{fair_rank}
 use Rattle.cq_scfq.specs.FairLaws.{fair_laws}
+use Rattle.cq_simulate.proofs.Runnable.{keeps_laws, kind, machine_is, right_classes, right_size}
 use Rattle.cq_stopped.proofs.Joined.{all_of_images}
 use Rattle.cq_stopped.specs.Stopped.{AreRecorded}
 
@@ -68,21 +69,6 @@ pub record IsConfigured (w : Switch) (ranks : List (List ℕ)) : Type 0 where
   pub sizes : (j : ℕ) → j < length w.machines → length (slice_index_or ranks j []) ≡ (machine_at w.machines j).size
 
 -- ## The machines of a setup
-
-machine_laws : (kind : Kind) (rows : List ClassRow) → KeepsLaws (machine_of kind rows)
-machine_laws FirstCome rows = first_come_laws rows
-machine_laws Priority rows = priority_laws rows
-machine_laws Fair rows = fair_laws rows
-
-opening_size : (kind : Kind) (rows : List ClassRow) → length (opening_of kind rows) ≡ (machine_of kind rows).size
-opening_size FirstCome rows = refl
-opening_size Priority rows = refl
-opening_size Fair rows = length-replicate (length rows + level_count) 0
-
-machine_classes : (kind : Kind) (rows : List ClassRow) → (machine_of kind rows).classes ≡ length rows
-machine_classes FirstCome rows = refl
-machine_classes Priority rows = refl
-machine_classes Fair rows = refl
 
 machine_level : (kind : Kind) (rows : List ClassRow) (c : ℕ) → (machine_of kind rows).level c ≡ (row_at rows c).level
 machine_level FirstCome rows c = refl
@@ -130,37 +116,19 @@ machines_low (k ∷ kinds) rows zero = machine_low k rows
 machines_low (k ∷ kinds) rows (suc j) = machines_low kinds rows j
 
 module _ (setup : Setup) (j : ℕ) (inside : j < length setup.kinds) where
-  abbrev kind : Kind
-  kind = get_or setup.kinds j FirstCome
-
-  machine_is : machine_at (machines_of setup) j ≡ machine_of kind setup.classes
-  machine_is = get_or-map (λ (k : Kind). machine_of k setup.classes) setup.kinds j FirstCome (first_come []) inside
-
-  opening_is : slice_index_or (openings_of setup) j [] ≡ opening_of kind setup.classes
-  opening_is = get_or-map (λ (k : Kind). opening_of k setup.classes) setup.kinds j FirstCome [] inside
-
-  keeps_laws : KeepsLaws (machine_at (machines_of setup) j)
-  keeps_laws = subst KeepsLaws (sym machine_is) (machine_laws kind setup.classes)
-
-  right_size : length (slice_index_or (openings_of setup) j []) ≡ (machine_at (machines_of setup) j).size
-  right_size =
-      ap (λ (l : List ℕ). length l) opening_is ∙ opening_size kind setup.classes
-      ∙ ap (λ (m : Machine). m.size) (sym machine_is)
-
-  right_classes : (machine_at (machines_of setup) j).classes ≡ length setup.classes
-  right_classes = ap (λ (m : Machine). m.classes) machine_is ∙ machine_classes kind setup.classes
-
   small_size : length setup.classes ≤ 16 → (machine_at (machines_of setup) j).size ≤ 32
   small_size few =
-      let same : (machine_at (machines_of setup) j).size ≡ (machine_of kind setup.classes).size =
-      ap (λ (m : Machine). m.size) machine_is in
-      let most = machine_size kind setup.classes in
+      let k = kind setup j inside in
+      let same : (machine_at (machines_of setup) j).size ≡ (machine_of k setup.classes).size =
+      ap (λ (m : Machine). m.size) (machine_is setup j inside) in
+      let most = machine_size k setup.classes in
       omega arith
 
   low_level : (c : ℕ) → c < length setup.classes → IsSetup setup → (machine_at (machines_of setup) j).level c ≤ 15
   low_level c known is =
       let same : (machine_at (machines_of setup) j).level c ≡ (row_at setup.classes c).level =
-      ap (λ (m : Machine). m.level c) machine_is ∙ machine_level kind setup.classes c in
+      ap (λ (m : Machine). m.level c) (machine_is setup j inside) ∙ machine_level (kind setup j inside) setup.classes c
+      in
       let none : ClassRow = record { level = 0; priority = 0; cost = 0 } in
       let low : (row_at setup.classes c).level < 16 = is.levels c none known in
       omega arith

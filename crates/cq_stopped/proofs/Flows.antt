@@ -11,7 +11,6 @@ use Rattle.cq_laws.specs.Fabric.{Fabric}
 use Rattle.cq_laws.specs.Frozen.{fabric_in}
 use Rattle.cq_prefs.specs.FirstCells.{list_of}
 use Rattle.cq_resume.proofs.Chained.{EachPair, all_pairs}
-use Rattle.cq_resume.proofs.Each.{all_weaker}
 use Rattle.cq_resume.proofs.Having.{Has, all_from_has, all_of_has, image_has, pair_of_has}
 use Rattle.cq_resume.proofs.Pooled.{pairs_with}
 use Rattle.cq_resume.specs.Reading.{named_as, sent_as, state_of}
@@ -21,10 +20,10 @@ use Rattle.cq_resume.specs.Told.{is_ahead, queued_in}
 use Rattle.cq_resume.specs.declared.taken.Taken.{Taken}
 use Rattle.cq_state.specs.declared.state.Named.{Named}
 use Rattle.cq_state.specs.declared.state.Sent.{Sent}
-use Rattle.cq_stopped.proofs.Joined.{pairs_both, pairs_by_number, pairs_of_images}
+use Rattle.cq_stopped.proofs.Joined.{pairs_both, pairs_of_images}
 use Rattle.cq_stopped.proofs.Named.{Keeps, Waiting, is_waiting, its_class, its_output}
 use Rattle.cq_stopped.proofs.Ran.{Follows, IsSentRight, Known}
-use Rattle.cq_stopped.proofs.Standing.{each_pair_of, follows_left, has_left_it, left_pairs, waiting_pairs}
+use Rattle.cq_stopped.proofs.Standing.{each_pair_of, each_sent, follows_left, has_left_it, waiting_pairs}
 use Rattle.cq_stopped.specs.Stopped.{told_state}
 
 module _ (w : Switch) (at : Taken) (ideal : IdealState) (cs : List (List (Option Queued)))
@@ -57,8 +56,7 @@ module _ (w : Switch) (at : Taken) (ideal : IdealState) (cs : List (List (Option
 
   sent_in_turn : EachPair InTurn at.sent
   sent_in_turn =
-      pairs_with (λ (d e : Departure). d.output ≡ e.output → Follows d.queued e.queued) InTurn
-      (λ (d : Departure). Has at.sent d)
+      each_sent w at.frozen.next f ideal cs at.sent known InTurn
       (λ d e first second follows flow.
       let x = has_left_it w at.frozen.next f ideal cs at.sent known d first in
       let y = has_left_it w at.frozen.next f ideal cs at.sent known e second in
@@ -66,12 +64,6 @@ module _ (w : Switch) (at : Taken) (ideal : IdealState) (cs : List (List (Option
       let own = all_of_has (IsSentRight w at.frozen.next) at.sent d known.departed first in
       let other = all_of_has (IsSentRight w at.frozen.next) at.sent e known.departed second in
       (follows (own.own ∙ both.output ∙ sym other.own)).later both.input both.class)
-      at.sent (all_from_has (λ (d : Departure). Has at.sent d) at.sent (λ d has. has))
-      (pairs_by_number (λ (d : Departure). d.output) (λ (d : Departure). d.queued) Follows
-      (λ j. j < length w.machines) at.sent
-      (all_weaker (IsSentRight w at.frozen.next) (λ (d : Departure). d.output < length w.machines)
-      (λ d right. right.inside) at.sent known.departed)
-      (left_pairs w at.frozen.next f ideal cs at.sent known))
 
   -- ## What waits
 

@@ -42,13 +42,7 @@ use Rattle.cq_stopped.specs.Stopped.{told_state}
 -- ## Figures of inputs
 
 few_kept : {X : Type 0} (p : X → Bool) (xs : List X) → length (filter p xs) ≤ length xs
-few_kept p [] = omega arith
-few_kept p (x ∷ xs) = by (p x) (few_kept p xs)
-  where
-    by : (b : Bool) → length (filter p xs) ≤ length xs → length (cond b (x ∷ filter p xs) (filter p xs)) ≤ suc
-        (length xs)
-    by true le = omega arith
-    by false le = omega arith
+few_kept p xs = omega (arith, length-filter_both p (λ (x : X). not (p x)) (λ _. refl) xs)
 
 module _ (last : ℕ) where
   abbrev IsFew : ℕ → Type 0
@@ -204,23 +198,20 @@ module _ (w : Switch) (ranks : List (List ℕ)) (at : Taken) (rs : List LimitedR
           input = own.keyed.inside;
         })
 
-    names_right : (names : List Named) → ((c : Named) → Has names c → Has (named_in (told_state w at)) c) →
+    queued_right : (names : List Named) → ((c : Named) → Has names c → Has (queued_in (told_state w at)) c) →
         AllByRecursion (IsNamed ports) names
-    names_right names among = all_from_has (IsNamed ports) names (λ c has. named_right c (among c has))
+    queued_right names among =
+        let st = told_state w at in
+        all_from_has (IsNamed ports) names
+        (λ c has. named_right c (has_left (queued_in st) (map (λ (d : Sent). d.cell) st.sent) c (among c has)))
 
     listed_right : AllByRecursion (IsNamed ports) (told_state w at).listed
     listed_right =
-        let st = told_state w at in
-        names_right st.listed
-        (λ c has.
-        has_left (queued_in st) (map (λ (d : Sent). d.cell) st.sent) c (has_left st.listed st.buffered c has))
+        queued_right (told_state w at).listed (has_left (told_state w at).listed (told_state w at).buffered)
 
     buffered_right : AllByRecursion (IsNamed ports) (told_state w at).buffered
     buffered_right =
-        let st = told_state w at in
-        names_right st.buffered
-        (λ c has.
-        has_left (queued_in st) (map (λ (d : Sent). d.cell) st.sent) c (has_right st.listed st.buffered c has))
+        queued_right (told_state w at).buffered (has_right (told_state w at).listed (told_state w at).buffered)
 
     sent_right : AllByRecursion (IsSent ports) (told_state w at).sent
     unfolding state_of

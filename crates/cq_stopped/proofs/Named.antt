@@ -96,22 +96,23 @@ module _ (w : Switch) (at : Taken) (ideal : IdealState) (cs : List (List (Option
 
   -- ## Each cell has its name
 
-  pub name_waits : (i : ℕ) (q : Queued) → Has (input f i) q → Has (named_in (told_state w at)) (named_as q)
+  waits_named : (q : Queued) → Has (map named_as (all_of at.frozen.lists) ++ map named_as (all_of at.frozen.buffers))
+      (named_as q) → Has (named_in (told_state w at)) (named_as q)
   unfolding state_of
+  waits_named q has =
+      has_left (map named_as (all_of at.frozen.lists) ++ map named_as (all_of at.frozen.buffers))
+      (map (λ (d : Sent). d.cell) (map sent_as at.sent)) (named_as q) has
+
+  pub name_waits : (i : ℕ) (q : Queued) → Has (input f i) q → Has (named_in (told_state w at)) (named_as q)
   name_waits i q has =
-      let listed = map named_as (all_of at.frozen.lists) in
-      let buffered = map named_as (all_of at.frozen.buffers) in
-      has_left (listed ++ buffered) (map (λ (d : Sent). d.cell) (map sent_as at.sent)) (named_as q)
-      (has_left listed buffered (named_as q)
+      waits_named q
+      (has_left (map named_as (all_of at.frozen.lists)) (map named_as (all_of at.frozen.buffers)) (named_as q)
       (has_image named_as (all_of at.frozen.lists) q (has_at_place at.frozen.lists i q has)))
 
   pub name_behind : (j : ℕ) (q : Queued) → Has (buffer f j) q → Has (named_in (told_state w at)) (named_as q)
-  unfolding state_of
   name_behind j q has =
-      let listed = map named_as (all_of at.frozen.lists) in
-      let buffered = map named_as (all_of at.frozen.buffers) in
-      has_left (listed ++ buffered) (map (λ (d : Sent). d.cell) (map sent_as at.sent)) (named_as q)
-      (has_right listed buffered (named_as q)
+      waits_named q
+      (has_right (map named_as (all_of at.frozen.lists)) (map named_as (all_of at.frozen.buffers)) (named_as q)
       (has_image named_as (all_of at.frozen.buffers) q (has_at_place at.frozen.buffers j q has)))
 
   pub name_left : (d : Departure) → Has at.sent d → Has (named_in (told_state w at)) (named_as d.queued)

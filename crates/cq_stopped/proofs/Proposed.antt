@@ -39,59 +39,9 @@ use Rattle.cq_prefs.specs.Orders.{Orders, outputs_of, place_in, ports}
 use Rattle.cq_prefs.specs.Pairing.{IsMatching, Partners, partner_of, proposals, spent}
 use Rattle.cq_resume.specs.Parts.{opening}
 use Rattle.cq_resume.specs.Switch.{Switch}
+use Rattle.cq_simulate.proofs.FabricCounts.{proposals_few, proposals_none, shorter}
 use Rattle.cq_stopped.proofs.Beside.{KnownRun, KnownSlot, admitted_come, arrived_is, sent_is}
 use Rattle.cq_stopped.proofs.Walk.{came_where}
-use Rattle.cq_stopped.proofs.Within.{shorter}
-
--- ## In a phase
-
-module _ (o : Orders) (m : Partners) (is : IsMatching o m) where
-  spent_few : (i : ℕ) (p : Option ℕ) → partner_of m i ≡ p → spent (outputs_of o i) p ≤ length (outputs_of o i)
-  spent_few i None e = omega arith
-  spent_few i (Some j) e = let l : place_in (outputs_of o i) j < length (outputs_of o i) = is.offered i j e in omega
-      arith
-
-  -- where no order is longer than this
-  proposals_within : (b : ℕ) → ((i : ℕ) → length (outputs_of o i) ≤ b) → proposals o m ≤ ports o * b
-  proposals_within b few =
-      let f : ℕ → ℕ = λ i. spent (outputs_of o i) (partner_of m i) in
-      let n = ports o in
-      let long = length-map-range_with_len f 0 n in
-      let all : sum (map f (range_with_len 0 n)) ≤ length (map f (range_with_len 0 n)) * b =
-      sum_by-le (λ (x : ℕ). x) b (map f (range_with_len 0 n))
-      (λ k d inside.
-      let here : get_or (map f (range_with_len 0 n)) k d ≡ f k =
-      get_or-map-range_with_len f 0 n k k d (omega arith) (omega arith) in
-      let one : f k ≤ length (outputs_of o k) = spent_few k (partner_of m k) refl in
-      let most = few k in
-      omega arith) in
-      subst (λ (k : ℕ). sum (map f (range_with_len 0 n)) ≤ k * b) long all
-
-in_range : (f : Fabric) → IsFabric f → OutputsInRange f.inputs
-in_range f is i j c first =
-    let at = first_at (is_for j) (input f i) c first in
-    let same : c.cell.output ≡ j = eqb-true c.cell.output j at.passes in
-    let inside = is.outputs i c (among_at (input f i) at.place c at.at) in
-    omega arith
-
-module _ (f : Fabric) (m : Partners) (is : IsMatching (orders_of f.inputs) m) where
-  proposals_few : IsFabric f → proposals (orders_of f.inputs) m ≤ length f.inputs * length f.inputs
-  proposals_few fabric =
-      let o = orders_of f.inputs in
-      let n : ports o ≡ length f.inputs = length-map f.inputs output_order in
-      subst (λ (k : ℕ). proposals o m ≤ k * k) n
-      (proposals_within o m is (ports o) (outputs_at_most o (are_offers f.inputs (in_range f fabric))))
-
-  proposals_none : ((i : ℕ) → length (input f i) ≡ 0) → proposals (orders_of f.inputs) m ≡ 0
-  proposals_none none =
-      let o = orders_of f.inputs in
-      let within : proposals o m ≤ ports o * 0 =
-      proposals_within o m is 0
-      (λ i.
-      let e : length (outputs_of o i) ≡ 0 =
-      ap length (outputs_at f.inputs i ∙ ap output_order (nil_from_length (input f i) (none i))) in
-      omega arith) in
-      omega arith
 
 -- ## What waits
 

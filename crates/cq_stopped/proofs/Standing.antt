@@ -14,11 +14,12 @@ use Rattle.cq_laws.specs.Fabric.{Fabric, IsAmong, buffer, input}
 use Rattle.cq_laws.specs.Places.{HasFor}
 use Rattle.cq_prefs.specs.FirstCells.{list_of}
 use Rattle.cq_resume.proofs.Chained.{EachPair}
+use Rattle.cq_resume.proofs.Each.{all_weaker}
 use Rattle.cq_resume.proofs.GoesOn.{has_of_among}
-use Rattle.cq_resume.proofs.Having.{Has, all_of_has, has_left, has_right, pair_of_has}
-use Rattle.cq_resume.proofs.Pooled.{pairs_cross, pairs_left, pairs_right}
+use Rattle.cq_resume.proofs.Having.{Has, all_from_has, all_of_has, has_left, has_right, pair_of_has}
+use Rattle.cq_resume.proofs.Pooled.{pairs_cross, pairs_left, pairs_right, pairs_with}
 use Rattle.cq_resume.specs.Switch.{Switch}
-use Rattle.cq_stopped.proofs.Joined.{has_number}
+use Rattle.cq_stopped.proofs.Joined.{has_number, pairs_by_number}
 use Rattle.cq_stopped.proofs.Ran.{Follows, IsOwn, IsSentRight, Known, left_at, pool_at}
 use Rattle.cq_stopped.proofs.Stepping.{among_of_has}
 
@@ -146,8 +147,21 @@ module _ (w : Switch) (n : ℕ) (f : Fabric) (ideal : IdealState) (cs : List (Li
       ap (λ (c : Cell). c.output) (sym (same_cell q d.queued waits.kept gone.kept name)) in
       (follows_left d q has waits outputs).differ (sym name.0) (sym name.1)
 
-  pub left_pairs : (j : ℕ) → j < length w.machines → EachPair Follows (left_at j sent)
+  left_pairs : (j : ℕ) → j < length w.machines → EachPair Follows (left_at j sent)
   left_pairs j inside = pairs_left Follows (left_at j sent) (list_of ideal.lists j) (pairs_at j inside)
+
+  -- of two that left one output the second follows the first, and so does what that tells
+  pub each_sent : (R : Departure → Departure → Type 0) →
+      ((d e : Departure) → Has sent d → Has sent e → (d.output ≡ e.output → Follows d.queued e.queued) → R d e) →
+      EachPair R sent
+  each_sent R tells =
+      pairs_with (λ (d e : Departure). d.output ≡ e.output → Follows d.queued e.queued) R
+      (λ (d : Departure). Has sent d) tells sent (all_from_has (λ (d : Departure). Has sent d) sent (λ d has. has))
+      (pairs_by_number (λ (d : Departure). d.output) (λ (d : Departure). d.queued) Follows
+      (λ j. j < length w.machines) sent
+      (all_weaker (IsSentRight w n) (λ (d : Departure). d.output < length w.machines) (λ d right. right.inside) sent
+      known.departed)
+      left_pairs)
 
   pub waiting_pairs : (j : ℕ) → j < length w.machines → EachPair Follows (list_of ideal.lists j)
   waiting_pairs j inside = pairs_right Follows (left_at j sent) (list_of ideal.lists j) (pairs_at j inside)

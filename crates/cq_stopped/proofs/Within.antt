@@ -42,6 +42,7 @@ use Rattle.cq_resume.proofs.Having.{all_of_has}
 use Rattle.cq_resume.specs.Switch.{Switch}
 use Rattle.cq_state.specs.State.{IsMoved}
 use Rattle.cq_stopped.proofs.Beside.{KnownRun, KnownSlot, arrived_is, left_is, of_arrived, of_gone, of_new, of_sent, sent_is}
+use Rattle.cq_simulate.proofs.FabricCounts.{shorter}
 use Rattle.cq_stopped.proofs.Configured.{AreLow, HasSmallName, KeepsLow}
 use Rattle.cq_stopped.proofs.Figures.{AreNumbered}
 use Rattle.cq_stopped.proofs.Lows.{RankedLow, ranked_low, told_low}
@@ -55,13 +56,6 @@ longer_one f (Some c) xs =
     let place : place_of_arrival (cushion_of f c) c xs ≤ length xs = omega arith in
     let more = length-insert xs (place_of_arrival (cushion_of f c) c xs) c place in
     omega arith
-
-length_taken : (p : Option ℕ) (xs : List Queued) → length (list_taken p xs) ≤ length xs
-length_taken None xs = omega arith
-length_taken (Some j) [] = omega arith
-length_taken (Some j) (x ∷ xs) =
-    cond_both (is_for j x) xs (x ∷ without_first j xs) (λ l. length l ≤ length (x ∷ xs)) (λ _. omega arith)
-    (λ _. let rest = length_taken (Some j) xs in omega arith)
 
 length_put : (c : Queued) (xs : List Queued) → length (put c xs) ≡ suc (length xs)
 length_put c [] = refl
@@ -81,13 +75,6 @@ came_or_was f (Some c) xs q has =
     (among_insert xs (place_of_arrival (cushion_of f c) c xs) c q has)
 
 module _ (m : Partners) (old new : Fabric) (moves : Transfers m old new) where
-  pub shorter : (i : ℕ) → length (input new i) ≤ length (input old i)
-  shorter i =
-      let e : length (input new i) ≡ length (list_taken (partner_of m i) (input old i)) =
-      ap (λ (l : List Queued). length l) (moves.moves.taken i) in
-      let l = length_taken (partner_of m i) (input old i) in
-      omega arith
-
   still_among : (i : ℕ) (q : Queued) → IsAmong q (input new i) → IsAmong q (input old i)
   still_among i q has = taken_among (partner_of m i) (input old i) q (subst (IsAmong q) (moves.moves.taken i) has)
 

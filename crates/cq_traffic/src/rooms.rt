@@ -10,7 +10,8 @@ use std::alloc::Global;
 /// How many cells arrive at each of the first so many inputs. The error is want of memory.
 pub fn rooms_from(alloc: Global, schedule: &Schedule, ports: u16) -> Result<Vec<u64>, NoMemory>
     requires { ports ≤ schedule.now.ports }
-    ensures { IfOk result (λ rooms. rooms.items ≡ map (λ i. number_of (is_from i) schedule.now.came) (range_with_len 0 ports)) }
+    ensures { IfOk result (λ rooms.
+        rooms.items ≡ map (λ i. number_of (is_from i) schedule.now.came) (range_with_len 0 ports)) }
 {
     let mut rooms = Vec::with_capacity(alloc, ports as usize)?;
     'inputs: for input in 0..ports {
@@ -22,7 +23,8 @@ pub fn rooms_from(alloc: Global, schedule: &Schedule, ports: u16) -> Result<Vec<
 /// How many cells arrive for each of the first so many outputs. The error is want of memory.
 pub fn rooms_to(alloc: Global, schedule: &Schedule, ports: u16) -> Result<Vec<u64>, NoMemory>
     requires { ports ≤ schedule.now.ports }
-    ensures { IfOk result (λ rooms. rooms.items ≡ map (λ j. number_of (is_to j) schedule.now.came) (range_with_len 0 ports)) }
+    ensures { IfOk result (λ rooms.
+        rooms.items ≡ map (λ j. number_of (is_to j) schedule.now.came) (range_with_len 0 ports)) }
 {
     let mut rooms = Vec::with_capacity(alloc, ports as usize)?;
     'outputs: for output in 0..ports {
