@@ -1,19 +1,20 @@
 -- That the worked records are the run with input-best matchings: in each phase in which a cell crosses, its input and
 -- its output are each other's first, and all other inputs have cells for that output only. A test tells so.
-use Rattle.std.proofs.Common.{◌≡◌, ℕ, zero, suc, ◌<◌, true, List, [], ◌∷◌, length, Option, Some, None, refl, sym, ◌∙◌, subst, arith, set}
+use Rattle.std.proofs.Common.{◌≡◌, ℕ, zero, suc, ◌<◌, true, List, [], ◌∷◌, length, Option, Some, None, Ok, refl, sym, ◌∙◌, subst, arith, set}
 use Rattle.std.specs.Prelude.{replicate}
 use Rattle.std.proofs.lemmas.List.{length-map, length-set}
 use Rattle.cq_base.specs.declared.cell.Cell.{Cell}
 use Rattle.cq_base.specs.declared.cell.Queued.{Queued}
 use Rattle.cq_base.specs.Cells.{put, first_for, without_first}
 use Rattle.cq_base.specs.Key.{is_before}
-use Rattle.cq_ideal.specs.IdealSlot.{all_told}
+use Rattle.cq_ideal.specs.IdealSlot.{all_told, fronts, rests}
+use Rattle.cq_ideal.specs.Ranking.{ranking}
 use Rattle.cq_ideal.specs.LimitedExample.{first_come_all}
 use Rattle.cq_prefs.specs.Orders.{place_in, ports}
 use Rattle.cq_prefs.specs.Pairing.{Partners, with_pair, IsInputBest}
 use Rattle.cq_prefs.specs.FirstCells.{orders_of, output_order}
 use Rattle.cq_laws.specs.Fabric.{Fabric, input, buffer, empty_fabric}
-use Rattle.cq_laws.specs.Phases.{came_to, list_arrived, Arrives, Transfers, Departs}
+use Rattle.cq_laws.specs.Phases.{came_to, list_arrived, Transfers}
 use Rattle.cq_laws.specs.FabricSlot.{SlotRecord, FabricSlot}
 use Rattle.cq_laws.specs.FabricRun.{FabricRun}
 use Rattle.cq_laws.specs.Example.{lone_cell, from_input0, from_input1, from_input2, for_output1, three, three_empty, three_slots, slot0, slot1, slot2, worked_records}
@@ -57,20 +58,6 @@ nobody f none = record {
   moved = nothing_moves 3 f;
 }
 
-slot_of : {cells : List (Option Cell)} {old new : Fabric} (r : SlotRecord) →
-    Arrives first_come_all r.slot cells r.came old r.arrived → Phase r.first r.arrived r.filled →
-    Departs first_come_all r.gone r.filled r.sent → Phase r.second r.sent new →
-    FabricSlot IsInputBest first_come_all r.slot cells old r new
-slot_of r arrive fill depart finish = record {
-  numbered = refl;
-  arrive = arrive;
-  first_chosen = fill.best;
-  fill = fill.moved;
-  depart = depart;
-  second_chosen = finish.best;
-  finish = finish.moved;
-}
-
 -- what comes to an input goes into its list
 abbrev ComesTo : Fabric → SlotRecord → ℕ → Type 0
 ComesTo old r i = input r.arrived i ≡ list_arrived old (came_to r.came i) (input old i)
@@ -82,6 +69,23 @@ at_inputs old r a b c past zero = a
 at_inputs old r a b c past (suc zero) = b
 at_inputs old r a b c past (suc (suc zero)) = c
 at_inputs old r a b c past (suc (suc (suc i))) = past i
+
+-- what is recorded of a slot, by its phases
+slot_of : {cells : List (Option Cell)} {new : Fabric} (old : Fabric) (r : SlotRecord) →
+    ranking first_come_all r.slot 0 cells old.ranks ≡ Ok (record { came = r.came; ranks = r.arrived.ranks }) →
+    length r.arrived.inputs ≡ length old.inputs → ((i : ℕ) → ComesTo old r i) → r.arrived.buffers ≡ old.buffers →
+    Phase r.first r.arrived r.filled → r.gone ≡ fronts r.filled.buffers → r.sent.buffers ≡ rests r.filled.buffers →
+    r.sent.inputs ≡ r.filled.inputs → r.sent.ranks ≡ all_told first_come_all r.gone r.filled.ranks →
+    Phase r.second r.sent new → FabricSlot IsInputBest first_come_all r.slot cells old r new
+slot_of old r ranked ports lists buffers fill gone rest inputs ranks finish = record {
+  numbered = refl;
+  arrive = record { ranked = ranked; ports = ports; lists = lists; buffers = buffers };
+  first_chosen = fill.best;
+  fill = fill.moved;
+  depart = record { sent = gone; buffers = rest; inputs = inputs; ranks = ranks };
+  second_chosen = finish.best;
+  finish = finish.moved;
+}
 
 -- ## The slots
 
@@ -98,29 +102,22 @@ worked0 : FabricSlot IsInputBest first_come_all 0
     (Some (lone_cell 0 0 0) ∷ Some (lone_cell 1 0 0) ∷ Some (lone_cell 2 0 0) ∷ []) none_left slot0 after0
 unfolding all_told is_before place_in
 worked0 =
-    let lists : (i : ℕ) → ComesTo none_left slot0 i = at_inputs none_left slot0 refl refl refl (λ i. refl) in
-    slot_of slot0 (record { ranked = refl; ports = refl; lists = lists; buffers = refl })
-    (crosses slot0.arrived 0 0 from_input0 refl refl refl (omega arith) (omega arith))
-    (record { sent = refl; buffers = refl; inputs = refl; ranks = refl })
+    slot_of none_left slot0 refl refl (at_inputs none_left slot0 refl refl refl (λ i. refl)) refl
+    (crosses slot0.arrived 0 0 from_input0 refl refl refl (omega arith) (omega arith)) refl refl refl refl
     (crosses slot0.sent 1 0 from_input1 refl refl refl (omega arith) (omega arith))
 
 worked1 : FabricSlot IsInputBest first_come_all 1 (None ∷ None ∷ Some (lone_cell 2 1 1) ∷ []) after0 slot1 after1
 unfolding all_told is_before place_in
 worked1 =
-    let lists : (i : ℕ) → ComesTo after0 slot1 i = at_inputs after0 slot1 refl refl refl (λ i. refl) in
-    slot_of slot1 (record { ranked = refl; ports = refl; lists = lists; buffers = refl })
-    (crosses slot1.arrived 2 1 for_output1 refl refl refl (omega arith) (omega arith))
-    (record { sent = refl; buffers = refl; inputs = refl; ranks = refl })
+    slot_of after0 slot1 refl refl (at_inputs after0 slot1 refl refl refl (λ i. refl)) refl
+    (crosses slot1.arrived 2 1 for_output1 refl refl refl (omega arith) (omega arith)) refl refl refl refl
     (crosses slot1.sent 2 0 from_input2 refl refl refl (omega arith) (omega arith))
 
 worked2 : FabricSlot IsInputBest first_come_all 2 (None ∷ None ∷ None ∷ []) after1 slot2 none_left
 unfolding all_told
 worked2 =
-    let lists : (i : ℕ) → ComesTo after1 slot2 i = at_inputs after1 slot2 refl refl refl (λ i. refl) in
-    slot_of slot2 (record { ranked = refl; ports = refl; lists = lists; buffers = refl })
-    (nobody slot2.arrived refl)
-    (record { sent = refl; buffers = refl; inputs = refl; ranks = refl })
-    (nobody none_left refl)
+    slot_of after1 slot2 refl refl (at_inputs after1 slot2 refl refl refl (λ i. refl)) refl
+    (nobody slot2.arrived refl) refl refl refl refl (nobody none_left refl)
 
 pub runs : FabricRun IsInputBest first_come_all 0 three_slots (empty_fabric 3 three_empty) worked_records
     (empty_fabric 3 three_empty)

@@ -78,8 +78,8 @@ pub record HasHad (ms : List Machine) (slot : ℕ) (cells : List (Option Cell)) 
   pub to_outputs : new.to_outputs ≡ old.to_outputs
 
 -- what left in a slot stands in a list of its own, and is taken over from there
-module _ (ms : List Machine) (slot : ℕ) (cells : List (Option Cell)) (old new : EngineView)
-    (leaving left : RoomView Departure) (note note_new : RoomView Transfer) (none : leaving.items ≡ [])
+module _ {ms : List Machine} {slot : ℕ} {cells : List (Option Cell)} {old new : EngineView}
+    {leaving left : RoomView Departure} {note note_new : RoomView Transfer} (none : leaving.items ≡ [])
     (had : HasHad ms slot cells old new leaving left note note_new)
   where
     left_here : HaveLeft slot had.done.record_of.of_slot.gone leaving left
@@ -379,8 +379,8 @@ module _ {whole : Bool} {end : ℕ} {M : List ℕ → Machine} {came : List Arri
 
 -- ## A run to its end
 
-module _ (M : List ℕ → Machine) (came : List Arrival) (first : EngineView) (first_sent : RoomView Departure)
-    (first_note : RoomView Transfer) (ready : IsReadyOn (map M first.fixed) came first first_sent first_note) where
+module _ (M : List ℕ → Machine) {came : List Arrival} {first : EngineView} {first_sent : RoomView Departure}
+    {first_note : RoomView Transfer} (ready : IsReadyOn (map M first.fixed) came first first_sent first_note) where
   abbrev pub Runs : ℕ → EngineView → RoomView Departure → RoomView Transfer → Type 0
   Runs slot now sent note =
       Crossing true (map M first.fixed) came first first_sent first_note slot (over_by came first.next - slot) now
@@ -395,44 +395,44 @@ module _ (M : List ℕ → Machine) (came : List Arrival) (first : EngineView) (
       (starts_in came first.next) (λ _. refl)
 
   -- quiet slots are skipped
-  pub run_stands : (slot next : ℕ) (now new : EngineView) (sent : RoomView Departure) (note : RoomView Transfer) →
-      Runs slot now sent note → (end_of came ≤ slot → IsEmptyFabric now.fabric → ⊥) → IsQuiet came slot next →
-      HasRested (map M now.fixed) slot next now new →
-      Stands true (over_by came first.next) M came first first_sent first_note next new sent note
-  run_stands slot next now new sent note runs more quiet rested =
-      let end = over_by came first.next in
-      let still : true ≡ true → end_of came ≤ slot → IsEmptyFabric now.fabric → ⊥ = λ _. more in
-      let some : slot < over_by came first.next =
-      a_slot_left true end M came first first_sent first_note ready few_all slot now sent note runs refl more in
-      let within = skipped_within came slot next end quiet (ends_in came first.next) (omega arith) in
-      let there =
-      at_rest true end M came first first_sent first_note ready few_all slot next now new sent note runs quiet.late
-      within
-      quiet.none (λ _ lt. quiet.more lt) rested in
-      let going =
-      more_at_rest true end M came first first_sent first_note ready few_all slot next now new sent note runs quiet.late
-      within quiet.none (λ _ lt. quiet.more lt) rested still in
-      record {
-        ready = ready;
-        few = few_all;
-        crossing = there;
-        more = going;
-        some =
-            a_slot_left true end M came first first_sent first_note ready few_all next new sent note there refl
-            (going refl);
-      }
+  module _ {slot : ℕ} {now : EngineView} {sent : RoomView Departure} {note : RoomView Transfer}
+      (runs : Runs slot now sent note) where
+    pub run_stands : {next : ℕ} {new : EngineView} → (end_of came ≤ slot → IsEmptyFabric now.fabric → ⊥) → IsQuiet came slot next →
+        HasRested (map M now.fixed) slot next now new →
+        Stands true (over_by came first.next) M came first first_sent first_note next new sent note
+    run_stands {next} {new} more quiet rested =
+        let end = over_by came first.next in
+        let still : true ≡ true → end_of came ≤ slot → IsEmptyFabric now.fabric → ⊥ = λ _. more in
+        let some : slot < over_by came first.next =
+        a_slot_left true end M came first first_sent first_note ready few_all slot now sent note runs refl more in
+        let within = skipped_within came slot next end quiet (ends_in came first.next) (omega arith) in
+        let there =
+        at_rest true end M came first first_sent first_note ready few_all slot next now new sent note runs quiet.late
+        within
+        quiet.none (λ _ lt. quiet.more lt) rested in
+        let going =
+        more_at_rest true end M came first first_sent first_note ready few_all slot next now new sent note runs quiet.late
+        within quiet.none (λ _ lt. quiet.more lt) rested still in
+        record {
+          ready = ready;
+          few = few_all;
+          crossing = there;
+          more = going;
+          some =
+              a_slot_left true end M came first first_sent first_note ready few_all next new sent note there refl
+              (going refl);
+        }
 
-  pub run_ends : (slot : ℕ) (now : EngineView) (sent : RoomView Departure) (note : RoomView Transfer) →
-      Runs slot now sent note → end_of came ≤ slot → IsEmptyFabric now.fabric →
-      HasRunOn (map M first.fixed) came first now first_sent sent first_note note
-  run_ends slot now sent note runs le empty =
-      at_end true (over_by came first.next) M came first first_sent first_note ready few_all slot now sent note runs
-      refl le empty
+    pub run_ends : end_of came ≤ slot → IsEmptyFabric now.fabric →
+        HasRunOn (map M first.fixed) came first now first_sent sent first_note note
+    run_ends le empty =
+        at_end true (over_by came first.next) M came first first_sent first_note ready few_all slot now sent note runs
+        refl le empty
 
 -- ## A run up to a slot
 
-module _ (M : List ℕ → Machine) (came : List Arrival) (last : ℕ) (first : EngineView)
-    (first_sent : RoomView Departure) (first_note : RoomView Transfer)
+module _ (M : List ℕ → Machine) {came : List Arrival} {last : ℕ} {first : EngineView}
+    {first_sent : RoomView Departure} {first_note : RoomView Transfer}
     (ready : IsReadyPart (map M first.fixed) came last first first_sent first_note) where
   abbrev pub Parts : ℕ → EngineView → RoomView Departure → RoomView Transfer → Type 0
   Parts slot now sent note =
@@ -445,26 +445,25 @@ module _ (M : List ℕ → Machine) (came : List Arrival) (last : ℕ) (first : 
   part_begins =
       at_first false last M came first first_sent first_note ready.ready few_slots ready.next (λ is. never is)
 
-  -- slots in which nothing comes are skipped
-  pub part_rests : (slot next : ℕ) (now new : EngineView) (sent : RoomView Departure) (note : RoomView Transfer) →
-      Parts slot now sent note → slot ≤ next → next ≤ last → NoneCome came slot next →
-      HasRested (map M now.fixed) slot next now new → Parts next new sent note
-  part_rests slot next now new sent note parts late within none rested =
-      at_rest false last M came first first_sent first_note ready.ready few_slots slot next now new sent note parts late
-      within none (λ is lt. never is) rested
+  module _ {slot : ℕ} {now : EngineView} {sent : RoomView Departure} {note : RoomView Transfer}
+      (parts : Parts slot now sent note) where
+    -- slots in which nothing comes are skipped
+    pub part_rests : {next : ℕ} {new : EngineView} → slot ≤ next → next ≤ last → NoneCome came slot next →
+        HasRested (map M now.fixed) slot next now new → Parts next new sent note
+    part_rests late within none rested =
+        at_rest false last M came first first_sent first_note ready.ready few_slots slot _ now _ sent note parts late
+        within none (λ is lt. never is) rested
 
-  pub part_stands : (slot : ℕ) (now : EngineView) (sent : RoomView Departure) (note : RoomView Transfer) →
-      Parts slot now sent note → slot < last → Stands false last M came first first_sent first_note slot now sent note
-  part_stands slot now sent note parts some =
-      record {
-        ready = ready.ready;
-        few = few_slots;
-        crossing = parts;
-        more = λ is late empty. never is;
-        some = some;
-      }
+    pub part_stands : slot < last → Stands false last M came first first_sent first_note slot now sent note
+    part_stands some =
+        record {
+          ready = ready.ready;
+          few = few_slots;
+          crossing = parts;
+          more = λ is late empty. never is;
+          some = some;
+        }
 
-  pub part_ends : (slot : ℕ) (now : EngineView) (sent : RoomView Departure) (note : RoomView Transfer) →
-      Parts slot now sent note → slot ≡ last →
-      HasPartedTo (map M first.fixed) came last first now first_sent sent first_note note
-  part_ends = at_last false last M came first first_sent first_note ready.ready few_slots
+    pub part_ends : slot ≡ last → HasPartedTo (map M first.fixed) came last first now first_sent sent first_note note
+    part_ends =
+        at_last false last M came first first_sent first_note ready.ready few_slots slot now sent note parts

@@ -169,11 +169,11 @@ both_cells (d ∷ xs) ys = ap (λ (l : List Cell). d.queued.cell ∷ l) (both_ce
 module _ (w : Switch) (s : State) (in_range : IsInRange s) (shape : HasShape w s) (sound : IsSound w s)
     (traffic : IsTraffic (length w.machines) w.classes w.came)
     (agrees : Agrees s.head.next (fabric_told w.came s) (ideal_of (fabric_told w.came s))) (j : ℕ) where
-  abbrev told : Fabric
-  told = fabric_told w.came s
+  abbrev pub its_fabric : Fabric
+  its_fabric = fabric_told w.came s
 
-  abbrev for_output : List Queued
-  for_output = list_of (ideal_of told).lists j
+  abbrev pub for_output : List Queued
+  for_output = list_of (ideal_of its_fabric).lists j
 
   pub record WaitsThere (q : Queued) : Type 0 where
     pub name : Named
@@ -184,11 +184,11 @@ module _ (w : Switch) (s : State) (in_range : IsInRange s) (shape : HasShape w s
   pub waits_there : (q : Queued) → Has for_output q → WaitsThere q
   waits_there q has =
       ⊎_elim
-      (λ (at : (k : ℕ) × IsAmong q (input told k) × (q.cell.output ≡ j)).
-      let it = in_list w s in_range shape sound traffic at.0 q (has_of_among (input told at.0) q at.1) in
+      (λ (at : (k : ℕ) × IsAmong q (input its_fabric k) × (q.cell.output ≡ j)).
+      let it = in_list w s in_range shape sound traffic at.0 q (has_of_among (input its_fabric at.0) q at.1) in
       record { name = it.name; has = has_left s.listed s.buffered it.name it.has; is = it.is; output = at.2 })
-      (λ (at : IsAmong q (buffer told j)).
-      let it = in_buffer w s in_range shape sound traffic j q (has_of_among (buffer told j) q at) in
+      (λ (at : IsAmong q (buffer its_fabric j)).
+      let it = in_buffer w s in_range shape sound traffic j q (has_of_among (buffer its_fabric j) q at) in
       record { name = it.name; has = has_right s.listed s.buffered it.name it.has; is = it.is; output = it.here })
       ((agrees.same j q).0 (among_of_has for_output q has))
 

@@ -16,12 +16,10 @@ use Rattle.cq_ideal.specs.IdealRun.{departures_of}
 use Rattle.cq_ideal.specs.Refused.{refused_counts, refused_in, with_refused}
 use Rattle.cq_laws.specs.Fabric.{Fabric}
 use Rattle.cq_laws.specs.Frozen.{marked_in}
-use Rattle.cq_laws.specs.LimitedFabric.{LimitedFabricRun, LimitedFabricStops, admissions_in, empty_limited_fabric, slots_in}
+use Rattle.cq_laws.specs.LimitedFabric.{admissions_in, empty_limited_fabric, slots_in}
 use Rattle.cq_laws.specs.Measures.{figures_after, no_figures}
 use Rattle.cq_laws.specs.Records.{gone_in, transfers_of_run}
 use Rattle.cq_laws.specs.declared.frozen.Frozen.{Frozen}
-use Rattle.cq_prefs.specs.Pairing.{IsInputBest}
-use Rattle.cq_rank.specs.Machine.{Machine}
 use Rattle.cq_resume.specs.Parts.{IsParted}
 use Rattle.cq_resume.specs.Resumed.{Runs, Stops}
 use Rattle.cq_resume.specs.Switch.{switch_of}

@@ -33,45 +33,38 @@ use Rattle.cq_simulate.specs.declared.refusal.RunRefusal.TheVariants as refusal
 
 module _ (M : List ℕ → Machine) (t : Tables) (s : Scheduled) (first : EngineView)
     (machines : map M first.fixed ≡ machines_of t.setup) (limits : first.limits ≡ t.limits) where
+  -- what holds of its limits and machines holds of those of the tables
+  by_tables : (P : List (Option ℕ) → List Machine → Type 0) → P first.limits (map M first.fixed) →
+      P t.limits (machines_of t.setup)
+  by_tables P has = subst (P t.limits) machines (subst (λ (l : List (Option ℕ)). P l (map M first.fixed)) limits has)
+
   -- a run of the engine is one of the switch
   pub of_switch : (m : ℕ) (rs : List LimitedRecord) (f : Marked Fabric) →
       LimitedFabricRun IsInputBest first.limits (map M first.fixed) first.next (arriving_from s.came first.next m)
       (marked_fabric first) rs f →
       Runs (switch_of t s) first.next (arriving_from s.came first.next m) (marked_fabric first) rs f
-  of_switch m rs f run =
-      subst (λ (ms : List Machine).
-      LimitedFabricRun IsInputBest t.limits ms first.next (arriving_from s.came first.next m) (marked_fabric first) rs
-      f)
-      machines
-      (subst (λ (l : List (Option ℕ)).
-      LimitedFabricRun IsInputBest l (map M first.fixed) first.next (arriving_from s.came first.next m)
-      (marked_fabric first) rs f) limits run)
+  of_switch m rs f =
+      by_tables (λ l ms.
+      LimitedFabricRun IsInputBest l ms first.next (arriving_from s.came first.next m) (marked_fabric first) rs f)
 
   of_engine : (m : ℕ) (rs : List LimitedRecord) (f : Marked Fabric) →
       Runs (switch_of t s) first.next (arriving_from s.came first.next m) (marked_fabric first) rs f →
       LimitedFabricRun IsInputBest first.limits (map M first.fixed) first.next (arriving_from s.came first.next m)
       (marked_fabric first) rs f
   of_engine m rs f run =
-      subst (λ (l : List (Option ℕ)).
-      LimitedFabricRun IsInputBest l (map M first.fixed) first.next (arriving_from s.came first.next m)
-      (marked_fabric first) rs f) (sym limits)
-      (subst (λ (ms : List Machine).
-      LimitedFabricRun IsInputBest t.limits ms first.next (arriving_from s.came first.next m) (marked_fabric first) rs
-      f)
-      (sym machines) run)
+      by_tables (λ l ms.
+      LimitedFabricRun IsInputBest l ms first.next (arriving_from s.came first.next m) (marked_fabric first) rs f →
+      LimitedFabricRun IsInputBest first.limits (map M first.fixed) first.next (arriving_from s.came first.next m)
+      (marked_fabric first) rs f) (λ here. here) run
 
   -- and where it stops, the switch does
   pub stop_of_switch : (m : ℕ) (rs : List LimitedRecord) (fault : TagFault) →
       LimitedFabricStops IsInputBest first.limits (map M first.fixed) first.next (arriving_from s.came first.next m)
       (marked_fabric first) rs fault →
       Stops (switch_of t s) first.next (arriving_from s.came first.next m) (marked_fabric first) rs fault
-  stop_of_switch m rs fault stops =
-      subst (λ (ms : List Machine).
-      LimitedFabricStops IsInputBest t.limits ms first.next (arriving_from s.came first.next m) (marked_fabric first) rs
-      fault) machines
-      (subst (λ (l : List (Option ℕ)).
-      LimitedFabricStops IsInputBest l (map M first.fixed) first.next (arriving_from s.came first.next m)
-      (marked_fabric first) rs fault) limits stops)
+  stop_of_switch m rs fault =
+      by_tables (λ l ms.
+      LimitedFabricStops IsInputBest l ms first.next (arriving_from s.came first.next m) (marked_fabric first) rs fault)
 
 module _ (M : List ℕ → Machine) (t : Tables) (s : Scheduled) (first : EngineView) (taken : Taken)
     (machines : map M first.fixed ≡ machines_of t.setup) (limits : first.limits ≡ t.limits)

@@ -1,6 +1,6 @@
 -- What waits for an output in a sound state stands there as in a run: in the order of the keys, each cell with the
 -- level of its class and a rank below the floor, and each arrived in an earlier slot.
-use Rattle.std.proofs.Common.{◌≡◌, ℕ, ◌<◌, ◌≤◌, List, [], ◌∷◌, length, Some, sym, ap, ◌∙◌, subst, ⊎_elim, arith}
+use Rattle.std.proofs.Common.{◌≡◌, ℕ, ◌<◌, ◌≤◌, List, [], ◌∷◌, length, sym, ap, ◌∙◌, subst, arith}
 use Rattle.std.specs.Prelude.{slice_index_or}
 use Rattle.std.proofs.lemmas.List.Elements.{recursion_from_All}
 use Rattle.cq_base.proofs.Keys.{key_laws}
@@ -11,18 +11,17 @@ use Rattle.cq_cells.specs.Traffic.{IsTraffic}
 use Rattle.cq_ideal.proofs.FlowPut.{NoLater, all_from}
 use Rattle.cq_ideal.proofs.FlowStands.{HasWaited, Stands}
 use Rattle.cq_laws.specs.Agreement.{Agrees}
-use Rattle.cq_laws.specs.Fabric.{Fabric, IsAmong, buffer, input}
+use Rattle.cq_laws.specs.Fabric.{Fabric}
 use Rattle.cq_laws.specs.Frozen.{ideal_of}
 use Rattle.cq_prefs.specs.FirstCells.{list_of}
 use Rattle.cq_rank.specs.Machine.{Machine, machine_at}
 use Rattle.cq_resume.specs.Sound.{IsBelowFloor, IsSound}
 use Rattle.cq_resume.specs.Switch.{HasShape, Switch}
-use Rattle.cq_resume.specs.Told.{class_in, class_of, fabric_told, output_of, queued_in, queued_of}
-use Rattle.cq_resume.proofs.GoesOn.{comes, has_of_among, in_buffer, in_list, is_cell_of, its_output, its_slot, of_traffic, ports_are, queued_named}
-use Rattle.cq_resume.proofs.Having.{Has, all_from_has, all_of_has, has_left, has_right}
+use Rattle.cq_resume.specs.Told.{class_in, class_of, fabric_told, output_of, queued_in}
+use Rattle.cq_resume.proofs.GoesOn.{comes, is_cell_of, its_output, its_slot, of_traffic, ports_are, queued_named}
+use Rattle.cq_resume.proofs.Having.{Has, all_from_has, all_of_has}
 use Rattle.cq_simulate.proofs.NamedFlow.{waits_there}
 use Rattle.cq_state.specs.State.{IsInRange}
-use Rattle.cq_state.specs.declared.state.Named.{Named}
 use Rattle.cq_state.specs.declared.state.State.{State}
 
 none_later : (xs : List Queued) → EachCell IsBefore xs → EachCell NoLater xs

@@ -74,8 +74,8 @@ pub record HasHad (ms : List Machine) (slot : ℕ) (cells : List (Option Cell)) 
   pub same : IsSameSwitch old new
 
 -- what left in a slot stands in a list of its own, and is taken over from there
-module _ (ms : List Machine) (slot : ℕ) (cells : List (Option Cell)) (old new : IdealSwitch)
-    (leaving left : RoomView Departure) (none : leaving.items ≡ []) (had : HasHad ms slot cells old new leaving left)
+module _ {ms : List Machine} {slot : ℕ} {cells : List (Option Cell)} {old new : IdealSwitch}
+    {leaving left : RoomView Departure} (none : leaving.items ≡ []) (had : HasHad ms slot cells old new leaving left)
   where
     left_here : (s : LimitedSent) × HaveLeft slot s.gone leaving left
     left_here =
@@ -111,7 +111,7 @@ module _ (ms : List Machine) (slot : ℕ) (cells : List (Option Cell)) (old new 
       same = had.same;
     }
 
-module _ (M : List ℕ → Machine) (came : List Arrival) (first : IdealSwitch) (first_sent : RoomView Departure)
+module _ (M : List ℕ → Machine) {came : List Arrival} {first : IdealSwitch} {first_sent : RoomView Departure}
     (ready : IsReady (map M first.fixed) came first first_sent) where
   abbrev pub Before : ℕ → IdealSwitch → RoomView Departure → Type 0
   Before slot now sent = Running (map M first.fixed) came first first_sent slot (enough came - slot) now sent
@@ -121,7 +121,7 @@ module _ (M : List ℕ → Machine) (came : List Arrival) (first : IdealSwitch) 
       subst (λ (n : ℕ). Running (map M first.fixed) came first first_sent 0 n first first_sent) (omega arith)
       (running_first (map M first.fixed) came first first_sent ready)
 
-  module _ (slot : ℕ) (now : IdealSwitch) (sent : RoomView Departure) (r : Before slot now sent)
+  module _ {slot : ℕ} {now : IdealSwitch} {sent : RoomView Departure} (r : Before slot now sent)
       (more : end_of came ≤ slot → waiting now.state.lists ≡ 0 → ⊥) where
     pub a_slot_left : slot < enough came
     a_slot_left =
@@ -199,7 +199,7 @@ module _ (M : List ℕ → Machine) (came : List Arrival) (first : IdealSwitch) 
         (sym (as_now cells are) ∙ slot_err (its_slot (map M now.fixed) slot cells now) fault answer)
 
   -- a stretch is skipped
-  module _ (slot next : ℕ) (now new : IdealSwitch) (sent : RoomView Departure) (r : Before slot now sent)
+  module _ {slot next : ℕ} {now new : IdealSwitch} {sent : RoomView Departure} (r : Before slot now sent)
       (quiet : IsQuiet came slot next) (rested : HasRested (map M now.fixed) slot next now new) where
     ran : limited_run first.limits (map M first.fixed) slot (replicate (next - slot) no_arrivals) (marked_state now)
         ≡ Ok (nothing_came (next - slot) (length now.fixed) (marked_state new))
@@ -234,20 +234,19 @@ module _ (M : List ℕ → Machine) (came : List Arrival) (first : IdealSwitch) 
         more (omega arith) (ap waiting (sym rested.lists) ∙ none))
         (cases_lt slot next)
 
-  pub at_end : (slot : ℕ) (now : IdealSwitch) (sent : RoomView Departure) → Before slot now sent → end_of came ≤ slot →
-      All (λ cells. cells ≡ []) now.state.lists →
-      departures_limited (limited_run first.limits (map M first.fixed) 0 (traffic_of came) (marked_state first))
-      ≡ Ok sent.items
-  at_end slot now sent r le none =
-      whole_run first.limits (map M first.fixed) came (marked_state first)
-      ∙ running_over (map M first.fixed) came first first_sent slot (enough came - slot) now sent r le
-      (none_waits now.state.lists none)
+  module _ {slot : ℕ} {now : IdealSwitch} {sent : RoomView Departure} (r : Before slot now sent) where
+    pub at_end : end_of came ≤ slot → All (λ cells. cells ≡ []) now.state.lists →
+        departures_limited (limited_run first.limits (map M first.fixed) 0 (traffic_of came) (marked_state first))
+        ≡ Ok sent.items
+    at_end le none =
+        whole_run first.limits (map M first.fixed) came (marked_state first)
+        ∙ running_over (map M first.fixed) came first first_sent slot (enough came - slot) now sent r le
+        (none_waits now.state.lists none)
 
-  -- so no departure is of a late slot
-  pub early_at_end : (slot : ℕ) (now : IdealSwitch) (sent : RoomView Departure) → Before slot now sent →
-      slots_of sent.items ≤ 2 ^ 63 + 2 ^ 35
-  early_at_end slot now sent r =
-      let short : enough came ≤ 2 ^ 63 + 2 ^ 35 = ready.short in
-      let left : slot + (enough came - slot) ≡ enough came = r.left in
-      let last : slots_of sent.items ≤ slot = r.early in
-      omega arith
+    -- so no departure is of a late slot
+    pub early_at_end : slots_of sent.items ≤ 2 ^ 63 + 2 ^ 35
+    early_at_end =
+        let short : enough came ≤ 2 ^ 63 + 2 ^ 35 = ready.short in
+        let left : slot + (enough came - slot) ≡ enough came = r.left in
+        let last : slots_of sent.items ≤ slot = r.early in
+        omega arith

@@ -26,7 +26,7 @@ use Rattle.cq_state.specs.declared.state.Sent.{Sent}
 use Rattle.cq_stopped.proofs.Joined.{all_of, is_at, pairs_join, pairs_of_all, pairs_of_images}
 use Rattle.cq_stopped.proofs.Named.{Waiting, is_of_one, is_waiting}
 use Rattle.cq_stopped.proofs.Ran.{IsSentRight, Known}
-use Rattle.cq_stopped.proofs.Standing.{differ_left, each_pair_of, each_sent, has_left_it, same_cell, same_waiting, waits_at, waits_behind}
+use Rattle.cq_stopped.proofs.Standing.{differ_left, each_listed, each_pair_of, each_sent, has_left_it, same_cell, same_waiting, waits_at, waits_behind}
 use Rattle.cq_stopped.proofs.Stepping.{among_of_has}
 use Rattle.cq_stopped.specs.Stopped.{told_state}
 
@@ -59,13 +59,10 @@ module _ (w : Switch) (at : Taken) (ideal : IdealState) (cs : List (List (Option
 
   listed_pairs : EachPair Other (all_of at.frozen.lists)
   listed_pairs =
-      pairs_of_all Other at.frozen.lists
-      (λ i.
-      pairs_with (λ (a b : Queued). a.cell.output ≡ b.cell.output → IsBefore a b) Other It
-      (λ a b first second leads slot place.
+      each_listed w at.frozen.next f ideal cs at.sent known Other (λ _. It) at_input
+      (λ _ a b first second leads slot place.
       let same = one a b first second slot place in
       itself a b same (leads (ap (λ (q : Queued). q.cell.output) same)))
-      (input f i) (all_from_has It (input f i) (at_input i)) (each_pair_of _ (input f i) (known.agrees.order i)))
       (λ i k a b lt first second slot place.
       let own = known.placed i a (among_of_has (input f i) a first) in
       let other = known.placed k b (among_of_has (input f k) b second) in

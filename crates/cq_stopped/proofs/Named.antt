@@ -48,26 +48,18 @@ module _ (w : Switch) (at : Taken) (ideal : IdealState) (cs : List (List (Option
     pub is : named_as cell ≡ c
     pub kept : Keeps cell
 
+  of_image : (lists : List (List Queued)) (c : Named) →
+      ((i : ℕ) (q : Queued) → Has (list_of lists i) q → Waiting q) → Has (map named_as (all_of lists)) c → IsWaiting c
+  of_image lists c waits has =
+      let it = image_has named_as (all_of lists) c has in
+      let place = is_at lists it.0 it.1 in
+      record { cell = it.0; is = it.2; waits = waits place.place it.0 place.has }
+
   pub is_waiting : (c : Named) → Has (queued_in (told_state w at)) c → IsWaiting c
   unfolding state_of
   is_waiting c has =
-      ⊎_elim
-      (λ (listed : Has (map named_as (all_of at.frozen.lists)) c).
-      let it = image_has named_as (all_of at.frozen.lists) c listed in
-      let place = is_at at.frozen.lists it.0 it.1 in
-      record {
-        cell = it.0;
-        is = it.2;
-        waits = waits_at w at.frozen.next f ideal cs at.sent known place.place it.0 place.has;
-      })
-      (λ (buffered : Has (map named_as (all_of at.frozen.buffers)) c).
-      let it = image_has named_as (all_of at.frozen.buffers) c buffered in
-      let place = is_at at.frozen.buffers it.0 it.1 in
-      record {
-        cell = it.0;
-        is = it.2;
-        waits = waits_behind w at.frozen.next f ideal cs at.sent known place.place it.0 place.has;
-      })
+      ⊎_elim (of_image at.frozen.lists c (waits_at w at.frozen.next f ideal cs at.sent known))
+      (of_image at.frozen.buffers c (waits_behind w at.frozen.next f ideal cs at.sent known))
       (has_cases (map named_as (all_of at.frozen.lists)) (map named_as (all_of at.frozen.buffers)) c has)
 
   pub is_of_one : (c : Named) → Has (named_in (told_state w at)) c → IsOfOne c

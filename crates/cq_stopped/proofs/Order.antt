@@ -23,7 +23,7 @@ use Rattle.cq_stopped.proofs.Joined.{all_of, pairs_of_all, pairs_of_images}
 use Rattle.cq_stopped.proofs.Lined.{AreMoved, DepartsBefore}
 use Rattle.cq_stopped.proofs.Named.{Keeps, Waiting, its_output}
 use Rattle.cq_stopped.proofs.Ran.{IsSentRight, Known}
-use Rattle.cq_stopped.proofs.Standing.{each_pair_of, has_left_it, waits_at, waits_behind}
+use Rattle.cq_stopped.proofs.Standing.{each_listed, each_pair_of, has_left_it, waits_at, waits_behind}
 use Rattle.cq_stopped.proofs.Stepping.{among_of_has}
 use Rattle.cq_stopped.specs.Stopped.{told_state}
 
@@ -55,12 +55,8 @@ module _ (w : Switch) (at : Taken) (ideal : IdealState) (cs : List (List (Option
 
   inputs_rise : EachPair NoLaterInput (all_of at.frozen.lists)
   inputs_rise =
-      pairs_of_all NoLaterInput at.frozen.lists
-      (λ i.
-      pairs_with (λ (a b : Queued). a.cell.output ≡ b.cell.output → IsBefore a b) NoLaterInput
-      (λ (q : Queued). q.key.input ≡ i) (λ a b first second leads. omega arith) (input f i)
-      (all_from_has (λ (q : Queued). q.key.input ≡ i) (input f i) (placed i))
-      (each_pair_of _ (input f i) (known.agrees.order i)))
+      each_listed w at.frozen.next f ideal cs at.sent known NoLaterInput (λ i q. q.key.input ≡ i) placed
+      (λ i a b first second leads. omega arith)
       (λ i k a b lt first second. let x = placed i a first in let y = placed k b second in omega arith)
 
   abbrev Leads : Queued → Queued → Type 0
@@ -70,12 +66,8 @@ module _ (w : Switch) (at : Taken) (ideal : IdealState) (cs : List (List (Option
 
   keys_rise : EachPair Leads (all_of at.frozen.lists)
   keys_rise =
-      pairs_of_all Leads at.frozen.lists
-      (λ i.
-      pairs_with (λ (a b : Queued). a.cell.output ≡ b.cell.output → IsBefore a b) Leads It
-      (λ a b first second leads inputs outputs.
-      leads (sym (out a first.kept) ∙ outputs ∙ out b second.kept))
-      (input f i) (all_from_has It (input f i) (at_input i)) (each_pair_of _ (input f i) (known.agrees.order i)))
+      each_listed w at.frozen.next f ideal cs at.sent known Leads (λ _. It) at_input
+      (λ _ a b first second leads inputs outputs. leads (sym (out a first.kept) ∙ outputs ∙ out b second.kept))
       (λ i k a b lt first second inputs outputs.
       let x = placed i a first in let y = placed k b second in absurd (omega arith))
 

@@ -5,7 +5,7 @@ use Rattle.std.proofs.Common.{◌≡◌, ℕ, ◌<◌, ◌≤◌, ◌⊎◌, Lis
 use Rattle.std.proofs.lemmas.Bool.{cases_lt}
 use Rattle.std.proofs.lemmas.List.{get_or_past}
 use Rattle.cq_base.specs.Arriving.{arriving_at}
-use Rattle.cq_base.specs.Cells.{EachPair as EachCell}
+use Rattle.cq_base.specs.Cells.{EachPair as EachCell, IsBefore}
 use Rattle.cq_base.specs.declared.cell.Cell.{Cell}
 use Rattle.cq_base.specs.declared.cell.Departure.{Departure}
 use Rattle.cq_base.specs.declared.cell.Queued.{Queued}
@@ -19,7 +19,7 @@ use Rattle.cq_resume.proofs.GoesOn.{has_of_among}
 use Rattle.cq_resume.proofs.Having.{Has, all_from_has, all_of_has, has_left, has_right, pair_of_has}
 use Rattle.cq_resume.proofs.Pooled.{pairs_cross, pairs_left, pairs_right, pairs_with}
 use Rattle.cq_resume.specs.Switch.{Switch}
-use Rattle.cq_stopped.proofs.Joined.{has_number, pairs_by_number}
+use Rattle.cq_stopped.proofs.Joined.{all_of, has_number, pairs_by_number, pairs_of_all}
 use Rattle.cq_stopped.proofs.Ran.{Follows, IsOwn, IsSentRight, Known, left_at, pool_at}
 use Rattle.cq_stopped.proofs.Stepping.{among_of_has}
 
@@ -162,6 +162,19 @@ module _ (w : Switch) (n : ℕ) (f : Fabric) (ideal : IdealState) (cs : List (Li
       (all_weaker (IsSentRight w n) (λ (d : Departure). d.output < length w.machines) (λ d right. right.inside) sent
       known.departed)
       left_pairs)
+
+  -- and so of the lists: each cell stands in its list by what is known of it there
+  pub each_listed : (R : Queued → Queued → Type 0) (It : ℕ → Queued → Type 0) →
+      ((i : ℕ) (q : Queued) → Has (input f i) q → It i q) →
+      ((i : ℕ) (a b : Queued) → It i a → It i b → (a.cell.output ≡ b.cell.output → IsBefore a b) → R a b) →
+      ((i k : ℕ) (a b : Queued) → i < k → Has (input f i) a → Has (input f k) b → R a b) →
+      EachPair R (all_of f.inputs)
+  each_listed R It are leads apart =
+      pairs_of_all R f.inputs
+      (λ i.
+      pairs_with (λ (a b : Queued). a.cell.output ≡ b.cell.output → IsBefore a b) R (It i) (leads i) (input f i)
+      (all_from_has (It i) (input f i) (are i)) (each_pair_of _ (input f i) (known.agrees.order i)))
+      apart
 
   pub waiting_pairs : (j : ℕ) → j < length w.machines → EachPair Follows (list_of ideal.lists j)
   waiting_pairs j inside = pairs_right Follows (left_at j sent) (list_of ideal.lists j) (pairs_at j inside)

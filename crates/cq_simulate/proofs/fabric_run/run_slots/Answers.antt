@@ -17,10 +17,8 @@ stands : (g : given.Over) (c : After-arrivals g) →
     c.args.engine.now c.args.sent.now c.args.note.now c.skip-slot.result c.skip-slot.new.engine c.slots.sent
     c.slots.note
 stands g c =
-    let came = c.args.schedule.now.came in
-    run_stands g.R.Rank.machine came c.args.engine.now c.args.sent.now c.args.note.now c.requires.ready c.slots.slot
-    c.skip-slot.result c.slots.engine c.skip-slot.new.engine c.slots.sent c.slots.note c.slots.invariant.runs
-    (goes_on c.is_over.result (end_of came) c.slots.slot (IsEmptyFabric c.slots.engine.fabric) c.slots-test.true
+    run_stands g.R.Rank.machine c.requires.ready c.slots.invariant.runs
+    (goes_on c.is_over.result (end_of c.args.schedule.now.came) c.slots.slot (IsEmptyFabric c.slots.engine.fabric) c.slots-test.true
     c.is_over.ensures)
     c.skip-slot.ensures.quiet c.skip-slot.ensures.rested
 
@@ -55,9 +53,7 @@ pub slots-init : goal.slots-init
 slots-init g c =
     rw c.next-slot.ensures
     (record {
-      runs =
-          run_begins g.R.Rank.machine c.args.schedule.now.came c.args.engine.now c.args.sent.now c.args.note.now
-          c.requires.ready;
+      runs = run_begins g.R.Rank.machine c.requires.ready;
       none = c.requires.none;
       few = c.requires.few;
     })
@@ -114,9 +110,7 @@ pub take_all-requires : goal.take_all-requires
 take_all-requires g c =
     let at = goal.at.take_all-requires g c in
     let left : length c.slot.new.sent.items ≤ c.slots.leaving.spare =
-    few_leave (map g.R.Rank.machine c.skip-slot.new.engine.fixed) c.skip-slot.result c.arrivals.result.now
-    c.skip-slot.new.engine c.slot.new.self c.slots.leaving c.slot.new.sent c.slots.note c.slot.new.note
-    c.slots.invariant.none (had g at.In_ok-slot) in
+    few_leave c.slots.invariant.none (had g at.In_ok-slot) in
     let room = places g at.After-arrivals in
     let more : length c.skip-slot.new.engine.fixed ≤ c.slots.sent.spare = (can g at.After-arrivals).sent_room in
     omega arith
@@ -124,7 +118,6 @@ take_all-requires g c =
 pub slots-preserved : goal.slots-preserved
 slots-preserved g c =
     let at = goal.at.slots-preserved g c in
-    let ms = map g.R.Rank.machine c.skip-slot.new.engine.fixed in
     let done = had g at.In_ok-slot in
     let none = c.slots.invariant.none in
     let taken = c.take_all.ensures in
@@ -132,18 +125,12 @@ slots-preserved g c =
       runs =
           next_here (stands g at.After-arrivals) c.arrivals.result.now c.slot.new.self c.take_all.new.self
           c.slot.new.note (c.arrivals.ensures ∙ c.skip-slot.ensures.came)
-          (handed ms c.skip-slot.result c.arrivals.result.now c.skip-slot.new.engine c.slot.new.self c.slots.leaving
-          c.slot.new.sent c.slots.note c.slot.new.note none done c.slots.sent c.take_all.new.self
-          (record { items = taken.items; spare = taken.spare }));
+          (handed none done c.slots.sent c.take_all.new.self (record { items = taken.items; spare = taken.spare }));
       none = taken.none_left;
-      few =
-          room_is_back ms c.skip-slot.result c.arrivals.result.now c.skip-slot.new.engine c.slot.new.self
-          c.slots.leaving c.slot.new.sent c.slots.note c.slot.new.note none done c.take_all.new.sent taken.room
-          ∙ c.slots.invariant.few;
+      few = room_is_back none done c.take_all.new.sent taken.room ∙ c.slots.invariant.few;
     }
 
 pub returns-clause-run : goal.returns-clause-run
 returns-clause-run g c =
     let over = c.is_over.ensures.0 c.slots-test.false in
-    run_ends g.R.Rank.machine c.args.schedule.now.came c.args.engine.now c.args.sent.now c.args.note.now
-    c.requires.ready c.slots.slot c.slots.engine c.slots.sent c.slots.note c.slots.invariant.runs over.0 over.1
+    run_ends g.R.Rank.machine c.requires.ready c.slots.invariant.runs over.0 over.1

@@ -12,19 +12,17 @@ use Rattle.cq_simulate.proofs.ideal_run.run_slots.Goals.{After-arrivals, In_ok-s
 
 -- once quiet slots are skipped, the run stands at this slot
 stands : (g : given.Over) (c : After-arrivals g) →
-    Before g.R.Rank.machine c.args.schedule.now.came c.args.ideal.now c.args.sent.now c.requires.ready
+    Before g.R.Rank.machine c.requires.ready
     c.skip-slot.result c.skip-slot.new.ideal c.slots.sent
 stands g c =
-    at_rest g.R.Rank.machine c.args.schedule.now.came c.args.ideal.now c.args.sent.now c.requires.ready
-    c.slots.slot c.skip-slot.result c.slots.ideal c.skip-slot.new.ideal c.slots.sent c.slots.invariant.runs
+    at_rest g.R.Rank.machine c.requires.ready c.slots.invariant.runs
     c.skip-slot.ensures.quiet c.skip-slot.ensures.rested
 
 -- and is not over there
 going : (g : given.Over) (c : After-arrivals g) → end_of c.args.schedule.now.came ≤ c.skip-slot.result →
     waiting c.skip-slot.new.ideal.state.lists ≡ 0 → ⊥
 going g c =
-    more_at_rest g.R.Rank.machine c.args.schedule.now.came c.args.ideal.now c.args.sent.now c.requires.ready
-    c.slots.slot c.skip-slot.result c.slots.ideal c.skip-slot.new.ideal c.slots.sent c.slots.invariant.runs
+    more_at_rest g.R.Rank.machine c.requires.ready c.slots.invariant.runs
     c.skip-slot.ensures.quiet c.skip-slot.ensures.rested
     (not_over c.is_over.result (end_of c.args.schedule.now.came) c.slots.slot c.slots.ideal.state.lists
     c.slots-test.true c.is_over.ensures)
@@ -50,7 +48,7 @@ had g c =
 pub slots-init : goal.slots-init
 slots-init g c =
     record {
-      runs = at_first g.R.Rank.machine c.args.schedule.now.came c.args.ideal.now c.args.sent.now c.requires.ready;
+      runs = at_first g.R.Rank.machine c.requires.ready;
       none = c.requires.none;
       few = c.requires.few;
     }
@@ -66,17 +64,13 @@ slot-requires g c =
       running = here.running;
       next = sym c.skip-slot.ensures.rested.next;
       early =
-          early g.R.Rank.machine c.args.schedule.now.came c.args.ideal.now c.args.sent.now c.requires.ready
-          c.skip-slot.result c.skip-slot.new.ideal c.slots.sent here more;
+          early g.R.Rank.machine c.requires.ready here more;
       arrivals =
-          arrivals_fit g.R.Rank.machine c.args.schedule.now.came c.args.ideal.now c.args.sent.now c.requires.ready
-          c.skip-slot.result c.skip-slot.new.ideal c.slots.sent here more c.arrivals.result.now are;
+          arrivals_fit g.R.Rank.machine c.requires.ready here more c.arrivals.result.now are;
       spare =
-          room_left g.R.Rank.machine c.args.schedule.now.came c.args.ideal.now c.args.sent.now c.requires.ready
-          c.skip-slot.result c.skip-slot.new.ideal c.slots.sent here more c.arrivals.result.now are;
+          room_left g.R.Rank.machine c.requires.ready here more c.arrivals.result.now are;
       refused =
-          room_to_count g.R.Rank.machine c.args.schedule.now.came c.args.ideal.now c.args.sent.now c.requires.ready
-          c.skip-slot.result c.skip-slot.new.ideal c.slots.sent here more;
+          room_to_count g.R.Rank.machine c.requires.ready here more;
       sent = omega arith;
     }
 
@@ -85,8 +79,7 @@ returns-in_err-slot-clause-fault g c =
     let at = (goal.at.returns-in_err-slot-clause-fault g c).After-arrivals in
     let p = err_from_is_err_and c.from_residual.result c.from_residual.ensures.1 in
     rw (p.1, p.2)
-    (at_fault g.R.Rank.machine c.args.schedule.now.came c.args.ideal.now c.args.sent.now c.requires.ready
-    c.skip-slot.result c.skip-slot.new.ideal c.slots.sent (stands g at) (going g at)
+    (at_fault g.R.Rank.machine c.requires.ready (stands g at) (going g at)
     c.arrivals.result.now c.in_err-slot.field-0.0 (c.arrivals.ensures ∙ c.skip-slot.ensures.came)
     (sym c.in_err-slot.was ∙ c.slot.ensures.answer))
 
@@ -94,8 +87,7 @@ pub slots-smaller : goal.slots-smaller
 slots-smaller g c =
     let at = (goal.at.slots-smaller g c).After-arrivals in
     let left =
-    a_slot_left g.R.Rank.machine c.args.schedule.now.came c.args.ideal.now c.args.sent.now c.requires.ready
-    c.skip-slot.result c.skip-slot.new.ideal c.slots.sent (stands g at) (going g at) in
+    a_slot_left g.R.Rank.machine c.requires.ready (stands g at) (going g at) in
     let late = c.skip-slot.ensures.quiet.late in
     omega arith
 
@@ -103,45 +95,33 @@ pub take_all-requires : goal.take_all-requires
 take_all-requires g c =
     let at = goal.at.take_all-requires g c in
     let left : length c.slot.new.sent.items ≤ c.slots.leaving.spare =
-    few_leave (map g.R.Rank.machine c.skip-slot.new.ideal.fixed) c.skip-slot.result c.arrivals.result.now
-    c.skip-slot.new.ideal c.slot.new.self c.slots.leaving c.slot.new.sent c.slots.invariant.none
-    (had g at.In_ok-slot) in
+    few_leave c.slots.invariant.none (had g at.In_ok-slot) in
     let few = places g at.After-arrivals in
     let room : length c.skip-slot.new.ideal.fixed ≤ c.slots.sent.spare =
-    room_sent g.R.Rank.machine c.args.schedule.now.came c.args.ideal.now c.args.sent.now c.requires.ready
-    c.skip-slot.result c.skip-slot.new.ideal c.slots.sent (stands g at.After-arrivals) (going g at.After-arrivals) in
+    room_sent g.R.Rank.machine c.requires.ready (stands g at.After-arrivals) (going g at.After-arrivals) in
     omega arith
 
 pub slots-preserved : goal.slots-preserved
 slots-preserved g c =
     let at = goal.at.slots-preserved g c in
-    let ms = map g.R.Rank.machine c.skip-slot.new.ideal.fixed in
     let done = had g at.In_ok-slot in
     let none = c.slots.invariant.none in
     let taken = c.take_all.ensures in
     record {
       runs =
-          at_next g.R.Rank.machine c.args.schedule.now.came c.args.ideal.now c.args.sent.now c.requires.ready
-          c.skip-slot.result c.skip-slot.new.ideal c.slots.sent (stands g at.After-arrivals)
+          at_next g.R.Rank.machine c.requires.ready (stands g at.After-arrivals)
           (going g at.After-arrivals) c.arrivals.result.now c.slot.new.self c.take_all.new.self
           (c.arrivals.ensures ∙ c.skip-slot.ensures.came)
-          (handed ms c.skip-slot.result c.arrivals.result.now c.skip-slot.new.ideal c.slot.new.self c.slots.leaving
-          c.slot.new.sent none done c.slots.sent c.take_all.new.self
-          (record { items = taken.items; spare = taken.spare }));
+          (handed none done c.slots.sent c.take_all.new.self (record { items = taken.items; spare = taken.spare }));
       none = taken.none_left;
-      few =
-          room_is_back ms c.skip-slot.result c.arrivals.result.now c.skip-slot.new.ideal c.slot.new.self
-          c.slots.leaving c.slot.new.sent none done c.take_all.new.sent taken.room
-          ∙ c.slots.invariant.few;
+      few = room_is_back none done c.take_all.new.sent taken.room ∙ c.slots.invariant.few;
     }
 
 pub returns-clause-sent : goal.returns-clause-sent
 returns-clause-sent g c =
     let over = c.is_over.ensures.0 c.slots-test.false in
-    at_end g.R.Rank.machine c.args.schedule.now.came c.args.ideal.now c.args.sent.now c.requires.ready
-    c.slots.slot c.slots.ideal c.slots.sent c.slots.invariant.runs over.0 over.1
+    at_end g.R.Rank.machine c.requires.ready c.slots.invariant.runs over.0 over.1
 
 pub returns-clause-early : goal.returns-clause-early
 returns-clause-early g c =
-    early_at_end g.R.Rank.machine c.args.schedule.now.came c.args.ideal.now c.args.sent.now c.requires.ready
-    c.slots.slot c.slots.ideal c.slots.sent c.slots.invariant.runs
+    early_at_end g.R.Rank.machine c.requires.ready c.slots.invariant.runs

@@ -13,14 +13,9 @@ stands : (g : given.Over) (c : After-arrivals-arrivals g) →
     Stands false c.args.last g.R.Rank.machine c.args.schedule.now.came c.args.engine.now c.args.sent.now
     c.args.note.now c.skip_before-slot.result c.skip_before-slot.new.engine c.slots.sent c.slots.note
 stands g c =
-    let M = g.R.Rank.machine in
-    let came = c.args.schedule.now.came in
     let skipped = c.skip_before-slot.ensures in
-    part_stands M came c.args.last c.args.engine.now c.args.sent.now c.args.note.now c.requires.ready
-    c.skip_before-slot.result c.skip_before-slot.new.engine c.slots.sent c.slots.note
-    (part_rests M came c.args.last c.args.engine.now c.args.sent.now c.args.note.now c.requires.ready c.slots.slot
-    c.skip_before-slot.result c.slots.engine c.skip_before-slot.new.engine c.slots.sent c.slots.note
-    c.slots.invariant.crossing skipped.late skipped.within skipped.none skipped.rested)
+    part_stands g.R.Rank.machine c.requires.ready
+    (part_rests g.R.Rank.machine c.requires.ready c.slots.invariant.crossing skipped.late skipped.within skipped.none skipped.rested)
     c.if-slot-last.false
 
 -- and finds all that it asks for
@@ -37,9 +32,7 @@ pub slots-init : goal.slots-init
 slots-init g c =
     rw c.next-slot.ensures
     (record {
-      crossing =
-          part_begins g.R.Rank.machine c.args.schedule.now.came c.args.last c.args.engine.now c.args.sent.now
-          c.args.note.now c.requires.ready;
+      crossing = part_begins g.R.Rank.machine c.requires.ready;
       before = c.requires.ready.next;
     })
 
@@ -112,21 +105,15 @@ slots-preserved g c =
 
 pub returns-then-slot-last-clause-run : goal.returns-then-slot-last-clause-run
 returns-then-slot-last-clause-run g c =
-    let M = g.R.Rank.machine in
-    let came = c.args.schedule.now.came in
     let skipped = c.skip_before-slot.ensures in
     let over = c.if-slot-last.true in
-    let within = c.skip_before-slot.ensures.within in
-    part_ends M came c.args.last c.args.engine.now c.args.sent.now c.args.note.now c.requires.ready
-    c.skip_before-slot.result c.skip_before-slot.new.engine c.slots.sent c.slots.note
-    (part_rests M came c.args.last c.args.engine.now c.args.sent.now c.args.note.now c.requires.ready c.slots.slot
-    c.skip_before-slot.result c.slots.engine c.skip_before-slot.new.engine c.slots.sent c.slots.note
-    c.slots.invariant.crossing skipped.late skipped.within skipped.none skipped.rested)
+    let within = skipped.within in
+    part_ends g.R.Rank.machine c.requires.ready
+    (part_rests g.R.Rank.machine c.requires.ready c.slots.invariant.crossing skipped.late skipped.within skipped.none skipped.rested)
     (omega arith)
 
 pub returns-clause-run : goal.returns-clause-run
 returns-clause-run g c =
     let over = c.slots-test.false in
     let before = c.slots.invariant.before in
-    part_ends g.R.Rank.machine c.args.schedule.now.came c.args.last c.args.engine.now c.args.sent.now c.args.note.now
-    c.requires.ready c.slots.slot c.slots.engine c.slots.sent c.slots.note c.slots.invariant.crossing (omega arith)
+    part_ends g.R.Rank.machine c.requires.ready c.slots.invariant.crossing (omega arith)
