@@ -70,7 +70,8 @@ can_be_made t came p tables are from to same =
 pub fresh_for : (t : Tables) (came : List Arrival) (p : Ports) (engine : EngineView) {from to : List ℕ}
     {limits : List (Option ℕ)} → ArePortsOf t came p → from ≡ p.from_inputs.items → to ≡ p.to_outputs.items →
     limits ≡ t.limits →
-    engine ≡ fresh_engine (length p.ranks.items) (map fixed_of p.ranks.items) (map state_of p.ranks.items) from to limits →
+    engine
+    ≡ fresh_engine (length p.ranks.items) (map fixed_of p.ranks.items) (map state_of p.ranks.items) from to limits →
     IsFreshFor t came engine
 fresh_for t came p engine are from to same is =
     let fixed : engine.fixed ≡ map fixed_of p.ranks.items = ap (λ (e : EngineView). e.fixed) is in

@@ -397,7 +397,8 @@ module _ (M : List ℕ → Machine) {came : List Arrival} {first : EngineView} {
   -- quiet slots are skipped
   module _ {slot : ℕ} {now : EngineView} {sent : RoomView Departure} {note : RoomView Transfer}
       (runs : Runs slot now sent note) where
-    pub run_stands : {next : ℕ} {new : EngineView} → (end_of came ≤ slot → IsEmptyFabric now.fabric → ⊥) → IsQuiet came slot next →
+    pub run_stands : {next : ℕ} {new : EngineView} → (end_of came ≤ slot → IsEmptyFabric now.fabric → ⊥) →
+        IsQuiet came slot next →
         HasRested (map M now.fixed) slot next now new →
         Stands true (over_by came first.next) M came first first_sent first_note next new sent note
     run_stands {next} {new} more quiet rested =
@@ -408,11 +409,10 @@ module _ (M : List ℕ → Machine) {came : List Arrival} {first : EngineView} {
         let within = skipped_within came slot next end quiet (ends_in came first.next) (omega arith) in
         let there =
         at_rest true end M came first first_sent first_note ready few_all slot next now new sent note runs quiet.late
-        within
-        quiet.none (λ _ lt. quiet.more lt) rested in
+        within quiet.none (λ _ lt. quiet.more lt) rested in
         let going =
-        more_at_rest true end M came first first_sent first_note ready few_all slot next now new sent note runs quiet.late
-        within quiet.none (λ _ lt. quiet.more lt) rested still in
+        more_at_rest true end M came first first_sent first_note ready few_all slot next now new sent note runs
+        quiet.late within quiet.none (λ _ lt. quiet.more lt) rested still in
         record {
           ready = ready;
           few = few_all;

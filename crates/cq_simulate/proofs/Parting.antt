@@ -43,7 +43,8 @@ module _ (t : Tables) (s : Scheduled) {first : EngineView} {first_sent : RoomVie
       ∙ ap (λ (n : ℕ). empty_limited_fabric n (openings_of t.setup)) (sym (port_count made.fresh) ∙ machines_are)
 
   pub parted_of : (slots : ℕ) (last : EngineView) (sent : RoomView Departure) (note : RoomView Transfer)
-      (frozen : Frozen) → HasPartedTo (map machine_from first.fixed) s.came slots first last first_sent sent first_note note →
+      (frozen : Frozen) →
+      HasPartedTo (map machine_from first.fixed) s.came slots first last first_sent sent first_note note →
       frozen ≡ frozen_of last →
       IsParted (switch_of t s) (openings_of t.setup) slots
       (record { frozen = frozen; sent = sent.items; note = note.items })
@@ -67,7 +68,8 @@ module _ (t : Tables) (s : Scheduled) {first : EngineView} {first_sent : RoomVie
       let refused_are =
       ap (λ (x : Frozen). x.refused) is
       ∙ has.went.refused
-      ∙ ap (with_refused lost) (begins.refused ∙ ap (λ (l : List (Option ℕ)). refused_counts l []) (limits_are made.fresh)) in
+      ∙ ap (with_refused lost) (begins.refused
+      ∙ ap (λ (l : List (Option ℕ)). refused_counts l []) (limits_are made.fresh)) in
       record {
         records = rs;
         next = ap (λ (x : Frozen). x.next) is ∙ has.next;

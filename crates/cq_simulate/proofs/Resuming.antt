@@ -96,7 +96,8 @@ module _ (M : List ℕ → Machine) (t : Tables) (s : Scheduled) (first : Engine
                   (sym (take_all (length rs) rs (omega arith))) has.went.runs);
               all_came = has.all_came;
               empty = has.empty;
-              first = λ m f run le none. has.first m f (of_engine M t s first machines limits m (take m rs) f run) le none;
+              first = λ m f run le none.
+                  has.first m f (of_engine M t s first machines limits m (take m rs) f run) le none;
             });
         kept_is =
             subst (λ (x : Frozen).

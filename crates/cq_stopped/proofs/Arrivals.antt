@@ -1,7 +1,7 @@
 -- The first clause: each name is of an arrival before the next slot, and none is there twice. Two that wait under one
 -- name are one cell, and that stands at one place; what left has other names than what waits; and what left one output
 -- left it once.
-use Rattle.std.proofs.Common.{◌≡◌, ℕ, ◌<◌, List, length, map, Option, refl, sym, ap, ◌∙◌, subst, arith}
+use Rattle.std.proofs.Common.{◌≡◌, ℕ, ◌<◌, List, map, Option, refl, sym, ap, ◌∙◌, subst, arith}
 use Rattle.std.specs.Prelude.{IsSome}
 use Rattle.std.proofs.lemmas.List.Elements.{All-from_recursion}
 use Rattle.cq_base.specs.Cells.{IsBefore}

@@ -2,10 +2,10 @@
 -- keep the laws of machines and begin in a state of their size, and its arrivals, of which there are not many. They
 -- come packet after packet at each input. A capture is a file of 2^28 bytes at most, and each packet and each cell of
 -- it takes a byte there, so that no packet's number and no cell's place in its packet comes near 2^32.
-use Rattle.std.proofs.Common.{◌≡◌, ℕ, zero, suc, ◌+◌, ◌*◌, ◌<◌, ◌≤◌, ◌^◌, min, List, [], ◌∷◌, length, map, flat_map, get_or, refl, sym, ap, ◌∙◌, subst, arith, length-append}
+use Rattle.std.proofs.Common.{◌≡◌, ℕ, zero, suc, ◌+◌, ◌*◌, ◌<◌, ◌≤◌, ◌^◌, min, List, [], ◌∷◌, length, map, flat_map, refl, sym, ap, ◌∙◌, subst, arith, length-append}
 use Rattle.std.specs.Prelude.{fold, replicate, slice_index_or, slice_set, sum_by}
 use Rattle.std.specs.List.{AllByRecursion, range_with_len}
-use Rattle.std.proofs.lemmas.List.{get_or-map, length-map, length-replicate}
+use Rattle.std.proofs.lemmas.List.{length-map}
 use Rattle.std.proofs.lemmas.List.Sums.{sum_by-cons}
 use Rattle.cq_base.specs.Arriving.{Arrival}
 use Rattle.cq_base.specs.declared.setup.ClassRow.{ClassRow}
@@ -20,8 +20,7 @@ use Rattle.cq_cells.specs.Scheduled.{Scheduled}
 use Rattle.cq_cells.specs.Traffic.{IsRecorded, IsTraffic}
 use Rattle.cq_pcap.specs.Captured.{Captured}
 use Rattle.cq_rank.specs.Classes.{level_count, row_at}
-use Rattle.cq_rank.specs.Machine.{KeepsLaws, Machine, first_come, machine_at}
-use Rattle.cq_rank.specs.MachineLaws.{first_come_laws, priority_laws}
+use Rattle.cq_rank.specs.Machine.{KeepsLaws, Machine, machine_at}
 use Rattle.cq_resume.proofs.Each.{all_both}
 use Rattle.cq_resume.proofs.Scheduling.{schedule_known}
 use Rattle.cq_resume.specs.Finding.{ArePackets}
@@ -30,7 +29,6 @@ use Rattle.cq_route.specs.Tables.{AreTables, IsSetup}
 use Rattle.cq_route.specs.declared.tables.Tables.{Tables}
 use Rattle.cq_scfq.specs.Disciplines.{machine_of, machines_of, opening_of, openings_of}
 use Rattle.cq_scfq.specs.Fair.{fair_rank}
-use Rattle.cq_scfq.specs.FairLaws.{fair_laws}
 use Rattle.cq_simulate.proofs.Runnable.{keeps_laws, kind, machine_is, right_classes, right_size}
 use Rattle.cq_stopped.proofs.Joined.{all_of_images}
 use Rattle.cq_stopped.specs.Stopped.{AreRecorded}

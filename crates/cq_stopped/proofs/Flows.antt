@@ -1,7 +1,7 @@
 -- The fifth clause: the cells of each flow left in the order of arrival, those that wait came after them, and of two
 -- that wait the one that came first goes first. What left an output, and then what waits for it in the order of keys,
 -- stands so.
-use Rattle.std.proofs.Common.{◌≡◌, ℕ, ◌<◌, ◌⊎◌, true, List, length, map, Option, sym, ap, ◌∙◌, subst, ⊎_elim, arith}
+use Rattle.std.proofs.Common.{◌≡◌, ℕ, ◌<◌, ◌⊎◌, true, List, map, Option, sym, ap, ◌∙◌, subst, ⊎_elim, arith}
 use Rattle.std.proofs.lemmas.List.Elements.{All-from_recursion}
 use Rattle.cq_base.specs.Cells.{IsBefore}
 use Rattle.cq_base.specs.declared.cell.Departure.{Departure}
@@ -12,7 +12,6 @@ use Rattle.cq_laws.specs.Frozen.{fabric_in}
 use Rattle.cq_prefs.specs.FirstCells.{list_of}
 use Rattle.cq_resume.proofs.Chained.{EachPair, all_pairs}
 use Rattle.cq_resume.proofs.Having.{Has, all_from_has, all_of_has, image_has, pair_of_has}
-use Rattle.cq_resume.proofs.Pooled.{pairs_with}
 use Rattle.cq_resume.specs.Reading.{named_as, sent_as, state_of}
 use Rattle.cq_resume.specs.Sound.{KeepArrivalOrder, OfOneFlow}
 use Rattle.cq_resume.specs.Switch.{Switch}

@@ -1,8 +1,9 @@
 -- The numbers of a stopped run's state are in range.
-use Rattle.std.proofs.Common.{◌≡◌, ℕ, zero, suc, ◌+◌, ◌-◌, ◌<◌, ◌≤◌, ◌^◌, Bool, true, false, cond, List, [], ◌∷◌, length, map, fold, min, max, sym, ap, ◌∙◌, subst, arith}
+use Rattle.std.proofs.Common.{◌≡◌, ℕ, zero, suc, ◌+◌, ◌-◌, ◌<◌, ◌≤◌, ◌^◌, Bool, not, List, [], ◌∷◌, length, map, fold, min, max, refl, sym, ap, ◌∙◌, subst, arith}
 use Rattle.std.specs.Prelude.{IfSome, filter, slice_index_or, sum}
 use Rattle.std.specs.List.{AllByRecursion, enumerate_from, flat_map, range_with_len, reduce}
 use Rattle.std.proofs.lemmas.List.{length-map}
+use Rattle.std.proofs.lemmas.List.Filters.{length-filter_both}
 use Rattle.std.proofs.lemmas.List.FromFn.{length-map-range_with_len}
 use Rattle.cq_base.specs.Key.{is_before}
 use Rattle.cq_base.specs.declared.cell.Queued.{Queued}
@@ -42,7 +43,7 @@ use Rattle.cq_stopped.specs.Stopped.{told_state}
 -- ## Figures of inputs
 
 few_kept : {X : Type 0} (p : X → Bool) (xs : List X) → length (filter p xs) ≤ length xs
-few_kept p xs = omega (arith, length-filter_both p (λ (x : X). not (p x)) (λ _. refl) xs)
+few_kept {X} p xs = omega (arith, length-filter_both p (λ (x : X). not (p x)) (λ _. refl) xs)
 
 module _ (last : ℕ) where
   abbrev IsFew : ℕ → Type 0

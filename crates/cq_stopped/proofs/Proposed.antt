@@ -1,16 +1,13 @@
 -- How many proposals a run makes. A phase has no more than the number of ports squared, and none where no cell waits
 -- at an input. And in each slot in which a cell waits or comes one leaves, so there are no more such slots than cells
 -- that came.
-use Rattle.std.proofs.Common.{◌≡◌, ℕ, zero, suc, ◌+◌, ◌*◌, ◌-◌, ◌<◌, ◌≤◌, Bool, true, false, List, [], ◌∷◌, ◌++◌, length, map, get_or, fold, max, replicate, Option, Some, None, refl, sym, ap, ◌∙◌, subst, inl, ⊎_elim, arith, mul-le-mul}
+use Rattle.std.proofs.Common.{◌≡◌, ℕ, zero, suc, ◌+◌, ◌*◌, ◌-◌, ◌<◌, ◌≤◌, Bool, true, false, List, [], ◌∷◌, ◌++◌, length, map, fold, max, replicate, Option, Some, None, refl, sym, ap, ◌∙◌, subst, inl, ⊎_elim, arith, mul-le-mul}
 use Rattle.std.specs.Prelude.{is_some, sum}
-use Rattle.std.specs.List.{flat_map, range_with_len}
-use Rattle.std.proofs.lemmas.Bool.{cases_lt, eqb-true}
-use Rattle.std.proofs.lemmas.List.{length-map, nil_from_length}
-use Rattle.std.proofs.lemmas.List.FromFn.{get_or-map-range_with_len, length-map-range_with_len}
-use Rattle.std.proofs.lemmas.List.Sums.{sum_by-append, sum_by-cons, sum_by-le}
+use Rattle.std.specs.List.{flat_map}
+use Rattle.std.proofs.lemmas.Bool.{cases_lt}
+use Rattle.std.proofs.lemmas.List.Sums.{sum_by-append, sum_by-cons}
 use Rattle.cq_base.specs.Arrivals.{arrival_at}
 use Rattle.cq_base.specs.Arriving.{arriving}
-use Rattle.cq_base.specs.Cells.{is_for}
 use Rattle.cq_base.specs.declared.cell.Cell.{Cell}
 use Rattle.cq_base.specs.declared.cell.Queued.{Queued}
 use Rattle.cq_ideal.proofs.FlowCount.{come_count-first}
@@ -23,20 +20,15 @@ use Rattle.cq_ideal.specs.IdealRun.{empty_ideal}
 use Rattle.cq_ideal.specs.IdealSlot.{IdealState, Sent}
 use Rattle.cq_laws.proofs.Held.{hold_as_many}
 use Rattle.cq_laws.proofs.LimitedWhole.{limited_empty_agree}
-use Rattle.cq_laws.proofs.Members.{among_at, first_at}
-use Rattle.cq_laws.proofs.OneRun.{outputs_at}
 use Rattle.cq_laws.proofs.OneSlot.{same_slot}
 use Rattle.cq_laws.specs.Agreement.{Agrees, SendsAlike}
-use Rattle.cq_laws.specs.Fabric.{Fabric, IsAmong, IsFabric, input}
+use Rattle.cq_laws.specs.Fabric.{Fabric, IsAmong, input}
 use Rattle.cq_laws.specs.Holding.{fabric_held}
 use Rattle.cq_laws.specs.LimitedFabric.{LimitedRecord, slots_in}
 use Rattle.cq_laws.specs.Measures.{proposals_in}
 use Rattle.cq_laws.specs.Phases.{came_to, list_arrived}
-use Rattle.cq_prefs.proofs.InputOrder.{OutputsInRange, are_offers}
-use Rattle.cq_prefs.proofs.Places.{outputs_at_most}
-use Rattle.cq_prefs.specs.FirstCells.{list_of, orders_of, output_order}
-use Rattle.cq_prefs.specs.Orders.{Orders, outputs_of, place_in, ports}
-use Rattle.cq_prefs.specs.Pairing.{IsMatching, Partners, partner_of, proposals, spent}
+use Rattle.cq_prefs.specs.FirstCells.{list_of, orders_of}
+use Rattle.cq_prefs.specs.Pairing.{proposals}
 use Rattle.cq_resume.specs.Parts.{opening}
 use Rattle.cq_resume.specs.Switch.{Switch}
 use Rattle.cq_simulate.proofs.FabricCounts.{proposals_few, proposals_none, shorter}

@@ -11,7 +11,7 @@ use Rattle.std.proofs.lemmas.List.{get_or-replicate, get_or_past, length-replica
 use Rattle.std.proofs.lemmas.List.Edits.{length-insert}
 use Rattle.cq_base.specs.Arrivals.{arrival_at}
 use Rattle.cq_base.specs.Arriving.{arriving, arriving_at}
-use Rattle.cq_base.specs.Cells.{first_for, is_for, place_of_arrival, put, without_first}
+use Rattle.cq_base.specs.Cells.{first_for, is_for, place_of_arrival, put}
 use Rattle.cq_base.specs.Key.{is_before}
 use Rattle.cq_base.specs.declared.cell.Cell.{Cell}
 use Rattle.cq_base.specs.declared.cell.Queued.{Queued}

@@ -18,7 +18,8 @@ stands : (g : given.Over) (c : After-arrivals g) →
     c.slots.note
 stands g c =
     run_stands g.R.Rank.machine c.requires.ready c.slots.invariant.runs
-    (goes_on c.is_over.result (end_of c.args.schedule.now.came) c.slots.slot (IsEmptyFabric c.slots.engine.fabric) c.slots-test.true
+    (goes_on c.is_over.result (end_of c.args.schedule.now.came) c.slots.slot
+    (IsEmptyFabric c.slots.engine.fabric) c.slots-test.true
     c.is_over.ensures)
     c.skip-slot.ensures.quiet c.skip-slot.ensures.rested
 

@@ -26,7 +26,8 @@ pub take-requires-clause-can : goal.take-requires-clause-can
 take-requires-clause-can c =
     let first = first_unpacked c.departures.left c.pop_first.new.self c.in-Some.packed c.departure-departure.result
     c.in-Some.ensures c.departure-departure.ensures in
-    can_take c.departures.invariant first c.requires.tables c.requires.captures c.requires.whole c.index_mut.result.now c.index_mut.ensures.value
+    can_take c.departures.invariant first c.requires.tables c.requires.captures c.requires.whole
+    c.index_mut.result.now c.index_mut.ensures.value
 
 pub departures-smaller : goal.departures-smaller
 departures-smaller c = let shorter = ap length c.in-Some.ensures in omega arith
@@ -35,7 +36,8 @@ pub departures-preserved : goal.departures-preserved
 departures-preserved c =
     let first = first_unpacked c.departures.left c.pop_first.new.self c.in-Some.packed c.departure-departure.result
     c.in-Some.ensures c.departure-departure.ensures in
-    one_more c.departures.invariant first c.requires.tables c.requires.captures c.requires.whole c.index_mut.result.now c.index_mut.ensures.value
+    one_more c.departures.invariant first c.requires.tables c.requires.captures c.requires.whole
+    c.index_mut.result.now c.index_mut.ensures.value
     c.take.new.self c.in_ok-take.ensures
 
 pub returns : goal.returns

@@ -15,7 +15,8 @@ stands : (g : given.Over) (c : After-arrivals-arrivals g) →
 stands g c =
     let skipped = c.skip_before-slot.ensures in
     part_stands g.R.Rank.machine c.requires.ready
-    (part_rests g.R.Rank.machine c.requires.ready c.slots.invariant.crossing skipped.late skipped.within skipped.none skipped.rested)
+    (part_rests g.R.Rank.machine c.requires.ready c.slots.invariant.crossing
+    skipped.late skipped.within skipped.none skipped.rested)
     c.if-slot-last.false
 
 -- and finds all that it asks for
@@ -109,7 +110,8 @@ returns-then-slot-last-clause-run g c =
     let over = c.if-slot-last.true in
     let within = skipped.within in
     part_ends g.R.Rank.machine c.requires.ready
-    (part_rests g.R.Rank.machine c.requires.ready c.slots.invariant.crossing skipped.late skipped.within skipped.none skipped.rested)
+    (part_rests g.R.Rank.machine c.requires.ready c.slots.invariant.crossing
+    skipped.late skipped.within skipped.none skipped.rested)
     (omega arith)
 
 pub returns-clause-run : goal.returns-clause-run
