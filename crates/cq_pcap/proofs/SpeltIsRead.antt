@@ -28,7 +28,8 @@ record Stands (big : Bool) (r : Record) (xs rest : List ℕ) : Type 0 where
 parted : (big : Bool) (r : Record) (rest : List ℕ) →
     let xs = spelling big r ++ rest in
     (xs ≡ bytes_in big 4 r.seconds ++ drop 4 xs) × (drop 4 xs ≡ bytes_in big 4 r.subseconds ++ drop 8 xs)
-    × (drop 8 xs ≡ bytes_in big 4 (length r.body) ++ drop 12 xs) × (drop 12 xs ≡ bytes_in big 4 r.original ++ drop 16 xs)
+    × (drop 8 xs ≡ bytes_in big 4 (length r.body) ++ drop 12 xs)
+    × (drop 12 xs ≡ bytes_in big 4 r.original ++ drop 16 xs)
     × (drop 16 xs ≡ r.body ++ rest) × (length xs ≡ 16 + (length r.body + length rest))
 parted false r rest = (refl, refl, refl, refl, refl, omega (arith, length-append r.body rest))
 parted true r rest = (refl, refl, refl, refl, refl, omega (arith, length-append r.body rest))

@@ -55,8 +55,8 @@ pub record IsTakable (joiner : JoinerView) (cell : Cell) (bytes : List ℕ) : Ty
   pub piece : length bytes ≡ cell.len
   pub next : IsNext (open_at joiner cell.id.input cell.class) cell
 
--- What is answered at a cell with these bytes, and what stands then: the packet, if it is whole, and what is open of the
--- pair. The packets of all other pairs are as before, and after an error all is.
+-- What is answered at a cell with these bytes, and what stands then: the packet, if it is whole, and what is open of
+-- the pair. The packets of all other pairs are as before, and after an error all is.
 pub record HasTaken {E : Type 0} (old new : JoinerView) (cell : Cell) (bytes : List ℕ)
     (result : Result (Option Joined) E) : Type 0 where
   pub joined : IfOk result (λ joined. joined ≡ joined_at (open_at old cell.id.input cell.class) cell bytes)

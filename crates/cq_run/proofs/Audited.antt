@@ -1,42 +1,41 @@
 -- Judging an audit: the configuration, its captures, the trace, the log, and then the ideal run. Where all of them
 -- are there it aims at a yes, which the log and the trace meet or deny.
 use Rattle.std.proofs.Common.{◌≡◌, ◌∙◌, ℕ, List, refl, sym, ap, subst, inl, inr}
-use Rattle.std.specs.Prelude.{Option, None, Some, IfSome, Result, Ok, Err, IsOkAnd}
+use Rattle.std.specs.Prelude.{Option, IfOk, IfSome, Result, Ok, Err}
+use Rattle.std.specs.List.{AllByRecursion}
 use Rattle.cq_base.specs.Texts.{trace_of}
 use Rattle.cq_base.specs.declared.cell.Departure.{Departure}
-use Rattle.cq_base.specs.declared.cell.TagFault.{TagFault}
 use Rattle.cq_cells.specs.Schedule.{arrivals}
 use Rattle.cq_pcap.specs.Captured.{Captured}
 use Rattle.cq_route.specs.declared.tables.Tables.{Tables}
 use Rattle.cq_simulate.specs.IdealRuns.{ideal_departures}
+use Rattle.cq_space.specs.Call.{Call}
+use Rattle.cq_space.specs.Failing.{Fails, Lasts, Reads}
 use Rattle.cq_space.specs.Space.{Contents, Space}
-use Rattle.cq_run.specs.declared.denial.Denial.{Denial}
+use Rattle.cq_words.specs.declared.command.Command.TheVariants.{Audit}
 use Rattle.cq_run.specs.declared.denial.Denial.TheVariants.{LongLog, LongTrace}
+use Rattle.cq_run.specs.declared.reading.Given.{Given}
 use Rattle.cq_run.specs.declared.refusal.Refusal.{Refusal}
-use Rattle.cq_run.specs.declared.refusal.Refusal.TheVariants.{Audit}
+use Rattle.cq_run.specs.declared.refusal.Refusal.TheVariants.{Audit as Audited}
 use Rattle.cq_run.specs.declared.stop.Halt.{Halt}
-use Rattle.cq_run.specs.declared.stop.Halt.TheVariants.{Refused, Unread, NoMemory}
-use Rattle.cq_run.specs.Aim.{Aim, Auditing, Denies}
-use Rattle.cq_run.specs.AuditEnds.{IsAuditHalted, IsAuditPassed}
-use Rattle.cq_run.specs.Auditing.{IsDenied}
+use Rattle.cq_run.specs.Aim.{Aim, Auditing}
+use Rattle.cq_run.specs.AuditEnds.{IsAuditHalted, IsAuditNo, IsAuditPassed}
+use Rattle.cq_run.specs.Given.{EndsGiven, IsGiven}
 use Rattle.cq_run.specs.Headline.{IsAudited}
-use Rattle.cq_run.specs.Judging.{IsHaltOf, Judges}
+use Rattle.cq_run.specs.Judged.{IsJudged}
+use Rattle.cq_run.specs.Judging.{Judges}
 use Rattle.cq_run.specs.Pace.{InTurn}
 use Rattle.cq_run.specs.Plan.{Plan}
-use Rattle.cq_run.specs.Planning.{Decides, DenialHalts, IsDenial}
 use Rattle.cq_run.specs.Plans.{audited}
 use Rattle.cq_run.specs.Reader.{Reader}
-use Rattle.cq_run.specs.Verdict.{◌>>=◌, captures_in, ideally_sent, sent_or_tag, tables_in, text_in}
-use Rattle.cq_run.proofs.Chain.{judges_after, judges_both, judges_computed, judges_computed_err, judges_then}
-use Rattle.cq_run.proofs.ReadOn.{aims_on, captures_end, ends_on, tables_end}
+use Rattle.cq_run.specs.Verdict.{◌>>=◌, captures_in, ideally_sent, tables_in, text_in}
+use Rattle.cq_run.proofs.Captures.{sent_ok}
+use Rattle.cq_run.proofs.Reached.{Reached, Settles, given_ends, given_so, ok_settles, read_ends, read_on, refused_settles, settled}
 use Rattle.cq_run.proofs.Stays.{text_stays}
 use Rattle.cq_run.proofs.TextRead.{text_stands}
+use Rattle.cq_run.proofs.Told.{told_two}
 
 -- ## What is read
-
-sent_ok : (x : Result (List Departure) TagFault) (sent : List Departure) → sent_or_tag x ≡ Ok sent → x ≡ Ok sent
-sent_ok (Ok ds) sent h = let same : ds ≡ sent = cc h in ap Ok same
-sent_ok (Err fault) sent h = absurd (let P : ⊥ = cc h in P)
 
 module _ (r : Reader) (config : List ℕ) where
   -- what is judged once all is read, and from each name on
@@ -52,155 +51,126 @@ module _ (r : Reader) (config : List ℕ) where
   abbrev pub from_captures : Tables → Contents → Result Aim Refusal
   from_captures t m = captures_in r t m >>= (λ captures. from_trace t captures m)
 
-  abbrev all_of : Contents → Result Aim Refusal
-  all_of m = tables_in config m >>= (λ t. from_captures t m)
+module _ {S : Type 0} (space : S → Space) (may_fail : Call → S → S → Type 0) (keeps : S → S → Type 0) (old : S)
+    (config : List ℕ) where
+  abbrev audit_rest : Reader → Tables → List (List Captured) → Contents → Result Aim Refusal
+  audit_rest r t captures m = from_trace r config t captures m
 
-  -- the configuration ends it
-  pub audit_tables_halt : (R S : List ℕ → Type 0) (s0 s1 : Space) (halt : Halt) → ((name : List ℕ) → R name → S name) →
-      Judges InTurn (tables_in config) R s0 s1 (Err halt) → Decides InTurn all_of S s0 s1 (Err halt)
-  audit_tables_halt R S s0 s1 halt i h = tables_end r config from_trace R S s0 s1 halt i h
+  -- reading what the configuration gives ends it
+  pub audit_ends : (new : S) (halt : Halt) → EndsGiven space may_fail keeps InTurn config old new halt →
+      keeps old new → IsJudged space may_fail keeps InTurn (Audit config) old new (Err halt)
+  audit_ends new halt ends kept =
+      given_ends space may_fail keeps (Audit config) (λ s. refl) old config audit_rest (λ r. refl) (λ name. tt) new halt
+      ends kept
 
-  -- the captures end it
-  pub audit_captures_halt : (Q R S : List ℕ → Type 0) (s0 s1 s2 : Space) (t : Tables) (halt : Halt) →
-      ((name : List ℕ) → R name → S name) → Judges InTurn (tables_in config) Q s0 s1 (Ok t) →
-      Judges InTurn (captures_in r t) R s1 s2 (Err halt) → Decides InTurn all_of S s0 s2 (Err halt)
-  audit_captures_halt Q R S s0 s1 s2 t halt i g h = captures_end r config from_trace Q R S s0 s1 s2 t halt i g h
-
-  module _ (Q1 Q2 S : List ℕ → Type 0) (s0 s1 s2 : Space) (t : Tables) (captures : List (List Captured))
-      (g1 : Judges InTurn (tables_in config) Q1 s0 s1 (Ok t))
-      (g2 : Judges InTurn (captures_in r t) Q2 s1 s2 (Ok captures)) where
-    -- what ends judging once the captures are read ends it all
-    read_on : (end : Space) (halt : Halt) → Judges InTurn (from_trace t captures) S s2 end (Err halt) →
-        Judges InTurn all_of S s0 end (Err halt)
-    read_on end halt h = ends_on r config from_trace Q1 Q2 S s0 s1 s2 t captures g1 g2 end halt h
+  module _ (lasts : Lasts keeps) (s1 s2 : S) (given : Given) (is : IsGiven space keeps config old s1 given)
+      (kept : keeps s1 s2) where
+    reached : Reached space may_fail keeps (Audit config) (λ s. refl) old s1
+        (λ r. from_trace r config given.tables given.captures)
+    reached =
+        given_so space may_fail keeps (Audit config) (λ s. refl) old config audit_rest (λ r. refl) (λ name. tt) s1
+        given is
 
     -- the trace ends it
-    pub trace_halts : (R : List ℕ → Type 0) (s3 : Space) (halt : Halt) → ((name : List ℕ) → R name → S name) →
-        Judges InTurn (text_in LongTrace t.trace) R s2 s3 (Err halt) → Decides InTurn all_of S s0 s3 (Err halt)
-    trace_halts R s3 halt i h =
-        inl (read_on s3 halt
-        (judges_then (text_in LongTrace t.trace) (λ (trace : List ℕ) (m : Contents). from_log t captures trace m)
-        R S s2 s3 halt i h))
+    pub trace_ends : (halt : Halt) → Judges InTurn (text_in LongTrace given.tables.trace)
+        (λ asked. (asked ≡ given.tables.trace) × Fails space may_fail keeps (Reads asked) s1 s2) (space s1) (space s2)
+        (Err halt) → IsJudged space may_fail keeps InTurn (Audit config) old s2 (Err halt)
+    trace_ends halt h =
+        read_ends space may_fail keeps (Audit config) (λ s. refl) old lasts s1 s2
+        (λ r. text_in LongTrace given.tables.trace) (λ r. from_log r config given.tables given.captures) reached kept _
+        halt (λ r. h) (λ asked u. (tt, u.1))
 
-    module _ (Q3 : List ℕ → Type 0) (s3 : Space) (trace : List ℕ)
-        (g3 : Judges InTurn (text_in LongTrace t.trace) Q3 s2 s3 (Ok trace)) where
-      trace_on : (end : Space) (halt : Halt) → Judges InTurn (from_log t captures trace) S s3 end (Err halt) →
-          Judges InTurn all_of S s0 end (Err halt)
-      trace_on end halt h =
-          read_on end halt
-          (judges_after (text_in LongTrace t.trace) (λ (x : List ℕ) (m : Contents). from_log t captures x m) Q3 S S
-          s2 s3 end trace halt
-          (text_stays LongTrace t.trace) (λ name u. u) g3 h)
+    module _ (Q : List ℕ → Type 0) (trace : List ℕ)
+        (traced : Judges InTurn (text_in LongTrace given.tables.trace) Q (space s1) (space s2) (Ok trace)) (s3 : S)
+        (kept_on : keeps s2 s3) where
+      trace_reached : Reached space may_fail keeps (Audit config) (λ s. refl) old s2
+          (λ r. from_log r config given.tables given.captures trace)
+      trace_reached =
+          read_on space may_fail keeps (Audit config) (λ s. refl) old lasts s1 s2
+          (λ r. text_in LongTrace given.tables.trace) (λ r. from_log r config given.tables given.captures) reached kept
+          Q trace (λ r. text_stays LongTrace given.tables.trace) (λ r. traced)
 
       -- the log ends it
-      pub log_halts : (R : List ℕ → Type 0) (s4 : Space) (halt : Halt) → ((name : List ℕ) → R name → S name) →
-          Judges InTurn (text_in LongLog t.log) R s3 s4 (Err halt) → Decides InTurn all_of S s0 s4 (Err halt)
-      log_halts R s4 halt i h =
-          inl (trace_on s4 halt
-          (judges_then (text_in LongLog t.log) (λ (log : List ℕ) (m : Contents). last t captures trace log)
-          R S s3 s4 halt i h))
+      pub log_ends : (halt : Halt) → Judges InTurn (text_in LongLog given.tables.log)
+          (λ asked. (asked ≡ given.tables.log) × Fails space may_fail keeps (Reads asked) s2 s3) (space s2) (space s3)
+          (Err halt) → IsJudged space may_fail keeps InTurn (Audit config) old s3 (Err halt)
+      log_ends halt h =
+          read_ends space may_fail keeps (Audit config) (λ s. refl) old lasts s2 s3
+          (λ r. text_in LongLog given.tables.log)
+          (λ r log (m : Contents). last r config given.tables given.captures trace log) trace_reached kept_on _ halt
+          (λ r. h) (λ asked u. (tt, u.1))
 
-      module _ (Q4 : List ℕ → Type 0) (s4 : Space) (log : List ℕ)
-          (g4 : Judges InTurn (text_in LongLog t.log) Q4 s3 s4 (Ok log)) where
-        -- what is judged of what the ideal switch sends
-        abbrev aimed_at : Result (List Departure) Refusal → Result Aim Refusal
-        aimed_at ran = ran >>= (λ sent. Ok (Auditing t captures sent trace log))
+      module _ (T : List ℕ → Type 0) (log : List ℕ)
+          (logged : Judges InTurn (text_in LongLog given.tables.log) T (space s2) (space s3) (Ok log)) where
+        abbrev aim_of : List Departure → Aim
+        aim_of sent = Auditing given.tables given.captures sent trace log
 
-        last_halts : (halt : Halt) → IsHaltOf (ideally_sent t captures) halt → IsHaltOf (last t captures trace log) halt
-        last_halts (Refused refusal) h =
-            (ap aimed_at h.0, h.1)
-        last_halts (Unread name) h = absurd h
-        last_halts NoMemory h = h
+        abbrev aimed : Result Aim Refusal
+        aimed = ideally_sent given.tables given.captures >>= (λ sent. Ok (aim_of sent))
 
-        -- the ideal run ends it
-        run_ends : (halt : Halt) → IsHaltOf (ideally_sent t captures) halt → Judges InTurn all_of S s0 s4 (Err halt)
-        run_ends halt h =
-            trace_on s4 halt
-            (judges_after (text_in LongLog t.log) (λ (x : List ℕ) (m : Contents). last t captures trace x) Q4 S S
-            s3 s4 s4 log halt
-            (text_stays LongLog t.log) (λ name u. u) g4
-            (judges_computed_err InTurn (last t captures trace log) S s4 halt g4.closed (last_halts halt h)))
+        audit_settled : (result : Result Plan Halt) → Settles aimed result →
+            IfOk result (λ plan. AllByRecursion (λ write. ⊥) plan.writes) →
+            ((r : Reader) → IfOk result (λ plan. IfSome (space old).told (λ m. IsAudited r config m plan))) →
+            IsJudged space may_fail keeps InTurn (Audit config) old s3 result
+        audit_settled =
+            settled space may_fail keeps (Audit config) (λ s. refl) old s3 aimed
+            (read_on space may_fail keeps (Audit config) (λ s. refl) old lasts s2 s3
+            (λ r. text_in LongLog given.tables.log)
+            (λ r log (m : Contents). last r config given.tables given.captures trace log) trace_reached kept_on T log
+            (λ r. text_stays LongLog given.tables.log) (λ r. logged))
 
-        -- it has no fault, so a yes is aimed at
-        aims : (sent : List Departure) → ideally_sent t captures ≡ Ok sent →
-            Judges InTurn all_of S s0 s4 (Ok (Auditing t captures sent trace log))
-        aims sent ideally =
-            let aim : Aim = Auditing t captures sent trace log in
-            aims_on r config from_trace Q1 Q2 S s0 s1 s2 t captures g1 g2 s4 aim
-            (judges_both (text_in LongTrace t.trace) (λ (x : List ℕ) (m : Contents). from_log t captures x m) Q3 S S
-            s2 s3 s4 trace aim g3
-            (judges_both (text_in LongLog t.log) (λ (x : List ℕ) (m : Contents). last t captures trace x) Q4 S S
-            s3 s4 s4 log aim g4
-            (judges_computed (last t captures trace log) S s4 aim g4.closed
-            (ap aimed_at ideally))))
+        denial_settles : (halt : Halt) → IsAuditNo given.tables given.captures trace log halt →
+            Settles aimed (Err halt)
+        denial_settles halt n =
+            let P : Halt → Type 0 = λ x. Settles aimed (Err x) in
+            let at : Result (List Departure) Refusal → Result Aim Refusal = λ x. x >>= (λ sent. Ok (aim_of sent)) in
+            subst P (sym n.is) (refl, inr (aim_of n.sent, ap at n.ideally, n.denied))
 
-        denied_at : (told : Option Contents) (sent : List Departure) (denial : Denial) →
-            IsDenied t captures sent trace log denial →
-            IfSome told (λ m. all_of m ≡ Ok (Auditing t captures sent trace log)) → IsDenial all_of told (Audit denial)
-        denied_at None sent denial denied is = refl
-        denied_at (Some m) sent denial denied is =
-            let P : Result Aim Refusal → Type 0 = λ v. IsOkAnd v (λ aim. Denies aim (Audit denial)) in
-            subst P (sym is) denied
+        halt_settles : (halt : Halt) → IsAuditHalted given.tables given.captures trace log halt →
+            Settles aimed (Err halt)
+        halt_settles halt (inl ends) =
+            refused_settles (ideally_sent given.tables given.captures) (λ sent. Ok (aim_of sent)) halt ends
+        halt_settles halt (inr n) = denial_settles halt n
 
-        pub audit_halts : (halt : Halt) → IsAuditHalted t captures trace log halt →
-            Decides InTurn all_of S s0 s4 (Err halt)
-        audit_halts halt (inl ends) = inl (run_ends halt ends)
-        audit_halts halt (inr n) =
-            let judges = aims n.sent n.ideally in
-            let P : Halt → Type 0 = λ x. DenialHalts all_of s0 s4 x in
-            let at : DenialHalts all_of s0 s4 (Refused (Audit n.denial)) =
-            (denied_at s0.told n.sent n.denial n.denied judges.ok, judges.uncounted) in
-            inr (record { halts = subst P (sym n.is) at; closed = judges.closed; told = judges.told })
-
-        pub audit_plans : (plan : Plan) → IsAuditPassed t captures trace log → plan ≡ audited →
-            Decides InTurn all_of S s0 s4 (Ok plan)
-        audit_plans plan passed is =
-            (Auditing t captures passed.sent trace log, (passed.meets, is), aims passed.sent passed.ideally)
-
-        -- want of memory at the end
-        pub audit_no_memory : Decides InTurn all_of S s0 s4 (Err NoMemory)
-        audit_no_memory =
-            inl (record {
-              ok = tt;
-              halt = g4.uncounted ∙ g3.uncounted ∙ g2.uncounted ∙ g1.uncounted;
-              closed = g4.closed;
-              told = g4.told ∙ g3.told ∙ g2.told ∙ g1.told;
-              uncounted = tt;
-            })
+        -- the ideal run ends it, or the log or the trace is denied
+        pub audit_halts : (halt : Halt) → IsAuditHalted given.tables given.captures trace log halt →
+            IsJudged space may_fail keeps InTurn (Audit config) old s3 (Err halt)
+        audit_halts halt h = audit_settled (Err halt) (halt_settles halt h) tt (λ r. tt)
 
         -- ## What a yes says
 
-        emulates_at : (m : Contents) (plan : Plan) → IsAuditPassed t captures trace log → plan ≡ audited →
-            tables_in config m ≡ Ok t → captures_in r t m ≡ Ok captures → text_in LongTrace t.trace m ≡ Ok trace →
-            text_in LongLog t.log m ≡ Ok log → IsAudited r config m plan
-        emulates_at m plan passed is configured captured traced logged = record {
-          tables = t;
-          configured = configured;
-          captures = captures;
-          captured = captured;
+        emulates_at : (r : Reader) (plan : Plan) → IsAuditPassed given.tables given.captures trace log →
+            plan ≡ audited → (m : Contents) → (tables_in config m ≡ Ok given.tables)
+            × (captures_in r given.tables m ≡ Ok given.captures) → (text_in LongTrace given.tables.trace m ≡ Ok trace)
+            × (text_in LongLog given.tables.log m ≡ Ok log) → IsAudited r config m plan
+        emulates_at r plan passed is m read texts = record {
+          tables = given.tables;
+          configured = read.0;
+          captures = given.captures;
+          captured = read.1;
           trace = trace;
-          traced = text_stands (Audit LongTrace) t.trace m trace traced;
+          traced = text_stands (Audited LongTrace) given.tables.trace m trace texts.0;
           log = log;
-          logged = text_stands (Audit LongLog) t.log m log logged;
+          logged = text_stands (Audited LongLog) given.tables.log m log texts.1;
           audit = passed.meets.log_is;
-          same = sent_ok (ideal_departures t (arrivals t captures)) passed.sent passed.ideally ∙ ap Ok passed.departed;
+          same =
+              sent_ok passed.sent (ideal_departures given.tables (arrivals given.tables given.captures)) passed.ideally
+              ∙ ap Ok passed.departed;
           sent = passed.meets.trace_is ∙ ap trace_of passed.departed;
           written = is;
         }
 
-        emulates_told : (told : Option Contents) (plan : Plan) → IsAuditPassed t captures trace log → plan ≡ audited →
-            IfSome told (λ m. tables_in config m ≡ Ok t) → IfSome told (λ m. captures_in r t m ≡ Ok captures) →
-            IfSome told (λ m. text_in LongTrace t.trace m ≡ Ok trace) →
-            IfSome told (λ m. text_in LongLog t.log m ≡ Ok log) →
-            IfSome told (λ m. IsAudited r config m plan)
-        emulates_told None plan passed is a b c d = tt
-        emulates_told (Some m) plan passed is a b c d = emulates_at m plan passed is a b c d
-
-        pub audit_emulates : (plan : Plan) → IsAuditPassed t captures trace log → plan ≡ audited →
-            IfSome s0.told (λ m. IsAudited r config m plan)
-        audit_emulates plan passed is =
-            let P : Option Contents → Type 0 = λ o. IfSome o (λ m. captures_in r t m ≡ Ok captures) in
-            let Q : Option Contents → Type 0 = λ o. IfSome o (λ m. text_in LongTrace t.trace m ≡ Ok trace) in
-            let R : Option Contents → Type 0 = λ o. IfSome o (λ m. text_in LongLog t.log m ≡ Ok log) in
-            emulates_told s0.told plan passed is g1.ok (subst P g1.told g2.ok) (subst Q (g2.told ∙ g1.told) g3.ok)
-            (subst R (g3.told ∙ g2.told ∙ g1.told) g4.ok)
+        pub audit_plans : (plan : Plan) → IsAuditPassed given.tables given.captures trace log → plan ≡ audited →
+            IsJudged space may_fail keeps InTurn (Audit config) old s3 (Ok plan)
+        audit_plans plan passed written =
+            let told = (space old).told in
+            let P : Option Contents → Type 0 = λ o. IfSome o (λ m. text_in LongTrace given.tables.trace m ≡ Ok trace) in
+            let Q : Option Contents → Type 0 = λ o. IfSome o (λ m. text_in LongLog given.tables.log m ≡ Ok log) in
+            let N : Plan → Type 0 = λ p. AllByRecursion (λ write. ⊥) p.writes in
+            audit_settled (Ok plan)
+            (ok_settles (ideally_sent given.tables given.captures) aim_of passed.sent plan passed.ideally
+            (passed.meets, written)) (subst N (sym written) tt) (λ r.
+            told_two told _ _ _ (emulates_at r plan passed written)
+            (told_two told _ _ _ (λ m a b. (a, b)) is.tables (is.captures r))
+            (told_two told _ _ _ (λ m a b. (a, b)) (subst P is.told traced.ok)
+            (subst Q (traced.told ∙ is.told) logged.ok)))

@@ -1,18 +1,19 @@
 -- One judgement after another. Where the first ends without an answer, so do both; where it has one, both end as the
 -- second does. A name that the second is to read is to be read by both, since the first comes to the same without it,
 -- or misses it.
-use Rattle.std.proofs.Common.{◌≡◌, ◌∙◌, ℕ, IsTrue, List, ap, refl, sym, subst, inl, inr}
+use Rattle.std.proofs.Common.{◌≡◌, ◌∙◌, ◌⊎◌, ℕ, IsTrue, List, ap, refl, sym, subst, inl, inr}
 use Rattle.std.specs.Prelude.{Option, None, Some, IfSome, Result, Ok, Err}
 use Rattle.std.specs.FinMap.{remove}
 use Rattle.cq_space.specs.Space.{Contents, Space, Closed}
 use Rattle.cq_run.specs.declared.refusal.Refusal.{Refusal}
+use Rattle.cq_run.specs.declared.refusal.Refusal.TheVariants.{Missing}
 use Rattle.cq_run.specs.declared.stop.Halt.{Halt}
 use Rattle.cq_run.specs.declared.stop.Halt.TheVariants.{Refused, Unread, NoMemory}
 use Rattle.cq_run.specs.Refusals.{meaning_of}
 use Rattle.cq_run.specs.Verdict.{◌>>=◌}
 use Rattle.cq_run.specs.Judging.{IsRefused, IsToRead, Halts, IsHaltOf, Judges}
-use Rattle.cq_run.specs.Pace.{AnyName, Pace}
-use Rattle.cq_run.proofs.Counted.{counts_same, name_after, outrun_after, rose_from}
+use Rattle.cq_run.specs.Pace.{AnyName, InTurn, Pace}
+use Rattle.cq_run.proofs.Counted.{counts_same, halts_at, name_after, outrun_after, rose_from}
 use Rattle.cq_run.proofs.Stays.{Stays}
 
 -- a computation that is refused is refused whatever the contents
@@ -30,6 +31,77 @@ halts_computed p r R old new (Refused refusal) l h = (
 )
 halts_computed p r R old new (Unread name) l h = absurd h
 halts_computed p r R old new NoMemory l h = counts_same p (AnyName R) old.faults new.faults l
+
+-- ## The rest of a judgement
+
+-- of these contents the whole comes to what the rest comes to, and without any one name too, unless it misses that
+pub record ComesTo {B : Type 0} (whole rest : Contents → Result B Refusal) (m : Contents) : Type 0 where
+  pub same : whole m ≡ rest m
+  pub without : (name : List ℕ) →
+      (whole (remove m name) ≡ rest (remove m name)) ⊎ (whole (remove m name) ≡ Err (Missing name))
+
+pub comes_to_itself : {B : Type 0} (whole : Contents → Result B Refusal) (told : Option Contents) →
+    IfSome told (ComesTo whole whole)
+comes_to_itself whole None = tt
+comes_to_itself whole (Some m) = record { same = refl; without = λ name. inl refl }
+
+-- once the first is accepted, what comes behind it is left
+pub goes_on : {A B : Type 0} (whole : Contents → Result B Refusal) (j : Contents → Result A Refusal)
+    (f : A → Contents → Result B Refusal) (told : Option Contents) (x : A) → Stays j → IfSome told (λ m. j m ≡ Ok x) →
+    IfSome told (ComesTo whole (λ (m : Contents). j m >>= (λ x. f x m))) → IfSome told (ComesTo whole (f x))
+unfolding Stays
+goes_on whole j f None x s e h = tt
+goes_on {A} {B} whole j f (Some m) x s e h = record {
+  same = h.same ∙ ap (λ (r : Result A Refusal). r >>= (λ (z : A). f z m)) e;
+  without = λ name.
+      let rest : Result A Refusal → Result B Refusal = λ r. r >>= (λ (z : A). f z (remove m name)) in
+      elim (h.without name) [
+        | inl same ↦ elim (s m name x e)
+            [ inl kept ↦ inl (same ∙ ap rest kept) | inr missed ↦ inr (same ∙ ap rest missed) ]
+        | inr missed ↦ inr missed
+      ];
+}
+
+module _ {B : Type 0} (whole rest : Contents → Result B Refusal) where
+  refused_back : (told : Option Contents) (refusal : Refusal) → IfSome told (ComesTo whole rest) →
+      IsRefused rest told refusal → IsRefused whole told refusal
+  refused_back None refusal c h = h
+  refused_back (Some m) refusal c h = c.same ∙ h
+
+  read_back : (told : Option Contents) (name : List ℕ) → IfSome told (ComesTo whole rest) → IsToRead rest told name →
+      IsToRead whole told name
+  read_back None name c h = tt
+  read_back (Some m) name c h = elim (c.without name) [ inl same ↦ same ∙ h | inr missed ↦ missed ]
+
+  halts_back : (p : Pace) (R S : List ℕ → Type 0) (old mid new : Space) (halt : Halt) →
+      ((name : List ℕ) → R name → S name) → IfSome old.told (ComesTo whole rest) → mid.told ≡ old.told →
+      mid.faults ≡ old.faults → Halts p rest R mid new halt → Halts p whole S old new halt
+  halts_back p R S old mid new (Refused refusal) i c t l h = (
+    refused_back old.told refusal c
+        (let P : Option Contents → Type 0 = λ o. IsRefused rest o refusal in subst P t h.0),
+    outrun_after p (IsTrue (meaning_of refusal).outruns) R S old.faults mid.faults new.faults i l h.1,
+  )
+  halts_back p R S old mid new (Unread name) i c t l h = (
+    rose_from old.faults mid.faults new.faults l h.0,
+    i name h.1,
+    read_back old.told name c (let P : Option Contents → Type 0 = λ o. IsToRead rest o name in subst P t h.2),
+  )
+  halts_back p R S old mid new NoMemory i c t l h = name_after p R S old.faults mid.faults new.faults i l h
+
+  -- what ends the rest ends the whole
+  pub judges_back : {p : Pace} (R S : List ℕ → Type 0) (old mid new : Space) (halt : Halt) →
+      ((name : List ℕ) → R name → S name) → IfSome old.told (ComesTo whole rest) → mid.told ≡ old.told →
+      mid.faults ≡ old.faults → Judges p rest R mid new (Err halt) → Judges p whole S old new (Err halt)
+  judges_back {p} R S old mid new halt i c t l h =
+      record {
+        ok = tt;
+        halt = halts_back p R S old mid new halt i c t l h.halt;
+        closed = h.closed;
+        told = h.told ∙ t;
+        uncounted = tt;
+      }
+
+-- ## One after the other
 
 module _ {A B : Type 0} (j : Contents → Result A Refusal) (f : A → Contents → Result B Refusal) where
   -- both, one after the other
@@ -66,52 +138,18 @@ module _ {A B : Type 0} (j : Contents → Result A Refusal) (f : A → Contents 
         uncounted = tt;
       }
 
-  refused_after : (told : Option Contents) (x : A) (refusal : Refusal) → IfSome told (λ m. j m ≡ Ok x) →
-      IsRefused (f x) told refusal → IsRefused both told refusal
-  refused_after None x refusal e h = h
-  refused_after (Some m) x refusal e h = ap (λ (r : Result A Refusal). r >>= (λ (z : A). f z m)) e ∙ h
-
-  read_after : (told : Option Contents) (x : A) (name : List ℕ) → Stays j → IfSome told (λ m. j m ≡ Ok x) →
-      IsToRead (f x) told name → IsToRead both told name
-  unfolding Stays
-  read_after None x name s e h = tt
-  read_after (Some m) x name s e h =
-      let rest : Result A Refusal → Result B Refusal = λ r. r >>= (λ (z : A). f z (remove m name)) in
-      elim (s m name x e) [ inl same ↦ ap rest same ∙ h | inr missed ↦ ap rest missed ]
-
   ok_after : (told : Option Contents) (x : A) (y : B) → IfSome told (λ m. j m ≡ Ok x) →
       IfSome told (λ m. f x m ≡ Ok y) → IfSome told (λ m. both m ≡ Ok y)
   ok_after None x y e h = tt
   ok_after (Some m) x y e h = ap (λ (r : Result A Refusal). r >>= (λ (z : A). f z m)) e ∙ h
-
-  halts_after : (p : Pace) (R S : List ℕ → Type 0) (old mid new : Space) (x : A) (halt : Halt) → Stays j →
-      ((name : List ℕ) → R name → S name) → IfSome old.told (λ m. j m ≡ Ok x) → mid.told ≡ old.told →
-      mid.faults ≡ old.faults → Halts p (f x) R mid new halt → Halts p both S old new halt
-  halts_after p R S old mid new x (Refused refusal) s i e t l h = (
-    refused_after old.told x refusal e (let P : Option Contents → Type 0 = λ o. IsRefused (f x) o refusal in
-        subst P t h.0),
-    outrun_after p (IsTrue (meaning_of refusal).outruns) R S old.faults mid.faults new.faults i l h.1,
-  )
-  halts_after p R S old mid new x (Unread name) s i e t l h = (
-    rose_from old.faults mid.faults new.faults l h.0,
-    i name h.1,
-    read_after old.told x name s e
-        (let P : Option Contents → Type 0 = λ o. IsToRead (f x) o name in subst P t h.2),
-  )
-  halts_after p R S old mid new x NoMemory s i e t l h = name_after p R S old.faults mid.faults new.faults i l h
 
   -- the second ends both
   pub judges_after : {q p : Pace} (Q R S : List ℕ → Type 0) (old mid new : Space) (x : A) (halt : Halt) → Stays j →
       ((name : List ℕ) → R name → S name) → Judges q j Q old mid (Ok x) → Judges p (f x) R mid new (Err halt) →
       Judges p both S old new (Err halt)
   judges_after {q} {p} Q R S old mid new x halt s i g h =
-      record {
-        ok = tt;
-        halt = halts_after p R S old mid new x halt s i g.ok g.told g.uncounted h.halt;
-        closed = h.closed;
-        told = h.told ∙ g.told;
-        uncounted = tt;
-      }
+      judges_back both (f x) R S old mid new halt i
+      (goes_on both j f old.told x s g.ok (comes_to_itself both old.told)) g.told g.uncounted h
 
   -- both have an answer
   pub judges_both : {q p : Pace} (Q R S : List ℕ → Type 0) (old mid new : Space) (x : A) (y : B) →
@@ -145,6 +183,18 @@ judges_more p j R S old new (Err halt) i h =
     record {
       ok = tt;
       halt = halts_more p j R S old new halt i h.halt;
+      closed = h.closed;
+      told = h.told;
+      uncounted = tt;
+    }
+
+-- what ends judging in turn ends it at either pace
+pub judges_at : {A : Type 0} (p : Pace) (j : Contents → Result A Refusal) (R : List ℕ → Type 0) (old new : Space)
+    (halt : Halt) → Judges InTurn j R old new (Err halt) → Judges p j R old new (Err halt)
+judges_at p j R old new halt h =
+    record {
+      ok = tt;
+      halt = halts_at p j R old new halt h.halt;
       closed = h.closed;
       told = h.told;
       uncounted = tt;

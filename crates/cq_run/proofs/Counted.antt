@@ -47,6 +47,11 @@ halts_ahead j R old new (Refused refusal) h = (h.0, inl h.1)
 halts_ahead j R old new (Unread name) h = h
 halts_ahead j R old new NoMemory h = inl h
 
+pub halts_at : {A : Type 0} (p : Pace) (j : Contents → Result A Refusal) (R : List ℕ → Type 0) (old new : Space)
+    (halt : Halt) → Halts InTurn j R old new halt → Halts p j R old new halt
+halts_at InTurn j R old new halt h = h
+halts_at Ahead j R old new halt h = halts_ahead j R old new halt h
+
 -- whatever ended reading ahead, its count is as before, or some name was unread
 pub counted_ahead : {A : Type 0} (j : Contents → Result A Refusal) (R : List ℕ → Type 0) (old new : Space) (halt : Halt)
     → Halts Ahead j R old new halt → Uncounted Ahead (AnyName R) old.faults new.faults

@@ -1,6 +1,6 @@
 -- What is kept of a run of the crossbar switch, and the plan that is made of it.
 use Rattle.std.proofs.Common.{◌≡◌, ◌∙◌, ◌++◌, ◌∷◌, [], ℕ, List, ap, sym, subst}
-use Rattle.std.specs.Prelude.{Option, None, Some, IfSome, Ok}
+use Rattle.std.specs.Prelude.{Option, IfSome, Ok}
 use Rattle.cq_base.specs.Arriving.{Arrival}
 use Rattle.cq_base.specs.Texts.{trace_of, log_of}
 use Rattle.cq_base.specs.declared.cell.Departure.{Departure}
@@ -19,10 +19,8 @@ use Rattle.cq_simulate.proofs.EachPacket.{each_packet_once}
 use Rattle.cq_simulate.specs.FabricRuns.{IsFabricRun, IsKeptOf}
 use Rattle.cq_simulate.specs.IdealRuns.{ideal_departures}
 use Rattle.cq_simulate.specs.declared.fabric_run.FabricRun.{FabricRun}
-use Rattle.cq_space.specs.Space.{Contents, Space}
+use Rattle.cq_space.specs.Space.{Contents}
 use Rattle.cq_run.specs.Headline.{AreGiven, IsEmulation, KeepsUp}
-use Rattle.cq_run.specs.Judging.{Judges}
-use Rattle.cq_run.specs.Pace.{Pace}
 use Rattle.cq_run.specs.Plan.{Plan}
 use Rattle.cq_run.specs.Plans.{captures_out, crossed, report_on, reported}
 use Rattle.cq_run.specs.Reader.{Reader}
@@ -30,6 +28,7 @@ use Rattle.cq_run.specs.Switching.{IsCrossed, IsCrossing}
 use Rattle.cq_run.specs.Verdict.{sent_or_tag, tables_in, captures_in}
 use Rattle.cq_run.specs.declared.switching.Crossed.{Crossed}
 use Rattle.cq_run.proofs.Captures.{plan_is}
+use Rattle.cq_run.proofs.Told.{told_two}
 
 keeps_up : (t : Tables) (captures : List (List Captured)) (rs : List LimitedRecord) → AreGiven t captures →
     IsTraffic (ports_of t.setup) (classes_of t.setup) (arrivals t captures) →
@@ -121,16 +120,8 @@ module _ (t : Tables) (captures : List (List Captured)) (plan : Plan) (is : IsCr
     written = is.written ∙ ap (λ (sent : List Departure). crossed t captures sent is.records) is.departed;
   }
 
-  emulates_told : (r : Reader) (config : List ℕ) (told : Option Contents) →
+  -- what is written of a configuration and captures that were read
+  pub emulates : (r : Reader) (config : List ℕ) (told : Option Contents) →
       IfSome told (λ m. tables_in config m ≡ Ok t) → IfSome told (λ m. captures_in r t m ≡ Ok captures) →
       IfSome told (λ m. IsEmulation r config m plan)
-  emulates_told r config None g h = tt
-  emulates_told r config (Some m) g h = emulates_at r config m g h
-
-  -- what is written of a configuration and captures that were read, at either pace
-  pub emulates : {p q : Pace} (r : Reader) (config : List ℕ) (Q R : List ℕ → Type 0) (old mid new : Space) →
-      Judges p (tables_in config) Q old mid (Ok t) → Judges q (captures_in r t) R mid new (Ok captures) →
-      IfSome old.told (λ m. IsEmulation r config m plan)
-  emulates r config Q R old mid new g h =
-      let P : Option Contents → Type 0 = λ o. IfSome o (λ m. captures_in r t m ≡ Ok captures) in
-      emulates_told r config old.told g.ok (subst P g.told h.ok)
+  emulates r config told = told_two told _ _ _ (emulates_at r config)

@@ -1,13 +1,18 @@
 -- Judging the words of stopping a run and of taking one up: the configuration, its captures, and then the text of a
 -- state. Where all of them are there, they aim at the text of the state, or at what the run keeps that goes on, which
 -- is met or denied.
-use Rattle.std.proofs.Common.{◌≡◌, ◌∙◌, ◌++◌, ◌∷◌, [], ℕ, IsTrue, List, refl, subst, inl}
-use Rattle.std.specs.Prelude.{IfSome, Option, None, Some, Result, Ok, Err}
+use Rattle.std.proofs.Common.{◌≡◌, ◌++◌, ◌∷◌, [], ℕ, IsTrue, List, refl, sym, subst, inr}
+use Rattle.std.specs.Prelude.{IfOk, IfSome, Option, Result, Ok, Err}
+use Rattle.std.specs.List.{AllByRecursion}
 use Rattle.cq_base.specs.Texts.{log_of, trace_of}
 use Rattle.cq_pcap.specs.Captured.{Captured}
 use Rattle.cq_report.specs.Report.{report_with}
 use Rattle.cq_route.specs.declared.tables.Tables.{Tables}
+use Rattle.cq_space.specs.Call.{Call}
+use Rattle.cq_space.specs.Failing.{Fails, Lasts, Reads}
 use Rattle.cq_space.specs.Space.{Contents, Space}
+use Rattle.cq_words.specs.declared.command.Command.TheVariants.{Part, Resume}
+use Rattle.cq_run.specs.declared.reading.Given.{Given}
 use Rattle.cq_run.specs.declared.refusal.Refusal.{Refusal}
 use Rattle.cq_run.specs.declared.refusal.Refusal.TheVariants.{Audit, Capture, Configuration, Missing, State, Tag, Words}
 use Rattle.cq_run.specs.declared.refusal.StateFault.TheVariants as stopped
@@ -15,22 +20,24 @@ use Rattle.cq_run.specs.declared.stop.Halt.{Halt}
 use Rattle.cq_run.specs.declared.stop.Halt.TheVariants.{NoMemory, Refused, Unread}
 use Rattle.cq_run.specs.declared.switching.Crossed.{Crossed}
 use Rattle.cq_run.specs.Aim.{Aim, Parting, Resuming}
+use Rattle.cq_run.specs.Given.{EndsGiven, IsGiven}
 use Rattle.cq_run.specs.Headline.{AreGiven, IsStopped, IsTakenUp}
+use Rattle.cq_run.specs.Judged.{IsJudged}
 use Rattle.cq_run.specs.Judging.{Judges}
 use Rattle.cq_run.specs.Pace.{InTurn}
 use Rattle.cq_run.specs.PartEnds.{IsPartHalt, IsResumeHalt, IsResumedBy, kept_by}
 use Rattle.cq_run.specs.Parting.{IsPartRefusal, IsPartText, IsResumeRefusal, IsResumedText}
 use Rattle.cq_run.specs.Plan.{Plan}
-use Rattle.cq_run.specs.Planning.{Decides}
 use Rattle.cq_run.specs.Plans.{captures_out, resumed, state_written}
 use Rattle.cq_run.specs.Reader.{Reader}
 use Rattle.cq_run.specs.Refusals.{meaning_of}
 use Rattle.cq_run.specs.Verdict.{◌>>=◌, captures_in, state_in, tables_in}
 use Rattle.cq_run.proofs.Captures.{plan_is}
-use Rattle.cq_run.proofs.Chain.{judges_both, judges_computed, judges_then}
-use Rattle.cq_run.proofs.Decided.{denial_decides}
-use Rattle.cq_run.proofs.ReadOn.{aims_on, ends_on, judged_whole}
+use Rattle.cq_run.proofs.Planned.{all_any}
+use Rattle.cq_run.proofs.Reached.{Reached, Settles, given_ends, given_so, read_ends, read_on, settled}
+use Rattle.cq_run.proofs.Stays.{short_stays}
 use Rattle.cq_run.proofs.TextRead.{text_stands}
+use Rattle.cq_run.proofs.Told.{told_two}
 
 -- ## Untold contents
 
@@ -55,154 +62,146 @@ resume_untold t captures text (Tag fault) h = refl
 resume_untold t captures text (Audit denial) h = refl
 resume_untold t captures text (State fault) h = refl
 
--- ## Stopping
+module _ {S : Type 0} (space : S → Space) (may_fail : Call → S → S → Type 0) (keeps : S → S → Type 0) (old : S)
+    (config : List ℕ) where
+  -- ## Stopping
 
-module _ (r : Reader) (config : List ℕ) (slots : ℕ) (name : List ℕ) where
-  -- what is aimed at once both are read
-  abbrev pub parting : Tables → List (List Captured) → Contents → Result Aim Refusal
-  parting t captures m = Ok (Parting t captures slots name)
+  module _ (slots : ℕ) (name : List ℕ) where
+    abbrev part_rest : Reader → Tables → List (List Captured) → Contents → Result Aim Refusal
+    part_rest r t captures m = Ok (Parting t captures slots name)
 
-  module _ (Q1 Q2 S : List ℕ → Type 0) (s0 s1 s2 : Space) (t : Tables) (captures : List (List Captured))
-      (g1 : Judges InTurn (tables_in config) Q1 s0 s1 (Ok t))
-      (g2 : Judges InTurn (captures_in r t) Q2 s1 s2 (Ok captures)) where
-    part_aims : Judges InTurn (judged_whole r config parting) S s0 s2 (Ok (Parting t captures slots name))
-    part_aims =
-        let aim : Aim = Parting t captures slots name in
-        aims_on r config parting Q1 Q2 S s0 s1 s2 t captures g1 g2 s2 aim
-        (judges_computed (Ok aim) S s2 aim g2.closed refl)
+    -- reading ends it
+    pub part_ends : (new : S) (halt : Halt) → EndsGiven space may_fail keeps InTurn config old new halt →
+        keeps old new → IsJudged space may_fail keeps InTurn (Part config slots name) old new (Err halt)
+    part_ends new halt ends kept =
+        given_ends space may_fail keeps (Part config slots name) (λ s. refl) old config part_rest (λ r. refl)
+        (λ name. tt) new halt ends kept
 
-    -- want of memory at the end
-    pub part_no_memory : Decides InTurn (judged_whole r config parting) S s0 s2 (Err NoMemory)
-    part_no_memory =
-        inl (record {
-          ok = tt;
-          halt = g2.uncounted ∙ g1.uncounted;
-          closed = g2.closed;
-          told = g2.told ∙ g1.told;
-          uncounted = tt;
-        })
+    module _ (now : S) (given : Given) (is : IsGiven space keeps config old now given) where
+      part_settled : (result : Result Plan Halt) →
+          Settles (Ok (Parting given.tables given.captures slots name)) result →
+          IfOk result (λ plan. AllByRecursion (λ write. write.0 ≡ name) plan.writes) →
+          ((r : Reader) → IfOk result (λ plan. IfSome (space old).told (λ m. IsStopped r config slots name m plan))) →
+          IsJudged space may_fail keeps InTurn (Part config slots name) old now result
+      part_settled =
+          settled space may_fail keeps (Part config slots name) (λ s. refl) old now _
+          (given_so space may_fail keeps (Part config slots name) (λ s. refl) old config part_rest (λ r. refl)
+          (λ name. tt) now given is)
 
-    pub part_halts : (halt : Halt) → IsPartHalt t captures slots halt →
-        Decides InTurn (judged_whole r config parting) S s0 s2 (Err halt)
-    part_halts (Refused refusal) h =
-        denial_decides InTurn (judged_whole r config parting) S s0 s2 (Parting t captures slots name) refusal
-        (part_untold t captures slots refusal h) h part_aims
-    part_halts (Unread unread) h = absurd h
-    part_halts NoMemory h = part_no_memory
+      halt_settles : (halt : Halt) → IsPartHalt given.tables given.captures slots halt →
+          Settles (Ok (Parting given.tables given.captures slots name)) (Err halt)
+      halt_settles (Refused refusal) h = (
+        part_untold given.tables given.captures slots refusal h,
+        inr (Parting given.tables given.captures slots name, refl, h),
+      )
+      halt_settles (Unread unread) h = h
+      halt_settles NoMemory h = tt
 
-    pub part_plans : (text : List ℕ) (plan : Plan) → IsPartText t captures slots text → plan ≡ state_written name text →
-        Decides InTurn (judged_whole r config parting) S s0 s2 (Ok plan)
-    part_plans text plan is written = (Parting t captures slots name, (text, is, written), part_aims)
+      -- there is no text of its state, or memory ran out
+      pub part_halts : (halt : Halt) → IsPartHalt given.tables given.captures slots halt →
+          IsJudged space may_fail keeps InTurn (Part config slots name) old now (Err halt)
+      part_halts halt h = part_settled (Err halt) (halt_settles halt h) tt (λ r. tt)
 
-    -- ## What is written of it
+      pub part_plans : (text : List ℕ) (plan : Plan) → AreGiven given.tables given.captures →
+          IsPartText given.tables given.captures slots text → plan ≡ state_written name text →
+          IsJudged space may_fail keeps InTurn (Part config slots name) old now (Ok plan)
+      part_plans text plan are text_is written =
+          let P : Plan → Type 0 = λ p. AllByRecursion (λ write. write.0 ≡ name) p.writes in
+          part_settled (Ok plan) (Parting given.tables given.captures slots name, refl, (text, text_is, written))
+          (subst P (sym written) (refl, tt)) (λ r.
+          told_two (space old).told _ _ _ (λ m a b. record {
+            tables = given.tables;
+            configured = a;
+            captures = given.captures;
+            captured = b;
+            given = are;
+            text = text;
+            stopped = text_is;
+            written = written;
+          }) is.tables (is.captures r))
 
-    stops_told : (told : Option Contents) (text : List ℕ) (plan : Plan) → AreGiven t captures →
-        IsPartText t captures slots text → plan ≡ state_written name text →
-        IfSome told (λ m. tables_in config m ≡ Ok t) → IfSome told (λ m. captures_in r t m ≡ Ok captures) →
-        IfSome told (λ m. IsStopped r config slots name m plan)
-    stops_told None text plan given is written a b = tt
-    stops_told (Some m) text plan given is written a b = record {
-      tables = t;
-      configured = a;
-      captures = captures;
-      captured = b;
-      given = given;
-      text = text;
-      stopped = is;
-      written = written;
-    }
+  -- ## Going on
 
-    pub part_emulates : (text : List ℕ) (plan : Plan) → AreGiven t captures → IsPartText t captures slots text →
-        plan ≡ state_written name text → IfSome s0.told (λ m. IsStopped r config slots name m plan)
-    part_emulates text plan given is written =
-        let P : Option Contents → Type 0 = λ o. IfSome o (λ m. captures_in r t m ≡ Ok captures) in
-        stops_told s0.told text plan given is written g1.ok (subst P g1.told g2.ok)
+  module _ (name : List ℕ) where
+    abbrev resume_rest : Reader → Tables → List (List Captured) → Contents → Result Aim Refusal
+    resume_rest r t captures m = state_in name m >>= (λ text. Ok (Resuming t captures text))
 
--- ## Going on
+    -- reading ends it
+    pub resume_ends : (new : S) (halt : Halt) → EndsGiven space may_fail keeps InTurn config old new halt →
+        keeps old new → IsJudged space may_fail keeps InTurn (Resume config name) old new (Err halt)
+    resume_ends new halt ends kept =
+        given_ends space may_fail keeps (Resume config name) (λ s. refl) old config resume_rest (λ r. refl)
+        (λ name. tt) new halt ends kept
 
-module _ (r : Reader) (config : List ℕ) (name : List ℕ) where
-  -- what is judged once the text is read, and once both others are
-  abbrev pub resuming_from : Tables → List (List Captured) → List ℕ → Result Aim Refusal
-  resuming_from t captures text = Ok (Resuming t captures text)
+    module _ (lasts : Lasts keeps) (mid now : S) (given : Given) (is : IsGiven space keeps config old mid given)
+        (kept : keeps mid now) where
+      resume_reached : Reached space may_fail keeps (Resume config name) (λ s. refl) old mid
+          (λ r. resume_rest r given.tables given.captures)
+      resume_reached =
+          given_so space may_fail keeps (Resume config name) (λ s. refl) old config resume_rest (λ r. refl)
+          (λ name. tt) mid given is
 
-  abbrev pub resuming : Tables → List (List Captured) → Contents → Result Aim Refusal
-  resuming t captures m = state_in name m >>= resuming_from t captures
+      -- the text ends it
+      pub text_ends : (halt : Halt) → Judges InTurn (state_in name)
+          (λ asked. (asked ≡ name) × Fails space may_fail keeps (Reads asked) mid now) (space mid) (space now)
+          (Err halt) → IsJudged space may_fail keeps InTurn (Resume config name) old now (Err halt)
+      text_ends halt h =
+          read_ends space may_fail keeps (Resume config name) (λ s. refl) old lasts mid now (λ r. state_in name)
+          (λ r text (m : Contents). Ok (Resuming given.tables given.captures text)) resume_reached kept _ halt (λ r. h)
+          (λ asked u. (tt, u.1))
 
-  module _ (Q1 Q2 S : List ℕ → Type 0) (s0 s1 s2 : Space) (t : Tables) (captures : List (List Captured))
-      (g1 : Judges InTurn (tables_in config) Q1 s0 s1 (Ok t))
-      (g2 : Judges InTurn (captures_in r t) Q2 s1 s2 (Ok captures)) where
-    -- the text ends it
-    pub text_halts : (R : List ℕ → Type 0) (s3 : Space) (halt : Halt) → ((asked : List ℕ) → R asked → S asked) →
-        Judges InTurn (state_in name) R s2 s3 (Err halt) → Decides InTurn (judged_whole r config resuming) S s0 s3
-        (Err halt)
-    text_halts R s3 halt i h =
-        inl (ends_on r config resuming Q1 Q2 S s0 s1 s2 t captures g1 g2 s3 halt
-        (judges_then (state_in name) (λ (text : List ℕ) (m : Contents). resuming_from t captures text) R S s2 s3 halt i
-        h))
+      module _ (Q : List ℕ → Type 0) (text : List ℕ)
+          (read : Judges InTurn (state_in name) Q (space mid) (space now) (Ok text)) where
+        abbrev aim : Aim
+        aim = Resuming given.tables given.captures text
 
-    module _ (Q3 : List ℕ → Type 0) (s3 : Space) (text : List ℕ)
-        (g3 : Judges InTurn (state_in name) Q3 s2 s3 (Ok text)) where
-      resume_aims : Judges InTurn (judged_whole r config resuming) S s0 s3 (Ok (Resuming t captures text))
-      resume_aims =
-          let aim : Aim = Resuming t captures text in
-          aims_on r config resuming Q1 Q2 S s0 s1 s2 t captures g1 g2 s3 aim
-          (judges_both (state_in name) (λ (x : List ℕ) (m : Contents). resuming_from t captures x) Q3 S S s2 s3 s3 text
-          aim g3
-          (judges_computed (resuming_from t captures text) S s3 aim g3.closed refl))
+        resume_settled : (result : Result Plan Halt) → Settles (Ok aim) result →
+            IfOk result (λ plan. AllByRecursion (λ write. Unit {0}) plan.writes) →
+            ((r : Reader) → IfOk result (λ plan. IfSome (space old).told (λ m. IsTakenUp r config name m plan))) →
+            IsJudged space may_fail keeps InTurn (Resume config name) old now result
+        resume_settled =
+            settled space may_fail keeps (Resume config name) (λ s. refl) old now _
+            (read_on space may_fail keeps (Resume config name) (λ s. refl) old lasts mid now (λ r. state_in name)
+            (λ r text (m : Contents). Ok (Resuming given.tables given.captures text)) resume_reached kept Q text
+            (λ r. short_stays (State stopped.Long) name) (λ r. read))
 
-      -- want of memory at the end
-      pub resume_no_memory : Decides InTurn (judged_whole r config resuming) S s0 s3 (Err NoMemory)
-      resume_no_memory =
-          inl (record {
-            ok = tt;
-            halt = g3.uncounted ∙ g2.uncounted ∙ g1.uncounted;
-            closed = g3.closed;
-            told = g3.told ∙ g2.told ∙ g1.told;
-            uncounted = tt;
-          })
+        resume_settles : (halt : Halt) → IsResumeHalt given.tables given.captures text halt →
+            Settles (Ok aim) (Err halt)
+        resume_settles (Refused refusal) h =
+            (resume_untold given.tables given.captures text refusal h, inr (aim, refl, h))
+        resume_settles (Unread unread) h = h
+        resume_settles NoMemory h = tt
 
-      pub resume_halts : (halt : Halt) → IsResumeHalt t captures text halt →
-          Decides InTurn (judged_whole r config resuming) S s0 s3 (Err halt)
-      resume_halts (Refused refusal) h =
-          denial_decides InTurn (judged_whole r config resuming) S s0 s3 (Resuming t captures text) refusal
-          (resume_untold t captures text refusal h) h resume_aims
-      resume_halts (Unread unread) h = absurd h
-      resume_halts NoMemory h = resume_no_memory
+        -- the run cannot go on, or memory ran out
+        pub resume_halts : (halt : Halt) → IsResumeHalt given.tables given.captures text halt →
+            IsJudged space may_fail keeps InTurn (Resume config name) old now (Err halt)
+        resume_halts halt h = resume_settled (Err halt) (resume_settles halt h) tt (λ r. tt)
 
-      -- what was kept of it is built
-      module _ (c : Crossed) (plan : Plan) (is : IsResumedText t captures text (kept_by c))
-          (writes : plan.writes ≡ captures_out t captures c.switched.sent.items 0 t.ports ++
-          (t.trace, trace_of c.switched.sent.items) ∷ (t.log, log_of c.note.items) ∷ [])
-          (report : plan.text ≡ report_with c.figures c.refused.items) where
-        kept_written : plan ≡ resumed t captures (kept_by c)
+        -- what was kept of it is built
+        pub resume_plans : (c : Crossed) (plan : Plan) → AreGiven given.tables given.captures →
+            IsResumedText given.tables given.captures text (kept_by c) →
+            plan.writes ≡ captures_out given.tables given.captures c.switched.sent.items 0 given.tables.ports ++
+            (given.tables.trace, trace_of c.switched.sent.items) ∷ (given.tables.log, log_of c.note.items) ∷ [] →
+            plan.text ≡ report_with c.figures c.refused.items →
+            IsJudged space may_fail keeps InTurn (Resume config name) old now (Ok plan)
         unfolding resumed
-        kept_written = plan_is plan _ _ writes report
-
-        pub resume_plans : Decides InTurn (judged_whole r config resuming) S s0 s3 (Ok plan)
-        resume_plans = (Resuming t captures text, (kept_by c, is, kept_written), resume_aims)
-
-        goes_on_told : (told : Option Contents) → AreGiven t captures → IfSome told (λ m. tables_in config m ≡ Ok t) →
-            IfSome told (λ m. captures_in r t m ≡ Ok captures) → IfSome told (λ m. state_in name m ≡ Ok text) →
-            IfSome told (λ m. IsTakenUp r config name m plan)
-        goes_on_told None given a b d = tt
-        goes_on_told (Some m) given a b d = record {
-          tables = t;
-          configured = a;
-          captures = captures;
-          captured = b;
-          given = given;
-          text = text;
-          found = text_stands (State stopped.Long) name m text d;
-          kept = kept_by c;
-          goes_on = is;
-          written = kept_written;
-        }
-
-        pub resume_emulates : AreGiven t captures → IfSome s0.told (λ m. IsTakenUp r config name m plan)
-        resume_emulates given =
-            let P : Option Contents → Type 0 = λ o. IfSome o (λ m. captures_in r t m ≡ Ok captures) in
-            let Q : Option Contents → Type 0 = λ o. IfSome o (λ m. state_in name m ≡ Ok text) in
-            goes_on_told s0.told given g1.ok (subst P g1.told g2.ok) (subst Q (g2.told ∙ g1.told) g3.ok)
+        resume_plans c plan are goes writes report =
+            let written : plan ≡ resumed given.tables given.captures (kept_by c) = plan_is plan _ _ writes report in
+            let P : Option Contents → Type 0 = λ o. IfSome o (λ m. state_in name m ≡ Ok text) in
+            resume_settled (Ok plan) (aim, refl, (kept_by c, goes, written)) (all_any plan.writes) (λ r.
+            told_two (space old).told _ _ _ (λ m (ab : (tables_in config m ≡ Ok given.tables)
+            × (captures_in r given.tables m ≡ Ok given.captures)) d. record {
+              tables = given.tables;
+              configured = ab.0;
+              captures = given.captures;
+              captured = ab.1;
+              given = are;
+              text = text;
+              found = text_stands (State stopped.Long) name m text d;
+              kept = kept_by c;
+              goes_on = goes;
+              written = written;
+            }) (told_two (space old).told _ _ _ (λ m a b. (a, b)) is.tables (is.captures r)) (subst P is.told read.ok))
 
 -- ## The same captures and text
 

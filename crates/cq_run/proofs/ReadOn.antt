@@ -1,62 +1,64 @@
--- Judging what is read behind a configuration and its captures: where one of these ends judging, it ends it all; and
--- where both are there, all ends as what is judged of them does.
-use Rattle.std.proofs.Common.{ℕ, List, inl}
-use Rattle.std.specs.Prelude.{Result, Ok, Err}
+-- Reading a configuration and its captures: where one of these ends it, it ends judging of whatever they would give,
+-- and where both are there, that is given. The captures may be read in turn or ahead.
+use Rattle.std.proofs.Common.{◌≡◌, ◌∙◌, ℕ, List, length, subst}
+use Rattle.std.specs.Prelude.{IfSome, Option, Result, Ok, Err}
 use Rattle.cq_pcap.specs.Captured.{Captured}
+use Rattle.cq_route.specs.Tables.{AreTables, ports_of}
 use Rattle.cq_route.specs.declared.tables.Tables.{Tables}
+use Rattle.cq_space.specs.Call.{Call}
+use Rattle.cq_space.specs.Failing.{Fails, Lasts, Reads}
 use Rattle.cq_space.specs.Space.{Contents, Space}
-use Rattle.cq_run.specs.declared.refusal.Refusal.{Refusal}
 use Rattle.cq_run.specs.declared.stop.Halt.{Halt}
-use Rattle.cq_run.specs.Aim.{Aim}
+use Rattle.cq_run.specs.Given.{EndsGiven, IsGiven}
 use Rattle.cq_run.specs.Judging.{Judges}
-use Rattle.cq_run.specs.Pace.{InTurn}
-use Rattle.cq_run.specs.Planning.{Decides}
+use Rattle.cq_run.specs.Pace.{InTurn, Pace}
 use Rattle.cq_run.specs.Reader.{Reader}
 use Rattle.cq_run.specs.Verdict.{◌>>=◌, captures_in, tables_in}
-use Rattle.cq_run.proofs.Chain.{judges_after, judges_both, judges_then}
-use Rattle.cq_run.proofs.Stays.{captures_from_stay, tables_stay}
+use Rattle.cq_run.proofs.Chain.{judges_after, judges_at, judges_then}
+use Rattle.cq_run.proofs.Failed.{fails_after}
+use Rattle.cq_run.proofs.OneReading.{from_front}
+use Rattle.cq_run.proofs.Stays.{tables_stay}
 
-module _ (r : Reader) (config : List ℕ) (rest : Tables → List (List Captured) → Contents → Result Aim Refusal) where
-  -- what is judged once the tables are read
-  abbrev pub behind_tables : Tables → Contents → Result Aim Refusal
-  behind_tables t m = captures_in r t m >>= (λ captures. rest t captures m)
+module _ {S : Type 0} (space : S → Space) (may_fail : Call → S → S → Type 0) (keeps : S → S → Type 0)
+    (config : List ℕ) (old : S) where
+  -- the configuration ends it, which is read before anything can be read ahead
+  pub tables_end : (p : Pace) (new : S) (halt : Halt) →
+      Judges InTurn (tables_in config) (λ name. (name ≡ config) × Fails space may_fail keeps (Reads name) old new)
+      (space old) (space new) (Err halt) → EndsGiven space may_fail keeps p config old new halt
+  tables_end p new halt h = λ r rest.
+      judges_at p _ _ (space old) (space new) halt
+      (judges_then (tables_in config) (λ (t : Tables) (m : Contents). captures_in r t m >>= (λ cs. rest t cs m)) _
+      (λ name. Fails space may_fail keeps (Reads name) old new) (space old) (space new) halt (λ name u. u.1) h)
 
-  abbrev pub judged_whole : Contents → Result Aim Refusal
-  judged_whole m = tables_in config m >>= (λ t. behind_tables t m)
+  module _ (p : Pace) (mid new : S) (t : Tables) (Q : List ℕ → Type 0) (lasts : Lasts keeps)
+      (read : Judges InTurn (tables_in config) Q (space old) (space mid) (Ok t)) (kept : keeps old mid) where
+    -- the captures end it
+    pub captures_end : (halt : Halt) → ((r : Reader) → Judges p (captures_in r t)
+        (λ name. Fails space may_fail keeps (Reads name) mid new) (space mid) (space new) (Err halt)) →
+        EndsGiven space may_fail keeps p config old new halt
+    captures_end halt h = λ r rest.
+        let R : List ℕ → Type 0 = λ name. Fails space may_fail keeps (Reads name) mid new in
+        let since : List ℕ → Type 0 = λ name. Fails space may_fail keeps (Reads name) old new in
+        judges_after (tables_in config) (λ (t : Tables) (m : Contents). captures_in r t m >>= (λ cs. rest t cs m)) Q R
+        since (space old) (space mid) (space new) t halt (tables_stay config)
+        (λ name. fails_after space may_fail keeps (Reads name) old mid new lasts read.uncounted kept) read
+        (judges_then (captures_in r t) (λ (cs : List (List Captured)) (m : Contents). rest t cs m) R R (space mid)
+        (space new) halt (λ name u. u) (h r))
 
-  -- the configuration ends it
-  pub tables_end : (R S : List ℕ → Type 0) (s0 s1 : Space) (halt : Halt) → ((name : List ℕ) → R name → S name) →
-      Judges InTurn (tables_in config) R s0 s1 (Err halt) → Decides InTurn judged_whole S s0 s1 (Err halt)
-  tables_end R S s0 s1 halt i h =
-      inl (judges_then (tables_in config) (λ (x : Tables) (m : Contents). behind_tables x m) R S s0 s1 halt i h)
-
-  -- the captures end it
-  pub captures_end : (Q R S : List ℕ → Type 0) (s0 s1 s2 : Space) (t : Tables) (halt : Halt) →
-      ((name : List ℕ) → R name → S name) → Judges InTurn (tables_in config) Q s0 s1 (Ok t) →
-      Judges InTurn (captures_in r t) R s1 s2 (Err halt) → Decides InTurn judged_whole S s0 s2 (Err halt)
-  captures_end Q R S s0 s1 s2 t halt i g h =
-      inl (judges_after (tables_in config) (λ (x : Tables) (m : Contents). behind_tables x m) Q S S s0 s1 s2 t halt
-      (tables_stay config) (λ name u. u) g
-      (judges_then (captures_in r t) (λ (captures : List (List Captured)) (m : Contents). rest t captures m)
-      R S s1 s2 halt i h))
-
-  module _ (Q1 Q2 S : List ℕ → Type 0) (s0 s1 s2 : Space) (t : Tables) (captures : List (List Captured))
-      (g1 : Judges InTurn (tables_in config) Q1 s0 s1 (Ok t))
-      (g2 : Judges InTurn (captures_in r t) Q2 s1 s2 (Ok captures)) where
-    -- what ends judging of both ends it all
-    pub ends_on : (end : Space) (halt : Halt) → Judges InTurn (rest t captures) S s2 end (Err halt) →
-        Judges InTurn judged_whole S s0 end (Err halt)
-    ends_on end halt h =
-        judges_after (tables_in config) (λ (x : Tables) (m : Contents). behind_tables x m) Q1 S S s0 s1 end t halt
-        (tables_stay config) (λ name u. u) g1
-        (judges_after (captures_in r t) (λ (cs : List (List Captured)) (m : Contents). rest t cs m) Q2 S S
-        s1 s2 end captures halt
-        (captures_from_stay r t.limit_bytes 0 t.ports) (λ name u. u) g2 h)
-
-    -- and what both are aimed at is what all is aimed at
-    pub aims_on : (end : Space) (aim : Aim) → Judges InTurn (rest t captures) S s2 end (Ok aim) →
-        Judges InTurn judged_whole S s0 end (Ok aim)
-    aims_on end aim h =
-        judges_both (tables_in config) (λ (x : Tables) (m : Contents). behind_tables x m) Q1 S S s0 s1 end t aim g1
-        (judges_both (captures_in r t) (λ (cs : List (List Captured)) (m : Contents). rest t cs m) Q2 S S
-        s1 s2 end captures aim g2 h)
+    -- both are there
+    pub given_read : (captures : List (List Captured)) (R : List ℕ → Type 0) → AreTables t →
+        ((r : Reader) → Judges p (captures_in r t) R (space mid) (space new) (Ok captures)) →
+        length captures ≡ ports_of t.setup → keeps mid new →
+        IsGiven space keeps config old new (record { tables = t; captures = captures })
+    given_read captures R in_range h each kept_on = record {
+      tables = read.ok;
+      captures = λ r.
+          let P : Option Contents → Type 0 = λ o. IfSome o (λ m. captures_in r t m ≡ Ok captures) in
+          subst P read.told (h r).ok;
+      in_range = in_range;
+      each = each;
+      kept = lasts.both old mid new kept kept_on;
+      closed = (h from_front).closed;
+      told = (h from_front).told ∙ read.told;
+      uncounted = (h from_front).uncounted ∙ read.uncounted;
+    }

@@ -9,6 +9,12 @@ pub told_map : {A : Type 0} (told : Option A) (P Q : A → Type 0) → ((m : A) 
 told_map None P Q f h = tt
 told_map (Some m) P Q f h = f m h
 
+-- or from two others
+pub told_two : {A : Type 0} (told : Option A) (P Q R : A → Type 0) → ((m : A) → P m → Q m → R m) → IfSome told P →
+    IfSome told Q → IfSome told R
+told_two None P Q R f g h = tt
+told_two (Some m) P Q R f g h = f m g h
+
 -- a fact that always holds
 pub told_any : {A : Type 0} (told : Option A) (P : A → Type 0) → ((m : A) → P m) → IfSome told P
 told_any None P f = tt

@@ -18,7 +18,9 @@ pub mod Decoding
 pub mod World
 pub mod Writing
 pub mod Planning
+pub mod Given
 pub mod Headline
+pub mod Judged
 pub mod Ending
 pub mod Line
 pub mod Answers

@@ -1,5 +1,5 @@
 -- What is kept of a run until its bytes are built.
-use Rattle.std.specs.Prelude.{◌≡◌, ℕ, List, Option, None, Some, Ok}
+use Rattle.std.specs.Prelude.{◌≡◌, ◌∷◌, [], ℕ, List, Option, None, Some, Ok}
 use Rattle.cq_base.specs.declared.cell.Departure.{Departure}
 use Rattle.cq_cells.specs.Schedule.{arrivals, first_stamp}
 use Rattle.cq_ideal.specs.Refused.{refused_counts}
@@ -21,7 +21,7 @@ use Rattle.cq_run.specs.declared.switching.Crossed.{Crossed}
 use Rattle.cq_run.specs.declared.switching.Switched.{Switched}
 use Rattle.cq_run.specs.Headline.{KeepsUp}
 use Rattle.cq_run.specs.Plan.{Plan}
-use Rattle.cq_run.specs.Plans.{crossed}
+use Rattle.cq_run.specs.Plans.{capture_out, crossed}
 use Rattle.cq_run.specs.Verdict.{ideally_sent}
 
 -- these are the departures of the ideal switch, and the stamp from which their slots are counted
@@ -52,6 +52,17 @@ pub record IsCrossing (t : Tables) (captures : List (List Captured)) (plan : Pla
   pub keeps_up : KeepsUp t captures records
   pub departed : sent ≡ departures_in_run records
   pub written : plan ≡ crossed t captures sent records
+
+-- the plan is what leaves the one output of a switch with this one capture: it keeps up, and sends what the ideal
+-- switch sends
+pub record IsPassing (t : Tables) (packets : List Captured) (to : List ℕ) (plan : Plan) : Type 0 where
+  pub sent : List Departure
+  pub is_sent : ideally_sent t (packets ∷ []) ≡ Ok sent
+  pub records : List LimitedRecord
+  pub keeps_up : KeepsUp t (packets ∷ []) records
+  pub departed : sent ≡ departures_in_run records
+  pub writes : plan.writes ≡ (to, capture_out t (packets ∷ []) sent 0) ∷ []
+  pub text : plan.text ≡ []
 
 -- why the program stops where a capture cannot be read: it has this fault, or memory ran out
 abbrev pub halt_for : ℕ → Option CaptureFault → Halt

@@ -10,6 +10,7 @@ ghost use Rattle.cq_route.specs.Tables.{AreTables, ports_of};
 ghost use Rattle.cq_space.specs.Failing.{Fails, Reads};
 ghost use Rattle.cq_space.specs.Space.{Closed};
 ghost use Rattle.cq_run.specs.Decoding.{IsBegun, IsBegunFor, source};
+ghost use Rattle.cq_run.specs.Given.{EndsGiven, IsGiven};
 ghost use Rattle.cq_run.specs.Input.{IsHaltFor};
 ghost use Rattle.cq_run.specs.Judging.{Halts, Judges};
 ghost use Rattle.cq_run.specs.Pace.{Ahead, InTurn};
@@ -18,7 +19,7 @@ ghost use Rattle.cq_run.specs.Verdict.{captures_from, captures_in, packets_at};
 
 use crate::Halt;
 use crate::decoding::{Decoding, begin, finish};
-use crate::reading::{read_file, unreadable};
+use crate::reading::{Given, read_configuration, read_file, unreadable};
 use cq_base::{Name, NoMemory, Port, Sequence};
 use cq_pcap::Capture;
 use cq_route::{PortRow, Tables};
@@ -28,9 +29,27 @@ use std::alloc::Global;
 use std::sync::Wait;
 use std::thread::Threads;
 
-/// What arrives at each input, in order. Where several have a fault, the first of these is told; files behind it
-/// may have been read, and a fault met there is counted and not told. Each reader that was started is joined.
-pub fn stream_inputs<R: Threads + Wait + Copy + Send + 'static, F: Files, W: Watch + 'static>(
+/// What the configuration of this name gives, where its captures are read ahead.
+pub fn stream_given<R: Threads + Wait + Copy + Send + 'static, F: Files, W: Watch + 'static>(
+    rt: R,
+    alloc: Global,
+    files: &mut F,
+    config: Name,
+    watch: &W,
+) -> Result<Given, Halt>
+    requires { (F.space files.old).mode ≡ Closed }
+    ensures given { IfOk result (IsGiven F.space F.keeps config files.old files.new) }
+    ensures ends { IfErr result (EndsGiven F.space F.may_fail F.keeps Ahead config files.old files.new) }
+    ensures kept { F.keeps files.old files.new }
+{
+    let tables = read_configuration(alloc, files, config)?;
+    let captures = stream_inputs(rt, alloc, files, &tables, watch)?;
+    Ok(Given { tables, captures })
+}
+
+// What arrives at each input, in order. Where several have a fault, the first of these is told; files behind it
+// may have been read, and a fault met there is counted and not told. Each reader that was started is joined.
+fn stream_inputs<R: Threads + Wait + Copy + Send + 'static, F: Files, W: Watch + 'static>(
     rt: R,
     alloc: Global,
     files: &mut F,

@@ -1,29 +1,26 @@
 //! Judging what the words name. Nothing is written here.
-ghost use Rattle.std.specs.Prelude.{◌≡◌, ◌<◌, ◌^◌, [], IfErr, IfOk, IfSome, IsOk, length};
+ghost use Rattle.std.specs.Prelude.{◌≡◌, ◌<◌, ◌^◌, ◌∷◌, [], IfErr, IfOk, IsOk, length};
 ghost use Rattle.std.specs.Int.{IsInRange};
-ghost use Rattle.std.specs.List.{AllByRecursion};
-ghost use Rattle.cq_space.specs.Failing.{Fails, Reads};
 ghost use Rattle.cq_space.specs.Space.{Closed};
 ghost use Rattle.cq_route.specs.Tables.{AreTables, ports_of};
 ghost use Rattle.cq_gen.specs.Packets.{soak_captures};
 ghost use Rattle.cq_gen.specs.Tables.{soak_tables};
 ghost use Rattle.cq_run.specs.Aim.{Meets, Reporting};
+ghost use Rattle.cq_run.specs.Judged.{IsJudged};
 ghost use Rattle.cq_run.specs.Judging.{IsHaltOf};
-ghost use Rattle.cq_run.specs.Headline.{Emulates, IsAudited, IsEmulation, IsPassage, IsStopped, IsTakenUp};
 ghost use Rattle.cq_run.specs.Pace.{Ahead, InTurn};
-ghost use Rattle.cq_run.specs.Planning.{Decides, Plans, known_to, IsWithinRange};
-ghost use Rattle.cq_run.specs.Reader.{Reader};
-ghost use Rattle.cq_run.specs.Switching.{IsCrossing};
-ghost use Rattle.cq_run.specs.Verdict.{ideally_sent, judged, MayRead, MayWrite};
+ghost use Rattle.cq_run.specs.Planning.{IsWithinRange};
+ghost use Rattle.cq_run.specs.Switching.{IsCrossing, IsPassing};
+ghost use Rattle.cq_run.specs.Verdict.{ideally_sent};
 
-use crate::ahead::stream_inputs;
+use crate::ahead::stream_given;
 use crate::build::{
     build_check, build_crossed, build_passed, build_report, build_state, build_switched, build_yes,
 };
 use crate::parting::{part_by_crossbar, resume_by_crossbar};
 use crate::plan::Work;
 use crate::reading::{
-    put_capture, read_configuration, read_input, read_inputs, read_stopped, read_text,
+    Given, put_capture, read_configuration, read_given, read_input, read_stopped, read_text,
 };
 use crate::switching::{audit_texts, switch_by_crossbar, switch_ideally};
 use crate::{Command, Denial, Halt};
@@ -50,15 +47,7 @@ pub fn judge<R: Threads + Sync, F: Files, G: Gate>(
 ) -> Result<Work, Halt>
     requires closed { (F.space files.old).mode ≡ Closed }
     requires range { IsWithinRange command }
-    ensures judges { (r : Reader) → Decides InTurn (judged r command)
-        (λ name. MayRead command name × Fails F.space F.may_fail F.keeps (Reads name) files.old files.new)
-        (known_to command (F.space files.old)) (known_to command (F.space files.new)) result }
-    ensures kept { F.keeps files.old files.new }
-    ensures names { IfOk result (λ plan. AllByRecursion (λ write. MayWrite command write.0) plan.writes) }
-    ensures emulates { (r : Reader) → IfOk result (λ plan.
-        IfSome (F.space files.old).told (λ m. Emulates r command m plan)) }
-    ensures closed { (F.space files.new).mode ≡ Closed }
-    ensures told { (F.space files.new).told ≡ (F.space files.old).told }
+    ensures { IsJudged F.space F.may_fail F.keeps InTurn command files.old files.new result }
 {
     match command {
         Command::Pass { from, to } => pass(rt, alloc, files, from, to, gate),
@@ -86,34 +75,37 @@ fn pass<R: Threads + Sync, F: Files, G: Gate>(
     gate: &G,
 ) -> Result<Work, Halt>
     requires { (F.space files.old).mode ≡ Closed }
-    ensures judges { let command = Command.Pass from to in
-        (r : Reader) → Plans InTurn (judged r command)
-        (λ name. MayRead command name × Fails F.space F.may_fail F.keeps (Reads name) files.old files.new)
-        (F.space files.old) (F.space files.new) result }
-    ensures kept { F.keeps files.old files.new }
-    ensures names { let command = Command.Pass from to in
-        IfOk result (λ plan. AllByRecursion (λ write. MayWrite command write.0) plan.writes) }
-    ensures emulates { (r : Reader) → IfOk result (λ plan.
-        IfSome (F.space files.old).told (λ m. IsPassage r from to m plan)) }
+    ensures { IsJudged F.space F.may_fail F.keeps InTurn (Command.Pass from to) files.old files.new result }
 {
     let tables = Tables::plain(alloc, from.text(), to.text())?;
     let capture = read_input(alloc, files, from, 0, tables.limit_bytes)?;
+    pass_on(rt, alloc, &tables, capture, to, gate)
+}
+
+// What the crossbar switch of one port makes of this capture, with all its bytes.
+fn pass_on<R: Threads + Sync, G: Gate>(
+    rt: &R,
+    alloc: Global,
+    tables: &Tables,
+    capture: Capture,
+    to: Name,
+    gate: &G,
+) -> Result<Work, Halt>
+    requires tables { AreTables tables.now }
+    requires port { ports_of tables.now.setup ≡ 1 }
+    ensures passing { IfOk result (IsPassing tables.now capture to) }
+    ensures refused { IfErr result (IsHaltOf (ideally_sent tables.now (capture ∷ []))) }
+{
     let mut captures = Vec::new(alloc);
     put_capture(&mut captures, capture)?;
-    let crossed = switch_by_crossbar(rt, alloc, &tables, &captures, gate)?;
+    let crossed = switch_by_crossbar(rt, alloc, tables, &captures, gate)?;
     let switched = crossed.into_switched();
-    Ok(build_passed(alloc, &tables, captures, switched, to)?)
+    Ok(build_passed(alloc, tables, captures, switched, to)?)
 }
 
 fn check<F: Files>(alloc: Global, files: &mut F, config: Name) -> Result<Work, Halt>
     requires { (F.space files.old).mode ≡ Closed }
-    ensures judges { let command = Command.Check config in
-        (r : Reader) → Plans InTurn (judged r command)
-        (λ name. MayRead command name × Fails F.space F.may_fail F.keeps (Reads name) files.old files.new)
-        (F.space files.old) (F.space files.new) result }
-    ensures kept { F.keeps files.old files.new }
-    ensures names { let command = Command.Check config in
-        IfOk result (λ plan. AllByRecursion (λ write. MayWrite command write.0) plan.writes) }
+    ensures { IsJudged F.space F.may_fail F.keeps InTurn (Command.Check config) files.old files.new result }
 {
     let tables = read_configuration(alloc, files, config)?;
     Ok(build_check(alloc, &tables)?)
@@ -126,16 +118,10 @@ fn ideal<R: Threads + Sync, F: Files>(
     config: Name,
 ) -> Result<Work, Halt>
     requires { (F.space files.old).mode ≡ Closed }
-    ensures judges { let command = Command.Ideal config in
-        (r : Reader) → Plans InTurn (judged r command)
-        (λ name. MayRead command name × Fails F.space F.may_fail F.keeps (Reads name) files.old files.new)
-        (F.space files.old) (F.space files.new) result }
-    ensures kept { F.keeps files.old files.new }
-    ensures names { let command = Command.Ideal config in
-        IfOk result (λ plan. AllByRecursion (λ write. MayWrite command write.0) plan.writes) }
+    ensures { IsJudged F.space F.may_fail F.keeps InTurn (Command.Ideal config) files.old files.new result }
 {
-    let tables = read_configuration(alloc, files, config)?;
-    let captures = read_inputs(alloc, files, &tables)?;
+    let given = read_given(alloc, files, config)?;
+    let Given { tables, captures } = given;
     let switched = switch_ideally(rt, alloc, &tables, captures.as_slice())?;
     Ok(build_switched(alloc, &tables, captures, switched)?)
 }
@@ -148,19 +134,10 @@ fn run<R: Threads + Sync, F: Files, G: Gate>(
     gate: &G,
 ) -> Result<Work, Halt>
     requires { (F.space files.old).mode ≡ Closed }
-    ensures judges { let command = Command.Run config in
-        (r : Reader) → Plans InTurn (judged r command)
-        (λ name. MayRead command name × Fails F.space F.may_fail F.keeps (Reads name) files.old files.new)
-        (F.space files.old) (F.space files.new) result }
-    ensures kept { F.keeps files.old files.new }
-    ensures names { let command = Command.Run config in
-        IfOk result (λ plan. AllByRecursion (λ write. MayWrite command write.0) plan.writes) }
-    ensures emulates { (r : Reader) → IfOk result (λ plan. IfSome (F.space files.old).told
-        (λ m. IsEmulation r config m plan)) }
+    ensures { IsJudged F.space F.may_fail F.keeps InTurn (Command.Run config) files.old files.new result }
 {
-    let tables = read_configuration(alloc, files, config)?;
-    let captures = read_inputs(alloc, files, &tables)?;
-    Ok(cross(rt, alloc, &tables, captures, gate)?)
+    let given = read_given(alloc, files, config)?;
+    cross(rt, alloc, given, gate)
 }
 
 /// What `run` comes to for a configuration, where captures are decoded by readers ahead of judging. The watch is told
@@ -176,21 +153,10 @@ pub fn run_ahead<R, F: Files, G: Gate, W: Watch + 'static>(
 where
     R: Threads + Wait + Sync + Copy + Send + 'static,
     requires closed { (F.space files.old).mode ≡ Closed }
-    ensures judges { let command = Command.Run config in
-        (r : Reader) → Plans Ahead (judged r command)
-        (λ name. MayRead command name × Fails F.space F.may_fail F.keeps (Reads name) files.old files.new)
-        (F.space files.old) (F.space files.new) result }
-    ensures kept { F.keeps files.old files.new }
-    ensures names { let command = Command.Run config in
-        IfOk result (λ plan. AllByRecursion (λ write. MayWrite command write.0) plan.writes) }
-    ensures emulates { (r : Reader) → IfOk result (λ plan. IfSome (F.space files.old).told
-        (λ m. IsEmulation r config m plan)) }
-    ensures closed { (F.space files.new).mode ≡ Closed }
-    ensures told { (F.space files.new).told ≡ (F.space files.old).told }
+    ensures { IsJudged F.space F.may_fail F.keeps Ahead (Command.Run config) files.old files.new result }
 {
-    let tables = read_configuration(alloc, files, config)?;
-    let captures = stream_inputs(rt, alloc, files, &tables, watch)?;
-    Ok(cross(&rt, alloc, &tables, captures, gate)?)
+    let given = stream_given(rt, alloc, files, config, watch)?;
+    cross(&rt, alloc, given, gate)
 }
 
 // What the crossbar switch makes of these captures, one for each port, with all its bytes. The captures are given up
@@ -198,17 +164,17 @@ where
 fn cross<R: Threads + Sync, G: Gate>(
     rt: &R,
     alloc: Global,
-    tables: &Tables,
-    captures: Sequence<Capture>,
+    given: Given,
     gate: &G,
 ) -> Result<Work, Halt>
-    requires tables { AreTables tables.now }
-    requires captures { length captures ≡ ports_of tables.now.setup }
-    ensures crossing { IfOk result (IsCrossing tables.now captures) }
-    ensures refused { IfErr result (IsHaltOf (ideally_sent tables.now captures)) }
+    requires tables { AreTables given.tables }
+    requires captures { length given.captures ≡ ports_of given.tables.setup }
+    ensures crossing { IfOk result (IsCrossing given.tables given.captures) }
+    ensures refused { IfErr result (IsHaltOf (ideally_sent given.tables given.captures)) }
 {
-    let crossed = switch_by_crossbar(rt, alloc, tables, captures.as_slice(), gate)?;
-    Ok(build_crossed(alloc, tables, captures, crossed)?)
+    let Given { tables, captures } = given;
+    let crossed = switch_by_crossbar(rt, alloc, &tables, captures.as_slice(), gate)?;
+    Ok(build_crossed(alloc, &tables, captures, crossed)?)
 }
 
 fn soak<R: Threads + Sync, G: Gate>(
@@ -238,18 +204,10 @@ fn audit<R: Threads + Sync, F: Files>(
     config: Name,
 ) -> Result<Work, Halt>
     requires { (F.space files.old).mode ≡ Closed }
-    ensures judges { let command = Command.Audit config in
-        (r : Reader) → Decides InTurn (judged r command)
-        (λ name. MayRead command name × Fails F.space F.may_fail F.keeps (Reads name) files.old files.new)
-        (F.space files.old) (F.space files.new) result }
-    ensures kept { F.keeps files.old files.new }
-    ensures names { let command = Command.Audit config in
-        IfOk result (λ plan. AllByRecursion (λ write. MayWrite command write.0) plan.writes) }
-    ensures emulates { (r : Reader) → IfOk result (λ plan. IfSome (F.space files.old).told
-        (λ m. IsAudited r config m plan)) }
+    ensures { IsJudged F.space F.may_fail F.keeps InTurn (Command.Audit config) files.old files.new result }
 {
-    let tables = read_configuration(alloc, files, config)?;
-    let captures = read_inputs(alloc, files, &tables)?;
+    let given = read_given(alloc, files, config)?;
+    let Given { tables, captures } = given;
     let trace = read_text(alloc, files, &tables.trace, Denial::LongTrace)?;
     let log = read_text(alloc, files, &tables.log, Denial::LongLog)?;
     audit_texts(
@@ -274,18 +232,10 @@ fn part<R: Threads + Sync, F: Files, G: Gate>(
 ) -> Result<Work, Halt>
     requires closed { (F.space files.old).mode ≡ Closed }
     requires slots { slots < 2 ^ 63 }
-    ensures judges { let command = Command.Part config slots state in
-        (r : Reader) → Decides InTurn (judged r command)
-        (λ name. MayRead command name × Fails F.space F.may_fail F.keeps (Reads name) files.old files.new)
-        (F.space files.old) (F.space files.new) result }
-    ensures kept { F.keeps files.old files.new }
-    ensures names { let command = Command.Part config slots state in
-        IfOk result (λ plan. AllByRecursion (λ write. MayWrite command write.0) plan.writes) }
-    ensures emulates { (r : Reader) → IfOk result (λ plan. IfSome (F.space files.old).told
-        (λ m. IsStopped r config slots state m plan)) }
+    ensures { IsJudged F.space F.may_fail F.keeps InTurn (Command.Part config slots state) files.old files.new result }
 {
-    let tables = read_configuration(alloc, files, config)?;
-    let captures = read_inputs(alloc, files, &tables)?;
+    let given = read_given(alloc, files, config)?;
+    let Given { tables, captures } = given;
     let text = part_by_crossbar(rt, alloc, &tables, captures.as_slice(), slots, gate)?;
     Ok(build_state(alloc, state, text)?)
 }
@@ -299,18 +249,10 @@ fn resume<R: Threads + Sync, F: Files, G: Gate>(
     gate: &G,
 ) -> Result<Work, Halt>
     requires { (F.space files.old).mode ≡ Closed }
-    ensures judges { let command = Command.Resume config state in
-        (r : Reader) → Decides InTurn (judged r command)
-        (λ name. MayRead command name × Fails F.space F.may_fail F.keeps (Reads name) files.old files.new)
-        (F.space files.old) (F.space files.new) result }
-    ensures kept { F.keeps files.old files.new }
-    ensures names { let command = Command.Resume config state in
-        IfOk result (λ plan. AllByRecursion (λ write. MayWrite command write.0) plan.writes) }
-    ensures emulates { (r : Reader) → IfOk result (λ plan. IfSome (F.space files.old).told
-        (λ m. IsTakenUp r config state m plan)) }
+    ensures { IsJudged F.space F.may_fail F.keeps InTurn (Command.Resume config state) files.old files.new result }
 {
-    let tables = read_configuration(alloc, files, config)?;
-    let captures = read_inputs(alloc, files, &tables)?;
+    let given = read_given(alloc, files, config)?;
+    let Given { tables, captures } = given;
     let text = read_stopped(alloc, files, state)?;
     let crossed = resume_by_crossbar(
         rt,

@@ -7,8 +7,8 @@ ghost use Rattle.cq_run.specs.RunsAudited.{RunsAreAudited};
 /// readers make the same. So what holds for any reader holds for one that is pinned on all files.
 pub fn captures_are_read_in_one_way()
     ensures a_reader { Reader }
-    ensures one_answer { (r s : Reader) (bytes : List ℕ) → ((i : ℕ) → slice_index bytes i < 256)
-        → r.read bytes ≡ s.read bytes }
+    ensures one_answer { (r s : Reader) (bytes : List ℕ) → ((i : ℕ) → slice_index bytes i < 256) →
+        r.read bytes ≡ s.read bytes }
 {}
 
 /// What `run` leaves over any contents gets a yes from `audit` of the same configuration, unless the run wrote the

@@ -1,17 +1,18 @@
 //! Reading what a command names. Nothing is written here.
-ghost use Rattle.std.specs.Prelude.{◌≡◌, ◌≤◌, ◌^◌, ◌∷◌, ◌++◌, [], IfErr, IfOk, OnOk, length};
+ghost use Rattle.std.specs.Prelude.{◌≡◌, ◌≤◌, ◌^◌, ◌∷◌, ◌++◌, [], IfErr, IfOk, IsTrue, OnOk, length};
 ghost use Rattle.cq_route.specs.Tables.{AreTables, ports_of};
 ghost use Rattle.cq_space.specs.Failing.{Fails, Reads};
 ghost use Rattle.std.specs.Option.{option_map};
 ghost use Rattle.cq_pcap.specs.Faults.{fault_of};
 ghost use Rattle.cq_space.specs.Space.{Closed};
+ghost use Rattle.cq_run.specs.Given.{EndsGiven, IsGiven};
 ghost use Rattle.cq_run.specs.Input.{IsFileOf};
 ghost use Rattle.cq_run.specs.Judging.{Halts, Judges};
 ghost use Rattle.cq_run.specs.Pace.{InTurn};
 ghost use Rattle.cq_run.specs.Reader.{Reader};
-ghost use Rattle.cq_run.specs.Refusals.{capture_fault};
+ghost use Rattle.cq_run.specs.Refusals.{capture_fault, meaning_of};
 ghost use Rattle.cq_run.specs.Switching.{halt_for};
-ghost use Rattle.cq_run.specs.Verdict.{capture_in, captures_in, packets_at, state_in, tables_in, text_in};
+ghost use Rattle.cq_run.specs.Verdict.{capture_in, captures_in, packets_at, short_in, state_in, tables_in, text_in};
 
 use crate::{CaptureFault, Denial, Halt, Refusal, StateFault};
 use cq_base::{Name, NoMemory, Sequence};
@@ -80,20 +81,7 @@ pub fn read_text<F: Files>(
     ensures kept { F.keeps files.old files.new }
 {
     let asked = Name::of(alloc, name.text())?;
-    match read_whole(alloc, files, asked.text(), LONGEST_TEXT) {
-        Ok(bytes) => {
-            let text = Sequence::of(bytes);
-            Ok(text)
-        }
-        Err(ReadRefusal::Missing) => Err(Halt::Refused {
-            refusal: Refusal::Missing { name: asked },
-        }),
-        Err(ReadRefusal::Fault) => Err(Halt::Unread { name: asked }),
-        Err(ReadRefusal::Long { .. }) => Err(Halt::Refused {
-            refusal: Refusal::Audit { denial: long },
-        }),
-        Err(ReadRefusal::NoMemory) => Err(Halt::NoMemory),
-    }
+    read_short(alloc, files, asked, Refusal::Audit { denial: long })
 }
 
 /// The text of the state of a stopped run, from the file of this name, if that has at most 268,435,456 bytes. It is not
@@ -109,6 +97,26 @@ pub fn read_stopped<F: Files>(
         (F.space files.old) (F.space files.new) result }
     ensures kept { F.keeps files.old files.new }
 {
+    let long = Refusal::State {
+        fault: StateFault::Long,
+    };
+    read_short(alloc, files, name, long)
+}
+
+// The bytes of the file of this name, if it has at most 268,435,456 of them. Where it has more, this is the refusal.
+fn read_short<F: Files>(
+    alloc: Global,
+    files: &mut F,
+    name: Name,
+    long: Refusal,
+) -> Result<Sequence<u8>, Halt>
+    requires closed { (F.space files.old).mode ≡ Closed }
+    requires untold { IsTrue (meaning_of long).untold }
+    ensures judges { Judges InTurn (short_in long name)
+        (λ asked. (asked ≡ name) × Fails F.space F.may_fail F.keeps (Reads asked) files.old files.new)
+        (F.space files.old) (F.space files.new) result }
+    ensures kept { F.keeps files.old files.new }
+{
     match read_whole(alloc, files, name.text(), LONGEST_TEXT) {
         Ok(bytes) => {
             let text = Sequence::of(bytes);
@@ -118,11 +126,7 @@ pub fn read_stopped<F: Files>(
             refusal: Refusal::Missing { name },
         }),
         Err(ReadRefusal::Fault) => Err(Halt::Unread { name }),
-        Err(ReadRefusal::Long { .. }) => Err(Halt::Refused {
-            refusal: Refusal::State {
-                fault: StateFault::Long,
-            },
-        }),
+        Err(ReadRefusal::Long { .. }) => Err(Halt::Refused { refusal: long }),
         Err(ReadRefusal::NoMemory) => Err(Halt::NoMemory),
     }
 }
@@ -243,6 +247,25 @@ pub fn read_inputs<F: Files>(
         put_capture(&mut captures, capture)?;
     }
     Ok(Sequence::of(captures))
+}
+
+/// What a configuration gives: its tables, and what arrives at each input.
+#[derive(Drop)]
+pub struct Given {
+    pub tables: Tables,
+    pub captures: Sequence<Capture>,
+}
+
+/// What the configuration of this name gives.
+pub fn read_given<F: Files>(alloc: Global, files: &mut F, config: Name) -> Result<Given, Halt>
+    requires { (F.space files.old).mode ≡ Closed }
+    ensures given { IfOk result (IsGiven F.space F.keeps config files.old files.new) }
+    ensures ends { IfErr result (EndsGiven F.space F.may_fail F.keeps InTurn config files.old files.new) }
+    ensures kept { F.keeps files.old files.new }
+{
+    let tables = read_configuration(alloc, files, config)?;
+    let captures = read_inputs(alloc, files, &tables)?;
+    Ok(Given { tables, captures })
 }
 
 /// One more capture, behind the others.

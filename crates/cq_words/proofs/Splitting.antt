@@ -94,7 +94,8 @@ module _ (word : Text) (rules : List Rule) where
 
     -- what is found under the name of a value
     found : (name : Text) → first_of name (rows_after rules [] vs) ≡ first_of name (finished rules end.held)
-    found name = ap (λ (w : Walk). first_of name (finished rules w.held)) (values_walked (at nothing_held 1) 1 vs are taken)
+    found name =
+        ap (λ (w : Walk). first_of name (finished rules w.held)) (values_walked (at nothing_held 1) 1 vs are taken)
 
     passes : end_passes (leaf word rules) end ≡ true → level_passes (leaf word rules) [] nothing_held vs false ≡ true
     passes ends = ap₂ ◌&&◌ (walk_taken (at nothing_held 1) 1 vs are taken)

@@ -14,14 +14,14 @@ switch_by_crossbar-requires-clause-captures g c κs within =
 
 pub build_crossed-requires-clause-run : goal.build_crossed-requires-clause-run
 build_crossed-requires-clause-run g c =
-    let P : List (List Captured) → Type 0 = λ cs. IsSwitched c.args.tables.now cs c.in_ok-crossed.crossed.switched in
-    switched_whole c.args.tables.now c.args.captures c.in_ok-crossed.crossed.switched c.requires.tables
+    let P : List (List Captured) → Type 0 = λ cs. IsSwitched c.args.given.tables cs c.in_ok-crossed.crossed.switched in
+    switched_whole c.args.given.tables c.args.given.captures c.in_ok-crossed.crossed.switched c.requires.tables
     c.requires.captures (subst P c.as_slice.ensures c.in_ok-crossed.ensures.crossed.switched)
 
 pub returns-clause-crossing : goal.returns-clause-crossing
 returns-clause-crossing g c =
-    let P : List (List Captured) → Type 0 = λ cs. IsCrossed c.args.tables.now cs c.in_ok-crossed.crossed in
-    crossing c.args.tables.now c.args.captures c.in_ok-crossed.crossed
+    let P : List (List Captured) → Type 0 = λ cs. IsCrossed c.args.given.tables cs c.in_ok-crossed.crossed in
+    crossing c.args.given.tables c.args.given.captures c.in_ok-crossed.crossed
     (subst P c.as_slice.ensures c.in_ok-crossed.ensures.crossed) c.in_ok-build_crossed.field-0
     c.in_ok-build_crossed.ensures.writes c.in_ok-build_crossed.ensures.text
 
@@ -29,5 +29,5 @@ pub returns-in_err-crossed-clause-refused : goal.returns-in_err-crossed-clause-r
 returns-in_err-crossed-clause-refused g c =
     let p = err_from_is_err_and c.from_residual.result c.from_residual.ensures.1 in
     let P : List (List Captured) → Type 0 =
-    λ cs. IsHaltOf (ideally_sent c.args.tables.now cs) c.in_err-crossed.field-0.0 in
+    λ cs. IsHaltOf (ideally_sent c.args.given.tables cs) c.in_err-crossed.field-0.0 in
     rw (p.1, p.2) (subst P c.as_slice.ensures c.in_err-crossed.ensures.refused)

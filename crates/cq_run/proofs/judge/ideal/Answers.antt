@@ -1,74 +1,57 @@
-use Rattle.std.proofs.Common.{◌≡◌, ◌∙◌, List, ap, sym, subst}
+use Rattle.std.proofs.Common.{◌≡◌, ◌∙◌, List, ap, refl, subst, sym}
 use Rattle.std.proofs.lemmas.Result.{err_from_is_err_and}
 use Rattle.cq_base.specs.declared.cell.Departure.{Departure}
 use Rattle.cq_pcap.specs.Captured.{Captured}
 use Rattle.cq_route.specs.declared.tables.Tables.{Tables}
-use Rattle.cq_space.specs.Failing.{Reads}
+use Rattle.cq_words.specs.declared.command.Command.TheVariants.{Ideal}
 use Rattle.cq_run.specs.Aim.{Aim, Exactly}
 use Rattle.cq_run.specs.Judging.{IsHaltOf}
 use Rattle.cq_run.specs.Plans.{switched}
 use Rattle.cq_run.specs.Verdict.{ideally_sent}
-use Rattle.cq_run.proofs.Failed.{fails_after}
-use Rattle.cq_run.proofs.Planned.{all_any, captures_halt, captures_plan, run_halts}
+use Rattle.cq_run.proofs.Planned.{all_any, sent_ends, sent_halts, sent_plans}
+use Rattle.cq_run.proofs.Told.{told_any}
 use Rattle.cq_run.proofs.judge.ideal.Goals as goal
 
 abbrev aim_of : Tables → List (List Captured) → List Departure → Aim
 aim_of tables captures sent = Exactly (switched tables captures sent)
 
-pub returns-in_err-captures-clause-judges : goal.returns-in_err-captures-clause-judges
-returns-in_err-captures-clause-judges g c = λ r.
-    let p = err_from_is_err_and c.from_residual-in_err-captures.result c.from_residual-in_err-captures.ensures.1 in
+pub returns-in_err-given : goal.returns-in_err-given
+returns-in_err-given g c =
+    let p = err_from_is_err_and c.from_residual.result c.from_residual.ensures.1 in
+    let F = g.F.Files in
     rw (p.1, p.2)
-    (captures_halt r aim_of c.args.config (g.F.Files.space c.args.files.now)
-    (g.F.Files.space c.read_configuration.new.files) (g.F.Files.space c.read_inputs.new.files) _ _ _
-    c.in_ok-tables.tables c.in_err-captures.field-0.0
-    (λ name u. (
-      tt,
-      fails_after g.F.Files.space g.F.Files.may_fail g.F.Files.keeps (Reads name) c.args.files.now
-          c.read_configuration.new.files c.read_inputs.new.files g.met.F.Files.lasts
-          c.in_ok-tables.ensures.judges.uncounted c.read_configuration.ensures.kept u,
-    ))
-    c.in_ok-tables.ensures.judges (c.in_err-captures.ensures.judges r))
+    (sent_ends F.space F.may_fail F.keeps (Ideal c.args.config) (λ s. refl) c.args.files.now c.args.config aim_of
+    (λ r. refl) (λ name. tt) c.read_given.new.files c.in_err-given.field-0.0 c.in_err-given.ensures.ends
+    c.read_given.ensures.kept)
 
-pub returns-clause-judges : goal.returns-clause-judges
-returns-clause-judges g c = λ r.
-    let sent = c.in_ok-switched.switched.sent.items in
-    let same : c.as_slice.result.now ≡ c.in_ok-captures.captures = c.as_slice.ensures in
-    captures_plan r aim_of c.args.config (g.F.Files.space c.args.files.now)
-    (g.F.Files.space c.read_configuration.new.files) (g.F.Files.space c.read_inputs.new.files) _ _ _
-    c.in_ok-tables.tables c.in_ok-captures.captures sent c.in_ok-build_switched.field-0
-    c.in_ok-tables.ensures.judges (c.in_ok-captures.ensures.judges r)
-    (ap (ideally_sent c.in_ok-tables.tables) (sym same) ∙ c.in_ok-switched.ensures.switched.sent)
-    c.in_ok-build_switched.ensures
-
-pub returns-clause-names : goal.returns-clause-names
-returns-clause-names g c = all_any c.in_ok-build_switched.field-0.writes
-
-pub returns-clause-kept : goal.returns-clause-kept
-returns-clause-kept g c = g.met.F.Files.lasts.both _ _ _ c.read_configuration.ensures.kept c.read_inputs.ensures.kept
-
-pub returns-in_err-switched-clause-judges : goal.returns-in_err-switched-clause-judges
-returns-in_err-switched-clause-judges g c = λ r.
+pub returns-in_err-switched : goal.returns-in_err-switched
+returns-in_err-switched g c =
     let p = err_from_is_err_and c.from_residual-in_err-switched.result c.from_residual-in_err-switched.ensures.1 in
+    let F = g.F.Files in
     let P : List (List Captured) → Type 0 =
-    λ cs. IsHaltOf (ideally_sent c.in_ok-tables.tables cs) c.in_err-switched.field-0.0 in
+    λ cs. IsHaltOf (ideally_sent c.in_ok-given.given.tables cs) c.in_err-switched.field-0.0 in
     rw (p.1, p.2)
-    (run_halts r aim_of c.args.config (g.F.Files.space c.args.files.now)
-    (g.F.Files.space c.read_configuration.new.files) (g.F.Files.space c.read_inputs.new.files) _ _ _
-    c.in_ok-tables.tables c.in_ok-captures.captures c.in_err-switched.field-0.0
-    c.in_ok-tables.ensures.judges (c.in_ok-captures.ensures.judges r)
-    (subst P c.as_slice.ensures c.in_err-switched.ensures.refused))
+    (sent_halts F.space F.may_fail F.keeps (Ideal c.args.config) (λ s. refl) c.args.files.now c.args.config aim_of
+    (λ r. refl) (λ name. tt) c.read_given.new.files c.in_ok-given.given c.in_ok-given.ensures.given
+    c.in_err-switched.field-0.0 (subst P c.as_slice.ensures c.in_err-switched.ensures.refused))
 
-pub returns-in_err-build_switched-clause-judges : goal.returns-in_err-build_switched-clause-judges
-returns-in_err-build_switched-clause-judges g c = λ r.
+pub returns-in_err-build_switched : goal.returns-in_err-build_switched
+returns-in_err-build_switched g c =
     let p =
     err_from_is_err_and c.from_residual-in_err-build_switched.result c.from_residual-in_err-build_switched.ensures.1
     in
+    let F = g.F.Files in
     rw (p.1, p.2)
-    record {
-      ok = tt;
-      halt = (c.in_ok-captures.ensures.judges r).uncounted ∙ c.in_ok-tables.ensures.judges.uncounted;
-      closed = (c.in_ok-captures.ensures.judges r).closed;
-      told = (c.in_ok-captures.ensures.judges r).told ∙ c.in_ok-tables.ensures.judges.told;
-      uncounted = tt;
-    }
+    (sent_halts F.space F.may_fail F.keeps (Ideal c.args.config) (λ s. refl) c.args.files.now c.args.config aim_of
+    (λ r. refl) (λ name. tt) c.read_given.new.files c.in_ok-given.given c.in_ok-given.ensures.given _ tt)
+
+pub returns : goal.returns
+returns g c =
+    let F = g.F.Files in
+    let same : c.as_slice.result.now ≡ c.in_ok-given.given.captures = c.as_slice.ensures in
+    sent_plans F.space F.may_fail F.keeps (Ideal c.args.config) (λ s. refl) c.args.files.now c.args.config aim_of
+    (λ r. refl) (λ name. tt) c.read_given.new.files c.in_ok-given.given c.in_ok-given.ensures.given
+    c.in_ok-switched.switched.sent.items c.in_ok-build_switched.field-0
+    (ap (ideally_sent c.in_ok-given.given.tables) (sym same) ∙ c.in_ok-switched.ensures.switched.sent)
+    c.in_ok-build_switched.ensures (all_any c.in_ok-build_switched.field-0.writes)
+    (λ r. told_any (F.space c.args.files.now).told _ (λ m. tt))

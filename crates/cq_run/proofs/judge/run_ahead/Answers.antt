@@ -1,96 +1,17 @@
-use Rattle.std.proofs.Common.{◌∙◌, List}
 use Rattle.std.proofs.lemmas.Result.{err_from_is_err_and}
-use Rattle.cq_base.specs.declared.cell.Departure.{Departure}
-use Rattle.cq_pcap.specs.Captured.{Captured}
-use Rattle.cq_route.specs.declared.tables.Tables.{Tables}
-use Rattle.cq_space.specs.Failing.{Reads}
-use Rattle.cq_run.specs.Aim.{Aim, Crossing}
-use Rattle.cq_run.specs.Switching.{IsCrossing}
-use Rattle.cq_run.proofs.Crossed.{emulates}
-use Rattle.cq_run.proofs.Failed.{fails_after}
-use Rattle.cq_run.proofs.OneReading.{from_front}
-use Rattle.cq_run.proofs.Planned.{all_any, captures_halt, captures_plan, run_halts, tables_halt}
+use Rattle.cq_run.proofs.CrossingRun.{run_ends, run_judged}
 use Rattle.cq_run.proofs.judge.run_ahead.Goals as goal
 
-abbrev aim_of : Tables → List (List Captured) → List Departure → Aim
-aim_of tables captures sent = Crossing tables captures sent
-
--- what was judged before holds at either pace
-pub returns-in_err-tables-clause-judges : goal.returns-in_err-tables-clause-judges
-returns-in_err-tables-clause-judges g c = λ r.
+pub returns-in_err-given : goal.returns-in_err-given
+returns-in_err-given g c =
     let p = err_from_is_err_and c.from_residual.result c.from_residual.ensures.1 in
-    rw (p.1, p.2) (tables_halt r aim_of c.args.config (g.F.Files.space c.args.files.now)
-    (g.F.Files.space c.read_configuration.new.files) (g.F.Files.space c.read_configuration.new.files) _ _
-    c.in_err-tables.field-0.0
-    (λ name u. (tt, u.1)) c.in_err-tables.ensures.judges)
-
-pub returns-in_err-captures-clause-judges : goal.returns-in_err-captures-clause-judges
-returns-in_err-captures-clause-judges g c = λ r.
-    let p = err_from_is_err_and c.from_residual-in_err-captures.result c.from_residual-in_err-captures.ensures.1 in
+    let F = g.F.Files in
     rw (p.1, p.2)
-    (captures_halt r aim_of c.args.config (g.F.Files.space c.args.files.now)
-    (g.F.Files.space c.read_configuration.new.files) (g.F.Files.space c.stream_inputs.new.files) _ _ _
-    c.in_ok-tables.tables c.in_err-captures.field-0.0
-    (λ name u. (
-      tt,
-      fails_after g.F.Files.space g.F.Files.may_fail g.F.Files.keeps (Reads name) c.args.files.now
-          c.read_configuration.new.files c.stream_inputs.new.files g.met.F.Files.lasts
-          c.in_ok-tables.ensures.judges.uncounted c.read_configuration.ensures.kept u,
-    ))
-    c.in_ok-tables.ensures.judges (c.in_err-captures.ensures.judges r))
+    (run_ends F.space F.may_fail F.keeps c.args.files.now c.args.config c.stream_given.new.files
+    c.in_err-given.field-0.0 c.in_err-given.ensures.ends c.stream_given.ensures.kept)
 
-pub returns-clause-judges : goal.returns-clause-judges
-returns-clause-judges g c = λ r.
-    let t = c.in_ok-tables.tables in
-    let captures = c.in_ok-captures.captures in
-    let is : IsCrossing t captures c.in_ok-cross.field-0 = c.in_ok-cross.ensures.crossing in
-    captures_plan r aim_of c.args.config (g.F.Files.space c.args.files.now)
-    (g.F.Files.space c.read_configuration.new.files) (g.F.Files.space c.stream_inputs.new.files) _ _ _ t captures
-    is.sent c.in_ok-cross.field-0
-    c.in_ok-tables.ensures.judges (c.in_ok-captures.ensures.judges r) is.is_sent
-    (is.records, is.keeps_up.runs, is.written)
-
-pub returns-clause-names : goal.returns-clause-names
-returns-clause-names g c = all_any c.in_ok-cross.field-0.writes
-
-pub returns-clause-emulates : goal.returns-clause-emulates
-returns-clause-emulates g c = λ r.
-    let t = c.in_ok-tables.tables in
-    let captures = c.in_ok-captures.captures in
-    emulates t captures c.in_ok-cross.field-0 c.in_ok-cross.ensures.crossing r c.args.config _ _
-    (g.F.Files.space c.args.files.now) (g.F.Files.space c.read_configuration.new.files)
-    (g.F.Files.space c.stream_inputs.new.files)
-    c.in_ok-tables.ensures.judges (c.in_ok-captures.ensures.judges r)
-
-pub returns-clause-kept : goal.returns-clause-kept
-returns-clause-kept g c = g.met.F.Files.lasts.both _ _ _ c.read_configuration.ensures.kept c.stream_inputs.ensures.kept
-
-pub returns-in_err-cross-clause-judges : goal.returns-in_err-cross-clause-judges
-returns-in_err-cross-clause-judges g c = λ r.
-    let p = err_from_is_err_and c.from_residual-in_err-cross.result c.from_residual-in_err-cross.ensures.1 in
-    rw (p.1, p.2)
-    (run_halts r aim_of c.args.config (g.F.Files.space c.args.files.now)
-    (g.F.Files.space c.read_configuration.new.files) (g.F.Files.space c.stream_inputs.new.files) _ _ _
-    c.in_ok-tables.tables c.in_ok-captures.captures c.in_err-cross.field-0.0
-    c.in_ok-tables.ensures.judges (c.in_ok-captures.ensures.judges r) c.in_err-cross.ensures.refused)
-
--- whatever it comes to, reading leaves the file space closed and its contents as they are
-pub returns-in_err-captures-clause-closed : goal.returns-in_err-captures-clause-closed
-returns-in_err-captures-clause-closed g c = (c.stream_inputs.ensures.judges from_front).closed
-
-pub returns-in_err-captures-clause-told : goal.returns-in_err-captures-clause-told
-returns-in_err-captures-clause-told g c =
-    (c.stream_inputs.ensures.judges from_front).told ∙ c.read_configuration.ensures.judges.told
-
-pub returns-in_err-cross-clause-closed : goal.returns-in_err-cross-clause-closed
-returns-in_err-cross-clause-closed g c = (c.stream_inputs.ensures.judges from_front).closed
-
-pub returns-in_err-cross-clause-told : goal.returns-in_err-cross-clause-told
-returns-in_err-cross-clause-told g c =
-    (c.stream_inputs.ensures.judges from_front).told ∙ c.read_configuration.ensures.judges.told
-
-pub returns-clause-closed : goal.returns-clause-closed
-returns-clause-closed g c = (c.stream_inputs.ensures.judges from_front).closed
-
-pub returns-clause-told : goal.returns-clause-told
-returns-clause-told g c = (c.stream_inputs.ensures.judges from_front).told ∙ c.read_configuration.ensures.judges.told
+pub returns : goal.returns
+returns g c =
+    let F = g.F.Files in
+    run_judged F.space F.may_fail F.keeps c.args.files.now c.args.config c.stream_given.new.files c.in_ok-given.given
+    c.in_ok-given.ensures.given c.cross.result c.cross.ensures.crossing c.cross.ensures.refused

@@ -3,16 +3,10 @@ use Rattle.std.specs.Prelude.{◌≡◌, Err, IfSome, Some}
 use Rattle.std.specs.FinMap.{get}
 use Rattle.cq_space.specs.Failing.{Fails, Reads}
 use Rattle.cq_space.specs.Whole.{Lacks}
-use Rattle.cq_run.specs.declared.refusal.Refusal.{Refusal}
-use Rattle.cq_run.specs.declared.refusal.Refusal.TheVariants.{State}
-use Rattle.cq_run.specs.declared.refusal.StateFault.TheVariants as stopped
 use Rattle.cq_run.proofs.Configured.{long_is_no_fault}
 use Rattle.cq_run.proofs.OneReading.{read_is_no_fault}
 use Rattle.cq_run.proofs.TextRead.{missing_is_no_fault, text_is, text_is_to_read, text_long, text_missed}
-use Rattle.cq_run.proofs.reading.read_stopped.Goals as goal
-
-abbrev too_long : Refusal
-too_long = State stopped.Long
+use Rattle.cq_run.proofs.reading.read_short.Goals as goal
 
 pub returns-in-Ok-clause-judges : goal.returns-in-Ok-clause-judges
 returns-in-Ok-clause-judges g c =
@@ -22,7 +16,7 @@ returns-in-Ok-clause-judges g c =
     rw c.of-text.ensures
     record {
       ok =
-          text_is too_long c.args.name (g.F.Files.space c.args.files.now).told c.in-Ok.bytes.items
+          text_is c.args.long c.args.name (g.F.Files.space c.args.files.now).told c.in-Ok.bytes.items
           (omega (arith, whole.short, c.in-Ok.bytes.ok)) (subst P c.text.ensures whole.whole);
       halt = tt;
       closed = c.read_whole.ensures.whole.closed;
@@ -37,7 +31,7 @@ returns-in-Err-Missing-clause-judges g c =
     record {
       ok = tt;
       halt = (
-        text_missed too_long c.args.name (g.F.Files.space c.args.files.now).told c.args.name refl
+        text_missed c.args.long c.args.name (g.F.Files.space c.args.files.now).told c.args.name refl
             (subst P c.text.ensures (whole.missing (ap Err c.in-Err-Missing.field-0-is))),
         missing_is_no_fault _ _ c.in-Err-Missing.field-0-is whole.uncounted,
       );
@@ -55,7 +49,7 @@ returns-in-Err-Fault-clause-judges g c =
       halt = (
         c.in-Err-Fault.ensures.whole.fault (ap Err c.in-Err-Fault.field-0-is),
         (refl, subst P c.text.ensures (c.in-Err-Fault.ensures.why (ap Err c.in-Err-Fault.field-0-is))),
-        text_is_to_read too_long c.args.name (g.F.Files.space c.args.files.now).told c.args.name refl,
+        text_is_to_read c.args.long c.args.name (g.F.Files.space c.args.files.now).told c.args.name refl,
       );
       closed = c.read_whole.ensures.whole.closed;
       told = c.read_whole.ensures.whole.told;
@@ -69,7 +63,8 @@ returns-in-Err-Long-clause-judges g c =
     record {
       ok = tt;
       halt = (
-        text_long too_long c.args.name (g.F.Files.space c.args.files.now).told _ refl c.text.ensures long.1,
+        text_long c.args.long c.args.name (g.F.Files.space c.args.files.now).told _ c.requires.untold
+            c.text.ensures long.1,
         long_is_no_fault _ _ _ c.in-Err-Long.field-0-is whole.uncounted,
       );
       closed = c.read_whole.ensures.whole.closed;

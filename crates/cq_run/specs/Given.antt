@@ -1,0 +1,46 @@
+-- Only proofs use this.
+-- What a configuration gives, once it and the captures that it names are read.
+use Rattle.std.specs.Prelude.{◌≡◌, ℕ, List, length, IfSome, Result, Ok, Err}
+use Rattle.cq_pcap.specs.Captured.{Captured}
+use Rattle.cq_route.specs.Tables.{AreTables, ports_of}
+use Rattle.cq_route.specs.declared.tables.Tables.{Tables}
+use Rattle.cq_space.specs.Call.{Call}
+use Rattle.cq_space.specs.Failing.{Fails, Reads}
+use Rattle.cq_space.specs.Space.{Closed, Contents, Space}
+use Rattle.cq_run.specs.declared.reading.Given.{Given}
+use Rattle.cq_run.specs.declared.refusal.Refusal.{Refusal}
+use Rattle.cq_run.specs.declared.stop.Halt.{Halt}
+use Rattle.cq_run.specs.Aim.{Aim}
+use Rattle.cq_run.specs.Judging.{Judges}
+use Rattle.cq_run.specs.Pace.{Pace}
+use Rattle.cq_run.specs.Reader.{Reader}
+use Rattle.cq_run.specs.Verdict.{◌>>=◌, captures_in, tables_in}
+
+-- this is read of what the file space told: tables that are in range, and a capture for each of their ports. No fault
+-- was counted, and nothing was written
+pub record IsGiven {S : Type 0} (space : S → Space) (keeps : S → S → Type 0) (config : List ℕ) (old new : S)
+    (given : Given) : Type 0 where
+  pub tables : IfSome (space old).told (λ m. tables_in config m ≡ Ok given.tables)
+  pub captures : (r : Reader) → IfSome (space old).told (λ m. captures_in r given.tables m ≡ Ok given.captures)
+  pub in_range : AreTables given.tables
+  pub each : length given.captures ≡ ports_of given.tables.setup
+  pub kept : keeps old new
+  pub closed : (space new).mode ≡ Closed
+  pub told : (space new).told ≡ (space old).told
+  pub uncounted : (space new).faults ≡ (space old).faults
+
+-- judging of a configuration, of its captures, and then of this
+abbrev pub judged_of_given : Reader → List ℕ → (Tables → List (List Captured) → Contents → Result Aim Refusal) →
+    Contents → Result Aim Refusal
+judged_of_given r config rest m = do
+  tables ← tables_in config m
+  captures ← captures_in r tables m
+  rest tables captures m
+
+-- reading ends judging of a configuration, whatever would be judged of what it gives
+abbrev pub EndsGiven : {S : Type 0} → (S → Space) → (Call → S → S → Type 0) → (S → S → Type 0) → Pace → List ℕ → S →
+    S → Halt → Type 0
+EndsGiven space may_fail keeps pace config old new halt =
+    (r : Reader) (rest : Tables → List (List Captured) → Contents → Result Aim Refusal) →
+    Judges pace (judged_of_given r config rest) (λ name. Fails space may_fail keeps (Reads name) old new)
+    (space old) (space new) (Err halt)
