@@ -23,7 +23,7 @@ use Rattle.cq_list_trials.proofs.Arrived.{older_still}
 use Rattle.cq_list_trials.specs.Followed.{AreOwn, HasChanged, IsOwn}
 use Rattle.cq_prefs.specs.Pairing.{Partners, partner_of}
 use Rattle.cq_prefs.specs.Renewal.{AreSameWithout}
-use Rattle.cq_prefs.proofs.Changes.{IsSameBut, same_list, same_but_arrival, same_but_taken, same_without}
+use Rattle.cq_prefs.proofs.Changes.{IsSameBut, same_but_arrival, same_but_taken, same_without}
 
 -- ## One list
 
@@ -57,7 +57,7 @@ own_still slot i list own =
     record {
       input = own.input;
       older = older_still slot list.cells own.older;
-      room = let had = own.room in omega arith;
+      room = omega arith;
     }
 
 -- the first cell for output j went
@@ -68,7 +68,7 @@ own_left slot i j old new own cells room =
     (record {
       input = subst (AllByRecursion (λ c. c.key.input ≡ i)) (sym cells) (all_left _ j old.cells own.input);
       older = subst (ArrivedBefore slot) (sym cells) (all_left _ j old.cells own.older);
-      room = let had = own.room in omega arith;
+      room = omega arith;
     })
 
 -- a cell came
@@ -83,7 +83,7 @@ own_come slot i cushion c old new own input now cells room =
       older = subst (ArrivedBefore (slot + 1)) (sym cells)
           (subst (λ s. ArrivedBefore (s + 1) (with_arrival cushion c old.cells)) now
           (arrived_newest cushion c old.cells older));
-      room = let had = own.room in omega arith;
+      room = omega arith;
     }
 
 changed_same : (j : ℕ) (old new : List Queued) → HasChanged j old new → IsSameBut (Some j) old new
@@ -125,17 +125,6 @@ pub record Changing (m : Partners) (slot n : ℕ) (old now : List Waiting) : Typ
   pub done : (i : ℕ) (none : Waiting) → i < n → i < length old → IsOwn (slot + 1) i (get_or now i none)
   pub waits : (i : ℕ) (none : Waiting) → n ≤ i → i < length old → get_or now i none ≡ get_or old i none
   pub same : (i : ℕ) → IsSameBut (partner_of m i) (list_of (cells_of old) i) (list_of (cells_of now) i)
-
-pub none_changed : (m : Partners) (slot : ℕ) (old : List Waiting) → All (λ list. list.outputs ≡ length old) old →
-    Changing m slot 0 old old
-none_changed m slot old outputs =
-    record {
-      long = refl;
-      outputs = outputs;
-      done = λ i none l. absurd (omega arith);
-      waits = λ i none _ _. refl;
-      same = λ i. same_list (partner_of m i) (list_of (cells_of old) i) (list_of (cells_of old) i) refl;
-    }
 
 module _ (m : Partners) (slot n : ℕ) (old now : List Waiting) (had : Changing m slot n old now) where
   -- the list of input n stays
@@ -208,7 +197,7 @@ module _ (m : Partners) (slot n : ℕ) (old now : List Waiting) (had : Changing 
       }
 
   pub all_own : length old ≤ n → AreOwn (slot + 1) now
-  all_own end i none l = let long = had.long in had.done i none (omega arith) (omega arith)
+  all_own end i none l = had.done i none (omega arith) (omega arith)
 
   pub all_same : AreOwn slot old → length old ≤ n →
       AreSameWithout m (orders_of (cells_of old)) (orders_of (cells_of now))

@@ -1,8 +1,9 @@
 //! The list of an input: worked insertions, drawn calls compared with a plain list, and the call that wants memory,
 //! with ample memory.
-ghost use Rattle.std.specs.Prelude.{◌≡◌, ℕ, ◌+◌, ◌<◌, ◌≤◌, ◌&&◌, length};
+ghost use Rattle.std.specs.Prelude.{◌≡◌, ℕ, ◌+◌, ◌<◌, ◌≤◌, ◌&&◌, IfOk, length};
 ghost use Rattle.cq_base.specs.Key.{is_before};
 ghost use Rattle.cq_base.specs.Cells.{ArrivedBefore, MoreUrgentAhead, is_for};
+ghost use Rattle.cq_list_trials.specs.Arriving.{IsNewest, HasArrived};
 
 use super::draws::next_draw;
 use super::waiting::{arrive, waiting};
@@ -33,12 +34,20 @@ fn a_cell_goes_ahead_of_less_urgent_ones_for_its_output(rt: HostRuntime) -> Resu
     Ok(())
 }
 
-#[test]
-fn a_cell_is_found_by_its_output_and_by_its_id(rt: HostRuntime) -> Result<(), Fail> {
-    let mut list = InputList::new(rt.alloc(), 3, 3)?;
+// Two cells for output 0, of which the newer one is the more urgent, and one for output 1.
+fn three_cells(alloc: Global) -> Result<InputList, Fail>
+    ensures { IfOk result (λ list. list.outputs ≡ 3) }
+{
+    let mut list = InputList::new(alloc, 3, 3)?;
     arrive(&mut list, waiting(0, 0, 3, 0));
     arrive(&mut list, waiting(0, 1, 0, 1));
     arrive(&mut list, waiting(0, 0, 1, 2));
+    Ok(list)
+}
+
+#[test]
+fn a_cell_is_found_by_its_output_and_by_its_id(rt: HostRuntime) -> Result<(), Fail> {
+    let list = three_cells(rt.alloc())?;
     assert_eq!(rt; list.front_for(0), Some(waiting(0, 0, 1, 2)));
     assert_eq!(rt; list.front_for(1), Some(waiting(0, 1, 0, 1)));
     assert_eq!(rt; list.front_for(2), None);
@@ -105,13 +114,8 @@ fn is_ahead(other: &Queued, queued: &Queued) -> bool
 // The newest cell goes in with this cushion, or with the least that it may have. The answer is the one that it had.
 #[tactic(auto, using(cq_base::proofs::Lists::other_key_newest, cq_base::proofs::Lists::arrived_newest))]
 fn cut_in(list: &mut InputList, queued: Queued, cushion: u64) -> u64
-    requires spare { 0 < list.old.spare }
-    requires in_range { queued.cell.output < list.old.outputs }
-    requires newest { ArrivedBefore queued.key.slot list.old.cells }
-    ensures len { length list.new.cells ≡ length list.old.cells + 1 }
-    ensures spare { list.new.spare + 1 ≡ list.old.spare }
-    ensures outputs { list.new.outputs ≡ list.old.outputs }
-    ensures arrived { ArrivedBefore (queued.key.slot + 1) list.new.cells }
+    requires { IsNewest queued list.old }
+    ensures { HasArrived queued list.old list.new }
 {
     let least = least_cushion(list, &queued);
     let had = cushion.max(least);
@@ -164,10 +168,7 @@ fn drawn_calls_answer_as_a_plain_list_does(rt: HostRuntime) -> Result<(), Fail> 
 
 #[test]
 fn a_cell_is_found_by_its_key(rt: HostRuntime) -> Result<(), Fail> {
-    let mut list = InputList::new(rt.alloc(), 3, 3)?;
-    arrive(&mut list, waiting(0, 0, 3, 0));
-    arrive(&mut list, waiting(0, 1, 0, 1));
-    arrive(&mut list, waiting(0, 0, 1, 2));
+    let list = three_cells(rt.alloc())?;
     assert_eq!(rt; list.place_of_key(0, waiting(0, 0, 1, 2).key), 0);
     assert_eq!(rt; list.place_of_key(0, waiting(0, 0, 3, 0).key), 1);
     assert_eq!(rt; list.place_of_key(1, waiting(0, 1, 0, 1).key), 2);

@@ -1,9 +1,7 @@
 //! The crossbar: a worked transfer of three inputs.
 ghost use Rattle.std.specs.Prelude.{◌≡◌, ◌<◌, ◌≤◌, ◌∷◌, [], IfOk, None, Some, length};
-ghost use Rattle.cq_list.specs.InputList.{cells_of};
-ghost use Rattle.cq_urgency.specs.OutputBuffer.{cells_in};
-ghost use Rattle.cq_prefs.specs.FirstCells.{HasCellFor, list_of};
-ghost use Rattle.cq_xbar.specs.Crossbar.{buffer_spare};
+ghost use Rattle.cq_prefs.specs.FirstCells.{HasCellFor};
+ghost use Rattle.cq_list_trials.specs.Crossing.{CanCross};
 
 use super::waiting::{arrive, waiting};
 use cq_base::{Port, Room, Transfer};
@@ -51,13 +49,7 @@ fn two_pairs() -> Matching
 // Transfers these pairs in slot 7, phase 2, into empty buffers.
 #[tactic(auto, using(crate::proofs::Crossing::have_cells, crate::proofs::Crossing::keys_are_new, crate::proofs::Crossing::have_room))]
 fn cross(lists: &mut [InputList], buffers: &mut [OutputBuffer], note: &mut Room<Transfer>)
-    requires lists { length lists.old ≡ 3 }
-    requires first { HasCellFor (list_of (cells_of lists.old) 0) 1 }
-    requires last { HasCellFor (list_of (cells_of lists.old) 2) 0 }
-    requires empty { cells_in buffers.old ≡ [] ∷ [] ∷ [] ∷ [] }
-    requires buffers { length buffers.old ≡ 3 }
-    requires room_zero { 0 < buffer_spare buffers.old 0 }
-    requires room_one { 0 < buffer_spare buffers.old 1 }
+    requires can { CanCross lists.old buffers.old }
     requires note { 3 ≤ note.old.spare }
     ensures lists_stay { length lists.new ≡ 3 }
     ensures buffers_stay { length buffers.new ≡ 3 }

@@ -12,9 +12,6 @@ loop-input-preserved c =
     let old = c.args.lists.now in
     let n = c.loop-input.input in
     let had = c.loop-input.invariant in
-    let before = c.loop-input-test.true in
-    let end = c.ports-input-end.ensures.value in
-    let many = c.requires.ports in
     let inside : n < length old = omega arith in
     elim c.match-partner_of.branch [
       | in-Some w ↦ subst (Changing m c.args.slot (n + 1) old) (sym w.lists-is)
@@ -27,18 +24,12 @@ loop-input-preserved c =
 
 pub renew-requires-clause-keys : goal.renew-requires-clause-keys
 renew-requires-clause-keys c =
-    let past = c.loop-input-test.false in
-    let end = c.ports-input-end.ensures.value in
-    let many = c.requires.ports in
     own_keys (c.args.slot + 1) c.loop-input.lists
     (all_own c.args.changed.now c.args.slot c.loop-input.input c.args.lists.now c.loop-input.lists
     c.loop-input.invariant (omega arith))
 
 pub renew-requires-clause-others : goal.renew-requires-clause-others
 renew-requires-clause-others c =
-    let past = c.loop-input-test.false in
-    let end = c.ports-input-end.ensures.value in
-    let many = c.requires.ports in
     subst (λ o. AreSameWithout c.args.changed.now o (orders_of (cells_of c.loop-input.lists))) (sym c.requires.offers)
     (all_same c.args.changed.now c.args.slot c.loop-input.input c.args.lists.now c.loop-input.lists
     c.loop-input.invariant c.requires.own (omega arith))

@@ -4,7 +4,6 @@ use Rattle.cq_list_trials.proofs.tests.followed.change_one.Goals as goal
 
 pub returns-then-below-eq0-clause-own : goal.returns-then-below-eq0-clause-own
 returns-then-below-eq0-clause-own c =
-    let more = c.take.ensures.spare in
     own_left c.args.slot c.args.input c.args.output c.args.list.now c.take.new.self c.requires.own c.take.ensures.cells
     (omega arith)
 

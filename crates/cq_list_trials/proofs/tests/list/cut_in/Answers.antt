@@ -3,4 +3,4 @@ use Rattle.cq_list_trials.proofs.tests.list.cut_in.Goals as goal
 
 pub insert-requires-clause-ahead : goal.insert-requires-clause-ahead
 insert-requires-clause-ahead c =
-    c.least_cushion-least.ensures c.max-had.result (let most = c.max-had.ensures in omega arith)
+    c.least_cushion-least.ensures c.max-had.result (omega arith)

@@ -13,5 +13,4 @@ returns-clause-room c =
     let left = length_left c.args.output c.args.list.now.cells in
     let len = ap length c.take.ensures.cells in
     let taken = ap count_taken c.take.ensures.first in
-    let spare = c.take.ensures.spare in
     omega arith
