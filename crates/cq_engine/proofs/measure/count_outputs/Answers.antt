@@ -1,4 +1,4 @@
-use Rattle.std.proofs.Common.{List, Option, None, length, get_or, sym, ap, ◌∙◌, arith}
+use Rattle.std.proofs.Common.{◌≡◌, List, Option, None, length, get_or, sym, ap, ◌∙◌, arith}
 use Rattle.std.proofs.lemmas.List.{set-get_or}
 use Rattle.cq_base.specs.declared.cell.Queued.{Queued}
 use Rattle.cq_base.specs.declared.figures.OutputFigures.{OutputFigures}
@@ -8,15 +8,21 @@ use Rattle.cq_ideal.proofs.Changed.{at_end}
 use Rattle.cq_fabric.proofs.Changed.{length-by_place, by_place_next, not_yet, still_long}
 use Rattle.cq_engine.proofs.NothingCounted.{nothing_counted}
 use Rattle.cq_engine.proofs.measure.count_outputs.Goals as goal
-use Rattle.cq_engine.proofs.measure.count_outputs.Goals.{in-Some, in_default}
+use Rattle.cq_engine.proofs.measure.count_outputs.Goals.{After-as_slice, in-Some, in_default}
+
+-- there are as many figures as before
+long : (c : After-as_slice) → length c.outputs.outputs ≡ length c.args.outputs.now
+long c =
+    let size = c.requires.ports in
+    let test = c.outputs-test.true in
+    still_long (λ k. output_counted c.args.slot (came_to c.args.gone.now k)) c.args.outputs.now c.outputs.outputs c.outputs.output
+    c.outputs.invariant (omega arith)
 
 pub bounds-as_slice-output : goal.bounds-as_slice-output
 bounds-as_slice-output c =
     let size = c.requires.ports in
     let test = c.outputs-test.true in
-    let long =
-    still_long (λ k. output_counted c.args.slot (came_to c.args.gone.now k)) c.args.outputs.now c.outputs.outputs
-    c.outputs.output c.outputs.invariant (omega arith) in
+    let many = long (goal.at.bounds-as_slice-output c).After-as_slice in
     let seen = ap length c.as_slice.ensures in
     omega arith
 
@@ -24,9 +30,6 @@ pub output_counted-counted-requires : goal.output_counted-counted-requires
 output_counted-counted-requires c =
     let size = c.requires.ports in
     let test = c.outputs-test.true in
-    let long =
-    still_long (λ k. output_counted c.args.slot (came_to c.args.gone.now k)) c.args.outputs.now c.outputs.outputs
-    c.outputs.output c.outputs.invariant (omega arith) in
     let none : OutputFigures = record { cells = 0; wait = None } in
     let at =
     not_yet (λ k. output_counted c.args.slot (came_to c.args.gone.now k)) c.args.outputs.now c.outputs.outputs
@@ -39,9 +42,7 @@ pub set-requires : goal.set-requires
 set-requires c =
     let size = c.requires.ports in
     let test = c.outputs-test.true in
-    let long =
-    still_long (λ k. output_counted c.args.slot (came_to c.args.gone.now k)) c.args.outputs.now c.outputs.outputs
-    c.outputs.output c.outputs.invariant (omega arith) in
+    let many = long (goal.at.set-requires c).After-as_slice in
     omega arith
 
 pub outputs-preserved : goal.outputs-preserved

@@ -1,4 +1,4 @@
-use Rattle.std.proofs.Common.{List, Option, None, length, get_or, sym, ap, ◌∙◌, arith}
+use Rattle.std.proofs.Common.{◌≡◌, List, Option, None, length, get_or, sym, ap, ◌∙◌, arith}
 use Rattle.std.proofs.lemmas.List.{set-get_or}
 use Rattle.cq_base.specs.declared.cell.Queued.{Queued}
 use Rattle.cq_base.specs.declared.figures.InputFigures.{InputFigures}
@@ -7,15 +7,21 @@ use Rattle.cq_engine.specs.Straight.{input_passed}
 use Rattle.cq_ideal.proofs.Changed.{at_end}
 use Rattle.cq_fabric.proofs.Changed.{length-by_place, by_place_next, not_yet, still_long}
 use Rattle.cq_engine.proofs.straight.count_passed.Goals as goal
-use Rattle.cq_engine.proofs.straight.count_passed.Goals.{in-Some, in_default}
+use Rattle.cq_engine.proofs.straight.count_passed.Goals.{After-as_slice, in-Some, in_default}
+
+-- there are as many figures as before
+long : (c : After-as_slice) → length c.inputs.inputs ≡ length c.args.inputs.now
+long c =
+    let size = c.requires.ports in
+    let test = c.inputs-test.true in
+    still_long (λ k. input_passed (came_to c.args.came.now k)) c.args.inputs.now c.inputs.inputs c.inputs.input
+    c.inputs.invariant (omega arith)
 
 pub bounds-as_slice-input : goal.bounds-as_slice-input
 bounds-as_slice-input c =
     let size = c.requires.ports in
     let test = c.inputs-test.true in
-    let long =
-    still_long (λ k. input_passed (came_to c.args.came.now k)) c.args.inputs.now c.inputs.inputs c.inputs.input
-    c.inputs.invariant (omega arith) in
+    let many = long (goal.at.bounds-as_slice-input c).After-as_slice in
     let seen = ap length c.as_slice.ensures in
     omega arith
 
@@ -35,9 +41,7 @@ pub set-requires : goal.set-requires
 set-requires c =
     let size = c.requires.ports in
     let test = c.inputs-test.true in
-    let long =
-    still_long (λ k. input_passed (came_to c.args.came.now k)) c.args.inputs.now c.inputs.inputs c.inputs.input
-    c.inputs.invariant (omega arith) in
+    let many = long (goal.at.set-requires c).After-as_slice in
     omega arith
 
 pub inputs-preserved : goal.inputs-preserved
