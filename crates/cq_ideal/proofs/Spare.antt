@@ -20,7 +20,7 @@ pub spare_follows : (ms : List Machine) (slot : ℕ) (cells : List (Option Cell)
     ideal_slot ms slot cells old.state ≡ Ok sent → new.state ≡ sent.after → SpareFollows cells sent.gone old new
 spare_follows ms slot cells old new sent room as_many within rooms is after j inside =
     let here : j < length old.state.lists = omega arith in
-    let count = (counted ms slot cells old.state sent is).each j here in
+    let count = (counted ms slot cells old.state sent is).left j here in
     let now = ap (λ (s : IdealState). length (get_or s.lists j [])) after in
     let same = ap (λ (r : List ℕ). get_or r j 0) rooms in
     let held = within j in

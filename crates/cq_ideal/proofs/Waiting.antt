@@ -191,8 +191,10 @@ ranked_cells ms slot input (Some cell ∷ cells) ranks r h =
 -- what a slot makes of the numbers of cells
 pub record Counted (slot : ℕ) (cells : List (Option Cell)) (old : IdealState) (sent : Sent) : Type 0 where
   pub ports : length sent.after.lists ≡ length old.lists
-  -- what an output sends, and what is left of its list
   pub each : (j : ℕ) → j < length old.lists →
+      length (slice_index_or sent.after.lists j []) ≤ length (slice_index_or old.lists j []) + count_for j cells
+  -- what an output sends, and what is left of its list
+  pub left : (j : ℕ) → j < length old.lists →
       cond (is_some (slice_index_or sent.gone j None)) 1 0 + length (slice_index_or sent.after.lists j [])
       ≡ length (slice_index_or old.lists j []) + count_for j cells
   pub all : length (departures_in slot sent.gone) + waiting sent.after.lists
@@ -226,6 +228,25 @@ front_and_rest : (xs : List Queued) → cond (is_some (slice_get xs 0)) 1 0 + le
 front_and_rest [] = omega arith
 front_and_rest (x ∷ xs) = omega arith
 
+left_of : (cells : List (Option Cell)) (old : IdealState) (r : Ranking) → map cell_here r.came ≡ cells → (j : ℕ) →
+    j < length old.lists →
+    cond (is_some (slice_index_or (fronts (filled r.came old.lists)) j None)) 1 0
+    + length (slice_index_or (rests (filled r.came old.lists)) j [])
+    ≡ length (slice_index_or old.lists j []) + count_for j cells
+left_of cells old r same j inside =
+    let lists = filled r.came old.lists in
+    let long : length lists ≡ length old.lists = length-filled r.came old.lists in
+    let none : Option Queued = None in
+    let here : j < length lists = omega arith in
+    let front = ap (λ (o : Option Queued). let n : ℕ = cond (is_some o) 1 0 in n)
+    (get_or-map (λ (xs : List Queued). slice_get xs 0) lists j [] none here) in
+    let rest = ap (λ (xs : List Queued). length xs)
+    (get_or-map (λ (xs : List Queued). drop 1 xs) lists j [] [] here) in
+    let split = front_and_rest (slice_index_or lists j []) in
+    let full = filled_long r.came old.lists j inside in
+    let count : count_to j r.came ≡ count_for j cells = count_to-cells j r.came ∙ ap (count_for j) same in
+    omega arith
+
 counted_sent : (ms : List Machine) (slot : ℕ) (cells : List (Option Cell)) (old : IdealState) (r : Ranking) →
     map cell_here r.came ≡ cells →
     Counted slot cells old (record {
@@ -247,17 +268,8 @@ counted_sent ms slot cells old r same =
     let less : waiting (rests lists) ≤ waiting lists - 1 = less_waiting lists in
     record {
       ports = length-map lists (λ (xs : List Queued). drop 1 xs) ∙ long;
-      each = λ j inside.
-          let none : Option Queued = None in
-          let here : j < length lists = omega arith in
-          let front = ap (λ (o : Option Queued). let n : ℕ = cond (is_some o) 1 0 in n)
-          (get_or-map (λ (xs : List Queued). slice_get xs 0) lists j [] none here) in
-          let rest = ap (λ (xs : List Queued). length xs)
-          (get_or-map (λ (xs : List Queued). drop 1 xs) lists j [] [] here) in
-          let split = front_and_rest (slice_index_or lists j []) in
-          let full = filled_long r.came old.lists j inside in
-          let count : count_to j r.came ≡ count_for j cells = count_to-cells j r.came ∙ ap (count_for j) same in
-          omega arith;
+      each = λ j inside. let here = left_of cells old r same j inside in omega arith;
+      left = left_of cells old r same;
       all = omega arith;
       fewer = omega arith;
       departs = λ j inside some.
