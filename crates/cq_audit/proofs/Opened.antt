@@ -30,7 +30,8 @@ use Rattle.cq_audit.specs.declared.refusal.AuditRefusal.TheVariants.{Line, Trans
 
 -- a log that cannot be read is none, for the same reason
 pub no_log : (setup : Setup) (limits : List (Option ℕ)) (came : List Arrival) (log : List ℕ) (ports : ℕ)
-    (why : LineRefusal) → ports ≡ length setup.kinds → IsCause (IsLogFault ports log) why → IsNo setup limits came log (unread why)
+    (why : LineRefusal) → ports ≡ length setup.kinds → IsCause (IsLogFault ports log) why →
+    IsNo setup limits came log (unread why)
 no_log setup limits came log ports (NoLine n) are cause =
     subst (λ (k : ℕ). IsLogFault k log n) are cause
 no_log setup limits came log ports Unread are cause = tt

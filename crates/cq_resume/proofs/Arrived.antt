@@ -9,7 +9,7 @@ use Rattle.std.proofs.lemmas.List.Sorted.{IsPermutation-sym}
 use Rattle.std.proofs.lemmas.Map.Keys.{IsDistinct-from_apart, apart_from_distinct}
 use Rattle.cq_base.specs.Arriving.{Arrival}
 use Rattle.cq_base.specs.declared.cell.Queued.{Queued}
-use Rattle.cq_resume.specs.Finding.{AreGone, HaveTheirCells, IsNameBefore, IsNameNotAfter, SomeMissed, names_of, told_of}
+use Rattle.cq_resume.specs.Finding.{AreGone, AreFound, IsNameBefore, IsNameNotAfter, SomeMissed, names_of, told_of}
 use Rattle.cq_resume.specs.Sound.{AreArrivals}
 use Rattle.cq_resume.specs.Told.{arriving_cell, named_in}
 use Rattle.cq_resume.specs.declared.found.Gone.{Gone}
@@ -91,8 +91,8 @@ module _ (came : List Arrival) (s : State) where
       missed (images_held (λ (d : Sent). d.cell) IsMiss s.sent
       (all_right IsMiss (s.listed ++ s.buffered) (map (λ (d : Sent). d.cell) s.sent) (none_missed are)))
 
-  module _ (listed buffered : List Queued) (sent : List Gone) (first : HaveTheirCells came s.head.next s.listed listed)
-      (second : HaveTheirCells came s.head.next s.buffered buffered) (third : AreGone came s.head.next s.sent sent)
+  module _ (listed buffered : List Queued) (sent : List Gone) (first : AreFound came s.head.next s.listed listed)
+      (second : AreFound came s.head.next s.buffered buffered) (third : AreGone came s.head.next s.sent sent)
       (names : List Name) (same : IsPermutation (names_of listed buffered sent) names) where
     zips : AllZip (IsOf came s.head.next) (named_in s) (names_of listed buffered sent)
     zips = names_zip came s listed buffered sent first second third
@@ -103,7 +103,8 @@ module _ (came : List Arrival) (s : State) where
     apart_alike : AllPairs Differ (named_in s) ↔ AllPairs IsApart told
     apart_alike =
         pairs_alike (IsOf came s.head.next) Differ IsApart
-        (λ c d m n a b. (apart came s.head.next c d m n a b, differ came s.head.next c d m n a b)) (named_in s) told zips
+        (λ c d m n a b. (apart came s.head.next c d m n a b, differ came s.head.next c d m n a b)) (named_in s) told
+        zips
 
     -- names that stand strictly in order are of different arrivals, and each arrives
     pub are_arrivals : AllPairs IsNameBefore names → AreArrivals came s

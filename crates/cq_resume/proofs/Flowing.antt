@@ -9,7 +9,7 @@ use Rattle.std.proofs.lemmas.List.{get_or_default}
 use Rattle.std.proofs.lemmas.List.Sorted.{Contains-permutation, IsPermutation-sym}
 use Rattle.cq_base.specs.Cells.{IsBefore}
 use Rattle.cq_base.specs.declared.cell.Queued.{Queued}
-use Rattle.cq_resume.specs.Finding.{AreGone, HaveTheirCells, FlowsStand, InOneFlow, IsGone, IsNameBefore, IsSentBefore, IsTold, Leaves, LeavesEarlier, SentStand, names_of, sent_name, waiting_name}
+use Rattle.cq_resume.specs.Finding.{AreGone, AreFound, FlowsStand, InOneFlow, IsGone, IsNameBefore, IsSentBefore, IsTold, Leaves, LeavesEarlier, SentStand, names_of, sent_name, waiting_name}
 use Rattle.cq_resume.specs.Sound.{KeepArrivalOrder, OfOneFlow}
 use Rattle.cq_resume.specs.Switch.{Switch}
 use Rattle.cq_resume.specs.Told.{is_ahead, queued_in}
@@ -332,7 +332,7 @@ module _ (listing buffering : List Queued) (sending : List Gone) (next : ℕ) (s
 -- ## Of names
 
 module _ (w : Switch) (s : State) (listing buffering : List Queued) (sending : List Gone)
-    (first : HaveTheirCells w.came s.head.next s.listed listing) (second : HaveTheirCells w.came s.head.next s.buffered buffering)
+    (first : AreFound w.came s.head.next s.listed listing) (second : AreFound w.came s.head.next s.buffered buffering)
     (third : AreGone w.came s.head.next s.sent sending) where
   abbrev Told : Named → Queued → Type 0
   Told = IsTold w.came s.head.next

@@ -79,7 +79,8 @@ module _ (t : Tables) (c : Scheduled) (s : State) (f : Found) (k : Known t c s f
 
   pub cells_for : AreCellsFor t.setup f
   cells_for = (
-    told_for (ports_of t.setup) (classes_of t.setup) c.came k.traffic s.head.next s.listed f.listed.items k.found.listed,
+    told_for (ports_of t.setup) (classes_of t.setup) c.came k.traffic s.head.next s.listed f.listed.items
+        k.found.listed,
     told_for (ports_of t.setup) (classes_of t.setup) c.came k.traffic s.head.next s.buffered f.buffered.items
         k.found.buffered,
   )

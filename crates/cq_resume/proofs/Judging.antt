@@ -9,7 +9,7 @@ use Rattle.cq_base.specs.Arriving.{Arrival}
 use Rattle.cq_base.specs.declared.cell.Queued.{Queued}
 use Rattle.cq_ideal.specs.Refused.{refused_counts}
 use Rattle.cq_resume.specs.Counted.{IsTally, firsts_at, is_refused, latest, refused_arrivals}
-use Rattle.cq_resume.specs.Finding.{AreGone, HaveTheirCells, IsWholePacket, PacketsStand, TalliesUp, firsts_before, has_name, is_left_out, left_out, names_of}
+use Rattle.cq_resume.specs.Finding.{AreGone, AreFound, IsWholePacket, PacketsStand, TalliesUp, firsts_before, has_name, is_left_out, left_out, names_of}
 use Rattle.cq_resume.specs.Sound.{AllNamed, AreWholePackets, NoneNamed}
 use Rattle.cq_resume.specs.Switch.{HasLimit, Switch}
 use Rattle.cq_resume.specs.Told.{is_named, named_in, packet_before}
@@ -41,7 +41,7 @@ module _ {X Y : Type 0} (f g : X → Y) where
       ap (λ (y : Y). y ∷ map f xs) (same x) ∙ ap (λ (l : List Y). g x ∷ l) (mapped_alike same xs)
 
 module _ (w : Switch) (s : State) (listing buffering : List Queued) (sending : List Gone)
-    (first : HaveTheirCells w.came s.head.next s.listed listing) (second : HaveTheirCells w.came s.head.next s.buffered buffering)
+    (first : AreFound w.came s.head.next s.listed listing) (second : AreFound w.came s.head.next s.buffered buffering)
     (third : AreGone w.came s.head.next s.sent sending) (names : List Name)
     (same : IsPermutation (names_of listing buffering sending) names) where
   one_named : (a : Arrival) → is_named (named_in s) a ≡ has_name names a

@@ -11,7 +11,7 @@ use Rattle.cq_base.specs.declared.cell.Queued.{Queued}
 use Rattle.cq_base.specs.declared.cell.Transfer.{Transfer}
 use Rattle.cq_base.specs.declared.key.Key.{Key}
 use Rattle.cq_base.specs.declared.setup.Setup.{Setup}
-use Rattle.cq_resume.specs.Finding.{AreGone, HaveTheirCells, BuffersStand, IsBufferedBefore as IsFoundBefore, IsGone, IsListedBefore, IsNoLaterInput, IsSentBefore as IsGoneBefore, IsTimely, IsTold, ListsStand, SentStand, StandsBelow}
+use Rattle.cq_resume.specs.Finding.{AreGone, AreFound, BuffersStand, IsBufferedBefore as IsFoundBefore, IsGone, IsListedBefore, IsNoLaterInput, IsSentBefore as IsGoneBefore, IsTimely, IsTold, ListsStand, SentStand, StandsBelow}
 use Rattle.cq_resume.specs.Sound.{AreBelowFloors, IsBelowFloor, IsBufferedBefore, IsMovedBefore, IsSentBefore, StandInOrder}
 use Rattle.cq_resume.specs.Switch.{Switch}
 use Rattle.cq_resume.specs.Told.{class_of, is_ahead, key_of, output_of}
@@ -83,7 +83,7 @@ timely came next d g is =
 -- ## All lines
 
 module _ (w : Switch) (s : State) (listing buffering : List Queued) (sending : List Gone)
-    (first : HaveTheirCells w.came s.head.next s.listed listing) (second : HaveTheirCells w.came s.head.next s.buffered buffering)
+    (first : AreFound w.came s.head.next s.listed listing) (second : AreFound w.came s.head.next s.buffered buffering)
     (third : AreGone w.came s.head.next s.sent sending) where
   abbrev Told : Named → Queued → Type 0
   Told = IsTold w.came s.head.next

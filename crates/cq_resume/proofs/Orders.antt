@@ -113,7 +113,7 @@ pub flows_as_lanes : (ports : ℕ) (xs : List Name) →
     AllPairs (InLane input_of flow_of LeavesFirst) xs ↔ FlowsStand xs
 flows_as_lanes ports xs each = (
   (λ pairs. all_pairs LeavesEarlier xs (each_flow xs (each_pair (InLane input_of flow_of LeavesFirst) xs pairs))),
-  (λ pairs. all_pairs (InLane input_of flow_of LeavesFirst) xs 
+  (λ pairs. all_pairs (InLane input_of flow_of LeavesFirst) xs
       (each_lane xs (all_each (λ (n : Name). n.queued.cell.output < ports) (λ n. n.queued.cell.class < 16) xs each).1
       (each_pair LeavesEarlier xs pairs))),
 )

@@ -7,7 +7,7 @@ use Rattle.cq_base.specs.Arriving.{Arrival, is_at}
 use Rattle.cq_base.specs.declared.cell.Cell.{Cell}
 use Rattle.cq_base.specs.declared.cell.Queued.{Queued}
 use Rattle.cq_cells.specs.Traffic.{IsInRange, IsTraffic}
-use Rattle.cq_resume.specs.Finding.{AreGone, HaveTheirCells, IsGone, IsTold}
+use Rattle.cq_resume.specs.Finding.{AreGone, AreFound, IsGone, IsTold}
 use Rattle.cq_resume.specs.declared.found.Gone.{Gone}
 use Rattle.cq_resume.proofs.Telling.{told_facts}
 use Rattle.cq_resume.proofs.Zipped.{all_right}
@@ -43,7 +43,7 @@ module _ (ports classes : ℕ) (came : List Arrival) (traffic : IsTraffic ports 
       let few = it.1.class in
       (omega arith, omega arith)
 
-  pub told_for : (names : List Named) (told : List Queued) → HaveTheirCells came next names told → AllByRecursion IsFor told
+  pub told_for : (names : List Named) (told : List Queued) → AreFound came next names told → AllByRecursion IsFor told
   told_for = all_right (IsTold came next) IsFor one_for
 
   pub gone_for : (sent : List Sent) (gone : List Gone) → AreGone came next sent gone →

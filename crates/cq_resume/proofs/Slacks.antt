@@ -12,7 +12,7 @@ use Rattle.cq_base.specs.Cells.{is_for}
 use Rattle.cq_base.specs.Key.{is_before}
 use Rattle.cq_base.specs.declared.cell.Queued.{Queued}
 use Rattle.cq_laws.specs.Fabric.{buffer, cushion_of, input}
-use Rattle.cq_resume.specs.Finding.{HaveTheirCells, IsTold, SlackStands, cushion_in, thread_in}
+use Rattle.cq_resume.specs.Finding.{AreFound, IsTold, SlackStands, cushion_in, thread_in}
 use Rattle.cq_resume.specs.Sound.{HaveSlack}
 use Rattle.cq_resume.specs.Switch.{Switch}
 use Rattle.cq_resume.specs.Told.{buffer_told, fabric_told, list_told, queued_of}
@@ -123,7 +123,7 @@ has_there (y ∷ ys) (suc place) x is = inr (has_there ys place x is)
 -- ## The fabric that is told of
 
 module _ (came : List Arrival) (next : ℕ) where
-  found_of_input : (i : ℕ) (names : List Named) (found : List Queued) → HaveTheirCells came next names found →
+  found_of_input : (i : ℕ) (names : List Named) (found : List Queued) → AreFound came next names found →
       filter_map (queued_of came) (filter (λ c. eqb c.input i) names) ≡ filter (λ q. eqb q.key.input i) found
   found_of_input i [] [] zips = refl
   found_of_input i [] (q ∷ found) zips = absurd zips
@@ -146,7 +146,7 @@ module _ (came : List Arrival) (next : ℕ) where
           ∙ ap (λ (l : List Queued). q ∷ l) rest
       by false rest = rest
 
-  all_found : (names : List Named) (found : List Queued) → HaveTheirCells came next names found →
+  all_found : (names : List Named) (found : List Queued) → AreFound came next names found →
       filter_map (queued_of came) names ≡ found
   all_found names found zips =
       same_mapped (IsTold came next) (queued_of came) (λ (q : Queued). q)
@@ -154,8 +154,8 @@ module _ (came : List Arrival) (next : ℕ) where
       ∙ map-id found
 
 module _ (w : Switch) (s : State) (listing buffering : List Queued)
-    (first : HaveTheirCells w.came s.head.next s.listed listing)
-    (second : HaveTheirCells w.came s.head.next s.buffered buffering) where
+    (first : AreFound w.came s.head.next s.listed listing)
+    (second : AreFound w.came s.head.next s.buffered buffering) where
   pub list_is : (i : ℕ) → list_told w.came s i ≡ filter (of_input i) listing
   list_is i = found_of_input w.came s.head.next i s.listed listing first
 

@@ -1,5 +1,5 @@
--- Judging, step by step. A clause is known by what a test of the found cells decides. Where a step fails it names the first
--- clause that fails, since those before it are known; and a state is sound of which all are known.
+-- Judging, step by step. A clause is known by what a test of the found cells decides. Where a step fails it names the
+-- first clause that fails, since those before it are known; and a state is sound of which all are known.
 use Rattle.std.proofs.Common.{◌≡◌, ◌↔◌, ℕ, ◌+◌, ◌<◌, ◌∙◌, Bool, true, false, inl, inr, sym, subst, arith}
 use borrow.Author.Count.{below_more, below_none}
 use Rattle.cq_cells.specs.Scheduled.{Scheduled}

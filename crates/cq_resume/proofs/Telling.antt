@@ -8,7 +8,7 @@ use Rattle.cq_base.specs.Arriving.{Arrival}
 use Rattle.cq_base.specs.declared.cell.Cell.{Cell}
 use Rattle.cq_base.specs.declared.cell.Queued.{Queued}
 use Rattle.cq_base.specs.declared.key.Key.{Key}
-use Rattle.cq_resume.specs.Finding.{AreGone, HaveTheirCells, IsGone, IsTold, names_of, sent_name, told_of, waiting_name}
+use Rattle.cq_resume.specs.Finding.{AreGone, AreFound, IsGone, IsTold, names_of, sent_name, told_of, waiting_name}
 use Rattle.cq_resume.specs.Told.{arriving_cell, class_in, class_of, key_of, named_in, output_in, output_of, queued_of}
 use Rattle.cq_resume.specs.declared.found.Gone.{Gone}
 use Rattle.cq_resume.specs.declared.found.Name.{Name}
@@ -121,7 +121,7 @@ zip_right R S g give (x ∷ xs) (y ∷ ys) zips = (give x y zips.0, zip_right R 
 
 -- the names of a state and those that were found, in the order of the lines
 pub names_zip : (came : List Arrival) (s : State) (listed buffered : List Queued) (sent : List Gone) →
-    HaveTheirCells came s.head.next s.listed listed → HaveTheirCells came s.head.next s.buffered buffered →
+    AreFound came s.head.next s.listed listed → AreFound came s.head.next s.buffered buffered →
     AreGone came s.head.next s.sent sent →
     AllZip (IsOf came s.head.next) (named_in s) (names_of listed buffered sent)
 names_zip came s listed buffered sent first second third =

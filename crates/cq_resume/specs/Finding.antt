@@ -37,8 +37,8 @@ abbrev pub IsGone : List Arrival → ℕ → Sent → Gone → Type 0
 IsGone came next d g = (g.slot ≡ d.slot) × IsTold came next d.cell g.queued
 
 -- each of these names has its cell, in their order
-abbrev pub HaveTheirCells : List Arrival → ℕ → List Named → List Queued → Type 0
-HaveTheirCells came next names told = AllZip (IsTold came next) names told
+abbrev pub AreFound : List Arrival → ℕ → List Named → List Queued → Type 0
+AreFound came next names told = AllZip (IsTold came next) names told
 
 abbrev pub AreGone : List Arrival → ℕ → List Sent → List Gone → Type 0
 AreGone came next sent gone = AllZip (IsGone came next) sent gone
@@ -71,8 +71,8 @@ names_of listed buffered sent = map waiting_name listed ++ map waiting_name buff
 
 -- the cells that a state names were found
 pub record IsFound (came : List Arrival) (s : State) (f : Found) : Type 0 where
-  pub listed : HaveTheirCells came s.head.next s.listed f.listed.items
-  pub buffered : HaveTheirCells came s.head.next s.buffered f.buffered.items
+  pub listed : AreFound came s.head.next s.listed f.listed.items
+  pub buffered : AreFound came s.head.next s.buffered f.buffered.items
   pub sent : AreGone came s.head.next s.sent f.sent.items
   pub ordered : AllPairs IsNameBefore f.names.items
   pub same : IsPermutation (names_of f.listed.items f.buffered.items f.sent.items) f.names.items

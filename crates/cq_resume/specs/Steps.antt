@@ -16,7 +16,8 @@ abbrev pub IsCellFor : Setup → Queued → Type 0
 IsCellFor setup q = (q.cell.output < length setup.kinds) × (q.cell.class < length setup.classes)
 
 abbrev pub AreCellsFor : Setup → Found → Type 0
-AreCellsFor setup f = AllByRecursion (IsCellFor setup) f.listed.items × AllByRecursion (IsCellFor setup) f.buffered.items
+AreCellsFor setup f =
+    AllByRecursion (IsCellFor setup) f.listed.items × AllByRecursion (IsCellFor setup) f.buffered.items
 
 -- and so are the names, of which the classes are no more than there may be
 abbrev pub AreNamesFor : Setup → Found → Type 0

@@ -1,7 +1,7 @@
 //! The cells that a state names, looked up among those that arrive.
 ghost use Rattle.std.specs.Prelude.{◌≡◌, ◌↔◌, ◌<◌, ◌&&◌, ◌||◌, ◌==◌, ◌++◌, nat_lt, AllPairs, IfErr, IfNone, IfOk, IfSome, IsPermutation, IsTrue, None, OnOk, filter, length, map};
 ghost use Rattle.std.specs.List.{AllAdjacentBelow, AllByRecursion, list_any};
-ghost use Rattle.cq_resume.specs.Finding.{AreGone, HaveTheirCells, IsFound, IsNameBefore, IsNameNotAfter, SomeMissed, names_of as names_told, sent_name, told_of, waiting_name};
+ghost use Rattle.cq_resume.specs.Finding.{AreGone, AreFound, IsFound, IsNameBefore, IsNameNotAfter, SomeMissed, names_of as names_told, sent_name, told_of, waiting_name};
 ghost use Rattle.cq_resume.specs.Sound.{AreArrivals, IsForPorts, IsOnlyFor};
 
 use crate::StateRefusal;
@@ -68,7 +68,7 @@ fn told_all(
     named: &[Named],
 ) -> Result<Option<Vec<Queued>>, NoMemory>
     requires { AllByRecursion (λ c. c.input < schedule.now.ports) named.now }
-    ensures told { IfOk result (λ all. IfSome all (λ told. HaveTheirCells schedule.now.came next named.now told.items)) }
+    ensures told { IfOk result (λ all. IfSome all (λ told. AreFound schedule.now.came next named.now told.items)) }
     ensures none { IfOk result (λ all. IfNone all (SomeMissed schedule.now.came next named.now)) }
 {
     let mut all = Vec::new(alloc);

@@ -54,12 +54,7 @@ fn stand_below(setup: &Setup, state: &State, found: &Found) -> bool
 }
 
 // The fifth clause, then the sixth.
-fn leave(
-    alloc: Global,
-    setup: &Setup,
-    state: &State,
-    found: &Found,
-) -> Result<(), StateRefusal>
+fn leave(alloc: Global, setup: &Setup, state: &State, found: &Found) -> Result<(), StateRefusal>
     requires ordered { AllPairs IsNameBefore found.now.names.items }
     requires ports { length setup.now.kinds ≤ 64 }
     requires names { AreNamesFor setup.now found.now }

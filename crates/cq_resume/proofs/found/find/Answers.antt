@@ -3,7 +3,7 @@ use Rattle.std.specs.Prelude.{IfNone, IfSome}
 use Rattle.std.specs.List.{AllByRecursion, AllPairs}
 use Rattle.cq_base.specs.Arriving.{Arrival}
 use Rattle.cq_base.specs.declared.cell.Queued.{Queued}
-use Rattle.cq_resume.specs.Finding.{AreGone, HaveTheirCells, IsNameBefore, SomeMissed, told_of}
+use Rattle.cq_resume.specs.Finding.{AreGone, AreFound, IsNameBefore, SomeMissed, told_of}
 use Rattle.cq_resume.specs.declared.found.Gone.{Gone}
 use Rattle.cq_resume.specs.declared.found.Name.{Name}
 use Rattle.cq_resume.proofs.Arrived.{are_arrivals, arrivals_rise, buffered_missed, images_held, sent_missed}
@@ -21,10 +21,10 @@ none_is o P is holds = subst (λ (a : Option _). IfNone a P) is holds
 
 -- the same of the same lists
 are_told : (came : List Arrival) (next : ℕ) (names names' : List Named) (told told' : List Queued) →
-    names ≡ names' → told' ≡ told → HaveTheirCells came next names told → HaveTheirCells came next names' told'
+    names ≡ names' → told' ≡ told → AreFound came next names told → AreFound came next names' told'
 are_told came next names names' told told' own is all =
-    subst (λ (l : List Named). HaveTheirCells came next l told') own
-    (subst (λ (l : List Queued). HaveTheirCells came next names l) (sym is) all)
+    subst (λ (l : List Named). AreFound came next l told') own
+    (subst (λ (l : List Queued). AreFound came next names l) (sym is) all)
 
 are_gone : (came : List Arrival) (next : ℕ) (sent sent' : List Sent) (gone gone' : List Gone) →
     sent ≡ sent' → gone' ≡ gone → AreGone came next sent gone → AreGone came next sent' gone'

@@ -1,6 +1,6 @@
 use Rattle.std.proofs.Common.{take}
-use Rattle.cq_resume.specs.Finding.{HaveTheirCells}
+use Rattle.cq_resume.specs.Finding.{AreFound}
 use Rattle.cq_resume.proofs.found.told_all.Given as goal
 
 abbrev pub invariant-names : goal.invariant-names
-invariant-names l = HaveTheirCells l.schedule.came l.next (take l.name-index l.named) l.all.items
+invariant-names l = AreFound l.schedule.came l.next (take l.name-index l.named) l.all.items

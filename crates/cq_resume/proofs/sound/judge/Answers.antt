@@ -109,4 +109,5 @@ returns-clause-tally c =
 pub returns-clause-sound : goal.returns-clause-sound
 returns-clause-sound c =
     let at = goal.at.returns-clause-sound c in
-    is_sound _ _ _ _ (known at.In_ok-found) (stands at.In_ok-stand) (packets_stand at.In-Some) c.in_ok-leave.ensures.stand
+    is_sound _ _ _ _ (known at.In_ok-found) (stands at.In_ok-stand) (packets_stand at.In-Some)
+    c.in_ok-leave.ensures.stand

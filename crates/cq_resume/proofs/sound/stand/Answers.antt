@@ -17,8 +17,8 @@ room_is : (c : After-have_slack) → (c.have_slack.result ≡ true) ↔ HaveRoom
 room_is c =
     subst (λ (l : List Queued). (c.have_slack.result ≡ true) ↔ SlackStands c.args.found.now.listed.items l)
     c.deref-2.ensures.value
-    (subst (λ (l : List Queued). (c.have_slack.result ≡ true) ↔ SlackStands l c.deref-2.result.now) c.deref.ensures.value
-    c.have_slack.ensures)
+    (subst (λ (l : List Queued). (c.have_slack.result ≡ true) ↔ SlackStands l c.deref-2.result.now)
+    c.deref.ensures.value c.have_slack.ensures)
 
 pub returns-then-not-in_order-clause-refused : goal.returns-then-not-in_order-clause-refused
 returns-then-not-in_order-clause-refused c =
