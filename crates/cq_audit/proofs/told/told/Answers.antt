@@ -7,23 +7,30 @@ use Rattle.cq_audit.specs.Log.{IsOf}
 use Rattle.cq_audit.specs.Phase.{first_id}
 use Rattle.cq_audit.proofs.TellingLines.{ToldUntil, all_right, all_told, cells_at, line_holds, no_line, right_line}
 use Rattle.cq_audit.proofs.told.told.Goals as goal
-use Rattle.cq_audit.proofs.told.told.Goals.{in-Some+then-is_right, in_default}
+use Rattle.cq_audit.proofs.told.told.Goals.{After-inputs, In-Some, in-Some+then-is_right, in_default}
+
+-- the output of a line is one of the ports
+fits : (c : In-Some) → c.in-Some.line.output < length c.inputs.pairs
+fits c =
+    let of = line_holds c.inputs.input (IsOf (length c.args.lists.now)) c.args.lines.now c.in-Some.line
+    c.requires.lines (sym c.line_of.ensures ∙ c.in-Some.is) in
+    let output = of.output in
+    let size = c.inputs.invariant.size in
+    let long = length-map c.args.lists.now (λ (w : Waiting). w.cells) in omega arith
+
+-- all inputs are looked at in the end
+ended : (c : After-inputs) → c.inputs.input ≡ length c.args.lists.now
+ended c =
+    let past = c.inputs-test.false in
+    let most = c.inputs.auto.input-end in
+    let few = c.requires.few in
+    omega arith
 
 pub is_right-requires : goal.is_right-requires
-is_right-requires c =
-    let of = line_holds c.inputs.input (IsOf (length c.args.lists.now)) c.args.lines.now c.in-Some.line
-    c.requires.lines (sym c.line_of.ensures ∙ c.in-Some.is) in
-    let output = of.output in
-    let size = c.inputs.invariant.size in
-    let long = length-map c.args.lists.now (λ (w : Waiting). w.cells) in omega arith
+is_right-requires c = fits (goal.at.is_right-requires c).In-Some
 
 pub join-requires-clause-output : goal.join-requires-clause-output
-join-requires-clause-output c =
-    let of = line_holds c.inputs.input (IsOf (length c.args.lists.now)) c.args.lines.now c.in-Some.line
-    c.requires.lines (sym c.line_of.ensures ∙ c.in-Some.is) in
-    let output = of.output in
-    let size = c.inputs.invariant.size in
-    let long = length-map c.args.lists.now (λ (w : Waiting). w.cells) in omega arith
+join-requires-clause-output c = fits (goal.at.join-requires-clause-output c).In-Some
 
 pub inputs-preserved : goal.inputs-preserved
 inputs-preserved c =
@@ -61,18 +68,11 @@ inputs-preserved c =
 
 pub returns-clause-pairs : goal.returns-clause-pairs
 returns-clause-pairs c =
-    let long = length-map c.args.lists.now (λ (w : Waiting). w.cells) in
-    let past = c.inputs-test.false in
-    let most = c.inputs.auto.input-end in
-    let few = c.requires.few in
     all_told (cells_of c.args.lists.now) c.args.lines.now c.inputs.input c.inputs.pairs c.inputs.invariant
-    (length c.args.lists.now) (sym long) (omega arith)
+    (length c.args.lists.now) (sym (length-map c.args.lists.now (λ (w : Waiting). w.cells))) (ended c)
 
 pub returns-clause-right : goal.returns-clause-right
 returns-clause-right c =
-    let long = length-map c.args.lists.now (λ (w : Waiting). w.cells) in
-    let past = c.inputs-test.false in
-    let most = c.inputs.auto.input-end in
-    let few = c.requires.few in
     all_right (cells_of c.args.lists.now) c.args.lines.now c.inputs.input c.inputs.pairs c.inputs.invariant
-    (length c.args.lists.now) (sym long) (omega arith) c.requires.lines
+    (length c.args.lists.now) (sym (length-map c.args.lists.now (λ (w : Waiting). w.cells))) (ended c)
+    c.requires.lines
