@@ -120,125 +120,41 @@ fn is_seen<R: Threads + Sync>(
     requires tables { AreTables tables.now }
     requires captures { length captures.now ≡ ports_of tables.now.setup }
 {
+    if let Shown::Packets(output, left) = shown {
+        return puts_together(rt, alloc, tables, captures, output, left);
+    }
+    let schedule = Schedule::of(rt, alloc, captures, tables)?;
+    let ideal = run_ideal(alloc, tables, &schedule);
+    let fabric = run_fabric(rt, alloc, tables, &schedule, &OpenGate);
+    if let Shown::Fault(fault) = shown {
+        let told = Some(RunRefusal::Tag(fault));
+        return Ok(ideal.err() == told && fabric.err() == told);
+    }
+    Ok(is_seen_ideally(&ideal?, shown) && is_kept(&fabric?, shown))
+}
+
+// Whether the run of the ideal switch shows it, where that is to show something.
+fn is_seen_ideally(run: &IdealRun, shown: Shown) -> bool {
     match shown {
-        Shown::Trace(slots, sent) => Ok(
-            sends_ideally(rt, alloc, tables, captures, slots, sent)?
-                && sends(rt, alloc, tables, captures, slots, sent)?,
-        ),
-        Shown::Fault(fault) => Ok(stops(rt, alloc, tables, captures, fault)),
-        Shown::Log(proposals, log) => crosses(rt, alloc, tables, captures, proposals, log),
-        Shown::Refused(refused) => refuses(rt, alloc, tables, captures, refused),
-        Shown::Packets(output, left) => Ok(
-            puts_together(rt, alloc, tables, captures, output, left)?
-                && puts_all_together(rt, alloc, tables, captures, output, left)?,
-        ),
+        Shown::Trace(slots, sent) => run.slots == slots && are_sent(run.sent.items(), sent),
+        _ => true,
     }
 }
 
-// The run of the ideal switch.
-fn ideal<R: Threads + Sync>(
-    rt: &R,
-    alloc: Global,
-    tables: &Tables,
-    captures: &[Capture],
-) -> Result<IdealRun, RunRefusal>
-    requires tables { AreTables tables.now }
-    requires captures { length captures.now ≡ ports_of tables.now.setup }
-{
-    let schedule = Schedule::of(rt, alloc, captures, tables)?;
-    run_ideal(alloc, tables, &schedule)
+// Whether the run of the fabric shows it.
+fn is_kept(run: &FabricRun, shown: Shown) -> bool {
+    match shown {
+        Shown::Trace(slots, sent) => run.figures.slots == slots && are_sent(run.sent.items(), sent),
+        Shown::Log(proposals, log) => {
+            run.figures.proposals == proposals && have_crossed(run.note.items(), log)
+        }
+        Shown::Refused(refused) => run.refused.as_slice() == refused,
+        _ => false,
+    }
 }
 
-// The run of the fabric.
-fn crossed<R: Threads + Sync>(
-    rt: &R,
-    alloc: Global,
-    tables: &Tables,
-    captures: &[Capture],
-) -> Result<FabricRun, RunRefusal>
-    requires tables { AreTables tables.now }
-    requires captures { length captures.now ≡ ports_of tables.now.setup }
-{
-    let schedule = Schedule::of(rt, alloc, captures, tables)?;
-    run_fabric(rt, alloc, tables, &schedule, &OpenGate)
-}
-
-fn sends_ideally<R: Threads + Sync>(
-    rt: &R,
-    alloc: Global,
-    tables: &Tables,
-    captures: &[Capture],
-    slots: u64,
-    sent: &[Sent],
-) -> Result<bool, RunRefusal>
-    requires tables { AreTables tables.now }
-    requires captures { length captures.now ≡ ports_of tables.now.setup }
-{
-    let run = ideal(rt, alloc, tables, captures)?;
-    Ok(run.slots == slots && are_sent(run.sent.items(), sent))
-}
-
-fn sends<R: Threads + Sync>(
-    rt: &R,
-    alloc: Global,
-    tables: &Tables,
-    captures: &[Capture],
-    slots: u64,
-    sent: &[Sent],
-) -> Result<bool, RunRefusal>
-    requires tables { AreTables tables.now }
-    requires captures { length captures.now ≡ ports_of tables.now.setup }
-{
-    let run = crossed(rt, alloc, tables, captures)?;
-    Ok(run.figures.slots == slots && are_sent(run.sent.items(), sent))
-}
-
-// Whether both switches stop at this fault.
-fn stops<R: Threads + Sync>(
-    rt: &R,
-    alloc: Global,
-    tables: &Tables,
-    captures: &[Capture],
-    fault: TagFault,
-) -> bool
-    requires tables { AreTables tables.now }
-    requires captures { length captures.now ≡ ports_of tables.now.setup }
-{
-    let told = Some(RunRefusal::Tag(fault));
-    ideal(rt, alloc, tables, captures).err() == told
-        && crossed(rt, alloc, tables, captures).err() == told
-}
-
-fn crosses<R: Threads + Sync>(
-    rt: &R,
-    alloc: Global,
-    tables: &Tables,
-    captures: &[Capture],
-    proposals: u64,
-    log: &[Crossed],
-) -> Result<bool, RunRefusal>
-    requires tables { AreTables tables.now }
-    requires captures { length captures.now ≡ ports_of tables.now.setup }
-{
-    let run = crossed(rt, alloc, tables, captures)?;
-    Ok(run.figures.proposals == proposals && have_crossed(run.note.items(), log))
-}
-
-fn refuses<R: Threads + Sync>(
-    rt: &R,
-    alloc: Global,
-    tables: &Tables,
-    captures: &[Capture],
-    refused: &[Refused],
-) -> Result<bool, RunRefusal>
-    requires tables { AreTables tables.now }
-    requires captures { length captures.now ≡ ports_of tables.now.setup }
-{
-    let run = crossed(rt, alloc, tables, captures)?;
-    Ok(run.refused.as_slice() == refused)
-}
-
-// Whether these packets leave the output, where they are put together for it alone.
+// Whether these packets leave the output, where they are put together for it alone, and where those of all outputs are
+// in one pass.
 fn puts_together<R: Threads + Sync>(
     rt: &R,
     alloc: Global,
@@ -252,34 +168,12 @@ fn puts_together<R: Threads + Sync>(
 {
     let schedule = Schedule::of(rt, alloc, captures, tables)?;
     let run = run_ideal(alloc, tables, &schedule)?;
-    let packets = packets_of(
-        alloc,
-        output,
-        run.sent.items(),
-        captures,
-        tables,
-        schedule.t0(),
-    )?;
-    Ok(have_left(&packets, left))
-}
-
-// Whether they do where the packets of all outputs are put together in one pass.
-fn puts_all_together<R: Threads + Sync>(
-    rt: &R,
-    alloc: Global,
-    tables: &Tables,
-    captures: &[Capture],
-    output: Port,
-    left: &[Left],
-) -> Result<bool, RunRefusal>
-    requires tables { AreTables tables.now }
-    requires captures { length captures.now ≡ ports_of tables.now.setup }
-{
-    let schedule = Schedule::of(rt, alloc, captures, tables)?;
+    let t0 = schedule.t0();
+    let packets = packets_of(alloc, output, run.sent.items(), captures, tables, t0)?;
     let sent = run_ideal_packed(alloc, tables, &schedule)?;
-    let places = packets_of_all(alloc, sent, captures, tables, schedule.t0())?;
+    let places = packets_of_all(alloc, sent, captures, tables, t0)?;
     match places.get(output as usize) {
-        Some(place) => Ok(hold(alloc, &place.bytes, left)?),
+        Some(place) => Ok(have_left(&packets, left) && hold(alloc, &place.bytes, left)?),
         None => Ok(false),
     }
 }

@@ -14,3 +14,9 @@ packets_of-requires-clause-whole g c =
     subst P (sym c.items.ensures)
     (left_in_packets t captures c.in_ok-run.run'.sent.items c.requires.tables c.requires.captures
     (ap (λ s. ideal_departures t s.came) (sym c.in_ok-schedule.ensures.schedule) ∙ c.in_ok-run.ensures.sent))
+
+pub packets_of_all-requires-clause-whole : goal.packets_of_all-requires-clause-whole
+packets_of_all-requires-clause-whole g c =
+    let t = c.args.tables.now in
+    left_in_packets t c.args.captures.now c.in_ok-sent.sent.items c.requires.tables c.requires.captures
+    (ap (λ s. ideal_departures t s.came) (sym c.in_ok-schedule.ensures.schedule) ∙ c.in_ok-sent.ensures.sent)
