@@ -30,7 +30,7 @@ impl Nearby {
     }
 
     // A cell was found.
-    pub(crate) fn found(&mut self, id: CellId) {
+    fn found(&mut self, id: CellId) {
         if let Some(packets) = self.packets.get_mut(id.input as usize) {
             *packets = id.packet.saturating_add(1);
         }
