@@ -105,16 +105,6 @@ each_pair_left R j (x ∷ xs) e =
     cond_both (is_for j x) xs (x ∷ without_first j xs) (EachPair R) (λ _. e.1)
     (λ _. (all_left (R x) j xs e.0, each_pair_left R j xs e.1))
 
-without_is : (j : ℕ) (xs : List Queued) → without_first j xs ≡ remove xs (place_for j xs)
-without_is j [] = refl
-without_is j (x ∷ xs) =
-    cond_both (is_for j x) xs (x ∷ without_first j xs) (λ l. l ≡ remove (x ∷ xs) (place_for j (x ∷ xs)))
-    (λ e. ap (remove (x ∷ xs)) (sym (first_here (is_for j) x xs e)))
-    (λ e.
-    let place : suc (place_for j xs) ≡ place_for j (x ∷ xs) =
-    let later = first_later (is_for j) x xs e in omega arith in
-    ap (λ l. x ∷ l) (without_is j xs) ∙ ap (remove (x ∷ xs)) place)
-
 none_left : (j : ℕ) (xs : List Queued) → first_for j xs ≡ None → without_first j xs ≡ xs
 none_left j [] h = refl
 none_left j (x ∷ xs) h = go (is_for j x) h (none_left j xs)
@@ -131,17 +121,6 @@ taken_none j xs h =
     let none : first_for j xs ≡ None =
     find_at (is_for j) xs ∙ slice_get_past xs (place_for j xs) (position-none (is_for j) xs h) in
     (sym none, sym (none_left j xs none))
-
--- what is left where it found one, and the cell at its place was removed
-pub taken_some : (j : ℕ) (xs : List Queued) (i : ℕ) (x : Queued) → position (is_for j) xs ≡ Some i →
-    x ≡ get_or xs i x → (Some x ≡ first_for j xs) × (remove xs i ≡ without_first j xs)
-taken_some j xs i x h shown =
-    let first = cond_some (ltb (place_for j xs) (length xs)) (place_for j xs) i h in
-    let inside : i < length xs = let l = ltb-true _ _ first.0 in omega arith in (
-      ap Some shown ∙ sym (slice_get-get_or xs i x inside) ∙ ap (slice_get xs) (sym first.1)
-          ∙ sym (find_at (is_for j) xs),
-      ap (remove xs) (sym first.1) ∙ sym (without_is j xs),
-    )
 
 -- ## A cell inserted at a place
 

@@ -53,10 +53,3 @@ pub row_is_of : (place : ℕ) (ps : List Captured) (k : ℕ) (d : PacketRow) (e 
 row_is_of place [] k d e h = absurd (omega arith)
 row_is_of place (p ∷ ps) zero d e h = record { stamp = refl; len = refl }
 row_is_of place (p ∷ ps) (suc k) d e h = row_is_of (place + 16 + length p.body) ps k d e (omega arith)
-
--- what holds of the packet at a place holds of packet k
-pub at_packet : (P : Captured → Type 0) (ps : List Captured) (k : ℕ) (e : Captured) → k < length ps →
-    IfSome (slice_get ps k) P → P (slice_index_or ps k e)
-at_packet P [] k e h i = absurd (omega arith)
-at_packet P (p ∷ ps) zero e h i = i
-at_packet P (p ∷ ps) (suc k) e h i = at_packet P ps k e (omega arith) i

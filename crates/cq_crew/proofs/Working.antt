@@ -174,11 +174,6 @@ hand-told (Some h) shown input answer e f =
     let same : h.0 ≡ input = cc is in
     ap (λ (i : ℕ). let o : Option (ℕ × Outcome) = Some (i, answer) in o) same
 
-pub hand-none : (hand : Option (ℕ × ℕ)) (shown : Option ℕ) → shown ≡ option_map (λ (h : ℕ × ℕ). h.0) hand →
-    shown ≡ None → hand ≡ None
-hand-none None shown e f = refl
-hand-none (Some h) shown e f = absurd (let g : Some h.0 ≡ None = sym e ∙ f in let P : ⊥ = cc in P)
-
 pub proposes-same : (v : View) → ProposesFor v v
 proposes-same v = record { claims = refl; seen = refl; began = refl; made = omega arith }
 

@@ -115,12 +115,6 @@ module _ (cell : Cell) (first : List Refused) (place : ℕ) (now : List Refused)
       inside) in
       ap (λ (l : List Refused). set l place after) so_far ∙ next_place all first place after d same inside here
 
-pub tallied_last : (cell : Cell) (first now : List Refused) (place : ℕ) →
-    now ≡ changed_to (with_refused (cell ∷ []) first) first place → length first ≤ place →
-    now ≡ with_refused (cell ∷ []) first
-tallied_last cell first now place so_far past =
-    so_far ∙ at_end (with_refused (cell ∷ []) first) first place (length-map first (with_cells (cell ∷ []))) past
-
 -- ## Cells one after another
 
 counted_both : (before now : List Cell) (r : Refused) → with_cells (before ++ now) r ≡ with_cells now (with_cells

@@ -45,10 +45,6 @@ module _ (MayChoose : Orders → Partners → Type 0) (limits : List (Option ℕ
           IsFault ms slot cells f fault
       fault_without fault h = subst (λ (a : Admission). IsFault ms slot a.cells f fault) is_nothing h
 
-      fault_with : (fault : TagFault) → IsFault ms slot cells f fault →
-          IsLimitedFault limits ms slot cells (marked marks f) fault
-      fault_with fault h = subst (λ (a : Admission). IsFault ms slot a.cells f fault) (sym is_nothing) h
-
     -- ## Runs
 
     -- nothing is refused in any slot
@@ -106,17 +102,6 @@ module _ (MayChoose : Orders → Partners → Type 0) (limits : List (Option ℕ
               (λ (h : Marked Fabric). LimitedFabricStops MayChoose limits ms (slot + 1) traffic h rs fault)
               one.2 run.2),
         )
-
-    pub stop_with : (slot : ℕ) (traffic : List (List (Option Cell))) (f : Fabric) (rs : List SlotRecord)
-        (fault : TagFault) → None_in traffic → FabricStops MayChoose ms slot traffic f rs fault →
-        LimitedFabricStops MayChoose limits ms slot traffic (marked marks f) (passed marks traffic rs) fault
-    stop_with slot [] f rs fault none run = absurd run
-    stop_with slot (cells ∷ traffic) f [] fault none run = fault_with slot cells f none.0 fault run
-    stop_with slot (cells ∷ traffic) f (r ∷ rs) fault none run = (
-      marked marks run.0,
-      slot_with slot cells f none.0 r run.0 run.1,
-      stop_with (slot + 1) traffic run.0 rs fault none.1 run.2,
-    )
 
     -- ## Slots without arrivals
 

@@ -72,10 +72,6 @@ module _ {S R : Type 0} (Step : ℕ → List (Option Cell) → S → R → S →
         subst (λ l. RunBy Step 0 (first_slots came (length rs)) start l end)
         (take_all (length rs) rs (omega arith)) w.after
 
-    -- as many records as slots, if there are not fewer
-    pub after_all : (n : ℕ) (s : S) → n ≤ length rs → AfterBy Step came start rs n s → length (take n rs) ≡ n
-    after_all n s le x = run_length 0 (first_slots came n) start s (take n rs) x ∙ arriving_length came 0 n
-
   -- ## One whole run
 
   module _ (one : (slot : ℕ) (traffic : List (List (Option Cell))) (f g h : S) (rs ss : List R) →

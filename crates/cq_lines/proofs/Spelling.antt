@@ -181,9 +181,3 @@ one_field text x y None None a b = (refl, let e : 45 ∷ x ≡ 45 ∷ y = sym a.
 one_field text x y None (Some n) a b = absurd (minus_is_no_number x y n (sym a.spelled ∙ b.spelled))
 one_field text x y (Some m) None a b = absurd (minus_is_no_number y x m (sym b.spelled ∙ a.spelled))
 one_field text x y (Some m) (Some n) a b = let same = one_number text x y m n a b in (ap Some same.0, same.1)
-
--- where no `-` and no number stands there is no field
-pub no_field : (text : List ℕ) → ((rest : List ℕ) → text ≡ 45 ∷ rest → ⊥) → ((n : ℕ) (rest : List ℕ) → n < 2 ^ 128 →
-    BeginsWith text (Some n) rest → ⊥) → (f : Option ℕ) (rest : List ℕ) → Fits f → BeginsWith text f rest → ⊥
-no_field text minus number None rest fits begins = minus rest begins.spelled
-no_field text minus number (Some n) rest fits begins = number n rest fits begins

@@ -97,11 +97,6 @@ module _ (blocks : List (List ℕ)) (i : ℕ) (block : List ℕ) (inside : i < l
           at = omega arith;
         }
 
-  pub count_in_block : (j n : ℕ) → n ≤ length block →
-      count_of j (take n (concat (drop i blocks))) ≡ count_of j (take n block)
-  count_in_block j n early = ap (λ l. count_of j (take n l)) rest_is
-      ∙ ap (count_of j) (take-append-le n block (concat (drop (i + 1) blocks)) early)
-
   pub count_past_block : (j n : ℕ) → length block ≤ n →
       count_of j (take n (concat (drop i blocks))) ≡ count_of j block + count_of j
       (take (n - length block) (concat (drop (i + 1) blocks)))

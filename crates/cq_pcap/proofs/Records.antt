@@ -63,11 +63,6 @@ pub joined-nil : (left : Result (List Captured) Fault) → joined [] left ≡ le
 joined-nil (Ok ps) = refl
 joined-nil (Err e) = refl
 
-pub joined-more : (front : List Captured) (p : Captured) (left : Result (List Captured) Fault) →
-    joined front (left >>= (λ ps. Ok (p ∷ ps))) ≡ joined (front ++ p ∷ []) left
-joined-more front p (Ok ps) = ap (λ qs. Ok qs) (sym (append_assoc front (p ∷ []) ps))
-joined-more front p (Err e) = refl
-
 pub joined-end : (front : List Captured) (left : Result (List Captured) Fault) → left ≡ Ok [] →
     joined front left ≡ Ok front
 joined-end front left e = ap (joined front) e ∙ ap (λ qs. Ok qs) (append-nil front)

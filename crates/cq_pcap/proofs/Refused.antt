@@ -40,10 +40,3 @@ pub refused_map : {A : Type 0} (result : Result A PcapRefusal) (P Q : Fault → 
 refused_map result P Q f h =
     err_map result (λ refusal. IfSome (fault_of refusal) P) (λ refusal. IfSome (fault_of refusal) Q)
     (λ refusal. some_map (fault_of refusal) P Q f) h
-
--- the fault of the file at a place is one of the file
-pub faulty_some : (bytes : List ℕ) (place : Option ℕ) (refusal : PcapRefusal) → IsFaultAt bytes place refusal
-    → IfSome (fault_of refusal) (IsFaulty bytes)
-faulty_some bytes place refusal h =
-    let P : Option Fault → Type 0 = λ named. IfSome named (IsFaulty bytes) in
-    subst P (sym h.named) h.faulty

@@ -127,17 +127,6 @@ module _ (old new : Slab OpenPacket) (keys : List (Option ℕ)) (place key : ℕ
     seen_elsewhere : (q : ℕ) → q ≢ place → packet_under old (get_or keys q None) ≡ packet_under new (get_or keys q None)
     seen_elsewhere q ne = seen_alike old new (get_or keys q None) (λ k e. others k (not_elsewhere q k ne e))
 
-    pub grown_table : ContainsKey new key → IsTable new keys
-    grown_table h = record {
-      present =
-          λ p k e. ⊎_elim (λ same. let P : ℕ → Type 0 = λ n. ContainsKey new n in subst P (sym same) h)
-          (λ ne. kept_present k ne (table.present p k e)) (cases_eq k key);
-      apart = table.apart;
-      placed =
-          λ k h. ⊎_elim (λ same. (place, at ∙ ap Some (sym same))) (λ ne. table.placed k (was_present k ne h))
-          (cases_eq k key);
-    }
-
     pub grown_seen : (now : Option Open) → packet_under new (Some key) ≡ now →
         map (packet_under new) keys ≡ set (map (packet_under old) keys) place now
     grown_seen now e =

@@ -76,11 +76,6 @@ module _ (came : List Arrival) (s : State) where
       all_weaker (CanBe came s.head.next) IsMiss (λ c can. can_be_told came s.head.next c can.0 can.1) (named_in s)
       (recursion_from_All (CanBe came s.head.next) (named_in s) are.arrive)
 
-  pub listed_missed : SomeMissed came s.head.next s.listed → AreArrivals came s → ⊥
-  listed_missed missed are =
-      missed (all_left IsMiss s.listed s.buffered
-      (all_left IsMiss (s.listed ++ s.buffered) (map (λ (d : Sent). d.cell) s.sent) (none_missed are)))
-
   pub buffered_missed : SomeMissed came s.head.next s.buffered → AreArrivals came s → ⊥
   buffered_missed missed are =
       missed (all_right IsMiss s.listed s.buffered

@@ -6,10 +6,6 @@ use Rattle.std.proofs.lemmas.List.{get_or-map}
 use Rattle.cq_resume.specs.Finding.{begins_at}
 
 module _ {X : Type 0} (input : X → ℕ) (xs : List X) (n : ℕ) where
-  pub none_begins : n ≡ 0 → false ≡ begins_at (map input xs) n
-  none_begins first =
-      sym (and_left (ltb 0 n) (ltb (get_or (map input xs) (n - 1) 0) (get_or (map input xs) n 0))
-      (le-ltb 0 n (omega arith)))
 
   module _ (d : X) (inside : n < length xs) where
     before : get_or (map input xs) (n - 1) 0 ≡ input (get_or xs (n - 1) d)
@@ -22,11 +18,6 @@ module _ {X : Type 0} (input : X → ℕ) (xs : List X) (n : ℕ) where
     test =
         ap (λ (k : ℕ). ltb 0 n && ltb k (get_or (map input xs) n 0)) before
         ∙ ap (λ (k : ℕ). ltb 0 n && ltb (input (get_or xs (n - 1) d)) k) here
-
-    pub begins_is : 0 < n → ltb (input (get_or xs (n - 1) d)) (input (get_or xs n d)) ≡ begins_at (map input xs) n
-    begins_is later =
-        sym (test
-        ∙ ap (λ (b : Bool). b && ltb (input (get_or xs (n - 1) d)) (input (get_or xs n d))) (lt-ltb 0 n later))
 
     pub begins_says : begins_at (map input xs) n ≡ true →
         (0 < n) × (input (get_or xs (n - 1) d) < input (get_or xs n d))

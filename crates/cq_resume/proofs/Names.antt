@@ -141,12 +141,6 @@ says_ahead input slot n (inr (same, less)) =
     (and_from (eqb n.queued.key.input input) (ltb n.queued.key.slot slot) (eq-eqb n.queued.key.input input same)
     (lt-ltb n.queued.key.slot slot less))
 
-its_says : (input slot : ℕ) (n : Name) → is_its input slot n ≡ true →
-    (n.queued.key.slot ≡ slot) × (n.queued.key.input ≡ input)
-its_says input slot n holds =
-    let parts = and_parts (eqb n.queued.key.slot slot) (eqb n.queued.key.input input) holds in
-    (eqb-true n.queued.key.slot slot parts.0, eqb-true n.queued.key.input input parts.1)
-
 not_its : (input slot : ℕ) (n : Name) → ((n.queued.key.slot ≡ slot) → (n.queued.key.input ≡ input) → ⊥) →
     is_its input slot n ≡ false
 not_its input slot n other =

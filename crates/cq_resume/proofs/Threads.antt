@@ -151,8 +151,3 @@ module _ (listed buffered : List Queued) (n thread : ℕ) (known : Threads liste
       cushion ≡ length (cushion_in buffered here) → cushion ≤ now → (false ≡ true) ↔ SlackStands listed buffered
   threads_stop rising begun now cushion is ways enough short =
       threads_fail now (now_counted rising begun now is ways) (omega arith)
-
-  pub thread_fits : AllPairs IsNoLaterInput listed → (begun : Bool) (now : ℕ) →
-      begun ≡ begins_at (map (λ (q : Queued). q.key.input) listed) n →
-      ((begun ≡ true) × (now ≡ 0)) ⊎ ((begun ≡ false) × (now ≡ thread)) → now ≤ n
-  thread_fits rising begun now is ways = thread_few now (now_counted rising begun now is ways)

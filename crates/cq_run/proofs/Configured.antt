@@ -24,13 +24,6 @@ refused_at m name bytes r e f =
     ap (λ (o : Option (List ℕ)). found_or_missing name o >>=
     (λ (b : List ℕ). read_or_refused_for (read_or_refused b))) e ∙ ap read_or_refused_for f
 
-pub configuration_refused : (told : Option Contents) (name bytes path : List ℕ) (code : ℕ) →
-    IfSome told (λ m. get m name ≡ Some bytes) → read_or_refused bytes ≡ Err (record { code = code; path = path }) →
-    IsRefused (tables_in name) told (Configuration code path)
-configuration_refused None name bytes path code e f = refl
-configuration_refused (Some m) name bytes path code e f =
-    refused_at m name bytes (record { code = code; path = path }) e f
-
 long_at : (m : Contents) (name : List ℕ) (o : Option (List ℕ)) → get m name ≡ o → 1048576 < length (unwrap_or o []) →
     tables_in name m ≡ Err (Configuration 10 (codes "-"))
 long_at m name None e h = absurd (omega arith)

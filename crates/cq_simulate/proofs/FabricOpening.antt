@@ -30,7 +30,7 @@ use Rattle.cq_simulate.proofs.Onward.{first_fault, has_run, ready_on}
 use Rattle.cq_simulate.proofs.Opening.{machine_count, room_at, run_of_tables}
 use Rattle.cq_simulate.specs.FabricReady.{HasRun, IsReadyFabric}
 use Rattle.cq_simulate.specs.FabricRuns.{IsKeptOf, unpacked_run}
-use Rattle.cq_simulate.specs.FreshFabric.{ArePortsOf, IsFreshFor, by_port}
+use Rattle.cq_simulate.specs.FreshFabric.{ArePortsFor, IsFreshFor, by_port}
 use Rattle.cq_simulate.specs.GoingOn.{HasKept, IsReadyOn, IsRefusalOn}
 use Rattle.cq_simulate.specs.IdealRuns.{IsRefusalOf, ideal_departures}
 use Rattle.cq_simulate.specs.declared.fabric_run.FabricRun.{FabricRun}
@@ -55,7 +55,7 @@ ranks_many t ranks machines =
 
 -- so an engine can be made of them
 pub can_be_made : (t : Tables) (came : List Arrival) (p : Ports) {from to : List ℕ} {limits : List (Option ℕ)} →
-    AreTables t → ArePortsOf t came p → from ≡ p.from_inputs.items → to ≡ p.to_outputs.items → limits ≡ t.limits →
+    AreTables t → ArePortsFor t came p → from ≡ p.from_inputs.items → to ≡ p.to_outputs.items → limits ≡ t.limits →
     CanBeMade (map machine_from (map fixed_of p.ranks.items)) (length p.ranks.items) from to limits t.workers
 can_be_made t came p tables are from to same =
     record {
@@ -68,7 +68,7 @@ can_be_made t came p tables are from to same =
 
 -- and one that was is fresh
 pub fresh_for : (t : Tables) (came : List Arrival) (p : Ports) (engine : EngineView) {from to : List ℕ}
-    {limits : List (Option ℕ)} → ArePortsOf t came p → from ≡ p.from_inputs.items → to ≡ p.to_outputs.items →
+    {limits : List (Option ℕ)} → ArePortsFor t came p → from ≡ p.from_inputs.items → to ≡ p.to_outputs.items →
     limits ≡ t.limits →
     engine
     ≡ fresh_engine (length p.ranks.items) (map fixed_of p.ranks.items) (map state_of p.ranks.items) from to limits →

@@ -34,7 +34,7 @@ use Rattle.cq_scfq.specs.Disciplines.{machine_of, machines_of}
 use Rattle.cq_simulate.proofs.FabricCounts.{at_inputs}
 use Rattle.cq_simulate.proofs.FabricRunning.{all_at_inputs}
 use Rattle.cq_simulate.proofs.Opening.{room_at}
-use Rattle.cq_simulate.specs.FreshFabric.{ArePortsOf, by_port}
+use Rattle.cq_simulate.specs.FreshFabric.{ArePortsFor, by_port}
 use Rattle.cq_simulate.specs.GoingOn.{IsReadyOn, to_come}
 use Rattle.cq_simulate.specs.PartedRuns.{CanBeTakenUp}
 use Rattle.cq_simulate.specs.declared.ports.Ports.{Ports}
@@ -292,7 +292,7 @@ by_machine : (is : ℕ → Arrival → Bool) (t : Tables) (came : List Arrival) 
 by_machine is t came =
     ap (λ (n : ℕ). map (λ port. number_of (is port) came) (range_with_len 0 n)) (sym (machines_many t))
 
-module _ (t : Tables) (s : Scheduled) (taken : Taken) (p : Ports) (are : ArePortsOf t s.came p)
+module _ (t : Tables) (s : Scheduled) (taken : Taken) (p : Ports) (are : ArePortsFor t s.came p)
     (sound : CanBeTakenUp (switch_of t s) taken)
     (traffic : IsTraffic (ports_of t.setup) (classes_of t.setup) s.came) where
   -- an engine can be made of the ports that goes on from what was taken up

@@ -16,7 +16,7 @@ abbrev pub by_port : (ℕ → Arrival → Bool) → Tables → List Arrival → 
 by_port is t came = map (λ port. number_of (is port) came) (range_with_len 0 (ports_of t.setup))
 
 -- the ranks are those of the tables, in their opening states, and there is room for what comes
-pub record ArePortsOf (t : Tables) (came : List Arrival) (p : Ports) : Type 0 where
+pub record ArePortsFor (t : Tables) (came : List Arrival) (p : Ports) : Type 0 where
   pub machines : map machine_from (map fixed_of p.ranks.items) ≡ machines_of t.setup
   pub openings : map state_of p.ranks.items ≡ openings_of t.setup
   pub classes : class_count (machines_of t.setup) ≡ length t.setup.classes

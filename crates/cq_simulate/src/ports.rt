@@ -1,7 +1,7 @@
 //! What a fabric of tables is made of, and one that has had no slot.
 ghost use Rattle.std.specs.Prelude.{◌≡◌, IfOk};
 ghost use Rattle.cq_route.specs.Tables.{AreTables, ports_of};
-ghost use Rattle.cq_simulate.specs.FreshFabric.{ArePortsOf, IsFreshFor};
+ghost use Rattle.cq_simulate.specs.FreshFabric.{ArePortsFor, IsFreshFor};
 
 use cq_base::NoMemory;
 use cq_cells::Schedule;
@@ -33,7 +33,7 @@ pub fn port_count(tables: &Tables) -> u64
 pub fn ports_for(alloc: Global, tables: &Tables, schedule: &Schedule) -> Result<Ports, NoMemory>
     requires tables { AreTables tables.now }
     requires ports { schedule.now.ports ≡ ports_of tables.now.setup }
-    ensures { IfOk result (ArePortsOf tables.now schedule.now.came) }
+    ensures { IfOk result (ArePortsFor tables.now schedule.now.came) }
 {
     let ports = port_count(tables) as u16;
     let ranks = Discipline::all(alloc, &tables.setup)?;

@@ -112,11 +112,6 @@ module _ (w : Switch) where
         arrived w.machines slot w.classes r.admission.cells f.state g.state k.ideal.state r.of_slot k.agrees.states
         admitted_come k.step.runs
 
-    pub filled_is : Sound (slot + 1) r.of_slot.filled
-    filled_is =
-        moved_sound (slot + 1) r.of_slot.arrived r.of_slot.filled r.of_slot.first arrived_is k.step.runs.first_chosen
-        k.step.runs.fill
-
     pub sent_is : Sound (slot + 1) r.of_slot.sent
     sent_is =
         after_sent w.machines slot w.classes r.admission.cells f.state g.state k.ideal.state r.of_slot k.agrees.states

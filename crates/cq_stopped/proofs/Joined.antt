@@ -53,12 +53,6 @@ module _ {X : Type 0} where
         (λ i k x y lt one two. across (suc i) (suc k) x y (omega arith) one two))
         (λ x y one two. let it = is_at xss y two in across zero (suc it.place) x y (omega arith) one it.has)
 
-    pub pairs_one_way : (S : X → X → Type 0) → ((x y : X) → R x y → S x y) → (xs : List X) → EachPair R xs →
-        EachPair S xs
-    pairs_one_way S gives [] pairs = tt
-    pairs_one_way S gives (x ∷ xs) pairs =
-        (all_weaker (R x) (S x) (gives x) xs pairs.0, pairs_one_way S gives xs pairs.1)
-
   all_of_both : (P Q : X → Type 0) (xs : List X) → AllByRecursion P xs → AllByRecursion Q xs →
       AllByRecursion (λ x. P x × Q x) xs
   all_of_both P Q [] first second = tt

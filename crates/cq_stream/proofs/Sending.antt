@@ -19,10 +19,6 @@ pub record SendsTo (form : Form) (bytes : List ℕ) (at : ℕ) (before after : L
   pub stand : AreRowsTo form bytes at rows
   pub sent : after ≡ before ++ map Row rows
 
-pub sends_none : (form : Form) (bytes : List ℕ) (before : List Item) → AreRowsTo form bytes 24 []
-    → SendsTo form bytes 24 before before
-sends_none form bytes before h = record { rows = []; stand = h; sent = sym (append-nil before) }
-
 -- one more row
 pub sends_more : (form : Form) (bytes : List ℕ) (at next : ℕ) (row : PacketRow) (before so_far after : List Item)
     → after ≡ so_far ++ Row row ∷ []
@@ -48,18 +44,3 @@ pub sends_fault : (form : Form) (bytes : List ℕ) (at : ℕ) (before after : Li
     → HasSent bytes (Some refusal) before after
 sends_fault form bytes at before after refusal fault s =
     record { rows = s.rows; until = (Some at, fault, (form, s.stand)); sent = s.sent }
-
--- a fault of the header
-pub sends_header_fault : (bytes : List ℕ) (before : List Item) (refusal : PcapRefusal) → IsFaultAt bytes None refusal
-    → HasSent bytes (Some refusal) before before
-sends_header_fault bytes before refusal fault =
-    record { rows = []; until = (None, fault, refl); sent = sym (append-nil before) }
-
--- and then that there are no more
-pub sends_end : (bytes : List ℕ) (fault : Option PcapRefusal) (before so_far after : List Item)
-    → after ≡ so_far ++ Ended ∷ [] → HasSent bytes fault before so_far → HasEnded bytes fault before after
-sends_end bytes fault before so_far after e s = record {
-  rows = s.rows;
-  until = s.until;
-  sent = e ∙ ap (λ items. items ++ Ended ∷ []) s.sent ∙ append_assoc before (map Row s.rows) (Ended ∷ []);
-}
