@@ -1,5 +1,5 @@
 -- The least stamp, capture by capture.
-use Rattle.std.proofs.Common.{◌≡◌, ℕ, zero, suc, slice_get, IfSome, ◌+◌, ◌<◌, min, List, [], ◌∷◌, ◌++◌, length, map, take, slice_index_or, Some, refl, ap, ◌∙◌, arith}
+use Rattle.std.proofs.Common.{◌≡◌, ℕ, zero, suc, ◌+◌, ◌<◌, min, List, [], ◌∷◌, ◌++◌, length, map, take, slice_index_or, Some, refl, ap, ◌∙◌, arith}
 use Rattle.std.proofs.lemmas.List.{append-nil, take_more}
 use Rattle.std.proofs.lemmas.List.Concat.{flat_map-append}
 use Rattle.std.proofs.lemmas.List.Sums.{fold-append}

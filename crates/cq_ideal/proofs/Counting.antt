@@ -12,7 +12,7 @@ use Rattle.cq_ideal.specs.Admission.{is_first, mark_at, refused}
 use Rattle.cq_ideal.specs.Limiter.{CanCount, HasPorts, LimiterView, where_up}
 use Rattle.cq_ideal.specs.Refused.{AreAllZero, cells_refused, packets_refused, refused_counts, with_cells, with_refused}
 use Rattle.cq_ideal.proofs.Refusals.{all_zero, cells_both, packets_both}
-use Rattle.cq_ideal.proofs.Changed.{at_end, at_place, changed_to, next_place}
+use Rattle.cq_ideal.proofs.Changed.{at_place, changed_to, next_place}
 use Rattle.cq_ideal.proofs.TakenIn.{from_input}
 
 -- where there are no counts there is nothing to add to

@@ -1,6 +1,6 @@
 -- Making the first seat, a split and a join keep the rule, and are no event: the words stay, and what the seats have
 -- claimed, seen, made and in their hands is only dealt out anew.
-use Rattle.std.proofs.Common.{ℕ, zero, suc, ◌≡◌, ◌≢◌, ◌⊎◌, inl, inr, ◌+◌, ◌≤◌, List, [], ◌∷◌, ◌++◌, length, set, replicate, Some, None, refl, sym, ◌∙◌, ap, arith, subst, bit_or}
+use Rattle.std.proofs.Common.{ℕ, zero, suc, ◌≡◌, ◌≢◌, ◌⊎◌, inl, inr, ◌+◌, ◌≤◌, List, [], ◌∷◌, ◌++◌, set, replicate, Some, None, refl, sym, ◌∙◌, ap, arith, subst, bit_or}
 use mathlib.Core.Option.{some}
 use Rattle.std.specs.List.{sum_by}
 use Rattle.std.proofs.lemmas.Bool.{cases_eq}

@@ -11,7 +11,7 @@ use Rattle.std.proofs.lemmas.Int.Digits.{number_digits_of, all_below_base_digits
 use Rattle.cq_base.specs.Decimal.{decimal}
 use Rattle.cq_base.proofs.Decimals.{decimal_small, decimal_above, decimal_more}
 use Rattle.std.proofs.Math.ListN.{get_or-map}
-use Rattle.cq_lines.specs.Lines.{EndsDigits, BeginsWith, Fits}
+use Rattle.cq_lines.specs.Lines.{EndsDigits, BeginsWith}
 
 abbrev pub AreDigits : List ℕ → Type 0
 AreDigits ds = AllByRecursion (IsInRange 48 57) ds

@@ -1,6 +1,6 @@
 -- The records of a file are read one after another: the packets that were read, joined with the answer on the bytes
 -- that are left, are the answer on all the bytes.
-use Rattle.std.proofs.Common.{◌≡◌, ℕ, zero, suc, ◌+◌, ◌<◌, ◌≤◌, List, [], ◌∷◌, ◌++◌, length, drop, refl, ap, sym, ◌∙◌, arith, append_assoc}
+use Rattle.std.proofs.Common.{◌≡◌, ℕ, zero, suc, ◌+◌, ◌<◌, ◌≤◌, List, [], ◌∷◌, ◌++◌, length, drop, refl, ap, ◌∙◌, arith}
 use Rattle.std.proofs.lemmas.List.{append-nil, length-drop}
 use Rattle.std.specs.Prelude.{Result, Ok, Err}
 use Rattle.cq_pcap.specs.declared.form.Form.{Form}

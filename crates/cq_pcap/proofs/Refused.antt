@@ -1,9 +1,8 @@
 -- What is known of the fault that a refusal names.
-use Rattle.std.specs.Prelude.{◌≡◌, ℕ, List, Option, None, Some, Result, Ok, Err, option_map, IfErr, IfNone, IfOk, IfSome}
-use Rattle.std.proofs.Common.{refl, sym, subst}
+use Rattle.std.specs.Prelude.{◌≡◌, Option, None, Some, Result, Ok, Err, option_map, IfErr, IfNone, IfOk, IfSome}
+use Rattle.std.proofs.Common.{refl, subst}
 use Rattle.cq_pcap.specs.declared.read.PcapRefusal.{PcapRefusal}
-use Rattle.cq_pcap.specs.Faults.{Fault, IsFaulty, fault_of}
-use Rattle.cq_pcap.specs.Rows.{IsFaultAt}
+use Rattle.cq_pcap.specs.Faults.{Fault, fault_of}
 
 -- where a refusal names the answer, it names a fault, which is the answer
 pub named_fault : {A : Type 0} (named : Option Fault) (answer : Result A Fault) → option_map Err named ≡ Some answer

@@ -1,12 +1,11 @@
 -- Where an input begins: at a place behind the first one whose item is of a later input than the one before it.
-use Rattle.std.proofs.Common.{◌≡◌, ℕ, ◌-◌, ◌<◌, ltb, Bool, true, false, List, length, map, get_or, sym, ap, ◌∙◌, arith}
+use Rattle.std.proofs.Common.{◌≡◌, ℕ, ◌-◌, ◌<◌, ltb, true, false, List, length, map, get_or, sym, ap, ◌∙◌, arith}
 use Rattle.std.specs.Prelude.{◌&&◌}
-use Rattle.std.proofs.lemmas.Bool.{and_from, and_left, and_parts, le-ltb, lt-ltb, ltb-true}
+use Rattle.std.proofs.lemmas.Bool.{and_from, and_parts, lt-ltb, ltb-true}
 use Rattle.std.proofs.lemmas.List.{get_or-map}
 use Rattle.cq_resume.specs.Finding.{begins_at}
 
 module _ {X : Type 0} (input : X → ℕ) (xs : List X) (n : ℕ) where
-
   module _ (d : X) (inside : n < length xs) where
     before : get_or (map input xs) (n - 1) 0 ≡ input (get_or xs (n - 1) d)
     before = get_or-map input xs (n - 1) d 0 (omega arith)

@@ -1,5 +1,5 @@
 //! The cells that a state names, looked up among those that arrive.
-ghost use Rattle.std.specs.Prelude.{◌≡◌, ◌↔◌, ◌<◌, ◌&&◌, ◌||◌, ◌==◌, ◌++◌, nat_lt, AllPairs, IfErr, IfNone, IfOk, IfSome, IsPermutation, IsTrue, None, OnOk, filter, length, map};
+ghost use Rattle.std.specs.Prelude.{◌≡◌, ◌↔◌, ◌<◌, ◌&&◌, ◌||◌, ◌==◌, nat_lt, AllPairs, IfErr, IfNone, IfOk, IfSome, IsPermutation, IsTrue, None, OnOk, filter, length, map};
 ghost use Rattle.std.specs.List.{AllAdjacentBelow, AllByRecursion, list_any};
 ghost use Rattle.cq_resume.specs.Finding.{AreGone, AreFound, IsFound, IsNameBefore, IsNameNotAfter, SomeMissed, names_of as names_told, sent_name, told_of, waiting_name};
 ghost use Rattle.cq_resume.specs.Sound.{AreArrivals, IsForPorts, IsOnlyFor};

@@ -35,23 +35,20 @@ use Rattle.cq_run.proofs.Told.{told_map, told_any, told_of_match, told_is_some, 
 
 -- the table of refusals
 
+not_done_not_cut : (r : Refusal) → ((meaning_of r).status ≢ status.Done) × ((meaning_of r).status ≢ status.WriteFault)
+not_done_not_cut Words = (λ e. cc, λ e. cc)
+not_done_not_cut (Missing name) = (λ e. cc, λ e. cc)
+not_done_not_cut (Configuration code path) = (λ e. cc, λ e. cc)
+not_done_not_cut (Capture input fault) = (λ e. cc, λ e. cc)
+not_done_not_cut (Tag fault) = (λ e. cc, λ e. cc)
+not_done_not_cut (Audit denial) = (λ e. cc, λ e. cc)
+not_done_not_cut (State fault) = (λ e. cc, λ e. cc)
+
 not_done : (r : Refusal) → (meaning_of r).status ≢ status.Done
-not_done Words e = cc
-not_done (Missing name) e = cc
-not_done (Configuration code path) e = cc
-not_done (Capture input fault) e = cc
-not_done (Tag fault) e = cc
-not_done (Audit denial) e = cc
-not_done (State fault) e = cc
+not_done r = (not_done_not_cut r).0
 
 not_cut : (r : Refusal) → (meaning_of r).status ≢ status.WriteFault
-not_cut Words e = cc
-not_cut (Missing name) e = cc
-not_cut (Configuration code path) e = cc
-not_cut (Capture input fault) e = cc
-not_cut (Tag fault) e = cc
-not_cut (Audit denial) e = cc
-not_cut (State fault) e = cc
+not_cut r = (not_done_not_cut r).1
 
 missed_is_told : (r : Refusal) → (meaning_of r).status ≡ status.ReadFault → ¬ IsTrue (meaning_of r).untold
 missed_is_told Words e u = cc

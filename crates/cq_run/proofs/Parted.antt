@@ -41,26 +41,16 @@ use Rattle.cq_run.proofs.Told.{told_two}
 
 -- ## Untold contents
 
--- what denies such an aim can come where contents are not told
-part_untold : (t : Tables) (captures : List (List Captured)) (slots : ℕ) (refusal : Refusal) →
-    IsPartRefusal t captures slots refusal → IsTrue (meaning_of refusal).untold
-part_untold t captures slots Words h = absurd h
-part_untold t captures slots (Missing name) h = absurd h
-part_untold t captures slots (Configuration code path) h = refl
-part_untold t captures slots (Capture input fault) h = refl
-part_untold t captures slots (Tag fault) h = refl
-part_untold t captures slots (Audit denial) h = refl
-part_untold t captures slots (State fault) h = refl
-
-resume_untold : (t : Tables) (captures : List (List Captured)) (text : List ℕ) (refusal : Refusal) →
-    IsResumeRefusal t captures text refusal → IsTrue (meaning_of refusal).untold
-resume_untold t captures text Words h = absurd h
-resume_untold t captures text (Missing name) h = absurd h
-resume_untold t captures text (Configuration code path) h = refl
-resume_untold t captures text (Capture input fault) h = refl
-resume_untold t captures text (Tag fault) h = refl
-resume_untold t captures text (Audit denial) h = refl
-resume_untold t captures text (State fault) h = refl
+-- what denies such an aim is neither of words nor of a missing name, so it can come where contents are not told
+untold : (P : Refusal → Type 0) → ¬ P Words → ((name : List ℕ) → ¬ P (Missing name)) → (refusal : Refusal) →
+    P refusal → IsTrue (meaning_of refusal).untold
+untold P of_words missed Words h = absurd (of_words h)
+untold P of_words missed (Missing name) h = absurd (missed name h)
+untold P of_words missed (Configuration code path) h = refl
+untold P of_words missed (Capture input fault) h = refl
+untold P of_words missed (Tag fault) h = refl
+untold P of_words missed (Audit denial) h = refl
+untold P of_words missed (State fault) h = refl
 
 module _ {S : Type 0} (space : S → Space) (may_fail : Call → S → S → Type 0) (keeps : S → S → Type 0) (old : S)
     (config : List ℕ) where
@@ -91,7 +81,7 @@ module _ {S : Type 0} (space : S → Space) (may_fail : Call → S → S → Typ
       halt_settles : (halt : Halt) → IsPartHalt given.tables given.captures slots halt →
           Settles (Ok (Parting given.tables given.captures slots name)) (Err halt)
       halt_settles (Refused refusal) h = (
-        part_untold given.tables given.captures slots refusal h,
+        untold (IsPartRefusal given.tables given.captures slots) (λ h. h) (λ name h. h) refusal h,
         inr (Parting given.tables given.captures slots name, refl, h),
       )
       halt_settles (Unread unread) h = h
@@ -167,8 +157,10 @@ module _ {S : Type 0} (space : S → Space) (may_fail : Call → S → S → Typ
 
         resume_settles : (halt : Halt) → IsResumeHalt given.tables given.captures text halt →
             Settles (Ok aim) (Err halt)
-        resume_settles (Refused refusal) h =
-            (resume_untold given.tables given.captures text refusal h, inr (aim, refl, h))
+        resume_settles (Refused refusal) h = (
+          untold (IsResumeRefusal given.tables given.captures text) (λ h. h) (λ name h. h) refusal h,
+          inr (aim, refl, h),
+        )
         resume_settles (Unread unread) h = h
         resume_settles NoMemory h = tt
 

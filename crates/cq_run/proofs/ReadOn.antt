@@ -1,7 +1,7 @@
 -- Reading a configuration and its captures: where one of these ends it, it ends judging of whatever they would give,
 -- and where both are there, that is given. The captures may be read in turn or ahead.
 use Rattle.std.proofs.Common.{◌≡◌, ◌∙◌, ℕ, List, length, subst}
-use Rattle.std.specs.Prelude.{IfSome, Option, Result, Ok, Err}
+use Rattle.std.specs.Prelude.{IfSome, Option, Ok, Err}
 use Rattle.cq_pcap.specs.Captured.{Captured}
 use Rattle.cq_route.specs.Tables.{AreTables, ports_of}
 use Rattle.cq_route.specs.declared.tables.Tables.{Tables}

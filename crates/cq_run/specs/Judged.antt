@@ -1,6 +1,6 @@
 -- Only proofs use this.
 -- What judging a command comes to in any object that is a file space.
-use Rattle.std.specs.Prelude.{◌≡◌, List, ℕ, IfOk, IfSome, Result}
+use Rattle.std.specs.Prelude.{◌≡◌, IfOk, IfSome, Result}
 use Rattle.std.specs.List.{AllByRecursion}
 use Rattle.cq_space.specs.Call.{Call}
 use Rattle.cq_space.specs.Failing.{Fails, Reads}

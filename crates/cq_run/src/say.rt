@@ -137,20 +137,7 @@ fn say_long_record<S: Sink>(sink: &mut S, offset: u64, length: u32) -> Result<()
     ensures { Puts (line (fault_text (CaptureFault.LongRecord offset length)))
         (taken_by S.taken S.faults sink.old) (taken_by S.taken S.faults sink.new) result }
 {
-    let mut place = [0u8; MOST_DIGITS];
-    let place_count = digits(u128::from(offset), &mut place);
-    let mut stated = [0u8; MOST_DIGITS];
-    let stated_count = digits(u128::from(length), &mut stated);
-    put_pieces(
-        sink,
-        &[
-            b"7 at ",
-            &place[..place_count],
-            b", length ",
-            &stated[..stated_count],
-            b"\n",
-        ],
-    )
+    say_two(sink, b"7 at ", offset, b", length ", u64::from(length))
 }
 
 fn say_denial<S: Sink>(sink: &mut S, denial: Denial) -> Result<(), WriteFault>
@@ -192,19 +179,12 @@ fn say_blocking<S: Sink>(
         (taken_by S.taken S.faults sink.old) (taken_by S.taken S.faults sink.new) result }
 {
     put_phase(sink, b"audit: A3", slot, phase)?;
-    let mut row = [0u8; MOST_DIGITS];
-    let row_count = digits(u128::from(input), &mut row);
-    let mut column = [0u8; MOST_DIGITS];
-    let column_count = digits(u128::from(output), &mut column);
-    put_pieces(
+    say_two(
         sink,
-        &[
-            b" input ",
-            &row[..row_count],
-            b" output ",
-            &column[..column_count],
-            b"\n",
-        ],
+        b" input ",
+        u64::from(input),
+        b" output ",
+        u64::from(output),
     )
 }
 
@@ -262,6 +242,32 @@ fn say_number<S: Sink>(sink: &mut S, head: &[u8], number: u64) -> Result<(), Wri
     let mut places = [0u8; MOST_DIGITS];
     let count = digits(u128::from(number), &mut places);
     put_pieces(sink, &[head, &places[..count], b"\n"])
+}
+
+fn say_two<S: Sink>(
+    sink: &mut S,
+    head: &[u8],
+    number: u64,
+    middle: &[u8],
+    other: u64,
+) -> Result<(), WriteFault>
+    ensures { Puts (line (head.now ++ decimal number ++ middle.now ++ decimal other))
+        (taken_by S.taken S.faults sink.old) (taken_by S.taken S.faults sink.new) result }
+{
+    let mut places = [0u8; MOST_DIGITS];
+    let count = digits(u128::from(number), &mut places);
+    let mut others = [0u8; MOST_DIGITS];
+    let other_count = digits(u128::from(other), &mut others);
+    put_pieces(
+        sink,
+        &[
+            head,
+            &places[..count],
+            middle,
+            &others[..other_count],
+            b"\n",
+        ],
+    )
 }
 
 fn put_pieces<S: Sink>(sink: &mut S, pieces: &[&[u8]]) -> Result<(), WriteFault>

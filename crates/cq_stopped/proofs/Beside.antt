@@ -15,7 +15,7 @@ use Rattle.cq_ideal.specs.LimitedIdeal.{empty_limited}
 use Rattle.cq_ideal.specs.Ranking.{AreForPorts}
 use Rattle.cq_laws.proofs.AfterArrivals.{CameFor, Keyed, arrived_has}
 use Rattle.cq_laws.proofs.AfterDepartures.{sent_buffer}
-use Rattle.cq_laws.proofs.AfterTransfer.{moved_has, moved_sound}
+use Rattle.cq_laws.proofs.AfterTransfer.{moved_has}
 use Rattle.cq_laws.proofs.InputBest.{stable_limited_slot}
 use Rattle.cq_laws.proofs.LimitedSlots.{admission_for_ports, limited_ports_kept, same_limited_slot}
 use Rattle.cq_laws.proofs.LimitedWhole.{limited_empty_agree}

@@ -5,7 +5,7 @@ use Rattle.std.specs.Prelude.{◌==◌, filter, slice_index_or}
 use Rattle.std.specs.List.{AllByRecursion, flat_map, list_any}
 use Rattle.std.proofs.lemmas.Bool.{eq-eqb, or_left, or_right}
 use Rattle.cq_resume.proofs.Chained.{EachPair}
-use Rattle.cq_resume.proofs.Each.{all_both, all_weaker}
+use Rattle.cq_resume.proofs.Each.{all_both}
 use Rattle.cq_resume.proofs.Having.{Has, all_from_has, all_of_has, has_left, has_right, has_cases}
 
 module _ {X : Type 0} where

@@ -3,7 +3,7 @@ use Rattle.cq_base.specs.Decimal.{decimal}
 use Rattle.cq_run.specs.Line.{line}
 use Rattle.cq_run.specs.Refusals.{in_phase_text}
 use Rattle.cq_run.specs.World.{taken_by}
-use Rattle.cq_run.proofs.Put.{front_is, line_of_two, lines_behind, puts_as, puts_cut, puts_then}
+use Rattle.cq_run.proofs.Put.{lines_behind, puts_as, puts_cut, puts_then}
 use Rattle.cq_run.proofs.say.say_blocking.Goals as goal
 
 pub returns-in_err-put_phase : goal.returns-in_err-put_phase
@@ -24,11 +24,9 @@ returns g c =
     let text : List ℕ = codes " input " ++ decimal c.args.input ++ codes " output " ++ decimal c.args.output in
     puts_as _ _ _ _ _
     (lines_behind head (codes " input ") (decimal c.args.input) (codes " output ") (decimal c.args.output))
-    (puts_then head (line text) (sunk c.args.sink.now) (sunk c.put_phase.new.sink) (sunk c.put_pieces.new.sink)
-    c.put_pieces.result
-    c.in_ok-put_phase.ensures.bytes c.in_ok-put_phase.ensures.cause.uncounted
+    (puts_then head (line text) (sunk c.args.sink.now) (sunk c.put_phase.new.sink) (sunk c.say_two.new.sink)
+    c.say_two.result c.in_ok-put_phase.ensures.bytes c.in_ok-put_phase.ensures.cause.uncounted
     (puts_as _ _ _ _ _
-    (line_of_two (codes " input ") _ (decimal c.args.input) (codes " output ") _ (decimal c.args.output)
-    (front_is _ _ _ _ c.digits-row_count.ensures.count c.digits-row_count.ensures.text ∙ ap decimal c.from.ensures)
-    (front_is _ _ _ _ c.digits-column_count.ensures.count c.digits-column_count.ensures.text
-    ∙ ap decimal c.from-2.ensures)) c.put_pieces.ensures))
+    (ap (λ (n : ℕ). line (codes " input " ++ decimal n ++ codes " output " ++ decimal c.from-2.result)) c.from.ensures
+    ∙ ap (λ (n : ℕ). line (codes " input " ++ decimal c.args.input ++ codes " output " ++ decimal n)) c.from-2.ensures)
+    c.say_two.ensures))

@@ -1,4 +1,4 @@
-use Rattle.std.proofs.Common.{◌≡◌, ◌∙◌, ap, map, string_bytes, subst, sym}
+use Rattle.std.proofs.Common.{◌∙◌, map, string_bytes, subst, sym}
 use Rattle.std.specs.Prelude.{Option, Some}
 use Rattle.cq_words.specs.declared.command.Command.{Command}
 use Rattle.cq_words.specs.declared.command.Command.TheVariants.{Run}
