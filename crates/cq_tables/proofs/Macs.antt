@@ -144,27 +144,26 @@ pub apart_none : (ports : ℕ) (vs : List Value) → Walked_apart ports vs 0 [] 
 apart_none ports vs =
     record { walked = walked_none _ _ _ _; knows = λ q. refl; differ = λ i j d e small less. absurd (omega arith) }
 
-pub apart_more : (ports : ℕ) (vs : List Value) (i : ℕ) (known after : List (List ℕ)) (rows : List AddressRow)
-    (v : Value) (row : AddressRow) → i < length vs → v ≡ get_or vs i v
-    → element_check Addresses (λ _. address_keys ports known) i (view v) ≡ None →
-    row ≡ address_row (members (view v)) → row.output < ports → is_new known row.mac ≡ true
-    → ((q : List ℕ) → has after q ≡ (bytes_eq q row.mac || has known q)) → Walked_apart ports vs i known rows →
-    Walked_apart ports vs (i + 1) after (rows ++ row ∷ [])
-apart_more ports vs i known after rows v row small is held reads below fresh added w = record {
-  walked =
-      walked_more _ _ _ _ _ _ v row small is (sym (same_at ports i vs (view v) known rows w) ∙ held) reads below
-      w.walked;
-  knows = λ q. added q ∙ (ap (λ (b : Bool). bytes_eq q row.mac || b) (w.knows q) ∙ sym (has_last rows row q));
-  differ =
-      all_pairs_push (λ (a b : AddressRow). a.mac ≢ b.mac) rows row w.differ
-      (others rows row.mac (sym (w.knows row.mac) ∙ not_false (has known row.mac) fresh));
-}
+module _ {ports : ℕ} {vs : List Value} {i : ℕ} {known : List (List ℕ)} {rows : List AddressRow}
+    (w : Walked_apart ports vs i known rows) where
+  pub apart_more : {known_after : List (List ℕ)} {after : List AddressRow} (v : Value) {row : AddressRow} →
+      i < length vs → v ≡ get_or vs i v → element_check Addresses (λ _. address_keys ports known) i (view v) ≡ None →
+      row ≡ address_row (members (view v)) → row.output < ports → is_new known row.mac ≡ true
+      → ((q : List ℕ) → has known_after q ≡ (bytes_eq q row.mac || has known q)) → after ≡ rows ++ row ∷ [] →
+      Walked_apart ports vs (i + 1) known_after after
+  apart_more v {row} small is held reads below fresh added pushed = rw pushed (record {
+    walked =
+        walked_more w.walked v small is (sym (same_at ports i vs (view v) known rows w) ∙ held) reads below refl;
+    knows = λ q. added q ∙ (ap (λ (b : Bool). bytes_eq q row.mac || b) (w.knows q) ∙ sym (has_last rows row q));
+    differ =
+        all_pairs_push (λ (a b : AddressRow). a.mac ≢ b.mac) rows row w.differ
+        (others rows row.mac (sym (w.knows row.mac) ∙ not_false (has known row.mac) fresh));
+  })
 
-pub apart_stop : {B : Type 0} (r : Result B TableRefusal) (ports : ℕ) (vs : List Value) (i : ℕ)
-    (known : List (List ℕ)) (rows : List AddressRow) (v : Value) → i < length vs → v ≡ get_or vs i v
-    → IfErr r (Refuses (element_check Addresses (λ _. address_keys ports known) i (view v))) →
-    Walked_apart ports vs i known rows → IfErr r (Refuses (first (each (address_check ports vs) 0 (map view vs))))
-apart_stop r ports vs i known rows v small is told w =
-    let told_here : IfErr r (Refuses (address_check ports vs i (view v))) =
-    rw (same_at ports i vs (view v) known rows w) at told in
-    walked_stop r _ _ _ _ _ _ v small is told_here w.walked
+  pub apart_stop : {B : Type 0} (r : Result B TableRefusal) (v : Value) → i < length vs → v ≡ get_or vs i v
+      → IfErr r (Refuses (element_check Addresses (λ _. address_keys ports known) i (view v))) →
+      IfErr r (Refuses (first (each (address_check ports vs) 0 (map view vs))))
+  apart_stop r v small is told =
+      let told_here : IfErr r (Refuses (address_check ports vs i (view v))) =
+      rw (same_at ports i vs (view v) known rows w) at told in
+      walked_stop w.walked r v small is told_here

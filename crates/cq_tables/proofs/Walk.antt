@@ -60,32 +60,28 @@ module _ {A : Type 0} where
       Walked check row P vs 0 []
   walked_none check row P vs = record { checked = refl; read = refl; kept = λ k d h. absurd (omega arith) }
 
-  pub walked_more : (check : ℕ → Data → Check) (row : Members → A) (P : A → Type 0) (vs : List Value) (i : ℕ)
-      (rows : List A) (v : Value) (x : A) → i < length vs → v ≡ get_or vs i v
-      → check i (view v) ≡ None → x ≡ row (members (view v)) → P x → Walked check row P vs i rows →
-      Walked check row P vs (i + 1) (rows ++ x ∷ [])
-  walked_more check row P vs i rows v x small is held reads p w =
-      let holds : check i (view (get_or vs i v)) ≡ None = ap (λ (u : Value). check i (view u)) (sym is) ∙ held in
-      rw add-one (record {
-        checked = w.checked ∙ (ap first (each_drop check vs i i v small) ∙ first_on _ _ holds);
-        read =
-            ap (λ (t : List A). t ++ x ∷ []) w.read
-            ∙ (ap (λ (y : A). rows_of row (take i vs) ++ y ∷ [])
-            (reads ∙ ap (λ (u : Value). row (members (view u))) is) ∙ sym (rows_more row vs i v small));
-        kept = kept_more P rows x w.kept p;
-      })
+  module _ {check : ℕ → Data → Check} {row : Members → A} {P : A → Type 0} {vs : List Value} {i : ℕ} {rows : List A}
+      (w : Walked check row P vs i rows) where
+    pub walked_more : {after : List A} (v : Value) {x : A} → i < length vs → v ≡ get_or vs i v
+        → check i (view v) ≡ None → x ≡ row (members (view v)) → P x → after ≡ rows ++ x ∷ [] →
+        Walked check row P vs (i + 1) after
+    walked_more v {x} small is held reads p pushed =
+        let holds : check i (view (get_or vs i v)) ≡ None = ap (λ (u : Value). check i (view u)) (sym is) ∙ held in
+        rw (pushed, add-one) (record {
+          checked = w.checked ∙ (ap first (each_drop check vs i i v small) ∙ first_on _ _ holds);
+          read =
+              ap (λ (t : List A). t ++ x ∷ []) w.read
+              ∙ (ap (λ (y : A). rows_of row (take i vs) ++ y ∷ [])
+              (reads ∙ ap (λ (u : Value). row (members (view u))) is) ∙ sym (rows_more row vs i v small));
+          kept = kept_more P rows x w.kept p;
+        })
 
-  pub walked_stop : {B : Type 0} (r : Result B TableRefusal) (check : ℕ → Data → Check) (row : Members → A)
-      (P : A → Type 0) (vs : List Value) (i : ℕ) (rows : List A) (v : Value) → i < length vs → v ≡ get_or vs i v
-      → IfErr r (Refuses (check i (view v))) → Walked check row P vs i rows →
-      IfErr r (Refuses (first (each check 0 (map view vs))))
-  walked_stop r check row P vs i rows v small is told w =
-      rw (w.checked, each_drop check vs i i v small) (here r _ _ (rw (sym is) told))
+    pub walked_stop : {B : Type 0} (r : Result B TableRefusal) (v : Value) → i < length vs → v ≡ get_or vs i v
+        → IfErr r (Refuses (check i (view v))) → IfErr r (Refuses (first (each check 0 (map view vs))))
+    walked_stop r v small is told = rw (w.checked, each_drop check vs i i v small) (here r _ _ (rw (sym is) told))
 
-  pub walked_held : (check : ℕ → Data → Check) (row : Members → A) (P : A → Type 0) (vs : List Value) (i : ℕ)
-      (rows : List A) → length vs ≤ i → Walked check row P vs i rows → first (each check 0 (map view vs)) ≡ None
-  walked_held check row P vs i rows past w = w.checked ∙ (ap first (each_past check vs i i past) ∙ first_none)
+    pub walked_held : length vs ≤ i → first (each check 0 (map view vs)) ≡ None
+    walked_held past = w.checked ∙ (ap first (each_past check vs i i past) ∙ first_none)
 
-  pub walked_read : (check : ℕ → Data → Check) (row : Members → A) (P : A → Type 0) (vs : List Value) (i : ℕ)
-      (rows : List A) → length vs ≤ i → Walked check row P vs i rows → rows ≡ rows_of row vs
-  walked_read check row P vs i rows past w = w.read ∙ rows_past row vs i past
+    pub walked_read : length vs ≤ i → rows ≡ rows_of row vs
+    walked_read past = w.read ∙ rows_past row vs i past

@@ -327,12 +327,16 @@ apart_from earlier [] = []
 apart_from earlier (n ∷ names) =
     at n.path (unless (not (list_any (clash n) earlier)) DuplicateFile) ∷ apart_from (earlier ++ n ∷ []) names
 
+-- the defaults of these figures are there, among so many ports and classes
+abbrev pub default_checks_of : Figures → ℕ → ℕ → List Check
+default_checks_of figures ports classes =
+    is_there (codes "default_output") figures.default_output ports
+    ∷ is_there (codes "default_class") figures.default_class classes
+    ∷ []
+
 -- the defaults are there
 abbrev pub default_checks : Members → List Check
-default_checks top =
-    is_there (codes "default_output") (found_or 0 integer_value (codes "default_output") top) (ports_in top)
-    ∷ is_there (codes "default_class") (found_or 0 integer_value (codes "default_class") top) (classes_in top)
-    ∷ []
+default_checks top = default_checks_of (figures_of top) (ports_in top) (classes_in top)
 
 -- no file is named twice
 abbrev pub file_check : Tables → Check

@@ -24,18 +24,24 @@ use toml::Value;
 // Adds the address, and says whether it is new.
 fn is_added(known: &mut BTreeSet<[u8; 6]>, mac: [u8; 6]) -> Result<bool, NoMemory>
     ensures new { IfOk result (λ added. added ≡ is_new known.old.keys mac) }
-    ensures known { IfOk result (λ _. (q : List ℕ) → list_any (bytes_eq q) known.new.keys ≡ (bytes_eq q mac || list_any (bytes_eq q) known.old.keys)) }
+    ensures known { IfOk result (λ _. (q : List ℕ) → list_any (bytes_eq q) known.new.keys
+        ≡ (bytes_eq q mac || list_any (bytes_eq q) known.old.keys)) }
 {
     Ok(known.insert(mac)?)
 }
 
 // The address at the key `mac`, which is none of the known ones. It is known then.
 fn new_address(entries: Entries, known: &mut BTreeSet<[u8; 6]>) -> Result<[u8; 6], TableRefusal>
-    ensures held { IfOk result (λ _. key_check entries.entry.place (codes "mac") (required (and_then address address_value (is_new known.old.keys) DuplicateAddress)) (table_view entries.entry.table.now) ≡ None) }
+    ensures held { IfOk result (λ _. key_check entries.entry.place (codes "mac")
+        (required (and_then address address_value (is_new known.old.keys) DuplicateAddress))
+        (table_view entries.entry.table.now) ≡ None) }
     ensures value { IfOk result (λ mac. mac ≡ mac_in (table_view entries.entry.table.now)) }
     ensures fresh { IfOk result (λ mac. is_new known.old.keys mac ≡ true) }
-    ensures known { IfOk result (λ mac. (q : List ℕ) → list_any (bytes_eq q) known.new.keys ≡ (bytes_eq q mac || list_any (bytes_eq q) known.old.keys)) }
-    ensures refused { IfErr result (Refuses (key_check entries.entry.place (codes "mac") (required (and_then address address_value (is_new known.old.keys) DuplicateAddress)) (table_view entries.entry.table.now))) }
+    ensures known { IfOk result (λ mac. (q : List ℕ) → list_any (bytes_eq q) known.new.keys
+        ≡ (bytes_eq q mac || list_any (bytes_eq q) known.old.keys)) }
+    ensures refused { IfErr result (Refuses (key_check entries.entry.place (codes "mac")
+        (required (and_then address address_value (is_new known.old.keys) DuplicateAddress))
+        (table_view entries.entry.table.now))) }
 {
     let Some(value) = value_at(entries.table, "mac") else {
         return Err(entries.refuse("mac", Wrong::Missing));
@@ -61,12 +67,15 @@ fn address_row(
     ports: usize,
     known: &mut BTreeSet<[u8; 6]>,
 ) -> Result<AddressRow, TableRefusal>
-    ensures held { IfOk result (λ _. first (table_checks entries.entry.place (address_keys ports known.old.keys entries.entry.place) (table_view entries.entry.table.now)) ≡ None) }
+    ensures held { IfOk result (λ _. first (table_checks entries.entry.place
+        (address_keys ports known.old.keys entries.entry.place) (table_view entries.entry.table.now)) ≡ None) }
     ensures value { IfOk result (λ row. row ≡ address_row (table_view entries.entry.table.now)) }
     ensures output { IfOk result (λ row. row.output < ports) }
     ensures fresh { IfOk result (λ row. is_new known.old.keys row.mac ≡ true) }
-    ensures known { IfOk result (λ row. (q : List ℕ) → list_any (bytes_eq q) known.new.keys ≡ (bytes_eq q row.mac || list_any (bytes_eq q) known.old.keys)) }
-    ensures refused { IfErr result (Refuses (first (table_checks entries.entry.place (address_keys ports known.old.keys entries.entry.place) (table_view entries.entry.table.now)))) }
+    ensures known { IfOk result (λ row. (q : List ℕ) → list_any (bytes_eq q) known.new.keys
+        ≡ (bytes_eq q row.mac || list_any (bytes_eq q) known.old.keys)) }
+    ensures refused { IfErr result (Refuses (first (table_checks entries.entry.place
+        (address_keys ports known.old.keys entries.entry.place) (table_view entries.entry.table.now)))) }
 {
     entries.only(&ADDRESS_KEYS)?;
     let mac = new_address(entries, known)?;
@@ -83,12 +92,15 @@ fn address_in(
     ports: usize,
     known: &mut BTreeSet<[u8; 6]>,
 ) -> Result<AddressRow, TableRefusal>
-    ensures held { IfOk result (λ _. element_check Array.Addresses (λ _. address_keys ports known.old.keys) index (view value.now) ≡ None) }
+    ensures held { IfOk result (λ _. element_check Array.Addresses (λ _. address_keys ports known.old.keys) index
+        (view value.now) ≡ None) }
     ensures value { IfOk result (λ row. row ≡ address_row (members (view value.now))) }
     ensures output { IfOk result (λ row. row.output < ports) }
     ensures fresh { IfOk result (λ row. is_new known.old.keys row.mac ≡ true) }
-    ensures known { IfOk result (λ row. (q : List ℕ) → list_any (bytes_eq q) known.new.keys ≡ (bytes_eq q row.mac || list_any (bytes_eq q) known.old.keys)) }
-    ensures refused { IfErr result (Refuses (element_check Array.Addresses (λ _. address_keys ports known.old.keys) index (view value.now))) }
+    ensures known { IfOk result (λ row. (q : List ℕ) → list_any (bytes_eq q) known.new.keys
+        ≡ (bytes_eq q row.mac || list_any (bytes_eq q) known.old.keys)) }
+    ensures refused { IfErr result (Refuses (element_check Array.Addresses (λ _. address_keys ports known.old.keys)
+        index (view value.now))) }
 {
     let entries = element(alloc, Array::Addresses, index, value)?;
     address_row(entries, ports, known)
@@ -100,11 +112,15 @@ pub fn address_rows(
     values: &[Value],
     ports: usize,
 ) -> Result<Vec<AddressRow>, TableRefusal>
-    ensures held { IfOk result (λ _. first (each (element_check Array.Addresses (λ i. address_keys ports (take i (map mac_in (map members (map view values.now)))))) 0 (map view values.now)) ≡ None) }
+    ensures held { IfOk result (λ _. first (each (element_check Array.Addresses
+        (λ i. address_keys ports (take i (map mac_in (map members (map view values.now)))))) 0 (map view values.now))
+        ≡ None) }
     ensures value { IfOk result (λ rows. rows.items ≡ map address_row (map members (map view values.now))) }
     ensures outputs { IfOk result (λ rows. All (λ row. row.output < ports) rows.items) }
     ensures differ { IfOk result (λ rows. AllPairs (λ a b. a.mac ≢ b.mac) rows.items) }
-    ensures refused { IfErr result (Refuses (first (each (element_check Array.Addresses (λ i. address_keys ports (take i (map mac_in (map members (map view values.now)))))) 0 (map view values.now)))) }
+    ensures refused { IfErr result (Refuses
+        (first (each (element_check Array.Addresses (λ i. address_keys ports
+        (take i (map mac_in (map members (map view values.now)))))) 0 (map view values.now)))) }
 {
     let mut known = BTreeSet::new(alloc);
     let mut rows = Vec::new(alloc);

@@ -2,7 +2,8 @@
 ghost use Rattle.std.specs.Prelude.{◌≡◌, ◌≤◌, ◌<◌, None, IfOk, IfErr, IfSome, All, map};
 ghost use Rattle.toml.specs.View.{view};
 ghost use Rattle.cq_tables.specs.Check.{Refuses, each, first};
-ghost use Rattle.cq_tables.specs.Document.{class_keys, class_row, element_check, port_keys, port_kind, port_limit, port_row, rule_keys, rule_row};
+ghost use Rattle.cq_tables.specs.Document.{class_keys, class_row, element_check, port_keys, port_kind, port_limit};
+ghost use Rattle.cq_tables.specs.Document.{port_row, rule_keys, rule_row};
 ghost use Rattle.cq_tables.specs.Value.{members};
 
 use crate::place::Array;
@@ -22,11 +23,13 @@ fn class_in(
     value: &Value,
     version: Version,
 ) -> Result<ClassRow, TableRefusal>
-    ensures held { IfOk result (λ _. element_check Array.Classes (λ _. class_keys version) index (view value.now) ≡ None) }
+    ensures held { IfOk result (λ _. element_check Array.Classes (λ _. class_keys version) index (view value.now)
+        ≡ None) }
     ensures value { IfOk result (λ row. row ≡ class_row version (members (view value.now))) }
     ensures level { IfOk result (λ row. row.level < 16) }
     ensures cost { IfOk result (λ row. 1 ≤ row.cost) }
-    ensures refused { IfErr result (Refuses (element_check Array.Classes (λ _. class_keys version) index (view value.now))) }
+    ensures refused { IfErr result (Refuses (element_check Array.Classes (λ _. class_keys version) index
+        (view value.now))) }
 {
     let entries = element(alloc, Array::Classes, index, value)?;
     class_row(entries, version)
@@ -38,11 +41,13 @@ pub fn class_rows(
     values: &[Value],
     version: Version,
 ) -> Result<Vec<ClassRow>, TableRefusal>
-    ensures held { IfOk result (λ _. first (each (element_check Array.Classes (λ _. class_keys version)) 0 (map view values.now)) ≡ None) }
+    ensures held { IfOk result (λ _. first (each (element_check Array.Classes (λ _. class_keys version)) 0
+        (map view values.now)) ≡ None) }
     ensures value { IfOk result (λ rows. rows.items ≡ map (class_row version) (map members (map view values.now))) }
     ensures levels { IfOk result (λ rows. All (λ row. row.level < 16) rows.items) }
     ensures costs { IfOk result (λ rows. All (λ row. 1 ≤ row.cost) rows.items) }
-    ensures refused { IfErr result (Refuses (first (each (element_check Array.Classes (λ _. class_keys version)) 0 (map view values.now)))) }
+    ensures refused { IfErr result (Refuses (first (each (element_check Array.Classes (λ _. class_keys version)) 0
+        (map view values.now)))) }
 {
     let mut rows = Vec::new(alloc);
     'classes: for (index, value) in values.iter().enumerate() {
@@ -61,11 +66,13 @@ fn rule_in(
     ports: usize,
     classes: usize,
 ) -> Result<RuleRow, TableRefusal>
-    ensures held { IfOk result (λ _. element_check Array.Rules (λ _. rule_keys ports classes) index (view value.now) ≡ None) }
+    ensures held { IfOk result (λ _. element_check Array.Rules (λ _. rule_keys ports classes) index (view value.now)
+        ≡ None) }
     ensures value { IfOk result (λ row. row ≡ rule_row (members (view value.now))) }
     ensures input { IfOk result (λ row. IfSome row.input (λ input. input < ports)) }
     ensures class { IfOk result (λ row. row.class < classes) }
-    ensures refused { IfErr result (Refuses (element_check Array.Rules (λ _. rule_keys ports classes) index (view value.now))) }
+    ensures refused { IfErr result (Refuses (element_check Array.Rules (λ _. rule_keys ports classes) index
+        (view value.now))) }
 {
     let entries = element(alloc, Array::Rules, index, value)?;
     rule_row(entries, ports, classes)
@@ -78,11 +85,13 @@ pub fn rule_rows(
     ports: usize,
     classes: usize,
 ) -> Result<Vec<RuleRow>, TableRefusal>
-    ensures held { IfOk result (λ _. first (each (element_check Array.Rules (λ _. rule_keys ports classes)) 0 (map view values.now)) ≡ None) }
+    ensures held { IfOk result (λ _. first (each (element_check Array.Rules (λ _. rule_keys ports classes)) 0
+        (map view values.now)) ≡ None) }
     ensures value { IfOk result (λ rows. rows.items ≡ map rule_row (map members (map view values.now))) }
     ensures inputs { IfOk result (λ rows. All (λ row. IfSome row.input (λ input. input < ports)) rows.items) }
     ensures classes { IfOk result (λ rows. All (λ row. row.class < classes) rows.items) }
-    ensures refused { IfErr result (Refuses (first (each (element_check Array.Rules (λ _. rule_keys ports classes)) 0 (map view values.now)))) }
+    ensures refused { IfErr result (Refuses (first (each (element_check Array.Rules (λ _. rule_keys ports classes)) 0
+        (map view values.now)))) }
 {
     let mut rows = Vec::new(alloc);
     'rules: for (index, value) in values.iter().enumerate() {
@@ -116,12 +125,14 @@ pub struct PortEntries {
 
 /// The ports that the elements tell.
 pub fn port_rows(alloc: Global, values: &[Value]) -> Result<PortEntries, TableRefusal>
-    ensures held { IfOk result (λ _. first (each (element_check Array.Ports (λ _. port_keys)) 0 (map view values.now)) ≡ None) }
+    ensures held { IfOk result (λ _. first (each (element_check Array.Ports (λ _. port_keys)) 0 (map view values.now))
+        ≡ None) }
     ensures files { IfOk result (λ ports. ports.files.items ≡ map port_row (map members (map view values.now))) }
     ensures kinds { IfOk result (λ ports. ports.kinds.items ≡ map port_kind (map members (map view values.now))) }
     ensures limits { IfOk result (λ ports. ports.limits.items ≡ map port_limit (map members (map view values.now))) }
     ensures range { IfOk result (λ ports. All (λ limit. IfSome limit (λ n. 1 ≤ n)) ports.limits.items) }
-    ensures refused { IfErr result (Refuses (first (each (element_check Array.Ports (λ _. port_keys)) 0 (map view values.now)))) }
+    ensures refused { IfErr result (Refuses (first (each (element_check Array.Ports (λ _. port_keys)) 0
+        (map view values.now)))) }
 {
     let mut files = Vec::new(alloc);
     let mut kinds = Vec::new(alloc);

@@ -7,7 +7,8 @@ ghost use Rattle.cq_tables.specs.Check.{Refuses, at};
 ghost use Rattle.cq_tables.specs.Document.{elements_at, number_below};
 ghost use Rattle.cq_tables.specs.Key.{found, found_or, key_check, optional, required};
 ghost use Rattle.cq_tables.specs.Place.{path};
-ghost use Rattle.cq_tables.specs.Value.{array_of, discipline, file_name, integer_in, integer_value, kind_value, text_value, wide_from, wide_value};
+ghost use Rattle.cq_tables.specs.Value.{array_of, discipline, file_name, integer_in, integer_value, kind_value};
+ghost use Rattle.cq_tables.specs.Value.{text_value, wide_from, wide_value};
 
 use crate::place::Place;
 use crate::refusal::{TableRefusal, Wrong, refusal};
@@ -34,10 +35,12 @@ impl<'a> Entries<'a> {
 
     /// The integer at a key that may be left out.
     pub fn integer(self, key: &str, least: u64, most: u64) -> Result<Option<u64>, TableRefusal>
-        ensures held { IfOk result (λ _. key_check self.entry.place key.now (optional (integer_in least most)) (table_view self.entry.table.now) ≡ None) }
+        ensures held { IfOk result (λ _. key_check self.entry.place key.now (optional (integer_in least most))
+            (table_view self.entry.table.now) ≡ None) }
         ensures value { IfOk result (λ n. n ≡ found integer_value key.now (table_view self.entry.table.now)) }
         ensures range { IfOk result (λ n. IfSome n (IsInRange least most)) }
-        ensures refused { IfErr result (Refuses (key_check self.entry.place key.now (optional (integer_in least most)) (table_view self.entry.table.now))) }
+        ensures refused { IfErr result (Refuses (key_check self.entry.place key.now (optional (integer_in least most))
+            (table_view self.entry.table.now))) }
     {
         match value_at(self.table, key) {
             None => Ok(None),
@@ -57,10 +60,13 @@ impl<'a> Entries<'a> {
         default: u64,
     ) -> Result<u64, TableRefusal>
         requires { IsInRange least most default }
-        ensures held { IfOk result (λ _. key_check self.entry.place key.now (optional (integer_in least most)) (table_view self.entry.table.now) ≡ None) }
-        ensures value { IfOk result (λ n. n ≡ found_or default integer_value key.now (table_view self.entry.table.now)) }
+        ensures held { IfOk result (λ _. key_check self.entry.place key.now (optional (integer_in least most))
+            (table_view self.entry.table.now) ≡ None) }
+        ensures value { IfOk result (λ n. n ≡ found_or default integer_value key.now
+            (table_view self.entry.table.now)) }
         ensures range { IfOk result (IsInRange least most) }
-        ensures refused { IfErr result (Refuses (key_check self.entry.place key.now (optional (integer_in least most)) (table_view self.entry.table.now))) }
+        ensures refused { IfErr result (Refuses (key_check self.entry.place key.now (optional (integer_in least most))
+            (table_view self.entry.table.now))) }
     {
         match self.integer(key, least, most)? {
             None => Ok(default),
@@ -70,10 +76,13 @@ impl<'a> Entries<'a> {
 
     /// The integer at a key that has to be there.
     pub fn required_integer(self, key: &str, least: u64, most: u64) -> Result<u64, TableRefusal>
-        ensures held { IfOk result (λ _. key_check self.entry.place key.now (required (integer_in least most)) (table_view self.entry.table.now) ≡ None) }
-        ensures value { (default : ℕ) → IfOk result (λ n. n ≡ found_or default integer_value key.now (table_view self.entry.table.now)) }
+        ensures held { IfOk result (λ _. key_check self.entry.place key.now (required (integer_in least most))
+            (table_view self.entry.table.now) ≡ None) }
+        ensures value { (default : ℕ) → IfOk result (λ n. n ≡ found_or default integer_value key.now
+            (table_view self.entry.table.now)) }
         ensures range { IfOk result (IsInRange least most) }
-        ensures refused { IfErr result (Refuses (key_check self.entry.place key.now (required (integer_in least most)) (table_view self.entry.table.now))) }
+        ensures refused { IfErr result (Refuses (key_check self.entry.place key.now (required (integer_in least most))
+            (table_view self.entry.table.now))) }
     {
         match value_at(self.table, key) {
             None => Err(self.refuse(key, Wrong::Missing)),
@@ -87,10 +96,12 @@ impl<'a> Entries<'a> {
     /// The wide number at a key, or else the default.
     pub fn wide_or(self, key: &str, least: u128, default: u128) -> Result<u128, TableRefusal>
         requires { least ≤ default }
-        ensures held { IfOk result (λ _. key_check self.entry.place key.now (optional (wide_from least)) (table_view self.entry.table.now) ≡ None) }
+        ensures held { IfOk result (λ _. key_check self.entry.place key.now (optional (wide_from least))
+            (table_view self.entry.table.now) ≡ None) }
         ensures value { IfOk result (λ n. n ≡ found_or default wide_value key.now (table_view self.entry.table.now)) }
         ensures range { IfOk result (λ n. least ≤ n) }
-        ensures refused { IfErr result (Refuses (key_check self.entry.place key.now (optional (wide_from least)) (table_view self.entry.table.now))) }
+        ensures refused { IfErr result (Refuses (key_check self.entry.place key.now (optional (wide_from least))
+            (table_view self.entry.table.now))) }
     {
         match value_at(self.table, key) {
             None => Ok(default),
@@ -103,9 +114,11 @@ impl<'a> Entries<'a> {
 
     /// The file name at a key that may be left out.
     pub fn file(self, key: &str) -> Result<Option<Name>, TableRefusal>
-        ensures held { IfOk result (λ _. key_check self.entry.place key.now (optional file_name) (table_view self.entry.table.now) ≡ None) }
+        ensures held { IfOk result (λ _. key_check self.entry.place key.now (optional file_name)
+            (table_view self.entry.table.now) ≡ None) }
         ensures value { IfOk result (λ n. n ≡ found text_value key.now (table_view self.entry.table.now)) }
-        ensures refused { IfErr result (Refuses (key_check self.entry.place key.now (optional file_name) (table_view self.entry.table.now))) }
+        ensures refused { IfErr result (Refuses (key_check self.entry.place key.now (optional file_name)
+            (table_view self.entry.table.now))) }
     {
         match value_at(self.table, key) {
             None => Ok(None),
@@ -118,9 +131,12 @@ impl<'a> Entries<'a> {
 
     /// The file name at a key that has to be there.
     pub fn required_file(self, key: &str) -> Result<Name, TableRefusal>
-        ensures held { IfOk result (λ _. key_check self.entry.place key.now (required file_name) (table_view self.entry.table.now) ≡ None) }
-        ensures value { (default : List ℕ) → IfOk result (λ n. n ≡ found_or default text_value key.now (table_view self.entry.table.now)) }
-        ensures refused { IfErr result (Refuses (key_check self.entry.place key.now (required file_name) (table_view self.entry.table.now))) }
+        ensures held { IfOk result (λ _. key_check self.entry.place key.now (required file_name)
+            (table_view self.entry.table.now) ≡ None) }
+        ensures value { (default : List ℕ) → IfOk result (λ n. n ≡ found_or default text_value key.now
+            (table_view self.entry.table.now)) }
+        ensures refused { IfErr result (Refuses (key_check self.entry.place key.now (required file_name)
+            (table_view self.entry.table.now))) }
     {
         match value_at(self.table, key) {
             None => Err(self.refuse(key, Wrong::Missing)),
@@ -133,9 +149,12 @@ impl<'a> Entries<'a> {
 
     /// The discipline at a key that may be left out.
     pub fn discipline(self, key: &str) -> Result<Kind, TableRefusal>
-        ensures held { IfOk result (λ _. key_check self.entry.place key.now (optional discipline) (table_view self.entry.table.now) ≡ None) }
-        ensures value { IfOk result (λ kind. kind ≡ found_or Kind.FirstCome kind_value key.now (table_view self.entry.table.now)) }
-        ensures refused { IfErr result (Refuses (key_check self.entry.place key.now (optional discipline) (table_view self.entry.table.now))) }
+        ensures held { IfOk result (λ _. key_check self.entry.place key.now (optional discipline)
+            (table_view self.entry.table.now) ≡ None) }
+        ensures value { IfOk result (λ kind. kind ≡ found_or Kind.FirstCome kind_value key.now
+            (table_view self.entry.table.now)) }
+        ensures refused { IfErr result (Refuses (key_check self.entry.place key.now (optional discipline)
+            (table_view self.entry.table.now))) }
     {
         match value_at(self.table, key) {
             None => Ok(Kind::FirstCome),
@@ -148,10 +167,12 @@ impl<'a> Entries<'a> {
 
     /// The port or class at a key that may be left out, by its number, which is below the count.
     pub fn number(self, key: &str, greatest: u16, count: usize) -> Result<Option<u16>, TableRefusal>
-        ensures held { IfOk result (λ _. key_check self.entry.place key.now (optional (number_below greatest count)) (table_view self.entry.table.now) ≡ None) }
+        ensures held { IfOk result (λ _. key_check self.entry.place key.now (optional (number_below greatest count))
+            (table_view self.entry.table.now) ≡ None) }
         ensures value { IfOk result (λ n. n ≡ found integer_value key.now (table_view self.entry.table.now)) }
         ensures range { IfOk result (λ n. IfSome n (λ n. n < count)) }
-        ensures refused { IfErr result (Refuses (key_check self.entry.place key.now (optional (number_below greatest count)) (table_view self.entry.table.now))) }
+        ensures refused { IfErr result (Refuses (key_check self.entry.place key.now
+            (optional (number_below greatest count)) (table_view self.entry.table.now))) }
     {
         match value_at(self.table, key) {
             None => Ok(None),
@@ -169,10 +190,13 @@ impl<'a> Entries<'a> {
         greatest: u16,
         count: usize,
     ) -> Result<u16, TableRefusal>
-        ensures held { IfOk result (λ _. key_check self.entry.place key.now (required (number_below greatest count)) (table_view self.entry.table.now) ≡ None) }
-        ensures value { (default : ℕ) → IfOk result (λ n. n ≡ found_or default integer_value key.now (table_view self.entry.table.now)) }
+        ensures held { IfOk result (λ _. key_check self.entry.place key.now (required (number_below greatest count))
+            (table_view self.entry.table.now) ≡ None) }
+        ensures value { (default : ℕ) → IfOk result (λ n. n ≡ found_or default integer_value key.now
+            (table_view self.entry.table.now)) }
         ensures range { IfOk result (λ n. n < count) }
-        ensures refused { IfErr result (Refuses (key_check self.entry.place key.now (required (number_below greatest count)) (table_view self.entry.table.now))) }
+        ensures refused { IfErr result (Refuses (key_check self.entry.place key.now
+            (required (number_below greatest count)) (table_view self.entry.table.now))) }
     {
         match value_at(self.table, key) {
             None => Err(self.refuse(key, Wrong::Missing)),
@@ -185,10 +209,13 @@ impl<'a> Entries<'a> {
 
     /// The elements of the array at a key that may be left out: none where it is.
     pub fn elements(self, key: &str, least: usize, most: usize) -> Result<&'a [Value], TableRefusal>
-        ensures held { IfOk result (λ _. key_check self.entry.place key.now (optional (array_of least most)) (table_view self.entry.table.now) ≡ None) }
-        ensures value { IfOk result (λ items. map view items.now ≡ elements_at (get_member key.now (table_view self.entry.table.now))) }
+        ensures held { IfOk result (λ _. key_check self.entry.place key.now (optional (array_of least most))
+            (table_view self.entry.table.now) ≡ None) }
+        ensures value { IfOk result (λ items. map view items.now ≡ elements_at
+            (get_member key.now (table_view self.entry.table.now))) }
         ensures range { IfOk result (λ items. length items.now ≤ most) }
-        ensures refused { IfErr result (Refuses (key_check self.entry.place key.now (optional (array_of least most)) (table_view self.entry.table.now))) }
+        ensures refused { IfErr result (Refuses (key_check self.entry.place key.now (optional (array_of least most))
+            (table_view self.entry.table.now))) }
     {
         match value_at(self.table, key) {
             None => Ok(&[]),
@@ -206,10 +233,13 @@ impl<'a> Entries<'a> {
         least: usize,
         most: usize,
     ) -> Result<&'a [Value], TableRefusal>
-        ensures held { IfOk result (λ _. key_check self.entry.place key.now (required (array_of least most)) (table_view self.entry.table.now) ≡ None) }
-        ensures value { IfOk result (λ items. map view items.now ≡ elements_at (get_member key.now (table_view self.entry.table.now))) }
+        ensures held { IfOk result (λ _. key_check self.entry.place key.now (required (array_of least most))
+            (table_view self.entry.table.now) ≡ None) }
+        ensures value { IfOk result (λ items. map view items.now ≡ elements_at
+            (get_member key.now (table_view self.entry.table.now))) }
         ensures range { IfOk result (λ items. IsInRange least most (length items.now)) }
-        ensures refused { IfErr result (Refuses (key_check self.entry.place key.now (required (array_of least most)) (table_view self.entry.table.now))) }
+        ensures refused { IfErr result (Refuses (key_check self.entry.place key.now (required (array_of least most))
+            (table_view self.entry.table.now))) }
     {
         match value_at(self.table, key) {
             None => Err(self.refuse(key, Wrong::Missing)),

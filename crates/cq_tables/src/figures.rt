@@ -30,10 +30,12 @@ pub struct Figures {
 /// The figures of the table, each in its range.
 #[tactic(auto, unfolding(crate::specs::Check::first))]
 pub fn figures_in(entries: Entries) -> Result<Figures, TableRefusal>
-    ensures held { IfOk result (λ _. first (checks_of (table_view entries.entry.table.now) (figure_keys entries.entry.place)) ≡ None) }
+    ensures held { IfOk result (λ _. first (checks_of (table_view entries.entry.table.now)
+        (figure_keys entries.entry.place)) ≡ None) }
     ensures value { IfOk result (λ figures. figures ≡ figures_of (table_view entries.entry.table.now)) }
     ensures in_range { IfOk result AreFigures }
-    ensures refused { IfErr result (Refuses (first (checks_of (table_view entries.entry.table.now) (figure_keys entries.entry.place)))) }
+    ensures refused { IfErr result (Refuses (first (checks_of (table_view entries.entry.table.now)
+        (figure_keys entries.entry.place)))) }
 {
     let version = entries.required_integer("version", FIRST_VERSION, LAST_VERSION)?;
     let cell_bytes = entries.integer_or("cell_bytes", 1, MOST_CELL_BYTES, DEFAULT_CELL_BYTES)?;

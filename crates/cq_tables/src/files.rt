@@ -40,7 +40,8 @@ fn is_named_among(file: &Name, is_read: bool, rows: &[PortRow]) -> bool
 // Whether the whole run names the file, or one of its first ports does.
 fn is_taken(tables: &Tables, count: usize, file: &Name, is_read: bool) -> bool
     requires { count ≤ length tables.now.ports }
-    ensures { result ≡ (bytes_eq file.now tables.now.trace || (bytes_eq file.now tables.now.log || list_any (is_named file.now is_read) (take count tables.now.ports))) }
+    ensures { result ≡ (bytes_eq file.now tables.now.trace ||
+        (bytes_eq file.now tables.now.log || list_any (is_named file.now is_read) (take count tables.now.ports))) }
 {
     if is_same(file, &tables.trace) || is_same(file, &tables.log) {
         return true;
@@ -88,8 +89,10 @@ fn port_files(
     row: &PortRow,
 ) -> Result<(), TableRefusal>
     requires { index ≤ length tables.now.ports }
-    ensures held { IfOk result (λ _. first (apart_from (files_before tables.now index) (names_of index row.now)) ≡ None) }
-    ensures refused { IfErr result (Refuses (first (apart_from (files_before tables.now index) (names_of index row.now)))) }
+    ensures held { IfOk result (λ _. first (apart_from (files_before tables.now index) (names_of index row.now))
+        ≡ None) }
+    ensures refused { IfErr result (Refuses (first (apart_from (files_before tables.now index)
+        (names_of index row.now)))) }
 {
     let place = Place::Element(Array::Ports, index);
     if read_is_taken(tables, index, row) {

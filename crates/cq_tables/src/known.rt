@@ -21,7 +21,8 @@ fn is_among(names: &[&str], name: &str) -> bool
 
 // The first key of the table that is none of these.
 fn first_unknown<'a>(names: &[&str], table: &'a Table) -> Option<&'a String>
-    ensures first { option_copied result ≡ find (λ key. not (list_any (λ known. bytes_eq (string_bytes key) known.now) names.now)) (keys table.now) }
+    ensures first { option_copied result ≡ find (λ key. not (list_any (λ known. bytes_eq (string_bytes key) known.now)
+        names.now)) (keys table.now) }
     ensures ordered { IsOrdered string_cmp table.now }
 {
     table.keys().find(|key| !is_among(names, key.as_str()))
@@ -40,8 +41,10 @@ fn least_unknown<'a>(names: &[&str], table: &'a Table) -> Option<&'a str>
 impl<'a> Entries<'a> {
     /// Refuses the least key that is none of these.
     pub fn only(self, names: &[&str]) -> Result<(), TableRefusal>
-        ensures held { IfOk result (λ _. no_other self.entry.place (map (λ k. k.now) names.now) (table_view self.entry.table.now) ≡ None) }
-        ensures refused { IfErr result (Refuses (no_other self.entry.place (map (λ k. k.now) names.now) (table_view self.entry.table.now))) }
+        ensures held { IfOk result (λ _. no_other self.entry.place (map (λ k. k.now) names.now)
+            (table_view self.entry.table.now) ≡ None) }
+        ensures refused { IfErr result (Refuses (no_other self.entry.place (map (λ k. k.now) names.now)
+            (table_view self.entry.table.now))) }
     {
         match least_unknown(names, self.table) {
             None => Ok(()),

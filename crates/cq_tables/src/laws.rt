@@ -9,5 +9,6 @@ ghost use Rattle.cq_tables.specs.Key.{check_of};
 /// nothing: its contract is the claim, and says no word of the other keys of a configuration.
 pub fn version_two_keeps_classes()
     ensures accepted { (top : Members) → check_of top (class_array One) ≡ None → check_of top (class_array Two) ≡ None }
-    ensures classes { (top : Members) → check_of top (class_array One) ≡ None → class_rows Two top ≡ class_rows One top }
+    ensures classes { (top : Members) → check_of top (class_array One) ≡ None → class_rows Two top ≡ class_rows One
+        top }
 {}

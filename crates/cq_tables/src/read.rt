@@ -3,11 +3,12 @@ ghost use Rattle.std.specs.Prelude.{◌≡◌, ◌<◌, ◌++◌, None, Some, Ok
 ghost use Rattle.cq_route.specs.Tables.{AreTables};
 ghost use Rattle.toml.specs.View.{table_view};
 ghost use Rattle.cq_tables.specs.Check.{Refuses, at, first, unless};
-ghost use Rattle.cq_tables.specs.Document.{IsRefusedFor, default_checks, document, is_there, read_or_refused, tables_of, top_keys, whole};
+ghost use Rattle.cq_tables.specs.Document.{IsRefusedFor, default_checks, default_checks_of, document, is_there};
+ghost use Rattle.cq_tables.specs.Document.{read_or_refused, tables_of, top_keys, whole};
 ghost use Rattle.cq_tables.specs.Key.{table_checks};
 
 use crate::entries::Entries;
-use crate::figures::figures_in;
+use crate::figures::{Figures, figures_in};
 use crate::files::files_differ;
 use crate::place::Place;
 use crate::refusal::{TableRefusal, Wrong, refusal};
@@ -46,13 +47,32 @@ fn is_there(alloc: Global, key: &str, number: u16, count: usize) -> Result<(), T
     }
 }
 
+// Refuses a default whose port or class is not there.
+#[tactic(auto, unfolding(crate::specs::Check::first))]
+fn defaults_are_there(
+    alloc: Global,
+    figures: Figures,
+    ports: usize,
+    classes: usize,
+) -> Result<(), TableRefusal>
+    ensures held { IfOk result (λ _. first (default_checks_of figures ports classes) ≡ None) }
+    ensures output { IfOk result (λ _. figures.default_output < ports) }
+    ensures class { IfOk result (λ _. figures.default_class < classes) }
+    ensures refused { IfErr result (Refuses (first (default_checks_of figures ports classes))) }
+{
+    is_there(alloc, "default_output", figures.default_output, ports)?;
+    is_there(alloc, "default_class", figures.default_class, classes)
+}
+
 // The tables of a document, by all checks but that on its files.
 #[tactic(auto, unfolding(crate::specs::Document::tables_of))]
 fn tables_in(alloc: Global, top: &Table) -> Result<Tables, TableRefusal>
-    ensures held { IfOk result (λ _. first (table_checks Place.Top (top_keys (table_view top.now)) (table_view top.now) ++ default_checks (table_view top.now)) ≡ None) }
+    ensures held { IfOk result (λ _. first (table_checks Place.Top (top_keys (table_view top.now)) (table_view top.now)
+        ++ default_checks (table_view top.now)) ≡ None) }
     ensures value { IfOk result (λ tables. tables ≡ tables_of (table_view top.now)) }
     ensures in_range { IfOk result AreTables }
-    ensures refused { IfErr result (Refuses (first (table_checks Place.Top (top_keys (table_view top.now)) (table_view top.now) ++ default_checks (table_view top.now)))) }
+    ensures refused { IfErr result (Refuses (first (table_checks Place.Top (top_keys (table_view top.now))
+        (table_view top.now) ++ default_checks (table_view top.now)))) }
 {
     let place = Place::Top;
     let entries = Entries {
@@ -69,13 +89,7 @@ fn tables_in(alloc: Global, top: &Table) -> Result<Tables, TableRefusal>
     let port_count = port_rows.files.len();
     let address_rows = addresses(alloc, top, port_count)?;
     let rule_rows = rules(alloc, top, port_count, class_rows.len())?;
-    is_there(alloc, "default_output", figures.default_output, port_count)?;
-    is_there(
-        alloc,
-        "default_class",
-        figures.default_class,
-        class_rows.len(),
-    )?;
+    defaults_are_there(alloc, figures, port_count, class_rows.len())?;
     Ok(Tables {
         cell_bytes: figures.cell_bytes,
         slot_ns: figures.slot_ns,

@@ -2,7 +2,8 @@
 ghost use Rattle.std.specs.Prelude.{◌≡◌, ◌≤◌, ◌<◌, None, IfOk, IfErr, IfSome, map};
 ghost use Rattle.toml.specs.View.{view, table_view};
 ghost use Rattle.cq_tables.specs.Check.{Refuses, at, first};
-ghost use Rattle.cq_tables.specs.Document.{class_keys, class_row, level_in, level_keys, port_keys, port_kind, port_limit, port_row, rule_keys, rule_row};
+ghost use Rattle.cq_tables.specs.Document.{class_keys, class_row, level_in, level_keys, port_keys, port_kind};
+ghost use Rattle.cq_tables.specs.Document.{port_limit, port_row, rule_keys, rule_row};
 ghost use Rattle.cq_tables.specs.Key.{checks_of, no_other, table_checks};
 ghost use Rattle.cq_tables.specs.Place.{element_path};
 ghost use Rattle.cq_tables.specs.Value.{members, table_type};
@@ -48,8 +49,10 @@ const LEVELLED_CLASS_KEYS: [&str; 3] = ["priority", "cost", "level"];
 
 // Refuses a key that no class has in this version.
 fn only_class_keys(entries: Entries, version: Version) -> Result<(), TableRefusal>
-    ensures held { IfOk result (λ _. no_other entries.entry.place (map (λ k. k.name) (class_keys version entries.entry.place)) (table_view entries.entry.table.now) ≡ None) }
-    ensures refused { IfErr result (Refuses (no_other entries.entry.place (map (λ k. k.name) (class_keys version entries.entry.place)) (table_view entries.entry.table.now))) }
+    ensures held { IfOk result (λ _. no_other entries.entry.place
+        (map (λ k. k.name) (class_keys version entries.entry.place)) (table_view entries.entry.table.now) ≡ None) }
+    ensures refused { IfErr result (Refuses (no_other entries.entry.place
+        (map (λ k. k.name) (class_keys version entries.entry.place)) (table_view entries.entry.table.now))) }
 {
     match version {
         Version::One => entries.only(&CLASS_KEYS),
@@ -60,10 +63,12 @@ fn only_class_keys(entries: Entries, version: Version) -> Result<(), TableRefusa
 // The level that a class states.
 #[tactic(auto, unfolding(crate::specs::Check::first))]
 fn stated_level(entries: Entries) -> Result<u8, TableRefusal>
-    ensures held { IfOk result (λ _. first (checks_of (table_view entries.entry.table.now) (level_keys Version.Two entries.entry.place)) ≡ None) }
+    ensures held { IfOk result (λ _. first (checks_of (table_view entries.entry.table.now)
+        (level_keys Version.Two entries.entry.place)) ≡ None) }
     ensures value { IfOk result (λ level. level ≡ level_in Version.Two (table_view entries.entry.table.now)) }
     ensures few { IfOk result (λ level. level < 16) }
-    ensures refused { IfErr result (Refuses (first (checks_of (table_view entries.entry.table.now) (level_keys Version.Two entries.entry.place)))) }
+    ensures refused { IfErr result (Refuses (first (checks_of (table_view entries.entry.table.now)
+        (level_keys Version.Two entries.entry.place)))) }
 {
     let level = entries.integer_or("level", 0, GREATEST_LEVEL, DEFAULT_LEVEL)?;
     Ok(level as u8)
@@ -72,10 +77,12 @@ fn stated_level(entries: Entries) -> Result<u8, TableRefusal>
 // The level of a class, which is stated in version 2 alone.
 #[tactic(auto, unfolding(crate::specs::Check::first))]
 fn level_in(entries: Entries, version: Version) -> Result<u8, TableRefusal>
-    ensures held { IfOk result (λ _. first (checks_of (table_view entries.entry.table.now) (level_keys version entries.entry.place)) ≡ None) }
+    ensures held { IfOk result (λ _. first (checks_of (table_view entries.entry.table.now)
+        (level_keys version entries.entry.place)) ≡ None) }
     ensures value { IfOk result (λ level. level ≡ level_in version (table_view entries.entry.table.now)) }
     ensures few { IfOk result (λ level. level < 16) }
-    ensures refused { IfErr result (Refuses (first (checks_of (table_view entries.entry.table.now) (level_keys version entries.entry.place)))) }
+    ensures refused { IfErr result (Refuses (first (checks_of (table_view entries.entry.table.now)
+        (level_keys version entries.entry.place)))) }
 {
     match version {
         Version::One => Ok(0),
@@ -86,11 +93,13 @@ fn level_in(entries: Entries, version: Version) -> Result<u8, TableRefusal>
 /// The row of a class.
 #[tactic(auto, unfolding(crate::specs::Check::first))]
 pub fn class_row(entries: Entries, version: Version) -> Result<ClassRow, TableRefusal>
-    ensures held { IfOk result (λ _. first (table_checks entries.entry.place (class_keys version entries.entry.place) (table_view entries.entry.table.now)) ≡ None) }
+    ensures held { IfOk result (λ _. first (table_checks entries.entry.place (class_keys version entries.entry.place)
+        (table_view entries.entry.table.now)) ≡ None) }
     ensures value { IfOk result (λ row. row ≡ class_row version (table_view entries.entry.table.now)) }
     ensures level { IfOk result (λ row. row.level < 16) }
     ensures cost { IfOk result (λ row. 1 ≤ row.cost) }
-    ensures refused { IfErr result (Refuses (first (table_checks entries.entry.place (class_keys version entries.entry.place) (table_view entries.entry.table.now)))) }
+    ensures refused { IfErr result (Refuses (first (table_checks entries.entry.place
+        (class_keys version entries.entry.place) (table_view entries.entry.table.now)))) }
 {
     only_class_keys(entries, version)?;
     let priority = entries.wide_or("priority", 0, DEFAULT_PRIORITY)?;
@@ -114,14 +123,16 @@ pub struct PortEntry {
 }
 
 /// The files, the discipline and the limit of a port.
-#[tactic(auto, unfolding(crate::specs::Check::first, crate::specs::Document::port_keys))]
+#[tactic(auto, using(crate::proofs::Values::least_of), unfolding(crate::specs::Check::first, crate::specs::Document::port_keys, crate::specs::Key::least_unknown))]
 pub fn port_entry(entries: Entries) -> Result<PortEntry, TableRefusal>
-    ensures held { IfOk result (λ _. first (table_checks entries.entry.place (port_keys entries.entry.place) (table_view entries.entry.table.now)) ≡ None) }
+    ensures held { IfOk result (λ _. first (table_checks entries.entry.place (port_keys entries.entry.place)
+        (table_view entries.entry.table.now)) ≡ None) }
     ensures files { IfOk result (λ port. port.files ≡ port_row (table_view entries.entry.table.now)) }
     ensures kind { IfOk result (λ port. port.kind ≡ port_kind (table_view entries.entry.table.now)) }
     ensures limit { IfOk result (λ port. port.limit ≡ port_limit (table_view entries.entry.table.now)) }
     ensures range { IfOk result (λ port. IfSome port.limit (λ n. 1 ≤ n)) }
-    ensures refused { IfErr result (Refuses (first (table_checks entries.entry.place (port_keys entries.entry.place) (table_view entries.entry.table.now)))) }
+    ensures refused { IfErr result (Refuses (first (table_checks entries.entry.place (port_keys entries.entry.place)
+        (table_view entries.entry.table.now)))) }
 {
     entries.only(&PORT_KEYS)?;
     let read = entries.file("read")?;
@@ -138,12 +149,15 @@ pub fn port_entry(entries: Entries) -> Result<PortEntry, TableRefusal>
 const RULE_KEYS: [&str; 5] = ["input", "pcp", "ether_type", "dscp", "class"];
 
 /// The row of a rule, among so many ports and classes.
+#[tactic(auto, unfolding(crate::specs::Check::first, crate::specs::Document::rule_keys, crate::specs::Key::least_unknown))]
 pub fn rule_row(entries: Entries, ports: usize, classes: usize) -> Result<RuleRow, TableRefusal>
-    ensures held { IfOk result (λ _. first (table_checks entries.entry.place (rule_keys ports classes entries.entry.place) (table_view entries.entry.table.now)) ≡ None) }
+    ensures held { IfOk result (λ _. first (table_checks entries.entry.place
+        (rule_keys ports classes entries.entry.place) (table_view entries.entry.table.now)) ≡ None) }
     ensures value { IfOk result (λ row. row ≡ rule_row (table_view entries.entry.table.now)) }
     ensures input { IfOk result (λ row. IfSome row.input (λ input. input < ports)) }
     ensures class { IfOk result (λ row. row.class < classes) }
-    ensures refused { IfErr result (Refuses (first (table_checks entries.entry.place (rule_keys ports classes entries.entry.place) (table_view entries.entry.table.now)))) }
+    ensures refused { IfErr result (Refuses (first (table_checks entries.entry.place
+        (rule_keys ports classes entries.entry.place) (table_view entries.entry.table.now)))) }
 {
     entries.only(&RULE_KEYS)?;
     let input = entries.number("input", GREATEST_PORT, ports)?;

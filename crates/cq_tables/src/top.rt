@@ -4,7 +4,8 @@ ghost use Rattle.std.specs.Int.{IsInRange};
 ghost use Rattle.std.specs.List.{AllPairs};
 ghost use Rattle.toml.specs.View.{table_view};
 ghost use Rattle.cq_tables.specs.Check.{Refuses};
-ghost use Rattle.cq_tables.specs.Document.{ArePortsOf, address_array, address_row, class_array, class_rows, classes_in, port_array, ports_in, rows_in, rule_array, rule_row, version_in};
+ghost use Rattle.cq_tables.specs.Document.{ArePortsOf, address_array, address_row, class_array, class_rows, classes_in};
+ghost use Rattle.cq_tables.specs.Document.{port_array, ports_in, rows_in, rule_array, rule_row, version_in};
 ghost use Rattle.cq_tables.specs.Key.{check_of};
 
 use crate::addresses::address_rows;
@@ -25,12 +26,15 @@ use toml::Table;
 /// The classes, in the version of the table: one with the defaults where none is stated.
 pub fn classes(alloc: Global, top: &Table, version: Version) -> Result<Vec<ClassRow>, TableRefusal>
     requires { version ≡ version_in (table_view top.now) }
-    ensures held { IfOk result (λ _. check_of (table_view top.now) (class_array (version_in (table_view top.now))) ≡ None) }
-    ensures value { IfOk result (λ rows. rows.items ≡ class_rows (version_in (table_view top.now)) (table_view top.now)) }
+    ensures held { IfOk result (λ _. check_of (table_view top.now) (class_array (version_in (table_view top.now)))
+        ≡ None) }
+    ensures value { IfOk result (λ rows. rows.items ≡ class_rows (version_in (table_view top.now))
+        (table_view top.now)) }
     ensures levels { IfOk result (λ rows. All (λ row. row.level < 16) rows.items) }
     ensures costs { IfOk result (λ rows. All (λ row. 1 ≤ row.cost) rows.items) }
     ensures range { IfOk result (λ rows. IsInRange 1 16 (length rows.items)) }
-    ensures refused { IfErr result (Refuses (check_of (table_view top.now) (class_array (version_in (table_view top.now))))) }
+    ensures refused { IfErr result (Refuses (check_of (table_view top.now)
+        (class_array (version_in (table_view top.now))))) }
 {
     let place = Place::Top;
     let entries = Entries {
