@@ -2,6 +2,7 @@
 ghost use Rattle.std.specs.Prelude.{◌≡◌, ◌+◌, ◌-◌, ◌*◌, ◌/◌, ◌%◌, ◌<◌, ◌≤◌, ◌∷◌, ◌++◌, [], OnOk, length, take};
 ghost use Rattle.cq_base.specs.Decimal.{decimal};
 ghost use Rattle.cq_base.specs.Texts.{line_of, log_line, trace_line};
+ghost use Rattle.cq_report.specs.Sheet.{IsPut};
 
 use crate::numerals::Numerals;
 use cq_base::{Departure, NoMemory, Port, Transfer};
@@ -75,17 +76,11 @@ impl Sheet {
     {
         self.make_room(text)?;
         let numerals = &self.numerals;
+        let bytes = &mut self.bytes;
         let id = departure.queued.cell.id;
-        let slot = put_first(&mut self.bytes, self.end, numerals, departure.slot);
-        let output = put_number(&mut self.bytes, slot, numerals, u64::from(departure.output));
-        self.end = put_cell(
-            &mut self.bytes,
-            output,
-            numerals,
-            id.input,
-            id.packet,
-            id.index,
-        );
+        let slot = put_number(bytes, self.end, numerals, departure.slot, true);
+        let output = put_number(bytes, slot, numerals, u64::from(departure.output), false);
+        self.end = put_cell(bytes, output, numerals, id.input, id.packet, id.index);
         Ok(())
     }
 
@@ -95,18 +90,12 @@ impl Sheet {
     {
         self.make_room(text)?;
         let numerals = &self.numerals;
+        let bytes = &mut self.bytes;
         let id = transfer.id;
-        let slot = put_first(&mut self.bytes, self.end, numerals, transfer.slot);
-        let phase = put_number(&mut self.bytes, slot, numerals, u64::from(transfer.phase));
-        let input = put_number(&mut self.bytes, phase, numerals, u64::from(transfer.input));
-        self.end = put_cell(
-            &mut self.bytes,
-            input,
-            numerals,
-            transfer.output,
-            id.packet,
-            id.index,
-        );
+        let slot = put_number(bytes, self.end, numerals, transfer.slot, true);
+        let phase = put_number(bytes, slot, numerals, u64::from(transfer.phase), false);
+        let input = put_number(bytes, phase, numerals, u64::from(transfer.input), false);
+        self.end = put_cell(bytes, input, numerals, transfer.output, id.packet, id.index);
         Ok(())
     }
 }
@@ -126,54 +115,54 @@ fn put_cell(
     ensures most { result ≤ 4096 }
     ensures long { length bytes.new ≡ 4096 }
 {
-    let port_end = put_number(bytes, at, numerals, u64::from(port));
-    let packet_end = put_number(bytes, port_end, numerals, u64::from(packet));
-    let end = put_number(bytes, packet_end, numerals, u64::from(index));
+    let port_end = put_number(bytes, at, numerals, u64::from(port), false);
+    let packet_end = put_number(bytes, port_end, numerals, u64::from(packet), false);
+    let end = put_number(bytes, packet_end, numerals, u64::from(index), false);
     bytes[end - 1] = b'\n';
     end
 }
 
 // Writes a number from a place on and a blank behind it, and answers the place behind that. What stands before stays.
+// A large number is written where it stands only where it is the first of a line, which is seldom below a thousand.
 #[inline(always)]
 #[tactic(auto, using(crate::proofs::Hundreds::few_digits, crate::proofs::Hundreds::some_digit))]
-fn put_number(bytes: &mut [u8; SHEET], at: usize, numerals: &Numerals, number: u64) -> usize
+fn put_number(
+    bytes: &mut [u8; SHEET],
+    at: usize,
+    numerals: &Numerals,
+    number: u64,
+    is_first: bool,
+) -> usize
     requires { at + 25 ≤ 4096 }
-    ensures text { take result bytes.new ≡ take at bytes.old ++ (decimal number ++ 32 ∷ []) }
-    ensures some { at + 2 ≤ result }
-    ensures most { result ≤ at + 21 }
-    ensures long { length bytes.new ≡ 4096 }
+    ensures { IsPut number at bytes.old bytes.new result }
 {
     if number < 1000 {
         return put_short(bytes, at, numerals, number);
     }
+    if is_first {
+        return put_large(bytes, at, numerals, number);
+    }
+    put_large_apart(bytes, at, numerals, number)
+}
+
+// A number from a thousand on. It stands apart, so that small ones, which are most, are written where they stand.
+#[inline(never)]
+fn put_large_apart(bytes: &mut [u8; SHEET], at: usize, numerals: &Numerals, number: u64) -> usize
+    requires large { 1000 ≤ number }
+    requires room { at + 25 ≤ 4096 }
+    ensures { IsPut number at bytes.old bytes.new result }
+{
     put_large(bytes, at, numerals, number)
 }
 
-// The same for any other number. It stands apart, so that small ones, which are most, are written where they stand.
-#[inline(never)]
-fn put_large(bytes: &mut [u8; SHEET], at: usize, numerals: &Numerals, number: u64) -> usize
-    requires { at + 25 ≤ 4096 }
-    ensures text { take result bytes.new ≡ take at bytes.old ++ (decimal number ++ 32 ∷ []) }
-    ensures some { at + 2 ≤ result }
-    ensures most { result ≤ at + 21 }
-    ensures long { length bytes.new ≡ 4096 }
-{
-    put_first(bytes, at, numerals, number)
-}
-
-// The same for the first number of a line, which is seldom below a thousand.
+// The same, where it stands.
 #[inline(always)]
 #[tactic(auto, using(crate::proofs::Hundreds::few_digits, crate::proofs::Hundreds::some_digit))]
-fn put_first(bytes: &mut [u8; SHEET], at: usize, numerals: &Numerals, number: u64) -> usize
-    requires { at + 25 ≤ 4096 }
-    ensures text { take result bytes.new ≡ take at bytes.old ++ (decimal number ++ 32 ∷ []) }
-    ensures some { at + 2 ≤ result }
-    ensures most { result ≤ at + 21 }
-    ensures long { length bytes.new ≡ 4096 }
+fn put_large(bytes: &mut [u8; SHEET], at: usize, numerals: &Numerals, number: u64) -> usize
+    requires large { 1000 ≤ number }
+    requires room { at + 25 ≤ 4096 }
+    ensures { IsPut number at bytes.old bytes.new result }
 {
-    if number < 1000 {
-        return put_short(bytes, at, numerals, number);
-    }
     if number < 100_000 {
         return put_middle(bytes, at, numerals, number);
     }
