@@ -131,19 +131,41 @@ module _ (old mid new : Columns) (s : State) (faults starved : ℕ) (calls : Cal
         (ap contents_of changed ∙ contents ∙ same.contents) (ap read_cuts_of changed ∙ r)
         (ap write_cuts_of changed ∙ w)
 
-  pub cuts_reading : (after : ℕ) → IsInPlace old s → new ≡ with_read_cut mid i after →
+  cuts_reading : (after : ℕ) → IsInPlace old s → new ≡ with_read_cut mid i after →
       space new s faults starved calls ≡ record was { read_cuts = insert was.read_cuts name after }
   cuts_reading after sound changed =
       cuts (with_read_cut mid i after) sound changed refl refl (insert was.read_cuts name after) was.write_cuts
       (by_name-at mid.names mid.read_cuts i name after is even.read_cuts
       ∙ ap (λ m. insert m name after) same.read_cuts) same.write_cuts
 
-  pub cuts_writing : (after : ℕ) → IsInPlace old s → new ≡ with_write_cut mid i after →
+  cuts_writing : (after : ℕ) → IsInPlace old s → new ≡ with_write_cut mid i after →
       space new s faults starved calls ≡ record was { write_cuts = insert was.write_cuts name after }
   cuts_writing after sound changed =
       cuts (with_write_cut mid i after) sound changed refl refl was.read_cuts (insert was.write_cuts name after)
       same.read_cuts (by_name-at mid.names mid.write_cuts i name after is even.write_cuts
       ∙ ap (λ m. insert m name after) same.write_cuts)
+
+-- a cut at the entry of a name, in entries that were lent and are back in their vector
+module _ (es : List Entry) (s : State) (faults starved : ℕ) (calls : Calls) (m : MemSpace) (mid : Vec Entry Global)
+    (lent new : List Entry) (i : ℕ) (name : List ℕ) (after : ℕ)
+    (view : space (columns_of es) s faults starved calls ≡ m) (sound : IsInPlace (columns_of es) s)
+    (same : SaysTheSame (columns_of es) (columns_of mid.items)) (is : IsEntryOf (columns_of mid.items).names i name)
+    (back : lent ≡ mid.items) (long : length new ≡ length lent) where
+  pub reading_is_cut : columns_of new ≡ with_read_cut (columns_of lent) i after →
+      space (columns_of (with_items mid new).items) s faults starved calls
+      ≡ record m { read_cuts = insert m.read_cuts name after }
+  reading_is_cut changed =
+      cuts_reading (columns_of es) (columns_of mid.items) _ s faults starved calls i name same (are_even mid.items) is
+      after sound (written_back mid lent new (λ (c : Columns). with_read_cut c i after) back long changed)
+      ∙ ap (λ (m : MemSpace). record m { read_cuts = insert m.read_cuts name after }) view
+
+  pub writing_is_cut : columns_of new ≡ with_write_cut (columns_of lent) i after →
+      space (columns_of (with_items mid new).items) s faults starved calls
+      ≡ record m { write_cuts = insert m.write_cuts name after }
+  writing_is_cut changed =
+      cuts_writing (columns_of es) (columns_of mid.items) _ s faults starved calls i name same (are_even mid.items) is
+      after sound (written_back mid lent new (λ (c : Columns). with_write_cut c i after) back long changed)
+      ∙ ap (λ (m : MemSpace). record m { write_cuts = insert m.write_cuts name after }) view
 
 -- a start of reading
 

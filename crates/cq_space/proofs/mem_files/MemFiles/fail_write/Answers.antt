@@ -1,19 +1,9 @@
-use Rattle.std.proofs.Common.{ap, ◌∙◌}
-use Rattle.std.specs.FinMap.{insert}
-use Rattle.cq_space.specs.MemSpace.{MemSpace}
-use Rattle.cq_space.specs.Entries.{Columns, columns_of, with_write_cut}
-use Rattle.cq_space.proofs.Columns.{are_even}
-use Rattle.cq_space.proofs.InMemory.{written_back, cuts_writing}
+use Rattle.cq_space.proofs.InMemory.{writing_is_cut}
 use Rattle.cq_space.proofs.mem_files.MemFiles.fail_write.Goals as goal
 
 pub returns-clause-ok : goal.returns-clause-ok
 returns-clause-ok c =
-    let mid = c.place_of.new.entries in
-    let changed =
-    written_back mid c.deref_mut.result.now c.cut_writing.new.entries
-    (λ (k : Columns). with_write_cut k c.in_ok-at.at c.args.after) c.deref_mut.ensures.value
-    c.cut_writing.auto.entries c.cut_writing.ensures in
-    cuts_writing (columns_of c.self.inside.entries.items) (columns_of mid.items) _ c.self.inside.state
-    c.self.inside.faults c.self.inside.starved c.self.inside.calls c.in_ok-at.at c.args.name.now
-    c.in_ok-at.ensures.same (are_even mid.items) c.in_ok-at.ensures.ok c.args.after c.self.invariant changed
-    ∙ ap (λ (m : MemSpace). record m { write_cuts = insert m.write_cuts c.args.name.now c.args.after }) c.self.view_is
+    writing_is_cut c.self.inside.entries.items c.self.inside.state c.self.inside.faults c.self.inside.starved
+    c.self.inside.calls c.args.self.now c.place_of.new.entries c.deref_mut.result.now c.cut_writing.new.entries
+    c.in_ok-at.at c.args.name.now c.args.after c.self.view_is c.self.invariant c.in_ok-at.ensures.same
+    c.in_ok-at.ensures.ok c.deref_mut.ensures.value c.cut_writing.auto.entries c.cut_writing.ensures
