@@ -1,6 +1,6 @@
 -- Only proofs use this.
 -- The command line as `clap` is told of it, and the command in what `clap` finds.
-use Rattle.std.specs.Prelude.{◌≡◌, ℕ, true, false, List, if◌then◌else◌, Option, Some, None, codes, option_and_then}
+use Rattle.std.specs.Prelude.{◌≡◌, ℕ, true, false, List, if◌then◌else◌, Option, Some, None, codes, option_and_then, option_map}
 use Rattle.std.specs.Str.{bytes_eq}
 use Rattle.clap.specs.Simple.{App, app_of, new_app, new_rule, on_top, with_rule, with_subcommand}
 use Rattle.clap.specs.declared.builder.command.Command.{Command as Parser}
@@ -69,10 +69,14 @@ line =
 abbrev pub IsForm : App → Parser → Type 0
 IsForm form command = (app_of command ≡ form) × ((out-Command command).has_globals ≡ false)
 
+-- two texts, where there are both
+abbrev pub both : Option (List ℕ) → Option (List ℕ) → Option (List ℕ × List ℕ)
+both (Some first) (Some second) = Some (first, second)
+both _ _ = None
+
 -- the command of IN and OUT, where there are both
 abbrev pub captures_in : Option (List ℕ) → Option (List ℕ) → Option Command
-captures_in (Some from) (Some to) = Some (Pass from to)
-captures_in _ _ = None
+captures_in from to = option_map (λ names. Pass names.0 names.1) (both from to)
 
 -- the command of SEED, PORTS and SLOTS, where there are all
 abbrev pub numbers_in : Option (List ℕ) → Option (List ℕ) → Option (List ℕ) → Option Command
@@ -86,8 +90,7 @@ slots_in _ _ _ = None
 
 -- the command of CONFIG and STATE, where there are both
 abbrev pub state_in : Option (List ℕ) → Option (List ℕ) → Option Command
-state_in (Some config) (Some state) = Some (Resume config state)
-state_in _ _ = None
+state_in config state = option_map (λ names. Resume names.0 names.1) (both config state)
 
 -- the command of a subcommand's word, with the values that `clap` found under their names
 abbrev pub command_in : List ℕ → List Row → Option Command

@@ -2,7 +2,7 @@
 ghost use Rattle.std.specs.Prelude.{◌≡◌, IfErr, IfOk, codes, is_some, map, string_bytes, option_and_then, true};
 ghost use Rattle.clap.specs.Words.{first_of, found_of, rows_of, subcommand_rows_of};
 ghost use Rattle.cq_words.specs.Words.{command_for, with_config as config_command};
-ghost use Rattle.cq_words.specs.Line.{captures_in, command_found, numbers_in, slots_in, state_in};
+ghost use Rattle.cq_words.specs.Line.{both, captures_in, command_found, numbers_in, slots_in, state_in};
 
 use crate::command::{Command, slots_of, soak};
 use crate::judge::is_command;
@@ -60,20 +60,34 @@ fn with_config(alloc: Global, word: &str, values: &ArgMatches) -> Result<Option<
     }
 }
 
+// The names that two of the values are, where there are both.
+fn two_names(
+    alloc: Global,
+    values: &ArgMatches,
+    first: &str,
+    second: &str,
+) -> Result<Option<(Name, Name)>, NoMemory>
+    ensures { IfOk result (λ names. let rows = rows_of (found_of values.now) in
+        names ≡ both (first_of first.now rows) (first_of second.now rows)) }
+{
+    let Some(first) = value(values, first) else {
+        return Ok(None);
+    };
+    let Some(second) = value(values, second) else {
+        return Ok(None);
+    };
+    let first = Name::of(alloc, first)?;
+    let second = Name::of(alloc, second)?;
+    Ok(Some((first, second)))
+}
+
 // The command of the names of two captures.
 fn with_captures(alloc: Global, values: &ArgMatches) -> Result<Option<Command>, NoMemory>
     ensures { IfOk result (λ command. let rows = rows_of (found_of values.now) in
         command ≡ captures_in (first_of (codes "IN") rows) (first_of (codes "OUT") rows)) }
 {
-    let Some(from) = value(values, "IN") else {
-        return Ok(None);
-    };
-    let Some(to) = value(values, "OUT") else {
-        return Ok(None);
-    };
-    let from = Name::of(alloc, from)?;
-    let to = Name::of(alloc, to)?;
-    Ok(Some(Command::Pass { from, to }))
+    let names = two_names(alloc, values, "IN", "OUT")?;
+    Ok(names.map(|(from, to)| Command::Pass { from, to }))
 }
 
 // The command of a configuration, a number of slots, and the name of a state.
@@ -107,15 +121,8 @@ fn with_state(alloc: Global, values: &ArgMatches) -> Result<Option<Command>, NoM
     ensures { IfOk result (λ command. let rows = rows_of (found_of values.now) in
         command ≡ state_in (first_of (codes "CONFIG") rows) (first_of (codes "STATE") rows)) }
 {
-    let Some(config) = value(values, "CONFIG") else {
-        return Ok(None);
-    };
-    let Some(state) = value(values, "STATE") else {
-        return Ok(None);
-    };
-    let config = Name::of(alloc, config)?;
-    let state = Name::of(alloc, state)?;
-    Ok(Some(Command::Resume { config, state }))
+    let names = two_names(alloc, values, "CONFIG", "STATE")?;
+    Ok(names.map(|(config, state)| Command::Resume { config, state }))
 }
 
 // The command of three numbers.
