@@ -151,21 +151,27 @@ module _ (es : List Entry) (s : State) (faults starved : ℕ) (calls : Calls) (m
     (view : space (columns_of es) s faults starved calls ≡ m) (sound : IsInPlace (columns_of es) s)
     (same : SaysTheSame (columns_of es) (columns_of mid.items)) (is : IsEntryOf (columns_of mid.items).names i name)
     (back : lent ≡ mid.items) (long : length new ≡ length lent) where
+  -- by what a change of the columns is in the meaning
+  is_changed : (change : Columns → Columns) (told : MemSpace → MemSpace) →
+      ((c : Columns) → c ≡ change (columns_of mid.items) →
+      space c s faults starved calls ≡ told (space (columns_of es) s faults starved calls)) →
+      columns_of new ≡ change (columns_of lent) →
+      space (columns_of (with_items mid new).items) s faults starved calls ≡ told m
+  is_changed change told means changed = means _ (written_back mid lent new change back long changed) ∙ ap told view
+
   pub reading_is_cut : columns_of new ≡ with_read_cut (columns_of lent) i after →
       space (columns_of (with_items mid new).items) s faults starved calls
       ≡ record m { read_cuts = insert m.read_cuts name after }
-  reading_is_cut changed =
-      cuts_reading (columns_of es) (columns_of mid.items) _ s faults starved calls i name same (are_even mid.items) is
-      after sound (written_back mid lent new (λ (c : Columns). with_read_cut c i after) back long changed)
-      ∙ ap (λ (m : MemSpace). record m { read_cuts = insert m.read_cuts name after }) view
+  reading_is_cut = is_changed (λ c. with_read_cut c i after)
+      (λ k. record k { read_cuts = insert k.read_cuts name after })
+      (λ c. cuts_reading _ _ c s faults starved calls i name same (are_even mid.items) is after sound)
 
   pub writing_is_cut : columns_of new ≡ with_write_cut (columns_of lent) i after →
       space (columns_of (with_items mid new).items) s faults starved calls
       ≡ record m { write_cuts = insert m.write_cuts name after }
-  writing_is_cut changed =
-      cuts_writing (columns_of es) (columns_of mid.items) _ s faults starved calls i name same (are_even mid.items) is
-      after sound (written_back mid lent new (λ (c : Columns). with_write_cut c i after) back long changed)
-      ∙ ap (λ (m : MemSpace). record m { write_cuts = insert m.write_cuts name after }) view
+  writing_is_cut = is_changed (λ c. with_write_cut c i after)
+      (λ k. record k { write_cuts = insert k.write_cuts name after })
+      (λ c. cuts_writing _ _ c s faults starved calls i name same (are_even mid.items) is after sound)
 
 -- a start of reading
 
@@ -223,10 +229,10 @@ pub record Stands (es : List Entry) (s : State) (faults starved : ℕ) (calls : 
   pub is : m ≡ space (columns_of es) s faults starved calls
   pub sound : IsInPlace (columns_of es) s
 
-pub stands : (es : List Entry) (s t : State) (faults starved : ℕ) (calls : Calls) (m : MemSpace) → s ≡ t →
+pub stands : {es : List Entry} {s t : State} {faults starved : ℕ} {calls : Calls} {m : MemSpace} → s ≡ t →
     space (columns_of es) s faults starved calls ≡ m → IsInPlace (columns_of es) s →
     Stands es t faults starved calls m
-stands es s t faults starved calls m same view sound =
+stands {es} {s} {t} {faults} {starved} {calls} {m} same view sound =
     let P : State → Type 0 = λ (k : State). IsInPlace (columns_of es) k in
     record {
       is = sym view ∙ ap (λ (k : State). space (columns_of es) k faults starved calls) same;

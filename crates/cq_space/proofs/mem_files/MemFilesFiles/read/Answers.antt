@@ -7,18 +7,14 @@ use Rattle.cq_space.proofs.mem_files.MemFilesFiles.read.Goals as goal
 
 pub returns-in-Some-clause-next : goal.returns-in-Some-clause-next
 returns-in-Some-clause-next c =
-    let now =
-    stands c.self.inside.entries.items c.self.inside.state _ c.self.inside.faults c.self.inside.starved
-    c.self.inside.calls c.args.self.now c.in-Reads.is c.self.view_is c.self.invariant in
+    let now = stands c.in-Reads.is c.self.view_is c.self.invariant in
     reads_on c.in-Some.most c.min-count.result c.index-entry.result.now c.held.result.now c.copy_from_slice.new.self
     c.args.buf.now _ now c.index-entry.ensures c.held.ensures c.min-count.ensures c.copy_from_slice.ensures.after
     (c.in-Some.ensures.progress (c.within.ensures.some c.requires.room)) refl
 
 pub returns-in-Some-clause-moved : goal.returns-in-Some-clause-moved
 returns-in-Some-clause-moved c =
-    let now =
-    stands c.self.inside.entries.items c.self.inside.state _ c.self.inside.faults c.self.inside.starved
-    c.self.inside.calls c.args.self.now c.in-Reads.is c.self.view_is c.self.invariant in
+    let now = stands c.in-Reads.is c.self.view_is c.self.invariant in
     let before =
     stays_less c.index-entry.result.now.read_cut c.in-Reads.place c.in-Some.most c.min-count.result (omega arith)
     c.in-Some.ensures.before in
@@ -32,9 +28,7 @@ returns-in-Some-clause-moved c =
 
 pub returns-in-None-clause-answered : goal.returns-in-None-clause-answered
 returns-in-None-clause-answered c =
-    let now =
-    stands c.self.inside.entries.items c.self.inside.state _ c.self.inside.faults c.self.inside.starved
-    c.self.inside.calls c.args.self.now c.in-Reads.is c.self.view_is c.self.invariant in
+    let now = stands c.in-Reads.is c.self.view_is c.self.invariant in
     record {
       cause = search rules;
       why =

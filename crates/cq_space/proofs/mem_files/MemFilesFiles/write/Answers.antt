@@ -9,9 +9,7 @@ use Rattle.cq_space.proofs.mem_files.MemFilesFiles.write.Goals as goal
 pub returns-in-Ok-clause-ok : goal.returns-in-Ok-clause-ok
 returns-in-Ok-clause-ok c =
     let old = c.self.inside.entries in
-    let now =
-    stands old.items c.self.inside.state _ c.self.inside.faults c.self.inside.starved c.self.inside.calls
-    c.args.self.now c.in-Writes.is c.self.view_is c.self.invariant in
+    let now = stands c.in-Writes.is c.self.view_is c.self.invariant in
     let changed =
     written_back old c.deref_mut.result.now c.append.new.entries (λ (k : Columns). with_bytes k c.in-Writes.at
     (bytes_at k c.in-Writes.at ++ take c.in-Some.count c.args.bytes.now)) c.deref_mut.ensures.value
@@ -22,9 +20,7 @@ returns-in-Ok-clause-ok c =
 
 pub returns-in-Ok-clause-moved : goal.returns-in-Ok-clause-moved
 returns-in-Ok-clause-moved c =
-    let now =
-    stands c.self.inside.entries.items c.self.inside.state _ c.self.inside.faults c.self.inside.starved
-    c.self.inside.calls c.args.self.now c.in-Writes.is c.self.view_is c.self.invariant in (
+    let now = stands c.in-Writes.is c.self.view_is c.self.invariant in (
       of_write (λ cut moved. StaysBefore cut moved c.in-Some.count) c.index-entry.result.now c.held.result.now now
           c.index-entry.ensures c.held.ensures c.in-Some.ensures.before,
       short_before c.args.self.now.calls _ c.within.result c.in-Some.count
@@ -34,9 +30,7 @@ returns-in-Ok-clause-moved c =
 
 pub returns-in-None-clause-answered : goal.returns-in-None-clause-answered
 returns-in-None-clause-answered c =
-    let now =
-    stands c.self.inside.entries.items c.self.inside.state _ c.self.inside.faults c.self.inside.starved
-    c.self.inside.calls c.args.self.now c.in-Writes.is c.self.view_is c.self.invariant in
+    let now = stands c.in-Writes.is c.self.view_is c.self.invariant in
     record {
       cause = search rules;
       why =
