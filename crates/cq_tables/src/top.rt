@@ -2,11 +2,14 @@
 ghost use Rattle.std.specs.Prelude.{◌≡◌, ◌≢◌, ◌≤◌, ◌<◌, None, IfOk, IfErr, IfSome, All, length, map};
 ghost use Rattle.std.specs.Int.{IsInRange};
 ghost use Rattle.std.specs.List.{AllPairs};
-ghost use Rattle.toml.specs.View.{table_view};
+ghost use Rattle.toml.specs.Data.{get_member};
+ghost use Rattle.toml.specs.View.{table_view, view};
 ghost use Rattle.cq_tables.specs.Check.{Refuses};
 ghost use Rattle.cq_tables.specs.Document.{ArePortsOf, address_array, address_row, class_array, class_rows, classes_in};
-ghost use Rattle.cq_tables.specs.Document.{port_array, ports_in, rows_in, rule_array, rule_row, version_in};
-ghost use Rattle.cq_tables.specs.Key.{check_of};
+ghost use Rattle.cq_tables.specs.Document.{elements_at, port_array, ports_in, rows_in, rule_array, rule_row, version_in};
+ghost use Rattle.cq_tables.specs.Key.{check_of, key_check, optional};
+ghost use Rattle.cq_tables.specs.Place.{array_key};
+ghost use Rattle.cq_tables.specs.Value.{array_of};
 
 use crate::addresses::address_rows;
 use crate::arrays::{PortEntries, class_rows, port_rows, rule_rows};
@@ -21,7 +24,32 @@ use crate::version::Version;
 use cq_base::{ClassRow, NoMemory};
 use cq_route::{AddressRow, RuleRow};
 use std::alloc::Global;
-use toml::Table;
+use toml::{Table, Value};
+
+// The elements of an array that may be left out: none where it is.
+fn elements_of<'a>(
+    alloc: Global,
+    top: &'a Table,
+    array: Array,
+    least: usize,
+    most: usize,
+) -> Result<&'a [Value], TableRefusal>
+    ensures held { IfOk result (λ _. key_check Place.Top (array_key array) (optional (array_of least most))
+        (table_view top.now) ≡ None) }
+    ensures value { IfOk result (λ items. map view items.now
+        ≡ elements_at (get_member (array_key array) (table_view top.now))) }
+    ensures range { IfOk result (λ items. length items.now ≤ most) }
+    ensures refused { IfErr result (Refuses (key_check Place.Top (array_key array) (optional (array_of least most))
+        (table_view top.now))) }
+{
+    let place = Place::Top;
+    let entries = Entries {
+        alloc,
+        place,
+        table: top,
+    };
+    entries.elements(array.key(), least, most)
+}
 
 /// The classes, in the version of the table: one with the defaults where none is stated.
 pub fn classes(alloc: Global, top: &Table, version: Version) -> Result<Vec<ClassRow>, TableRefusal>
@@ -36,13 +64,7 @@ pub fn classes(alloc: Global, top: &Table, version: Version) -> Result<Vec<Class
     ensures refused { IfErr result (Refuses (check_of (table_view top.now)
         (class_array (version_in (table_view top.now))))) }
 {
-    let place = Place::Top;
-    let entries = Entries {
-        alloc,
-        place,
-        table: top,
-    };
-    let values = entries.elements("class", 1, MOST_CLASSES)?;
+    let values = elements_of(alloc, top, Array::Classes, 1, MOST_CLASSES)?;
     let mut rows = class_rows(alloc, values, version)?;
     if rows.is_empty() {
         let default = ClassRow {
@@ -82,13 +104,7 @@ pub fn addresses(alloc: Global, top: &Table, ports: usize) -> Result<Vec<Address
     ensures differ { IfOk result (λ rows. AllPairs (λ a b. a.mac ≢ b.mac) rows.items) }
     ensures refused { IfErr result (Refuses (check_of (table_view top.now) (address_array (table_view top.now)))) }
 {
-    let place = Place::Top;
-    let entries = Entries {
-        alloc,
-        place,
-        table: top,
-    };
-    let values = entries.elements("address", 0, MOST_ADDRESSES)?;
+    let values = elements_of(alloc, top, Array::Addresses, 0, MOST_ADDRESSES)?;
     address_rows(alloc, values, ports)
 }
 
@@ -107,12 +123,6 @@ pub fn rules(
     ensures classes { IfOk result (λ rows. All (λ row. row.class < classes) rows.items) }
     ensures refused { IfErr result (Refuses (check_of (table_view top.now) (rule_array (table_view top.now)))) }
 {
-    let place = Place::Top;
-    let entries = Entries {
-        alloc,
-        place,
-        table: top,
-    };
-    let values = entries.elements("rule", 0, MOST_RULES)?;
+    let values = elements_of(alloc, top, Array::Rules, 0, MOST_RULES)?;
     rule_rows(alloc, values, ports, classes)
 }
