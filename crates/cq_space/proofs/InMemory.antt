@@ -113,7 +113,7 @@ module _ (old mid new : Columns) (s : State) (faults starved : ℕ) (calls : Cal
   abbrev was : MemSpace
   was = space old s faults starved calls
 
-  pub sets : (bytes : List ℕ) → mode_of old s ≡ Closed → new ≡ with_bytes mid i bytes →
+  sets : (bytes : List ℕ) → mode_of old s ≡ Closed → new ≡ with_bytes mid i bytes →
       space new s faults starved calls ≡ record was { contents = insert was.contents name bytes }
   sets bytes closed changed =
       seen_as new s (record was { contents = insert was.contents name bytes }) (closed_still old new s closed)
@@ -145,9 +145,9 @@ module _ (old mid new : Columns) (s : State) (faults starved : ℕ) (calls : Cal
       same.read_cuts (by_name-at mid.names mid.write_cuts i name after is even.write_cuts
       ∙ ap (λ m. insert m name after) same.write_cuts)
 
--- a cut at the entry of a name, in entries that were lent and are back in their vector
-module _ (es : List Entry) (s : State) (faults starved : ℕ) (calls : Calls) (m : MemSpace) (mid : Vec Entry Global)
-    (lent new : List Entry) (i : ℕ) (name : List ℕ) (after : ℕ)
+-- a new value at the entry of a name, in entries that were lent and are back in their vector
+module _ (es : List Entry) (s : State) {faults starved : ℕ} {calls : Calls} {m : MemSpace} (mid : Vec Entry Global)
+    {lent : List Entry} (new : List Entry) {i : ℕ} {name : List ℕ}
     (view : space (columns_of es) s faults starved calls ≡ m) (sound : IsInPlace (columns_of es) s)
     (same : SaysTheSame (columns_of es) (columns_of mid.items)) (is : IsEntryOf (columns_of mid.items).names i name)
     (back : lent ≡ mid.items) (long : length new ≡ length lent) where
@@ -159,17 +159,25 @@ module _ (es : List Entry) (s : State) (faults starved : ℕ) (calls : Calls) (m
       space (columns_of (with_items mid new).items) s faults starved calls ≡ told m
   is_changed change told means changed = means _ (written_back mid lent new change back long changed) ∙ ap told view
 
-  pub reading_is_cut : columns_of new ≡ with_read_cut (columns_of lent) i after →
+  pub bytes_are_set : (bytes : List ℕ) → m.mode ≡ Closed → columns_of new ≡ with_bytes (columns_of lent) i bytes →
+      space (columns_of (with_items mid new).items) s faults starved calls
+      ≡ record m { contents = insert m.contents name bytes }
+  bytes_are_set bytes closed = is_changed (λ c. with_bytes c i bytes)
+      (λ k. record k { contents = insert k.contents name bytes })
+      (λ c. sets _ _ c s faults starved calls i name same (are_even mid.items) is bytes
+      (ap (λ (k : MemSpace). k.mode) view ∙ closed))
+
+  pub reading_is_cut : (after : ℕ) → columns_of new ≡ with_read_cut (columns_of lent) i after →
       space (columns_of (with_items mid new).items) s faults starved calls
       ≡ record m { read_cuts = insert m.read_cuts name after }
-  reading_is_cut = is_changed (λ c. with_read_cut c i after)
+  reading_is_cut after = is_changed (λ c. with_read_cut c i after)
       (λ k. record k { read_cuts = insert k.read_cuts name after })
       (λ c. cuts_reading _ _ c s faults starved calls i name same (are_even mid.items) is after sound)
 
-  pub writing_is_cut : columns_of new ≡ with_write_cut (columns_of lent) i after →
+  pub writing_is_cut : (after : ℕ) → columns_of new ≡ with_write_cut (columns_of lent) i after →
       space (columns_of (with_items mid new).items) s faults starved calls
       ≡ record m { write_cuts = insert m.write_cuts name after }
-  writing_is_cut = is_changed (λ c. with_write_cut c i after)
+  writing_is_cut after = is_changed (λ c. with_write_cut c i after)
       (λ k. record k { write_cuts = insert k.write_cuts name after })
       (λ c. cuts_writing _ _ c s faults starved calls i name same (are_even mid.items) is after sound)
 
