@@ -51,37 +51,78 @@ module _ (r : Reader) (config : List ℕ) where
   abbrev pub from_captures : Tables → Contents → Result Aim Refusal
   from_captures t m = captures_in r t m >>= (λ captures. from_trace t captures m)
 
-module _ {S : Type 0} (space : S → Space) (may_fail : Call → S → S → Type 0) (keeps : S → S → Type 0) (old : S)
-    (config : List ℕ) where
-  abbrev audit_rest : Reader → Tables → List (List Captured) → Contents → Result Aim Refusal
-  audit_rest r t captures m = from_trace r config t captures m
+-- ## What is aimed at
 
+module _ (given : Given) (trace log : List ℕ) where
+  abbrev aim_of : List Departure → Aim
+  aim_of sent = Auditing given.tables given.captures sent trace log
+
+  abbrev aimed : Result Aim Refusal
+  aimed = ideally_sent given.tables given.captures >>= (λ sent. Ok (aim_of sent))
+
+  denial_settles : (halt : Halt) → IsAuditNo given.tables given.captures trace log halt → Settles aimed (Err halt)
+  denial_settles halt n =
+      let P : Halt → Type 0 = λ x. Settles aimed (Err x) in
+      let at : Result (List Departure) Refusal → Result Aim Refusal = λ x. x >>= (λ sent. Ok (aim_of sent)) in
+      subst P (sym n.is) (refl, inr (aim_of n.sent, ap at n.ideally, n.denied))
+
+  halt_settles : (halt : Halt) → IsAuditHalted given.tables given.captures trace log halt → Settles aimed (Err halt)
+  halt_settles halt (inl ends) =
+      refused_settles (ideally_sent given.tables given.captures) (λ sent. Ok (aim_of sent)) halt ends
+  halt_settles halt (inr n) = denial_settles halt n
+
+  -- what a yes says
+  emulates_at : (r : Reader) (config : List ℕ) (plan : Plan) → IsAuditPassed given.tables given.captures trace log →
+      plan ≡ audited → (m : Contents) → (tables_in config m ≡ Ok given.tables)
+      × (captures_in r given.tables m ≡ Ok given.captures) → (text_in LongTrace given.tables.trace m ≡ Ok trace)
+      × (text_in LongLog given.tables.log m ≡ Ok log) → IsAudited r config m plan
+  emulates_at r config plan passed is m read texts = record {
+    tables = given.tables;
+    configured = read.0;
+    captures = given.captures;
+    captured = read.1;
+    trace = trace;
+    traced = text_stands (Audited LongTrace) given.tables.trace m trace texts.0;
+    log = log;
+    logged = text_stands (Audited LongLog) given.tables.log m log texts.1;
+    audit = passed.meets.log_is;
+    same =
+        sent_ok passed.sent (ideal_departures given.tables (arrivals given.tables given.captures)) passed.ideally
+        ∙ ap Ok passed.departed;
+    sent = passed.meets.trace_is ∙ ap trace_of passed.departed;
+    written = is;
+  }
+
+-- ## Judging
+
+module _ {S : Type 0} {space : S → Space} {may_fail : Call → S → S → Type 0} {keeps : S → S → Type 0} {old : S}
+    {config : List ℕ} where
   -- reading what the configuration gives ends it
-  pub audit_ends : (new : S) (halt : Halt) → EndsGiven space may_fail keeps InTurn config old new halt →
-      keeps old new → IsJudged space may_fail keeps InTurn (Audit config) old new (Err halt)
-  audit_ends new halt ends kept =
-      given_ends space may_fail keeps (Audit config) (λ s. refl) old config audit_rest (λ r. refl) (λ name. tt) new halt
-      ends kept
+  pub audit_ends : {new : S} {halt : Halt} → EndsGiven space may_fail keeps InTurn config old new halt →
+      IsJudged space may_fail keeps InTurn (Audit config) old new (Err halt)
+  audit_ends ended =
+      given_ends space may_fail keeps (Audit config) (λ s. refl) old config (λ r. from_trace r config) (λ r. refl)
+      (λ name. tt) _ _ ended
 
-  module _ (lasts : Lasts keeps) (s1 s2 : S) (given : Given) (is : IsGiven space keeps config old s1 given)
+  module _ (lasts : Lasts keeps) {s1 s2 : S} {given : Given} (is : IsGiven space keeps config old s1 given)
       (kept : keeps s1 s2) where
     reached : Reached space may_fail keeps (Audit config) (λ s. refl) old s1
         (λ r. from_trace r config given.tables given.captures)
     reached =
-        given_so space may_fail keeps (Audit config) (λ s. refl) old config audit_rest (λ r. refl) (λ name. tt) s1
-        given is
+        given_so space may_fail keeps (Audit config) (λ s. refl) old config (λ r. from_trace r config) (λ r. refl)
+        (λ name. tt) s1 given is
 
     -- the trace ends it
-    pub trace_ends : (halt : Halt) → Judges InTurn (text_in LongTrace given.tables.trace)
+    pub trace_ends : {halt : Halt} → Judges InTurn (text_in LongTrace given.tables.trace)
         (λ asked. (asked ≡ given.tables.trace) × Fails space may_fail keeps (Reads asked) s1 s2) (space s1) (space s2)
         (Err halt) → IsJudged space may_fail keeps InTurn (Audit config) old s2 (Err halt)
-    trace_ends halt h =
+    trace_ends {halt} h =
         read_ends space may_fail keeps (Audit config) (λ s. refl) old lasts s1 s2
         (λ r. text_in LongTrace given.tables.trace) (λ r. from_log r config given.tables given.captures) reached kept _
         halt (λ r. h) (λ asked u. (tt, u.1))
 
-    module _ (Q : List ℕ → Type 0) (trace : List ℕ)
-        (traced : Judges InTurn (text_in LongTrace given.tables.trace) Q (space s1) (space s2) (Ok trace)) (s3 : S)
+    module _ {Q : List ℕ → Type 0} {trace : List ℕ}
+        (traced : Judges InTurn (text_in LongTrace given.tables.trace) Q (space s1) (space s2) (Ok trace)) {s3 : S}
         (kept_on : keeps s2 s3) where
       trace_reached : Reached space may_fail keeps (Audit config) (λ s. refl) old s2
           (λ r. from_log r config given.tables given.captures trace)
@@ -91,75 +132,34 @@ module _ {S : Type 0} (space : S → Space) (may_fail : Call → S → S → Typ
           Q trace (λ r. text_stays LongTrace given.tables.trace) (λ r. traced)
 
       -- the log ends it
-      pub log_ends : (halt : Halt) → Judges InTurn (text_in LongLog given.tables.log)
+      pub log_ends : {halt : Halt} → Judges InTurn (text_in LongLog given.tables.log)
           (λ asked. (asked ≡ given.tables.log) × Fails space may_fail keeps (Reads asked) s2 s3) (space s2) (space s3)
           (Err halt) → IsJudged space may_fail keeps InTurn (Audit config) old s3 (Err halt)
-      log_ends halt h =
+      log_ends {halt} h =
           read_ends space may_fail keeps (Audit config) (λ s. refl) old lasts s2 s3
           (λ r. text_in LongLog given.tables.log)
           (λ r log (m : Contents). last r config given.tables given.captures trace log) trace_reached kept_on _ halt
           (λ r. h) (λ asked u. (tt, u.1))
 
-      module _ (T : List ℕ → Type 0) (log : List ℕ)
+      module _ {T : List ℕ → Type 0} {log : List ℕ}
           (logged : Judges InTurn (text_in LongLog given.tables.log) T (space s2) (space s3) (Ok log)) where
-        abbrev aim_of : List Departure → Aim
-        aim_of sent = Auditing given.tables given.captures sent trace log
-
-        abbrev aimed : Result Aim Refusal
-        aimed = ideally_sent given.tables given.captures >>= (λ sent. Ok (aim_of sent))
-
-        audit_settled : (result : Result Plan Halt) → Settles aimed result →
+        audit_settled : (result : Result Plan Halt) → Settles (aimed given trace log) result →
             IfOk result (λ plan. AllByRecursion (λ write. ⊥) plan.writes) →
             ((r : Reader) → IfOk result (λ plan. IfSome (space old).told (λ m. IsAudited r config m plan))) →
             IsJudged space may_fail keeps InTurn (Audit config) old s3 result
         audit_settled =
-            settled space may_fail keeps (Audit config) (λ s. refl) old s3 aimed
+            settled space may_fail keeps (Audit config) (λ s. refl) old s3 (aimed given trace log)
             (read_on space may_fail keeps (Audit config) (λ s. refl) old lasts s2 s3
             (λ r. text_in LongLog given.tables.log)
             (λ r log (m : Contents). last r config given.tables given.captures trace log) trace_reached kept_on T log
             (λ r. text_stays LongLog given.tables.log) (λ r. logged))
 
-        denial_settles : (halt : Halt) → IsAuditNo given.tables given.captures trace log halt →
-            Settles aimed (Err halt)
-        denial_settles halt n =
-            let P : Halt → Type 0 = λ x. Settles aimed (Err x) in
-            let at : Result (List Departure) Refusal → Result Aim Refusal = λ x. x >>= (λ sent. Ok (aim_of sent)) in
-            subst P (sym n.is) (refl, inr (aim_of n.sent, ap at n.ideally, n.denied))
-
-        halt_settles : (halt : Halt) → IsAuditHalted given.tables given.captures trace log halt →
-            Settles aimed (Err halt)
-        halt_settles halt (inl ends) =
-            refused_settles (ideally_sent given.tables given.captures) (λ sent. Ok (aim_of sent)) halt ends
-        halt_settles halt (inr n) = denial_settles halt n
-
         -- the ideal run ends it, or the log or the trace is denied
         pub audit_halts : (halt : Halt) → IsAuditHalted given.tables given.captures trace log halt →
             IsJudged space may_fail keeps InTurn (Audit config) old s3 (Err halt)
-        audit_halts halt h = audit_settled (Err halt) (halt_settles halt h) tt (λ r. tt)
+        audit_halts halt h = audit_settled (Err halt) (halt_settles given trace log halt h) tt (λ r. tt)
 
-        -- ## What a yes says
-
-        emulates_at : (r : Reader) (plan : Plan) → IsAuditPassed given.tables given.captures trace log →
-            plan ≡ audited → (m : Contents) → (tables_in config m ≡ Ok given.tables)
-            × (captures_in r given.tables m ≡ Ok given.captures) → (text_in LongTrace given.tables.trace m ≡ Ok trace)
-            × (text_in LongLog given.tables.log m ≡ Ok log) → IsAudited r config m plan
-        emulates_at r plan passed is m read texts = record {
-          tables = given.tables;
-          configured = read.0;
-          captures = given.captures;
-          captured = read.1;
-          trace = trace;
-          traced = text_stands (Audited LongTrace) given.tables.trace m trace texts.0;
-          log = log;
-          logged = text_stands (Audited LongLog) given.tables.log m log texts.1;
-          audit = passed.meets.log_is;
-          same =
-              sent_ok passed.sent (ideal_departures given.tables (arrivals given.tables given.captures)) passed.ideally
-              ∙ ap Ok passed.departed;
-          sent = passed.meets.trace_is ∙ ap trace_of passed.departed;
-          written = is;
-        }
-
+        -- neither is
         pub audit_plans : (plan : Plan) → IsAuditPassed given.tables given.captures trace log → plan ≡ audited →
             IsJudged space may_fail keeps InTurn (Audit config) old s3 (Ok plan)
         audit_plans plan passed written =
@@ -168,9 +168,9 @@ module _ {S : Type 0} (space : S → Space) (may_fail : Call → S → S → Typ
             let Q : Option Contents → Type 0 = λ o. IfSome o (λ m. text_in LongLog given.tables.log m ≡ Ok log) in
             let N : Plan → Type 0 = λ p. AllByRecursion (λ write. ⊥) p.writes in
             audit_settled (Ok plan)
-            (ok_settles (ideally_sent given.tables given.captures) aim_of passed.sent plan passed.ideally
-            (passed.meets, written)) (subst N (sym written) tt) (λ r.
-            told_two told _ _ _ (emulates_at r plan passed written)
+            (ok_settles (ideally_sent given.tables given.captures) (aim_of given trace log) passed.sent plan
+            passed.ideally (passed.meets, written)) (subst N (sym written) tt) (λ r.
+            told_two told _ _ _ (emulates_at given trace log r config plan passed written)
             (told_two told _ _ _ (λ m a b. (a, b)) is.tables (is.captures r))
             (told_two told _ _ _ (λ m a b. (a, b)) (subst P is.told traced.ok)
             (subst Q (traced.told ∙ is.told) logged.ok)))

@@ -17,23 +17,21 @@ use Rattle.cq_run.specs.Verdict.{ideally_sent}
 use Rattle.cq_run.proofs.Crossed.{emulates}
 use Rattle.cq_run.proofs.Planned.{all_any, sent_ends, sent_halts, sent_plans}
 
-module _ {S : Type 0} (space : S → Space) (may_fail : Call → S → S → Type 0) (keeps : S → S → Type 0) (old : S)
-    (config : List ℕ) where
+module _ {S : Type 0} {space : S → Space} {may_fail : Call → S → S → Type 0} {keeps : S → S → Type 0} {p : Pace}
+    {old : S} {config : List ℕ} where
   -- reading ends it
-  pub run_ends : {p : Pace} (new : S) (halt : Halt) → EndsGiven space may_fail keeps p config old new halt →
-      keeps old new → IsJudged space may_fail keeps p (Run config) old new (Err halt)
-  run_ends = sent_ends space may_fail keeps (Run config) (λ s. refl) old config Crossing (λ r. refl) (λ name. tt)
+  pub run_ends : {new : S} {halt : Halt} → EndsGiven space may_fail keeps p config old new halt →
+      IsJudged space may_fail keeps p (Run config) old new (Err halt)
+  run_ends ended = sent_ends (λ s. refl) Crossing (λ r. refl) (λ name. tt) ended
 
   -- and what is made of what was read
-  pub run_judged : {p : Pace} (now : S) (given : Given) → IsGiven space keeps config old now given →
+  pub run_judged : {now : S} {given : Given} → IsGiven space keeps config old now given →
       (result : Result Plan Halt) → IfOk result (IsCrossing given.tables given.captures) →
       IfErr result (IsHaltOf (ideally_sent given.tables given.captures)) →
       IsJudged space may_fail keeps p (Run config) old now result
-  run_judged now given is (Ok plan) crossing refused =
-      sent_plans space may_fail keeps (Run config) (λ s. refl) old config Crossing (λ r. refl) (λ name. tt) now given is
-      crossing.sent plan crossing.is_sent (crossing.records, crossing.keeps_up.runs, crossing.written)
+  run_judged {given = given} is (Ok plan) crossing refused =
+      sent_plans (λ s. refl) Crossing (λ r. refl) (λ name. tt) is crossing.sent plan crossing.is_sent (crossing.records, crossing.keeps_up.runs, crossing.written)
       (all_any plan.writes)
       (λ r. emulates given.tables given.captures plan crossing r config (space old).told is.tables (is.captures r))
-  run_judged now given is (Err halt) crossing refused =
-      sent_halts space may_fail keeps (Run config) (λ s. refl) old config Crossing (λ r. refl) (λ name. tt) now given is
-      halt refused
+  run_judged is (Err halt) crossing refused =
+      sent_halts (λ s. refl) Crossing (λ r. refl) (λ name. tt) is halt refused

@@ -52,52 +52,72 @@ untold P of_words missed (Tag fault) h = refl
 untold P of_words missed (Audit denial) h = refl
 untold P of_words missed (State fault) h = refl
 
-module _ {S : Type 0} (space : S → Space) (may_fail : Call → S → S → Type 0) (keeps : S → S → Type 0) (old : S)
-    (config : List ℕ) where
+-- ## What is aimed at
+
+module _ (given : Given) where
+  abbrev parting : ℕ → List ℕ → Aim
+  parting slots name = Parting given.tables given.captures slots name
+
+  part_settles : (slots : ℕ) (name : List ℕ) (halt : Halt) → IsPartHalt given.tables given.captures slots halt →
+      Settles (Ok (parting slots name)) (Err halt)
+  part_settles slots name (Refused refusal) h = (
+    untold (IsPartRefusal given.tables given.captures slots) (λ h. h) (λ name h. h) refusal h,
+    inr (parting slots name, refl, h),
+  )
+  part_settles slots name (Unread unread) h = h
+  part_settles slots name NoMemory h = tt
+
+  abbrev resuming : List ℕ → Aim
+  resuming text = Resuming given.tables given.captures text
+
+  resume_settles : (text : List ℕ) (halt : Halt) → IsResumeHalt given.tables given.captures text halt →
+      Settles (Ok (resuming text)) (Err halt)
+  resume_settles text (Refused refusal) h = (
+    untold (IsResumeRefusal given.tables given.captures text) (λ h. h) (λ name h. h) refusal h,
+    inr (resuming text, refl, h),
+  )
+  resume_settles text (Unread unread) h = h
+  resume_settles text NoMemory h = tt
+
+abbrev part_rest : ℕ → List ℕ → Reader → Tables → List (List Captured) → Contents → Result Aim Refusal
+part_rest slots name r t captures m = Ok (Parting t captures slots name)
+
+abbrev resume_rest : List ℕ → Reader → Tables → List (List Captured) → Contents → Result Aim Refusal
+resume_rest name r t captures m = state_in name m >>= (λ text. Ok (Resuming t captures text))
+
+module _ {S : Type 0} {space : S → Space} {may_fail : Call → S → S → Type 0} {keeps : S → S → Type 0} {old : S}
+    {config : List ℕ} where
   -- ## Stopping
 
-  module _ (slots : ℕ) (name : List ℕ) where
-    abbrev part_rest : Reader → Tables → List (List Captured) → Contents → Result Aim Refusal
-    part_rest r t captures m = Ok (Parting t captures slots name)
-
+  module _ {slots : ℕ} {name : List ℕ} where
     -- reading ends it
-    pub part_ends : (new : S) (halt : Halt) → EndsGiven space may_fail keeps InTurn config old new halt →
-        keeps old new → IsJudged space may_fail keeps InTurn (Part config slots name) old new (Err halt)
-    part_ends new halt ends kept =
-        given_ends space may_fail keeps (Part config slots name) (λ s. refl) old config part_rest (λ r. refl)
-        (λ name. tt) new halt ends kept
+    pub part_ends : {new : S} {halt : Halt} → EndsGiven space may_fail keeps InTurn config old new halt →
+        IsJudged space may_fail keeps InTurn (Part config slots name) old new (Err halt)
+    part_ends ended =
+        given_ends space may_fail keeps (Part config slots name) (λ s. refl) old config (part_rest slots name)
+        (λ r. refl) (λ name. tt) _ _ ended
 
-    module _ (now : S) (given : Given) (is : IsGiven space keeps config old now given) where
-      part_settled : (result : Result Plan Halt) →
-          Settles (Ok (Parting given.tables given.captures slots name)) result →
+    module _ {now : S} {given : Given} (is : IsGiven space keeps config old now given) where
+      part_settled : (result : Result Plan Halt) → Settles (Ok (parting given slots name)) result →
           IfOk result (λ plan. AllByRecursion (λ write. write.0 ≡ name) plan.writes) →
           ((r : Reader) → IfOk result (λ plan. IfSome (space old).told (λ m. IsStopped r config slots name m plan))) →
           IsJudged space may_fail keeps InTurn (Part config slots name) old now result
       part_settled =
           settled space may_fail keeps (Part config slots name) (λ s. refl) old now _
-          (given_so space may_fail keeps (Part config slots name) (λ s. refl) old config part_rest (λ r. refl)
-          (λ name. tt) now given is)
-
-      halt_settles : (halt : Halt) → IsPartHalt given.tables given.captures slots halt →
-          Settles (Ok (Parting given.tables given.captures slots name)) (Err halt)
-      halt_settles (Refused refusal) h = (
-        untold (IsPartRefusal given.tables given.captures slots) (λ h. h) (λ name h. h) refusal h,
-        inr (Parting given.tables given.captures slots name, refl, h),
-      )
-      halt_settles (Unread unread) h = h
-      halt_settles NoMemory h = tt
+          (given_so space may_fail keeps (Part config slots name) (λ s. refl) old config (part_rest slots name)
+          (λ r. refl) (λ name. tt) now given is)
 
       -- there is no text of its state, or memory ran out
       pub part_halts : (halt : Halt) → IsPartHalt given.tables given.captures slots halt →
           IsJudged space may_fail keeps InTurn (Part config slots name) old now (Err halt)
-      part_halts halt h = part_settled (Err halt) (halt_settles halt h) tt (λ r. tt)
+      part_halts halt h = part_settled (Err halt) (part_settles given slots name halt h) tt (λ r. tt)
 
       pub part_plans : (text : List ℕ) (plan : Plan) → AreGiven given.tables given.captures →
           IsPartText given.tables given.captures slots text → plan ≡ state_written name text →
           IsJudged space may_fail keeps InTurn (Part config slots name) old now (Ok plan)
       part_plans text plan are text_is written =
           let P : Plan → Type 0 = λ p. AllByRecursion (λ write. write.0 ≡ name) p.writes in
-          part_settled (Ok plan) (Parting given.tables given.captures slots name, refl, (text, text_is, written))
+          part_settled (Ok plan) (parting given slots name, refl, (text, text_is, written))
           (subst P (sym written) (refl, tt)) (λ r.
           told_two (space old).told _ _ _ (λ m a b. record {
             tables = given.tables;
@@ -112,62 +132,47 @@ module _ {S : Type 0} (space : S → Space) (may_fail : Call → S → S → Typ
 
   -- ## Going on
 
-  module _ (name : List ℕ) where
-    abbrev resume_rest : Reader → Tables → List (List Captured) → Contents → Result Aim Refusal
-    resume_rest r t captures m = state_in name m >>= (λ text. Ok (Resuming t captures text))
-
+  module _ {name : List ℕ} where
     -- reading ends it
-    pub resume_ends : (new : S) (halt : Halt) → EndsGiven space may_fail keeps InTurn config old new halt →
-        keeps old new → IsJudged space may_fail keeps InTurn (Resume config name) old new (Err halt)
-    resume_ends new halt ends kept =
-        given_ends space may_fail keeps (Resume config name) (λ s. refl) old config resume_rest (λ r. refl)
-        (λ name. tt) new halt ends kept
+    pub resume_ends : {new : S} {halt : Halt} → EndsGiven space may_fail keeps InTurn config old new halt →
+        IsJudged space may_fail keeps InTurn (Resume config name) old new (Err halt)
+    resume_ends ended =
+        given_ends space may_fail keeps (Resume config name) (λ s. refl) old config (resume_rest name) (λ r. refl)
+        (λ name. tt) _ _ ended
 
-    module _ (lasts : Lasts keeps) (mid now : S) (given : Given) (is : IsGiven space keeps config old mid given)
+    module _ (lasts : Lasts keeps) {mid now : S} {given : Given} (is : IsGiven space keeps config old mid given)
         (kept : keeps mid now) where
       resume_reached : Reached space may_fail keeps (Resume config name) (λ s. refl) old mid
-          (λ r. resume_rest r given.tables given.captures)
+          (λ r. resume_rest name r given.tables given.captures)
       resume_reached =
-          given_so space may_fail keeps (Resume config name) (λ s. refl) old config resume_rest (λ r. refl)
+          given_so space may_fail keeps (Resume config name) (λ s. refl) old config (resume_rest name) (λ r. refl)
           (λ name. tt) mid given is
 
       -- the text ends it
-      pub text_ends : (halt : Halt) → Judges InTurn (state_in name)
+      pub text_ends : {halt : Halt} → Judges InTurn (state_in name)
           (λ asked. (asked ≡ name) × Fails space may_fail keeps (Reads asked) mid now) (space mid) (space now)
           (Err halt) → IsJudged space may_fail keeps InTurn (Resume config name) old now (Err halt)
-      text_ends halt h =
+      text_ends {halt} h =
           read_ends space may_fail keeps (Resume config name) (λ s. refl) old lasts mid now (λ r. state_in name)
-          (λ r text (m : Contents). Ok (Resuming given.tables given.captures text)) resume_reached kept _ halt (λ r. h)
+          (λ r text (m : Contents). Ok (resuming given text)) resume_reached kept _ halt (λ r. h)
           (λ asked u. (tt, u.1))
 
-      module _ (Q : List ℕ → Type 0) (text : List ℕ)
+      module _ {Q : List ℕ → Type 0} {text : List ℕ}
           (read : Judges InTurn (state_in name) Q (space mid) (space now) (Ok text)) where
-        abbrev aim : Aim
-        aim = Resuming given.tables given.captures text
-
-        resume_settled : (result : Result Plan Halt) → Settles (Ok aim) result →
+        resume_settled : (result : Result Plan Halt) → Settles (Ok (resuming given text)) result →
             IfOk result (λ plan. AllByRecursion (λ write. Unit {0}) plan.writes) →
             ((r : Reader) → IfOk result (λ plan. IfSome (space old).told (λ m. IsTakenUp r config name m plan))) →
             IsJudged space may_fail keeps InTurn (Resume config name) old now result
         resume_settled =
             settled space may_fail keeps (Resume config name) (λ s. refl) old now _
             (read_on space may_fail keeps (Resume config name) (λ s. refl) old lasts mid now (λ r. state_in name)
-            (λ r text (m : Contents). Ok (Resuming given.tables given.captures text)) resume_reached kept Q text
+            (λ r text (m : Contents). Ok (resuming given text)) resume_reached kept Q text
             (λ r. short_stays (State stopped.Long) name) (λ r. read))
-
-        resume_settles : (halt : Halt) → IsResumeHalt given.tables given.captures text halt →
-            Settles (Ok aim) (Err halt)
-        resume_settles (Refused refusal) h = (
-          untold (IsResumeRefusal given.tables given.captures text) (λ h. h) (λ name h. h) refusal h,
-          inr (aim, refl, h),
-        )
-        resume_settles (Unread unread) h = h
-        resume_settles NoMemory h = tt
 
         -- the run cannot go on, or memory ran out
         pub resume_halts : (halt : Halt) → IsResumeHalt given.tables given.captures text halt →
             IsJudged space may_fail keeps InTurn (Resume config name) old now (Err halt)
-        resume_halts halt h = resume_settled (Err halt) (resume_settles halt h) tt (λ r. tt)
+        resume_halts halt h = resume_settled (Err halt) (resume_settles given text halt h) tt (λ r. tt)
 
         -- what was kept of it is built
         pub resume_plans : (c : Crossed) (plan : Plan) → AreGiven given.tables given.captures →
@@ -180,7 +185,7 @@ module _ {S : Type 0} (space : S → Space) (may_fail : Call → S → S → Typ
         resume_plans c plan are goes writes report =
             let written : plan ≡ resumed given.tables given.captures (kept_by c) = plan_is plan _ _ writes report in
             let P : Option Contents → Type 0 = λ o. IfSome o (λ m. state_in name m ≡ Ok text) in
-            resume_settled (Ok plan) (aim, refl, (kept_by c, goes, written)) (all_any plan.writes) (λ r.
+            resume_settled (Ok plan) (resuming given text, refl, (kept_by c, goes, written)) (all_any plan.writes) (λ r.
             told_two (space old).told _ _ _ (λ m (ab : (tables_in config m ≡ Ok given.tables)
             × (captures_in r given.tables m ≡ Ok given.captures)) d. record {
               tables = given.tables;

@@ -86,22 +86,22 @@ plans_uncounted p r command R old new plan (aim, meets, judges) = same_faults co
 
 -- ## Judging a configuration, its captures, and then what the ideal switch sends of them
 
-module _ {S : Type 0} (space : S → Space) (may_fail : Call → S → S → Type 0) (keeps : S → S → Type 0)
-    (command : Command) (knows : (s : Space) → known_to command s ≡ s) (old : S) (config : List ℕ)
+abbrev sent_of : (Tables → List (List Captured) → List Departure → Aim) → Reader → Tables → List (List Captured) →
+    Contents → Result Aim Refusal
+sent_of aim_of r t captures m = ideally_sent t captures >>= (λ sent. Ok (aim_of t captures sent))
+
+module _ {S : Type 0} {space : S → Space} {may_fail : Call → S → S → Type 0} {keeps : S → S → Type 0}
+    {command : Command} {old : S} {config : List ℕ} (knows : (s : Space) → known_to command s ≡ s)
     (aim_of : Tables → List (List Captured) → List Departure → Aim)
     (same : (r : Reader) → judged r command ≡ judged_of_given r config (λ t captures (m : Contents).
     ideally_sent t captures >>= (λ sent. Ok (aim_of t captures sent))))
     (any : (name : List ℕ) → MayRead command name) where
-  abbrev sent_of : Reader → Tables → List (List Captured) → Contents → Result Aim Refusal
-  sent_of r t captures m = ideally_sent t captures >>= (λ sent. Ok (aim_of t captures sent))
-
   -- reading them ends it
-  pub sent_ends : {p : Pace} (new : S) (halt : Halt) → EndsGiven space may_fail keeps p config old new halt →
-      keeps old new → IsJudged space may_fail keeps p command old new (Err halt)
-  sent_ends new halt ends kept =
-      given_ends space may_fail keeps command knows old config sent_of same any new halt ends kept
+  pub sent_ends : {p : Pace} {new : S} {halt : Halt} → EndsGiven space may_fail keeps p config old new halt →
+      IsJudged space may_fail keeps p command old new (Err halt)
+  sent_ends ended = given_ends space may_fail keeps command knows old config (sent_of aim_of) same any _ _ ended
 
-  module _ (now : S) (given : Given) (is : IsGiven space keeps config old now given) where
+  module _ {now : S} {given : Given} (is : IsGiven space keeps config old now given) where
     sent_settled : {p : Pace} (result : Result Plan Halt) →
         Settles (ideally_sent given.tables given.captures >>= (λ sent. Ok (aim_of given.tables given.captures sent)))
         result → IfOk result (λ plan. AllByRecursion (λ write. MayWrite command write.0) plan.writes) →
@@ -109,7 +109,7 @@ module _ {S : Type 0} (space : S → Space) (may_fail : Call → S → S → Typ
         IsJudged space may_fail keeps p command old now result
     sent_settled =
         settled space may_fail keeps command knows old now _
-        (given_so space may_fail keeps command knows old config sent_of same any now given is)
+        (given_so space may_fail keeps command knows old config (sent_of aim_of) same any now given is)
 
     -- the run ends it
     pub sent_halts : {p : Pace} (halt : Halt) → IsHaltOf (ideally_sent given.tables given.captures) halt →

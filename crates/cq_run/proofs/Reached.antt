@@ -112,13 +112,13 @@ module _ {S : Type 0} (space : S → Space) (may_fail : Call → S → S → Typ
       (any : (name : List ℕ) → MayRead command name) where
     -- reading it ends judging
     pub given_ends : {p : Pace} (new : S) (halt : Halt) → EndsGiven space may_fail keeps p config old new halt →
-        keeps old new → IsJudged space may_fail keeps p command old new (Err halt)
-    given_ends {p} new halt ends kept =
+        IsJudged space may_fail keeps p command old new (Err halt)
+    given_ends {p} new halt ended =
         let R : List ℕ → Type 0 = λ name. Fails space may_fail keeps (Reads name) old new in
         let P : (Contents → Result Aim Refusal) → Type 0 = λ j. Judges p j R (space old) (space new) (Err halt) in
         halted new halt (λ r.
         judges_more p (judged r command) R (Failed new) (space old) (space new) (Err halt) (λ name u. (any name, u))
-        (subst P (sym (same r)) (ends r (rest r)))) kept
+        (subst P (sym (same r)) (ended.ends r (rest r)))) ended.kept
 
     -- once it is read, what is judged of it is left
     pub given_so : (now : S) (given : Given) → IsGiven space keeps config old now given →

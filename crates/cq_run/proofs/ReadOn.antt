@@ -19,38 +19,46 @@ use Rattle.cq_run.proofs.Failed.{fails_after}
 use Rattle.cq_run.proofs.OneReading.{from_front}
 use Rattle.cq_run.proofs.Stays.{tables_stay}
 
-module _ {S : Type 0} (space : S → Space) (may_fail : Call → S → S → Type 0) (keeps : S → S → Type 0)
-    (config : List ℕ) (old : S) where
+module _ {S : Type 0} {space : S → Space} {may_fail : Call → S → S → Type 0} {keeps : S → S → Type 0}
+    {config : List ℕ} {old new : S} {p : Pace} where
   -- the configuration ends it, which is read before anything can be read ahead
-  pub tables_end : (p : Pace) (new : S) (halt : Halt) →
-      Judges InTurn (tables_in config) (λ name. (name ≡ config) × Fails space may_fail keeps (Reads name) old new)
-      (space old) (space new) (Err halt) → EndsGiven space may_fail keeps p config old new halt
-  tables_end p new halt h = λ r rest.
-      judges_at p _ _ (space old) (space new) halt
-      (judges_then (tables_in config) (λ (t : Tables) (m : Contents). captures_in r t m >>= (λ cs. rest t cs m)) _
-      (λ name. Fails space may_fail keeps (Reads name) old new) (space old) (space new) halt (λ name u. u.1) h)
+  pub tables_end : {halt : Halt} → keeps old new → Judges InTurn (tables_in config)
+      (λ name. (name ≡ config) × Fails space may_fail keeps (Reads name) old new) (space old) (space new) (Err halt) →
+      EndsGiven space may_fail keeps p config old new halt
+  tables_end {halt} kept h = record {
+    ends = λ r rest.
+        judges_at p _ _ (space old) (space new) halt
+        (judges_then (tables_in config) (λ (t : Tables) (m : Contents). captures_in r t m >>= (λ cs. rest t cs m)) _
+        (λ name. Fails space may_fail keeps (Reads name) old new) (space old) (space new) halt (λ name u. u.1) h);
+    kept = kept;
+  }
 
-  module _ (p : Pace) (mid new : S) (t : Tables) (Q : List ℕ → Type 0) (lasts : Lasts keeps)
-      (read : Judges InTurn (tables_in config) Q (space old) (space mid) (Ok t)) (kept : keeps old mid) where
-    -- the captures end it
-    pub captures_end : (halt : Halt) → ((r : Reader) → Judges p (captures_in r t)
-        (λ name. Fails space may_fail keeps (Reads name) mid new) (space mid) (space new) (Err halt)) →
-        EndsGiven space may_fail keeps p config old new halt
-    captures_end halt h = λ r rest.
+  -- the captures end it
+  pub captures_end : {mid : S} {t : Tables} {Q : List ℕ → Type 0} {halt : Halt} → Lasts keeps →
+      Judges InTurn (tables_in config) Q (space old) (space mid) (Ok t) → keeps old mid → ((r : Reader) →
+      Judges p (captures_in r t) (λ name. Fails space may_fail keeps (Reads name) mid new) (space mid) (space new)
+      (Err halt)) → keeps mid new → EndsGiven space may_fail keeps p config old new halt
+  captures_end {mid} {t} {Q} {halt} lasts read kept h kept_on = record {
+    ends = λ r rest.
         let R : List ℕ → Type 0 = λ name. Fails space may_fail keeps (Reads name) mid new in
         let since : List ℕ → Type 0 = λ name. Fails space may_fail keeps (Reads name) old new in
         judges_after (tables_in config) (λ (t : Tables) (m : Contents). captures_in r t m >>= (λ cs. rest t cs m)) Q R
         since (space old) (space mid) (space new) t halt (tables_stay config)
         (λ name. fails_after space may_fail keeps (Reads name) old mid new lasts read.uncounted kept) read
         (judges_then (captures_in r t) (λ (cs : List (List Captured)) (m : Contents). rest t cs m) R R (space mid)
-        (space new) halt (λ name u. u) (h r))
+        (space new) halt (λ name u. u) (h r));
+    kept = lasts.both old mid new kept kept_on;
+  }
 
-    -- both are there
-    pub given_read : (captures : List (List Captured)) (R : List ℕ → Type 0) → AreTables t →
-        ((r : Reader) → Judges p (captures_in r t) R (space mid) (space new) (Ok captures)) →
-        length captures ≡ ports_of t.setup → keeps mid new →
-        IsGiven space keeps config old new (record { tables = t; captures = captures })
-    given_read captures R in_range h each kept_on = record {
+-- both are there
+pub given_read : {S : Type 0} {space : S → Space} {keeps : S → S → Type 0} {config : List ℕ} {old mid new : S}
+    {p : Pace} {t : Tables} {captures : List (List Captured)} {Q R : List ℕ → Type 0} → Lasts keeps → AreTables t →
+    Judges InTurn (tables_in config) Q (space old) (space mid) (Ok t) → keeps old mid →
+    ((r : Reader) → Judges p (captures_in r t) R (space mid) (space new) (Ok captures)) →
+    length captures ≡ ports_of t.setup → keeps mid new →
+    IsGiven space keeps config old new (record { tables = t; captures = captures })
+given_read {old = old} {mid = mid} {new = new} {t = t} {captures = captures} lasts in_range read kept h each kept_on =
+    record {
       tables = read.ok;
       captures = λ r.
           let P : Option Contents → Type 0 = λ o. IfSome o (λ m. captures_in r t m ≡ Ok captures) in

@@ -38,9 +38,9 @@ judged_of_given r config rest m = do
   rest tables captures m
 
 -- reading ends judging of a configuration, whatever would be judged of what it gives
-abbrev pub EndsGiven : {S : Type 0} → (S → Space) → (Call → S → S → Type 0) → (S → S → Type 0) → Pace → List ℕ → S →
-    S → Halt → Type 0
-EndsGiven space may_fail keeps pace config old new halt =
-    (r : Reader) (rest : Tables → List (List Captured) → Contents → Result Aim Refusal) →
-    Judges pace (judged_of_given r config rest) (λ name. Fails space may_fail keeps (Reads name) old new)
-    (space old) (space new) (Err halt)
+pub record EndsGiven {S : Type 0} (space : S → Space) (may_fail : Call → S → S → Type 0) (keeps : S → S → Type 0)
+    (pace : Pace) (config : List ℕ) (old new : S) (halt : Halt) : Type 0 where
+  pub ends : (r : Reader) (rest : Tables → List (List Captured) → Contents → Result Aim Refusal) →
+      Judges pace (judged_of_given r config rest) (λ name. Fails space may_fail keeps (Reads name) old new)
+      (space old) (space new) (Err halt)
+  pub kept : keeps old new

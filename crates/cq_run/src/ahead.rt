@@ -40,7 +40,6 @@ pub fn stream_given<R: Threads + Wait + Copy + Send + 'static, F: Files, W: Watc
     requires { (F.space files.old).mode ≡ Closed }
     ensures given { IfOk result (IsGiven F.space F.keeps config files.old files.new) }
     ensures ends { IfErr result (EndsGiven F.space F.may_fail F.keeps Ahead config files.old files.new) }
-    ensures kept { F.keeps files.old files.new }
 {
     let tables = read_configuration(alloc, files, config)?;
     let captures = stream_inputs(rt, alloc, files, &tables, watch)?;

@@ -261,7 +261,6 @@ pub fn read_given<F: Files>(alloc: Global, files: &mut F, config: Name) -> Resul
     requires { (F.space files.old).mode ≡ Closed }
     ensures given { IfOk result (IsGiven F.space F.keeps config files.old files.new) }
     ensures ends { IfErr result (EndsGiven F.space F.may_fail F.keeps InTurn config files.old files.new) }
-    ensures kept { F.keeps files.old files.new }
 {
     let tables = read_configuration(alloc, files, config)?;
     let captures = read_inputs(alloc, files, &tables)?;

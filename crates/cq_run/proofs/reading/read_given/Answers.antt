@@ -1,37 +1,21 @@
 use Rattle.std.proofs.lemmas.Result.{err_from_is_err_and}
-use Rattle.cq_run.specs.Pace.{InTurn}
 use Rattle.cq_run.proofs.ReadOn.{captures_end, given_read, tables_end}
 use Rattle.cq_run.proofs.reading.read_given.Goals as goal
 
 pub returns-in_err-tables-clause-ends : goal.returns-in_err-tables-clause-ends
 returns-in_err-tables-clause-ends g c =
     let p = err_from_is_err_and c.from_residual.result c.from_residual.ensures.1 in
-    let F = g.F.Files in
-    rw (p.1, p.2)
-    (tables_end F.space F.may_fail F.keeps c.args.config c.args.files.now InTurn c.read_configuration.new.files
-    c.in_err-tables.field-0.0 c.in_err-tables.ensures.judges)
+    rw (p.1, p.2) (tables_end c.read_configuration.ensures.kept c.in_err-tables.ensures.judges)
 
 pub returns-in_err-captures-clause-ends : goal.returns-in_err-captures-clause-ends
 returns-in_err-captures-clause-ends g c =
     let p = err_from_is_err_and c.from_residual-in_err-captures.result c.from_residual-in_err-captures.ensures.1 in
-    let F = g.F.Files in
     rw (p.1, p.2)
-    (captures_end F.space F.may_fail F.keeps c.args.config c.args.files.now InTurn c.read_configuration.new.files
-    c.read_inputs.new.files c.in_ok-tables.tables _ g.met.F.Files.lasts c.in_ok-tables.ensures.judges
-    c.read_configuration.ensures.kept c.in_err-captures.field-0.0 c.in_err-captures.ensures.judges)
-
-pub returns-in_err-captures-clause-kept : goal.returns-in_err-captures-clause-kept
-returns-in_err-captures-clause-kept g c =
-    g.met.F.Files.lasts.both _ _ _ c.read_configuration.ensures.kept c.read_inputs.ensures.kept
+    (captures_end g.met.F.Files.lasts c.in_ok-tables.ensures.judges c.read_configuration.ensures.kept
+    c.in_err-captures.ensures.judges c.read_inputs.ensures.kept)
 
 pub returns-clause-given : goal.returns-clause-given
 returns-clause-given g c =
-    let F = g.F.Files in
-    given_read F.space F.may_fail F.keeps c.args.config c.args.files.now InTurn c.read_configuration.new.files
-    c.read_inputs.new.files c.in_ok-tables.tables _ g.met.F.Files.lasts c.in_ok-tables.ensures.judges
-    c.read_configuration.ensures.kept c.in_ok-captures.captures _ c.in_ok-tables.ensures.in_range
-    c.in_ok-captures.ensures.judges c.in_ok-captures.ensures.each c.read_inputs.ensures.kept
-
-pub returns-clause-kept : goal.returns-clause-kept
-returns-clause-kept g c =
-    g.met.F.Files.lasts.both _ _ _ c.read_configuration.ensures.kept c.read_inputs.ensures.kept
+    given_read g.met.F.Files.lasts c.in_ok-tables.ensures.in_range c.in_ok-tables.ensures.judges
+    c.read_configuration.ensures.kept c.in_ok-captures.ensures.judges c.in_ok-captures.ensures.each
+    c.read_inputs.ensures.kept
