@@ -43,32 +43,8 @@ fn the_first_check_that_fails_is_told(rt: HostRuntime) -> Result<(), Fail> {
 }
 
 /// Changes of the configuration of two ports: what is replaced, by what, and what it is refused for, if it is.
-const CHANGES: [(&str, &str, Option<(u8, &str)>); 24] = [
-    (
-        "output = 1\n",
-        "output = 1\n[[class]]\nlevel = 0\n",
-        Some((5, "class[0].level")),
-    ),
-    (
-        "write = \"out1.pcap\"\n",
-        "write = \"out1.pcap\"\nlimit = 1\n",
-        None,
-    ),
-    (
-        "write = \"out1.pcap\"\n",
-        "write = \"out1.pcap\"\nlimit = 0\n",
-        Some((4, "port[1].limit")),
-    ),
-    (
-        "write = \"out0.pcap\"\n",
-        "write = \"out0.pcap\"\nlimit = 1000000001\n",
-        Some((4, "port[0].limit")),
-    ),
-    (
-        "write = \"out0.pcap\"\n",
-        "write = \"out0.pcap\"\nlimit = \"1\"\n",
-        Some((3, "port[0].limit")),
-    ),
+const CHANGES: [(&str, &str, Option<(u8, &str)>); 10] = [
+    ("\"out1.pcap\"\n", "\"out1.pcap\"\nlimit = 1\n", None),
     ("00:01\"", "00:00\"", Some((6, "address[1].mac"))),
     ("\"log.txt\"", "\"trace.txt\"", Some((7, "log"))),
     (
@@ -76,63 +52,45 @@ const CHANGES: [(&str, &str, Option<(u8, &str)>); 24] = [
         "\"03:00:00:00:00:00\"",
         Some((8, "address[0].mac")),
     ),
-    (
-        "version = 1\n",
-        "version = 1\ndefault_output = 2\n",
-        Some((9, "default_output")),
-    ),
-    (
-        "version = 1\n",
-        "version = 1\ndefault_class = 1\n",
-        Some((9, "default_class")),
-    ),
     ("trace = \"trace.txt\"\n", "zzz = 1\n", Some((5, "zzz"))),
-    (
-        "version = 1\n",
-        "version = 1\nclass = []\n",
-        Some((4, "class")),
-    ),
     ("00:01\"", "00:1\"", Some((8, "address[1].mac"))),
     ("\"out1.pcap\"", "\"in0.pcap\"", Some((7, "port[1].write"))),
     // two ports may read one file
     ("in1.pcap", "in0.pcap", None),
     ("\"in1.pcap\"", "\"out0.pcap\"", Some((7, "port[1].read"))),
     ("output = 1", "output = 2", Some((9, "address[1].output"))),
+];
+
+// The lines of that configuration, or their ends, behind which others are put.
+const TOP: &str = "version = 1\n";
+
+const OUT_0: &str = "\"out0.pcap\"\n";
+
+const OUT_1: &str = "\"out1.pcap\"\n";
+
+const END: &str = "output = 1\n";
+
+/// Lines that are put behind one of the configuration of two ports, with the check and the key that it is refused for.
+const ADDITIONS: [(&str, &str, u8, &str); 14] = [
+    (END, "[[class]]\nlevel = 0\n", 5, "class[0].level"),
+    (OUT_1, "limit = 0\n", 4, "port[1].limit"),
+    (OUT_0, "limit = 1000000001\n", 4, "port[0].limit"),
+    (OUT_0, "limit = \"1\"\n", 3, "port[0].limit"),
+    (TOP, "default_output = 2\n", 9, "default_output"),
+    (TOP, "default_class = 1\n", 9, "default_class"),
+    (TOP, "class = []\n", 4, "class"),
+    (END, "[[rule]]\nclass = 1\n", 9, "rule[0].class"),
+    (END, "[[rule]]\npcp = 8\n", 4, "rule[0].pcp"),
+    (END, "[[class]]\ncost = \"0\"\n", 4, "class[0].cost"),
+    (END, "[[class]]\ncost = -1\n", 4, "class[0].cost"),
     (
-        "output = 1\n",
-        "output = 1\n[[rule]]\nclass = 1\n",
-        Some((9, "rule[0].class")),
+        END,
+        "[[class]]\ncost = \"340282366920938463463374607431768211456\"\n",
+        4,
+        "class[0].cost",
     ),
-    (
-        "output = 1\n",
-        "output = 1\n[[rule]]\npcp = 8\n",
-        Some((4, "rule[0].pcp")),
-    ),
-    (
-        "output = 1\n",
-        "output = 1\n[[class]]\ncost = \"0\"\n",
-        Some((4, "class[0].cost")),
-    ),
-    (
-        "output = 1\n",
-        "output = 1\n[[class]]\ncost = -1\n",
-        Some((4, "class[0].cost")),
-    ),
-    (
-        "output = 1\n",
-        "output = 1\n[[class]]\ncost = \"340282366920938463463374607431768211456\"\n",
-        Some((4, "class[0].cost")),
-    ),
-    (
-        "output = 1\n",
-        "output = 1\n[[class]]\npriority = 1.5\n",
-        Some((3, "class[0].priority")),
-    ),
-    (
-        "\"out1.pcap\"\n",
-        "\"out1.pcap\"\ndiscipline = \"fifo\"\n",
-        Some((4, "port[1].discipline")),
-    ),
+    (END, "[[class]]\npriority = 1.5\n", 3, "class[0].priority"),
+    (OUT_1, "discipline = \"fifo\"\n", 4, "port[1].discipline"),
 ];
 
 /// Whether the configuration of two ports, changed so, is told this.
@@ -146,20 +104,28 @@ fn change_is_told(
     Ok(is_told(alloc, text.as_bytes(), told))
 }
 
-/// Classes of the configuration of two ports in version 2, behind its last line, and what it is refused for, if it is.
+/// Whether a configuration, with these lines behind one of its own, is told this.
+fn addition_is_told(
+    alloc: Global,
+    text: &str,
+    line: &str,
+    added: &str,
+    told: Option<(u8, &str)>,
+) -> Result<bool, NoMemory> {
+    let mut new = String::from_str(alloc, line)?;
+    new.push_str(added)?;
+    let text = text.replacen(alloc, line, &new, 1)?;
+    Ok(is_told(alloc, text.as_bytes(), told))
+}
+
+/// Classes of the configuration of two ports in version 2, and what it is refused for, if it is.
 const LEVELS: [(&str, Option<(u8, &str)>); 5] = [
-    ("output = 1\n[[class]]\nlevel = 0\n", None),
-    ("output = 1\n[[class]]\n[[class]]\nlevel = 15\n", None),
+    ("[[class]]\nlevel = 0\n", None),
+    ("[[class]]\n[[class]]\nlevel = 15\n", None),
+    ("[[class]]\nlevel = 16\n", Some((4, "class[0].level"))),
+    ("[[class]]\nlevel = \"1\"\n", Some((3, "class[0].level"))),
     (
-        "output = 1\n[[class]]\nlevel = 16\n",
-        Some((4, "class[0].level")),
-    ),
-    (
-        "output = 1\n[[class]]\nlevel = \"1\"\n",
-        Some((3, "class[0].level")),
-    ),
-    (
-        "output = 1\n[[class]]\nlevel = 16\npriority = -1\n",
+        "[[class]]\nlevel = 16\npriority = -1\n",
         Some((4, "class[0].priority")),
     ),
 ];
@@ -171,8 +137,7 @@ fn levels_are_told(
     told: Option<(u8, &str)>,
 ) -> Result<bool, NoMemory> {
     let newer = TWO_PORTS.replacen(alloc, "version = 1", "version = 2", 1)?;
-    let text = newer.replacen(alloc, "output = 1\n", classes, 1)?;
-    Ok(is_told(alloc, text.as_bytes(), told))
+    addition_is_told(alloc, &newer, END, classes, told)
 }
 
 #[test]
@@ -187,6 +152,13 @@ fn a_class_has_a_level_in_version_two(rt: HostRuntime) -> Result<(), Fail> {
 fn a_change_of_a_good_configuration_is_told_at_its_key(rt: HostRuntime) -> Result<(), Fail> {
     for (old, new, told) in CHANGES {
         assert!(rt; change_is_told(rt.alloc(), old, new, told)?, "{new}");
+    }
+    for (line, added, check, key) in ADDITIONS {
+        let told = Some((check, key));
+        assert!(rt;
+            addition_is_told(rt.alloc(), TWO_PORTS, line, added, told)?,
+            "{added}"
+        );
     }
     Ok(())
 }
