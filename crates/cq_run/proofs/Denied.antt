@@ -24,7 +24,6 @@ use Rattle.cq_simulate.specs.declared.refusal.RunRefusal.{RunRefusal}
 use Rattle.cq_simulate.specs.declared.refusal.RunRefusal.TheVariants as run
 use Rattle.cq_run.specs.declared.denial.Denial.TheVariants.{Blocking, Left, Line, Trace, Transfer}
 use Rattle.cq_run.specs.declared.refusal.Refusal.TheVariants.{Audit}
-use Rattle.cq_run.specs.declared.stop.Halt.{Halt}
 use Rattle.cq_run.specs.declared.stop.Halt.TheVariants.{Refused}
 use Rattle.cq_run.specs.AuditEnds.{IsAuditHalted, IsAuditPassed}
 use Rattle.cq_run.specs.Auditing.{halt_for_log}
@@ -123,21 +122,3 @@ module _ (t : Tables) (captures : List (List Captured)) (came : List Arrival) (t
         meets = record { log_is = log_is; trace_is = equal ∙ same };
         departed = departed traffic;
       }
-
--- ## The same captures, trace and log
-
-module _ (t : Tables) (cs ds : List (List Captured)) (trace text log bytes : List ℕ) (e : cs ≡ ds) (f : trace ≡ text)
-    (g : log ≡ bytes) where
-  pub passed_over : IsAuditPassed t cs trace log → IsAuditPassed t ds text bytes
-  passed_over h =
-      let P : List (List Captured) → Type 0 = λ x. IsAuditPassed t x trace log in
-      let Q : List ℕ → Type 0 = λ x. IsAuditPassed t ds x log in
-      let R : List ℕ → Type 0 = λ x. IsAuditPassed t ds text x in
-      subst R g (subst Q f (subst P e h))
-
-  pub halted_over : (halt : Halt) → IsAuditHalted t cs trace log halt → IsAuditHalted t ds text bytes halt
-  halted_over halt h =
-      let P : List (List Captured) → Type 0 = λ x. IsAuditHalted t x trace log halt in
-      let Q : List ℕ → Type 0 = λ x. IsAuditHalted t ds x log halt in
-      let R : List ℕ → Type 0 = λ x. IsAuditHalted t ds text x halt in
-      subst R g (subst Q f (subst P e h))

@@ -25,7 +25,7 @@ use Rattle.cq_run.specs.Headline.{AreGiven, IsStopped, IsTakenUp}
 use Rattle.cq_run.specs.Judged.{IsJudged}
 use Rattle.cq_run.specs.Judging.{Judges}
 use Rattle.cq_run.specs.Pace.{InTurn}
-use Rattle.cq_run.specs.PartEnds.{IsPartHalt, IsResumeHalt, IsResumedBy, kept_by}
+use Rattle.cq_run.specs.PartEnds.{IsPartHalt, IsResumeHalt, kept_by}
 use Rattle.cq_run.specs.Parting.{IsPartRefusal, IsPartText, IsResumeRefusal, IsResumedText}
 use Rattle.cq_run.specs.Plan.{Plan}
 use Rattle.cq_run.specs.Plans.{captures_out, resumed, state_written}
@@ -199,28 +199,3 @@ module _ {S : Type 0} {space : S → Space} {may_fail : Call → S → S → Typ
               goes_on = goes;
               written = written;
             }) (told_two (space old).told _ _ _ (λ m a b. (a, b)) is.tables (is.captures r)) (subst P is.told read.ok))
-
--- ## The same captures and text
-
-module _ (t : Tables) (cs ds : List (List Captured)) (e : cs ≡ ds) where
-  pub given_over : AreGiven t cs → AreGiven t ds
-  given_over h = let P : List (List Captured) → Type 0 = λ x. AreGiven t x in subst P e h
-
-  pub parted_over : (slots : ℕ) (text : List ℕ) → IsPartText t cs slots text → IsPartText t ds slots text
-  parted_over slots text h = let P : List (List Captured) → Type 0 = λ x. IsPartText t x slots text in subst P e h
-
-  pub part_halt_over : (slots : ℕ) (halt : Halt) → IsPartHalt t cs slots halt → IsPartHalt t ds slots halt
-  part_halt_over slots halt h = let P : List (List Captured) → Type 0 = λ x. IsPartHalt t x slots halt in subst P e h
-
-module _ (t : Tables) (cs ds : List (List Captured)) (text bytes : List ℕ) (e : cs ≡ ds) (f : text ≡ bytes) where
-  pub resumed_over : (c : Crossed) → IsResumedBy t cs text c → IsResumedBy t ds bytes c
-  resumed_over c h =
-      let P : List (List Captured) → Type 0 = λ x. IsResumedBy t x text c in
-      let Q : List ℕ → Type 0 = λ x. IsResumedBy t ds x c in
-      subst Q f (subst P e h)
-
-  pub resume_halt_over : (halt : Halt) → IsResumeHalt t cs text halt → IsResumeHalt t ds bytes halt
-  resume_halt_over halt h =
-      let P : List (List Captured) → Type 0 = λ x. IsResumeHalt t x text halt in
-      let Q : List ℕ → Type 0 = λ x. IsResumeHalt t ds x halt in
-      subst Q f (subst P e h)

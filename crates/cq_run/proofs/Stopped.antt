@@ -9,7 +9,7 @@ use Rattle.cq_pcap.specs.Captured.{Captured}
 use Rattle.cq_resume.specs.Parts.{IsParted}
 use Rattle.cq_resume.specs.Reading.{IsRead, IsRefusal, state_of}
 use Rattle.cq_resume.specs.Resumed.{IsResumed}
-use Rattle.cq_resume.specs.Switch.{switch_of}
+use Rattle.cq_resume.specs.Switch.{Switch, switch_of}
 use Rattle.cq_resume.specs.declared.refusal.StateRefusal.{StateRefusal}
 use Rattle.cq_resume.specs.declared.refusal.StateRefusal.TheVariants as of_state
 use Rattle.cq_resume.specs.declared.taken.Taken.{Taken}
@@ -44,115 +44,82 @@ same_state x sent sent' note note' a a' b b' n n' e f g h i =
     ∙ ap (λ (k : ℕ). state_of x sent' note' a' k n) h
     ∙ ap (λ (k : ℕ). state_of x sent' note' a' b' k) i
 
-module _ (t : Tables) (captures : List (List Captured)) (s : Scheduled) (is : s ≡ schedule_of t captures) where
+-- what was read can be taken up
+pub taken_up : {w : Switch} {text : List ℕ} {from : Taken} → IsRead w text from → CanBeTakenUp w from
+taken_up read = record {
+  state = read.state;
+  in_range = read.in_range;
+  shape = read.shape;
+  sound = read.sound;
+  told = read.told;
+}
+
+module _ (t : Tables) (captures : List (List Captured)) where
+  abbrev schedule : Scheduled
+  schedule = schedule_of t captures
+
   -- ## Stopping
 
   module _ (slots : ℕ) where
-    part_halt_at : (refusal : RunRefusal) →
-        IsPartFault (switch_of t (schedule_of t captures)) (openings_of t.setup) slots refusal →
-        IsPartHalt t captures slots (halt_of refusal)
-    part_halt_at (of_run.Tag fault) h = h
-    part_halt_at of_run.NoMemory h = tt
-
     -- a slot before meets a tag fault, or memory ran out
-    pub part_halt : (refusal : RunRefusal) → IsPartFault (switch_of t s) (openings_of t.setup) slots refusal →
+    pub part_halt : (refusal : RunRefusal) → IsPartFault (switch_of t schedule) (openings_of t.setup) slots refusal →
         IsPartHalt t captures slots (halt_of refusal)
-    part_halt refusal h =
-        let P : Scheduled → Type 0 = λ x. IsPartFault (switch_of t x) (openings_of t.setup) slots refusal in
-        part_halt_at refusal (subst P is h)
+    part_halt (of_run.Tag fault) h = h
+    part_halt of_run.NoMemory h = tt
 
-    module _ (at : Taken) (parted : IsParted (switch_of t s) (openings_of t.setup) slots at) (told : State)
-        (tells : told ≡ state_of at.frozen at.sent at.note s.first_stamp (classes_of t.setup) (length s.came)) where
-      parted_at : IsParted (switch_of t (schedule_of t captures)) (openings_of t.setup) slots at
-      parted_at =
-          let P : Scheduled → Type 0 = λ x. IsParted (switch_of t x) (openings_of t.setup) slots at in subst P is parted
-
+    module _ (at : Taken) (parted : IsParted (switch_of t schedule) (openings_of t.setup) slots at) (told : State)
+        (tells : told ≡ state_of at.frozen at.sent at.note schedule.first_stamp (classes_of t.setup)
+        (length schedule.came)) where
       told_at : state_text told ≡ text_at t captures at
-      told_at =
-          ap (λ (x : State). state_text x) tells
-          ∙ ap (λ (x : Scheduled). state_text (state_of at.frozen at.sent at.note x.first_stamp (classes_of t.setup)
-          (length x.came))) is
+      told_at = ap (λ (x : State). state_text x) tells
 
       -- the text of its state
       pub part_text : (text : List ℕ) → text ≡ state_text told → length text ≤ 2 ^ 28 → IsPartText t captures slots text
-      part_text text e short = record { at = at; parted = parted_at; told = e ∙ told_at; short = short }
+      part_text text e short = record { at = at; parted = parted; told = e ∙ told_at; short = short }
 
       -- which is too long, or memory ran out
       pub part_long : (refusal : StateLong) → IsTooLong (state_text told) refusal →
           IsPartHalt t captures slots (halt_for_text refusal)
       part_long of_text.Long h =
           let P : List ℕ → Type 0 = λ text. 2 ^ 28 < length text in
-          record { at = at; parted = parted_at; long = subst P told_at h }
+          record { at = at; parted = parted; long = subst P told_at h }
       part_long of_text.NoMemory h = tt
 
   -- ## Going on
 
   module _ (text : List ℕ) where
-    resume_refused_at : (refusal : StateRefusal) → IsRefusal (switch_of t (schedule_of t captures)) text refusal →
-        IsResumeHalt t captures text (halt_for_state refusal)
-    resume_refused_at (of_state.Text line) h = h
-    resume_refused_at of_state.Shape h = h
-    resume_refused_at (of_state.Unsound clause) h = h
-    resume_refused_at of_state.NoMemory h = tt
-
     -- the text is none of a sound state, or memory ran out
-    pub resume_refused : (refusal : StateRefusal) → IsRefusal (switch_of t s) text refusal →
+    pub resume_refused : (refusal : StateRefusal) → IsRefusal (switch_of t schedule) text refusal →
         IsResumeHalt t captures text (halt_for_state refusal)
-    resume_refused refusal h =
-        let P : Scheduled → Type 0 = λ x. IsRefusal (switch_of t x) text refusal in
-        resume_refused_at refusal (subst P is h)
+    resume_refused (of_state.Text line) h = h
+    resume_refused of_state.Shape h = h
+    resume_refused (of_state.Unsound clause) h = h
+    resume_refused of_state.NoMemory h = tt
 
-    module _ (from : Taken) (read : IsRead (switch_of t s) text from) where
-      -- it can be taken up
-      pub taken_up : CanBeTakenUp (switch_of t s) from
-      taken_up = record {
-        state = read.state;
-        in_range = read.in_range;
-        shape = read.shape;
-        sound = read.sound;
-        told = read.told;
-      }
-
-      read_at : IsRead (switch_of t (schedule_of t captures)) text from
-      read_at = let P : Scheduled → Type 0 = λ x. IsRead (switch_of t x) text from in subst P is read
-
-      resume_halt_at : (refusal : RunRefusal) → IsResumeFault (switch_of t (schedule_of t captures)) from refusal →
-          IsResumeHalt t captures text (halt_of refusal)
-      resume_halt_at (of_run.Tag fault) h = record { from = from; read = read_at; stops = h }
-      resume_halt_at of_run.NoMemory h = tt
-
+    module _ (from : Taken) (read : IsRead (switch_of t schedule) text from) where
       -- a slot from there on meets a tag fault, or memory ran out
-      pub resume_halt : (refusal : RunRefusal) → IsResumeFault (switch_of t s) from refusal →
+      pub resume_halt : (refusal : RunRefusal) → IsResumeFault (switch_of t schedule) from refusal →
           IsResumeHalt t captures text (halt_of refusal)
-      resume_halt refusal h =
-          let P : Scheduled → Type 0 = λ x. IsResumeFault (switch_of t x) from refusal in
-          resume_halt_at refusal (subst P is h)
+      resume_halt (of_run.Tag fault) h = record { from = from; read = read; stops = h }
+      resume_halt of_run.NoMemory h = tt
 
-      module _ (run : FabricRun) (resumed : IsResumed (switch_of t s) from (kept_of run)) where
-        pub resumed_at : IsResumed (switch_of t (schedule_of t captures)) from (kept_of run)
-        resumed_at =
-            let P : Scheduled → Type 0 = λ x. IsResumed (switch_of t x) from (kept_of run) in subst P is resumed
-
-        taken_up_at : CanBeTakenUp (switch_of t (schedule_of t captures)) from
-        taken_up_at = let P : Scheduled → Type 0 = λ x. CanBeTakenUp (switch_of t x) from in subst P is taken_up
-
+      module _ (run : FabricRun) (resumed : IsResumed (switch_of t schedule) from (kept_of run)) (are : AreTables t)
+          (many : length captures ≡ ports_of t.setup) where
         -- what it keeps is that of the run that goes on, and leaves in whole packets
-        pub resumed_by : (stamp : ℕ) → stamp ≡ s.first_stamp → AreTables t → length captures ≡ ports_of t.setup →
-            IsResumedBy t captures text (record {
-              switched = record { sent = run.sent; first_stamp = stamp };
-              note = run.note;
-              figures = run.figures;
-              refused = run.refused;
-            })
-        resumed_by stamp e are many = record {
-          resumed = record { from = from; read = read_at; resumed = resumed_at };
+        pub resumed_by : (stamp : ℕ) → stamp ≡ schedule.first_stamp → IsResumedBy t captures text (record {
+          switched = record { sent = run.sent; first_stamp = stamp };
+          note = run.note;
+          figures = run.figures;
+          refused = run.refused;
+        })
+        resumed_by stamp e = record {
+          resumed = record { from = from; read = read; resumed = resumed };
           sent = record {
-            whole = resumed_whole t captures from (kept_of run) are many taken_up_at resumed_at;
-            first_stamp = e ∙ ap (λ (x : Scheduled). x.first_stamp) is;
+            whole = resumed_whole t captures from (kept_of run) are many (taken_up read) resumed;
+            first_stamp = e;
           };
         }
 
         -- no output sent more cells than there were slots
-        pub reportable : AreTables t → length captures ≡ ports_of t.setup →
-            All (λ x. x.cells ≤ run.figures.slots) run.figures.outputs
-        reportable are many = resumed_counts t captures from (kept_of run) are many taken_up_at resumed_at
+        pub reportable : All (λ x. x.cells ≤ run.figures.slots) run.figures.outputs
+        reportable = resumed_counts t captures from (kept_of run) are many (taken_up read) resumed

@@ -21,15 +21,13 @@ returns-clause-given g c = record {
 -- the state is told by what was lent of the run
 pub returns-clause-text : goal.returns-clause-text
 returns-clause-text g c =
+    let is = c.in_ok-schedule.ensures.schedule in
     let run = c.in_ok-parted.parted in
-    let schedule = c.in_ok-schedule.schedule in
-    part_text c.args.tables.now c.args.captures.now schedule c.in_ok-schedule.ensures.schedule c.args.slots
-    (taken_at run)
-    c.in_ok-parted.ensures.parted _
-    (same_state run.frozen c.items.result.now run.sent.items c.items-2.result.now run.note.items _ schedule.first_stamp
-    _ _ _ _
-    c.items.ensures c.items-2.ensures c.t0.ensures (ap (λ (rows : List ClassRow). length rows) c.as_slice.ensures)
-    c.total.ensures.cells)
+    part_text c.args.tables.now c.args.captures.now c.args.slots (taken_at run)
+    (rw is at c.in_ok-parted.ensures.parted) _
+    (same_state run.frozen c.items.result.now run.sent.items c.items-2.result.now run.note.items _ _ _ _ _ _
+    c.items.ensures c.items-2.ensures (rw is at c.t0.ensures)
+    (ap (λ (rows : List ClassRow). length rows) c.as_slice.ensures) (rw is at c.total.ensures.cells))
     c.in_ok-state_bytes.field-0.items c.in_ok-state_bytes.ensures.text c.in_ok-state_bytes.ensures.short
 
 -- ## Want of memory, a tag fault, and a text that is too long
@@ -41,23 +39,20 @@ returns-in_err-schedule-clause-refused g c =
 pub returns-in_err-parted-clause-refused : goal.returns-in_err-parted-clause-refused
 returns-in_err-parted-clause-refused g c =
     let p = err_from_is_err_and c.from_residual-in_err-parted.result c.from_residual-in_err-parted.ensures.1 in
+    let refused = rw c.in_ok-schedule.ensures.schedule at c.in_err-parted.ensures.refused in
     rw (p.1, p.2)
-    (part_halt c.args.tables.now c.args.captures.now c.in_ok-schedule.schedule c.in_ok-schedule.ensures.schedule
-    c.args.slots
-    c.in_err-parted.field-0.0 c.in_err-parted.ensures.refused)
+    (part_halt c.args.tables.now c.args.captures.now c.args.slots c.in_err-parted.field-0.0 refused)
 
 pub returns-in_err-state_bytes-clause-refused : goal.returns-in_err-state_bytes-clause-refused
 returns-in_err-state_bytes-clause-refused g c =
+    let is = c.in_ok-schedule.ensures.schedule in
     let run = c.in_ok-parted.parted in
-    let schedule = c.in_ok-schedule.schedule in
-    let p = err_from_is_err_and c.from_residual-in_err-state_bytes.result c.from_residual-in_err-state_bytes.ensures.1
-    in
+    let left = c.from_residual-in_err-state_bytes in
+    let p = err_from_is_err_and left.result left.ensures.1 in
     rw (p.1, p.2)
-    (part_long c.args.tables.now c.args.captures.now schedule c.in_ok-schedule.ensures.schedule c.args.slots
-    (taken_at run)
-    c.in_ok-parted.ensures.parted _
-    (same_state run.frozen c.items.result.now run.sent.items c.items-2.result.now run.note.items _ schedule.first_stamp
-    _ _ _ _
-    c.items.ensures c.items-2.ensures c.t0.ensures (ap (λ (rows : List ClassRow). length rows) c.as_slice.ensures)
-    c.total.ensures.cells)
+    (part_long c.args.tables.now c.args.captures.now c.args.slots (taken_at run)
+    (rw is at c.in_ok-parted.ensures.parted) _
+    (same_state run.frozen c.items.result.now run.sent.items c.items-2.result.now run.note.items _ _ _ _ _ _
+    c.items.ensures c.items-2.ensures (rw is at c.t0.ensures)
+    (ap (λ (rows : List ClassRow). length rows) c.as_slice.ensures) (rw is at c.total.ensures.cells))
     c.in_err-state_bytes.field-0.0 c.in_err-state_bytes.ensures.long)

@@ -11,9 +11,7 @@ read_state-requires-clause-schedule g c = record {
 }
 
 pub resume_fabric-requires-clause-sound : goal.resume_fabric-requires-clause-sound
-resume_fabric-requires-clause-sound g c κs within =
-    taken_up c.args.tables.now c.args.captures.now c.in_ok-schedule.schedule c.in_ok-schedule.ensures.schedule
-    c.args.text.now c.in_ok-taken.taken c.in_ok-taken.ensures.read
+resume_fabric-requires-clause-sound g c κs within = taken_up c.in_ok-taken.ensures.read
 
 pub returns-clause-given : goal.returns-clause-given
 returns-clause-given g c = record {
@@ -24,17 +22,17 @@ returns-clause-given g c = record {
 
 pub returns-clause-resumed : goal.returns-clause-resumed
 returns-clause-resumed g c =
-    resumed_by c.args.tables.now c.args.captures.now c.in_ok-schedule.schedule c.in_ok-schedule.ensures.schedule
-    c.args.text.now c.in_ok-taken.taken c.in_ok-taken.ensures.read (unpacked_run c.in_ok-resumed.resumed)
-    c.in_ok-resumed.ensures.run
-    c.t0.result c.t0.ensures c.requires.tables c.requires.captures
+    let is = c.in_ok-schedule.ensures.schedule in
+    resumed_by c.args.tables.now c.args.captures.now c.args.text.now c.in_ok-taken.taken
+    (rw is at c.in_ok-taken.ensures.read) (unpacked_run c.in_ok-resumed.resumed)
+    (rw is at c.in_ok-resumed.ensures.run) c.requires.tables c.requires.captures c.t0.result (rw is at c.t0.ensures)
 
 pub returns-clause-reportable : goal.returns-clause-reportable
 returns-clause-reportable g c =
-    reportable c.args.tables.now c.args.captures.now c.in_ok-schedule.schedule c.in_ok-schedule.ensures.schedule
-    c.args.text.now c.in_ok-taken.taken c.in_ok-taken.ensures.read (unpacked_run c.in_ok-resumed.resumed)
-    c.in_ok-resumed.ensures.run
-    c.requires.tables c.requires.captures
+    let is = c.in_ok-schedule.ensures.schedule in
+    reportable c.args.tables.now c.args.captures.now c.args.text.now c.in_ok-taken.taken
+    (rw is at c.in_ok-taken.ensures.read) (unpacked_run c.in_ok-resumed.resumed)
+    (rw is at c.in_ok-resumed.ensures.run) c.requires.tables c.requires.captures
 
 -- ## Want of memory, a text that is refused, and a tag fault
 
@@ -45,14 +43,15 @@ returns-in_err-schedule-clause-refused g c =
 pub returns-in_err-taken-clause-refused : goal.returns-in_err-taken-clause-refused
 returns-in_err-taken-clause-refused g c =
     let p = err_from_is_err_and c.from_residual-in_err-taken.result c.from_residual-in_err-taken.ensures.1 in
+    let cause = rw c.in_ok-schedule.ensures.schedule at c.in_err-taken.ensures.cause in
     rw (p.1, p.2)
-    (resume_refused c.args.tables.now c.args.captures.now c.in_ok-schedule.schedule c.in_ok-schedule.ensures.schedule
-    c.args.text.now c.in_err-taken.field-0.0 c.in_err-taken.ensures.cause)
+    (resume_refused c.args.tables.now c.args.captures.now c.args.text.now c.in_err-taken.field-0.0 cause)
 
 pub returns-in_err-resumed-clause-refused : goal.returns-in_err-resumed-clause-refused
 returns-in_err-resumed-clause-refused g c =
+    let is = c.in_ok-schedule.ensures.schedule in
     let p = err_from_is_err_and c.from_residual-in_err-resumed.result c.from_residual-in_err-resumed.ensures.1 in
+    let refused = rw is at c.in_err-resumed.ensures.refused in
     rw (p.1, p.2)
-    (resume_halt c.args.tables.now c.args.captures.now c.in_ok-schedule.schedule c.in_ok-schedule.ensures.schedule
-    c.args.text.now c.in_ok-taken.taken c.in_ok-taken.ensures.read c.in_err-resumed.field-0.0
-    c.in_err-resumed.ensures.refused)
+    (resume_halt c.args.tables.now c.args.captures.now c.args.text.now c.in_ok-taken.taken
+    (rw is at c.in_ok-taken.ensures.read) c.in_err-resumed.field-0.0 refused)
