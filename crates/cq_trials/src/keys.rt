@@ -26,10 +26,9 @@ pub const DEFAULTS: Keys = Keys {
 
 /// A fair output, where a cell costs 2^128 - 1.
 pub const DEAREST: Keys = Keys {
-    version: 1,
-    first: "",
     port: "discipline = \"fair\"\n",
     last: "[[class]]\ncost = \"340282366920938463463374607431768211455\"\n",
+    ..DEFAULTS
 };
 
 /// The configuration of a switch with so many workers, whose input i reads `in<i>.pcap` and whose output

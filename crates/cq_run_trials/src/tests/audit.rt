@@ -26,18 +26,7 @@ fn is_read_as(alloc: Global, log: &[u8], told: &[Transfer]) -> bool {
 
 #[test]
 fn the_log_of_two_cells_for_one_output_is_read(rt: HostRuntime) {
-    let crossing = |phase, input| Transfer {
-        slot: 0,
-        phase,
-        input,
-        output: 0,
-        id: CellId {
-            input,
-            packet: 0,
-            index: 0,
-        },
-    };
-    assert!(rt; is_read_as(rt.alloc(), LOG, &[crossing(1, 0), crossing(2, 1)]));
+    assert!(rt; is_read_as(rt.alloc(), LOG, &[crossing(1, 0, 0), crossing(2, 1, 0)]));
 }
 
 // The line at fault, or 0 where there is none.
@@ -118,16 +107,16 @@ fn one_waits(alloc: Global, input: Port) -> Result<InputList, NoMemory>
     Ok(list)
 }
 
-// The line of an input whose first cell crosses to an output.
-fn crossing(input: Port, output: Port) -> Transfer
+// The line of an input whose first cell crosses to an output in a phase of slot zero.
+fn crossing(phase: u8, input: Port, output: Port) -> Transfer
     ensures slot { result.slot ≡ 0 }
-    ensures phase { result.phase ≡ 1 }
+    ensures phase { result.phase ≡ phase }
     ensures input { result.input ≡ input }
     ensures output { result.output ≡ output }
 {
     Transfer {
         slot: 0,
-        phase: 1,
+        phase,
         input,
         output,
         id: first_of(input),
@@ -152,14 +141,14 @@ fn phases_are_told(alloc: Global) -> Result<bool, NoMemory> {
     let lists = [one_waits(alloc, 0)?, one_waits(alloc, 1)?];
     let mut offers = Offers::new(alloc, 2)?;
     offers.fill(&lists);
-    let first = crossing(0, 0);
-    let second = crossing(1, 0);
+    let first = crossing(1, 0, 0);
+    let second = crossing(1, 1, 0);
     let unsettled = Some(PhaseFault::Blocking(0, 0));
     Ok(
         verdict(&lists, &offers, &[first]) == None
             && verdict(&lists, &offers, &[]) == unsettled
             && verdict(&lists, &offers, &[second]) == unsettled
-            && verdict(&lists, &offers, &[crossing(0, 1)]) == Some(PhaseFault::WrongLine(0))
+            && verdict(&lists, &offers, &[crossing(1, 0, 1)]) == Some(PhaseFault::WrongLine(0))
             && verdict(&lists, &offers, &[first, second]) == Some(PhaseFault::WrongLine(1)),
     )
 }
@@ -174,7 +163,7 @@ fn a_phase_is_refused_at_its_first_wrong_line_or_first_unsettled_pair(
 
 #[test]
 fn the_lines_of_a_phase_stand_at_the_front(rt: HostRuntime) {
-    let lines = [crossing(0, 0), crossing(1, 1)];
+    let lines = [crossing(1, 0, 0), crossing(1, 1, 1)];
     for (phase, first, behind) in [(1, 2, 0), (2, 0, 2)] {
         assert!(rt; parts_into(&lines, phase, first, behind), "{phase}");
     }

@@ -1,5 +1,5 @@
 //! Captures, and the slots in which their cells arrive.
-ghost use Rattle.std.specs.Prelude.{◌≡◌};
+ghost use Rattle.std.specs.Prelude.{◌≡◌, IfOk, IfSome};
 
 use super::given::{Come, captures_of, one_port, three_ports};
 use cq_base::{Arrivals, NoMemory, Port, Slot};
@@ -110,24 +110,37 @@ fn has_counts(schedule: &Schedule) -> bool
         ) == (3, 1, 0)
 }
 
+// The slots of what comes to three ports, where all of it can be read.
+fn at_three_ports<R: Threads + Sync>(
+    rt: &R,
+    alloc: Global,
+    inputs: &[&[Come]],
+) -> Result<Option<Schedule>, NoMemory>
+    ensures { IfOk result (λ found. IfSome found (λ schedule. schedule.ports ≡ 3)) }
+{
+    let tables = three_ports(alloc)?;
+    let captures = captures_of(alloc, inputs)?;
+    if captures.len() != 3 {
+        return Ok(None);
+    }
+    Ok(Some(Schedule::of(rt, alloc, &captures, &tables)?))
+}
+
 // Whether at three ports these arrive in slot after slot, and as many in all.
 fn arrive_at_three_ports<R: Threads + Sync>(
     rt: &R,
     alloc: Global,
     slots: &[(Slot, AtThree)],
 ) -> Result<bool, NoMemory> {
-    let tables = three_ports(alloc)?;
     let inputs: [&[Come]; 3] = [
         &[(1024, 60, 0)],
         &[(1024, 60, 0)],
         &[(1024, 60, 0), (1536, 60, 1)],
     ];
-    let captures = captures_of(alloc, &inputs)?;
-    if captures.len() != 3 {
-        return Ok(false);
+    match at_three_ports(rt, alloc, &inputs)? {
+        Some(schedule) => Ok(arrive_in_turn(&schedule, slots) && has_counts(&schedule)),
+        None => Ok(false),
     }
-    let schedule = Schedule::of(rt, alloc, &captures, &tables)?;
-    Ok(arrive_in_turn(&schedule, slots) && has_counts(&schedule))
 }
 
 #[test]
@@ -157,16 +170,19 @@ fn many_are_routed<R: Threads + Sync>(
     alloc: Global,
     slots: &[(Slot, Port)],
 ) -> Result<bool, NoMemory> {
-    let tables = three_ports(alloc)?;
     let packets = many_packets(alloc)?;
-    let captures = captures_of(alloc, &[packets.as_slice(), &[], &[]])?;
-    if captures.len() != 3 {
-        return Ok(false);
+    match at_three_ports(rt, alloc, &[packets.as_slice(), &[], &[]])? {
+        Some(schedule) => Ok(has_many(&schedule) && are_for(&schedule, slots)),
+        None => Ok(false),
     }
-    let schedule = Schedule::of(rt, alloc, &captures, &tables)?;
-    let cells = (schedule.total(), schedule.end());
+}
+
+// Whether all of them are counted, also by their outputs.
+fn has_many(schedule: &Schedule) -> bool
+    requires { schedule.now.ports ≡ 3 }
+{
     let outputs = (schedule.to_output(0), schedule.to_output(1));
-    Ok(cells == (16384, 16384) && outputs == (10923, 5461) && are_for(&schedule, slots))
+    (schedule.total(), schedule.end()) == (16384, 16384) && outputs == (10923, 5461)
 }
 
 // Whether the cells that arrive at input zero in these slots are for these outputs.

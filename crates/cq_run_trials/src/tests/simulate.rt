@@ -136,7 +136,7 @@ fn is_seen<R: Threads + Sync>(
 // Whether the run of the ideal switch shows it, where that is to show something.
 fn is_seen_ideally(run: &IdealRun, shown: Shown) -> bool {
     match shown {
-        Shown::Trace(slots, sent) => run.slots == slots && are_sent(run.sent.items(), sent),
+        Shown::Trace(slots, sent) => run.slots == slots && are(run.sent.items(), sent, sent_of),
         _ => true,
     }
 }
@@ -144,9 +144,10 @@ fn is_seen_ideally(run: &IdealRun, shown: Shown) -> bool {
 // Whether the run of the fabric shows it.
 fn is_kept(run: &FabricRun, shown: Shown) -> bool {
     match shown {
-        Shown::Trace(slots, sent) => run.figures.slots == slots && are_sent(run.sent.items(), sent),
+        Shown::Trace(slots, sent) => run.figures.slots == slots
+            && are(run.sent.items(), sent, sent_of),
         Shown::Log(proposals, log) => {
-            run.figures.proposals == proposals && have_crossed(run.note.items(), log)
+            run.figures.proposals == proposals && are(run.note.items(), log, crossed_of)
         }
         Shown::Refused(refused) => run.refused.as_slice() == refused,
         _ => false,
@@ -173,17 +174,16 @@ fn puts_together<R: Threads + Sync>(
     let sent = run_ideal_packed(alloc, tables, &schedule)?;
     let places = packets_of_all(alloc, sent, captures, tables, t0)?;
     match places.get(output as usize) {
-        Some(place) => Ok(have_left(&packets, left) && hold(alloc, &place.bytes, left)?),
+        Some(place) => Ok(are(&packets, left, left_of) && hold(alloc, &place.bytes, left)?),
         None => Ok(false),
     }
 }
 
-fn are_sent(departures: &[Departure], sent: &[Sent]) -> bool {
-    departures.len() == sent.len()
-        && departures
-            .iter()
-            .zip(sent)
-            .all(|(d, told)| sent_of(d) == *told)
+// Whether these are told so, one after the other.
+fn are<T, U: PartialEq + Drop, F: Fn(&T) -> U>(found: &[T], told: &[U], tell: F) -> bool
+    requires { F.IsAlwaysCallable tell }
+{
+    found.len() == told.len() && found.iter().zip(told).all(|(one, so)| tell(one) == *so)
 }
 
 fn sent_of(departure: &Departure) -> Sent {
@@ -197,24 +197,8 @@ fn sent_of(departure: &Departure) -> Sent {
     )
 }
 
-fn have_crossed(transfers: &[Transfer], log: &[Crossed]) -> bool {
-    transfers.len() == log.len()
-        && transfers
-            .iter()
-            .zip(log)
-            .all(|(t, told)| crossed_of(t) == *told)
-}
-
 fn crossed_of(t: &Transfer) -> Crossed {
     (t.slot, t.phase, t.input, t.output, t.id.packet)
-}
-
-fn have_left(packets: &[OutPacket], left: &[Left]) -> bool {
-    packets.len() == left.len()
-        && packets
-            .iter()
-            .zip(left)
-            .all(|(p, told)| left_of(p) == *told)
 }
 
 // Whether the bytes are a capture of such packets.
@@ -223,17 +207,9 @@ fn hold(alloc: Global, bytes: &[u8], left: &[Left]) -> Result<bool, NoMemory> {
         return Ok(false);
     }
     match read_capture(alloc, bytes.to_vec(alloc)?) {
-        Ok(capture) => Ok(are_rows(capture.rows(), left)),
+        Ok(capture) => Ok(are(capture.rows(), left, row_left)),
         Err(_) => Ok(false),
     }
-}
-
-fn are_rows(rows: &[PacketRow], left: &[Left]) -> bool {
-    rows.len() == left.len()
-        && rows
-            .iter()
-            .zip(left)
-            .all(|(row, told)| row_left(row) == *told)
 }
 
 fn row_left(row: &PacketRow) -> Left {

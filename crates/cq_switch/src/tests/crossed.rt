@@ -31,59 +31,56 @@ pub(super) const THREE_INPUTS: Run = Run {
 };
 
 /// Runs by defaults.
-pub(super) const RUNS: &[Run] = &[
-    TWO_FOR_ONE,
-    THREE_INPUTS,
-    Run {
-        shows: "no packet at all",
-        keys: DEFAULTS,
-        inputs: &[&[]],
-        outputs: &[&[]],
-        trace: "",
-        log: "",
-        report: "slots 0\nproposals 0\nmost 0\n\
-            input 0 cells 0 longest 0 slack -\n\
-            output 0 cells 0 idle 0 wait -\n",
-    },
-];
+pub(super) const RUNS: &[Run] = &[TWO_FOR_ONE, THREE_INPUTS, NO_PACKET];
+
+/// One port, at which nothing comes.
+const NO_PACKET: Run = Run {
+    shows: "no packet at all",
+    keys: DEFAULTS,
+    inputs: &[&[]],
+    outputs: &[&[]],
+    trace: "",
+    log: "",
+    report: "slots 0\nproposals 0\nmost 0\n\
+        input 0 cells 0 longest 0 slack -\n\
+        output 0 cells 0 idle 0 wait -\n",
+};
 
 /// One cell fills output 0.
 const FULL_WITH_ONE: Keys = Keys {
-    version: 1,
-    first: "",
     port: "limit = 1\n",
-    last: "",
+    ..DEFAULTS
+};
+
+/// One of two inputs fills output 0.
+const ONE_REFUSED: Run = Run {
+    shows: "the lesser input fills the output, and the packet of the other one is refused",
+    keys: FULL_WITH_ONE,
+    inputs: &[&[(0, 0, 0, 60)], &[(0, 0, 0, 60)]],
+    outputs: &[&[(0, 0, 0, 60)], &[]],
+    trace: "0 0 0 0 0\n",
+    log: "0 1 0 0 0 0\n",
+    report: "slots 1\nproposals 1\nmost 1\n\
+        input 0 cells 1 longest 1 slack 0\n\
+        input 1 cells 0 longest 0 slack -\n\
+        output 0 cells 1 idle 0 wait 0\n\
+        output 1 cells 0 idle 1 wait -\n\
+        limit 0 refused 1 cells 1\n",
 };
 
 /// Runs in which output 0 refuses packets.
 pub(super) const RUNS_WITH_A_LIMIT: &[Run] = &[
-    Run {
-        shows: "the lesser input fills the output, and the packet of the other one is refused",
-        keys: FULL_WITH_ONE,
-        inputs: &[&[(0, 0, 0, 60)], &[(0, 0, 0, 60)]],
-        outputs: &[&[(0, 0, 0, 60)], &[]],
-        trace: "0 0 0 0 0\n",
-        log: "0 1 0 0 0 0\n",
-        report: "slots 1\nproposals 1\nmost 1\n\
-            input 0 cells 1 longest 1 slack 0\n\
-            input 1 cells 0 longest 0 slack -\n\
-            output 0 cells 1 idle 0 wait 0\n\
-            output 1 cells 0 idle 1 wait -\n\
-            limit 0 refused 1 cells 1\n",
-    },
+    ONE_REFUSED,
     Run {
         shows: "the second cell of a refused packet is refused too, though the output is empty by then",
-        keys: FULL_WITH_ONE,
         inputs: &[&[(0, 0, 0, 60)], &[(0, 0, 0, 128)]],
-        outputs: &[&[(0, 0, 0, 60)], &[]],
-        trace: "0 0 0 0 0\n",
-        log: "0 1 0 0 0 0\n",
         report: "slots 1\nproposals 1\nmost 1\n\
             input 0 cells 1 longest 1 slack 0\n\
             input 1 cells 0 longest 0 slack -\n\
             output 0 cells 1 idle 0 wait 0\n\
             output 1 cells 0 idle 1 wait -\n\
             limit 0 refused 1 cells 2\n",
+        ..ONE_REFUSED
     },
     Run {
         shows: "the second cell of an admitted packet fills the output too, and a third packet finds room",
@@ -109,10 +106,8 @@ pub(super) const RUNS_BY_KEYS: &[Run] = &[
     Run {
         shows: "ranks are equal, and the cell of the later input goes first, since it came a slot earlier",
         keys: Keys {
-            version: 1,
-            first: "",
-            port: "discipline = \"fair\"\n",
             last: "[[class]]\n[[class]]\ncost = 2\n[[rule]]\ninput = 1\nclass = 1\n",
+            ..DEAREST
         },
         inputs: &[&[(0, 0, 0, 60), (0, 512, 0, 60)], &[(0, 0, 0, 60)]],
         outputs: &[&[(0, 0, 0, 60), (0, 512, 0, 60), (0, 1024, 0, 60)], &[]],
@@ -128,9 +123,8 @@ pub(super) const RUNS_BY_KEYS: &[Run] = &[
         shows: "all cells of the lesser level go first at a fair output",
         keys: Keys {
             version: 2,
-            first: "",
-            port: "discipline = \"fair\"\n",
             last: "[[class]]\nlevel = 1\n[[class]]\nlevel = 0\n[[rule]]\ninput = 1\nclass = 1\n",
+            ..DEAREST
         },
         inputs: &[
             &[(0, 0, 0, 60), (0, 512, 0, 60)],
@@ -168,10 +162,8 @@ pub(super) const RUNS_BY_KEYS: &[Run] = &[
         shows: "an hour of slots of a nanosecond, in which nothing comes and nothing waits, and which begin a fair \
             output's ranks anew",
         keys: Keys {
-            version: 1,
             first: "slot_ns = 1\n",
-            port: "discipline = \"fair\"\n",
-            last: "[[class]]\ncost = \"340282366920938463463374607431768211455\"\n",
+            ..DEAREST
         },
         inputs: &[&[(0, 0, 0, 60), (3600, 0, 0, 60)]],
         outputs: &[&[(0, 0, 0, 60), (3600, 0, 0, 60)]],
@@ -184,10 +176,8 @@ pub(super) const RUNS_BY_KEYS: &[Run] = &[
     Run {
         shows: "seconds are written modulo 2^32",
         keys: Keys {
-            version: 1,
             first: "slot_ns = 1000000000\n",
-            port: "",
-            last: "",
+            ..DEFAULTS
         },
         inputs: &[&[(4_294_967_295, 0, 0, 60), (4_294_967_295, 0, 0, 60)]],
         outputs: &[&[(4_294_967_295, 0, 0, 60), (0, 0, 0, 60)]],
@@ -200,18 +190,10 @@ pub(super) const RUNS_BY_KEYS: &[Run] = &[
     Run {
         shows: "a capture as long as the limit",
         keys: Keys {
-            version: 1,
             first: "limit_bytes = 24\n",
-            port: "",
-            last: "",
+            ..DEFAULTS
         },
-        inputs: &[&[]],
-        outputs: &[&[]],
-        trace: "",
-        log: "",
-        report: "slots 0\nproposals 0\nmost 0\n\
-            input 0 cells 0 longest 0 slack -\n\
-            output 0 cells 0 idle 0 wait -\n",
+        ..NO_PACKET
     },
 ];
 

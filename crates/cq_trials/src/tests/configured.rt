@@ -31,10 +31,8 @@ fn is_checked<R: Threads + Sync>(
 }
 
 const TWO_CLASSES: Keys = Keys {
-    version: 1,
-    first: "",
-    port: "",
     last: "[[class]]\n[[class]]\ncost = 2\n",
+    ..DEFAULTS
 };
 
 const SAME_FILE: &str =
@@ -193,10 +191,8 @@ fn the_lowest_input_at_fault_is_told(rt: HostRuntime) -> Result<(), Fail> {
 
 /// As many bytes as a header has.
 const SMALL: Keys = Keys {
-    version: 1,
     first: "limit_bytes = 24\n",
-    port: "",
-    last: "",
+    ..DEFAULTS
 };
 
 const OVER_LIMIT: &[(Inputs, &str)] = &[
