@@ -1,10 +1,10 @@
 //! Reads the log of any maker.
-ghost use Rattle.std.specs.Prelude.{◌≡◌, ◌∷◌, ◌++◌, [], IfOk, IfErr, OnOk};
+ghost use Rattle.std.specs.Prelude.{IfOk, IfErr};
 ghost use Rattle.cq_audit.specs.Log.{IsLog, IsLogFault};
 ghost use Rattle.cq_lines.specs.Refusals.{IsCause};
 
 use crate::transfer::next_transfer;
-use cq_base::{NoMemory, Transfer};
+use cq_base::Transfer;
 use cq_lines::LineRefusal;
 use std::alloc::Global;
 
@@ -18,7 +18,7 @@ pub fn read_log(alloc: Global, log: &[u8], ports: u16) -> Result<Vec<Transfer>, 
     let mut last = None;
     let mut rest = log;
     'lines: while let Some((transfer, behind)) = next_transfer(rest, ports, last) {
-        put(&mut note, transfer)?;
+        note.push(transfer).or(Err(LineRefusal::NoMemory))?;
         last = Some(transfer);
         rest = behind;
     }
@@ -29,11 +29,4 @@ pub fn read_log(alloc: Global, log: &[u8], ports: u16) -> Result<Vec<Transfer>, 
             line: note.len() as u64 + 1,
         })
     }
-}
-
-fn put(note: &mut Vec<Transfer>, transfer: Transfer) -> Result<(), NoMemory>
-    ensures { OnOk result (note.new.items ≡ note.old.items ++ transfer ∷ []) }
-{
-    note.push(transfer)?;
-    Ok(())
 }

@@ -1,8 +1,9 @@
 -- Reading a text line by line. What was read so far leads from the start to the place where the next line comes, and
 -- its spelling stands at the front of the text. One line more keeps this. At the end of the text it is a whole text
 -- or lacks a line.
-use Rattle.std.proofs.Common.{◌≡◌, ℕ, List, [], ◌∷◌, ◌++◌, refl, ap, sym, subst, ◌∙◌, append_assoc}
+use Rattle.std.proofs.Common.{◌≡◌, ℕ, List, [], ◌∷◌, ◌++◌, Result, Ok, Err, IfErr, OnOk, refl, ap, sym, subst, ◌∙◌, append_assoc}
 use Rattle.std.specs.List.{flat_map}
+use Rattle.std.specs.Result.{result_or}
 use Rattle.std.proofs.lemmas.List.{append-nil}
 use Rattle.std.proofs.lemmas.List.Concat.{flat_map-append}
 use Rattle.cq_lines.specs.Texts.{Leads}
@@ -33,3 +34,8 @@ module _ {P X : Type 0} (spelling : X → List ℕ) (Rule : P → X → P → Ty
         ∙ sym (append_assoc (flat_map spelling before) (spelling x) more)
         ∙ ap (λ t. t ++ more) (sym (ap (flat_map spelling) longer ∙ flat_map_more spelling before x));
   }
+
+-- a call that ends well under another word for its refusal ends well, and what it tells then holds
+pub ends_well : {T D E P : Type 0} (r : Result T D) (e : E) (x : T) → OnOk r P → Ok x ≡ result_or r (Err e) → P
+ends_well (Ok y) e x told is = told
+ends_well (Err d) e x told is = absurd (subst (λ q. IfErr q (λ _. ⊥)) is tt)

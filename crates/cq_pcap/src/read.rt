@@ -7,7 +7,6 @@ ghost use Rattle.cq_pcap.specs.Rows.{AreRowsTo, AreSpelt, GoesOn, IsFaultAt, IsR
 
 use crate::form::Form;
 use crate::{Capture, PacketRow};
-use cq_base::NoMemory;
 use std::alloc::Global;
 use thiserror::Error;
 
@@ -38,17 +37,6 @@ pub enum PcapRefusal {
     /// The places of the packets find no memory.
     #[error("out of memory")]
     NoMemory,
-}
-
-impl From<NoMemory> for PcapRefusal {
-    ghost use Rattle.std.specs.Prelude.{◌≡◌};
-    ghost use Rattle.cq_pcap.specs.declared.read.PcapRefusal.TheVariants.{NoMemory as none};
-
-    ghost from_gives = { λ _ e. e ≡ none };
-
-    fn from(_: NoMemory) -> Self {
-        PcapRefusal::NoMemory
-    }
 }
 
 /// The bytes of a file header.
@@ -165,7 +153,7 @@ fn rows_of(alloc: Global, bytes: &[u8]) -> Result<Vec<PacketRow>, PcapRefusal>
     let mut at = FILE_HEADER as u64;
     'records: while let Some(row) = row_at(bytes, form, at)? {
         at = row.at + u64::from(row.len);
-        rows.push(row).map_err(NoMemory::from)?;
+        rows.push(row).or(Err(PcapRefusal::NoMemory))?;
     }
     Ok(rows)
 }

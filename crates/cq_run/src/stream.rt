@@ -19,7 +19,7 @@ ghost use Rattle.cq_run.specs.StatusCauses.{StatusCauses};
 use crate::judge::run_ahead;
 use crate::perform::perform;
 use crate::top::answer;
-use crate::{Command, Stop, switch_top};
+use crate::{Command, Halt, Stop, switch_top};
 use cq_base::{Name, Status};
 use cq_crew::Gate;
 use cq_space::{Files, Sink};
@@ -107,7 +107,7 @@ where
         (world F.space O.taken O.faults files.new out.new) result }
     ensures closed { (F.space files.new).mode ≡ Closed }
 {
-    let name = Name::of(alloc, config)?;
+    let name = Name::of(alloc, config).map_err(Halt::from)?;
     let work = run_ahead(rt, alloc, files, name, gate, watch)?;
     perform(files, out, work)?;
     Ok(())

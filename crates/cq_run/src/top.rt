@@ -118,7 +118,7 @@ fn run<R: Threads + Sync, F: Files, O: Sink, G: Gate>(
         (world F.space O.taken O.faults files.new out.new) result }
     ensures closed { (F.space files.new).mode ≡ Closed }
 {
-    match command_of(alloc, words)? {
+    match command_of(alloc, words).map_err(Halt::from)? {
         Some(command) => obey(rt, alloc, files, out, command, gate),
         None => Err(Stop::from(Halt::Refused {
             refusal: Refusal::Words,

@@ -20,17 +20,6 @@ pub enum StateLong {
     NoMemory,
 }
 
-impl From<NoMemory> for StateLong {
-    ghost use Rattle.std.specs.Prelude.{◌≡◌};
-    ghost use Rattle.cq_state.specs.declared.write.StateLong.TheVariants.{NoMemory as no_memory};
-
-    ghost from_gives = { λ _ long. long ≡ no_memory };
-
-    fn from(_: NoMemory) -> Self {
-        StateLong::NoMemory
-    }
-}
-
 // The most bytes of a state's text.
 const MOST_BYTES: usize = 1 << 28;
 
@@ -41,7 +30,7 @@ pub fn text_of(alloc: Global, state: &State) -> Result<Vec<u8>, StateLong>
     ensures long { IfErr result (IsTooLong (state_text state.now)) }
 {
     let mut text = Vec::new(alloc);
-    put_state(alloc, &mut text, state)?;
+    put_state(alloc, &mut text, state).or(Err(StateLong::NoMemory))?;
     if text.len() > MOST_BYTES {
         Err(StateLong::Long)
     } else {
