@@ -1,4 +1,4 @@
-use Rattle.std.proofs.Common.{None, Some}
+use Rattle.std.proofs.Common.{◌≡◌, ◌∷◌, ◌++◌, [], None, Some, rules}
 use Rattle.cq_base.specs.Texts.{log_line}
 use Rattle.cq_lines.proofs.Going.{one_line_more}
 use Rattle.cq_audit.specs.Log.{Comes}
@@ -7,6 +7,7 @@ use Rattle.cq_audit.proofs.log.read_log.Goals as goal
 pub lines-preserved : goal.lines-preserved
 lines-preserved c =
     let next = c.in-Some.ensures.found in
-    one_line_more log_line (Comes c.args.ports) None c.args.log.now c.lines.note.items c.put.new.note.items
+    let pushed : c.push.new.self.items ≡ c.lines.note.items ++ c.in-Some.transfer ∷ [] = search rules in
+    one_line_more log_line (Comes c.args.ports) None c.args.log.now c.lines.note.items c.push.new.self.items
     c.lines.last (Some c.in-Some.transfer) c.lines.rest.now c.in-Some.behind.now c.in-Some.transfer
-    c.lines.invariant next.0 next.1 c.in_ok-put.ensures
+    c.lines.invariant next.0 next.1 pushed
