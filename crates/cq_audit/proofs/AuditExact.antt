@@ -20,18 +20,18 @@ use Rattle.cq_prefs.specs.Pairing.{IsStable, Partners}
 use Rattle.cq_laws.specs.Fabric.{Fabric, IsEmptyFabric}
 use Rattle.cq_laws.specs.FabricSlot.{SlotRecord}
 use Rattle.cq_laws.specs.LimitedFabric.{LimitedFabricRun, LimitedFabricSlot, LimitedRecord, fabric_admission}
-use Rattle.cq_laws.specs.Phases.{Arrives, Departs, Transfers}
+use Rattle.cq_laws.specs.Phases.{Arrives}
 use Rattle.cq_laws.specs.Records.{transfers_in, transfers_of_run}
 use Rattle.cq_laws.proofs.Parted.{reach}
 use Rattle.cq_audit.specs.Audit.{IsAuditExact, IsNo, IsNoOf, IsReadNo, IsYes, opening_fabric, phase_refusal}
 use Rattle.cq_audit.specs.Log.{IsLogFault}
 use Rattle.cq_audit.specs.Phase.{IsPhaseFault, IsStableTold, in_phase}
-use Rattle.cq_audit.specs.StableRun.{BeginsFirst, BeginsSecond, IsFaultAt, IsLeftAt, IsOfStableRun, Reaches, StableRun, before_slot}
+use Rattle.cq_audit.specs.StableRun.{BeginsFirst, BeginsSecond, IsFaultAt, IsHalfPast, IsLeftAt, IsOfStableRun, Reaches, StableRun, before_slot}
 use Rattle.cq_audit.specs.declared.phase.PhaseFault.{PhaseFault}
 use Rattle.cq_audit.specs.declared.phase.PhaseFault.TheVariants.{WrongLine, Blocking as Unsettled}
 use Rattle.cq_audit.specs.declared.refusal.AuditRefusal.{AuditRefusal}
 use Rattle.cq_audit.specs.declared.refusal.AuditRefusal.TheVariants.{Line, Transfer as Wrong, Blocking, Left, NoMemory}
-use Rattle.cq_audit.proofs.BySlot.{before_all, before_is, before_later, first_of_two, phase_before, phase_later, phase_now, second_of_two}
+use Rattle.cq_audit.proofs.BySlot.{before_all, before_is, before_later, of_two, phase_before, phase_later, phase_now}
 use Rattle.cq_audit.proofs.Following.{one_arrival, one_departure, one_move, one_stable_run, run_later, transfers_at, weaker}
 use Rattle.cq_audit.proofs.LogLines.{log_is_exact}
 use Rattle.cq_audit.proofs.PhaseExact.{phase_is_exact}
@@ -43,24 +43,17 @@ moved_here : (r : LimitedRecord) (rs : List LimitedRecord) → moved (r ∷ rs) 
 unfolding transfers_of_run
 moved_here r rs = refl
 
-module _ (slot : ℕ) (r : SlotRecord) (at : r.slot ≡ slot) where
-  first_moved : in_phase slot 1 (transfers_in r) ≡ transfers_of r.first r.arrived.inputs slot 1
-  unfolding transfers_in
-  first_moved =
-      subst (λ (n : ℕ). in_phase n 1 (transfers_of r.first r.arrived.inputs r.slot 1 ++ transfers_of r.second
-      r.sent.inputs r.slot 2) ≡ transfers_of r.first r.arrived.inputs n 1) at
-      (first_of_two r.slot (transfers_of r.first r.arrived.inputs r.slot 1)
-      (transfers_of r.second r.sent.inputs r.slot 2)
-      (transfers_at r.first r.arrived.inputs r.slot 1) (transfers_at r.second r.sent.inputs r.slot 2))
-
-  second_moved : in_phase slot 2 (transfers_in r) ≡ transfers_of r.second r.sent.inputs slot 2
-  unfolding transfers_in
-  second_moved =
-      subst (λ (n : ℕ). in_phase n 2 (transfers_of r.first r.arrived.inputs r.slot 1 ++ transfers_of r.second
-      r.sent.inputs r.slot 2) ≡ transfers_of r.second r.sent.inputs n 2) at
-      (second_of_two r.slot (transfers_of r.first r.arrived.inputs r.slot 1)
-      (transfers_of r.second r.sent.inputs r.slot 2)
-      (transfers_at r.first r.arrived.inputs r.slot 1) (transfers_at r.second r.sent.inputs r.slot 2))
+each_moved : (slot : ℕ) (r : SlotRecord) → r.slot ≡ slot →
+    (in_phase slot 1 (transfers_in r) ≡ transfers_of r.first r.arrived.inputs slot 1)
+    × (in_phase slot 2 (transfers_in r) ≡ transfers_of r.second r.sent.inputs slot 2)
+unfolding transfers_in
+each_moved slot r at =
+    let first = transfers_of r.first r.arrived.inputs r.slot 1 in
+    let second = transfers_of r.second r.sent.inputs r.slot 2 in
+    subst (λ (n : ℕ). (in_phase n 1 (first ++ second) ≡ transfers_of r.first r.arrived.inputs n 1)
+    × (in_phase n 2 (first ++ second) ≡ transfers_of r.second r.sent.inputs n 2)) at
+    (of_two r.slot first second (transfers_at r.first r.arrived.inputs r.slot 1)
+    (transfers_at r.second r.sent.inputs r.slot 2))
 
 module _ (limits : List (Option ℕ)) (ms : List Machine) (came : List Arrival) (start : Marked Fabric)
     (note : List Transfer) where
@@ -80,12 +73,7 @@ module _ (limits : List (Option ℕ)) (ms : List Machine) (came : List Arrival) 
   record HasSent (slot : ℕ) (sent : Fabric) : Type 0 where
     pub arrived : Fabric
     pub begun : HasArrived slot arrived
-    pub first : Partners
-    pub told : IsStableTold arrived.inputs slot 1 (in_phase slot 1 note) first
-    pub filled : Fabric
-    pub fill : Transfers first arrived filled
-    pub gone : List (Option Queued)
-    pub depart : Departs ms gone filled sent
+    pub half : IsHalfPast ms slot (in_phase slot 1 note) arrived sent
 
   one_arrived : (slot : ℕ) (f g : Fabric) → HasArrived slot f → HasArrived slot g → f ≡ g
   one_arrived slot f g a b =
@@ -100,9 +88,11 @@ module _ (limits : List (Option ℕ)) (ms : List Machine) (came : List Arrival) 
   one_sent : (slot : ℕ) (f g : Fabric) → HasSent slot f → HasSent slot g → f ≡ g
   one_sent slot f g a b =
       let arrived = one_arrived slot a.arrived b.arrived a.begun b.begun in
-      let first = one_move a.first b.first slot 1 a.arrived b.arrived a.filled b.filled arrived a.told.stable
-      b.told.stable (a.told.moved ∙ sym b.told.moved) a.fill b.fill in
-      (one_departure ms a.gone b.gone a.filled b.filled f g first.1 a.depart b.depart).1
+      let x = a.half in
+      let y = b.half in
+      let first = one_move x.first y.first slot 1 a.arrived b.arrived x.filled y.filled arrived x.told.stable
+      y.told.stable (x.told.moved ∙ sym y.told.moved) x.fill y.fill in
+      (one_departure ms x.gone y.gone x.filled y.filled f g first.1 x.depart y.depart).1
 
   arrived_of : (slot : ℕ) (f : Fabric) → BeginsFirst limits ms came start note slot f → HasArrived slot f
   arrived_of slot f b =
@@ -117,16 +107,7 @@ module _ (limits : List (Option ℕ)) (ms : List Machine) (came : List Arrival) 
 
   sent_of : (slot : ℕ) (f : Fabric) → BeginsSecond limits ms came start note slot f → HasSent slot f
   sent_of slot f b =
-      record {
-        arrived = b.arrived;
-        begun = arrived_of slot b.arrived b.begun;
-        first = b.first;
-        told = record { stable = b.stable; moved = b.moved };
-        filled = b.filled;
-        fill = b.fill;
-        gone = b.gone;
-        depart = b.depart;
-      }
+      record { arrived = b.arrived; begun = arrived_of slot b.arrived b.begun; half = b.half }
 
   -- ## Where the lines of a phase have a fault
 
@@ -180,14 +161,14 @@ module _ (limits : List (Option ℕ)) (ms : List Machine) (came : List Arrival) 
             y.wrong,
       ))
       (λ (other : (q ≡ 2) × HasSent slot y.fabric).
-      absurd (told_right slot p 1 other.1.arrived x.fabric other.1.first a
-      (one_arrived slot other.1.arrived x.fabric other.1.begun first.1) first.0 other.1.told x.wrong))
+      absurd (told_right slot p 1 other.1.arrived x.fabric other.1.half.first a
+      (one_arrived slot other.1.arrived x.fabric other.1.begun first.1) first.0 other.1.half.told x.wrong))
       y.begins)
       (λ (second : (p ≡ 2) × HasSent slot x.fabric).
       ⊎_elim
       (λ (other : (q ≡ 1) × HasArrived slot y.fabric).
-      absurd (told_right slot q 1 second.1.arrived y.fabric second.1.first b
-      (one_arrived slot second.1.arrived y.fabric second.1.begun other.1) other.0 second.1.told y.wrong))
+      absurd (told_right slot q 1 second.1.arrived y.fabric second.1.half.first b
+      (one_arrived slot second.1.arrived y.fabric second.1.begun other.1) other.0 second.1.half.told y.wrong))
       (λ (other : (q ≡ 2) × HasSent slot y.fabric).
       let same : p ≡ q = second.0 ∙ sym other.0 in (
         same,
@@ -271,16 +252,12 @@ module _ (limits : List (Option ℕ)) (ms : List Machine) (came : List Arrival) 
       ∙ phase_later slot phase (moved before) (moved (r ∷ others)) earlier
       ∙ ap (in_phase slot phase) (moved_here r others)
       ∙ phase_now slot phase (transfers_in r.of_slot) (moved others) later in (
-        sym (all 1 ∙ first_moved slot r.of_slot step.runs.numbered),
-        sym (all 2 ∙ second_moved slot r.of_slot step.runs.numbered),
+        sym (all 1 ∙ (each_moved slot r.of_slot step.runs.numbered).0),
+        sym (all 2 ∙ (each_moved slot r.of_slot step.runs.numbered).1),
       )
 
   -- the phases of a slot that a run has passed are stable, and have moved what their lines say
   record Passed (slot : ℕ) : Type 0 where
-    pub arrived : Fabric
-    pub begun : HasArrived slot arrived
-    pub first : Partners
-    pub told_first : IsStableTold arrived.inputs slot 1 (in_phase slot 1 note) first
     pub sent : Fabric
     pub has_sent : HasSent slot sent
     pub second : Partners
@@ -308,24 +285,17 @@ module _ (limits : List (Option ℕ)) (ms : List Machine) (came : List Arrival) 
             subst (λ (a : Admission). Arrives ms slot a.cells r.came h.state.state r.arrived) x.step.admits
             x.step.runs.arrive;
       } in
-      let told_first : IsStableTold r.arrived.inputs slot 1 (in_phase slot 1 note) r.first =
-      record { stable = x.step.runs.first_chosen; moved = of.0 } in
-      record {
-        arrived = r.arrived;
-        begun = begun;
+      let half : IsHalfPast ms slot (in_phase slot 1 note) r.arrived r.sent = record {
         first = r.first;
-        told_first = told_first;
+        told = record { stable = x.step.runs.first_chosen; moved = of.0 };
+        filled = r.filled;
+        fill = x.step.runs.fill;
+        gone = r.gone;
+        depart = x.step.runs.depart;
+      } in
+      record {
         sent = r.sent;
-        has_sent = record {
-          arrived = r.arrived;
-          begun = begun;
-          first = r.first;
-          told = told_first;
-          filled = r.filled;
-          fill = x.step.runs.fill;
-          gone = r.gone;
-          depart = x.step.runs.depart;
-        };
+        has_sent = record { arrived = r.arrived; begun = begun; half = half };
         second = r.second;
         told_second = record { stable = x.step.runs.second_chosen; moved = of.1 };
       }
@@ -335,8 +305,9 @@ module _ (limits : List (Option ℕ)) (ms : List Machine) (came : List Arrival) 
   none_passed slot phase fault p f =
       ⊎_elim
       (λ (first : (phase ≡ 1) × HasArrived slot f.fabric).
-      told_right slot phase 1 p.arrived f.fabric p.first fault
-      (one_arrived slot p.arrived f.fabric p.begun first.1) first.0 p.told_first f.wrong)
+      let was = p.has_sent in
+      told_right slot phase 1 was.arrived f.fabric was.half.first fault
+      (one_arrived slot was.arrived f.fabric was.begun first.1) first.0 was.half.told f.wrong)
       (λ (second : (phase ≡ 2) × HasSent slot f.fabric).
       told_right slot phase 2 p.sent f.fabric p.second fault
       (one_sent slot p.sent f.fabric p.has_sent second.1) second.0 p.told_second f.wrong)

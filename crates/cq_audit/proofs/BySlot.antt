@@ -116,27 +116,34 @@ module _ (slot : ℕ) where
         let own : t.slot ≡ slot = eqb-true t.slot slot both.0 in
         lt-ltb t.slot to (omega arith)) note
 
-  -- of the lines of the first phase and then those of the second
-  pub first_of_two : (xs ys : List Transfer) → AllByRecursion (λ t. (t.slot ≡ slot) × (t.phase ≡ 1)) xs →
-      AllByRecursion (λ t. (t.slot ≡ slot) × (t.phase ≡ 2)) ys → in_phase slot 1 (xs ++ ys) ≡ xs
-  first_of_two xs ys first second =
-      keeps_first (is_at slot 1) xs ys
-      (weaker (λ t. (t.slot ≡ slot) × (t.phase ≡ 1)) (λ t. is_at slot 1 t ≡ true)
-      (λ t at. and_from (eqb t.slot slot) (eqb t.phase 1) (eq-eqb t.slot slot at.0) (eq-eqb t.phase 1 at.1)) xs first)
-      (weaker (λ t. (t.slot ≡ slot) × (t.phase ≡ 2)) (λ t. is_at slot 1 t ≡ false)
-      (λ t at. and_right (eqb t.slot slot) (eqb t.phase 1)
-      (ne_eqb t.phase 1 (λ one. let two = at.1 in let P : ⊥ = omega arith in P))) ys second)
+  -- lines of one phase are all of it, and none of another
+  all_own : (phase : ℕ) (xs : List Transfer) → AllByRecursion (λ t. (t.slot ≡ slot) × (t.phase ≡ phase)) xs →
+      AllByRecursion (λ t. is_at slot phase t ≡ true) xs
+  all_own phase =
+      weaker (λ t. (t.slot ≡ slot) × (t.phase ≡ phase)) (λ t. is_at slot phase t ≡ true)
+      (λ t at. and_from (eqb t.slot slot) (eqb t.phase phase) (eq-eqb t.slot slot at.0) (eq-eqb t.phase phase at.1))
 
-  pub second_of_two : (xs ys : List Transfer) → AllByRecursion (λ t. (t.slot ≡ slot) × (t.phase ≡ 1)) xs →
-      AllByRecursion (λ t. (t.slot ≡ slot) × (t.phase ≡ 2)) ys → in_phase slot 2 (xs ++ ys) ≡ ys
-  second_of_two xs ys first second =
-      keeps_later (is_at slot 2) xs ys
-      (weaker (λ t. (t.slot ≡ slot) × (t.phase ≡ 1)) (λ t. is_at slot 2 t ≡ false)
-      (λ t at. and_right (eqb t.slot slot) (eqb t.phase 2)
-      (ne_eqb t.phase 2 (λ two. let one = at.1 in let P : ⊥ = omega arith in P))) xs first)
-      ∙ keeps_all (is_at slot 2) ys
-      (weaker (λ t. (t.slot ≡ slot) × (t.phase ≡ 2)) (λ t. is_at slot 2 t ≡ true)
-      (λ t at. and_from (eqb t.slot slot) (eqb t.phase 2) (eq-eqb t.slot slot at.0) (eq-eqb t.phase 2 at.1)) ys second)
+  none_other : (phase own : ℕ) → (own ≡ phase → ⊥) → (xs : List Transfer) →
+      AllByRecursion (λ t. (t.slot ≡ slot) × (t.phase ≡ own)) xs → AllByRecursion (λ t. is_at slot phase t ≡ false) xs
+  none_other phase own ne =
+      weaker (λ t. (t.slot ≡ slot) × (t.phase ≡ own)) (λ t. is_at slot phase t ≡ false)
+      (λ t at. and_right (eqb t.slot slot) (eqb t.phase phase) (ne_eqb t.phase phase (λ is. ne (sym at.1 ∙ is))))
+
+  -- so the lines of the second phase are those behind the lines of the first
+  pub second_behind : (xs ys : List Transfer) → AllByRecursion (λ t. (t.slot ≡ slot) × (t.phase ≡ 1)) xs →
+      in_phase slot 2 (xs ++ ys) ≡ in_phase slot 2 ys
+  second_behind xs ys first =
+      keeps_later (is_at slot 2) xs ys (none_other 2 1 (λ is. let P : ⊥ = omega arith in P) xs first)
+
+  -- of the lines of the first phase and then those of the second
+  pub of_two : (xs ys : List Transfer) → AllByRecursion (λ t. (t.slot ≡ slot) × (t.phase ≡ 1)) xs →
+      AllByRecursion (λ t. (t.slot ≡ slot) × (t.phase ≡ 2)) ys →
+      (in_phase slot 1 (xs ++ ys) ≡ xs) × (in_phase slot 2 (xs ++ ys) ≡ ys)
+  of_two xs ys first second = (
+    keeps_first (is_at slot 1) xs ys (all_own 1 xs first)
+        (none_other 1 2 (λ is. let P : ⊥ = omega arith in P) ys second),
+    second_behind xs ys first ∙ keeps_all (is_at slot 2) ys (all_own 2 ys second),
+  )
 
 -- ## Lines in order
 

@@ -110,19 +110,13 @@ module _ (M : List ℕ → Machine) (setup : Setup) (limits : List (Option ℕ))
 
   -- ## What the end says of the log
 
-  pub yes_of : (lines : List Transfer) (log : List ℕ) (result : Result (Unit {0}) AuditRefusal) →
-      IsLog (length setup.kinds) lines log → RunEnds (map M first.fixed) came lines first result →
-      OnOk result (IsYes setup limits came log)
-  yes_of lines log (Ok done) read ends =
-      record {
-        note = lines;
-        read = read;
-        run =
-            subst (λ (f : Marked Fabric). IsOfStableRun limits (machines_of setup) came f lines) is.fabric
-            (subst (λ (l : List (Option ℕ)). IsOfStableRun l (machines_of setup) came first.fabric lines) is.limits_are
-            (subst (λ (ms : List Machine). IsOfStableRun first.limits ms came first.fabric lines) is.machines ends));
-      }
-  yes_of lines log (Err refusal) read ends = tt
+  -- of what it is made, and of the setup
+  of_setup : (P : List (Option ℕ) → List Machine → Marked Fabric → Type 0) →
+      P first.limits (map M first.fixed) first.fabric → P limits (machines_of setup) (opening_fabric setup)
+  of_setup P ends =
+      subst (λ (f : Marked Fabric). P limits (machines_of setup) f) is.fabric
+      (subst (λ (l : List (Option ℕ)). P l (machines_of setup) first.fabric) is.limits_are
+      (subst (λ (ms : List Machine). P first.limits ms first.fabric) is.machines ends))
 
   named : (lines : List Transfer) (log : List ℕ) (refusal : AuditRefusal) → IsLog (length setup.kinds) lines log →
       IsNoOf limits (machines_of setup) came (opening_fabric setup) lines refusal → IsNo setup limits came log refusal
@@ -132,12 +126,11 @@ module _ (M : List ℕ → Machine) (setup : Setup) (limits : List (Option ℕ))
   named lines log (Left n) read wrong = record { note = lines; read = read; wrong = wrong }
   named lines log NoMemory read wrong = tt
 
-  pub no_of : (lines : List Transfer) (log : List ℕ) (result : Result (Unit {0}) AuditRefusal) →
+  pub verdict : (lines : List Transfer) (log : List ℕ) (result : Result (Unit {0}) AuditRefusal) →
       IsLog (length setup.kinds) lines log → RunEnds (map M first.fixed) came lines first result →
-      IfErr result (IsNo setup limits came log)
-  no_of lines log (Ok done) read ends = tt
-  no_of lines log (Err refusal) read ends =
-      named lines log refusal read
-      (subst (λ (f : Marked Fabric). IsNoOf limits (machines_of setup) came f lines refusal) is.fabric
-      (subst (λ (l : List (Option ℕ)). IsNoOf l (machines_of setup) came first.fabric lines refusal) is.limits_are
-      (subst (λ (ms : List Machine). IsNoOf first.limits ms came first.fabric lines refusal) is.machines ends)))
+      OnOk result (IsYes setup limits came log) × IfErr result (IsNo setup limits came log)
+  verdict lines log (Ok done) read ends =
+      let run = of_setup (λ l ms f. IsOfStableRun l ms came f lines) ends in
+      (record { note = lines; read = read; run = run }, tt)
+  verdict lines log (Err refusal) read ends =
+      (tt, named lines log refusal read (of_setup (λ l ms f. IsNoOf l ms came f lines refusal) ends))

@@ -30,11 +30,11 @@ use Rattle.cq_traffic.proofs.FromInputs.{first_more}
 use Rattle.cq_traffic.proofs.Quiet.{quiet_slots}
 use Rattle.cq_audit.specs.Log.{AreInOrder}
 use Rattle.cq_audit.specs.Phase.{NoneBefore}
-use Rattle.cq_audit.specs.Replay.{HasRested, IsInStep, ReplayView, SlotReplayed, ports_in}
+use Rattle.cq_audit.specs.Replay.{HasRested, IsInStep, IsMadeAs, ReplayView, SlotReplayed, ports_in}
 use Rattle.cq_audit.specs.Running.{IsReady, IsStill}
 use Rattle.cq_audit.proofs.BySlot.{none_first, none_from, none_next}
 use Rattle.cq_audit.proofs.Following.{one_stable_run}
-use Rattle.cq_audit.proofs.Skips.{same_fabric}
+use Rattle.cq_audit.proofs.Skips.{made_alike, made_on, same_fabric}
 use Rattle.cq_audit.proofs.WholeFollowing.{moved, moved_parts}
 
 -- what is known before a slot, where these lines are left
@@ -49,10 +49,7 @@ pub record Replaying (ms : List Machine) (came : List Arrival) (lines : List Tra
   pub in_order : AreInOrder (ports_in first) rest
   pub none_before : NoneBefore slot 1 rest
   pub in_step : IsInStep ms slot now
-  pub fixed : now.fixed ≡ first.fixed
-  pub limits : now.limits ≡ first.limits
-  pub from_inputs : now.from_inputs ≡ first.from_inputs
-  pub to_outputs : now.to_outputs ≡ first.to_outputs
+  pub made : IsMadeAs first now
   pub note_room : note.spare ≡ length rest + 2 * ports_in first
 
 -- ## Before the first slot
@@ -77,10 +74,7 @@ replaying_first ms came lines first note ready =
       in_order = ready.in_order;
       none_before = none_first (ports_in first) lines ready.in_order;
       in_step = ready.in_step;
-      fixed = refl;
-      limits = refl;
-      from_inputs = refl;
-      to_outputs = refl;
+      made = made_alike first;
       note_room = ready.note_room;
     }
 
@@ -98,17 +92,19 @@ none_moved_by ms (suc k) slot ports ranks marks =
     (quiet_transfers ms slot ports ranks)
     ∙ none_moved_by ms k (slot + 1) ports (idled ms ports ranks) marks
 
-module _ (ms : List Machine) (came : List Arrival) (lines : List Transfer) (first : ReplayView) where
+module _ {ms : List Machine} {came : List Arrival} {lines : List Transfer} {first : ReplayView} where
   -- ## The run so far
 
   -- a record for each slot
-  pub one_each : (slot : ℕ) (f : Marked Fabric) (rs : List LimitedRecord) →
-      LimitedFabricRun IsStable first.limits ms 0 (first_slots came slot) first.fabric rs f → length rs ≡ slot
-  one_each slot f rs run =
-      run_length (LimitedFabricSlot IsStable first.limits ms) 0 (first_slots came slot) first.fabric f rs run
-      ∙ arriving_length came 0 slot
+  module _ {slot : ℕ} {rest : List Transfer} {now : ReplayView} {note : RoomView Transfer}
+      (b : Replaying ms came lines first slot rest now note) where
+    pub one_each : length b.records ≡ slot
+    one_each =
+        run_length (LimitedFabricSlot IsStable first.limits ms) 0 (first_slots came slot) first.fabric now.fabric
+        b.records b.runs
+        ∙ arriving_length came 0 slot
 
-  module _ (slot : ℕ) (rest : List Transfer) (now : ReplayView) (note : RoomView Transfer)
+  module _ {slot : ℕ} {rest : List Transfer} {now : ReplayView} {note : RoomView Transfer}
       (b : Replaying ms came lines first slot rest now note)
       (more : end_of came ≤ slot → IsEmptyFabric now.fabric.state → ⊥) where
     -- the run is over at no slot up to this one
@@ -116,7 +112,7 @@ module _ (ms : List Machine) (came : List Arrival) (lines : List Transfer) (firs
         AfterBy (LimitedFabricSlot IsStable first.limits ms) came first.fabric b.records m f → end_of came ≤ m →
         IsEmptyFabric f.state → ⊥
     not_over m f le run late empty =
-        let many : length b.records ≡ slot = one_each slot now.fabric b.records b.runs in
+        let many = one_each b in
         ⊎_elim
         (λ (before : m < slot). b.going m f before run late empty)
         (λ (reached : slot ≤ m).
@@ -140,15 +136,16 @@ module _ (ms : List Machine) (came : List Arrival) (lines : List Transfer) (firs
     replaying_next cells left new note' are had =
         let r = had.of_slot in
         let long = arriving_length came 0 slot in
-        let many : length b.records ≡ slot = one_each slot now.fabric b.records b.runs in
+        let many = one_each b in
         let at : slot ≡ 0 + length (first_slots came slot) = omega arith in
         let step : LimitedFabricSlot IsStable first.limits ms slot (arriving came slot) now.fabric r new.fabric =
         subst (λ (l : List (Option Cell)). LimitedFabricSlot IsStable first.limits ms slot l now.fabric r new.fabric)
         are
-        (subst (λ (l : List (Option ℕ)). LimitedFabricSlot IsStable l ms slot cells now.fabric r new.fabric) b.limits
+        (subst (λ (l : List (Option ℕ)). LimitedFabricSlot IsStable l ms slot cells now.fabric r new.fabric)
+        b.made.limits
         had.is_slot) in
         let parts = moved_more b.records r in
-        let same_ports : length now.fixed ≡ length first.fixed = ap (λ (l : List (List ℕ)). length l) b.fixed in
+        let same_ports : length now.fixed ≡ length first.fixed = ap (λ (l : List (List ℕ)). length l) b.made.fixed in
         record {
           records = b.records ++ r ∷ [];
           runs =
@@ -172,10 +169,7 @@ module _ (ms : List Machine) (came : List Arrival) (lines : List Transfer) (firs
           in_order = subst (λ (n : ℕ). AreInOrder n left) same_ports had.in_order;
           none_before = none_next (ports_in now) slot left had.in_order had.behind;
           in_step = had.in_step;
-          fixed = had.fixed ∙ b.fixed;
-          limits = had.limits ∙ b.limits;
-          from_inputs = had.from_inputs ∙ b.from_inputs;
-          to_outputs = had.to_outputs ∙ b.to_outputs;
+          made = made_on b.made had.made;
           note_room =
               let room : note'.spare + length (transfers_in r.of_slot) ≡ note.spare = had.note_room in
               let was : note.spare ≡ length rest + 2 * ports_in first = b.note_room in
@@ -186,7 +180,7 @@ module _ (ms : List Machine) (came : List Arrival) (lines : List Transfer) (firs
 
   -- ## A stretch
 
-  module _ (slot next : ℕ) (rest : List Transfer) (now new : ReplayView) (note : RoomView Transfer)
+  module _ {slot next : ℕ} {rest : List Transfer} {now new : ReplayView} {note : RoomView Transfer}
       (b : Replaying ms came lines first slot rest now note) (still : IsStill came rest slot next)
       (rested : HasRested ms slot next now new) where
     abbrev quiet_records : List LimitedRecord
@@ -199,7 +193,7 @@ module _ (ms : List Machine) (came : List Arrival) (lines : List Transfer) (firs
         subst (λ (l : List (Option ℕ)). LimitedFabricRun IsStable l ms slot (replicate (next - slot) no_arrivals)
         now.fabric
         (quiet_limited_slots ms (next - slot) slot (ports_in now) now.fabric.state.ranks now.fabric.marks) new.fabric)
-        b.limits rested.slots
+        b.made.limits rested.slots
 
     -- what arrives up to the slot, and then nothing, is what arrives up to the other
     slots_are : first_slots came slot ++ replicate (next - slot) no_arrivals ≡ first_slots came next
@@ -212,7 +206,7 @@ module _ (ms : List Machine) (came : List Arrival) (lines : List Transfer) (firs
     pub replaying_rested : Replaying ms came lines first next rest new note
     replaying_rested =
         let late : slot ≤ next = still.late in
-        let many : length b.records ≡ slot = one_each slot now.fabric b.records b.runs in
+        let many = one_each b in
         let long = arriving_length came 0 slot in
         let at : slot ≡ 0 + length (first_slots came slot) = omega arith in
         let whole : LimitedFabricRun IsStable first.limits ms 0 (first_slots came next) first.fabric
@@ -247,10 +241,7 @@ module _ (ms : List Machine) (came : List Arrival) (lines : List Transfer) (firs
           in_order = b.in_order;
           none_before = none_from (ports_in first) next rest b.in_order still.no_line;
           in_step = rested.in_step;
-          fixed = rested.fixed ∙ b.fixed;
-          limits = rested.limits ∙ b.limits;
-          from_inputs = rested.from_inputs ∙ b.from_inputs;
-          to_outputs = rested.to_outputs ∙ b.to_outputs;
+          made = made_on b.made rested.made;
           note_room = b.note_room;
         }
 

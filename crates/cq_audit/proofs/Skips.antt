@@ -1,6 +1,6 @@
 -- Slots that a replay skips. No cell arrives up to the next arrival, and no line is of a slot before the first one's.
 -- And a stretch of no slots leaves everything as it is.
-use Rattle.std.proofs.Common.{◌≡◌, ℕ, zero, suc, ◌-◌, ◌<◌, ◌≤◌, ◌⊎◌, min, List, [], ◌∷◌, replicate, Option, None, Some, refl, ap, ⊎_elim, arith}
+use Rattle.std.proofs.Common.{◌≡◌, ℕ, zero, suc, ◌-◌, ◌<◌, ◌≤◌, ◌⊎◌, min, List, [], ◌∷◌, replicate, Option, None, Some, refl, ap, ◌∙◌, ⊎_elim, arith}
 use Rattle.std.specs.Prelude.{slice_get}
 use Rattle.std.specs.List.{AllByRecursion}
 use Rattle.cq_base.specs.Arrivals.{no_arrivals}
@@ -14,7 +14,7 @@ use Rattle.cq_laws.specs.LimitedFabric.{LimitedFabricRun}
 use Rattle.cq_laws.specs.LimitedQuiet.{quiet_limited_slots}
 use Rattle.cq_traffic.specs.Stretch.{IsQuiet}
 use Rattle.cq_audit.specs.Phase.{NoneBefore}
-use Rattle.cq_audit.specs.Replay.{HasRested, IsInStep, ReplayView, ports_in}
+use Rattle.cq_audit.specs.Replay.{HasRested, IsInStep, IsMadeAs, ReplayView, ports_in}
 use Rattle.cq_audit.specs.Running.{FirstIsLeast, IsStill}
 use Rattle.cq_audit.proofs.Following.{weaker}
 
@@ -72,15 +72,21 @@ no_slots : (limits : List (Option ℕ)) (ms : List Machine) (k slot : ℕ) (v : 
 no_slots limits ms zero slot v none = refl
 no_slots limits ms (suc k) slot v none = absurd (omega arith)
 
+pub made_alike : (v : ReplayView) → IsMadeAs v v
+made_alike v = record { fixed = refl; limits = refl; from_inputs = refl; to_outputs = refl }
+
+pub made_on : {u v w : ReplayView} → IsMadeAs u v → IsMadeAs v w → IsMadeAs u w
+made_on one two =
+    record {
+      fixed = two.fixed ∙ one.fixed;
+      limits = two.limits ∙ one.limits;
+      from_inputs = two.from_inputs ∙ one.from_inputs;
+      to_outputs = two.to_outputs ∙ one.to_outputs;
+    }
+
 pub no_rest : (ms : List Machine) (slot : ℕ) (v : ReplayView) → IsInStep ms slot v → HasRested ms slot slot v v
-no_rest ms slot v step = record {
-  slots = no_slots v.limits ms (slot - slot) slot v (omega arith);
-  in_step = step;
-  fixed = refl;
-  limits = refl;
-  from_inputs = refl;
-  to_outputs = refl;
-}
+no_rest ms slot v step =
+    record { slots = no_slots v.limits ms (slot - slot) slot v (omega arith); in_step = step; made = made_alike v }
 
 -- and a fabric that rests for no slots is as it was
 pub same_fabric : (limits : List (Option ℕ)) (ms : List Machine) (k slot : ℕ) (old : ReplayView) (new : Marked Fabric) →

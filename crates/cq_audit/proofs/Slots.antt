@@ -1,14 +1,11 @@
--- A slot of a replay, call by call. It is a slot of the fabric with limits, whose matchings are those that the lines
--- tell. So what each call asks for is what it asks of any fabric that agrees with an ideal switch, and each fault of
+-- A slot of a replay, step by step. It is a slot of the fabric with limits, whose matchings are those that the lines
+-- tell. So what each step asks for is what it asks of any fabric that agrees with an ideal switch, and each fault of
 -- the lines is one of the phase in which it comes. What is known where the slot begins is one record, and so is what
--- each call adds: what comes is judged and ranked, arrives, crosses by the lines of the first phase, is sent, and
--- crosses by those of the second.
-use Rattle.std.proofs.Common.{◌≡◌, ℕ, ◌+◌, ◌*◌, ◌<◌, ◌≤◌, ◌^◌, ◌⊎◌, inl, inr, true, false, List, [], ◌∷◌, ◌++◌, length, map, get_or, Option, Result, Ok, Err, refl, sym, ap, ◌∙◌, subst, ⊎_elim, arith, append_assoc, eqb, length-append}
-use Rattle.std.specs.Prelude.{IfSome, IsOk, slice_get}
-use Rattle.std.specs.List.{AllByRecursion}
-use Rattle.std.proofs.lemmas.Bool.{cond_both, eqb-true, and_parts}
+-- each step leaves: what comes is judged and ranked and arrives, the lines of the first phase are gone by, the outputs
+-- send, and the lines of the second are gone by.
+use Rattle.std.proofs.Common.{◌≡◌, ℕ, ◌+◌, ◌*◌, ◌<◌, ◌≤◌, ◌^◌, ◌⊎◌, inl, inr, true, false, Bool, List, ◌++◌, length, map, get_or, Option, Result, Ok, Err, refl, sym, ap, ◌∙◌, subst, ⊎_elim, arith, append_assoc, length-append}
+use Rattle.std.specs.Prelude.{IsOk, slice_get}
 use Rattle.std.proofs.lemmas.List.{length-map}
-use Rattle.std.proofs.lemmas.List.Elements.{filter-append}
 use Rattle.cq_base.specs.declared.cell.Cell.{Cell}
 use Rattle.cq_base.specs.declared.cell.Queued.{Queued}
 use Rattle.cq_base.specs.declared.cell.TagFault.{TagFault}
@@ -18,64 +15,41 @@ use Rattle.cq_rank.specs.Machine.{Machine}
 use Rattle.cq_rank.specs.Switch.{class_count}
 use Rattle.cq_ideal.specs.Admission.{Admission, admitted, marked, marks_after}
 use Rattle.cq_ideal.specs.Ideal.{count_for}
-use Rattle.cq_ideal.specs.IdealSlot.{fronts}
+use Rattle.cq_ideal.specs.IdealSlot.{all_told, fronts}
 use Rattle.cq_ideal.specs.Limiter.{ComeToPorts, LimiterView}
+use Rattle.cq_ideal.specs.Parts.{RanksView}
 use Rattle.cq_ideal.specs.Ranking.{AreForPorts, Ranking, ranking}
 use Rattle.cq_ideal.proofs.Admitted.{admitted_arrives, admitted_for_ports}
+use Rattle.cq_ideal.proofs.Sending.{length-told}
 use Rattle.cq_ideal.proofs.Slot.{by_marks}
 use Rattle.cq_prefs.specs.FirstCells.{list_of}
 use Rattle.cq_prefs.specs.Moves.{transfers_of}
 use Rattle.cq_laws.specs.Agreement.{SendsAlike}
 use Rattle.cq_laws.specs.FabricSlot.{SlotRecord}
 use Rattle.cq_laws.specs.LimitedFabric.{fabric_admission}
-use Rattle.cq_laws.specs.Phases.{Arrives, came_to}
+use Rattle.cq_laws.specs.Phases.{Arrives}
 use Rattle.cq_laws.specs.Records.{transfers_in}
 use Rattle.cq_fabric.specs.Held.{HoldsFabric}
-use Rattle.cq_fabric.specs.Queues.{CanCross, ComeApart, FitLists, Queues, fabric_of}
-use Rattle.cq_fabric.specs.Released.{HasReleased}
-use Rattle.cq_fabric.proofs.Known.{AreRanked, BuffersHaveRoom, HaveArrived, HaveJudged, HaveMoved, HaveSent, ListsHaveRoom}
+use Rattle.cq_fabric.specs.Queues.{ComeApart, FitLists, Queues, fabric_of}
+use Rattle.cq_fabric.proofs.Known.{AreRanked, BuffersHaveRoom, HaveArrived, HaveJudged, HaveMoved, HaveSent}
 use Rattle.cq_fabric.proofs.Limits.{admits_are, admitted_room, numbers_fit, still_holds}
 use Rattle.cq_fabric.proofs.Slot.{alike as sends_alike, arrive as slot_arrives, can_cross_first, can_cross_second, come_apart, depart as slot_departs, few_cross, fill as slot_fills, fits_lists, held_before, is_slot, recorded}
-use Rattle.cq_ideal.proofs.Sending.{length-told}
-use Rattle.cq_audit.specs.Crossing.{AreNoted, HaveCrossed}
 use Rattle.cq_audit.specs.Log.{AreInOrder}
-use Rattle.cq_audit.specs.Phase.{AllBehind, AreOfPhase, AreParted, IsPhaseFault, NoneBefore, in_phase, is_at}
-use Rattle.cq_audit.specs.Replay.{CanReplay, IsFirstFault, IsInStep, IsSecondFault, ReplayView, SlotReplayed}
-use Rattle.cq_audit.specs.declared.phase.PhaseFault.{PhaseFault}
+use Rattle.cq_audit.specs.Phase.{AllBehind, AreParted, IsPhaseFault, NoneBefore, in_phase}
+use Rattle.cq_audit.specs.Replay.{CanCome, CanReplay, IsInStep, IsSlotFault, ReplayView, SlotReplayed, shown}
+use Rattle.cq_audit.specs.SlotSteps.{CanGoBy, CanSend, HasGoneBy, HaveAllSent, HaveCome}
+use Rattle.cq_audit.specs.StableRun.{IsHalfPast}
+use Rattle.cq_audit.specs.declared.replay.SlotFault.{SlotFault}
+use Rattle.cq_audit.proofs.BySlot.{second_behind}
 use Rattle.cq_audit.proofs.Following.{weaker}
 
--- what is seen of these parts
-abbrev pub shown : List (List ℕ) → List (List ℕ) → Queues → LimiterView → ReplayView
-shown fixed states q l =
-    record {
-      fixed = fixed;
-      limits = l.limits;
-      fabric = marked l.marks (fabric_of q states);
-      held = l.held;
-      from_inputs = q.from_inputs;
-      to_outputs = q.to_outputs;
-    }
-
 -- ## The lines of two phases
-
-none_second : (slot : ℕ) (xs : List Transfer) → AllByRecursion (λ t. (t.slot ≡ slot) × (t.phase ≡ 1)) xs →
-    in_phase slot 2 xs ≡ []
-none_second slot [] all = refl
-none_second slot (t ∷ xs) all =
-    cond_both (is_at slot 2 t) (t ∷ in_phase slot 2 xs) (in_phase slot 2 xs) (λ ls. ls ≡ [])
-    (λ here.
-    let both = and_parts (eqb t.slot slot) (eqb t.phase 2) here in
-    let phase : t.phase ≡ 2 = eqb-true t.phase 2 both.1 in
-    let own : t.phase ≡ 1 = all.0.1 in
-    absurd (let P : ⊥ = omega arith in P))
-    (λ _. none_second slot xs all.1)
 
 -- the lines of the second phase stand behind those of the first
 pub second_lines : (ports slot : ℕ) (lines first behind : List Transfer) → AreParted ports slot 1 lines first behind →
     in_phase slot 2 lines ≡ in_phase slot 2 behind
 second_lines ports slot lines first behind parted =
-    ap (in_phase slot 2) parted.whole ∙ filter-append (is_at slot 2) first behind
-    ∙ ap (λ (l : List Transfer). l ++ in_phase slot 2 behind) (none_second slot first parted.of_phase.now)
+    ap (in_phase slot 2) parted.whole ∙ second_behind slot first behind parted.of_phase.now
 
 pub second_may_come : (slot : ℕ) (lines : List Transfer) → AllBehind slot 1 lines → NoneBefore slot 2 lines
 second_may_come slot lines =
@@ -84,293 +58,316 @@ second_may_come slot lines =
     (λ t had. ⊎_elim (λ later. inl later) (λ here. let more = here.1 in inr (here.0, omega arith)) had)
     lines
 
--- ## What is known
-
--- what a slot asks for, of its parts
-pub record Begun (ms : List Machine) (slot : ℕ) (cells : List (Option Cell)) (lines : List Transfer)
-    (note : RoomView Transfer) (fixed states : List (List ℕ)) (q : Queues) (l : LimiterView) : Type 0 where
-  pub in_step : IsInStep ms slot (shown fixed states q l)
-  pub as_many : length ms ≡ length fixed
-  pub come : AreForPorts (length ms) (class_count ms) cells
-  pub ranked : IsOk
-      (ranking ms slot 0 (fabric_admission l.limits cells (marked l.marks (fabric_of q states))).cells states)
-  pub list_room : ListsHaveRoom q cells
-  pub buffer_room : BuffersHaveRoom (length ms) q cells
-  pub in_order : AreInOrder (length fixed) lines
-  pub none_before : NoneBefore slot 1 lines
-  pub note_room : 2 * length fixed ≤ note.spare
-
--- what comes was judged, and what is admitted has its keys
-pub record Taken (ms : List Machine) (slot : ℕ) (cells : List (Option Cell)) (states : List (List ℕ))
-    (l judged : LimiterView) (came : List (Option Queued)) (ranks : List (List ℕ)) : Type 0 where
-  pub marks : judged.marks ≡ marks_after l.limits l.held l.marks cells
-  pub judges : HaveJudged (admitted judged.marks cells) l judged
-  pub ranked : ranking ms slot 0 (admitted judged.marks cells) states ≡ Ok (record { came = came; ranks = ranks })
-  pub many : length ranks ≡ length states
-
 -- ## Before a slot
 
-module _ (M : List ℕ → Machine) (slot : ℕ) (v : ReplayView) (fixed states : List (List ℕ)) (q : Queues)
-    (l : LimiterView) (is : shown fixed states q l ≡ v) where
-  pub in_step_here : IsInStep (map M v.fixed) slot v → IsInStep (map M fixed) slot (shown fixed states q l)
+-- what is known of the parts
+pub record Begun (M : List ℕ → Machine) (slot : ℕ) (cells : List (Option Cell)) (lines : List Transfer)
+    (note : RoomView Transfer) (v : ReplayView) (ranks : RanksView) (q : Queues) (l : LimiterView) : Type 0 where
+  pub is : shown ranks q l ≡ v
+  pub can : CanReplay (map M ranks.fixed) slot cells lines (shown ranks q l) note
+
+module _ (M : List ℕ → Machine) {slot : ℕ} {v : ReplayView} (ranks : RanksView) (q : Queues) (l : LimiterView)
+    (is : shown ranks q l ≡ v) where
+  pub in_step_here : IsInStep (map M v.fixed) slot v → IsInStep (map M ranks.fixed) slot (shown ranks q l)
   in_step_here step = subst (λ (w : ReplayView). IsInStep (map M w.fixed) slot w) (sym is) step
 
-  pub begun : (cells : List (Option Cell)) (lines : List Transfer) (note : RoomView Transfer) →
-      CanReplay (map M v.fixed) slot cells lines v note → Begun (map M fixed) slot cells lines note fixed states q l
-  begun cells lines note can =
-      let here : CanReplay (map M fixed) slot cells lines (shown fixed states q l) note =
-      subst (λ (w : ReplayView). CanReplay (map M w.fixed) slot cells lines w note) (sym is) can in
-      let long = length-map fixed M in
-      record {
-        in_step = here.in_step;
-        as_many = long;
-        come = subst (λ (n : ℕ). AreForPorts n (class_count (map M fixed)) cells) (sym long) here.arrivals;
-        ranked = here.ranked;
-        list_room = λ i cell at. here.list_room i cell at;
-        buffer_room = λ j inside. here.buffer_room j (let long = length-map fixed M in omega arith);
-        in_order = here.in_order;
-        none_before = here.none_before;
-        note_room = here.note_room;
-      }
+  pub begun : {cells : List (Option Cell)} {lines : List Transfer} {note : RoomView Transfer} →
+      CanReplay (map M v.fixed) slot cells lines v note → Begun M slot cells lines note v ranks q l
+  begun {cells} {lines} {note} can =
+      record { is = is; can = subst (λ w. CanReplay (map M w.fixed) slot cells lines w note) (sym is) can }
 
-module _ {ms : List Machine} {slot : ℕ} {cells : List (Option Cell)} {lines : List Transfer}
-    {note : RoomView Transfer} {fixed states : List (List ℕ)} {q0 : Queues} {l : LimiterView}
-    (known : Begun ms slot cells lines note fixed states q0 l) where
-  pub few : length l.limits ≤ 64
-  few = let few = known.in_step.machines.few in let limits = known.in_step.limits in omega arith
+-- ## What comes
 
-  pub few_fixed : length fixed ≤ 64
-  few_fixed = let few = known.in_step.machines.few in let long = known.as_many in omega arith
+module _ (M : List ℕ → Machine) {slot : ℕ} {cells : List (Option Cell)} (ranks : RanksView) (q : Queues)
+    (l : LimiterView) (can : CanCome (map M ranks.fixed) slot cells (shown ranks q l)) where
+  abbrev machines : List Machine
+  machines = map M ranks.fixed
 
-  pub some_fixed : 0 < length fixed
-  some_fixed = let some = known.in_step.machines.some in let long = known.as_many in omega arith
-
-  pub states_long : length states ≡ length fixed
-  states_long = known.in_step.ranks ∙ known.as_many
+  many : length machines ≡ length ranks.fixed
+  many = length-map ranks.fixed M
 
   pub come_to_ports : ComeToPorts (length l.limits) cells
   come_to_ports =
-      let ports = known.in_step.limits in
+      let limits = can.in_step.limits in
+      let long = many in
       record {
-        inputs = λ input cell at. let lt = known.come.inputs input cell at in omega arith;
-        outputs = λ input cell at. let lt = known.come.outputs input cell at in omega arith;
+        inputs = λ input cell at. let lt = can.arrivals.inputs input cell at in omega arith;
+        outputs = λ input cell at. let lt = can.arrivals.outputs input cell at in omega arith;
       }
 
-  holds : HoldsFabric (fabric_of q0 states) l
-  holds = record { ports = known.in_step.limits ∙ sym known.in_step.ports; held = known.in_step.held }
+  holds : HoldsFabric (fabric_of q ranks.states) l
+  holds = record { ports = can.in_step.limits ∙ sym can.in_step.ports; held = can.in_step.held }
+
+  buffers_room : BuffersHaveRoom (length machines) q cells
+  buffers_room j inside = can.buffer_room j (let long = many in omega arith)
 
   -- the numbers of cells that outputs hold stay below 2^64
-  pub held_fits : ((j : ℕ) → length (list_of q0.buffers j) ≤ get_or q0.to_outputs j 0) →
-      ((j : ℕ) → get_or q0.to_outputs j 0 < 2 ^ 64) → (j : ℕ) → j < length l.limits →
+  pub held_fits : ((j : ℕ) → length (list_of q.buffers j) ≤ get_or q.to_outputs j 0) →
+      ((j : ℕ) → get_or q.to_outputs j 0 < 2 ^ 64) → (j : ℕ) → j < length l.limits →
       get_or l.held j 0 + count_for j cells < 2 ^ 64
   held_fits =
-      numbers_fit q0 states l cells holds
-      (λ j inside. known.buffer_room j (let ports = known.in_step.ports in omega arith))
+      numbers_fit q ranks.states l cells holds
+      (λ j inside. buffers_room j (let ports = can.in_step.ports in omega arith))
 
-  -- what is admitted by these marks is what the fabric admits
-  admitted_is : (judged : LimiterView) → judged.marks ≡ marks_after l.limits l.held l.marks cells →
-      by_marks judged.marks cells ≡ fabric_admission l.limits cells (marked l.marks (fabric_of q0 states))
-  admitted_is judged marks = admits_are l (fabric_of q0 states) cells judged.marks holds marks
+  module _ (marks : List Bool) where
+    -- what is admitted by these marks is what the fabric admits
+    admitted_is : marks ≡ marks_after l.limits l.held l.marks cells →
+        by_marks marks cells ≡ fabric_admission l.limits cells (marked l.marks (fabric_of q ranks.states))
+    admitted_is are = admits_are l (fabric_of q ranks.states) cells marks holds are
 
-  -- the ranks of what is admitted fit, and so they are found to
-  pub no_fault : (judged : LimiterView) → judged.marks ≡ marks_after l.limits l.held l.marks cells →
-      (fault : TagFault) → ranking ms slot 0 (admitted judged.marks cells) states ≡ Err fault → ⊥
-  no_fault judged marks fault err =
-      let clash : false ≡ true =
-      subst (λ (r : Result Ranking TagFault). IsOk r)
-      (ap (λ (a : Admission). ranking ms slot 0 a.cells states) (sym (admitted_is judged marks)) ∙ err) known.ranked in
-      let P : ⊥ = cc in P
+    -- the ranks of what is admitted fit, and so they are found to
+    pub no_fault : marks ≡ marks_after l.limits l.held l.marks cells → (fault : TagFault) →
+        ranking machines slot 0 (admitted marks cells) ranks.states ≡ Err fault → ⊥
+    no_fault are fault err =
+        let clash : false ≡ true =
+        subst (λ (r : Result Ranking TagFault). IsOk r)
+        (ap (λ (a : Admission). ranking machines slot 0 a.cells ranks.states) (sym (admitted_is are)) ∙ err) can.ranked in
+        let P : ⊥ = cc in P
 
-  -- ## A slot
-
-  module _ {judged : LimiterView} {came : List (Option Queued)} {ranks1 : List (List ℕ)}
-      (taken : Taken ms slot cells states l judged came ranks1) where
-    -- the cells that are admitted
-    abbrev comes : List (Option Cell)
-    comes = admitted judged.marks cells
-
-    ranked : AreRanked ms slot q0 states comes (class_count ms) came ranks1
-    ranked =
-        record {
-          ideal = known.in_step.ideal;
-          agrees = known.in_step.agrees;
-          ports = known.in_step.ports;
-          for_ports = admitted_for_ports (length ms) (class_count ms) judged.marks cells known.come;
-          ranked = taken.ranked;
-        }
-
-    room : BuffersHaveRoom (length ms) q0 comes
-    room = admitted_room (length ms) q0 judged.marks cells known.buffer_room
-
-    pub fit : FitLists came q0
-    fit = fits_lists ranked (λ i cell at. known.list_room i cell (admitted_arrives judged.marks cells i cell at))
-
-    pub apart : ComeApart came q0.inputs
-    apart = come_apart ranked
-
-    module _ {q1 : Queues} (arrived : HaveArrived q0 came q1) where
-      pub first_long : length q1.inputs ≡ length fixed
-      first_long = arrived.ports ∙ known.in_step.ports ∙ known.as_many
-
-      -- the note has room for a transfer of each input
-      pub first_room : length q1.inputs ≤ note.spare
-      first_room = let long = first_long in let room = known.note_room in omega arith
-
-      pub cross_first : CanCross q1
-      cross_first = can_cross_first ranked arrived room
-
-      arrives :
-          Arrives ms slot (fabric_admission l.limits cells (marked l.marks (fabric_of q0 states))).cells came
-          (fabric_of q0 states) (fabric_of q1 ranks1)
-      arrives =
-          subst (λ (cs : List (Option Cell)). Arrives ms slot cs came (fabric_of q0 states) (fabric_of q1 ranks1))
-          (ap (λ (a : Admission). a.cells) (admitted_is judged taken.marks)) (slot_arrives ranked arrived)
-
-      module _ {first behind : List Transfer} (parted1 : AreParted (length fixed) slot 1 lines first behind) where
-        pub first_fault : (fault : PhaseFault) → IsPhaseFault q1.inputs first fault →
-            IsFirstFault l.limits ms slot cells lines (marked l.marks (fabric_of q0 states)) fault
-        first_fault fault wrong =
+    module _ (came : List (Option Queued)) (states : List (List ℕ))
+        (is : ranking machines slot 0 (admitted marks cells) ranks.states ≡ Ok (record { came = came; ranks = states }))
+      where
+        keyed : AreRanked machines slot q ranks.states (admitted marks cells) (class_count machines) came states
+        keyed =
             record {
-              ranked = came;
-              arrived = fabric_of q1 ranks1;
-              arrive = arrives;
-              wrong = subst (λ (ls : List Transfer). IsPhaseFault q1.inputs ls fault) parted1.own wrong;
+              ideal = can.in_step.ideal;
+              agrees = can.in_step.agrees;
+              ports = can.in_step.ports;
+              for_ports =
+                  admitted_for_ports (length machines) (class_count machines) marks cells
+                  (subst (λ (n : ℕ). AreForPorts n (class_count machines) cells) (sym many) can.arrivals);
+              ranked = is;
             }
 
-        pub first_of_phase : AreOfPhase (length q1.inputs) slot 1 first
-        first_of_phase = subst (λ (n : ℕ). AreOfPhase n slot 1 first) (sym first_long) parted1.of_phase
+        pub fit : FitLists came q
+        fit = fits_lists keyed (λ i cell at. can.list_room i cell (admitted_arrives marks cells i cell at))
 
-        module _ {q2 : Queues} (crossed1 : HaveCrossed slot 1 first q1 q2) where
-          moved1 : HaveMoved crossed1.pairs q1 q2
-          moved1 = record { stable = crossed1.told.stable; moves = crossed1.moves }
+        pub apart : ComeApart came q.inputs
+        apart = come_apart keyed
 
-          -- so many outputs may send
-          pub gone_long : length (fronts q2.buffers) ≡ length fixed
-          gone_long =
-              length-map q2.buffers (λ (xs : List Queued). slice_get xs 0) ∙ crossed1.moves.ports.1
-              ∙ ap length arrived.buffers ∙ known.in_step.agrees.fabric.square ∙ known.in_step.ports ∙ known.as_many
+-- ## A slot
 
-          -- and no more cells crossed than there are inputs
-          pub first_few : length first ≤ length q1.inputs
-          first_few =
-              let few = few_cross crossed1.pairs q1.inputs slot 1 crossed1.told.stable.matching in
-              let same = ap length crossed1.told.moved in
-              omega arith
+module _ {M : List ℕ → Machine} {slot : ℕ} {cells : List (Option Cell)} {lines : List Transfer}
+    {note : RoomView Transfer} {v : ReplayView} {ranks0 : RanksView} {q0 : Queues} {l : LimiterView}
+    (known : Begun M slot cells lines note v ranks0 q0 l) {ranks1 : RanksView} {q1 : Queues} {judged : LimiterView}
+    (come : HaveCome (map M ranks0.fixed) slot cells ranks0 ranks1 q0 q1 l judged) where
+  abbrev ms : List Machine
+  ms = map M ranks0.fixed
 
-          -- the number that is kept of an output that sends is not 0
-          pub enough_held : (j : ℕ) → IfSome (came_to (fronts q2.buffers) j) (λ _. 0 < get_or judged.held j 0)
-          enough_held = held_before ranked arrived room moved1 holds taken.judges
+  -- the cells that are admitted
+  abbrev comes : List (Option Cell)
+  comes = admitted judged.marks cells
 
-          module _ {ranks2 : List (List ℕ)} {q3 : Queues} (sent : HaveSent ms q1 ranks1 q2 ranks2 q3) where
-            pub cross_second : CanCross q3
-            cross_second = can_cross_second ranked arrived room moved1 sent
+  ranked : AreRanked ms slot q0 ranks0.states comes (class_count ms) come.came ranks1.states
+  ranked = keyed M ranks0 q0 l known.can.come judged.marks come.came ranks1.states come.ranked
 
-            pub second_long : length q3.inputs ≡ length fixed
-            second_long = ap length sent.inputs ∙ crossed1.moves.ports.0 ∙ first_long
+  arrived : HaveArrived q0 come.came q1
+  arrived =
+      record { ports = come.ports; lists = come.lists; buffers = come.buffers; to_outputs = come.to_outputs }
 
-            -- and then once more
-            pub second_room : (left : ℕ) → left + length first ≡ note.spare → length q3.inputs ≤ left
-            second_room left rest =
-                let few = first_few in
-                let long = first_long in
-                let again = second_long in
-                let room = known.note_room in
-                omega arith
+  judges : HaveJudged comes l judged
+  judges =
+      let was = come.judged in
+      record { limits = was.limits; as_many = was.ports.held ∙ ap length was.limits; more = was.held }
 
-            module _ {second rest : List Transfer} (parted2 : AreParted (length fixed) slot 2 behind second rest) where
-              pub second_fault : (fault : PhaseFault) → IsPhaseFault q3.inputs second fault →
-                  IsSecondFault l.limits ms slot cells lines (marked l.marks (fabric_of q0 states)) fault
-              second_fault fault wrong =
+  room : BuffersHaveRoom (length ms) q0 comes
+  room = admitted_room (length ms) q0 judged.marks cells (buffers_room M ranks0 q0 l known.can.come)
+
+  admits : by_marks judged.marks cells
+      ≡ fabric_admission l.limits cells (marked l.marks (fabric_of q0 ranks0.states))
+  admits = admitted_is M ranks0 q0 l known.can.come judged.marks come.judged.marks
+
+  first_long : length q1.inputs ≡ length ranks0.fixed
+  first_long = come.ports ∙ known.can.come.in_step.ports ∙ length-map ranks0.fixed M
+
+  arrives : Arrives ms slot (fabric_admission l.limits cells (marked l.marks (fabric_of q0 ranks0.states))).cells
+      come.came (fabric_of q0 ranks0.states) (fabric_of q1 ranks1.states)
+  arrives =
+      subst
+      (λ (a : Admission).
+      Arrives ms slot a.cells come.came (fabric_of q0 ranks0.states) (fabric_of q1 ranks1.states))
+      admits (slot_arrives ranked arrived)
+
+  -- the lines of the first phase can be gone by
+  pub first_goes : CanGoBy slot 1 lines q1 note
+  first_goes =
+      record {
+        cells = can_cross_first ranked arrived room;
+        in_order = subst (λ (n : ℕ). AreInOrder n lines) (sym first_long) known.can.in_order;
+        none_before = known.can.none_before;
+        room = let long = first_long in let had = known.can.note_room in omega arith;
+      }
+
+  -- a fault of the parts is one of what is seen of them
+  seen : (f : SlotFault) → IsSlotFault ms slot cells lines (shown ranks0 q0 l) f →
+      IsSlotFault (map M v.fixed) slot cells lines v f
+  seen f = subst (λ (w : ReplayView). IsSlotFault (map M w.fixed) slot cells lines w f) known.is
+
+  pub first_fault : (f : SlotFault) → (f.phase ≡ 1) × IsPhaseFault q1.inputs (in_phase slot 1 lines) f.fault →
+      IsSlotFault (map M v.fixed) slot cells lines v f
+  first_fault f is =
+      let there = fabric_of q1 ranks1.states in
+      seen f (inl (is.0, record { ranked = come.came; arrived = there; arrive = arrives; wrong = is.1 }))
+
+  module _ {behind : List Transfer} {q2 : Queues} {note1 : RoomView Transfer}
+      (one : HasGoneBy slot 1 lines behind q1 q2 note note1) where
+    moved1 : HaveMoved one.crossed.pairs q1 q2
+    moved1 = record { stable = one.crossed.told.stable; moves = one.crossed.moves }
+
+    -- so many outputs may send
+    gone_long : length (fronts q2.buffers) ≡ length ranks0.fixed
+    gone_long =
+        length-map q2.buffers (λ (xs : List Queued). slice_get xs 0) ∙ one.crossed.moves.ports.1
+        ∙ ap length come.buffers ∙ known.can.come.in_step.agrees.fabric.square ∙ known.can.come.in_step.ports
+        ∙ length-map ranks0.fixed M
+
+    pub can_send : CanSend ranks1 q2 judged
+    can_send =
+        let up = known.can.come.in_step in
+        let many = length-map ranks0.fixed M in
+        let fixed = ap length come.fixed in
+        record {
+          few = let long = gone_long in let few = up.machines.few in omega arith;
+          machines = gone_long ∙ sym fixed;
+          states = come.many ∙ up.ranks ∙ many ∙ sym fixed;
+          counts = gone_long ∙ sym (judges.as_many ∙ up.limits ∙ many);
+          holds = held_before ranked arrived room moved1 (holds M ranks0 q0 l known.can.come) judges;
+        }
+
+    module _ {ranks2 : RanksView} {q3 : Queues} {after : LimiterView}
+        (sent : HaveAllSent (map M ranks1.fixed) ranks1 ranks2 q2 q3 judged after) where
+      have_sent : HaveSent ms q1 ranks1.states q2 ranks2.states q3
+      have_sent =
+          record {
+            inputs = sent.inputs;
+            buffers = sent.buffers;
+            told =
+                sent.told
+                ∙ ap (λ (fixed : List (List ℕ)). all_told (map M fixed) (fronts q2.buffers) ranks1.states) come.fixed;
+            to_outputs = sent.to_outputs ∙ one.crossed.to_outputs;
+          }
+
+      second_long : length q3.inputs ≡ length q1.inputs
+      second_long = ap length sent.inputs ∙ one.crossed.moves.ports.0
+
+      -- the lines of the second phase can be gone by: no more cells crossed than there are inputs
+      pub second_goes : CanGoBy slot 2 behind q3 note1
+      second_goes =
+          let few = few_cross one.crossed.pairs q1.inputs slot 1 one.crossed.told.stable.matching in
+          let same = ap length one.crossed.told.moved in
+          let long = first_long in
+          let again = second_long in
+          let had = known.can.note_room in
+          let left = one.noted.spare in
+          record {
+            cells = can_cross_second ranked arrived room moved1 have_sent;
+            in_order = subst (λ (n : ℕ). AreInOrder n behind) (sym second_long) one.parted.in_order;
+            none_before = second_may_come slot behind one.parted.behind;
+            room = omega arith;
+          }
+
+      half : IsHalfPast ms slot (in_phase slot 1 lines) (fabric_of q1 ranks1.states) (fabric_of q3 ranks2.states)
+      half =
+          record {
+            first = one.crossed.pairs;
+            told = record { stable = one.crossed.told.stable; moved = one.crossed.told.moved ∙ one.parted.own };
+            filled = fabric_of q2 ranks1.states;
+            fill = slot_fills ranked arrived room moved1 have_sent;
+            gone = fronts q2.buffers;
+            depart = slot_departs ranked arrived room moved1 have_sent;
+          }
+
+      pub second_fault : (f : SlotFault) → (f.phase ≡ 2) × IsPhaseFault q3.inputs (in_phase slot 2 behind) f.fault →
+          IsSlotFault (map M v.fixed) slot cells lines v f
+      second_fault f is =
+          let wrong =
+          subst (λ (ls : List Transfer). IsPhaseFault q3.inputs ls f.fault)
+          (sym (second_lines (length q1.inputs) slot lines one.own behind one.parted)) is.1 in
+          seen f (inr (
+            is.0,
+            record {
+              ranked = come.came;
+              arrived = fabric_of q1 ranks1.states;
+              arrive = arrives;
+              sent = fabric_of q3 ranks2.states;
+              half = half;
+              wrong = wrong;
+            },
+          ))
+
+      module _ {rest : List Transfer} {q4 : Queues} {note2 : RoomView Transfer}
+          (two : HasGoneBy slot 2 behind rest q3 q4 note1 note2) where
+        moved2 : HaveMoved two.crossed.pairs q3 q4
+        moved2 = record { stable = two.crossed.told.stable; moves = two.crossed.moves }
+
+        abbrev of_slot : SlotRecord
+        of_slot = recorded ranked arrived room moved1 have_sent moved2
+
+        alike : SendsAlike ms slot comes ranked.ideal (fronts q2.buffers) (fabric_of q4 ranks2.states)
+        alike = sends_alike ranked arrived room moved1 have_sent moved2
+
+        still_held : HoldsFabric (fabric_of q4 ranks2.states) after
+        still_held =
+            still_holds ranked (fronts q2.buffers) (fabric_of q4 ranks2.states) l judged after alike
+            (holds M ranks0 q0 l known.can.come) judges sent.released
+
+        next_step : IsInStep ms (slot + 1) (shown ranks2 q4 after)
+        next_step =
+            let was = known.can.come.in_step in
+            record {
+              machines = was.machines;
+              ports = two.crossed.moves.ports.0 ∙ second_long ∙ come.ports ∙ was.ports;
+              ranks =
+                  ap length have_sent.told ∙ length-told ms (fronts q2.buffers) ranks1.states ∙ come.many ∙ was.ranks;
+              limits = ap length (sent.released.limits ∙ judges.limits) ∙ was.limits;
+              held = still_held.held;
+              ideal = alike.next;
+              agrees = alike.agrees;
+            }
+
+        moved : transfers_in of_slot ≡ one.own ++ two.own
+        unfolding transfers_in
+        moved =
+            ap (λ (ls : List Transfer). ls ++ transfers_of two.crossed.pairs q3.inputs slot 2) one.crossed.told.moved
+            ∙ ap (λ (ls : List Transfer). one.own ++ ls) two.crossed.told.moved
+
+        pub replayed : SlotReplayed (map M v.fixed) slot cells lines rest v (shown ranks2 q4 after) note note2
+        replayed =
+            let both = moved in
+            subst
+            (λ (w : ReplayView).
+            SlotReplayed (map M w.fixed) slot cells lines rest w (shown ranks2 q4 after) note note2)
+            known.is
+            (record {
+              of_slot = record { admission = by_marks judged.marks cells; of_slot = of_slot };
+              is_slot =
                   record {
-                    ranked = came;
-                    arrived = fabric_of q1 ranks1;
-                    arrive = arrives;
-                    first = crossed1.pairs;
-                    stable = crossed1.told.stable;
-                    moved = crossed1.told.moved ∙ parted1.own;
-                    filled = fabric_of q2 ranks1;
-                    fill = slot_fills ranked arrived room moved1 sent;
-                    gone = fronts q2.buffers;
-                    sent = fabric_of q3 ranks2;
-                    depart = slot_departs ranked arrived room moved1 sent;
-                    wrong =
-                        subst (λ (ls : List Transfer). IsPhaseFault q3.inputs ls fault)
-                        (parted2.own ∙ sym (second_lines (length fixed) slot lines first behind parted1)) wrong;
-                  }
-
-              pub second_of_phase : AreOfPhase (length q3.inputs) slot 2 second
-              second_of_phase = subst (λ (n : ℕ). AreOfPhase n slot 2 second) (sym second_long) parted2.of_phase
-
-              module _ {q4 : Queues} (crossed2 : HaveCrossed slot 2 second q3 q4) {after : LimiterView}
-                  (released : HasReleased (fronts q2.buffers) judged after) where
-                moved2 : HaveMoved crossed2.pairs q3 q4
-                moved2 = record { stable = crossed2.told.stable; moves = crossed2.moves }
-
-                abbrev of_slot : SlotRecord
-                of_slot = recorded ranked arrived room moved1 sent moved2
-
-                alike : SendsAlike ms slot comes ranked.ideal (fronts q2.buffers) (fabric_of q4 ranks2)
-                alike = sends_alike ranked arrived room moved1 sent moved2
-
-                still_held : HoldsFabric (fabric_of q4 ranks2) after
-                still_held =
-                    still_holds ranked (fronts q2.buffers) (fabric_of q4 ranks2) l judged after alike holds taken.judges
-                    released
-
-                next_step : (fixed' : List (List ℕ)) → IsInStep ms (slot + 1) (shown fixed' ranks2 q4 after)
-                next_step fixed' =
-                    record {
-                      machines = known.in_step.machines;
-                      ports = crossed2.moves.ports.0 ∙ second_long ∙ sym known.as_many;
-                      ranks =
-                          ap length sent.told ∙ length-told ms (fronts q2.buffers) ranks1 ∙ taken.many
-                          ∙ known.in_step.ranks;
-                      limits = ap length (released.limits ∙ taken.judges.limits) ∙ known.in_step.limits;
-                      held = still_held.held;
-                      ideal = alike.next;
-                      agrees = alike.agrees;
-                    }
-
-                moved : transfers_in of_slot ≡ first ++ second
-                unfolding transfers_in
-                moved =
-                    ap (λ (ls : List Transfer). ls ++ transfers_of crossed2.pairs q3.inputs slot 2) crossed1.told.moved
-                    ∙ ap (λ (ls : List Transfer). first ++ ls) crossed2.told.moved
-
-                pub replayed : (fixed' : List (List ℕ)) (note1 note2 : RoomView Transfer) → fixed' ≡ fixed →
-                    after.marks ≡ judged.marks → q4.from_inputs ≡ q0.from_inputs → q4.to_outputs ≡ q0.to_outputs →
-                    AreNoted first note note1 → AreNoted second note1 note2 →
-                    SlotReplayed ms slot cells lines rest (shown fixed states q0 l) (shown fixed' ranks2 q4 after) note
-                    note2
-                replayed fixed' note1 note2 same marks from to noted1 noted2 =
-                    let both = moved in
-                    let admits = admitted_is judged taken.marks in
-                    record {
-                      of_slot = record { admission = by_marks judged.marks cells; of_slot = of_slot };
-                      is_slot =
-                          record {
-                            admits = admits;
-                            runs = is_slot ranked arrived room moved1 sent moved2;
-                            marks = marks;
-                          };
-                      moved =
-                          parted1.whole ∙ ap (λ (ls : List Transfer). first ++ ls) parted2.whole
-                          ∙ sym (append_assoc first second rest) ∙ ap (λ (ls : List Transfer). ls ++ rest) (sym both);
-                      in_order = parted2.in_order;
-                      behind = parted2.behind;
-                      in_step = next_step fixed';
-                      fixed = same;
-                      limits = released.limits ∙ taken.judges.limits;
-                      from_inputs = from;
-                      to_outputs = to;
-                      noted =
-                          noted2.items ∙ ap (λ (ls : List Transfer). ls ++ second) noted1.items
-                          ∙ append_assoc note.items first second
-                          ∙ ap (λ (ls : List Transfer). note.items ++ ls) (sym both);
-                      note_room =
-                          let long = ap length both in
-                          let sum = length-append first second in
-                          let had = noted1.spare in
-                          let has = noted2.spare in
-                          omega arith;
-                    }
+                    admits = admits;
+                    runs = is_slot ranked arrived room moved1 have_sent moved2;
+                    marks = sent.released.marks;
+                  };
+              moved =
+                  one.parted.whole ∙ ap (λ (ls : List Transfer). one.own ++ ls) two.parted.whole
+                  ∙ sym (append_assoc one.own two.own rest) ∙ ap (λ (ls : List Transfer). ls ++ rest) (sym both);
+              in_order = subst (λ (n : ℕ). AreInOrder n rest) (second_long ∙ first_long) two.parted.in_order;
+              behind = two.parted.behind;
+              in_step = next_step;
+              made =
+                  record {
+                    fixed = sent.fixed ∙ come.fixed;
+                    limits = sent.released.limits ∙ judges.limits;
+                    from_inputs =
+                        two.crossed.from_inputs ∙ sent.from_inputs ∙ one.crossed.from_inputs ∙ come.from_inputs;
+                    to_outputs = two.crossed.to_outputs ∙ sent.to_outputs ∙ one.crossed.to_outputs ∙ come.to_outputs;
+                  };
+              noted =
+                  two.noted.items ∙ ap (λ (ls : List Transfer). ls ++ two.own) one.noted.items
+                  ∙ append_assoc note.items one.own two.own
+                  ∙ ap (λ (ls : List Transfer). note.items ++ ls) (sym both);
+              note_room =
+                  let long = ap length both in
+                  let sum = length-append one.own two.own in
+                  let had = one.noted.spare in
+                  let has = two.noted.spare in
+                  omega arith;
+            })

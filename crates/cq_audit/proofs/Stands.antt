@@ -8,7 +8,7 @@ use Rattle.cq_rank.specs.Switch.{AreForOneSwitch}
 use Rattle.cq_ideal.specs.Admission.{marked, marks_down}
 use Rattle.cq_ideal.specs.IdealRun.{empty_ideal}
 use Rattle.cq_ideal.specs.Limiter.{LimiterView}
-use Rattle.cq_ideal.specs.Parts.{all_idle}
+use Rattle.cq_ideal.specs.Parts.{RanksView, all_idle}
 use Rattle.cq_prefs.specs.Pairing.{IsStable}
 use Rattle.cq_laws.specs.Agreement.{Agrees}
 use Rattle.cq_laws.specs.Fabric.{Fabric, IsEmptyFabric, empty_fabric}
@@ -19,65 +19,75 @@ use Rattle.cq_laws.proofs.WholeRuns.{empty_agree}
 use Rattle.cq_fabric.specs.Queues.{Queues, fabric_of}
 use Rattle.cq_fabric.proofs.Limits.{holds_first}
 use Rattle.cq_fabric.proofs.Rested.{rested_agrees, rested_limited_run, still_held}
-use Rattle.cq_audit.specs.Replay.{IsInStep}
-use Rattle.cq_audit.proofs.Slots.{shown}
+use Rattle.cq_audit.specs.Replay.{IsInStep, shown}
 
 -- ## Before the first slot
 
--- the lists and buffers of such queues are those of the empty fabric
-first_fabric : (n : ℕ) (ranks : List (List ℕ)) (q : Queues) → q.inputs ≡ replicate n [] → q.buffers ≡ replicate n [] →
-    fabric_of q ranks ≡ empty_fabric n ranks
-first_fabric n ranks q inputs buffers =
-    let had : Fabric = fabric_of q ranks in
-    let want : Fabric = empty_fabric n ranks in
-    let same : had ≡ want = cc in same
+-- parts that were made for so many ports: no cell waits, no output holds one, and no mark is up
+pub record AreNew (n : ℕ) (q : Queues) (l : LimiterView) : Type 0 where
+  pub inputs : q.inputs ≡ replicate n []
+  pub buffers : q.buffers ≡ replicate n []
+  pub limits : length l.limits ≡ n
+  pub held : l.held ≡ replicate n 0
+  pub marks : l.marks ≡ marks_down n
 
-pub opening_is : (n : ℕ) (states ranks : List (List ℕ)) (q : Queues) (l : LimiterView) → q.inputs ≡ replicate n [] →
-    q.buffers ≡ replicate n [] → states ≡ ranks → l.marks ≡ marks_down n →
-    marked l.marks (fabric_of q states) ≡ empty_limited_fabric n ranks
-opening_is n states ranks q l inputs buffers same marks =
-    ap (λ (m : List Bool). marked m (fabric_of q states)) marks
-    ∙ ap (λ (f : Fabric). marked (marks_down n) f)
-    (first_fabric n states q inputs buffers ∙ ap (λ (r : List (List ℕ)). empty_fabric n r) same)
+module _ {n : ℕ} {q : Queues} {l : LimiterView} (new : AreNew n q l) (ranks : RanksView) where
+  -- the lists and buffers of such queues are those of the empty fabric
+  first_fabric : fabric_of q ranks.states ≡ empty_fabric n ranks.states
+  first_fabric =
+      let had : Fabric = fabric_of q ranks.states in
+      let want : Fabric = empty_fabric n ranks.states in
+      let inputs = new.inputs in
+      let buffers = new.buffers in
+      let same : had ≡ want = cc in same
 
-pub in_step_first : (ms : List Machine) (n : ℕ) (fixed states : List (List ℕ)) (q : Queues) (l : LimiterView) →
-    AreForOneSwitch ms → length ms ≡ n → length states ≡ n → q.inputs ≡ replicate n [] → q.buffers ≡ replicate n [] →
-    length l.limits ≡ n → l.held ≡ replicate n 0 → IsInStep ms 0 (shown fixed states q l)
-in_step_first ms n fixed states q l one ports long inputs buffers limits held =
-    let none : List Queued = [] in
-    record {
-      machines = one;
-      ports = ap length inputs ∙ length-replicate n none ∙ sym ports;
-      ranks = long ∙ sym ports;
-      limits = limits ∙ sym ports;
-      held = (holds_first n states q l inputs buffers limits held).held;
-      ideal = empty_ideal n states;
-      agrees =
-          subst (λ (f : Fabric). Agrees 0 f (empty_ideal n states)) (sym (first_fabric n states q inputs buffers))
-          (empty_agree n states);
-    }
+  pub opening_is : {states : List (List ℕ)} → ranks.states ≡ states →
+      marked l.marks (fabric_of q ranks.states) ≡ empty_limited_fabric n states
+  opening_is same =
+      ap (λ (m : List Bool). marked m (fabric_of q ranks.states)) new.marks
+      ∙ ap (λ (f : Fabric). marked (marks_down n) f)
+      (first_fabric ∙ ap (λ (r : List (List ℕ)). empty_fabric n r) same)
+
+  pub in_step_first : {ms : List Machine} → AreForOneSwitch ms → length ms ≡ n → length ranks.states ≡ n →
+      IsInStep ms 0 (shown ranks q l)
+  in_step_first one ports long =
+      let none : List Queued = [] in
+      record {
+        machines = one;
+        ports = ap length new.inputs ∙ length-replicate n none ∙ sym ports;
+        ranks = long ∙ sym ports;
+        limits = new.limits ∙ sym ports;
+        held = (holds_first n ranks.states q l new.inputs new.buffers new.limits new.held).held;
+        ideal = empty_ideal n ranks.states;
+        agrees =
+            subst (λ (f : Fabric). Agrees 0 f (empty_ideal n ranks.states)) (sym first_fabric)
+            (empty_agree n ranks.states);
+      }
 
 -- ## After slots in which nothing happens
 
-module _ (ms : List Machine) (slot to : ℕ) (fixed states rested : List (List ℕ)) (q : Queues) (l : LimiterView)
-    (step : IsInStep ms slot (shown fixed states q l)) (empty : IsEmptyFabric (fabric_of q states)) where
-  pub rested_step : (fixed' : List (List ℕ)) → length rested ≡ length states → IsInStep ms to (shown fixed' rested q l)
-  rested_step fixed' long =
+module _ (ms : List Machine) (slot to : ℕ) (ranks rested : RanksView) (q : Queues) (l : LimiterView)
+    (step : IsInStep ms slot (shown ranks q l)) (empty : IsEmptyFabric (fabric_of q ranks.states)) where
+  pub rested_step : length rested.states ≡ length ranks.states → IsInStep ms to (shown rested q l)
+  rested_step long =
       record {
         machines = step.machines;
         ports = step.ports;
         ranks = long ∙ step.ranks;
         limits = step.limits;
-        held = (still_held q states rested l (record { ports = step.limits ∙ sym step.ports; held = step.held })).held;
-        ideal = empty_ideal (length q.inputs) rested;
-        agrees = rested_agrees slot to (fabric_of q states) step.ideal rested empty step.agrees;
+        held =
+            (still_held q ranks.states rested.states l
+            (record { ports = step.limits ∙ sym step.ports; held = step.held })).held;
+        ideal = empty_ideal (length q.inputs) rested.states;
+        agrees = rested_agrees slot to (fabric_of q ranks.states) step.ideal rested.states empty step.agrees;
       }
 
-  pub rested_run : (ports count : ℕ) → length ms ≡ ports → 0 < count → rested ≡ all_idle ms ports states →
-      all_idle ms ports rested ≡ rested →
-      LimitedFabricRun IsStable l.limits ms slot (replicate count no_arrivals) (marked l.marks (fabric_of q states))
-      (quiet_limited_slots ms count slot ports states l.marks) (marked l.marks (fabric_of q rested))
+  pub rested_run : (ports count : ℕ) → length ms ≡ ports → 0 < count → rested.states ≡ all_idle ms ports ranks.states →
+      all_idle ms ports rested.states ≡ rested.states →
+      LimitedFabricRun IsStable l.limits ms slot (replicate count no_arrivals)
+      (marked l.marks (fabric_of q ranks.states)) (quiet_limited_slots ms count slot ports ranks.states l.marks)
+      (marked l.marks (fabric_of q rested.states))
   rested_run ports count many some is again =
       stable_limited_run ms l.limits slot (replicate count no_arrivals) _ _ _
-      (rested_limited_run l.limits l.marks ms ports count slot (fabric_of q states) rested empty
+      (rested_limited_run l.limits l.marks ms ports count slot (fabric_of q ranks.states) rested.states empty
       step.agrees.fabric.square (step.ports ∙ many) some is again)

@@ -25,7 +25,7 @@ use Rattle.cq_audit.specs.Log.{AreInOrder}
 use Rattle.cq_audit.specs.Phase.{IsPhaseFault, in_phase}
 use Rattle.cq_audit.specs.Replay.{CanReplay, HasBufferRoom, HasListRoom, HasRested, IsFirstFault, IsInStep, IsSecondFault, IsSlotFault, ReplayView, SlotReplayed, ports_in}
 use Rattle.cq_audit.specs.Running.{IsReady, IsStill, RunEnds}
-use Rattle.cq_audit.specs.StableRun.{IsFaultAt, Reaches, StableRun, before_slot}
+use Rattle.cq_audit.specs.StableRun.{Begins, IsFaultAt, IsHalfPast, Reaches, StableRun, before_slot}
 use Rattle.cq_audit.specs.declared.phase.PhaseFault.{PhaseFault}
 use Rattle.cq_audit.specs.declared.phase.PhaseFault.TheVariants.{WrongLine, Blocking as Unsettled}
 use Rattle.cq_audit.specs.declared.refusal.AuditRefusal.{AuditRefusal}
@@ -50,8 +50,8 @@ no_of : (limits : List (Option ℕ)) (ms : List Machine) (came : List Arrival) (
 no_of limits ms came start lines slot phase (WrongLine i) is = is
 no_of limits ms came start lines slot phase (Unsettled i j) is = is
 
-module _ (M : List ℕ → Machine) (came : List Arrival) (lines : List Transfer) (first : ReplayView)
-    (first_note : RoomView Transfer) (ready : IsReady (map M first.fixed) came lines first first_note) where
+module _ (M : List ℕ → Machine) {came : List Arrival} {lines : List Transfer} {first : ReplayView}
+    {first_note : RoomView Transfer} (ready : IsReady (map M first.fixed) came lines first first_note) where
   abbrev pub Before : ℕ → List Transfer → ReplayView → RoomView Transfer → Type 0
   Before slot rest now note = Replaying (map M first.fixed) came lines first slot rest now note
 
@@ -71,15 +71,15 @@ module _ (M : List ℕ → Machine) (came : List Arrival) (lines : List Transfer
 
   -- ## Slots that are skipped
 
-  module _ (slot : ℕ) (rest : List Transfer) (now : ReplayView) (note : RoomView Transfer)
+  module _ {slot : ℕ} {rest : List Transfer} {now : ReplayView} {note : RoomView Transfer}
       (b : Before slot rest now note) where
     pub skip_in_step : IsInStep (map M now.fixed) slot now
     skip_in_step =
-        subst (λ (fixed : List (List ℕ)). IsInStep (map M fixed) slot now) (sym b.fixed) b.in_step
+        subst (λ (fixed : List (List ℕ)). IsInStep (map M fixed) slot now) (sym b.made.fixed) b.in_step
 
     pub rest_in_order : AreInOrder (ports_in now) rest
     rest_in_order =
-        subst (λ (fixed : List (List ℕ)). AreInOrder (length fixed) rest) (sym b.fixed) b.in_order
+        subst (λ (fixed : List (List ℕ)). AreInOrder (length fixed) rest) (sym b.made.fixed) b.in_order
 
     -- what was moved so far is of earlier slots
     all_earlier : AllByRecursion (λ t. t.slot < slot) (moved b.records)
@@ -104,22 +104,21 @@ module _ (M : List ℕ → Machine) (came : List Arrival) (lines : List Transfer
     rest_is_short =
         let sum = ap length b.told in let split = length-append (moved b.records) rest in omega arith
 
-    module _ (next : ℕ) (new : ReplayView) (still : IsStill came rest slot next)
+    module _ {next : ℕ} {new : ReplayView} (still : IsStill came rest slot next)
         (rested : HasRested (map M now.fixed) slot next now new) where
       as_first : HasRested (map M first.fixed) slot next now new
-      as_first = subst (λ (fixed : List (List ℕ)). HasRested (map M fixed) slot next now new) b.fixed rested
+      as_first = subst (λ (fixed : List (List ℕ)). HasRested (map M fixed) slot next now new) b.made.fixed rested
 
       at_rest : Before next rest new note
-      at_rest = replaying_rested (map M first.fixed) came lines first slot next rest now new note b still as_first
+      at_rest = replaying_rested b still as_first
 
       going_at_rest : (end_of came ≤ slot → IsEmptyFabric now.fabric.state → ⊥) → end_of came ≤ next →
           IsEmptyFabric new.fabric.state → ⊥
-      going_at_rest more =
-          more_at_rest (map M first.fixed) came lines first slot next rest now new note b still as_first more
+      going_at_rest = more_at_rest b still as_first
 
   -- ## A slot
 
-  module _ (slot : ℕ) (rest : List Transfer) (now : ReplayView) (note : RoomView Transfer)
+  module _ {slot : ℕ} {rest : List Transfer} {now : ReplayView} {note : RoomView Transfer}
       (b : Before slot rest now note) (more : end_of came ≤ slot → IsEmptyFabric now.fabric.state → ⊥) where
     run_from_start : LimitedFabricRun IsStable first.limits (map M first.fixed) 0 (first_slots came slot) start
         b.records
@@ -132,13 +131,13 @@ module _ (M : List ℕ → Machine) (came : List Arrival) (lines : List Transfer
         slots_bounded first.limits (map M first.fixed) came (ports_in first) (class_count (map M first.fixed))
         first.fabric.state.ranks ready.traffic ready.ranked slot now.fabric b.records run_from_start
         (λ m f le run late empty.
-        not_over (map M first.fixed) came lines first slot rest now note b more m f le
+        not_over b more m f le
         (subst (λ (g : Marked Fabric). AfterBy (LimitedFabricSlot IsStable first.limits (map M first.fixed)) came g
         b.records m f) (sym ready.fabric) run)
         late empty)
 
     same_ports : ports_in now ≡ ports_in first
-    same_ports = ap (λ (l : List (List ℕ)). length l) b.fixed
+    same_ports = ap (λ (l : List (List ℕ)). length l) b.made.fixed
 
     for_ports : AreForPorts (ports_in first) (class_count (map M first.fixed)) (arriving came slot)
     for_ports = arrivals_for (ports_in first) (class_count (map M first.fixed)) came slot ready.traffic
@@ -147,9 +146,9 @@ module _ (M : List ℕ → Machine) (came : List Arrival) (lines : List Transfer
         now.fabric.state.ranks)
     fit =
         subst (λ (fixed : List (List ℕ)). IsOk (ranking (map M fixed) slot 0
-        (fabric_admission now.limits (arriving came slot) now.fabric).cells now.fabric.state.ranks)) (sym b.fixed)
+        (fabric_admission now.limits (arriving came slot) now.fabric).cells now.fabric.state.ranks)) (sym b.made.fixed)
         (subst (λ (l : List (Option ℕ)). IsOk (ranking (map M first.fixed) slot 0
-        (fabric_admission l (arriving came slot) now.fabric).cells now.fabric.state.ranks)) (sym b.limits)
+        (fabric_admission l (arriving came slot) now.fabric).cells now.fabric.state.ranks)) (sym b.made.limits)
         (ranks_fit first.limits (map M first.fixed) came (ports_in first) first.fabric.state.ranks slot now.fabric
         b.records run_from_start (class_count (map M first.fixed)) ready.traffic ready.ranked))
 
@@ -161,7 +160,7 @@ module _ (M : List ℕ → Machine) (came : List Arrival) (lines : List Transfer
         b.records run_from_start i cell at in
         let room : slice_index first.from_inputs i ≡ number_of (is_from i) came = ready.from_inputs i inside in
         let same : slice_index now.from_inputs i ≡ slice_index first.from_inputs i =
-        ap (λ (l : List ℕ). slice_index l i) b.from_inputs in
+        ap (λ (l : List ℕ). slice_index l i) b.made.from_inputs in
         omega arith
 
     buffers_have_room : HasBufferRoom (arriving came slot) now
@@ -173,7 +172,7 @@ module _ (M : List ℕ → Machine) (came : List Arrival) (lines : List Transfer
         b.records run_from_start j in
         let room : slice_index first.to_outputs j ≡ number_of (is_to j) came = ready.to_outputs j inside in
         let same : slice_index now.to_outputs j ≡ slice_index first.to_outputs j =
-        ap (λ (l : List ℕ). slice_index l j) b.to_outputs in
+        ap (λ (l : List ℕ). slice_index l j) b.made.to_outputs in
         omega arith
 
     can_replay : (cells : List (Option Cell)) → cells ≡ arriving came slot →
@@ -181,18 +180,21 @@ module _ (M : List ℕ → Machine) (came : List Arrival) (lines : List Transfer
     can_replay cells are =
         subst (λ (l : List (Option Cell)). CanReplay (map M now.fixed) slot l rest now note) (sym are)
         (record {
-          in_step = skip_in_step slot rest now note b;
+          come =
+              record {
+                in_step = skip_in_step b;
+                arrivals =
+                    subst (λ (fixed : List (List ℕ)). AreForPorts (length fixed) (class_count (map M fixed))
+                    (arriving came slot)) (sym b.made.fixed) for_ports;
+                ranked = fit;
+                list_room = lists_have_room;
+                buffer_room = buffers_have_room;
+              };
           early =
               let left = a_slot_left in
               let short : enough came ≤ 2 ^ 63 + 2 ^ 35 = ready.short in
               omega arith;
-          arrivals =
-              subst (λ (fixed : List (List ℕ)). AreForPorts (length fixed) (class_count (map M fixed))
-              (arriving came slot)) (sym b.fixed) for_ports;
-          ranked = fit;
-          list_room = lists_have_room;
-          buffer_room = buffers_have_room;
-          in_order = rest_in_order slot rest now note b;
+          in_order = rest_in_order b;
           none_before = b.none_before;
           note_room =
               let ports = same_ports in
@@ -204,8 +206,8 @@ module _ (M : List ℕ → Machine) (came : List Arrival) (lines : List Transfer
         cells ≡ arriving came slot → SlotReplayed (map M now.fixed) slot cells rest left now new note note' →
         Before (slot + 1) left new note'
     at_next cells left new note' are had =
-        replaying_next (map M first.fixed) came lines first slot rest now note b more cells left new note' are
-        (subst (λ (fixed : List (List ℕ)). SlotReplayed (map M fixed) slot cells rest left now new note note') b.fixed
+        replaying_next b more cells left new note' are
+        (subst (λ (fixed : List (List ℕ)). SlotReplayed (map M fixed) slot cells rest left now new note note') b.made.fixed
         had)
 
     -- ## A fault
@@ -215,49 +217,29 @@ module _ (M : List ℕ → Machine) (came : List Arrival) (lines : List Transfer
         record {
           records = b.records;
           runs = b.runs;
-          moved = told_before slot rest now note b;
-          goes_on = not_over (map M first.fixed) came lines first slot rest now note b more;
+          moved = told_before b;
+          goes_on = not_over b more;
         }
 
-    at_first_fault : (fault : PhaseFault) →
-        IsFirstFault first.limits (map M first.fixed) slot (arriving came slot) rest now.fabric fault →
-        IsFaultAt first.limits (map M first.fixed) came first.fabric lines slot 1 fault
-    at_first_fault fault f =
+    -- where a phase begins there, a fault of its lines among those that are left is one of all lines
+    fault_at : (phase own : ℕ) (f : Fabric) (fault : PhaseFault) → phase ≡ own →
+        Begins first.limits (map M first.fixed) came first.fabric lines slot phase f →
+        IsPhaseFault f.inputs (in_phase slot own rest) fault →
+        IsFaultAt first.limits (map M first.fixed) came first.fabric lines slot phase fault
+    fault_at phase own f fault is begins wrong =
         record {
-          fabric = f.arrived;
-          begins = inl (
-            refl,
-            record { old = now.fabric; reached = reached; ranked = f.ranked; arrive = f.arrive },
-          );
+          fabric = f;
+          begins = begins;
           wrong =
-              subst (λ (ls : List Transfer). IsPhaseFault f.arrived.inputs ls fault)
-              (sym (same_lines slot rest now note b 1)) f.wrong;
+              subst (λ (ls : List Transfer). IsPhaseFault f.inputs ls fault)
+              (sym (same_lines b phase ∙ ap (λ (p : ℕ). in_phase slot p rest) is)) wrong;
         }
 
-    at_second_fault : (fault : PhaseFault) →
-        IsSecondFault first.limits (map M first.fixed) slot (arriving came slot) rest now.fabric fault →
-        IsFaultAt first.limits (map M first.fixed) came first.fabric lines slot 2 fault
-    at_second_fault fault f =
-        record {
-          fabric = f.sent;
-          begins = inr (
-            refl,
-            record {
-              arrived = f.arrived;
-              begun = record { old = now.fabric; reached = reached; ranked = f.ranked; arrive = f.arrive };
-              first = f.first;
-              stable = f.stable;
-              moved = f.moved ∙ sym (same_lines slot rest now note b 1);
-              filled = f.filled;
-              fill = f.fill;
-              gone = f.gone;
-              depart = f.depart;
-            },
-          );
-          wrong =
-              subst (λ (ls : List Transfer). IsPhaseFault f.sent.inputs ls fault)
-              (sym (same_lines slot rest now note b 2)) f.wrong;
-        }
+    -- the lines of the first phase among those that are left are all of it
+    half_past : (arrived sent : Fabric) → IsHalfPast (map M first.fixed) slot (in_phase slot 1 rest) arrived sent →
+        IsHalfPast (map M first.fixed) slot (in_phase slot 1 lines) arrived sent
+    half_past arrived sent =
+        subst (λ (ls : List Transfer). IsHalfPast (map M first.fixed) slot ls arrived sent) (sym (same_lines b 1))
 
     at_fault : (cells : List (Option Cell)) (fault : SlotFault) → cells ≡ arriving came slot →
         IsSlotFault (map M now.fixed) slot cells rest now fault →
@@ -268,54 +250,64 @@ module _ (M : List ℕ → Machine) (came : List Arrival) (lines : List Transfer
         ((fault.phase ≡ 1) × IsFirstFault l (map M fixed) slot cs rest now.fabric fault.fault)
         ⊎ ((fault.phase ≡ 2) × IsSecondFault l (map M fixed) slot cs rest now.fabric fault.fault) in
         let here : Of first.limits first.fixed (arriving came slot) =
-        subst (λ (l : List (Option ℕ)). Of l first.fixed (arriving came slot)) b.limits
-        (subst (λ (fixed : List (List ℕ)). Of now.limits fixed (arriving came slot)) b.fixed
+        subst (λ (l : List (Option ℕ)). Of l first.fixed (arriving came slot)) b.made.limits
+        (subst (λ (fixed : List (List ℕ)). Of now.limits fixed (arriving came slot)) b.made.fixed
         (subst (λ (cs : List (Option Cell)). Of now.limits now.fixed cs) are is)) in
-        let At : ℕ → Type 0 = λ (phase : ℕ).
-        IsFaultAt first.limits (map M first.fixed) came first.fabric lines slot phase fault.fault in
         no_of first.limits (map M first.fixed) came first.fabric lines slot fault.phase fault.fault
         (⊎_elim
-        (λ one. subst At (sym one.0) (at_first_fault fault.fault one.1))
-        (λ two. subst At (sym two.0) (at_second_fault fault.fault two.1))
+        (λ one.
+        let f = one.1 in
+        fault_at fault.phase 1 f.arrived fault.fault one.0
+        (inl (one.0, record { old = now.fabric; reached = reached; ranked = f.ranked; arrive = f.arrive })) f.wrong)
+        (λ two.
+        let f = two.1 in
+        fault_at fault.phase 2 f.sent fault.fault two.0
+        (inr (
+          two.0,
+          record {
+            arrived = f.arrived;
+            begun = record { old = now.fabric; reached = reached; ranked = f.ranked; arrive = f.arrive };
+            half = half_past f.arrived f.sent f.half;
+          },
+        )) f.wrong)
         here)
 
   -- ## A turn of the loop: slots are skipped, and then comes one
 
-  module _ (slot : ℕ) (rest : List Transfer) (now : ReplayView) (note : RoomView Transfer)
-      (b : Before slot rest now note) (more : end_of came ≤ slot → IsEmptyFabric now.fabric.state → ⊥) (next : ℕ)
-      (new : ReplayView) (still : IsStill came rest slot next) (rested : HasRested (map M now.fixed) slot next now new)
+  module _ {slot : ℕ} {rest : List Transfer} {now : ReplayView} {note : RoomView Transfer}
+      (b : Before slot rest now note) (more : end_of came ≤ slot → IsEmptyFabric now.fabric.state → ⊥) {next : ℕ}
+      {new : ReplayView} (still : IsStill came rest slot next) (rested : HasRested (map M now.fixed) slot next now new)
     where
       reached_next : Before next rest new note
-      reached_next = at_rest slot rest now note b next new still rested
+      reached_next = at_rest b still rested
 
       not_over_there : end_of came ≤ next → IsEmptyFabric new.fabric.state → ⊥
-      not_over_there = going_at_rest slot rest now note b next new still rested more
+      not_over_there = going_at_rest b still rested more
 
       pub left_there : next < enough came
-      left_there = a_slot_left next rest new note reached_next not_over_there
+      left_there = a_slot_left reached_next not_over_there
 
       pub can_there : (cells : List (Option Cell)) → cells ≡ arriving came next →
           CanReplay (map M new.fixed) next cells rest new note
-      can_there = can_replay next rest new note reached_next not_over_there
+      can_there = can_replay reached_next not_over_there
 
-      pub next_there : (cells : List (Option Cell)) (left : List Transfer) (after : ReplayView)
-          (note' : RoomView Transfer) → cells ≡ arriving came next →
+      pub next_there : {cells : List (Option Cell)} {left : List Transfer} {after : ReplayView}
+          {note' : RoomView Transfer} → cells ≡ arriving came next →
           SlotReplayed (map M new.fixed) next cells rest left new after note note' → Before (next + 1) left after note'
-      next_there = at_next next rest new note reached_next not_over_there
+      next_there are had = at_next reached_next not_over_there _ _ _ _ are had
 
-      pub fault_there : (cells : List (Option Cell)) (fault : SlotFault) → cells ≡ arriving came next →
+      pub fault_there : {cells : List (Option Cell)} {fault : SlotFault} → cells ≡ arriving came next →
           IsSlotFault (map M new.fixed) next cells rest new fault →
           RunEnds (map M first.fixed) came lines first (Err (refusal_of next fault))
-      fault_there = at_fault next rest new note reached_next not_over_there
+      fault_there are is = at_fault reached_next not_over_there _ _ are is
 
   -- ## The end of the loop
 
-  module _ (slot : ℕ) (rest : List Transfer) (now : ReplayView) (note : RoomView Transfer)
+  module _ {slot : ℕ} {rest : List Transfer} {now : ReplayView} {note : RoomView Transfer}
       (b : Before slot rest now note) (late : end_of came ≤ slot) (empty : IsEmptyFabric now.fabric.state) where
     whole : StableRun first.limits (map M first.fixed) came first.fabric b.records now.fabric
     whole =
-        let many : length b.records ≡ slot =
-        one_each (map M first.fixed) came lines first slot now.fabric b.records b.runs in
+        let many = one_each b in
         let Ran : ℕ → List LimitedRecord → Type 0 = λ (k : ℕ) (l : List LimitedRecord).
         LimitedFabricRun IsStable first.limits (map M first.fixed) 0 (first_slots came k) first.fabric l now.fabric in
         record {
@@ -343,10 +335,9 @@ module _ (M : List ℕ → Machine) (came : List Arrival) (lines : List Transfer
           moved = sym (b.told ∙ ap (λ (l : List Transfer). moved b.records ++ l) none ∙ append-nil (moved b.records));
         }
     at_end (Err refusal) none some =
-        let many : length b.records ≡ slot =
-        one_each (map M first.fixed) came lines first slot now.fabric b.records b.runs in
+        let many = one_each b in
         let before : before_slot (length b.records) lines ≡ moved b.records =
-        ap (λ (k : ℕ). before_slot k lines) many ∙ sym (told_before slot rest now note b) in
+        ap (λ (k : ℕ). before_slot k lines) many ∙ sym (told_before b) in
         let as_many = ap length before in
         let sum = ap length b.told in
         let split = length-append (moved b.records) rest in

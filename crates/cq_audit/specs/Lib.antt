@@ -3,6 +3,7 @@ pub mod Crossing
 pub mod Log
 pub mod Replay
 pub mod Running
+pub mod SlotSteps
 pub mod Pairs
 pub mod Phase
 pub mod StableRun

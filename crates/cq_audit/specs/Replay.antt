@@ -7,22 +7,24 @@ use Rattle.cq_base.specs.Arrivals.{arrival_at, no_arrivals}
 use Rattle.cq_base.specs.Room.{RoomView}
 use Rattle.cq_rank.specs.Machine.{Machine}
 use Rattle.cq_rank.specs.Switch.{AreForOneSwitch, class_count}
-use Rattle.cq_ideal.specs.Admission.{Marked}
+use Rattle.cq_ideal.specs.Admission.{Marked, marked}
 use Rattle.cq_ideal.specs.Ideal.{count_for}
 use Rattle.cq_ideal.specs.IdealSlot.{IdealState}
+use Rattle.cq_ideal.specs.Limiter.{LimiterView}
+use Rattle.cq_ideal.specs.Parts.{RanksView}
 use Rattle.cq_ideal.specs.Ranking.{AreForPorts, ranking}
-use Rattle.cq_prefs.specs.FirstCells.{orders_of}
-use Rattle.cq_prefs.specs.Moves.{transfers_of}
-use Rattle.cq_prefs.specs.Pairing.{Partners, IsStable}
+use Rattle.cq_prefs.specs.Pairing.{IsStable}
 use Rattle.cq_laws.specs.Agreement.{Agrees}
 use Rattle.cq_laws.specs.Fabric.{Fabric, input, buffer}
 use Rattle.cq_laws.specs.Holding.{fabric_held, waiting_for}
 use Rattle.cq_laws.specs.LimitedFabric.{LimitedFabricRun, LimitedFabricSlot, LimitedRecord, fabric_admission}
 use Rattle.cq_laws.specs.LimitedQuiet.{quiet_limited_slots}
-use Rattle.cq_laws.specs.Phases.{Arrives, Transfers, Departs}
+use Rattle.cq_laws.specs.Phases.{Arrives}
 use Rattle.cq_laws.specs.Records.{transfers_in}
+use Rattle.cq_fabric.specs.Queues.{Queues, fabric_of}
 use Rattle.cq_audit.specs.Log.{AreInOrder}
 use Rattle.cq_audit.specs.Phase.{AllBehind, IsPhaseFault, NoneBefore, in_phase}
+use Rattle.cq_audit.specs.StableRun.{IsHalfPast}
 use Rattle.cq_audit.specs.declared.phase.PhaseFault.{PhaseFault}
 use Rattle.cq_audit.specs.declared.replay.SlotFault.{SlotFault}
 
@@ -41,9 +43,28 @@ pub record ReplayView : Type 0 where
   -- per output how many cells its buffer can hold
   pub to_outputs : List ℕ
 
+-- what is seen of these parts
+abbrev pub shown : RanksView → Queues → LimiterView → ReplayView
+shown ranks q l =
+    record {
+      fixed = ranks.fixed;
+      limits = l.limits;
+      fabric = marked l.marks (fabric_of q ranks.states);
+      held = l.held;
+      from_inputs = q.from_inputs;
+      to_outputs = q.to_outputs;
+    }
+
 -- how many inputs and outputs there are
 abbrev pub ports_in : ReplayView → ℕ
 ports_in v = length v.fixed
+
+-- it has the machines, the limits and the rooms that it had
+pub record IsMadeAs (old new : ReplayView) : Type 0 where
+  pub fixed : new.fixed ≡ old.fixed
+  pub limits : new.limits ≡ old.limits
+  pub from_inputs : new.from_inputs ≡ old.from_inputs
+  pub to_outputs : new.to_outputs ≡ old.to_outputs
 
 -- Before this slot it is in step with an ideal switch: there is a state of one with which it agrees. And it counts
 -- right what its outputs hold.
@@ -69,18 +90,22 @@ HasBufferRoom cells v = (j : ℕ) → j < ports_in v →
 
 -- ## A slot
 
--- It can have this slot: it is in step, the ranks of what is admitted fit, the lists and buffers have room, the lines
--- are in order and none is earlier, and a transfer of each input can be noted in both phases.
-pub record CanReplay (ms : List Machine) (slot : ℕ) (cells : List (Option Cell)) (lines : List Transfer)
-    (now : ReplayView) (note : RoomView Transfer) : Type 0 where
+-- what arrives in this slot can come: it is in step, the ranks of what is admitted fit, and lists and buffers have room
+pub record CanCome (ms : List Machine) (slot : ℕ) (cells : List (Option Cell)) (now : ReplayView) : Type 0 where
   pub in_step : IsInStep ms slot now
-  -- another slot can follow it
-  pub early : slot < 2 ^ 64 - 1
   pub arrivals : AreForPorts (ports_in now) (class_count ms) cells
   pub ranked : IsOk
       (ranking ms slot 0 (fabric_admission now.limits cells now.fabric).cells now.fabric.state.ranks)
   pub list_room : HasListRoom cells now
   pub buffer_room : HasBufferRoom cells now
+
+-- It can have this slot: what arrives can come, the lines are in order and none is earlier, and a transfer of each
+-- input can be noted in both phases.
+pub record CanReplay (ms : List Machine) (slot : ℕ) (cells : List (Option Cell)) (lines : List Transfer)
+    (now : ReplayView) (note : RoomView Transfer) : Type 0 where
+  pub come : CanCome ms slot cells now
+  -- another slot can follow it
+  pub early : slot < 2 ^ 64 - 1
   pub in_order : AreInOrder (ports_in now) lines
   pub none_before : NoneBefore slot 1 lines
   pub note_room : 2 * ports_in now ≤ note.spare
@@ -95,10 +120,7 @@ pub record SlotReplayed (ms : List Machine) (slot : ℕ) (cells : List (Option C
   pub in_order : AreInOrder (ports_in old) rest
   pub behind : AllBehind slot 2 rest
   pub in_step : IsInStep ms (slot + 1) new
-  pub fixed : new.fixed ≡ old.fixed
-  pub limits : new.limits ≡ old.limits
-  pub from_inputs : new.from_inputs ≡ old.from_inputs
-  pub to_outputs : new.to_outputs ≡ old.to_outputs
+  pub made : IsMadeAs old new
   pub noted : note'.items ≡ note.items ++ transfers_in of_slot.of_slot
   pub note_room : note'.spare + length (transfers_in of_slot.of_slot) ≡ note.spare
 
@@ -117,14 +139,8 @@ pub record IsSecondFault (limits : List (Option ℕ)) (ms : List Machine) (slot 
   pub ranked : List (Option Queued)
   pub arrived : Fabric
   pub arrive : Arrives ms slot (fabric_admission limits cells old).cells ranked old.state arrived
-  pub first : Partners
-  pub stable : IsStable (orders_of arrived.inputs) first
-  pub moved : transfers_of first arrived.inputs slot 1 ≡ in_phase slot 1 lines
-  pub filled : Fabric
-  pub fill : Transfers first arrived filled
-  pub gone : List (Option Queued)
   pub sent : Fabric
-  pub depart : Departs ms gone filled sent
+  pub half : IsHalfPast ms slot (in_phase slot 1 lines) arrived sent
   pub wrong : IsPhaseFault sent.inputs (in_phase slot 2 lines) fault
 
 -- the fault of a slot: that of its first phase, or of its second where the first has none
@@ -140,7 +156,4 @@ pub record HasRested (ms : List Machine) (slot to : ℕ) (old new : ReplayView) 
   pub slots : LimitedFabricRun IsStable old.limits ms slot (replicate (to - slot) no_arrivals) old.fabric
       (quiet_limited_slots ms (to - slot) slot (ports_in old) old.fabric.state.ranks old.fabric.marks) new.fabric
   pub in_step : IsInStep ms to new
-  pub fixed : new.fixed ≡ old.fixed
-  pub limits : new.limits ≡ old.limits
-  pub from_inputs : new.from_inputs ≡ old.from_inputs
-  pub to_outputs : new.to_outputs ≡ old.to_outputs
+  pub made : IsMadeAs old new

@@ -9,20 +9,27 @@ use Rattle.cq_base.specs.declared.cell.Transfer.{Transfer}
 use Rattle.cq_ideal.specs.Admission.{Marked}
 use Rattle.cq_ideal.specs.Ending.{first_slots}
 use Rattle.cq_rank.specs.Machine.{Machine}
-use Rattle.cq_prefs.specs.FirstCells.{orders_of}
-use Rattle.cq_prefs.specs.Moves.{transfers_of}
 use Rattle.cq_prefs.specs.Pairing.{Partners, IsStable}
 use Rattle.cq_laws.specs.Fabric.{Fabric, IsEmptyFabric}
 use Rattle.cq_laws.specs.LimitedFabric.{LimitedFabricRun, LimitedFabricSlot, LimitedRecord, fabric_admission, slots_in}
 use Rattle.cq_laws.specs.Phases.{Arrives, Transfers, Departs}
 use Rattle.cq_laws.specs.Records.{transfers_of_run}
 use Rattle.cq_laws.specs.SlotBySlot.{AfterBy, WholeBy}
-use Rattle.cq_audit.specs.Phase.{IsPhaseFault, in_phase}
+use Rattle.cq_audit.specs.Phase.{IsPhaseFault, IsStableTold, in_phase}
 use Rattle.cq_audit.specs.declared.phase.PhaseFault.{PhaseFault}
 
 -- the lines of the slots before one
 abbrev pub before_slot : ℕ → List Transfer → List Transfer
 before_slot slot note = filter (λ t. nat_lt t.slot slot) note
+
+-- these lines are the transfers of a stable matching in the first phase, it has moved, and the outputs have sent
+pub record IsHalfPast (ms : List Machine) (slot : ℕ) (lines : List Transfer) (arrived sent : Fabric) : Type 0 where
+  pub first : Partners
+  pub told : IsStableTold arrived.inputs slot 1 lines first
+  pub filled : Fabric
+  pub fill : Transfers first arrived filled
+  pub gone : List (Option Queued)
+  pub depart : Departs ms gone filled sent
 
 module _ (limits : List (Option ℕ)) (ms : List Machine) (came : List Arrival) (start : Marked Fabric) where
   -- ## A yes
@@ -60,13 +67,7 @@ module _ (limits : List (Option ℕ)) (ms : List Machine) (came : List Arrival) 
   pub record BeginsSecond (note : List Transfer) (slot : ℕ) (sent : Fabric) : Type 0 where
     pub arrived : Fabric
     pub begun : BeginsFirst note slot arrived
-    pub first : Partners
-    pub stable : IsStable (orders_of arrived.inputs) first
-    pub moved : transfers_of first arrived.inputs slot 1 ≡ in_phase slot 1 note
-    pub filled : Fabric
-    pub fill : Transfers first arrived filled
-    pub gone : List (Option Queued)
-    pub depart : Departs ms gone filled sent
+    pub half : IsHalfPast ms slot (in_phase slot 1 note) arrived sent
 
   abbrev pub Begins : List Transfer → ℕ → ℕ → Fabric → Type 0
   Begins note slot phase f = ((phase ≡ 1) × BeginsFirst note slot f) ⊎ ((phase ≡ 2) × BeginsSecond note slot f)

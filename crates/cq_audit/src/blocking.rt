@@ -1,7 +1,7 @@
 //! The pair that shows that a matching is not stable.
 //!
 //! It is looked for in the orders of the first cells, so that no list is read again.
-ghost use Rattle.std.specs.Prelude.{◌≡◌, ◌≢◌, ◌<◌, ◌≤◌, ◌↔◌, ℕ, IfNone, IfSome, IsTrue, Some, length};
+ghost use Rattle.std.specs.Prelude.{◌≡◌, ◌≢◌, ◌<◌, ◌≤◌, ◌↔◌, ◌⊎◌, ℕ, IfNone, IfSome, IsTrue, Some, length};
 ghost use Rattle.cq_prefs.specs.Orders.{IsOffered, place_of, ports, position_of};
 ghost use Rattle.cq_prefs.specs.Pairing.{HasBetterInput, HasBetterOutput, partner_of};
 ghost use Rattle.cq_audit.specs.Phase.{IsBlocking, IsFirstBlocking};
@@ -39,28 +39,20 @@ fn input_first(offers: &Offers, output: Port, input: Port, other: Port) -> bool
     }
 }
 
-// Whether an input has a partner that it prefers to an output.
-fn has_better_output(offers: &Offers, pairs: &Pairs, input: Port, output: Port) -> bool
+// Whether an input has a partner that it prefers to an output, or the output one that it prefers to the input.
+fn has_better(offers: &Offers, pairs: &Pairs, input: Port, output: Port) -> bool
     requires input { input < length pairs.now }
-    requires offered { IsOffered offers.now input output }
-    ensures { IsTrue result ↔ HasBetterOutput offers.now pairs.now input output }
-{
-    match pairs.output_of(input) {
-        Some(partner) => output_first(offers, input, partner, output),
-        None => false,
-    }
-}
-
-// Whether an output has a partner that it prefers to an input.
-fn has_better_input(offers: &Offers, pairs: &Pairs, input: Port, output: Port) -> bool
     requires output { output < length pairs.now }
     requires offered { IsOffered offers.now input output }
-    ensures { IsTrue result ↔ HasBetterInput offers.now pairs.now input output }
+    ensures { IsTrue result ↔ (HasBetterOutput offers.now pairs.now input output
+        ⊎ HasBetterInput offers.now pairs.now input output) }
 {
-    match pairs.input_of(output) {
-        Some(partner) => input_first(offers, output, partner, input),
-        None => false,
-    }
+    pairs
+        .output_of(input)
+        .is_some_and(|partner| output_first(offers, input, partner, output))
+        || pairs
+            .input_of(output)
+            .is_some_and(|partner| input_first(offers, output, partner, input))
 }
 
 // Whether an input and an output are offered to each other, and not joined.
@@ -79,9 +71,7 @@ fn blocks(offers: &Offers, pairs: &Pairs, input: Port, output: Port) -> bool
     requires output { output < length pairs.now }
     ensures { IsTrue result ↔ IsBlocking offers.now pairs.now input output }
 {
-    are_apart(offers, pairs, input, output)
-        && !has_better_output(offers, pairs, input, output)
-        && !has_better_input(offers, pairs, input, output)
+    are_apart(offers, pairs, input, output) && !has_better(offers, pairs, input, output)
 }
 
 // The least output with which an input blocks the matching, if there is one.

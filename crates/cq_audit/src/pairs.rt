@@ -1,6 +1,7 @@
 //! The pairs of a phase, told from both sides.
 ghost use Rattle.std.specs.Prelude.{◌≡◌, ◌<◌, ◌≤◌, ℕ, IfNone, IfSome, None, Some, length, replicate};
-ghost use Rattle.cq_prefs.specs.Pairing.{IsFreeInput, IsFreeOutput, partner_of, with_pair};
+ghost use Rattle.cq_prefs.specs.Pairing.{IsFreeOutput, partner_of, with_pair};
+ghost use Rattle.cq_audit.specs.Pairs.{CanBeJoined};
 
 use cq_base::Port;
 use cq_prefs::Matching;
@@ -45,13 +46,10 @@ impl Pairs {
         &self.by_input
     }
 
-    /// Joins an input and an output that have no partner yet. The other pairs stay.
+    /// Joins an input and an output, neither of which has a partner yet. The other pairs stay.
     #[tactic(auto, using(crate::proofs::Mirrored::joined_mirrored, crate::proofs::Mirrored::free_there, crate::proofs::Mirrored::free_back))]
     pub fn join(&mut self, input: Port, output: Port)
-        requires input { input < length self.old }
-        requires output { output < length self.old }
-        requires free_input { IsFreeInput self.old input }
-        requires free_output { IsFreeOutput self.old output }
+        requires { CanBeJoined self.old input output }
         ensures { self.new ≡ with_pair self.old input output }
     {
         self.by_input.join(input, output);

@@ -5,7 +5,9 @@ ghost use Rattle.std.specs.Prelude.{◌≡◌, ◌<◌, ◌↔◌, IfErr, IfOk, 
 ghost use Rattle.cq_rank.specs.Switch.{AreForOneSwitch};
 ghost use Rattle.cq_laws.specs.Fabric.{IsEmptyFabric};
 ghost use Rattle.cq_laws.specs.LimitedFabric.{empty_limited_fabric};
-ghost use Rattle.cq_audit.specs.Replay.{CanReplay, HasRested, IsInStep, IsSlotFault, SlotReplayed};
+ghost use Rattle.cq_audit.specs.Phase.{IsPhaseFault, in_phase};
+ghost use Rattle.cq_audit.specs.Replay.{CanCome, CanReplay, HasRested, IsInStep, IsSlotFault, SlotReplayed, shown};
+ghost use Rattle.cq_audit.specs.SlotSteps.{CanGoBy, CanSend, HasGoneBy, HaveAllSent, HaveCome};
 
 use crate::crossing::cross;
 use crate::parted::part;
@@ -35,21 +37,68 @@ pub struct Replay<R: Rank> {
 }
 
 impl<R: Rank> Model for Replay<R> {
-    ghost use Rattle.std.specs.Prelude.{map};
-    ghost use Rattle.cq_ideal.specs.Admission.{marked};
-    ghost use Rattle.cq_fabric.specs.Queues.{fabric_of};
-    ghost use Rattle.cq_audit.specs.Replay.{ReplayView};
+    ghost use Rattle.cq_audit.specs.Replay.{ReplayView, shown};
 
     ghost Value = { ReplayView };
 
-    ghost view = { λ a. record {
-      fixed = a.ranks.fixed;
-      limits = a.limiter.limits;
-      fabric = marked a.limiter.marks (fabric_of a.queues a.ranks.states);
-      held = a.limiter.held;
-      from_inputs = a.queues.from_inputs;
-      to_outputs = a.queues.to_outputs;
-    } };
+    ghost view = { λ a. shown a.ranks a.queues a.limiter };
+}
+
+// What arrives comes: it is judged, and what is admitted gets its keys and goes into the lists of its inputs.
+fn come<R: Rank>(
+    ranks: &mut Ranks<R>,
+    queues: &mut Queues,
+    limiter: &mut Limiter,
+    slot: Slot,
+    arrivals: &Arrivals,
+)
+    requires { CanCome (map R.machine ranks.old.fixed) slot arrivals.now (shown ranks.old queues.old limiter.old) }
+    ensures { HaveCome (map R.machine ranks.old.fixed) slot arrivals.now ranks.old ranks.new queues.old queues.new
+        limiter.old limiter.new }
+{
+    let mut came = Newcomers::none();
+    queues.ports();
+    limiter.judge(arrivals);
+    if let Err(_) = ranks.take(slot, arrivals, limiter, &mut came) {
+        // The ideal switch has no tag fault, and so this fabric has none.
+        unreachable!()
+    }
+    queues.arrive(&came);
+}
+
+// Goes by the lines of a phase: the transfers that they tell are made and noted. The answer is the lines behind them.
+fn go_by<'a>(
+    queues: &mut Queues,
+    slot: Slot,
+    phase: u8,
+    lines: &'a [Transfer],
+    note: &mut Room<Transfer>,
+) -> Result<&'a [Transfer], SlotFault>
+    requires { CanGoBy slot phase lines.now queues.old note.old }
+    ensures gone_by { IfOk result (λ rest. HasGoneBy slot phase lines.now rest.now queues.old queues.new note.old
+        note.new) }
+    ensures fault { IfErr result (λ f. (f.phase ≡ phase)
+        × IsPhaseFault queues.old.inputs (in_phase slot phase lines.now) f.fault) }
+{
+    let (own, rest) = part(lines, slot, phase);
+    match cross(queues, slot, phase, own, note) {
+        Ok(()) => Ok(rest),
+        Err(fault) => Err(SlotFault { phase, fault }),
+    }
+}
+
+// Each output sends the first cell of its buffer, which it then holds no longer, or is idle. Its machine is told.
+fn send<R: Rank>(ranks: &mut Ranks<R>, queues: &mut Queues, limiter: &mut Limiter)
+    requires { CanSend ranks.old queues.old limiter.old }
+    ensures { HaveAllSent (map R.machine ranks.old.fixed) ranks.old ranks.new queues.old queues.new limiter.old
+        limiter.new }
+{
+    let ports = queues.ports();
+    let mut places = Gone::none();
+    queues.depart(&mut places);
+    let gone = places.of_outputs(ports);
+    tell(ranks, gone);
+    release(limiter, gone);
 }
 
 impl<R: Rank> Replay<R> {
@@ -100,28 +149,16 @@ impl<R: Rank> Replay<R> {
             rest.now self.old self.new note.old note.new) }
         ensures fault { IfErr result (IsSlotFault (map R.machine self.old.fixed) slot arrivals.now lines.now self.old) }
     {
-        let mut came = Newcomers::none();
-        self.queues.ports();
-        self.limiter.judge(arrivals);
-        if let Err(_) = self.ranks.take(slot, arrivals, &self.limiter, &mut came) {
-            // The ideal switch has no tag fault, and so this fabric has none.
-            unreachable!()
-        }
-        self.queues.arrive(&came);
-        let (first, behind) = part(lines, slot, 1);
-        if let Err(fault) = cross(&mut self.queues, slot, 1, first, note) {
-            return Err(SlotFault { phase: 1, fault });
-        }
-        let ports = self.queues.ports();
-        let mut places = Gone::none();
-        self.queues.depart(&mut places);
-        let gone = places.of_outputs(ports);
-        tell(&mut self.ranks, gone);
-        release(&mut self.limiter, gone);
-        let (second, rest) = part(behind, slot, 2);
-        if let Err(fault) = cross(&mut self.queues, slot, 2, second, note) {
-            return Err(SlotFault { phase: 2, fault });
-        }
+        come(
+            &mut self.ranks,
+            &mut self.queues,
+            &mut self.limiter,
+            slot,
+            arrivals,
+        );
+        let behind = go_by(&mut self.queues, slot, 1, lines, note)?;
+        send(&mut self.ranks, &mut self.queues, &mut self.limiter);
+        let rest = go_by(&mut self.queues, slot, 2, behind, note)?;
         Ok(rest)
     }
 

@@ -10,7 +10,7 @@ use Rattle.cq_rank.specs.Switch.{AreForOneSwitch}
 use Rattle.cq_scfq.specs.Discipline.{fixed_of, machine_from, state_of}
 use Rattle.cq_scfq.specs.Disciplines.{opening_of}
 use Rattle.cq_audit.specs.Log.{AreInOrder, IsLog}
-use Rattle.cq_audit.proofs.Opened.{IsOpened, no_log, no_of, opened, ready, yes_of}
+use Rattle.cq_audit.proofs.Opened.{IsOpened, no_log, opened, ready, verdict}
 use Rattle.cq_audit.proofs.Rising.{log_in_order}
 use Rattle.cq_audit.proofs.audit.audit_log.Goals as goal
 use Rattle.cq_audit.proofs.audit.audit_log.Goals.{After-as_slice-3, After-len-ports, In_ok-ranks}
@@ -105,22 +105,13 @@ replay_run-requires c =
     order
     (c.in_ok-note.ensures.spare ∙ omega (arith, len, many, c.len.ensures, c.in_ok-lines.lines.ok))
 
-pub returns-clause-yes : goal.returns-clause-yes
-returns-clause-yes c =
-    let at = goal.at.returns-clause-yes c in
+pub returns : goal.returns
+returns c =
+    let at = goal.at.returns c in
     let kinds = ranked at.In_ok-ranks in
     let ran = at.After-as_slice-3 in
-    yes_of machine_from c.args.setup.now c.args.limits.now c.args.schedule.now.came c.in_ok-replay.replay
-    (stands ran kinds)
-    c.as_slice-3.result.now c.args.log.now c.replay_run.result (logged ran (counted at.After-len-ports ∙ kinds))
-    c.replay_run.ensures
-
-pub returns-clause-no : goal.returns-clause-no
-returns-clause-no c =
-    let at = goal.at.returns-clause-no c in
-    let kinds = ranked at.In_ok-ranks in
-    let ran = at.After-as_slice-3 in
-    no_of machine_from c.args.setup.now c.args.limits.now c.args.schedule.now.came c.in_ok-replay.replay
-    (stands ran kinds)
-    c.as_slice-3.result.now c.args.log.now c.replay_run.result (logged ran (counted at.After-len-ports ∙ kinds))
-    c.replay_run.ensures
+    let told =
+    verdict machine_from c.args.setup.now c.args.limits.now c.args.schedule.now.came c.in_ok-replay.replay
+    (stands ran kinds) c.as_slice-3.result.now c.args.log.now c.replay_run.result
+    (logged ran (counted at.After-len-ports ∙ kinds)) c.replay_run.ensures in
+    record { yes = told.0; no = told.1 }

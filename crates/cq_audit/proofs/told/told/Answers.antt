@@ -29,8 +29,17 @@ ended c =
 pub is_right-requires : goal.is_right-requires
 is_right-requires c = fits (goal.at.is_right-requires c).In-Some
 
-pub join-requires-clause-output : goal.join-requires-clause-output
-join-requires-clause-output c = fits (goal.at.join-requires-clause-output c).In-Some
+pub join-requires : goal.join-requires
+join-requires c =
+    let size = c.inputs.invariant.size in
+    let long = length-map c.args.lists.now (λ (w : Waiting). w.cells) in
+    let inside = c.inputs-test.true in
+    record {
+      input = omega arith;
+      output = fits (goal.at.join-requires c).In-Some;
+      free_input = c.inputs.invariant.free c.inputs.input (omega arith);
+      free_output = c.is_right.ensures.free c.if-is_right.true;
+    }
 
 pub inputs-preserved : goal.inputs-preserved
 inputs-preserved c =
