@@ -152,7 +152,7 @@ module _ (ports : ℕ) where
   first_least [] order = tt
   first_least (t ∷ lines) order =
       weaker (IsBefore t) (λ u. t.slot ≤ u.slot)
-      (λ u before. ⊎_elim (λ less. omega arith) (λ same. let e = same.0 in omega arith) before) lines order.1
+      (λ u before. ⊎_elim (λ less. omega arith) (λ same. omega arith) before) lines order.1
 
   -- lines of no earlier slot are of no earlier phase than its first
   pub none_from : (slot : ℕ) (lines : List Transfer) → AreInOrder ports lines →
@@ -162,7 +162,6 @@ module _ (ports : ℕ) where
     where
       here : (u : Transfer) → IsOf ports u → slot ≤ u.slot → (slot < u.slot) ⊎ ((slot ≡ u.slot) × (1 ≤ u.phase))
       here u of le =
-          let phase = of.phase.0 in
           ⊎_elim (λ less. inl less) (λ more. inr (omega arith, omega arith)) (cases_lt slot u.slot)
 
   pub none_first : (lines : List Transfer) → AreInOrder ports lines → NoneBefore 0 1 lines
@@ -181,7 +180,6 @@ module _ (ports : ℕ) where
           AllByRecursion (λ t. slot + 1 ≤ t.slot) ls
       later [] o b = tt
       later (t ∷ ls) o b = (
-        let phase = o.0.phase.1 in
-            ⊎_elim (λ less. omega arith) (λ here. let more = here.1 in absurd (omega arith)) b.0,
+        ⊎_elim (λ less. omega arith) (λ here. absurd (omega arith)) b.0,
         later ls o.2 b.1,
       )

@@ -109,7 +109,7 @@ same_phases a b c d A B C D slot e = same_parts (λ t. t.phase ≡ 1) (transfers
     second : (m : Partners) (lists : List (List Queued)) → AllByRecursion (λ t. t.phase ≡ 1 → ⊥)
         (transfers_of m lists slot 2)
     second m lists = weaker (λ t. (t.slot ≡ slot) × (t.phase ≡ 2)) (λ t. t.phase ≡ 1 → ⊥)
-        (λ t at one. let two = at.1 in let P : ⊥ = omega arith in P) (transfers_of m lists slot 2)
+        (λ t at one. let P : ⊥ = omega arith in P) (transfers_of m lists slot 2)
         (transfers_at m lists slot 2)
 
 -- ## One state after each step

@@ -27,6 +27,6 @@ one_same_more a b left right x y c line next bit had e f is small told = record 
   front = had.front ++ c ∷ [];
   left_is = had.left_is ∙ ap (λ t. had.front ++ t) e ∙ sym (append_assoc had.front (c ∷ []) x);
   right_is = had.right_is ∙ ap (λ t. had.front ++ t) f ∙ sym (append_assoc had.front (c ∷ []) y);
-  number = let more = feeds_more had.front c in let had_number = had.number in omega arith;
-  low = let size = ap length e in let low = had.low in omega arith;
+  number = let more = feeds_more had.front c in omega arith;
+  low = let size = ap length e in omega arith;
 }

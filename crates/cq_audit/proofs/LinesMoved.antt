@@ -41,13 +41,13 @@ line_later i t lines other = cond_both (eqb t.input i) (Some t) (line_of_input i
 
 no_line : (i : ℕ) (lines : List Transfer) → AllByRecursion (λ u. i < u.input) lines → line_of_input i lines ≡ None
 no_line i [] all = refl
-no_line i (t ∷ lines) all = line_later i t lines (λ is. let above = all.0 in let P : ⊥ = omega arith in P) ∙ no_line
+no_line i (t ∷ lines) all = line_later i t lines (λ is. let P : ⊥ = omega arith in P) ∙ no_line
     i lines all.1
 
 above : (a b : ℕ) (lines : List Transfer) → a ≤ b → AllByRecursion (λ u. b < u.input) lines → AllByRecursion
     (λ u. a < u.input) lines
 above a b [] le all = tt
-above a b (t ∷ lines) le all = (let here = all.0 in omega arith, above a b lines le all.1)
+above a b (t ∷ lines) le all = (omega arith, above a b lines le all.1)
 
 -- all lines are of the n inputs from a on
 abbrev Between : ℕ → ℕ → List Transfer → Type 0
@@ -57,7 +57,7 @@ shorter : (a n : ℕ) (lines : List Transfer) → AllByRecursion (λ u. a < u.in
     Between (a + 1) n lines
 shorter a n [] later all = tt
 shorter a n (t ∷ lines) later all =
-    ((let here = later.0 in omega arith, let high = all.0.1 in omega arith), shorter a n lines later.1 all.1)
+    ((omega arith, omega arith), shorter a n lines later.1 all.1)
 
 pub lines_by_input : (lines : List Transfer) (a n : ℕ) → RiseByInput lines → Between a n lines →
     filter_map (λ i. line_of_input i lines) (range_with_len a n) ≡ lines
@@ -72,7 +72,6 @@ lines_by_input (t ∷ lines) a (suc n) rise all = ⊎_elim (λ (at : t.input ≡
     (λ i low high. line_later i t lines (λ (is : t.input ≡ i). let P : ⊥ = omega arith in P))
     ∙ lines_by_input lines (a + 1) n rise.1 (shorter a n lines (above a t.input lines (omega arith) rise.0) all.1)))
     (λ (other : t.input ≢ a).
-    let low = all.0.0 in
     let later : a < t.input = ⊎_elim (λ less. less) (λ more. absurd (other (omega arith))) (cases_lt a t.input) in
     let all_later = above a t.input lines (omega arith) rise.0 in
     ap (λ o. cons_option o (filter_map (λ i. line_of_input i (t ∷ lines)) (range_with_len (a + 1) n)))
@@ -130,7 +129,7 @@ module _ (lists : List (List Queued)) (lines : List Transfer) (right : AreRight 
 
 all_between : (n : ℕ) (lines : List Transfer) → AllByRecursion (IsOf n) lines → Between 0 n lines
 all_between n [] all = tt
-all_between n (t ∷ lines) all = ((omega arith, let high = all.0.input in omega arith), all_between n lines all.1)
+all_between n (t ∷ lines) all = ((omega arith, omega arith), all_between n lines all.1)
 
 pub told_moves : (lists : List (List Queued)) (lines : List Transfer) (slot phase : ℕ) → AreRight lists lines →
     AreOfPhase (length lists) slot phase lines → transfers_of (told (length lists) lines) lists slot phase ≡ lines

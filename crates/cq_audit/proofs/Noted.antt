@@ -165,20 +165,13 @@ module _ (ports slot phase : ℕ) (few : ports ≤ 64) (small : slot < 2 ^ 64) (
       ComesBefore last slot phase i → IfSome last (λ u. IsBefore u t)
   unfolding ComesBefore
   line_before i t line None h = tt
-  line_before i t line (Some u) (inl h) = let slot_is = line.slot_is in inl (omega arith)
-  line_before i t line (Some u) (inr (e, inl h)) =
-      let slot_is = line.slot_is in let phase_is = line.phase_is in inr (omega arith, inl (omega arith))
-  line_before i t line (Some u) (inr (e, inr (f, h))) =
-      let slot_is = line.slot_is in let phase_is = line.phase_is in let input_is = line.input_is in
-      inr (omega arith, inr (omega arith, omega arith))
+  line_before i t line (Some u) (inl h) = inl (omega arith)
+  line_before i t line (Some u) (inr (e, inl h)) = inr (omega arith, inl (omega arith))
+  line_before i t line (Some u) (inr (e, inr (f, h))) = inr (omega arith, inr (omega arith, omega arith))
 
   line_comes : (i : ℕ) (t : Transfer) → IsLineOf ports slot phase i t → (last : Option Transfer) →
       ComesBefore last slot phase i → Comes ports last t (Some t)
   line_comes i t line last before =
-      let slot_is = line.slot_is in
-      let phase_is = line.phase_is in
-      let input_is = line.input_is in
-      let inside = line.inside in
       let output = line.output in (
         record {
           slot = omega arith;
@@ -196,8 +189,7 @@ module _ (ports slot phase : ℕ) (few : ports ≤ 64) (small : slot < 2 ^ 64) (
 
   line_behind : (i : ℕ) (t : Transfer) → IsLineOf ports slot phase i t → ComesBefore (Some t) slot phase (i + 1)
   unfolding ComesBefore
-  line_behind i t line =
-      let input_is = line.input_is in inr (line.slot_is, inr (line.phase_is, omega arith))
+  line_behind i t line = inr (line.slot_is, inr (line.phase_is, omega arith))
 
   module _ (h : ℕ → Option Transfer)
       (each : (i : ℕ) (t : Transfer) → h i ≡ Some t → IsLineOf ports slot phase i t) where

@@ -129,7 +129,7 @@ module _ (lists : List (List Queued)) (slot phase : ℕ) (lines : List Transfer)
       ⊎_elim (λ other. other names.first) (λ taken.
       let same = is.stable.matching.once taken.0 i wrong.line.output (told_partner taken.0 wrong.line.output taken.2)
       names.partner in
-      let below = taken.1 in let P : ⊥ = omega arith in P) wrong.wrong
+      let P : ⊥ = omega arith in P) wrong.wrong
 
   -- an input that has a partner has a cell for it, and so a line
   partner_told : (i : ℕ) → i < length m → partner_of m i ≡ output_told lines i
@@ -164,9 +164,9 @@ one_wrong P i k p q least_i least_k = ⊎_elim (λ less. absurd (least_k i less 
 
 one_pair : (i j k l : ℕ) → (i < k) ⊎ ((i ≡ k) × (j ≤ l)) → (k < i) ⊎ ((k ≡ i) × (l ≤ j)) → (i ≡ k) × (j ≡ l)
 one_pair i j k l (inl less) (inl more) = absurd (omega arith)
-one_pair i j k l (inl less) (inr same) = let e = same.0 in absurd (omega arith)
-one_pair i j k l (inr same) (inl more) = let e = same.0 in absurd (omega arith)
-one_pair i j k l (inr same) (inr back) = (same.0, let a = same.1 in let b = back.1 in omega arith)
+one_pair i j k l (inl less) (inr same) = absurd (omega arith)
+one_pair i j k l (inr same) (inl more) = absurd (omega arith)
+one_pair i j k l (inr same) (inr back) = (same.0, omega arith)
 
 one_fault : (lists : List (List Queued)) (lines : List Transfer) (f g : PhaseFault) → IsPhaseFault lists lines f →
     IsPhaseFault lists lines g → f ≡ g

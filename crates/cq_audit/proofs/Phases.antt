@@ -51,9 +51,7 @@ module _ (ports slot phase : ℕ) where
       inputs_rise (x ∷ xs) all now =
           let both = and_parts _ _ here in
           let own_slot = eqb-true t.slot slot both.0 in
-          let own_phase = eqb-true t.phase phase both.1 in
-          let slot_of = now.0.0 in
-          let phase_of = now.0.1 in (
+          let own_phase = eqb-true t.phase phase both.1 in (
             ⊎_elim (λ less. absurd (omega arith)) (λ same. ⊎_elim (λ less. absurd (omega arith)) (λ more. more.1)
                 same.1) all.0,
             inputs_rise xs all.1 now.1,
@@ -65,9 +63,9 @@ module _ (ports slot phase : ℕ) where
   all_behind t [] behind all = tt
   all_behind t (u ∷ rest) behind all = (
     ⊎_elim
-        (λ later. ⊎_elim (λ less. inl (omega arith)) (λ same. let e = same.0 in inl (omega arith)) all.0)
-        (λ here. let e = here.0 in let l = here.1 in ⊎_elim (λ less. inl (omega arith)) (λ same. let f = same.0 in
-        ⊎_elim (λ less. inr (omega arith, omega arith)) (λ more. let g = more.0 in inr (omega arith, omega arith))
+        (λ later. ⊎_elim (λ less. inl (omega arith)) (λ same. inl (omega arith)) all.0)
+        (λ here. ⊎_elim (λ less. inl (omega arith)) (λ same.
+        ⊎_elim (λ less. inr (omega arith, omega arith)) (λ more. inr (omega arith, omega arith))
         same.1) all.0)
         behind,
     all_behind t rest behind all.1,
@@ -80,7 +78,7 @@ module _ (ports slot phase : ℕ) where
       (λ here. let both = and_parts _ _ here in
       let own_slot = eqb-true u.slot slot both.0 in
       let own_phase = eqb-true u.phase phase both.1 in
-      absurd (⊎_elim (λ less. let P : ⊥ = omega arith in P) (λ more. let l = more.1 in let P : ⊥ = omega arith in P)
+      absurd (⊎_elim (λ less. let P : ⊥ = omega arith in P) (λ more. let P : ⊥ = omega arith in P)
       all.0))
       (λ _. none_of_it rest all.1)
 
@@ -90,7 +88,7 @@ module _ (ports slot phase : ℕ) where
   is_behind t other (inl later) = inl later
   is_behind t other (inr here) = inr (
     here.0,
-    let e = here.0 in let l = here.1 in ⊎_elim (λ less. less)
+    let e = here.0 in ⊎_elim (λ less. less)
         (λ more. absurd (let same : t.phase ≡ phase = omega arith in
         let both : is_at slot phase t ≡ true = ap (λ b. b && eqb t.phase phase) (eq-eqb t.slot slot (sym e)) ∙ eq-eqb
         t.phase phase same in

@@ -24,7 +24,7 @@ use Rattle.cq_audit.proofs.Following.{weaker}
 pub all_late : (slot : ℕ) (lines : List Transfer) → NoneBefore slot 1 lines → AllByRecursion (λ t. slot ≤ t.slot) lines
 all_late slot lines none =
     weaker (λ t. (slot < t.slot) ⊎ ((slot ≡ t.slot) × (1 ≤ t.phase))) (λ t. slot ≤ t.slot)
-    (λ t had. ⊎_elim (λ later. omega arith) (λ here. let e = here.0 in omega arith) had) lines none
+    (λ t had. ⊎_elim (λ later. omega arith) (λ here. omega arith) had) lines none
 
 module _ (came : List Arrival) (slot next : ℕ) (quiet : IsQuiet came slot next) where
   -- there is no line

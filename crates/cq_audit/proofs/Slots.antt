@@ -55,7 +55,7 @@ pub second_may_come : (slot : ℕ) (lines : List Transfer) → AllBehind slot 1 
 second_may_come slot lines =
     weaker (λ t. (slot < t.slot) ⊎ ((slot ≡ t.slot) × (1 < t.phase)))
     (λ t. (slot < t.slot) ⊎ ((slot ≡ t.slot) × (2 ≤ t.phase)))
-    (λ t had. ⊎_elim (λ later. inl later) (λ here. let more = here.1 in inr (here.0, omega arith)) had)
+    (λ t had. ⊎_elim (λ later. inl later) (λ here. inr (here.0, omega arith)) had)
     lines
 
 -- ## Before a slot
@@ -88,7 +88,6 @@ module _ (M : List ℕ → Machine) {slot : ℕ} {cells : List (Option Cell)} (r
 
   pub come_to_ports : ComeToPorts (length l.limits) cells
   come_to_ports =
-      let limits = can.in_step.limits in
       let long = many in
       record {
         inputs = λ input cell at. let lt = can.arrivals.inputs input cell at in omega arith;
@@ -107,7 +106,7 @@ module _ (M : List ℕ → Machine) {slot : ℕ} {cells : List (Option Cell)} (r
       get_or l.held j 0 + count_for j cells < 2 ^ 64
   held_fits =
       numbers_fit q ranks.states l cells holds
-      (λ j inside. buffers_room j (let ports = can.in_step.ports in omega arith))
+      (λ j inside. buffers_room j (omega arith))
 
   module _ (marks : List Bool) where
     -- what is admitted by these marks is what the fabric admits
@@ -195,7 +194,7 @@ module _ {M : List ℕ → Machine} {slot : ℕ} {cells : List (Option Cell)} {l
         cells = can_cross_first ranked arrived room;
         in_order = subst (λ (n : ℕ). AreInOrder n lines) (sym first_long) known.can.in_order;
         none_before = known.can.none_before;
-        room = let long = first_long in let had = known.can.note_room in omega arith;
+        room = let long = first_long in omega arith;
       }
 
   -- a fault of the parts is one of what is seen of them
@@ -227,7 +226,7 @@ module _ {M : List ℕ → Machine} {slot : ℕ} {cells : List (Option Cell)} {l
         let many = length-map ranks0.fixed M in
         let fixed = ap length come.fixed in
         record {
-          few = let long = gone_long in let few = up.machines.few in omega arith;
+          few = let long = gone_long in omega arith;
           machines = gone_long ∙ sym fixed;
           states = come.many ∙ up.ranks ∙ many ∙ sym fixed;
           counts = gone_long ∙ sym (judges.as_many ∙ up.limits ∙ many);
@@ -257,8 +256,6 @@ module _ {M : List ℕ → Machine} {slot : ℕ} {cells : List (Option Cell)} {l
           let same = ap length one.crossed.told.moved in
           let long = first_long in
           let again = second_long in
-          let had = known.can.note_room in
-          let left = one.noted.spare in
           record {
             cells = can_cross_second ranked arrived room moved1 have_sent;
             in_order = subst (λ (n : ℕ). AreInOrder n behind) (sym second_long) one.parted.in_order;
@@ -367,7 +364,5 @@ module _ {M : List ℕ → Machine} {slot : ℕ} {cells : List (Option Cell)} {l
               note_room =
                   let long = ap length both in
                   let sum = length-append one.own two.own in
-                  let had = one.noted.spare in
-                  let has = two.noted.spare in
                   omega arith;
             })

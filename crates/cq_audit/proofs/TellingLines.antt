@@ -97,7 +97,7 @@ module _ (lists : List (List Queued)) (lines : List Transfer) (n : ℕ) (m : Par
     pub right_line : n < length lists → t.output < length m → first_id t.output (list_of lists n) ≡ Some t.id →
         IsFreeOutput m t.output → ToldUntil lists lines (n + 1) (with_pair m n t.output)
     right_line below inside names free = one_more (with_pair m n t.output) (length-set m n (Some t.output)) below
-        (get_or-set_same m n (Some t.output) None (let size = had.size in omega arith) ∙ sym told_here)
+        (get_or-set_same m n (Some t.output) None (omega arith) ∙ sym told_here)
         (λ i other. get_or-set_other m n i (Some t.output) None other) right
       where
         right : IsWrongLine lists lines n → ⊥
@@ -131,7 +131,6 @@ module _ (lists : List (List Queued)) (lines : List Transfer) (n : ℕ) (m : Par
     pub all_told : m ≡ told ports lines
     unfolding told
     all_told =
-        let size = had.size in
         let long = length-map-range_with_len (output_told lines) 0 ports in
         ext_get_or None m (map (output_told lines) (range_with_len 0 ports)) (omega arith)
         (λ i inside. let below : i < n = omega arith in had.done i below
@@ -141,6 +140,5 @@ module _ (lists : List (List Queued)) (lines : List Transfer) (n : ℕ) (m : Par
     all_right inside i wrong =
         ⊎_elim (λ less. had.right i (omega arith) wrong)
         (λ more. let of = line_holds i (IsOf ports) lines wrong.line inside wrong.stands in
-        let input = of.input in
         let own = line_is_of i lines wrong.line wrong.stands in
         absurd (omega arith)) (cases_lt i n)

@@ -51,7 +51,6 @@ slots-smaller g c =
     let more = goes g (goal.at.slots-smaller g c).After-skip-slot in
     let left = left_there g.R.Rank.machine c.requires c.slots.invariant more c.skip-slot.ensures.still
     c.skip-slot.ensures.rested in
-    let late = c.skip-slot.ensures.still.late in
     omega arith
 
 pub slots-preserved : goal.slots-preserved

@@ -14,26 +14,18 @@ fits : (c : In-Some) → c.in-Some.line.output < length c.inputs.pairs
 fits c =
     let of = line_holds c.inputs.input (IsOf (length c.args.lists.now)) c.args.lines.now c.in-Some.line
     c.requires.lines (sym c.line_of.ensures ∙ c.in-Some.is) in
-    let output = of.output in
-    let size = c.inputs.invariant.size in
     let long = length-map c.args.lists.now (λ (w : Waiting). w.cells) in omega arith
 
 -- all inputs are looked at in the end
 ended : (c : After-inputs) → c.inputs.input ≡ length c.args.lists.now
-ended c =
-    let past = c.inputs-test.false in
-    let most = c.inputs.auto.input-end in
-    let few = c.requires.few in
-    omega arith
+ended c = omega arith
 
 pub is_right-requires : goal.is_right-requires
 is_right-requires c = fits (goal.at.is_right-requires c).In-Some
 
 pub join-requires : goal.join-requires
 join-requires c =
-    let size = c.inputs.invariant.size in
     let long = length-map c.args.lists.now (λ (w : Waiting). w.cells) in
-    let inside = c.inputs-test.true in
     record {
       input = omega arith;
       output = fits (goal.at.join-requires c).In-Some;
@@ -46,11 +38,7 @@ inputs-preserved c =
     let lists = c.args.lists.now in
     let lines = c.args.lines.now in
     let n = c.inputs.input in
-    let size = c.inputs.invariant.size in
     let long = length-map lists (λ (w : Waiting). w.cells) in
-    let inside = c.inputs-test.true in
-    let few = c.requires.few in
-    let most = c.inputs.auto.input-end in
     let here : n < length lists = omega arith in
     let below : n < length (cells_of lists) = omega arith in
     elim c.match-line_of.branch [
@@ -58,7 +46,6 @@ inputs-preserved c =
           let t = w.in-Some.line in
           let stands = sym c.line_of.ensures ∙ w.in-Some.is in
           let of = line_holds n (IsOf (length lists)) lines t c.requires.lines stands in
-          let output = of.output in
           let list = cells_at lists n w.index-lists-input.result here (sym w.index-lists-input.is) in
           let names = subst (λ (cells : List Queued). first_id t.output cells ≡ Some t.id) (sym list)
           (w.is_right.ensures.right w.if-is_right.true) in

@@ -20,7 +20,6 @@ stands g c =
 pub rest-requires : goal.rest-requires
 rest-requires g c =
     let step = stands g (goal.at.rest-requires g c).After-self in
-    let few = step.machines.few in
     let long = length-map c.self.inside.ranks.fixed g.R.Rank.machine in
     record { few = omega arith; states = step.ranks ∙ long }
 
