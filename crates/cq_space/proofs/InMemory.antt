@@ -98,15 +98,8 @@ closed_still c d (state.Writes at) closed = absurd (let P : ⊥ = cc in P)
 seen_as : (new : Columns) (s : State) (v : MemSpace) → mode_of new s ≡ v.mode → contents_of new ≡ v.contents →
     read_cuts_of new ≡ v.read_cuts → write_cuts_of new ≡ v.write_cuts →
     space new s v.faults v.starved v.calls ≡ v
-seen_as new s v mode contents reads writes = λ j. record {
-  mode = mode j;
-  contents = contents j;
-  read_cuts = reads j;
-  write_cuts = writes j;
-  faults = v.faults;
-  starved = v.starved;
-  calls = v.calls;
-}
+seen_as new s v mode contents reads writes =
+    λ j. record v { mode = mode j; contents = contents j; read_cuts = reads j; write_cuts = writes j }
 
 module _ (old mid new : Columns) (s : State) (faults starved : ℕ) (calls : Calls) (i : ℕ) (name : List ℕ)
     (same : SaysTheSame old mid) (even : AreEven mid) (is : IsEntryOf mid.names i name) where
