@@ -14,7 +14,6 @@ use Rattle.cq_rank.specs.Machine.{Machine}
 use Rattle.cq_scfq.specs.Disciplines.{machines_of}
 use Rattle.cq_ideal.specs.Admission.{Admission, Marked}
 use Rattle.cq_ideal.specs.Ending.{arriving_from, first_slots}
-use Rattle.cq_ideal.proofs.Parted.{arriving_length}
 use Rattle.cq_prefs.specs.Moves.{transfers_of}
 use Rattle.cq_prefs.specs.Pairing.{IsStable, Partners}
 use Rattle.cq_laws.specs.Fabric.{Fabric, IsEmptyFabric}
@@ -22,6 +21,7 @@ use Rattle.cq_laws.specs.FabricSlot.{SlotRecord}
 use Rattle.cq_laws.specs.LimitedFabric.{LimitedFabricRun, LimitedFabricSlot, LimitedRecord, fabric_admission}
 use Rattle.cq_laws.specs.Phases.{Arrives}
 use Rattle.cq_laws.specs.Records.{transfers_in, transfers_of_run}
+use Rattle.cq_laws.proofs.OneRun.{one_arrival, one_departure}
 use Rattle.cq_laws.proofs.Parted.{reach}
 use Rattle.cq_audit.specs.Audit.{IsAuditExact, IsNo, IsNoOf, IsReadNo, IsYes, opening_fabric, phase_refusal}
 use Rattle.cq_audit.specs.Log.{IsLogFault}
@@ -32,10 +32,10 @@ use Rattle.cq_audit.specs.declared.phase.PhaseFault.TheVariants.{WrongLine, Bloc
 use Rattle.cq_audit.specs.declared.refusal.AuditRefusal.{AuditRefusal}
 use Rattle.cq_audit.specs.declared.refusal.AuditRefusal.TheVariants.{Line, Transfer as Wrong, Blocking, Left, NoMemory}
 use Rattle.cq_audit.proofs.BySlot.{before_all, before_is, before_later, of_two, phase_before, phase_later, phase_now}
-use Rattle.cq_audit.proofs.Following.{one_arrival, one_departure, one_move, one_stable_run, run_later, transfers_at, weaker}
+use Rattle.cq_audit.proofs.Following.{one_move, one_stable_run, run_later, transfers_at}
 use Rattle.cq_audit.proofs.LogLines.{log_is_exact}
 use Rattle.cq_audit.proofs.PhaseExact.{phase_is_exact}
-use Rattle.cq_audit.proofs.WholeFollowing.{moved, moved_parts, run_before, whole_run}
+use Rattle.cq_audit.proofs.WholeFollowing.{all_before, moved, moved_parts, whole_run}
 
 -- ## The transfers of a slot, phase by phase
 
@@ -194,13 +194,9 @@ module _ (limits : List (Option ℕ)) (ms : List Machine) (came : List Arrival) 
       Halfway m n rs end
   halfway m n rs end le run told =
       let r = reach (LimitedFabricSlot IsStable limits ms) came start rs m n end le run in
-      let long = arriving_length came 0 m in
       let parted : before_slot n note ≡ moved (take m rs) ++ moved (drop m rs) =
       sym told ∙ ap moved (sym (take-append-drop m rs)) ∙ moved_parts (take m rs) (drop m rs) in
-      let earlier : AllByRecursion (λ t. t.slot < m) (moved (take m rs)) =
-      weaker (λ t. t.slot < 0 + length (first_slots came m)) (λ t. t.slot < m) (λ t lt. omega arith)
-      (moved (take m rs))
-      (run_before limits ms 0 (first_slots came m) start r.state (take m rs) r.after) in
+      let earlier = all_before limits ms came m start r.state (take m rs) r.after in
       let later = run_later limits ms m (arriving_from came m (n - m)) r.state end (drop m rs) r.rest in
       record {
         state = r.state;
@@ -367,12 +363,10 @@ module _ (limits : List (Option ℕ)) (ms : List Machine) (came : List Arrival) 
       moved is.records ≡ before_slot (length is.records) note
   followed_all is =
       let n = length is.records in
-      let long = arriving_length came 0 n in
-      let early : AllByRecursion (λ t. t.slot < n) (moved is.records) =
-      weaker (λ t. t.slot < 0 + length (first_slots came n)) (λ t. t.slot < n) (λ t lt. omega arith) (moved is.records)
-      (run_before limits ms 0 (first_slots came n) start is.end is.records
-      (whole_run limits ms came start is.records is.end is.runs)) in
-      sym (before_all n (moved is.records) early) ∙ ap (before_slot n) is.moved
+      sym (before_all n (moved is.records)
+      (all_before limits ms came n start is.end is.records
+      (whole_run limits ms came start is.records is.end is.runs)))
+      ∙ ap (before_slot n) is.moved
 
   followed_whole : IsOfStableRun limits ms came start note → IsFollowed
   followed_whole is = record { records = is.records; end = is.end; runs = is.runs; told = followed_all is }

@@ -2,31 +2,25 @@
 -- the slot's transfers are the same, so are those of each phase, and they tell the matchings
 -- (`transfers_tell_the_matching`). All else follows from the state and what arrives. In a run the transfers of a
 -- slot stand before those of later ones.
-use Rattle.std.proofs.Common.{◌≡◌, ℕ, zero, suc, ◌+◌, ◌≤◌, List, [], ◌∷◌, ◌++◌, length, drop, Option, None, Some, Result, Ok, refl, sym, ap, ◌∙◌, subst, ⊎_elim, arith}
+use Rattle.std.proofs.Common.{◌≡◌, ℕ, zero, suc, ◌+◌, ◌<◌, ◌≤◌, List, [], ◌∷◌, ◌++◌, length, drop, Option, None, Some, refl, sym, ap, ◌∙◌, subst, arith}
 use Rattle.std.specs.List.{AllByRecursion, filter_map, cons_option, range_with_len}
 use Rattle.std.specs.Option.{option_map}
-use Rattle.std.proofs.lemmas.List.{ext_get_or}
 use Rattle.cq_base.specs.declared.cell.Cell.{Cell}
 use Rattle.cq_base.specs.declared.cell.Queued.{Queued}
 use Rattle.cq_base.specs.declared.cell.Transfer.{Transfer}
 use Rattle.cq_base.specs.Cells.{first_for}
-use Rattle.cq_base.specs.declared.cell.TagFault.{TagFault}
 use Rattle.cq_rank.specs.Machine.{Machine}
 use Rattle.cq_ideal.specs.Admission.{Admission, Marked}
-use Rattle.cq_ideal.specs.Ranking.{Ranking}
-use Rattle.cq_ideal.specs.IdealSlot.{fronts, rests, all_told}
-use Rattle.cq_prefs.specs.FirstCells.{HasCellFor, list_of, orders_of}
+use Rattle.cq_prefs.specs.FirstCells.{list_of, orders_of}
 use Rattle.cq_prefs.specs.Moves.{noted, transfers_of}
-use Rattle.cq_prefs.specs.Orders.{IsListed, Orders}
+use Rattle.cq_prefs.specs.Orders.{Orders}
 use Rattle.cq_prefs.specs.Pairing.{IsStable, Partners, partner_of}
-use Rattle.cq_prefs.proofs.OutputOrder.{is_output_order}
-use Rattle.cq_laws.specs.Fabric.{Fabric, input}
+use Rattle.cq_laws.specs.Fabric.{Fabric}
 use Rattle.cq_laws.specs.FabricSlot.{FabricSlot, SlotRecord}
 use Rattle.cq_laws.specs.LimitedFabric.{LimitedFabricRun, LimitedFabricSlot, LimitedRecord, slots_in}
-use Rattle.cq_laws.specs.Phases.{Arrives, Departs, Transfers}
+use Rattle.cq_laws.specs.Phases.{Transfers}
 use Rattle.cq_laws.specs.Records.{transfers_in, transfers_of_run}
-use Rattle.cq_laws.proofs.OneRun.{outputs_at}
-use Rattle.cq_laws.proofs.Rises.{sender}
+use Rattle.cq_laws.proofs.OneRun.{one_arrival, one_departure, one_transfer, same_record}
 use Rattle.cq_laws.proofs.Told.{transfers_tell}
 
 -- ## Transfers that stand before others
@@ -114,45 +108,6 @@ same_phases a b c d A B C D slot e = same_parts (λ t. t.phase ≡ 1) (transfers
 
 -- ## One state after each step
 
-same_fabric : (a b : Fabric) → a.inputs ≡ b.inputs → a.buffers ≡ b.buffers → a.ranks ≡ b.ranks → a ≡ b
-same_fabric a b e f g = λ k. record { inputs = e k; buffers = f k; ranks = g k }
-
-same_lists : (xs ys : List (List Queued)) → length xs ≡ length ys → ((i : ℕ) → list_of xs i ≡ list_of ys i) → xs ≡ ys
-same_lists xs ys size each = ext_get_or [] xs ys size (λ i _. each i)
-
-one_result : (a b : Ranking) (x : Result Ranking TagFault) → x ≡ Ok a → x ≡ Ok b → a ≡ b
-one_result a b x e f = let both : ◌≡◌ {A = Result Ranking TagFault} (Ok a) (Ok b) = sym e ∙ f in cc
-
-pub one_arrival : (ms : List Machine) (slot : ℕ) (cells : List (Option Cell)) (c d : List (Option Queued))
-    (old a b : Fabric) →
-    Arrives ms slot cells c old a → Arrives ms slot cells d old b → (c ≡ d) × (a ≡ b)
-one_arrival ms slot cells c d old a b x y =
-    let ranked : ◌≡◌ {A = Ranking} (record { came = c; ranks = a.ranks }) (record { came = d; ranks = b.ranks }) =
-    one_result _ _ _ x.ranked y.ranked in
-    let came : c ≡ d = ap (λ (q : Ranking). q.came) ranked in
-    let y' : Arrives ms slot cells c old b = subst (λ (q : List (Option Queued)). Arrives ms slot cells q old b)
-    (sym came) y in (
-      came,
-      same_fabric a b (same_lists a.inputs b.inputs (x.ports ∙ sym y'.ports) (λ i. x.lists i ∙ sym (y'.lists i)))
-          (x.buffers ∙ sym y'.buffers) (ap (λ (q : Ranking). q.ranks) ranked),
-    )
-
-one_transfer : (m : Partners) (old a b : Fabric) → IsStable (orders_of old.inputs) m → Transfers m old a → Transfers
-    m old b → a ≡ b
-one_transfer m old a b stable x y =
-    same_fabric a b
-    (same_lists a.inputs b.inputs (x.moves.ports.0 ∙ sym y.moves.ports.0)
-    (λ i. x.moves.taken i ∙ sym (y.moves.taken i)))
-    (same_lists a.buffers b.buffers (x.moves.ports.1 ∙ sym y.moves.ports.1) (λ j.
-    ⊎_elim (λ joined. let c = cell joined.0 j joined.1 in
-    x.moves.given joined.0 j c.0 joined.1 c.1 ∙ sym (y.moves.given joined.0 j c.0 joined.1 c.1))
-    (λ free. x.moves.kept j free ∙ sym (y.moves.kept j free)) (sender m j)))
-    (x.ranks ∙ sym y.ranks)
-  where
-    cell : (i j : ℕ) → partner_of m i ≡ Some j → HasCellFor (input old i) j
-    cell i j is = ((is_output_order (input old i)).offered j).0
-        (subst (λ order. IsListed order j) (outputs_at old.inputs i) (stable.matching.offered i j is))
-
 -- from one state, by the same transfers
 pub one_move : (m n : Partners) (slot phase : ℕ) (a b c d : Fabric) → a ≡ b → IsStable (orders_of a.inputs) m →
     IsStable (orders_of b.inputs) n → transfers_of m a.inputs slot phase ≡ transfers_of n b.inputs slot phase →
@@ -165,17 +120,6 @@ one_move m n slot phase a b c d same stable_m stable_n moved x y =
       chosen,
       one_transfer m a c d stable_m x
           (subst (λ (p : Partners). Transfers p a d) (sym chosen) (subst (λ (f : Fabric). Transfers n f d) back y)),
-    )
-
-pub one_departure : (ms : List Machine) (u v : List (Option Queued)) (a b c d : Fabric) → a ≡ b → Departs ms u a c →
-    Departs ms v b d → (u ≡ v) × (c ≡ d)
-one_departure ms u v a b c d same x y =
-    let gone : u ≡ v = x.sent ∙ ap (λ (f : Fabric). fronts f.buffers) same ∙ sym y.sent in (
-      gone,
-      same_fabric c d (x.inputs ∙ ap (λ (f : Fabric). f.inputs) same ∙ sym y.inputs)
-          (x.buffers ∙ ap (λ (f : Fabric). rests f.buffers) same ∙ sym y.buffers)
-          (x.ranks ∙ ap (λ q. all_told ms q a.ranks) gone ∙ ap (λ (f : Fabric). all_told ms v f.ranks) same ∙ sym
-          y.ranks),
     )
 
 -- ## One slot
@@ -198,19 +142,8 @@ module _ (ms : List Machine) where
       phases.0 x.fill y.fill in
       let depart = one_departure ms r.gone s.gone r.filled s.filled r.sent s.sent first.1 x.depart y.depart in
       let second = one_move r.second s.second r.slot 2 r.sent s.sent g h depart.1 x.second_chosen y.second_chosen
-      phases.1 x.finish y.finish in (
-        λ k. record {
-          slot = same_slot k;
-          came = arrive.0 k;
-          arrived = arrive.1 k;
-          first = first.0 k;
-          filled = first.1 k;
-          gone = depart.0 k;
-          sent = depart.1 k;
-          second = second.0 k;
-        },
-        second.1,
-      )
+      phases.1 x.finish y.finish in
+      (same_record r s same_slot arrive.0 arrive.1 first.0 first.1 depart.0 depart.1 second.0, second.1)
 
 pub slot_at : (MayChoose : Orders → Partners → Type 0) (ms : List Machine) (slot : ℕ) (cells : List (Option Cell))
     (f g : Fabric)
@@ -241,19 +174,34 @@ module _ (limits : List (Option ℕ)) (ms : List Machine) where
       let marks = x.marks ∙ ap (λ (a : Admission). a.marks) judged ∙ sym y.marks in
       (λ k. record { admission = judged k; of_slot = one.0 k }, λ k. record { state = one.1 k; marks = marks k })
 
-  pub run_later : (slot : ℕ) (traffic : List (List (Option Cell))) (f g : Marked Fabric) (rs : List LimitedRecord) →
+  -- the transfers of a run are of its slots
+  run_within : (slot : ℕ) (traffic : List (List (Option Cell))) (f g : Marked Fabric) (rs : List LimitedRecord) →
       LimitedFabricRun IsStable limits ms slot traffic f rs g →
-      AllByRecursion (λ t. slot ≤ t.slot) (transfers_of_run (slots_in rs))
+      AllByRecursion (λ t. (slot ≤ t.slot) × (t.slot < slot + length traffic)) (transfers_of_run (slots_in rs))
   unfolding transfers_of_run
-  run_later slot [] f g [] x = tt
-  run_later slot [] f g (r ∷ rs) x = absurd x
-  run_later slot (cells ∷ traffic) f g [] x = absurd x
-  run_later slot (cells ∷ traffic) f g (r ∷ rs) x =
-      both_hold (λ t. slot ≤ t.slot) (transfers_in r.of_slot) (transfers_of_run (slots_in rs))
-      (weaker (λ t. t.slot ≡ slot) (λ t. slot ≤ t.slot) (λ t at. omega arith) (transfers_in r.of_slot)
+  run_within slot [] f g [] x = tt
+  run_within slot [] f g (r ∷ rs) x = absurd x
+  run_within slot (cells ∷ traffic) f g [] x = absurd x
+  run_within slot (cells ∷ traffic) f g (r ∷ rs) x =
+      let Of : Transfer → Type 0 = λ t. (slot ≤ t.slot) × (t.slot < slot + length (cells ∷ traffic)) in
+      both_hold Of (transfers_in r.of_slot) (transfers_of_run (slots_in rs))
+      (weaker (λ t. t.slot ≡ slot) Of (λ t at. (omega arith, omega arith)) (transfers_in r.of_slot)
       (slot_at IsStable ms slot r.admission.cells f.state x.0.state r.of_slot x.1.runs))
-      (weaker (λ t. slot + 1 ≤ t.slot) (λ t. slot ≤ t.slot) (λ t later. omega arith) (transfers_of_run (slots_in rs))
-      (run_later (slot + 1) traffic x.0 g rs x.2))
+      (weaker (λ t. (slot + 1 ≤ t.slot) × (t.slot < slot + 1 + length traffic)) Of
+      (λ t at. (omega arith, omega arith)) (transfers_of_run (slots_in rs))
+      (run_within (slot + 1) traffic x.0 g rs x.2))
+
+  module _ (slot : ℕ) (traffic : List (List (Option Cell))) (f g : Marked Fabric) (rs : List LimitedRecord)
+      (run : LimitedFabricRun IsStable limits ms slot traffic f rs g) where
+    pub run_later : AllByRecursion (λ t. slot ≤ t.slot) (transfers_of_run (slots_in rs))
+    run_later =
+        weaker (λ t. (slot ≤ t.slot) × (t.slot < slot + length traffic)) (λ t. slot ≤ t.slot) (λ t at. at.0)
+        (transfers_of_run (slots_in rs)) (run_within slot traffic f g rs run)
+
+    pub run_before : AllByRecursion (λ t. t.slot < slot + length traffic) (transfers_of_run (slots_in rs))
+    run_before =
+        weaker (λ t. (slot ≤ t.slot) × (t.slot < slot + length traffic)) (λ t. t.slot < slot + length traffic)
+        (λ t at. at.1) (transfers_of_run (slots_in rs)) (run_within slot traffic f g rs run)
 
   pub one_stable_run : (slot : ℕ) (traffic : List (List (Option Cell))) (f g h : Marked Fabric)
       (rs ss : List LimitedRecord) →

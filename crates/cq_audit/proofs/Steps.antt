@@ -1,5 +1,5 @@
 -- What each step of the loop over the slots of a replay asks for and comes to.
-use Rattle.std.proofs.Common.{◌≡◌, ◌↔◌, ℕ, ◌+◌, ◌-◌, ◌*◌, ◌<◌, ◌≤◌, ◌^◌, inl, inr, Bool, true, false, List, [], ◌++◌, length, take, map, ◌⊎◌, Option, Result, Ok, Err, refl, sym, ap, ◌∙◌, subst, ⊎_elim, arith, length-append}
+use Rattle.std.proofs.Common.{◌≡◌, ◌↔◌, ℕ, ◌+◌, ◌-◌, ◌*◌, ◌<◌, ◌≤◌, ◌^◌, inl, inr, Bool, true, false, List, [], ◌++◌, length, take, map, ◌⊎◌, Option, Result, Ok, Err, sym, ap, ◌∙◌, subst, ⊎_elim, arith, length-append}
 use Rattle.std.specs.Prelude.{IfErr, IsOk, IsTrue, OnOk, slice_index}
 use Rattle.std.specs.List.{AllByRecursion}
 use Rattle.std.proofs.lemmas.Bool.{cases_lt}
@@ -14,7 +14,6 @@ use Rattle.cq_rank.specs.Switch.{class_count}
 use Rattle.cq_ideal.specs.Admission.{Marked}
 use Rattle.cq_ideal.specs.Ending.{first_slots}
 use Rattle.cq_ideal.specs.Ranking.{AreForPorts, ranking}
-use Rattle.cq_ideal.proofs.Parted.{arriving_length}
 use Rattle.cq_prefs.specs.Pairing.{IsStable}
 use Rattle.cq_laws.specs.Fabric.{Fabric, IsEmptyFabric}
 use Rattle.cq_laws.specs.LimitedFabric.{LimitedFabricRun, LimitedFabricSlot, LimitedRecord, empty_limited_fabric, fabric_admission}
@@ -33,10 +32,9 @@ use Rattle.cq_audit.specs.declared.refusal.AuditRefusal.TheVariants.{Left}
 use Rattle.cq_audit.specs.declared.replay.SlotFault.{SlotFault}
 use Rattle.cq_audit.proofs.Bounded.{list_is_short, output_is_short, ranks_fit, slots_bounded}
 use Rattle.cq_audit.proofs.BySlot.{before_is, phase_later}
-use Rattle.cq_audit.proofs.Following.{weaker}
 use Rattle.cq_audit.proofs.Replaying.{Replaying, more_at_rest, not_over, one_each, replaying_first, replaying_next, replaying_rested}
 use Rattle.cq_audit.proofs.Skips.{all_late}
-use Rattle.cq_audit.proofs.WholeFollowing.{moved, run_before}
+use Rattle.cq_audit.proofs.WholeFollowing.{all_before, moved}
 
 pub goes_on : (b : Bool) (end slot : ℕ) (Empty : Type 0) → b ≡ false → (IsTrue b ↔ ((end ≤ slot) × Empty)) →
     end ≤ slot → Empty → ⊥
@@ -84,10 +82,7 @@ module _ (M : List ℕ → Machine) {came : List Arrival} {lines : List Transfer
     -- what was moved so far is of earlier slots
     all_earlier : AllByRecursion (λ t. t.slot < slot) (moved b.records)
     all_earlier =
-        let long = arriving_length came 0 slot in
-        weaker (λ t. t.slot < 0 + length (first_slots came slot)) (λ t. t.slot < slot) (λ t lt. omega arith)
-        (moved b.records)
-        (run_before first.limits (map M first.fixed) 0 (first_slots came slot) first.fabric now.fabric b.records b.runs)
+        all_before first.limits (map M first.fixed) came slot first.fabric now.fabric b.records b.runs
 
     -- so it is what the lines before the slot say
     told_before : moved b.records ≡ before_slot slot lines

@@ -18,7 +18,7 @@ use Rattle.cq_laws.specs.LimitedFabric.{LimitedFabricRun, LimitedFabricSlot, Lim
 use Rattle.cq_laws.specs.Records.{transfers_in, transfers_of_run}
 use Rattle.cq_laws.proofs.Parted.{reach, run_of_whole}
 use Rattle.cq_audit.specs.StableRun.{StableRun}
-use Rattle.cq_audit.proofs.Following.{NoneOf, both_hold, one_stable_run, run_later, same_parts, slot_at, weaker}
+use Rattle.cq_audit.proofs.Following.{NoneOf, one_stable_run, run_before, run_later, same_parts, weaker}
 
 -- the transfers of records
 abbrev pub moved : List LimitedRecord → List Transfer
@@ -30,22 +30,17 @@ moved_parts [] ys = refl
 moved_parts (x ∷ xs) ys = ap (λ (l : List Transfer). transfers_in x.of_slot ++ l) (moved_parts xs ys)
     ∙ sym (append_assoc (transfers_in x.of_slot) (moved xs) (moved ys))
 
-module _ (limits : List (Option ℕ)) (ms : List Machine) where
-  pub run_before : (slot : ℕ) (traffic : List (List (Option Cell))) (f g : Marked Fabric) (rs : List LimitedRecord) →
-      LimitedFabricRun IsStable limits ms slot traffic f rs g →
-      AllByRecursion (λ t. t.slot < slot + length traffic) (moved rs)
-  unfolding transfers_of_run
-  run_before slot [] f g [] x = tt
-  run_before slot [] f g (r ∷ rs) x = absurd x
-  run_before slot (cells ∷ traffic) f g [] x = absurd x
-  run_before slot (cells ∷ traffic) f g (r ∷ rs) x =
-      both_hold (λ t. t.slot < slot + length (cells ∷ traffic)) (transfers_in r.of_slot) (moved rs)
-      (weaker (λ t. t.slot ≡ slot) (λ t. t.slot < slot + length (cells ∷ traffic)) (λ t at. omega arith)
-      (transfers_in r.of_slot) (slot_at IsStable ms slot r.admission.cells f.state x.0.state r.of_slot x.1.runs))
-      (weaker (λ t. t.slot < slot + 1 + length traffic) (λ t. t.slot < slot + length (cells ∷ traffic))
-      (λ t below. omega arith) (moved rs) (run_before (slot + 1) traffic x.0 g rs x.2))
+module _ (limits : List (Option ℕ)) (ms : List Machine) (came : List Arrival) where
+  -- the transfers of a run of so many slots are of these slots
+  pub all_before : (n : ℕ) (f g : Marked Fabric) (rs : List LimitedRecord) →
+      LimitedFabricRun IsStable limits ms 0 (first_slots came n) f rs g →
+      AllByRecursion (λ t. t.slot < n) (moved rs)
+  all_before n f g rs run =
+      let long = arriving_length came 0 n in
+      weaker (λ t. t.slot < 0 + length (first_slots came n)) (λ t. t.slot < n) (λ t lt. omega arith) (moved rs)
+      (run_before limits ms 0 (first_slots came n) f g rs run)
 
-  module _ (came : List Arrival) (start : Marked Fabric) where
+  module _ (start : Marked Fabric) where
     Step : ℕ → List (Option Cell) → Marked Fabric → LimitedRecord → Marked Fabric → Type 0
     Step = LimitedFabricSlot IsStable limits ms
 
@@ -67,23 +62,15 @@ module _ (limits : List (Option ℕ)) (ms : List Machine) where
         shorter fewer =
             let n = length ss in
             let r = reach Step came start rs n (length rs) g (omega arith) (whole_run rs g w) in
-            let long = arriving_length came 0 n in
-            let first_before = run_before 0 (first_slots came n) start r.state (take n rs) r.after in
-            let others_before = run_before 0 (first_slots came n) start h ss (whole_run ss h v) in
             let later = run_later limits ms n (arriving_from came n (length rs - n)) r.state g (drop n rs) r.rest in
-            let below : (xs : List LimitedRecord) → AllByRecursion (λ t. t.slot < 0 + length (first_slots came n))
-            (moved xs) →
-            AllByRecursion (λ t. t.slot < n) (moved xs) = λ xs all.
-            weaker (λ t. t.slot < 0 + length (first_slots came n)) (λ t. t.slot < n) (λ t b. omega arith) (moved xs)
-            all in
             let parted : moved (take n rs) ++ moved (drop n rs) ≡ moved ss ++ [] =
             sym (moved_parts (take n rs) (drop n rs)) ∙ ap moved (take-append-drop n rs) ∙ same ∙ sym
             (append-nil (moved ss)) in
             let both = same_parts (λ t. t.slot < n) (moved (take n rs)) (moved (drop n rs)) (moved ss) []
-            (below (take n rs) first_before)
+            (all_before n start r.state (take n rs) r.after)
             (weaker (λ t. n ≤ t.slot) (λ t. t.slot < n → ⊥) (λ t l b. let P : ⊥ = omega arith in P)
             (moved (drop n rs)) later)
-            (below ss others_before) tt parted in
+            (all_before n start h ss (whole_run ss h v)) tt parted in
             let one = one_stable_run limits ms 0 (first_slots came n) start r.state h (take n rs) ss r.after
             (whole_run ss h v) both.0 in
             w.first n r.state r.after v.all_came

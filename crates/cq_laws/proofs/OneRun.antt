@@ -37,7 +37,7 @@ same_lists_at as' bs n h = ext_get_or [] as' bs n (λ i _. h i)
 one_result : (a b : Ranking) (x : Result Ranking TagFault) → x ≡ Ok a → x ≡ Ok b → a ≡ b
 one_result a b x e f = let ok : ◌≡◌ {A = Result Ranking TagFault} (Ok a) (Ok b) = sym e ∙ f in cc
 
-one_arrival : (ms : List Machine) (slot : ℕ) (cells : List (Option Cell)) (c d : List (Option Queued))
+pub one_arrival : (ms : List Machine) (slot : ℕ) (cells : List (Option Cell)) (c d : List (Option Queued))
     (old a b : Fabric) → Arrives ms slot cells c old a → Arrives ms slot cells d old b → (c ≡ d) × (a ≡ b)
 one_arrival ms slot cells c d old a b x y =
     let ranked : ◌≡◌ {A = Ranking} (record { came = c; ranks = a.ranks }) (record { came = d; ranks = b.ranks }) =
@@ -63,7 +63,7 @@ offer_of old m stable i j e =
     ((is_output_order (input old i)).offered j).0 (subst (λ l. IsListed l j) (outputs_at old.inputs i)
     (stable.matching.offered i j e))
 
-one_transfer : (m : Partners) (old a b : Fabric) → IsStable (orders_of old.inputs) m → Transfers m old a →
+pub one_transfer : (m : Partners) (old a b : Fabric) → IsStable (orders_of old.inputs) m → Transfers m old a →
     Transfers m old b → a ≡ b
 one_transfer m old a b stable x y =
     same_fabric a b
@@ -88,7 +88,7 @@ one_move m n a b c d e f stable x y =
     one_transfer m a c d stable x (subst (λ (q : Partners). Transfers q a d) (sym f)
     (subst (λ (g : Fabric). Transfers n g d) (sym e) y))
 
-one_departure : (ms : List Machine) (u v : List (Option Queued)) (a b c d : Fabric) → a ≡ b → Departs ms u a c →
+pub one_departure : (ms : List Machine) (u v : List (Option Queued)) (a b c d : Fabric) → a ≡ b → Departs ms u a c →
     Departs ms v b d → (u ≡ v) × (c ≡ d)
 one_departure ms u v a b c d e x y =
     let gone : u ≡ v = x.sent ∙ ap (λ (q : Fabric). fronts q.buffers) e ∙ sym y.sent in (
@@ -101,7 +101,7 @@ one_departure ms u v a b c d e x y =
 
 -- ## One slot
 
-same_record : (a b : SlotRecord) → a.slot ≡ b.slot → a.came ≡ b.came → a.arrived ≡ b.arrived → a.first ≡ b.first →
+pub same_record : (a b : SlotRecord) → a.slot ≡ b.slot → a.came ≡ b.came → a.arrived ≡ b.arrived → a.first ≡ b.first →
     a.filled ≡ b.filled → a.gone ≡ b.gone → a.sent ≡ b.sent → a.second ≡ b.second → a ≡ b
 same_record a b e1 e2 e3 e4 e5 e6 e7 e8 =
     λ k. record {
