@@ -141,8 +141,9 @@ module _ (ports : ℕ) (ranks : List (List ℕ)) where
   nowhere (Waiting i t) c h = no_place i t c h
   nowhere (Crossed j t) c h = no_place j t c h
 
-  pub empty_agree : Agrees 0 (empty_fabric ports ranks) (empty_ideal ports ranks)
-  empty_agree = record {
+  -- without cells they agree, whatever the slot
+  pub empty_agree_at : (slot : ℕ) → Agrees slot (empty_fabric ports ranks) (empty_ideal ports ranks)
+  empty_agree_at slot = record {
     fabric = record {
       square = refl;
       outputs = λ i c h. absurd (no_cell i c h);
@@ -162,6 +163,9 @@ module _ (ports : ℕ) (ranks : List (List ℕ)) where
     earlier = λ p c h. absurd (nowhere p c h);
     slack = λ i t c h. absurd (no_place i t c h);
   }
+
+  pub empty_agree : Agrees 0 (empty_fabric ports ranks) (empty_ideal ports ranks)
+  empty_agree = empty_agree_at 0
 
   pub traffic_for_empty : (class_count : ℕ) (traffic : List (List (Option Cell))) →
       AllByRecursion (AreForPorts ports class_count) traffic →
