@@ -1,11 +1,11 @@
 -- Lists that are new up to a place, and old from it on.
-use Rattle.std.proofs.Common.{◌≡◌, ℕ, ◌+◌, ◌<◌, ◌≤◌, List, length, map, get_or, set, drop, Some, sym, ap, ◌∙◌, arith}
+use Rattle.std.proofs.Common.{◌≡◌, ℕ, ◌+◌, ◌<◌, ◌≤◌, List, length, map, get_or, set, drop, Some, refl, sym, ap, ◌∙◌, subst, arith}
 use Rattle.std.specs.Prelude.{slice_get}
 use Rattle.std.specs.List.{enumerate_from}
 use Rattle.std.proofs.lemmas.List.FromFn.{length-enumerate_from, get_or-enumerate_from}
 use Rattle.std.proofs.lemmas.Option.{slice_get-get_or}
-use Rattle.cq_ideal.proofs.Changed.{at_place, changed_to, length-changed, next_place}
-use Rattle.std.proofs.lemmas.List.{drop-drop, drop-set-lt, length-map, get_or-map}
+use Rattle.cq_ideal.proofs.Changed.{at_end, at_place, changed_to, next_place}
+use Rattle.std.proofs.lemmas.List.{drop-drop, drop-set-lt, get_or-map, length-map, length-set, set-get_or}
 
 -- one item more is written, and those behind it are as they were
 pub still_behind : {X : Type 0} (now old : List X) (j : ℕ) (y : X) → drop j now ≡ drop j old →
@@ -28,7 +28,7 @@ module _ {X : Type 0} (f : ℕ → X → X) (xs : List X) where
       ∙ ap (λ k. f k (get_or xs i d)) (let e : 0 + i ≡ i = omega arith in e)
 
   -- one item more is changed
-  pub by_place_next : (now : List X) (i : ℕ) (y d : X) →
+  by_place_next : (now : List X) (i : ℕ) (y d : X) →
       now ≡ changed_to (map (λ at. f at.0 at.1) (enumerate_from 0 xs)) xs i → i < length xs →
       y ≡ f i (get_or now i d) → set now i y ≡ changed_to (map (λ at. f at.0 at.1) (enumerate_from 0 xs)) xs (i + 1)
   by_place_next now i y d so_far inside is =
@@ -39,7 +39,7 @@ module _ {X : Type 0} (f : ℕ → X → X) (xs : List X) where
       ∙ sym (at-by_place i d inside))
 
   -- an item that has not been changed
-  pub not_yet : (now : List X) (i : ℕ) (d : X) →
+  not_yet : (now : List X) (i : ℕ) (d : X) →
       now ≡ changed_to (map (λ at. f at.0 at.1) (enumerate_from 0 xs)) xs i → i < length xs →
       slice_get xs i ≡ Some (get_or now i d)
   not_yet now i d so_far inside =
@@ -48,7 +48,38 @@ module _ {X : Type 0} (f : ℕ → X → X) (xs : List X) where
       (sym (ap (λ l. get_or l i d) so_far
       ∙ at_place (map (λ at. f at.0 at.1) (enumerate_from 0 xs)) xs i d length-by_place inside))
 
-  pub still_long : (now : List X) (i : ℕ) → now ≡ changed_to (map (λ at. f at.0 at.1) (enumerate_from 0 xs)) xs i →
-      i ≤ length xs → length now ≡ length xs
-  still_long now i so_far within =
-      ap length so_far ∙ length-changed (map (λ at. f at.0 at.1) (enumerate_from 0 xs)) xs i length-by_place
+-- the items before a place are changed, and the others are as they were
+pub record IsChangedTo {X : Type 0} (f : ℕ → X → X) (xs : List X) (n : ℕ) (now : List X) : Type 0 where
+  pub items : now ≡ changed_to (map (λ at. f at.0 at.1) (enumerate_from 0 xs)) xs n
+  pub long : length now ≡ length xs
+
+module _ {X : Type 0} {f : ℕ → X → X} {xs : List X} {n : ℕ} {now : List X} (so_far : IsChangedTo f xs n now) where
+  -- a number that is less than this in each item is so in the next one, as it is read
+  pub still_few : (number : X → ℕ) (d : X) → n < length xs → {most : ℕ} →
+      ((i : ℕ) (x : X) → slice_get xs i ≡ Some x → number x < most) → {seen : List X} → seen ≡ now →
+      number (get_or seen n d) < most
+  still_few number d inside {most} all is =
+      subst (λ l. number (get_or l n d) < most) (sym is)
+      (all n (get_or now n d) (not_yet f xs now n d so_far.items inside))
+
+  -- it is changed
+  pub next_changed : (d y : X) → n < length xs → (seen : List X) → seen ≡ now → y ≡ f n (get_or seen n d) →
+      (more : List X) → more ≡ set now n y → IsChangedTo f xs (n + 1) more
+  next_changed d y inside seen is one more put =
+      record {
+        items =
+            put
+            ∙ by_place_next f xs now n y d so_far.items inside (one ∙ ap (λ l. f n (get_or l n d)) is);
+        long = ap length put ∙ length-set now n y ∙ so_far.long;
+      }
+
+  -- or is what it would be
+  pub next_kept : (d : X) → n < length xs → get_or now n d ≡ f n (get_or now n d) → (more : List X) → more ≡ now →
+      IsChangedTo f xs (n + 1) more
+  next_kept d inside same more is =
+      next_changed d (get_or now n d) inside now refl same more (is ∙ sym (set-get_or now n d))
+
+  pub all_changed : length xs ≤ n → now ≡ map (λ at. f at.0 at.1) (enumerate_from 0 xs)
+  all_changed past =
+      so_far.items
+      ∙ at_end (map (λ at. f at.0 at.1) (enumerate_from 0 xs)) xs n (length-by_place f xs) past

@@ -1,11 +1,11 @@
 -- Cells that come into an empty list or an empty buffer in the order in which they are to stand. Each finds those
 -- ahead of it alone: in a list all more urgent cells for its output stand there, and no less urgent one, so that it
 -- goes in at the end; in a buffer all have lesser keys.
-use Rattle.std.proofs.Common.{◌≡◌, ◌≢◌, ℕ, ◌+◌, ◌<◌, ◌^◌, cond, Bool, false, List, [], ◌∷◌, ◌++◌, length, map, get_or, take, drop, replicate, Some, refl, sym, ap, ◌∙◌, subst, ⊎_elim, arith}
+use Rattle.std.proofs.Common.{◌≡◌, ◌≢◌, ℕ, ◌+◌, ◌<◌, ◌≤◌, ◌^◌, cond, Bool, false, List, [], ◌∷◌, ◌++◌, length, map, get_or, take, drop, replicate, Some, refl, sym, ap, ◌∙◌, subst, ⊎_elim, arith}
 use Rattle.std.specs.Prelude.{◌&&◌, All, insert, slice_get}
 use Rattle.std.specs.List.{AllByRecursion}
 use Rattle.std.proofs.lemmas.Bool.{and_left, and_right, cases_Bool, eqb-true}
-use Rattle.std.proofs.lemmas.List.{drop_all, drop_more, get_or-map, length-map, length-take-le, take-append-drop, take_all, take_more}
+use Rattle.std.proofs.lemmas.List.{drop_all, drop_more, get_or-map, get_or_read, length-map, length-take-le, take-append-drop, take_all, take_more}
 use Rattle.std.proofs.lemmas.List.Elements.{All-from_recursion, All-push}
 use Rattle.std.proofs.lemmas.Option.{same_Some, slice_get-get_or}
 use Rattle.cq_base.specs.declared.cell.Queued.{Queued}
@@ -133,7 +133,27 @@ module _ (cells : List Queued) (rising : IsRising cells) (at : ℕ) (inside : at
       ∙ put_last (get_or cells at d) (take at cells) (before_place IsBefore cells at d inside rising)
       ∙ sym (take_more cells at d inside)
 
+-- ## Room
+
+-- what is spare as the cells before a place stand there
+module _ (cells : List Queued) (at : ℕ) (inside : at < length cells) (xs : List Queued) (spare room : ℕ)
+    (so_far : xs ≡ take at cells) (is : length xs + spare ≡ room) where
+  pub still_spare : length cells ≤ room → 0 < spare
+  still_spare fits = let long = ap length so_far in omega (arith, length-take-le at cells (omega arith))
+
+  pub room_stays : (more : List Queued) (left : ℕ) → more ≡ take (at + 1) cells → left + 1 ≡ spare →
+      length more + left ≡ room
+  room_stays more left next one =
+      let long = ap length so_far in
+      let longer = ap length next in
+      omega (arith, length-take-le at cells (omega arith), length-take-le (at + 1) cells (omega arith))
+
 -- ## All lists, and all buffers
+
+-- what is read of one of some lists
+pub given_at : (lists : List (List Queued)) (i : ℕ) {n : ℕ} {list cells : List Queued} → list ≡ get_or lists i list →
+    i < n → length lists ≡ n → cells ≡ list → cells ≡ list_of lists i
+given_at lists i {n} {list} read inside as_many is = is ∙ get_or_read lists i list (omega arith) read []
 
 -- the lists of the first n inputs have their cells, and these rooms
 pub record Filled (sizes : List ℕ) (cells : List (List Queued)) (n : ℕ) (lists : List Waiting) : Type 0 where
@@ -141,11 +161,11 @@ pub record Filled (sizes : List ℕ) (cells : List (List Queued)) (n : ℕ) (lis
   pub rooms : map list_room lists ≡ take n sizes
   pub outputs : map (λ list. list.outputs) lists ≡ replicate n (length sizes)
 
-pub one_filled : (sizes : List ℕ) (cells : List (List Queued)) (n : ℕ) (lists more : List Waiting) (w : Waiting) →
+pub one_filled : {sizes : List ℕ} {cells : List (List Queued)} {n : ℕ} {lists more : List Waiting} (w : Waiting) →
     Filled sizes cells n lists → more ≡ lists ++ w ∷ [] → n < length sizes → length cells ≡ length sizes →
     w.cells ≡ list_of cells n → list_room w ≡ get_or sizes n 0 → w.outputs ≡ length sizes →
     Filled sizes cells (n + 1) more
-one_filled sizes cells n lists more w so_far is inside as_many here room outputs =
+one_filled {sizes} {cells} {n} {lists} {more} w so_far is inside as_many here room outputs =
     let within : n < length cells = omega arith in
     let none : List Queued = [] in
     let cells_at : Waiting → List Queued = λ x. x.cells in
@@ -162,11 +182,11 @@ pub record Stored (sizes : List ℕ) (cells : List (List Queued)) (n : ℕ) (buf
   pub rooms : map buffer_room buffers ≡ take n sizes
   pub few : All (λ room. room < 2 ^ 64) (take n sizes)
 
-pub one_stored : (sizes : List ℕ) (cells : List (List Queued)) (n : ℕ) (buffers more : List Buffered) (b : Buffered) →
+pub one_stored : {sizes : List ℕ} {cells : List (List Queued)} {n : ℕ} {buffers more : List Buffered} (b : Buffered) →
     Stored sizes cells n buffers → more ≡ buffers ++ b ∷ [] → n < length sizes → length cells ≡ length sizes →
     b.cells ≡ list_of cells n → buffer_room b ≡ get_or sizes n 0 → get_or sizes n 0 < 2 ^ 64 →
     Stored sizes cells (n + 1) more
-one_stored sizes cells n buffers more b so_far is inside as_many here room one =
+one_stored {sizes} {cells} {n} {buffers} {more} b so_far is inside as_many here room one =
     let within : n < length cells = omega arith in
     let none : List Queued = [] in
     let cells_at : Buffered → List Queued = λ x. x.cells in

@@ -19,7 +19,7 @@ use Rattle.cq_xbar.proofs.OneEach.{partner_or_free, put_length}
 use Rattle.cq_laws.specs.Fabric.{Fabric, input, buffer, cushion_of}
 use Rattle.cq_laws.specs.Phases.{came_to, list_arrived, Transfers}
 use Rattle.cq_laws.specs.FabricSlot.{SlotRecord, FabricSlot}
-use Rattle.cq_laws.proofs.Came.{came_from}
+use Rattle.cq_laws.proofs.Came.{came_cell}
 use Rattle.cq_laws.proofs.Falls.{rest_of}
 use Rattle.cq_ideal.specs.Admission.{Admission, Marked, admission, mark_at, marks_after, unless}
 use Rattle.cq_ideal.specs.Ideal.{count_for}
@@ -189,15 +189,10 @@ moved m old new matching step j =
 
 module _ (ms : List Machine) (slot : ℕ) (cells : List (Option Cell)) (f g : Fabric) (r : SlotRecord)
     (step : FabricSlot IsStable ms slot cells f r g) where
-  came_is : (i : ℕ) (c : Queued) → came_to r.came i ≡ Some c → arrival_at cells i ≡ Some c.cell
-  came_is i c is =
-      (came_from ms slot 0 cells f.ranks (record { came = r.came; ranks = r.arrived.ranks }) step.arrive.ranked i c
-      is).cell_is
-
   pub lists_kept : (i : ℕ) → length (input g i) ≤ length (input f i) + bit (is_some (arrival_at cells i))
   lists_kept i =
       let a = ap length (step.arrive.lists i) in
-      let b = longer_one f (came_to r.came i) (arrival_at cells i) (input f i) (came_is i) in
+      let b = longer_one f (came_to r.came i) (arrival_at cells i) (input f i) (came_cell step.arrive i) in
       let c = ap length (step.fill.moves.taken i) in
       let d = length_taken (partner_of r.first i) (input r.arrived i) in
       let e = ap (λ ls. length (list_of ls i)) step.depart.inputs in
@@ -210,7 +205,8 @@ module _ (ms : List Machine) (slot : ℕ) (cells : List (Option Cell)) (f g : Fa
       let came =
       sum_comes j r.arrived.inputs f.inputs cells step.arrive.ports (λ i.
       let e = ap (count j) (step.arrive.lists i) in
-      let l = came_one f j (came_to r.came i) (arrival_at cells i) (input f i) (came_is i) in omega arith) in
+      let l = came_one f j (came_to r.came i) (arrival_at cells i) (input f i) (came_cell step.arrive i) in
+      omega arith) in
       let same = ap (λ bs. length (list_of bs j)) step.arrive.buffers in
       let first = moved r.first r.arrived r.filled step.first_chosen.matching step.fill j in
       let lists = ap (waiting_for j) step.depart.inputs in

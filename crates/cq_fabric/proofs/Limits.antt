@@ -78,7 +78,6 @@ pub numbers_fit : (q : Queues) (ranks : List (List ℕ)) (l : LimiterView) (cell
     ((j : ℕ) → length (list_of q.buffers j) ≤ get_or q.to_outputs j 0) → ((j : ℕ) → get_or q.to_outputs j 0 < 2 ^ 64) →
     (j : ℕ) → j < length l.limits → get_or l.held j 0 + count_for j cells < 2 ^ 64
 numbers_fit q ranks l cells holds room within top j inside =
-    let ports = holds.ports in
     let had = room j (omega arith) in
     let fits = within j in
     let most = top j in

@@ -8,7 +8,7 @@ use Rattle.std.specs.Prelude.{All, insert}
 use Rattle.std.specs.List.{IsDistinct}
 use Rattle.std.proofs.Math.ListN.{get_or-map}
 use Rattle.std.proofs.lemmas.Bool.{cases_eq, cases_lt}
-use Rattle.std.proofs.lemmas.List.{length-map, length-replicate, get_or_past, get_or-replicate, get_or-set_same, get_or-set_other}
+use Rattle.std.proofs.lemmas.List.{length-map, length-replicate, get_or_past, get_or-replicate, get_or-set_same, get_or-set_other, length-set}
 use Rattle.cq_base.specs.declared.cell.Queued.{Queued}
 use Rattle.cq_base.specs.declared.key.Key.{Key}
 use Rattle.cq_base.specs.Cells.{MoreUrgentAhead, cushion, first_for, with_arrival, place_of_arrival}
@@ -61,7 +61,7 @@ nothing_offered k =
           (subst (λ cells. IsOutputOrder cells nobody) (sym (empty_at k i))
           (record {
             differ = tt;
-            offered = λ j. (λ h. absurd (omega arith), λ h. absurd (let no = h.1 in let P : ⊥ = cc in P));
+            offered = λ j. (λ h. absurd (omega arith), λ h. absurd (let P : ⊥ = cc in P));
             by_place = λ j l h. absurd (let end = place_in-le-length [] l in omega arith);
           }));
       inputs = λ j _.
@@ -96,14 +96,34 @@ among_with buffers (Some c) w d h =
     ⊎_elim (λ e. inl (ap Some e)) (λ k. inr k)
     (among_insert w.cells (place_of_arrival (cushion c.key (list_of buffers c.cell.output)) c w.cells) c d h)
 
-module _ (lists lists' : List Waiting) (o : Orders) (n place : ℕ) (c : Queued) (comes : Comes lists o n c)
-    (long : length lists' ≡ length lists) (here : (list_at lists' n).cells ≡ insert (list_at lists n).cells place c)
-    (others : (k : ℕ) → k ≢ n → list_at lists' k ≡ list_at lists k) where
+-- a cell has come to the list of input n with this cushion, and to no other
+pub record HasCome (lists lists' : List Waiting) (n cushion : ℕ) (c : Queued) : Type 0 where
+  pub long : length lists' ≡ length lists
+  pub here : (list_at lists' n).cells ≡ with_arrival cushion c (list_at lists n).cells
+  pub others : (k : ℕ) → k ≢ n → list_at lists' k ≡ list_at lists k
+
+-- the list of an input that has been set
+pub set_came : (lists : List Waiting) (n cushion : ℕ) (c : Queued) (old w : Waiting) → n < length lists →
+    w.cells ≡ with_arrival cushion c (get_or lists n old).cells → HasCome lists (set lists n w) n cushion c
+set_came lists n cushion c old w inside cells =
+    record {
+      long = length-set lists n w;
+      here =
+          ap (λ (x : Waiting). x.cells) (get_or-set_same lists n w no_list inside) ∙ cells
+          ∙ ap (λ (x : Waiting). with_arrival cushion c x.cells) (get_or_same lists n old no_list inside);
+      others = λ k other. get_or-set_other lists n k w no_list other;
+    }
+
+module _ {lists lists' : List Waiting} {o : Orders} {n cushion : ℕ} {c : Queued} (comes : Comes lists o n c)
+    (come : HasCome lists lists' n cushion c) where
+  abbrev place : ℕ
+  place = place_of_arrival cushion c (list_at lists n).cells
+
   other_list : (k : ℕ) → k ≢ n → list_of (cells_of lists') k ≡ list_of (cells_of lists) k
-  other_list k ne = cells-at lists' k ∙ ap (λ (w : Waiting). w.cells) (others k ne) ∙ sym (cells-at lists k)
+  other_list k ne = cells-at lists' k ∙ ap (λ (w : Waiting). w.cells) (come.others k ne) ∙ sym (cells-at lists k)
 
   this_list : list_of (cells_of lists') n ≡ insert (list_of (cells_of lists) n) place c
-  this_list = cells-at lists' n ∙ here ∙ ap (λ l. insert l place c) (sym (cells-at lists n))
+  this_list = cells-at lists' n ∙ come.here ∙ ap (λ l. insert l place c) (sym (cells-at lists n))
 
   come_among : (k : ℕ) (d : Queued) → IsAmong d (list_of (cells_of lists') k) →
       ((k ≡ n) × (c ≡ d)) ⊎ IsAmong d (list_of (cells_of lists) k)
@@ -146,7 +166,7 @@ module _ (lists lists' : List Waiting) (o : Orders) (n place : ℕ) (c : Queued)
       ap (λ k. partner_of k n) is_m
       ∙ get_or-set_same (replicate (length lists) none) n (Some c.cell.output) none inside in
       let size : length (cells_of lists') ≡ length (cells_of lists) =
-      length-map lists' (λ (w : Waiting). w.cells) ∙ long ∙ sym (length-map lists (λ (w : Waiting). w.cells)) in
+      length-map lists' (λ (w : Waiting). w.cells) ∙ come.long ∙ sym (length-map lists (λ (w : Waiting). w.cells)) in
       subst (λ p. AreSameWithout m p (orders_of (cells_of lists'))) (sym comes.offered)
       (same_without m (cells_of lists) (cells_of lists') size
       (λ i. ⊎_elim
@@ -160,46 +180,28 @@ module _ (lists lists' : List Waiting) (o : Orders) (n place : ℕ) (c : Queued)
       (cases_eq i n))
       (firsts_apart (cells_of lists) comes.waiting) come_differ)
 
--- where a more urgent cell for its output waits there, the orders are all as before
-pub come_behind : (lists lists' : List Waiting) (o : Orders) (n cushion : ℕ) (c : Queued) →
-    o ≡ orders_of (cells_of lists) → length lists' ≡ length lists →
-    (list_at lists' n).cells ≡ with_arrival cushion c (list_at lists n).cells →
-    ((k : ℕ) → k ≢ n → list_at lists' k ≡ list_at lists k) →
-    key_before (first_key c.cell.output (list_at lists n).cells) (Some c.key) ≡ true →
-    MoreUrgentAhead cushion c (list_at lists n).cells → o ≡ orders_of (cells_of lists')
-come_behind lists lists' o n cushion c offered long here others before ahead =
-    let size = length-map lists (λ (w : Waiting). w.cells) in
-    let size' = length-map lists' (λ (w : Waiting). w.cells) in
-    let alike : OfferAlike (list_at lists n).cells (list_at lists' n).cells =
-    subst (OfferAlike (list_at lists n).cells) (sym here)
-    (comes_behind cushion c (list_at lists n).cells before ahead) in
-    let each : (k : ℕ) → OfferAlike (list_at lists k).cells (list_at lists' k).cells = λ k.
-    ⊎_elim
-    (λ is. subst (λ i. OfferAlike (list_at lists i).cells (list_at lists' i).cells) (sym is) alike)
-    (λ other.
-    subst (λ (w : Waiting). OfferAlike (list_at lists k).cells w.cells) (sym (others k other))
-    (record { firsts = λ _. refl; order = refl }))
-    (cases_eq k n) in
-    offered
-    ∙ sym
-    (same_offers (cells_of lists) (cells_of lists') (omega arith)
-    (λ k.
-    subst (λ xs. OfferAlike xs (list_of (cells_of lists') k)) (sym (cells-at lists k))
-    (subst (OfferAlike (list_at lists k).cells) (sym (cells-at lists' k)) (each k))))
-
--- the list of an input that has been set
-pub set_cells : (lists : List Waiting) (n cushion : ℕ) (c : Queued) (old w : Waiting) → n < length lists →
-    w.cells ≡ with_arrival cushion c (get_or lists n old).cells →
-    (list_at (set lists n w) n).cells
-    ≡ insert (list_at lists n).cells (place_of_arrival cushion c (list_at lists n).cells) c
-set_cells lists n cushion c old w inside cells =
-    ap (λ (x : Waiting). x.cells) (get_or-set_same lists n w no_list inside) ∙ cells
-    ∙ ap (λ (x : Waiting). insert x.cells (place_of_arrival cushion c x.cells) c)
-    (get_or_same lists n old no_list inside)
-
-pub set_others : (lists : List Waiting) (n : ℕ) (w : Waiting) (k : ℕ) → k ≢ n →
-    list_at (set lists n w) k ≡ list_at lists k
-set_others lists n w k other = get_or-set_other lists n k w no_list other
+  -- where a more urgent cell for its output waits there, the orders are all as before
+  pub come_behind : key_before (first_key c.cell.output (list_at lists n).cells) (Some c.key) ≡ true →
+      MoreUrgentAhead cushion c (list_at lists n).cells → o ≡ orders_of (cells_of lists')
+  come_behind before ahead =
+      let size = length-map lists (λ (w : Waiting). w.cells) in
+      let size' = length-map lists' (λ (w : Waiting). w.cells) in
+      let alike : OfferAlike (list_at lists n).cells (list_at lists' n).cells =
+      subst (OfferAlike (list_at lists n).cells) (sym come.here)
+      (comes_behind cushion c (list_at lists n).cells before ahead) in
+      let each : (k : ℕ) → OfferAlike (list_at lists k).cells (list_at lists' k).cells = λ k.
+      ⊎_elim
+      (λ is. subst (λ i. OfferAlike (list_at lists i).cells (list_at lists' i).cells) (sym is) alike)
+      (λ other.
+      subst (λ (w : Waiting). OfferAlike (list_at lists k).cells w.cells) (sym (come.others k other))
+      (record { firsts = λ _. refl; order = refl }))
+      (cases_eq k n) in
+      comes.offered
+      ∙ sym
+      (same_offers (cells_of lists) (cells_of lists') (omega arith)
+      (λ k.
+      subst (λ xs. OfferAlike xs (list_of (cells_of lists') k)) (sym (cells-at lists k))
+      (subst (OfferAlike (list_at lists k).cells) (sym (cells-at lists' k)) (each k))))
 
 pub come_outputs : (lists lists' : List Waiting) (n : ℕ) (c : Queued) (buffers : List (List Queued)) →
     length lists' ≡ length lists → list_at lists' n ≡ list_with buffers (Some c) (list_at lists n) →
@@ -254,7 +256,7 @@ module _ (came : List (Option Queued)) (buffers : List (List Queued)) (old now :
       IsAmong d (list_of (cells_of now) k) → d.key ≢ c.key
   older_so_far c is k d h e =
       ⊎_elim
-      (λ new. let same = come.each k n d c new.1 is e in let l = new.0 in omega arith)
+      (λ new. let same = come.each k n d c new.1 is e in omega arith)
       (λ old. come.older n k c d is old e)
       (was_or_came k d h)
 

@@ -4,7 +4,7 @@ use Rattle.std.proofs.Common.{◌≡◌, ℕ, zero, suc, ◌+◌, ◌<◌, ◌�
 use Rattle.std.specs.Prelude.{is_some, slice_get}
 use Rattle.std.proofs.Math.ListN.{get_or-map}
 use Rattle.std.proofs.lemmas.Bool.{cases_lt, cond_both}
-use Rattle.std.proofs.lemmas.List.{length-map, get_or_past, ext_get_or, drop_all, take_all, append-nil, get_or-replicate}
+use Rattle.std.proofs.lemmas.List.{length-map, get_or-map as get_or-map_inside, get_or_past, ext_get_or, drop_all, take_all, append-nil, get_or-replicate}
 use Rattle.std.proofs.lemmas.List.Edits.{length-insert}
 use Rattle.cq_base.specs.declared.cell.Queued.{Queued}
 use Rattle.cq_base.specs.Cells.{HasOtherKey, MoreUrgentAhead, cushion, is_for, first_for, without_first, place_of_arrival}
@@ -39,12 +39,6 @@ shown lists buffers =
       to_outputs = map buffer_room buffers;
     }
 
-no_buffer : Buffered
-no_buffer = record { cells = []; spare = 0 }
-
-buffer_at : List Buffered → ℕ → Buffered
-buffer_at buffers j = get_or buffers j no_buffer
-
 pub cells-at : (lists : List Waiting) (i : ℕ) → list_of (cells_of lists) i ≡ (list_at lists i).cells
 cells-at lists i = get_or-map (λ (w : Waiting). w.cells) lists i no_list
 
@@ -54,40 +48,51 @@ room-at lists i = get_or-map (λ (w : Waiting). length w.cells + w.spare) lists 
 list_spare-at : (lists : List Waiting) (i : ℕ) → list_spare lists i ≡ (list_at lists i).spare
 list_spare-at lists i = get_or-map (λ (w : Waiting). w.spare) lists i no_list
 
-cells_in-at : (buffers : List Buffered) (j : ℕ) → list_of (cells_in buffers) j ≡ (buffer_at buffers j).cells
-unfolding buffer_at no_buffer
-cells_in-at buffers j = get_or-map (λ (b : Buffered). b.cells) buffers j no_buffer
-
-buffer_room-at : (buffers : List Buffered) (j : ℕ) →
-    get_or (map buffer_room buffers) j 0 ≡ buffer_room (buffer_at buffers j)
-unfolding buffer_at no_buffer
-buffer_room-at buffers j = get_or-map (λ (b : Buffered). length b.cells + b.spare) buffers j no_buffer
-
-buffer_spare-at : (buffers : List Buffered) (j : ℕ) → buffer_spare buffers j ≡ (buffer_at buffers j).spare
-unfolding buffer_at no_buffer
-buffer_spare-at buffers j = get_or-map (λ (b : Buffered). b.spare) buffers j no_buffer
-
 -- a room is what waits and what is spare
+room_is : {X : Type 0} (cells : X → List Queued) (spare : X → ℕ) (none : X) (items : List X) (i : ℕ) →
+    get_or (map (λ x. length (cells x) + spare x) items) i (length (cells none) + spare none)
+    ≡ length (get_or (map cells items) i (cells none)) + get_or (map spare items) i (spare none)
+room_is {X} cells spare none items i =
+    let room = get_or-map (λ (x : X). length (cells x) + spare x) items i none in
+    let waits = ap length (get_or-map cells items i none) in
+    let left = get_or-map spare items i none in
+    omega arith
+
 list_room-is : (lists : List Waiting) (i : ℕ) →
     get_or (map list_room lists) i 0 ≡ length (list_of (cells_of lists) i) + list_spare lists i
-list_room-is lists i =
-    let r = room-at lists i in
-    let c = ap length (cells-at lists i) in
-    let s = list_spare-at lists i in
-    omega arith
+list_room-is lists i = room_is (λ (w : Waiting). w.cells) (λ (w : Waiting). w.spare) no_list lists i
 
 buffer_room-is : (buffers : List Buffered) (j : ℕ) →
     get_or (map buffer_room buffers) j 0 ≡ length (list_of (cells_in buffers) j) + buffer_spare buffers j
 buffer_room-is buffers j =
-    let r = buffer_room-at buffers j in
-    let c = ap length (cells_in-at buffers j) in
-    let s = buffer_spare-at buffers j in
-    omega arith
+    room_is (λ (b : Buffered). b.cells) (λ (b : Buffered). b.spare) (record { cells = []; spare = 0 }) buffers j
 
 pub get_or_same : {X : Type 0} (xs : List X) (i : ℕ) (d e : X) → i < length xs → get_or xs i d ≡ get_or xs i e
 get_or_same [] i d e l = absurd (omega arith)
 get_or_same (x ∷ xs) zero d e l = refl
 get_or_same (x ∷ xs) (suc i) d e l = get_or_same xs i d e (omega arith)
+
+-- ## Lists of lists
+
+mapped_long : {X Y : Type 0} (f : X → Y) (new old : List X) → length (map f new) ≡ length (map f old) →
+    length new ≡ length old
+mapped_long f new old same = sym (length-map new f) ∙ same ∙ length-map old f
+
+-- rooms that are the same place by place
+same_rooms : {X : Type 0} (room : X → ℕ) (new old : List X) → length new ≡ length old →
+    ((i : ℕ) → i < length new → get_or (map room new) i 0 ≡ get_or (map room old) i 0) → map room new ≡ map room old
+same_rooms room new old long each =
+    ext_get_or 0 (map room new) (map room old) (length-map new room ∙ long ∙ sym (length-map old room))
+    (λ i l. each i (let e = length-map new room in omega arith))
+
+-- what is seen of items of which one is read
+module _ {X : Type 0} (f : X → List Queued) (items : List X) (seen : List (List Queued)) (is : map f items ≡ seen)
+    (i : ℕ) where
+  pub seen_inside : i < length seen → i < length items
+  seen_inside inside = let many = ap length is in let long = length-map items f in omega arith
+
+  pub seen_at : (x : X) → i < length items → x ≡ get_or items i x → f x ≡ list_of seen i
+  seen_at x inside read = ap f read ∙ sym (get_or-map_inside f items i x [] inside) ∙ ap (λ l. list_of l i) is
 
 -- ## Arrivals
 
@@ -95,11 +100,8 @@ pub fit_each : (lists : List Waiting) (buffers : List Buffered) (came : List (Op
     AreSquare lists buffers n → FitLists came (shown lists buffers) → FitEach (cells_in buffers) came lists
 fit_each lists buffers came n square fit i c inside is =
     let f = fit i c is in
-    let room = f.room in
     let room_is = list_room-is lists i in
     let spare = list_spare-at lists i in
-    let out = f.output in
-    let as_many = square.as_many in
     let lists_long = length-map lists (λ (w : Waiting). w.cells) in
     let buffers_long = length-map buffers (λ (b : Buffered). b.cells) in
     let outputs = square.outputs i no_list inside in
@@ -161,7 +163,7 @@ module _ {lists : List Waiting} {buffers : List Buffered} {came : List (Option Q
       ∙ ap (list_arrived (fabric_of (shown lists buffers) []) (came_to came i)) (sym (cells-at lists i)))
       (λ past.
       get_or_past (cells_of lists') i []
-      (let e = length-map lists' (λ (w : Waiting). w.cells) in let long = known.long in omega arith)
+      (let e = length-map lists' (λ (w : Waiting). w.cells) in omega arith)
       ∙ sym (get_or_past (cells_of lists) i [] (let e = length-map lists (λ (w : Waiting). w.cells) in omega arith))
       ∙ ap (λ o. list_arrived (fabric_of (shown lists buffers) []) o (list_of (cells_of lists) i))
       (sym (nobody_past i past (came_to came i) refl)))
@@ -169,23 +171,17 @@ module _ {lists : List Waiting} {buffers : List Buffered} {came : List (Option Q
 
   pub arrived_rooms : map list_room lists' ≡ map list_room lists
   arrived_rooms =
-      ext_get_or 0 (map list_room lists') (map list_room lists)
-      (length-map lists' (λ (w : Waiting). length w.cells + w.spare) ∙ known.long
-      ∙ sym (length-map lists (λ (w : Waiting). length w.cells + w.spare)))
-      (λ i l.
-      let inside : i < length lists =
-      let e = length-map lists' (λ (w : Waiting). length w.cells + w.spare) in let long = known.long in omega arith in
-      room-at lists' i ∙ ap (λ (w : Waiting). length w.cells + w.spare) (known.each i inside)
+      same_rooms list_room lists' lists known.long (λ i l.
+      let inside : i < length lists = omega arith in
+      room-at lists' i ∙ ap list_room (known.each i inside)
       ∙ room_with (cells_in buffers) (came_to came i) (list_at lists i)
       (λ c is. (fit_each lists buffers came n known.square known.fit i c inside is).room)
       ∙ sym (room-at lists i))
 
   pub arrived_square : AreSquare lists' buffers n
   arrived_square =
-      let few = known.square.few in
       let as_many = known.square.as_many in
       let offered = known.square.offered in
-      let long = known.long in
       record {
         few = omega arith;
         as_many = as_many ∙ sym known.long;
@@ -251,21 +247,14 @@ pub record HaveCrossed (m : Partners) (lists : List Waiting) (buffers : List Buf
 module _ {m : Partners} {lists : List Waiting} {buffers : List Buffered} {lists' : List Waiting}
     {buffers' : List Buffered} (known : HaveCrossed m lists buffers lists' buffers') where
   pub lists_long : length lists' ≡ length lists
-  lists_long =
-      sym (length-map lists' (λ (w : Waiting). w.cells)) ∙ known.moves.ports.0
-      ∙ length-map lists (λ (w : Waiting). w.cells)
+  lists_long = mapped_long (λ (w : Waiting). w.cells) lists' lists known.moves.ports.0
 
   pub buffers_long : length buffers' ≡ length buffers
-  buffers_long =
-      sym (length-map buffers' (λ (b : Buffered). b.cells)) ∙ known.moves.ports.1
-      ∙ length-map buffers (λ (b : Buffered). b.cells)
+  buffers_long = mapped_long (λ (b : Buffered). b.cells) buffers' buffers known.moves.ports.1
 
   pub crossed_list_rooms : map list_room lists' ≡ map list_room lists
   crossed_list_rooms =
-      ext_get_or 0 (map list_room lists') (map list_room lists)
-      (length-map lists' (λ (w : Waiting). length w.cells + w.spare) ∙ lists_long
-      ∙ sym (length-map lists (λ (w : Waiting). length w.cells + w.spare)))
-      (λ i l.
+      same_rooms list_room lists' lists lists_long (λ i _.
       let now = list_room-is lists' i in
       let then = list_room-is lists i in
       let taken = ap length (known.moves.taken i) in
@@ -276,10 +265,7 @@ module _ {m : Partners} {lists : List Waiting} {buffers : List Buffered} {lists'
 
   pub crossed_buffer_rooms : map buffer_room buffers' ≡ map buffer_room buffers
   crossed_buffer_rooms =
-      ext_get_or 0 (map buffer_room buffers') (map buffer_room buffers)
-      (length-map buffers' (λ (b : Buffered). length b.cells + b.spare) ∙ buffers_long
-      ∙ sym (length-map buffers (λ (b : Buffered). length b.cells + b.spare)))
-      (λ j l.
+      same_rooms buffer_room buffers' buffers buffers_long (λ j _.
       let now = buffer_room-is buffers' j in
       let then = buffer_room-is buffers j in
       ⊎_elim
@@ -297,7 +283,6 @@ module _ {m : Partners} {lists : List Waiting} {buffers : List Buffered} {lists'
 
   pub crossed_square : (n : ℕ) → AreSquare lists buffers n → AreSquare lists' buffers' n
   crossed_square n square =
-      let few = square.few in
       record {
         few = let e = lists_long in omega arith;
         as_many = buffers_long ∙ square.as_many ∙ sym lists_long;

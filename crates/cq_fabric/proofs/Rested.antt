@@ -1,7 +1,7 @@
 -- Slots in which nothing waits and nothing comes. The first of them tells each machine that its output was idle, and
 -- the others change nothing. After them the fabric is as empty as before, so it is in step with an ideal switch that
 -- is empty too.
-use Rattle.std.proofs.Common.{◌≡◌, ℕ, zero, suc, ◌<◌, ◌≤◌, Bool, List, Option, length, replicate, refl, sym, ap, ◌∙◌, subst, arith}
+use Rattle.std.proofs.Common.{◌≡◌, ℕ, zero, suc, ◌<◌, Bool, List, Option, length, replicate, refl, sym, ap, ◌∙◌, subst, arith}
 use Rattle.cq_base.specs.Arrivals.{no_arrivals}
 use Rattle.cq_rank.specs.Machine.{Machine}
 use Rattle.cq_ideal.specs.Admission.{marked}
@@ -17,7 +17,7 @@ use Rattle.cq_laws.specs.LimitedFabric.{LimitedFabricRun}
 use Rattle.cq_laws.specs.LimitedQuiet.{quiet_limited_slots}
 use Rattle.cq_laws.proofs.NothingRefused.{none_come, run_with}
 use Rattle.cq_laws.proofs.QuietSlots.{empty_is, quiet_run}
-use Rattle.cq_laws.proofs.WholeRuns.{empty_agree}
+use Rattle.cq_laws.proofs.WholeRuns.{empty_agree_at}
 use Rattle.cq_ideal.specs.Limiter.{LimiterView}
 use Rattle.cq_laws.specs.Holding.{fabric_held}
 use Rattle.cq_fabric.specs.Held.{HoldsFabric}
@@ -64,20 +64,6 @@ rested_run ms ports count slot f rested empty square long some is again =
     subst (λ (from : Fabric). Run from (with_ranks f rested)) (sym opening)
     (subst (λ (to : Fabric). Run (empty_fabric ports f.ranks) (with_ranks to rested)) (sym opening) there)
 
-agrees_later : (slot later : ℕ) (f : Fabric) (ideal : IdealState) → slot ≤ later → Agrees slot f ideal →
-    Agrees later f ideal
-agrees_later slot later f ideal le a = record {
-  fabric = a.fabric;
-  ports = a.ports;
-  ranks = a.ranks;
-  rising = a.rising;
-  same = a.same;
-  order = a.order;
-  differ = a.differ;
-  earlier = λ p c at. let before = a.earlier p c at in omega arith;
-  slack = a.slack;
-}
-
 -- an empty fabric agrees with an empty ideal switch, whatever the slot
 pub rested_agrees : (slot later : ℕ) (f : Fabric) (ideal : IdealState) (rested : List (List ℕ)) → IsEmptyFabric f →
     Agrees slot f ideal → Agrees later (with_ranks f rested) (empty_ideal (length f.inputs) rested)
@@ -85,8 +71,7 @@ rested_agrees slot later f ideal rested empty had =
     let ports = length f.inputs in
     let opening : f ≡ empty_fabric ports f.ranks = empty_is f empty had.fabric.square in
     subst (λ (g : Fabric). Agrees later (with_ranks g rested) (empty_ideal ports rested)) (sym opening)
-    (agrees_later 0 later (empty_fabric ports rested) (empty_ideal ports rested) (omega arith)
-    (empty_agree ports rested))
+    (empty_agree_at ports rested later)
 
 -- what the outputs hold does not depend on the states of the rank machines
 pub still_held : (q : Queues) (ranks rested : List (List ℕ)) (l : LimiterView) → HoldsFabric (fabric_of q ranks) l →
@@ -96,9 +81,8 @@ still_held q ranks rested l holds = record { ports = holds.ports; held = holds.h
 
 -- with limits the marks stay, and nothing is refused
 pub rested_limited_run : (limits : List (Option ℕ)) (marks : List Bool) (ms : List Machine) (ports count slot : ℕ)
-    (f : Fabric)
-    (rested : List (List ℕ)) → IsEmptyFabric f → length f.buffers ≡ length f.inputs → length f.inputs ≡ ports →
-    0 < count →
+    (f : Fabric) (rested : List (List ℕ)) → IsEmptyFabric f → length f.buffers ≡ length f.inputs →
+    length f.inputs ≡ ports → 0 < count →
     rested ≡ all_idle ms ports f.ranks → all_idle ms ports rested ≡ rested →
     LimitedFabricRun IsInputBest limits ms slot (replicate count no_arrivals) (marked marks f)
     (quiet_limited_slots ms count slot ports f.ranks marks) (marked marks (with_ranks f rested))

@@ -255,7 +255,6 @@ module _ {ms : List Machine} {slot : ℕ} {q0 : Queues} {ranks0 : List (List ℕ
           held_one j inside [] e = tt
           held_one j inside (c ∷ cells) e =
               let some = sent_was_held j (omega arith) in
-              let as_many = holds.ports in
               let now = judges.more j (omega arith) in
               let was = ap (λ (l : List ℕ). get_or l j 0) holds.held ∙ held_at (fabric_of q0 ranks0) j inside in
               omega arith
@@ -269,8 +268,6 @@ module _ {ms : List Machine} {slot : ℕ} {q0 : Queues} {ranks0 : List (List ℕ
               let mapped = length-map q2.buffers (λ (xs : List Queued). slice_get xs 0) in
               ⊎_elim
               (λ inside.
-              let square = known.agrees.fabric.square in
-              let moved = moved1.moves.ports.1 in
               let as_many = ap length arrived.buffers in
               subst P (sym (get_or-map (λ (xs : List Queued). slice_get xs 0) q2.buffers j nil none inside))
               (held_one j (omega arith) (list_of q2.buffers j) refl))

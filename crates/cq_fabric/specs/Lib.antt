@@ -4,3 +4,4 @@ pub mod Newest
 pub mod Held
 pub mod Crossing
 pub mod Released
+pub mod Telling

@@ -17,7 +17,7 @@ ghost use Rattle.cq_fabric.specs.Newest.{IsNewest};
 ghost use Rattle.cq_fabric.specs.Queues.{CanCross, ComeApart, Comes, FitEach, FitLists, Fits, buffer_room, fabric_of, list_at, list_room, list_with};
 
 use crate::gone::Gone;
-use crate::standing::{all_buffered, all_listed, filled_buffers, filled_lists};
+use crate::standing::{all_told, buffered, filled_buffers, filled_lists, listed};
 use cq_base::{Key, NoMemory, Port, Queued, Room, Sequence, Slot, Transfer};
 use cq_ideal::Newcomers;
 use cq_list::InputList;
@@ -233,14 +233,14 @@ impl Queues {
     pub fn listed(&self, alloc: Global) -> Result<Sequence<Sequence<Queued>>, NoMemory>
         ensures { IfOk result (λ lists. lists ≡ self.now.inputs) }
     {
-        all_listed(alloc, &self.lists)
+        all_told(alloc, &self.lists, |list| listed(alloc, list))
     }
 
     /// The cells of each buffer, the most urgent first. The error is want of memory.
     pub fn buffered(&self, alloc: Global) -> Result<Sequence<Sequence<Queued>>, NoMemory>
         ensures { IfOk result (λ buffers. buffers ≡ self.now.buffers) }
     {
-        all_buffered(alloc, &self.buffers)
+        all_told(alloc, &self.buffers, |buffer| buffered(alloc, buffer))
     }
 
     /// The number of inputs, and of outputs.

@@ -1,10 +1,12 @@
 //! Lists and buffers in which cells wait from the start, and the cells that wait in them.
-ghost use Rattle.std.specs.Prelude.{◌≡◌, ◌^◌, ◌<◌, ◌≤◌, ℕ, All, IfOk, length, map, replicate, slice_index};
+ghost use Rattle.std.specs.Prelude.{◌≡◌, ◌^◌, ◌<◌, ◌≤◌, ℕ, All, IfOk, Ok, length, map, replicate, slice_index};
+ghost use Rattle.std.specs.Fn.{FnReturnsAt};
 ghost use Rattle.cq_list.specs.InputList.{cells_of};
 ghost use Rattle.cq_urgency.specs.OutputBuffer.{cells_in};
 ghost use Rattle.cq_prefs.specs.FirstCells.{list_of};
 ghost use Rattle.cq_fabric.specs.Holding.{CanStand, CanWait};
 ghost use Rattle.cq_fabric.specs.Queues.{buffer_room, list_room};
+ghost use Rattle.cq_fabric.specs.Telling.{AllAreTold, AreTold};
 
 use cq_base::{NoMemory, Queued, Sequence};
 use cq_list::InputList;
@@ -94,59 +96,50 @@ pub fn filled_buffers(
     Ok(buffers)
 }
 
-// The cells of a list, in order. The error is want of memory.
+// The cells that stand at so many places, in order. The error is want of memory.
 #[tactic(auto, using(std::proofs::lemmas::List::take_all))]
-fn listed(alloc: Global, list: &InputList) -> Result<Sequence<Queued>, NoMemory>
+fn told<F: Fn(u64) -> Queued>(
+    alloc: Global,
+    count: u64,
+    at: F,
+) -> Result<Sequence<Queued>, NoMemory>
+    requires { (place : ℕ) → place < count → F.pre at place }
+    ensures { IfOk result (AreTold (F.post at) count) }
+{
+    let mut cells = Vec::with_capacity(alloc, count as usize)?;
+    'places: for place in 0..count {
+        cells.push(at(place))?;
+    }
+    Ok(Sequence::of(cells))
+}
+
+/// The cells of a list, in order. The error is want of memory.
+pub fn listed(alloc: Global, list: &InputList) -> Result<Sequence<Queued>, NoMemory>
     ensures { IfOk result (λ cells. cells ≡ list.now.cells) }
 {
-    let count = list.len();
-    let mut cells = Vec::with_capacity(alloc, count as usize)?;
-    'places: for place in 0..count {
-        cells.push(list.at(place))?;
-    }
-    Ok(Sequence::of(cells))
+    told(alloc, list.len(), |place| list.at(place))
 }
 
-// The cells of a buffer, the most urgent first. The error is want of memory.
-#[tactic(auto, using(std::proofs::lemmas::List::take_all))]
-fn buffered(alloc: Global, buffer: &OutputBuffer) -> Result<Sequence<Queued>, NoMemory>
+/// The cells of a buffer, the most urgent first. The error is want of memory.
+pub fn buffered(alloc: Global, buffer: &OutputBuffer) -> Result<Sequence<Queued>, NoMemory>
     ensures { IfOk result (λ cells. cells ≡ buffer.now.cells) }
 {
-    let count = buffer.len();
-    let mut cells = Vec::with_capacity(alloc, count as usize)?;
-    'places: for place in 0..count {
-        cells.push(buffer.at(place))?;
-    }
-    Ok(Sequence::of(cells))
+    told(alloc, buffer.len(), |place| buffer.at(place))
 }
 
-/// The cells of each of some lists, in order. The error is want of memory.
+/// What is told of each of some items, in order. The error is want of memory.
 #[tactic(auto, using(std::proofs::lemmas::List::take_all))]
-pub fn all_listed(
+pub fn all_told<T, F: Fn(&T) -> Result<Sequence<Queued>, NoMemory>>(
     alloc: Global,
-    lists: &[InputList],
+    items: &[T],
+    tell: F,
 ) -> Result<Sequence<Sequence<Queued>>, NoMemory>
-    ensures { IfOk result (λ all. all ≡ cells_of lists.now) }
+    requires { F.IsAlwaysCallable tell }
+    ensures { IfOk result (AllAreTold (λ x cells. FnReturnsAt F.Fn tell x (Ok cells)) items.now) }
 {
-    let mut all = Vec::with_capacity(alloc, lists.len())?;
-    'inputs: for input in 0..lists.len() {
-        let cells = listed(alloc, &lists[input])?;
-        all.push(cells)?;
-    }
-    Ok(Sequence::of(all))
-}
-
-/// The cells of each of some buffers, the most urgent first. The error is want of memory.
-#[tactic(auto, using(std::proofs::lemmas::List::take_all))]
-pub fn all_buffered(
-    alloc: Global,
-    buffers: &[OutputBuffer],
-) -> Result<Sequence<Sequence<Queued>>, NoMemory>
-    ensures { IfOk result (λ all. all ≡ cells_in buffers.now) }
-{
-    let mut all = Vec::with_capacity(alloc, buffers.len())?;
-    'outputs: for output in 0..buffers.len() {
-        let cells = buffered(alloc, &buffers[output])?;
+    let mut all = Vec::with_capacity(alloc, items.len())?;
+    'items: for at in 0..items.len() {
+        let cells = tell(&items[at])?;
         all.push(cells)?;
     }
     Ok(Sequence::of(all))

@@ -9,9 +9,6 @@ outputs-preserved c =
     let none : Option Queued = None in
     let n = c.outputs.output in
     let inv = c.outputs.invariant in
-    let test = c.outputs-test.true in
-    let few = c.requires.few in
-    let long = inv.long in
     record {
       long = length-set c.outputs.places n none ∙ inv.long;
       none =

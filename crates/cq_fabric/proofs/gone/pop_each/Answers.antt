@@ -16,10 +16,6 @@ outputs-preserved c =
     let b = get_or c.outputs.buffers n d in
     let none : Option Queued = None in
     let inv = c.outputs.invariant in
-    let test = c.outputs-test.true in
-    let same = c.outputs.auto.buffers in
-    let few = c.requires.few in
-    let long = inv.long in
     let here : b ≡ get_or old n d =
     ap (λ (bs : List Buffered). get_or bs n d) inv.buffers ∙ at_place (map popped old) old n d (length-map old popped)
     (omega arith) in

@@ -8,9 +8,6 @@ use Rattle.cq_fabric.proofs.queues.insert_each.Goals.{in-Some, in_default}
 
 pub insert_one-requires-clause-comes : goal.insert_one-requires-clause-comes
 insert_one-requires-clause-comes c =
-    let inside = c.inputs-test.true in
-    let long = c.inputs.auto.lists in
-    let few = c.requires.few in
     next_comes c.args.came.now (cells_in c.args.buffers.now) c.args.lists.now c.inputs.lists c.inputs.input
     c.requires.come c.inputs.invariant.done c.inputs.invariant.waits c.inputs.offers c.in-Some.queued
     (sym c.at.ensures ∙ c.in-Some.is)

@@ -19,11 +19,7 @@ outputs-init c = record {
 }
 
 pub sent-requires-clause-output : goal.sent-requires-clause-output
-sent-requires-clause-output c =
-    let inside = c.outputs-test.true in
-    let outputs = c.requires.outputs in
-    let ports = c.outputs.invariant.ports in
-    omega arith
+sent-requires-clause-output c = omega arith
 
 pub sent-requires-clause-holds : goal.sent-requires-clause-holds
 sent-requires-clause-holds c =
@@ -36,9 +32,7 @@ outputs-preserved c =
     let o = c.outputs.output in
     let none : Option Queued = None in
     let inv = c.outputs.invariant in
-    let inside = c.outputs-test.true in
     let outputs = c.requires.outputs in
-    let ports = inv.ports in
     let same = inv.left o (omega arith) in
     let some = subst (λ (n : ℕ). IfSome (came_to c.args.gone.now o) (λ _. 0 < n)) (sym same) (c.requires.holds o) in
     let one =
@@ -65,13 +59,10 @@ returns c =
     record {
       held = λ j.
           let none : Option Queued = None in
-          let past = c.outputs-test.false in
           ⊎_elim
           (λ (inside : j < length c.args.gone.now). inv.done j (omega arith))
           (λ (beyond : length c.args.gone.now ≤ j).
           let nobody = ap bit (get_or_past c.args.gone.now j none beyond) in
-          let outputs = c.requires.outputs in
-          let ports = inv.ports in
           let now = get_or_past c.outputs.limiter.held j 0 (omega arith) in
           let was = get_or_past c.args.limiter.now.held j 0 (omega arith) in
           omega arith)

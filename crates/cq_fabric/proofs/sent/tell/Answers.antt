@@ -10,9 +10,7 @@ pub outputs-preserved : goal.outputs-preserved
 outputs-preserved g c =
     let inv = c.outputs.invariant in
     let ms = map g.R.Rank.machine c.args.ranks.now.fixed in
-    let outputs = c.requires.outputs in
     let states = c.requires.states in
-    let inside = c.outputs-test.true in
     record {
       fixed = c.told.ensures.fixed ∙ inv.fixed;
       states =
@@ -28,8 +26,5 @@ pub returns-clause-states : goal.returns-clause-states
 returns-clause-states g c =
     let ms = map g.R.Rank.machine c.args.ranks.now.fixed in
     let old = c.args.ranks.now.states in
-    let outputs = c.requires.outputs in
-    let states = c.requires.states in
-    let past = c.outputs-test.false in
     c.outputs.invariant.states ∙ at_end (all_told ms c.args.gone.now old) old c.outputs.output
     (length-told ms c.args.gone.now old) (omega arith)

@@ -1,10 +1,8 @@
-use Rattle.std.proofs.Common.{arith}
-use Rattle.cq_fabric.proofs.Filling.{one_read}
+use Rattle.std.proofs.Common.{rules, sym}
+use Rattle.std.proofs.lemmas.Result.{IfOk-weaker}
 use Rattle.cq_fabric.proofs.standing.listed.Goals as goal
 
-pub places-preserved : goal.places-preserved
-places-preserved c =
-    let count = c.len-count.ensures.len in
-    let inside = c.places-test.true in
-    one_read c.args.list.now.cells c.places.place c.places.cells.items c.push.new.self.items c.at.result
-    c.places.invariant c.in_ok-push.ensures.items (omega arith) c.at.ensures
+pub returns : goal.returns
+returns c =
+    IfOk-weaker c.told.result _ _
+    (λ cells is. is c.args.list.now.cells (sym c.len.ensures.len) (λ i q inside k. search rules)) c.told.ensures

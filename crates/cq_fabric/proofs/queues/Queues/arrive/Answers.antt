@@ -45,9 +45,7 @@ lists_are : (c : goal.After-self-1) →
     take c.self.inside.lists.len (c.insert_each.new.lists ++ drop (length c.insert_each.new.lists)
     c.self.inside.lists.items) ≡ c.insert_each.new.lists
 lists_are c =
-    let size = c.deref_mut.ensures.len in
     let value = ap length c.deref_mut.ensures.value in
-    let long = c.insert_each.ensures.ports in
     whole c.self.inside.lists.len c.insert_each.new.lists c.self.inside.lists.items (omega arith) (omega arith)
 
 -- ## What is asked, and what stands afterwards

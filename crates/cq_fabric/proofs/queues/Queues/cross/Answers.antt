@@ -63,7 +63,6 @@ lists_are : (c : goal.After-self-2-1) →
     c.self.inside.lists.items) ≡ c.cross_matched.new.lists
 lists_are c =
     let long = lists_long (crossed c) in
-    let size = c.deref_mut.ensures.len in
     let value = ap length c.deref_mut.ensures.value in
     whole c.self.inside.lists.len c.cross_matched.new.lists c.self.inside.lists.items (omega arith) (omega arith)
 
@@ -73,7 +72,6 @@ buffers_are : (c : goal.After-self-2-1) →
     c.self.inside.buffers.items) ≡ c.cross_matched.new.buffers
 buffers_are c =
     let long = buffers_long (crossed c) in
-    let size = c.deref_mut-2.ensures.len in
     let value = ap length c.deref_mut-2.ensures.value in
     whole c.self.inside.buffers.len c.cross_matched.new.buffers c.self.inside.buffers.items (omega arith) (omega arith)
 
@@ -112,7 +110,6 @@ cross_matched-requires-clause-follow c =
 pub cross_matched-requires-clause-note : goal.cross_matched-requires-clause-note
 cross_matched-requires-clause-note c =
     let long = matched_long c.args.self.now.inputs c.args.matching.now c.requires.matching in
-    let room = c.requires.note in
     omega arith
 
 pub invariant_of-self : goal.invariant_of-self

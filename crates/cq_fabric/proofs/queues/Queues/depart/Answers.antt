@@ -28,7 +28,6 @@ popped_are c =
 -- there are as many of them as inputs
 as_many : (c : After-take_from) → length c.args.self.now.inputs ≡ length c.deref_mut.result.now
 as_many c =
-    let square = c.self.invariant.square.as_many in
     let value = ap length c.deref_mut.ensures.value in
     let inputs = ap (λ (q : Held). length q.inputs) c.self.view_is in
     let long = length-map c.self.inside.lists.items (λ (w : Waiting). w.cells) in

@@ -1,0 +1,10 @@
+use Rattle.std.proofs.Common.{◌≡◌, List, Ok, map, take}
+use Rattle.std.specs.Fn.{FnReturnsAt}
+use Rattle.cq_base.specs.declared.cell.Queued.{Queued}
+use Rattle.cq_fabric.proofs.standing.all_told.Given as goal
+
+-- those of the items before this one are there
+abbrev pub invariant-items : goal.invariant-items
+invariant-items g l = (cells_at : _ → List Queued) →
+    ((x : _) (cells : List Queued) → FnReturnsAt g.F.Fn l.tell x (Ok cells) → cells ≡ cells_at x) →
+    l.all.items ≡ take l.at (map cells_at l.items)

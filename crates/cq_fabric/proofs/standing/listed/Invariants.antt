@@ -1,6 +1,0 @@
-use Rattle.std.proofs.Common.{◌≡◌, take}
-use Rattle.cq_fabric.proofs.standing.listed.Given as goal
-
--- the cells before this one are there
-abbrev pub invariant-places : goal.invariant-places
-invariant-places l = l.cells.items ≡ take l.place l.list.cells
