@@ -51,7 +51,6 @@ module _ (inputs outputs : ℕ) (came gone : List (Option Queued)) (sent : AreSe
       c.cell.output < outputs → inputs < ports → AreApart ports came → ⊥
   not_apart ports c d at taken inside below apart =
       let from = sent.only c.cell.output d inside taken in
-      let within = from.inside in
       let same = apart from.input inputs d c (omega arith) below from.at at from.output in
       omega arith
 
@@ -85,7 +84,6 @@ module _ (inputs outputs : ℕ) (came gone : List (Option Queued)) (sent : AreSe
             })
             (λ (other : j ≡ c.cell.output → ⊥).
             let from = sent.only j d j_in (sym (get_or-set_other gone c.cell.output j (Some c) none other) ∙ there) in
-            let within = from.inside in
             record { input = from.input; inside = omega arith; at = from.at; output = from.output })
             (cases_eq j c.cell.output);
       }
@@ -100,7 +98,6 @@ module _ (inputs outputs : ℕ) (came gone : List (Option Queued)) (sent : AreSe
         (cases_lt i inputs);
     only = λ j d j_in there.
         let from = sent.only j d j_in there in
-        let within = from.inside in
         record { input = from.input; inside = omega arith; at = from.at; output = from.output };
   }
 

@@ -132,7 +132,6 @@ module _ (f : Fabric) (i : ℕ) (held : List ℕ) (so_far : HeldSoFar f i held) 
   pub cells_inside : ((k : ℕ) (c : Queued) → IsAmong c (input f k) → c.cell.output < length f.inputs) →
       All (λ c. c.cell.output < length held) cells
   cells_inside outputs k d within =
-      let ports = so_far.ports in
       let among : IsAmong (get_or cells k d) (input f i) =
       subst (IsAmong (get_or cells k d)) here (among_at cells k (get_or cells k d) (slice_get-get_or cells k d within))
       in
@@ -142,7 +141,6 @@ module _ (f : Fabric) (i : ℕ) (held : List ℕ) (so_far : HeldSoFar f i held) 
   pub cells_fit : ((j : ℕ) → j < length f.inputs → held_for j f < 2 ^ 64) →
       (j : ℕ) → j < length held → get_or held j 0 + number_for j cells < 2 ^ 64
   cells_fit fit j below =
-      let ports = so_far.ports in
       let few = fit j (omega arith) in
       let was = so_far.counts j (omega arith) in
       let now = next_waiting j in
@@ -154,7 +152,6 @@ module _ (f : Fabric) (i : ℕ) (held : List ℕ) (so_far : HeldSoFar f i held) 
   held_next new same counted = record {
     ports = same ∙ so_far.ports;
     counts = λ j below.
-        let ports = so_far.ports in
         let was = so_far.counts j below in
         let more = counted j (omega arith) in
         let now = next_waiting j in
@@ -165,7 +162,6 @@ pub held_last : (f : Fabric) (i : ℕ) (held : List ℕ) → HeldSoFar f i held 
 held_last f i held so_far past =
     ext_get_or 0 held (fabric_held f) (so_far.ports ∙ sym (held_long f))
     (λ j below.
-    let ports = so_far.ports in
     let within : j < length f.inputs = omega arith in
     let counts = so_far.counts j within in
     let all = ap (waiting_for j) (take_all i f.inputs past) in

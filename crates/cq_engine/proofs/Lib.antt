@@ -9,4 +9,5 @@ mod Counted
 mod Going
 mod NothingCounted
 mod StraightSlot
+mod Done
 mod Apart

@@ -95,7 +95,7 @@ module _ {ms : List Machine} {slot : ℕ} {cells : List (Option Cell)} {q : Queu
     ports = ports_are;
     arrivals = known.come;
     held = numbers_fit q states l cells known.running.holds
-        (λ j inside. known.buffer_room j (let ports = known.running.in_step.ports in omega arith)) within fits;
+        (λ j inside. known.buffer_room j (omega arith)) within fits;
     refused = known.refused;
   }
 

@@ -67,25 +67,26 @@ bit_most : (b : Bool) → bit b ≤ 1
 bit_most true = omega arith
 bit_most false = omega arith
 
-count_input : (slot : ℕ) (x : Figures) (r : SlotRecord) → CountsFit slot x → (i : ℕ) (y : InputFigures) →
-    slice_get (figures_after x r).inputs i ≡ Some y → y.cells ≤ slot + 1
-unfolding figures_after input_after
-count_input slot x r fit i y at =
-    let p = placed (input_after r) 0 x.inputs i y at in
-    let had = fit.inputs i p.0 p.1 in
-    let one = bit_most (is_some (came_to r.came (0 + i))) in
-    let is : p.0.cells + bit (is_some (came_to r.came (0 + i))) ≡ y.cells = ap (λ (z : InputFigures). z.cells) p.2 in
+-- each item counts one more at most
+count_one : {X : Type 0} (cells : X → ℕ) (after : ℕ → X → X) (moved : List (Option Queued)) (n : ℕ) (xs : List X) →
+    ((i : ℕ) (y : X) → cells (after i y) ≡ cells y + bit (is_some (came_to moved i))) →
+    ((i : ℕ) (y : X) → slice_get xs i ≡ Some y → cells y ≤ n) → (i : ℕ) (y : X) →
+    slice_get (map (λ at. after at.0 at.1) (enumerate_from 0 xs)) i ≡ Some y → cells y ≤ n + 1
+count_one cells after moved n xs more fit i y at =
+    let p = placed after 0 xs i y at in
+    let had = fit i p.0 p.1 in
+    let one = bit_most (is_some (came_to moved (0 + i))) in
+    let is : cells p.0 + bit (is_some (came_to moved (0 + i))) ≡ cells y = sym (more (0 + i) p.0) ∙ ap cells p.2 in
     omega arith
 
-count_output : (slot : ℕ) (x : Figures) (r : SlotRecord) → CountsFit slot x → (j : ℕ) (y : OutputFigures) →
-    slice_get (figures_after x r).outputs j ≡ Some y → y.cells ≤ slot + 1
-unfolding figures_after output_after
-count_output slot x r fit j y at =
-    let p = placed (output_after r) 0 x.outputs j y at in
-    let had = fit.outputs j p.0 p.1 in
-    let one = bit_most (is_some (came_to r.gone (0 + j))) in
-    let is : p.0.cells + bit (is_some (came_to r.gone (0 + j))) ≡ y.cells = ap (λ (z : OutputFigures). z.cells) p.2 in
-    omega arith
+counts_fit : (slot : ℕ) (x : Figures) (r : SlotRecord) → CountsFit slot x → CountsFit (slot + 1) (figures_after x r)
+unfolding figures_after input_after output_after
+counts_fit slot x r fit =
+    record {
+      inputs = count_one (λ (y : InputFigures). y.cells) (input_after r) r.came slot x.inputs (λ i y. refl) fit.inputs;
+      outputs =
+          count_one (λ (y : OutputFigures). y.cells) (output_after r) r.gone slot x.outputs (λ j y. refl) fit.outputs;
+    }
 
 outputs_long : (x : Figures) (r : SlotRecord) → length (figures_after x r).outputs ≡ length x.outputs
 unfolding figures_after
@@ -104,23 +105,7 @@ figures_are x y r p1 p2 first second slots all most inputs outputs =
     let q : ℕ = proposals (orders_of r.sent.inputs) r.second in
     let sums : y.proposals ≡ x.proposals + sum (p ∷ q ∷ []) = omega arith in
     let greatest : y.most ≡ max x.most (fold max 0 (p ∷ q ∷ [])) = omega arith in
-    let had : Figures =
-    record {
-      slots = y.slots;
-      proposals = y.proposals;
-      most = y.most;
-      inputs = y.inputs;
-      outputs = y.outputs;
-    } in
-    let want : Figures =
-    record {
-      slots = if list_any is_some r.gone then max x.slots (r.slot + 1) else x.slots;
-      proposals = x.proposals + sum (p ∷ q ∷ []);
-      most = max x.most (fold max 0 (p ∷ q ∷ []));
-      inputs = map (λ at. input_after r at.0 at.1) (enumerate_from 0 x.inputs);
-      outputs = map (λ at. output_after r at.0 at.1) (enumerate_from 0 x.outputs);
-    } in
-    let same : had ≡ want = cc in same
+    λ k. record { slots = slots k; proposals = sums k; most = greatest k; inputs = inputs k; outputs = outputs k }
 
 -- ## What is known of a slot
 
@@ -259,10 +244,7 @@ module _ {ms : List Machine} {slot : ℕ} {q0 : Queues} {ranks0 : List (List ℕ
           agrees = same.agrees;
           inputs = seen_after.ports;
           outputs = outputs_long x of_slot ∙ up.outputs;
-          counts = record {
-            inputs = λ i y at. count_input slot x of_slot up.counts i y at;
-            outputs = λ j y at. count_output slot x of_slot up.counts j y at;
-          };
+          counts = counts_fit slot x of_slot up.counts;
         }
 
     pub whole_slot : (looks : Look) → IsSeen looks x (fabric_of q0 ranks0) → (y : Figures) →

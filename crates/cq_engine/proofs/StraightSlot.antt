@@ -394,7 +394,6 @@ module _ {ms : List Machine} {slot : ℕ} {q : Queues} {ranks0 : List (List ℕ)
       outside : (c : Queued) → came_to gone j ≡ Some c → n ≤ j → ⊥
       outside c is past =
           let none : Option Queued = None in
-          let gone_long = straight.ports in
           let clash : none ≡ Some c = sym (get_or_past gone j none (omega arith)) ∙ is in let P : ⊥ = cc in P
 
       go : (o : Option Queued) → came_to gone j ≡ o → came_to gone j ≡ None

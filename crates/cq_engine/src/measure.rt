@@ -24,26 +24,30 @@ pub enum Look {
     All,
 }
 
-// The lesser of two numbers, of which each may be none.
-fn lesser(a: Option<u64>, b: Option<u64>) -> Option<u64>
-    ensures { result ≡ either_by min a b }
+// What is chosen of two numbers, of which each may be none. Where one is none it is the other.
+fn either<F: FnOnce(u64, u64) -> u64>(a: Option<u64>, b: Option<u64>, choose: F) -> Option<u64>
+    requires { F.IsAlwaysCallable choose }
+    ensures { (f : ℕ → ℕ → ℕ) → ((x y r : ℕ) → F.post choose x y r → r ≡ f x y) → result ≡ either_by f a b }
 {
     match (a, b) {
         (None, b) => b,
         (Some(a), None) => Some(a),
-        (Some(a), Some(b)) => Some(a.min(b)),
+        (Some(a), Some(b)) => Some(choose(a, b)),
     }
+}
+
+// The lesser of two numbers, of which each may be none.
+fn lesser(a: Option<u64>, b: Option<u64>) -> Option<u64>
+    ensures { result ≡ either_by min a b }
+{
+    either(a, b, |a, b| a.min(b))
 }
 
 // The greater of two numbers, of which each may be none.
 fn greater(a: Option<u64>, b: Option<u64>) -> Option<u64>
     ensures { result ≡ either_by max a b }
 {
-    match (a, b) {
-        (None, b) => b,
-        (Some(a), None) => Some(a),
-        (Some(a), Some(b)) => Some(a.max(b)),
-    }
+    either(a, b, |a, b| a.max(b))
 }
 
 // The slack of the cell that came to an input, if one did.

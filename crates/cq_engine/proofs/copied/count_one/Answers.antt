@@ -4,13 +4,11 @@ use Rattle.cq_engine.proofs.copied.count_one.Goals as goal
 pub bounds-as_slice-output : goal.bounds-as_slice-output
 bounds-as_slice-output c =
     let long = ap length c.as_slice.ensures in
-    let inside = c.requires.output in
     omega arith
 
 pub overflow_add-more : goal.overflow_add-more
 overflow_add-more c =
     let here = ap (λ (l : List ℕ). get_or l c.args.output 0) c.as_slice.ensures in
-    let fits = c.requires.fits in
     omega arith
 
 pub returns : goal.returns

@@ -16,7 +16,7 @@ here c =
     ∙ ap (λ (l : List (List Queued)). list_of l c.inputs.input) c.as_slice-lists.ensures
 
 inside : (c : After-as_slice) → c.inputs.input < length c.args.from.now.lists
-inside c = let long = ap length c.as_slice-lists.ensures in let test = c.inputs-test.true in omega arith
+inside c = let long = ap length c.as_slice-lists.ensures in omega arith
 
 pub inputs-init : goal.inputs-init
 inputs-init c =
@@ -44,5 +44,4 @@ inputs-preserved c =
 pub returns : goal.returns
 returns c =
     let long = ap length c.as_slice-lists.ensures in
-    let past = c.inputs-test.false in
     held_last (fabric_in c.args.from.now) c.inputs.input c.inputs.held c.inputs.invariant (omega arith)

@@ -16,10 +16,8 @@ sent g c =
 pub leave-requires-clause-few : goal.leave-requires-clause-few
 leave-requires-clause-few g c =
     let at = goal.at.leave-requires-clause-few g c in
-    let few = c.ports-ports.ensures.few in
     let long = ap length (sent g at.After-of_outputs-gone) in
     let as_many = length-map c.args.queues.now.buffers (λ (cells : List Queued). slice_get cells 0) in
-    let square = c.ports-ports.ensures.buffers in
     omega arith
 
 pub leave-requires-clause-send : goal.leave-requires-clause-send

@@ -4,4 +4,4 @@ use Rattle.cq_engine.proofs.depart.send.Goals as goal
 
 pub outputs-init : goal.outputs-init
 unfolding departures_in
-outputs-init c = let room = c.requires.room in record { items = refl; spare = refl; room = omega arith }
+outputs-init c = record { items = refl; spare = refl; room = omega arith }

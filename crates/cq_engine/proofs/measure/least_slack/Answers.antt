@@ -14,8 +14,6 @@ places-init c = refl
 pub places-preserved : goal.places-preserved
 places-preserved c =
     let f = fabric_of c.args.queues.now [] in
-    let count = c.len_of-count.ensures in
-    let inside = c.places-test.true in
     let here = cell_there (input f c.args.input) c.places.place (omega arith) in
     looked_at f c.args.input c.places.place here.0 c.slack_at.result c.places.least c.lesser-least.result
     c.places.invariant
@@ -24,7 +22,5 @@ places-preserved c =
 pub returns : goal.returns
 returns c =
     let f = fabric_of c.args.queues.now [] in
-    let count = c.len_of-count.ensures in
-    let past = c.places-test.false in
     let long = length-slacks f c.args.input in
     c.places.invariant ∙ ap (reduce min) (take_all c.places.place (slacks f c.args.input) (omega arith))

@@ -11,7 +11,7 @@ nil_if (x ∷ xs) h = absurd (let e : length (x ∷ xs) ≡ 0 = eqb-true (length
 pub returns : goal.returns
 returns c = (
   λ _. none_at_all c.args.offers.now c.loop-input.input
-      (let many = c.ports-input-end.ensures.value in let end = c.loop-input-test.false in omega arith)
+      (omega arith)
       c.loop-input.invariant,
   λ _. refl,
 )

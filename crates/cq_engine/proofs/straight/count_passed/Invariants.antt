@@ -1,12 +1,8 @@
-use Rattle.std.proofs.Common.{◌≡◌, map}
-use Rattle.std.specs.List.{enumerate_from}
 use Rattle.cq_laws.specs.Phases.{came_to}
+use Rattle.cq_fabric.proofs.Changed.{IsChangedTo}
 use Rattle.cq_engine.specs.Straight.{input_passed}
-use Rattle.cq_ideal.proofs.Changed.{changed_to}
 use Rattle.cq_engine.proofs.straight.count_passed.Given as goal
 
 -- the inputs before this one are counted
 abbrev pub invariant-inputs : goal.invariant-inputs
-invariant-inputs l =
-    l.inputs ≡ changed_to (map (λ at. input_passed (came_to l.came at.0) at.1) (enumerate_from 0 l.fn.inputs))
-    l.fn.inputs l.input
+invariant-inputs l = IsChangedTo (λ k. input_passed (came_to l.came k)) l.fn.inputs l.input l.inputs

@@ -15,7 +15,8 @@ returns-then-is_some-clause-apart c =
     (ap is_some (sym c.at-in-Some.ensures) ∙ sym c.is_some.ensures ∙ c.if-is_some.true) in (
       λ no. absurd (let P : ⊥ = cc no in P),
       λ apart. absurd (not_apart c.inputs.input c.args.ports c.args.came.now c.inputs.gone c.inputs.invariant.sent
-          c.args.ports queued there.0 at there.1 (c.requires.outputs c.inputs.input queued at) c.inputs-test.true apart),
+          c.args.ports queued there.0 at there.1 (c.requires.outputs c.inputs.input queued at) c.inputs-test.true
+          apart),
     )
 
 pub inputs-preserved : goal.inputs-preserved
@@ -34,7 +35,6 @@ inputs-preserved c =
           let put = w.gone-is ∙ w.put.ensures in
           let long = ap length put ∙ length-set gone queued.cell.output (Some queued) in
           let below = c.requires.outputs input queued at in
-          let wide = inv.wide in
           record {
             wide = omega arith;
             sent = subst (AreSent (input + 1) ports came) (sym put)
@@ -45,7 +45,8 @@ inputs-preserved c =
           let none = sym w.in_default.ensures in
           record {
             wide = subst (λ (l : List (Option Queued)). ports ≤ length l) (sym w.gone-is) inv.wide;
-            sent = subst (AreSent (input + 1) ports came) (sym w.gone-is) (sent_past input ports came gone inv.sent none);
+            sent = subst (AreSent (input + 1) ports came) (sym w.gone-is)
+                (sent_past input ports came gone inv.sent none);
             apart = apart_past input came inv.apart none;
           }
     ]

@@ -18,36 +18,30 @@ inputs-init c =
 pub push-requires : goal.push-requires
 push-requires c =
     let few = crossings_few c.args.slot c.inputs.input c.args.came.now in
-    let room = c.inputs.invariant.room in
-    let inside = c.inputs-test.true in
-    let spare = c.requires.room in
     omega arith
 
 pub inputs-preserved : goal.inputs-preserved
 inputs-preserved c =
     let slot = c.args.slot in
     let n = c.inputs.input in
-    let came = c.args.came.now in
-    let inv = c.inputs.invariant in
-    let room = inv.room in
+    let before = c.args.note.now.items in
+    let had = crossings slot n c.args.came.now in
     elim c.match-at.branch [
       | in-Some w ↦
           let q = w.in-Some.queued in
-          let one = crossings_one slot n came q (sym c.at.ensures ∙ w.in-Some.is) in
-          let one_long = ap length one in
-          let pushed = w.push.ensures.spare in
           let t : Transfer = record { slot = slot; phase = 1; input = n; output = q.cell.output; id = q.cell.id } in
+          let one = crossings_one slot n c.args.came.now q (sym c.at.ensures ∙ w.in-Some.is) in
+          let one_long = ap length one in
           rw (w.note-is) (record {
             items =
-                w.push.ensures.items ∙ ap (λ l. l ++ t ∷ []) inv.items
-                ∙ append_assoc c.args.note.now.items (crossings slot n came) (t ∷ [])
-                ∙ ap (λ l. c.args.note.now.items ++ l) (sym one);
-            room = omega (arith, length-append (crossings slot n came) (t ∷ []));
+                w.push.ensures.items ∙ ap (λ l. l ++ t ∷ []) c.inputs.invariant.items
+                ∙ append_assoc before had (t ∷ []) ∙ ap (λ l. before ++ l) (sym one);
+            room = omega (arith, length-append had (t ∷ []));
           })
       | in_default w ↦
-          let past = crossings_past slot n came (sym c.at.ensures ∙ w.in_default.is) in
+          let past = crossings_past slot n c.args.came.now (sym c.at.ensures ∙ w.in_default.is) in
           rw (w.note-is) (record {
-            items = inv.items ∙ ap (λ l. c.args.note.now.items ++ l) (sym past);
+            items = c.inputs.invariant.items ∙ ap (λ l. before ++ l) (sym past);
             room = let same = ap length past in omega arith;
           })
     ]

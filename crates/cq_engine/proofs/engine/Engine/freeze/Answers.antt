@@ -1,9 +1,8 @@
 use Rattle.std.proofs.Common.{refl, ap, ◌∙◌, arith}
 use Rattle.std.proofs.lemmas.List.{length-map}
-use Rattle.cq_laws.specs.declared.frozen.Frozen.{Frozen}
 use Rattle.cq_engine.specs.Engine.{frozen_of}
 use Rattle.cq_engine.proofs.Going.{same_frozen}
-use Rattle.cq_engine.proofs.Shown.{up}
+use Rattle.cq_engine.proofs.Shown.{seen, up}
 use Rattle.cq_engine.proofs.engine.Engine.freeze.Goals as goal
 
 pub numbers-requires : goal.numbers-requires
@@ -12,22 +11,13 @@ numbers-requires g c =
     let running =
     up g.R.Rank.machine c.args.self.now e.ranks.fixed e.ranks.states e.queues e.limiter e.figures e.next e.look
     e.stopped c.self.view_is c.self.invariant.1 c.args.self.now.next refl c.requires in
-    let few = running.in_step.machines.few in
     let long = length-map e.ranks.fixed g.R.Rank.machine in
     omega arith
 
 pub returns : goal.returns
 returns g c =
     let e = c.self.inside in
-    let all : Frozen = record {
-      next = e.next;
-      figures = e.figures;
-      refused = e.limiter.refused;
-      marks = e.limiter.marks;
-      ranks = e.ranks.states;
-      lists = e.queues.inputs;
-      buffers = e.queues.buffers;
-    } in
+    let all = frozen_of (seen e.ranks.fixed e.ranks.states e.queues e.limiter e.figures e.next e.stopped) in
     same_frozen _ all refl c.in_ok-figures.ensures
     (c.of.ensures ∙ c.in_ok-refused.ensures.items ∙ c.refused.ensures)
     (c.of-2.ensures ∙ c.in_ok-marks.ensures.items ∙ c.marks.ensures)

@@ -41,7 +41,6 @@ invariant_of-self g c =
     let e = c.self.inside in
     let M = g.R.Rank.machine in
     let running = runs g (goal.at.invariant_of-self g c).After-self in
-    let later = c.requires.later in
     let empty = subst (λ (v : EngineView). IsEmptyFabric v.fabric) (sym c.self.view_is) c.requires.empty in
     let rested = c.rest.new.self.states in (
       c.self.invariant.0,

@@ -6,9 +6,8 @@ use Rattle.cq_base.specs.declared.figures.Figures.{Figures}
 use Rattle.cq_base.specs.declared.figures.OutputFigures.{OutputFigures}
 use Rattle.cq_rank.specs.Switch.{class_count}
 use Rattle.cq_ideal.specs.Admission.{Admission, admitted}
-use Rattle.cq_ideal.specs.IdealSlot.{all_told, fronts, departures_in}
+use Rattle.cq_ideal.specs.IdealSlot.{all_told, fronts}
 use Rattle.cq_ideal.specs.Ranking.{ranking}
-use Rattle.cq_ideal.proofs.Slot.{by_marks}
 use Rattle.cq_prefs.specs.Moves.{transfers_of}
 use Rattle.cq_laws.specs.Phases.{came_to}
 use Rattle.cq_fabric.specs.Held.{HoldsFabric}
@@ -18,11 +17,12 @@ use Rattle.cq_fabric.proofs.Limits.{admits_are, still_holds}
 use Rattle.cq_fabric.proofs.Slot.{came_newest, came_outputs, can_cross_first, can_cross_second, come_apart, few_cross, fits_lists, held_before}
 use Rattle.cq_ideal.proofs.Sending.{length-told}
 use Rattle.cq_engine.specs.Crossing.{CanBeCrossed}
-use Rattle.cq_engine.specs.Engine.{EngineView, IsRunning, SlotDone, answer_to, its_admission}
+use Rattle.cq_engine.specs.Engine.{EngineView, IsRunning, answer_to, its_admission}
 use Rattle.cq_engine.specs.Sending.{CanSend}
 use Rattle.cq_engine.specs.Straight.{GoStraight, crossings}
 use Rattle.cq_engine.specs.declared.measure.Look.TheVariants.{Arriving}
-use Rattle.cq_engine.proofs.Shown.{Begun, begun, buffers_room, can_take_in, lists_room, ports_are, ranked, seen}
+use Rattle.cq_engine.proofs.Shown.{Begun, begun, buffers_room, can_take_in, lists_room, ports_are, ranked}
+use Rattle.cq_engine.proofs.Done.{made_as, slot_done, stopped_as}
 use Rattle.cq_engine.proofs.Slot.{HaveCrossed, Whole, moved_of, whole_slot}
 use Rattle.cq_engine.proofs.StraightSlot.{at_most_square, crossings_few, held_straight, whole_straight}
 use Rattle.cq_engine.proofs.engine.Engine.slot.Given as given
@@ -79,7 +79,8 @@ taken : (g : given.Over) (c : In_default g) →
     c.self.inside.ranks.states (admitted c.take_in.new.limiter.marks c.args.arrivals.now)
     (class_count (map g.R.Rank.machine c.self.inside.ranks.fixed)) c.take_in.new.came c.take_in.new.ranks.states
 taken g c begins =
-    ranked begins c.take_in.new.limiter.marks c.take_in.new.came c.take_in.new.ranks.states c.in_default.ensures.taken.ranked
+    ranked begins c.take_in.new.limiter.marks c.take_in.new.came c.take_in.new.ranks.states
+    c.in_default.ensures.taken.ranked
 
 -- once it has arrived
 arrived : (g : given.Over) (c : After-arrive g) →
@@ -115,9 +116,6 @@ can_send g c begins gone long {x} outputs holds =
     let limits = ports_are begins in
     let looks = ap (λ (v : EngineView). length v.fixed) c.self.view_is in
     let fixed = ap length c.take_in.ensures.fixed in
-    let states = c.take_in.ensures.many in
-    let ranks = begins.running.ranks in
-    let room = c.requires.ready.sent_room in
     let early = c.requires.early in
     record {
       early = early;
@@ -204,7 +202,8 @@ straight : (g : given.Over) (c : After-of_outputs g) →
     GoStraight c.self.inside.queues c.take_in.new.came c.of_outputs.result.now
 straight g c =
     let shown = c.of_outputs.ensures ∙ ap (λ n. take n c.go_straight.new.gone) c.ports-ports.ensures.value in
-    subst (GoStraight c.self.inside.queues c.take_in.new.came) (sym shown) (c.go_straight.ensures.sent c.if-go_straight.true)
+    subst (GoStraight c.self.inside.queues c.take_in.new.came) (sym shown)
+    (c.go_straight.ensures.sent c.if-go_straight.true)
 
 -- what the machines are told
 told_straight : (g : given.Over) (c : After-pass-crossed g) →
@@ -213,7 +212,8 @@ told_straight : (g : given.Over) (c : After-pass-crossed g) →
 told_straight g c =
     c.pass-crossed.ensures.sent.told
     ∙ ap
-    (λ (fixed : List (List ℕ)). all_told (map g.R.Rank.machine fixed) c.of_outputs.result.now c.take_in.new.ranks.states)
+    (λ (fixed : List (List ℕ)).
+    all_told (map g.R.Rank.machine fixed) c.of_outputs.result.now c.take_in.new.ranks.states)
     c.take_in.ensures.fixed
 
 -- no more cells cross than there are ports
@@ -224,13 +224,8 @@ few_proposed : (g : given.Over) (c : After-pass-crossed g) →
     c.pass-crossed.new.figures.proposals + (c.pass-crossed.result + 0)
     ≤ c.args.self.now.figures.proposals + 2 * (length c.args.self.now.fixed * length c.args.self.now.fixed)
 few_proposed g c begins is =
-    let did = c.pass-crossed.ensures in
     let few = crossings_few c.args.slot (length c.of_outputs.result.now) c.take_in.new.came in
-    let many = did.many in
-    let had = did.sent.proposals in
     let was = ap (λ (v : EngineView). v.figures.proposals) c.self.view_is in
-    let gone_long = is.ports in
-    let ports = begins.running.in_step.ports in
     let long = length-map c.self.inside.ranks.fixed g.R.Rank.machine in
     let looks = ap (λ (v : EngineView). length v.fixed) c.self.view_is in
     let squared = at_most_square (length c.args.self.now.fixed) in
@@ -296,14 +291,12 @@ pub pass-crossed-requires-clause-few : goal.pass-crossed-requires-clause-few
 pass-crossed-requires-clause-few g c =
     let at = goal.at.pass-crossed-requires-clause-few g c in
     let long = (straight g at.After-of_outputs).ports in
-    let few = c.ports-ports.ensures.few in
     omega arith
 
 pub count_proposals-requires : goal.count_proposals-requires
 count_proposals-requires g c =
     let at = goal.at.count_proposals-requires g c in
     let few = few_proposed g at.After-pass-crossed (known g at.After-self) (straight g at.After-of_outputs) in
-    let room = c.requires.ready.proposals in
     omega arith
 
 pub arrive-requires-clause-fit : goal.arrive-requires-clause-fit
@@ -332,8 +325,6 @@ pub cross-first-requires-clause-can : goal.cross-first-requires-clause-can
 cross-first-requires-clause-can g c =
     let at = goal.at.cross-first-requires-clause-can g c in
     let begins = known g at.After-self in
-    let room = c.requires.ready.note_room in
-    let ports = c.arrive.ensures.ports in
     let looks = ports_seen g at.After-self in
     let can : CanBeCrossed c.self.inside.workers c.arrive.new.self c.args.note.now = record {
       workers = c.self.invariant.0;
@@ -364,11 +355,7 @@ cross-second-requires-clause-can g c =
     let moved = moved_of (crossed g at.After-cross-first) in
     let best = c.cross-first.ensures.best in
     let few = few_cross c.cross-first.ensures.matching c.arrive.new.self.inputs c.args.slot 1 best.stable.matching in
-    let room = c.requires.ready.note_room in
-    let left = c.cross-first.ensures.note_room in
     let gone = ap length c.depart.ensures.inputs in
-    let ports = c.cross-first.ensures.moves.ports.0 in
-    let came_ports = c.arrive.ensures.ports in
     let looks = ports_seen g at.After-self in
     let can : CanBeCrossed c.self.inside.workers c.depart.new.queues c.cross-first.new.note = record {
       workers = c.self.invariant.0;
@@ -453,46 +440,16 @@ returns-then-go_straight-clause-slot g c =
     let at = goal.at.returns-then-go_straight-clause-slot g c in
     let e = c.self.inside in
     let slot = c.args.slot in
-    let cells = c.args.arrivals.now in
-    let marks = c.take_in.new.limiter.marks in
     let came = c.take_in.new.came in
-    let begins = known g at.After-self in
-    let done = all_straight g c in
     let is = straight g at.After-of_outputs in
     let did = c.pass-crossed.ensures in
-    let note_room = did.note_room in
-    let noted = ap length done.crossed in
-    let many = ap (λ (n : ℕ). length (crossings slot n came)) is.ports in
-    let gone = ap (λ l. length (departures_in slot l)) done.gone in
-    let sent_room = did.sent.left.spare in
-    let new : EngineView =
-    seen c.pass-crossed.new.ranks.fixed c.pass-crossed.new.ranks.states e.queues c.pass-crossed.new.limiter
-    c.count_proposals.new.figures (slot + 1) e.stopped in
-    subst
-    (λ (v : EngineView).
-    SlotDone (map g.R.Rank.machine v.fixed) slot cells v new c.args.sent.now c.pass-crossed.new.sent c.args.note.now
-    c.pass-crossed.new.note)
-    c.self.view_is
-    (record {
-      record_of = record { admission = by_marks marks cells; of_slot = done.of_slot };
-      is_slot =
-          record {
-            admits =
-                admits_are e.limiter (fabric_of e.queues e.ranks.states) cells marks begins.running.holds
-                c.take_in.ensures.judged.marks;
-            runs = done.is_slot;
-            marks = did.sent.released.marks;
-          };
-      departed = did.sent.left.items ∙ ap (λ l. c.args.sent.now.items ++ departures_in slot l) (sym done.gone);
-      departed_room = omega arith;
-      crossed =
-          did.note
-          ∙ ap (λ l. c.args.note.now.items ++ l) (ap (λ (n : ℕ). crossings slot n came) is.ports ∙ sym done.crossed);
-      crossed_room = omega arith;
-      counted = done.figures;
-      refused =
-          did.sent.released.refused ∙ c.in_default.ensures.taken.refused;
-    })
+    slot_done g.R.Rank.machine e.ranks.fixed e.ranks.states e.queues e.limiter c.take_in.new.limiter e.figures e.next
+    e.stopped c.self.view_is (known g at.After-self).running.holds c.take_in.ensures.judged.marks
+    c.in_default.ensures.taken.refused c.pass-crossed.new.ranks.fixed c.pass-crossed.new.ranks.states e.queues
+    c.pass-crossed.new.limiter c.count_proposals.new.figures (slot + 1) (all_straight g c) did.sent.released
+    did.sent.left
+    (did.note ∙ ap (λ (n : ℕ). c.args.note.now.items ++ crossings slot n came) is.ports)
+    (ap (λ (n : ℕ). c.pass-crossed.new.note.spare + length (crossings slot n came)) (sym is.ports) ∙ did.note_room)
 
 pub returns-clause-answer : goal.returns-clause-answer
 returns-clause-answer g c =
@@ -504,99 +461,66 @@ pub returns-clause-slot : goal.returns-clause-slot
 returns-clause-slot g c =
     let e = c.self.inside in
     let slot = c.args.slot in
-    let cells = c.args.arrivals.now in
-    let marks = c.take_in.new.limiter.marks in
-    let begins = known g (goal.at.returns-clause-slot g c).After-self in
-    let done = whole g c in
-    let one = c.cross-first.ensures in
-    let two = c.cross-second.ensures in
-    let left = c.depart.ensures.sent in
     let first = transfers_of c.cross-first.ensures.matching c.arrive.new.self.inputs slot 1 in
     let second = transfers_of c.cross-second.ensures.matching c.depart.new.queues.inputs slot 2 in
-    let first_room = one.note_room in
-    let second_room = two.note_room in
-    let both = ap length done.crossed in
-    let longer = length-append first second in
-    let gone = ap (λ l. length (departures_in slot l)) done.gone in
-    let sent_room = left.left.spare in
-    let new : EngineView =
-    seen c.depart.new.ranks.fixed c.depart.new.ranks.states c.cross-second.new.queues c.depart.new.limiter
-    c.count_proposals-2.new.figures (slot + 1) e.stopped in
-    subst
-    (λ (v : EngineView).
-    SlotDone (map g.R.Rank.machine v.fixed) slot cells v new c.args.sent.now c.depart.new.sent c.args.note.now
-    c.cross-second.new.note)
-    c.self.view_is
-    (record {
-      record_of = record { admission = by_marks marks cells; of_slot = done.of_slot };
-      is_slot =
-          record {
-            admits =
-                admits_are e.limiter (fabric_of e.queues e.ranks.states) cells marks begins.running.holds
-                c.take_in.ensures.judged.marks;
-            runs = done.is_slot;
-            marks = left.released.marks;
-          };
-      departed = left.left.items ∙ ap (λ l. c.args.sent.now.items ++ departures_in slot l) (sym done.gone);
-      departed_room = omega arith;
-      crossed =
-          two.noted ∙ ap (λ l. l ++ second) one.noted ∙ append_assoc c.args.note.now.items first second
-          ∙ ap (λ l. c.args.note.now.items ++ l) (sym done.crossed);
-      crossed_room = omega arith;
-      counted = done.figures;
-      refused =
-          left.released.refused ∙ c.in_default.ensures.taken.refused;
-    })
+    let one = c.cross-first.ensures in
+    let two = c.cross-second.ensures in
+    slot_done g.R.Rank.machine e.ranks.fixed e.ranks.states e.queues e.limiter c.take_in.new.limiter e.figures e.next
+    e.stopped c.self.view_is (known g (goal.at.returns-clause-slot g c).After-self).running.holds
+    c.take_in.ensures.judged.marks c.in_default.ensures.taken.refused c.depart.new.ranks.fixed
+    c.depart.new.ranks.states c.cross-second.new.queues c.depart.new.limiter c.count_proposals-2.new.figures (slot + 1)
+    (whole g c) c.depart.ensures.sent.released c.depart.ensures.sent.left
+    (two.noted ∙ ap (λ l. l ++ second) one.noted ∙ append_assoc c.args.note.now.items first second)
+    (omega (arith, length-append first second))
 
 -- ## What stays
 
 pub returns-in-Err-clause-stays : goal.returns-in-Err-clause-stays
 returns-in-Err-clause-stays g c =
-    record {
+    stopped_as c.self.view_is
+    (record {
       unsent = refl;
       unnoted = refl;
-      figures = ap (λ (v : EngineView). v.figures) c.self.view_is;
-      refused = c.in-Err.ensures.stays ∙ ap (λ (v : EngineView). v.refused) c.self.view_is;
-      lists = ap (λ (v : EngineView). v.fabric.inputs) c.self.view_is;
-      buffers = ap (λ (v : EngineView). v.fabric.buffers) c.self.view_is;
-      next = ap (λ (v : EngineView). v.next) c.self.view_is;
-    }
+      figures = refl;
+      refused = c.in-Err.ensures.stays;
+      lists = refl;
+      buffers = refl;
+      next = refl;
+    })
 
 pub returns-in-Err-clause-made : goal.returns-in-Err-clause-made
 returns-in-Err-clause-made g c =
-    record {
-      fixed = c.take_in.ensures.fixed ∙ ap (λ (v : EngineView). v.fixed) c.self.view_is;
-      limits = c.take_in.ensures.judged.limits ∙ ap (λ (v : EngineView). v.limits) c.self.view_is;
-      from_inputs = ap (λ (v : EngineView). v.from_inputs) c.self.view_is;
-      to_outputs = ap (λ (v : EngineView). v.to_outputs) c.self.view_is;
-    }
+    made_as c.self.view_is
+    (record {
+      fixed = c.take_in.ensures.fixed;
+      limits = c.take_in.ensures.judged.limits;
+      from_inputs = refl;
+      to_outputs = refl;
+    })
 
 pub returns-then-go_straight-clause-made : goal.returns-then-go_straight-clause-made
 returns-then-go_straight-clause-made g c =
-    record {
-      fixed =
-          c.pass-crossed.ensures.sent.fixed ∙ c.take_in.ensures.fixed ∙ ap (λ (v : EngineView). v.fixed) c.self.view_is;
-      limits =
-          c.pass-crossed.ensures.sent.released.limits ∙ c.take_in.ensures.judged.limits
-          ∙ ap (λ (v : EngineView). v.limits) c.self.view_is;
-      from_inputs = ap (λ (v : EngineView). v.from_inputs) c.self.view_is;
-      to_outputs = ap (λ (v : EngineView). v.to_outputs) c.self.view_is;
-    }
+    let sent = c.pass-crossed.ensures.sent in
+    made_as c.self.view_is
+    (record {
+      fixed = sent.fixed ∙ c.take_in.ensures.fixed;
+      limits = sent.released.limits ∙ c.take_in.ensures.judged.limits;
+      from_inputs = refl;
+      to_outputs = refl;
+    })
 
 pub returns-clause-made : goal.returns-clause-made
 returns-clause-made g c =
-    record {
-      fixed = c.depart.ensures.sent.fixed ∙ c.take_in.ensures.fixed ∙ ap (λ (v : EngineView). v.fixed) c.self.view_is;
-      limits =
-          c.depart.ensures.sent.released.limits ∙ c.take_in.ensures.judged.limits
-          ∙ ap (λ (v : EngineView). v.limits) c.self.view_is;
-      from_inputs =
-          c.cross-second.ensures.from_inputs ∙ c.depart.ensures.from_inputs ∙ c.cross-first.ensures.from_inputs
-          ∙ c.arrive.ensures.from_inputs ∙ ap (λ (v : EngineView). v.from_inputs) c.self.view_is;
-      to_outputs =
-          c.cross-second.ensures.to_outputs ∙ c.depart.ensures.to_outputs ∙ c.cross-first.ensures.to_outputs
-          ∙ c.arrive.ensures.to_outputs ∙ ap (λ (v : EngineView). v.to_outputs) c.self.view_is;
-    }
+    let one = c.cross-first.ensures in
+    let left = c.depart.ensures in
+    let two = c.cross-second.ensures in
+    made_as c.self.view_is
+    (record {
+      fixed = left.sent.fixed ∙ c.take_in.ensures.fixed;
+      limits = left.sent.released.limits ∙ c.take_in.ensures.judged.limits;
+      from_inputs = two.from_inputs ∙ left.from_inputs ∙ one.from_inputs ∙ c.arrive.ensures.from_inputs;
+      to_outputs = two.to_outputs ∙ left.to_outputs ∙ one.to_outputs ∙ c.arrive.ensures.to_outputs;
+    })
 
 -- ## The next slot
 
@@ -604,7 +528,6 @@ pub returns-then-go_straight-clause-went_on : goal.returns-then-go_straight-clau
 returns-then-go_straight-clause-went_on g c =
     let at = goal.at.returns-then-go_straight-clause-went_on g c in
     let few = few_proposed g at.After-pass-crossed (known g at.After-self) (straight g at.After-of_outputs) in
-    let counted = c.count_proposals.ensures.proposals in
     record { next = refl; few = omega arith }
 
 pub returns-clause-went_on : goal.returns-clause-went_on
@@ -613,9 +536,6 @@ returns-clause-went_on g c =
     let n = length c.args.self.now.fixed in
     let long = length-map c.self.inside.ranks.fixed g.R.Rank.machine in
     let looks = ap (λ (v : EngineView). length v.fixed) c.self.view_is in
-    let ports = begins.running.in_step.ports in
-    let came_ports = c.arrive.ensures.ports in
-    let moved = c.cross-first.ensures.moves.ports.0 in
     let gone = ap length c.depart.ensures.inputs in
     let first : c.cross-first.result ≤ n * n =
     subst (λ (k : ℕ). c.cross-first.result ≤ k * k) (let e : length c.arrive.new.self.inputs ≡ n = omega arith in e)
@@ -623,7 +543,5 @@ returns-clause-went_on g c =
     let second : c.cross-second.result ≤ n * n =
     subst (λ (k : ℕ). c.cross-second.result ≤ k * k) (let e : length c.depart.new.queues.inputs ≡ n = omega arith in e)
     c.cross-second.ensures.few in
-    let counted = c.count_proposals-2.ensures.proposals in
-    let left = c.depart.ensures.sent.proposals in
     let was = ap (λ (v : EngineView). v.figures.proposals) c.self.view_is in
     record { next = refl; few = omega arith }

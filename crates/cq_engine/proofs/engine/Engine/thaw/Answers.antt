@@ -1,4 +1,4 @@
-use Rattle.std.proofs.Common.{ℕ, List, length, map, refl, sym, ap, ◌∙◌, subst, arith}
+use Rattle.std.proofs.Common.{◌≡◌, ℕ, List, length, map, refl, sym, ap, ◌∙◌, subst, arith}
 use Rattle.std.proofs.lemmas.List.{length-map}
 use Rattle.cq_base.specs.declared.cell.Queued.{Queued}
 use Rattle.cq_rank.specs.Switch.{AreSized}
@@ -11,11 +11,13 @@ use Rattle.cq_engine.proofs.Going.{can_hold, goes_on, same_frozen}
 use Rattle.cq_fabric.proofs.Limits.{held_long}
 use Rattle.cq_engine.proofs.engine.Engine.thaw.Goals as goal
 
+as_many : {X Y Z : Type 0} (f : X → Y) (g : Y → Z) (xs : List X) → length (map g (map f xs)) ≡ length xs
+as_many f g xs = length-map (map f xs) g ∙ length-map xs f
+
 pub put-requires-clause-few : goal.put-requires-clause-few
 put-requires-clause-few g c =
     let same = ap length c.of-ranks.ensures.fixed in
     let many = length-map (map g.R.Rank.fixed c.args.ranks.items) g.R.Rank.machine in
-    let few = c.requires.made.machines.few in
     omega arith
 
 pub put-requires-clause-outputs : goal.put-requires-clause-outputs
@@ -39,19 +41,13 @@ held_in-requires-clause-outputs g c = c.requires.goes_on.sound.fabric.outputs
 
 pub held_in-requires-clause-fit : goal.held_in-requires-clause-fit
 held_in-requires-clause-fit g c = λ j below.
-    let ports = c.requires.goes_on.ports.lists in
     let rooms = c.requires.goes_on.buffer_rooms j (omega arith) in
-    let many = length-map (map g.R.Rank.fixed c.args.ranks.items) g.R.Rank.machine in
-    let items = length-map c.args.ranks.items g.R.Rank.fixed in
-    let outputs = c.requires.made.to_outputs in
+    let many = as_many g.R.Rank.fixed g.R.Rank.machine c.args.ranks.items in
     omega (arith, c.type_inv.to_outputs j)
 
 pub holding-requires-clause-few : goal.holding-requires-clause-few
 holding-requires-clause-few g c =
-    let many = length-map (map g.R.Rank.fixed c.args.ranks.items) g.R.Rank.machine in
-    let items = length-map c.args.ranks.items g.R.Rank.fixed in
-    let inputs = c.requires.made.from_inputs in
-    let few = c.requires.made.machines.few in
+    let many = as_many g.R.Rank.fixed g.R.Rank.machine c.args.ranks.items in
     omega arith
 
 pub holding-requires-clause-square : goal.holding-requires-clause-square
@@ -59,15 +55,13 @@ holding-requires-clause-square g c = c.requires.made.to_outputs ∙ sym c.requir
 
 pub holding-requires-clause-lists : goal.holding-requires-clause-lists
 holding-requires-clause-lists g c =
-    let many = length-map (map g.R.Rank.fixed c.args.ranks.items) g.R.Rank.machine in
-    let items = length-map c.args.ranks.items g.R.Rank.fixed in
-    ap length c.as_slice-lists.ensures ∙ c.requires.goes_on.ports.lists ∙ many ∙ items ∙ sym c.requires.made.from_inputs
+    let many = as_many g.R.Rank.fixed g.R.Rank.machine c.args.ranks.items in
+    ap length c.as_slice-lists.ensures ∙ c.requires.goes_on.ports.lists ∙ many ∙ sym c.requires.made.from_inputs
 
 pub holding-requires-clause-buffers : goal.holding-requires-clause-buffers
 holding-requires-clause-buffers g c =
-    let many = length-map (map g.R.Rank.fixed c.args.ranks.items) g.R.Rank.machine in
-    let items = length-map c.args.ranks.items g.R.Rank.fixed in
-    ap length c.as_slice-buffers.ensures ∙ c.requires.goes_on.ports.buffers ∙ many ∙ items
+    let many = as_many g.R.Rank.fixed g.R.Rank.machine c.args.ranks.items in
+    ap length c.as_slice-buffers.ensures ∙ c.requires.goes_on.ports.buffers ∙ many
     ∙ sym c.requires.made.from_inputs
 
 pub holding-requires-clause-hold : goal.holding-requires-clause-hold
@@ -81,16 +75,14 @@ holding-requires-clause-hold g c =
 
 pub of-requires-clause-held : goal.of-requires-clause-held
 of-requires-clause-held g c =
-    let many = length-map (map g.R.Rank.fixed c.args.ranks.items) g.R.Rank.machine in
-    let items = length-map c.args.ranks.items g.R.Rank.fixed in
+    let many = as_many g.R.Rank.fixed g.R.Rank.machine c.args.ranks.items in
     ap length (c.as_slice.ensures ∙ c.in_ok-held.ensures) ∙ held_long (fabric_in c.args.from.now)
-    ∙ c.requires.goes_on.ports.lists ∙ many ∙ items ∙ sym c.requires.made.limits
+    ∙ c.requires.goes_on.ports.lists ∙ many ∙ sym c.requires.made.limits
 
 pub of-requires-clause-marks : goal.of-requires-clause-marks
 of-requires-clause-marks g c =
-    let many = length-map (map g.R.Rank.fixed c.args.ranks.items) g.R.Rank.machine in
-    let items = length-map c.args.ranks.items g.R.Rank.fixed in
-    ap length c.as_slice-marks.ensures ∙ c.requires.goes_on.ports.marks ∙ many ∙ items ∙ sym c.requires.made.limits
+    let many = as_many g.R.Rank.fixed g.R.Rank.machine c.args.ranks.items in
+    ap length c.as_slice-marks.ensures ∙ c.requires.goes_on.ports.marks ∙ many ∙ sym c.requires.made.limits
 
 pub invariant_of-result : goal.invariant_of-result
 invariant_of-result g c =
@@ -100,10 +92,9 @@ invariant_of-result g c =
     let limiter = c.in_ok-limiter.limiter in
     let figures = c.in_ok-figures.figures in
     let states = c.put.new.self.states in
-    let many = length-map (map g.R.Rank.fixed c.args.ranks.items) g.R.Rank.machine in
-    let items = length-map c.args.ranks.items g.R.Rank.fixed in
+    let many = as_many g.R.Rank.fixed g.R.Rank.machine c.args.ranks.items in
     let runs = goes_on ms c.args.limits.now c.args.from_inputs.now c.args.to_outputs.now x c.requires.made.machines
-    c.requires.goes_on limiter c.in_ok-limiter.ensures.limits (c.requires.made.limits ∙ sym items ∙ sym many)
+    c.requires.goes_on limiter c.in_ok-limiter.ensures.limits (c.requires.made.limits ∙ sym many)
     (c.in_ok-limiter.ensures.held ∙ c.as_slice.ensures ∙ c.in_ok-held.ensures) queues states figures
     (c.in_ok-queues.ensures.inputs ∙ c.as_slice-lists.ensures)
     (c.in_ok-queues.ensures.buffers ∙ c.as_slice-buffers.ensures)

@@ -1,0 +1,72 @@
+-- A slot that is done, as clauses see it: what is seen of the parts of the engine before it and after it.
+use Rattle.std.proofs.Common.{◌≡◌, ◌+◌, ◌++◌, ℕ, Bool, List, Option, length, map, ap, ◌∙◌, sym, subst, arith}
+use Rattle.cq_base.specs.Room.{RoomView}
+use Rattle.cq_base.specs.declared.cell.Cell.{Cell}
+use Rattle.cq_base.specs.declared.cell.Departure.{Departure}
+use Rattle.cq_base.specs.declared.cell.Queued.{Queued}
+use Rattle.cq_base.specs.declared.cell.Transfer.{Transfer}
+use Rattle.cq_base.specs.declared.figures.Figures.{Figures}
+use Rattle.cq_rank.specs.Machine.{Machine}
+use Rattle.cq_ideal.specs.Admission.{admitted, marks_after, refused}
+use Rattle.cq_ideal.specs.Ideal.{HaveLeft}
+use Rattle.cq_ideal.specs.IdealSlot.{IdealState, departures_in}
+use Rattle.cq_ideal.specs.Limiter.{LimiterView}
+use Rattle.cq_ideal.specs.Refused.{with_refused}
+use Rattle.cq_ideal.proofs.Slot.{by_marks}
+use Rattle.cq_fabric.specs.Held.{HoldsFabric}
+use Rattle.cq_fabric.specs.Queues.{Queues, fabric_of}
+use Rattle.cq_fabric.specs.Released.{HasReleased}
+use Rattle.cq_fabric.proofs.Limits.{admits_are}
+use Rattle.cq_engine.specs.Engine.{EngineView, HasStopped, IsMadeAs, SlotDone}
+use Rattle.cq_engine.proofs.Shown.{seen}
+use Rattle.cq_engine.proofs.Slot.{Whole}
+
+-- ## What is shown of the engine as it was seen
+
+pub made_as : {old shown new : EngineView} → shown ≡ old → IsMadeAs shown new → IsMadeAs old new
+made_as {new = new} is made = subst (λ (v : EngineView). IsMadeAs v new) is made
+
+pub stopped_as : {old shown new : EngineView} {sent sent' : RoomView Departure} {note note' : RoomView Transfer} →
+    shown ≡ old → HasStopped shown new sent sent' note note' → HasStopped old new sent sent' note note'
+stopped_as {new = new} {sent = sent} {sent' = sent'} {note = note} {note' = note'} is stopped =
+    subst (λ (v : EngineView). HasStopped v new sent sent' note note') is stopped
+
+-- ## The slot
+
+-- the engine was seen like this, its outputs held these cells, and the arrivals were judged and taken
+module _ (M : List ℕ → Machine) (fixed states : List (List ℕ)) (q : Queues) (l taken : LimiterView) (x : Figures)
+    (next : ℕ) (stopped : Bool) {v : EngineView} (is : seen fixed states q l x next stopped ≡ v)
+    (holds : HoldsFabric (fabric_of q states) l) {cells : List (Option Cell)}
+    (judged : taken.marks ≡ marks_after l.limits l.held l.marks cells)
+    (counted : taken.refused ≡ with_refused (refused taken.marks cells) l.refused) where
+  -- the slot came to this, the cells were sent and released, and the transfers were noted
+  pub slot_done : (fixed' states' : List (List ℕ)) (q' : Queues) (l' : LimiterView) (y : Figures) (next' : ℕ)
+      {slot : ℕ} {ideal : IdealState} {gone : List (Option Queued)} {noted : List Transfer}
+      {sent sent' : RoomView Departure} {note note' : RoomView Transfer} →
+      Whole (map M fixed) slot (admitted taken.marks cells) x y (fabric_of q states) (fabric_of q' states') ideal gone
+      noted → HasReleased gone taken l' → HaveLeft slot gone sent sent' → note'.items ≡ note.items ++ noted →
+      note'.spare + length noted ≡ note.spare →
+      SlotDone (map M v.fixed) slot cells v (seen fixed' states' q' l' y next' stopped) sent sent' note note'
+  slot_done fixed' states' q' l' y next' {slot} {sent = sent} {sent' = sent'} {note = note} {note' = note'} done
+      released left items spare =
+      let gone = ap (λ g. length (departures_in slot g)) done.gone in
+      let noted = ap length done.crossed in
+      subst
+      (λ (v : EngineView).
+      SlotDone (map M v.fixed) slot cells v (seen fixed' states' q' l' y next' stopped) sent sent' note note')
+      is
+      (record {
+        record_of = record { admission = by_marks taken.marks cells; of_slot = done.of_slot };
+        is_slot =
+            record {
+              admits = admits_are l (fabric_of q states) cells taken.marks holds judged;
+              runs = done.is_slot;
+              marks = released.marks;
+            };
+        departed = left.items ∙ ap (λ g. sent.items ++ departures_in slot g) (sym done.gone);
+        departed_room = omega arith;
+        crossed = items ∙ ap (λ t. note.items ++ t) (sym done.crossed);
+        crossed_room = omega arith;
+        counted = done.figures;
+        refused = released.refused ∙ counted;
+      })

@@ -1,0 +1,6 @@
+use Rattle.std.proofs.Common.{rules}
+use Rattle.std.specs.Prelude.{max}
+use Rattle.cq_engine.proofs.measure.greater.Goals as goal
+
+pub returns : goal.returns
+returns c = c.either.ensures max (λ x y r k. search rules)

@@ -1,0 +1,6 @@
+use Rattle.std.proofs.Common.{rules}
+use Rattle.std.specs.Prelude.{min}
+use Rattle.cq_engine.proofs.measure.lesser.Goals as goal
+
+pub returns : goal.returns
+returns c = c.either.ensures min (λ x y r k. search rules)
