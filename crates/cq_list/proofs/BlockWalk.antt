@@ -29,7 +29,7 @@ take_past (x ∷ xs) ys (suc n) past =
 pub count_all_le : (blocks : List (List ℕ)) (i j : ℕ) → count_of j (concat (take i blocks)) ≤ length (concat blocks)
 count_all_le blocks i j = let le = count_le j (concat (take i blocks)) in let whole = whole_is blocks i in omega arith
 
-module _ (blocks : List (List ℕ)) (i : ℕ) (block : List ℕ) (inside : i < length blocks)
+module _ (blocks : List (List ℕ)) (i : ℕ) {block : List ℕ} (inside : i < length blocks)
     (is_read : block ≡ get_or blocks i block) where
   block_is : block ≡ get_or blocks i []
   block_is = get_or_read blocks i block inside is_read []
@@ -50,14 +50,14 @@ module _ (blocks : List (List ℕ)) (i : ℕ) (block : List ℕ) (inside : i < l
       ∙ length-append (filter (is_output j) ahead) (filter (is_output j) (get_or blocks i [] ++ [])) in
       let same = ap (count_of j) (append-nil (get_or blocks i []) ∙ sym block_is) in omega arith
 
-  pub ahead_with : (j places own more count : ℕ) → IsAhead blocks j i places own → more ≡ length block →
+  pub ahead_with : {j places own more count : ℕ} → IsAhead blocks j i places own → more ≡ length block →
       count ≡ count_of j block → IsAhead blocks j (i + 1) (places + more) (own + count)
-  ahead_with j places own more count ahead long many =
+  ahead_with {j} ahead long many =
       record { all = let next = ahead_next in omega arith; few = let next = count_next j in omega arith }
 
-  pub ahead_without : (j places own less count : ℕ) → IsAhead blocks j (i + 1) places own → less ≡ length block →
+  pub ahead_without : {j places own less count : ℕ} → IsAhead blocks j (i + 1) places own → less ≡ length block →
       count ≡ count_of j block → IsAhead blocks j i (places - less) (own - count)
-  ahead_without j places own less count ahead long many =
+  ahead_without {j} ahead long many =
       record { all = let next = ahead_next in omega arith; few = let next = count_next j in omega arith }
 
   pub rest_next : length (concat (drop i blocks)) ≡ length block + length (concat (drop (i + 1) blocks))
@@ -67,7 +67,7 @@ module _ (blocks : List (List ℕ)) (i : ℕ) (block : List ℕ) (inside : i < l
   block_fits = let whole = whole_is blocks i in let rest = rest_next in omega arith
 
   -- the place of number k where the block has it
-  module _ (j k places own : ℕ) (ahead : IsAhead blocks j i places own) (late : own ≤ k)
+  module _ {j : ℕ} (k : ℕ) {places own : ℕ} (ahead : IsAhead blocks j i places own) (late : own ≤ k)
       (early : k < count_of j (concat (take (i + 1) blocks))) where
     pub own_inside : k - own < count_of j block
     own_inside = let next = count_next j in omega arith
@@ -126,7 +126,7 @@ module _ (blocks : List (List ℕ)) (passed : ℕ) (block : List ℕ) (len end :
   starts_back =
       let i : ℕ = length blocks - 1 - passed in
       let next : i + 1 ≡ length blocks - passed = omega arith in
-      let ahead = ahead_next blocks i block (omega arith) is_read in
+      let ahead = ahead_next blocks i (omega arith) is_read in
       let same = ap (λ n. length (concat (take n blocks))) next in omega arith
 
   pub spot_back : (place : ℕ) → place < end → end - len ≤ place →
@@ -134,5 +134,5 @@ module _ (blocks : List (List ℕ)) (passed : ℕ) (block : List ℕ) (len end :
   spot_back place early late =
       let inside : length blocks - 1 - passed < length blocks = omega arith in
       let start = starts_back in
-      let size = ap length (block_is blocks (length blocks - 1 - passed) block inside is_read) in
+      let size = ap length (block_is blocks (length blocks - 1 - passed) inside is_read) in
       record { inside = inside; short = omega arith; at = omega arith }

@@ -1,7 +1,7 @@
 -- The places and the pool of a list, before and after its calls. The cells for which they stand are known by the split
 -- alone, so each call has to show no more than the split of the cells that it promises; that these are the cells that
 -- the new places and the new pool stand for follows.
-use Rattle.std.proofs.Common.{◌≡◌, ℕ, zero, suc, ◌<◌, ◌≤◌, eqb, ltb, Bool, cond, List, [], ◌∷◌, length, set, take, drop, min, Option, None, Some, refl, sym, ap, ◌∙◌, subst, arith, ⊎_elim, length-set, get_or-set_same, get_or-set_other}
+use Rattle.std.proofs.Common.{◌≡◌, ℕ, zero, suc, ◌<◌, eqb, ltb, Bool, cond, List, [], ◌∷◌, length, set, take, drop, min, Option, None, Some, refl, sym, ap, ◌∙◌, subst, arith, ⊎_elim, length-set, get_or-set_same, get_or-set_other}
 use Rattle.std.proofs.lemmas.List.{length-map, get_or_past}
 use Rattle.std.specs.Prelude.{◌&&◌, slice_get, remove, insert, filter, position}
 use Rattle.std.specs.Option.{option_map}
@@ -12,7 +12,6 @@ use Rattle.std.proofs.lemmas.List.Folds.{find_at}
 use Rattle.cq_base.specs.declared.cell.Queued.{Queued}
 use Rattle.cq_base.specs.Key.{is_before}
 use Rattle.cq_base.specs.Cells.{HasOtherKey, MoreUrgentAhead, is_for, first_for, place_for, without_first, put, place_of_later, place_of_arrival, with_arrival}
-use Rattle.cq_base.proofs.Lists.{first_inside}
 use Rattle.cq_list.specs.Split.{Queues, without_head, IsSplit, is_output, place_of_nth, count_of}
 use Rattle.cq_list.specs.Places.{PlacesView}
 use Rattle.cq_list.specs.Pool.{PoolView, queue_of}
@@ -66,7 +65,7 @@ all_filter P p (x ∷ xs) a =
     cond_both (p x) (x ∷ filter p xs) (filter p xs) (AllByRecursion P) (λ _. (a.0, all_filter P p xs a.1))
     (λ _. all_filter P p xs a.1)
 
-module _ (outputs : ℕ) (places : PlacesView) (pool : PoolView) (w : Waiting)
+module _ {outputs : ℕ} {places : PlacesView} {pool : PoolView} {w : Waiting}
     (stand : StandFor outputs places pool (cells_in places pool))
     (is : record { cells = cells_in places pool; outputs = outputs; spare = pool.spare } ≡ w) where
   -- what they stand for is what is seen
@@ -122,19 +121,11 @@ module _ (outputs : ℕ) (places : PlacesView) (pool : PoolView) (w : Waiting)
       }
 
   -- the place of the first cell for an output that passes a test, as it is computed
-  pub place_found :
-      (j : ℕ) (q : Queued → Bool) (ahead place : ℕ) → ahead ≡ position_or_len q (queue_of pool.queues j) →
+  pub place_found : (j : ℕ) (q : Queued → Bool) {ahead place : ℕ} → ahead ≡ position_or_len q (queue_of pool.queues j) →
       place ≡ place_of_nth (is_output j) ahead places.outputs → place ≡ position_or_len (λ x. is_for j x && q x) w.cells
-  place_found j q ahead place a p =
+  place_found j q {ahead} a p =
       p ∙ ap (λ k. place_of_nth (is_output j) k places.outputs) a
       ∙ sym (both_is_nth places.outputs (queue_of pool.queues) w.cells j q had.split)
-
-  -- all are the places of the output, and no more cells are ahead
-  pub ahead_fits :
-      (j : ℕ) (q : Queued → Bool) (ahead all : ℕ) → ahead ≡ position_or_len q (queue_of pool.queues j) →
-      all ≡ length (queue_of pool.queues j) → (all ≡ count_of j places.outputs) × (ahead ≤ all)
-  ahead_fits j q ahead all a l =
-      let short = first_inside q (queue_of pool.queues j) in (l ∙ counted j, omega arith)
 
   -- an output with a cell has a place
   pub some_places : (j : ℕ) (x : Queued) → slice_get (queue_of pool.queues j) 0 ≡ Some x → 0 < count_of j places.outputs

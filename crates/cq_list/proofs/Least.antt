@@ -1,11 +1,12 @@
 -- The place of the first cell with an id, looked for in one queue after another. The cells for the outputs so far
 -- that have the id first stand somewhere, and those for the next output first stand somewhere: the first of both
 -- stands at the lesser of the two places. In the end these are the cells for all outputs.
-use Rattle.std.proofs.Common.{◌≡◌, ◌≢◌, ℕ, ◌+◌, ◌<◌, ◌≤◌, ltb, min, Bool, true, false, cond, List, [], ◌∷◌, length, Option, Some, None, refl, sym, ap, ◌∙◌, ⊎_elim, arith}
-use Rattle.std.specs.Prelude.{◌&&◌, position}
+use Rattle.std.proofs.Common.{◌≡◌, ◌≢◌, ℕ, ◌+◌, ◌<◌, ◌≤◌, eqb, ltb, min, not, Bool, true, false, cond, List, [], ◌∷◌, length, Option, Some, None, refl, sym, ap, ◌∙◌, ⊎_elim, arith}
+use Rattle.std.specs.Prelude.{◌&&◌, ◌||◌, position}
 use Rattle.std.specs.List.{AllByRecursion, position_or_len}
 use Rattle.std.proofs.Math.Bool.{and-false}
-use Rattle.std.proofs.lemmas.Bool.{lt-ltb, le-ltb, eq-eqb, ne_eqb, cases_Bool, cases_eq, cases_lt}
+use Rattle.std.proofs.lemmas.Bool.{lt-ltb, le-ltb, cases_Bool}
+use Rattle.std.proofs.lemmas.Bool.Decides.{nat_tests}
 use Rattle.cq_base.specs.declared.cell.CellId.{CellId}
 use Rattle.cq_base.specs.declared.cell.Queued.{Queued}
 use Rattle.cq_base.specs.Cells.{is_for, has_id}
@@ -25,50 +26,35 @@ both a b one other = ap (λ c. c && b) one ∙ other
 neither : (a b : Bool) → b ≡ false → (a && b) ≡ false
 neither a b fails = ap (λ c. a && c) fails ∙ and-false a
 
-not_first : (a b : Bool) → a ≡ false → (a && b) ≡ false
-not_first a b fails = ap (λ c. c && b) fails
-
 pub least_starts : (id : CellId) (xs : List Queued) → position_or_len (is_below id 0) xs ≡ length xs
 least_starts id [] = refl
 least_starts id (x ∷ xs) =
     let rest = least_starts id xs in
-    let past = first_later (is_below id 0) x xs (not_first _ (has_id id x) (le-ltb x.cell.output 0 (omega arith))) in
+    let past = first_later (is_below id 0) x xs (ap (λ c. c && has_id id x) (le-ltb x.cell.output 0 (omega arith))) in
     omega arith
 
-pub least_next :
-    (id : CellId) (j : ℕ) (xs : List Queued) →
-    min (position_or_len (is_below id j) xs) (position_or_len (is_own id j) xs) ≡ position_or_len
-    (is_below id (j + 1)) xs
-least_next id j [] = refl
-least_next id j (x ∷ xs) =
-    let o : ℕ = x.cell.output in
-    let rest = least_next id j xs in
-    ⊎_elim
-    (λ has.
-    ⊎_elim
-    (λ below.
-    let a = first_here (is_below id j) x xs (both _ _ (lt-ltb o j below) has) in
-    let b = first_here (is_below id (j + 1)) x xs (both _ _ (lt-ltb o (j + 1) (omega arith)) has) in
-    omega arith)
-    (λ above.
-    ⊎_elim
-    (λ own.
-    let a = first_here (is_own id j) x xs (both _ _ (eq-eqb o j own) has) in
-    let b = first_here (is_below id (j + 1)) x xs (both _ _ (lt-ltb o (j + 1) (omega arith)) has) in
-    omega arith)
-    (λ other.
-    let a = first_later (is_below id j) x xs (not_first _ (has_id id x) (le-ltb o j above)) in
-    let b = first_later (is_own id j) x xs (not_first _ (has_id id x) (ne_eqb o j other)) in
-    let c = first_later (is_below id (j + 1)) x xs (not_first _ (has_id id x) (le-ltb o (j + 1) (omega arith))) in
-    omega arith)
-    (cases_eq o j))
-    (cases_lt o j))
-    (λ lacks.
-    let a = first_later (is_below id j) x xs (neither (ltb o j) (has_id id x) lacks) in
-    let b = first_later (is_own id j) x xs (neither (is_for j x) (has_id id x) lacks) in
-    let c = first_later (is_below id (j + 1)) x xs (neither (ltb o (j + 1)) (has_id id x) lacks) in
-    omega arith)
-    (cases_Bool (has_id id x))
+-- what passes one of two tests stands first at the lesser of the places of what passes each
+first_of_either : {X : Type 0} (p q : X → Bool) (xs : List X) →
+    min (position_or_len p xs) (position_or_len q xs) ≡ position_or_len (λ x. p x || q x) xs
+first_of_either p q [] = refl
+first_of_either p q (x ∷ xs) = step (p x) (q x) _ _ _ (first_of_either p q xs)
+  where
+    step : (a b : Bool) (m n k : ℕ) → min m n ≡ k →
+        min (cond (not a) (1 + m) 0) (cond (not b) (1 + n) 0) ≡ cond (not (a || b)) (1 + k) 0
+    step true b m n k is = omega arith
+    step false true m n k is = omega arith
+    step false false m n k is = omega arith
+
+-- what is for one of the first outputs or for the next one is for one of the first outputs with that one
+one_more : (o j : ℕ) (h : Bool) → ((ltb o j && h) || (eqb o j && h)) ≡ (ltb o (j + 1) && h)
+one_more o j h = grind (arith, nat_tests)
+
+pub least_next : (id : CellId) (j : ℕ) (xs : List Queued) →
+    min (position_or_len (is_below id j) xs) (position_or_len (is_own id j) xs)
+    ≡ position_or_len (is_below id (j + 1)) xs
+least_next id j xs =
+    first_of_either (is_below id j) (is_own id j) xs
+    ∙ ap (λ (p : Queued → Bool). position_or_len p xs) (λ k x. one_more x.cell.output j (has_id id x) k)
 
 pub least_of_all :
     (id : CellId) (n : ℕ) (xs : List Queued) → AllByRecursion (λ x. x.cell.output < n) xs →

@@ -11,29 +11,11 @@ use Rattle.cq_base.specs.declared.key.Key.{Key}
 use Rattle.cq_base.specs.Key.{is_before}
 use Rattle.cq_base.specs.Cells.{IsBefore, IsRising, HasOtherKey, put}
 use Rattle.cq_base.proofs.Keys.{key_laws}
-use Rattle.cq_base.proofs.Lists.{all_at, all_by, first_here, first_later}
+use Rattle.cq_base.proofs.Lists.{all_at, all_by, all_insert, first_here, first_later}
 
 pub all_weaker : {X : Type 0} (P Q : X → Type 0) → ((x : X) → P x → Q x) → (xs : List X) → AllByRecursion P xs →
     AllByRecursion Q xs
 all_weaker P Q f xs a = all_by Q xs (λ t x h. f x (all_at P xs t x a h))
-
-pub all_put : (P : Queued → Type 0) (c : Queued) (xs : List Queued) → P c → AllByRecursion P xs →
-    AllByRecursion P (put c xs)
-all_put P c [] own all = (own, tt)
-all_put P c (x ∷ xs) own all =
-    cond_both (is_before c.key x.key) (c ∷ x ∷ xs) (x ∷ put c xs) (AllByRecursion P) (λ _. (own, all))
-    (λ _. (all.0, all_put P c xs own all.1))
-
-pub rising_put : (c : Queued) (xs : List Queued) → IsRising xs → HasOtherKey c xs → IsRising (put c xs)
-rising_put c [] rising other = (tt, tt)
-rising_put c (x ∷ xs) rising other =
-    cond_both (is_before c.key x.key) (c ∷ x ∷ xs) (x ∷ put c xs) IsRising
-    (λ e. ((e, all_weaker _ _ (λ y later. key_laws.on c.key x.key y.key e later) xs rising.0), rising))
-    (λ e. (
-      all_put (IsBefore x) c xs (⊎_elim (λ h. h) (λ h. absurd (other.0 (key_laws.alike x.key c.key h e)))
-          (cases_Bool (is_before x.key c.key))) rising.0,
-      rising_put c xs rising.1 other.1,
-    ))
 
 -- the test that finds its place
 abbrev pub is_later : Key → Queued → Bool
@@ -49,6 +31,22 @@ put_is c (x ∷ xs) =
     let place : suc (position_or_len (is_later c.key) xs) ≡ position_or_len (is_later c.key) (x ∷ xs) = let later =
     first_later (is_later c.key) x xs e in omega arith in
     ap (λ l. x ∷ l) (put_is c xs) ∙ ap (λ i. insert (x ∷ xs) i c) place)
+
+pub all_put : (P : Queued → Type 0) (c : Queued) (xs : List Queued) → P c → AllByRecursion P xs →
+    AllByRecursion P (put c xs)
+all_put P c xs own all =
+    subst (AllByRecursion P) (sym (put_is c xs)) (all_insert P xs (position_or_len (is_later c.key) xs) c own all)
+
+pub rising_put : (c : Queued) (xs : List Queued) → IsRising xs → HasOtherKey c xs → IsRising (put c xs)
+rising_put c [] rising other = (tt, tt)
+rising_put c (x ∷ xs) rising other =
+    cond_both (is_before c.key x.key) (c ∷ x ∷ xs) (x ∷ put c xs) IsRising
+    (λ e. ((e, all_weaker _ _ (λ y later. key_laws.on c.key x.key y.key e later) xs rising.0), rising))
+    (λ e. (
+      all_put (IsBefore x) c xs (⊎_elim (λ h. h) (λ h. absurd (other.0 (key_laws.alike x.key c.key h e)))
+          (cases_Bool (is_before x.key c.key))) rising.0,
+      rising_put c xs rising.1 other.1,
+    ))
 
 -- ## How many are more urgent
 

@@ -1,5 +1,7 @@
 -- A pool in which one queue changes: each queue is linked as before, and the cells of the others are the same.
 use Rattle.std.proofs.Common.{◌≡◌, ◌≢◌, ℕ, zero, suc, ◌+◌, ◌<◌, ◌≤◌, List, [], ◌∷◌, replicate, length, get_or, set, refl, sym, ap, ◌∙◌, subst, ⊎_elim, arith, length-set, get_or-set_same, get_or-set_other}
+use Rattle.std.specs.Prelude.{Bool}
+use Rattle.std.specs.List.{position_or_len}
 use Rattle.std.proofs.lemmas.Bool.{cases_lt, cases_eq}
 use Rattle.std.proofs.lemmas.List.{length-map, get_or-map, get_or_past, get_or_read, ext_get_or}
 use Rattle.std.proofs.lemmas.List.Sums.{sum_by-set}
@@ -122,17 +124,26 @@ is_read nodes queues seen j queue had view inside read =
     }
 
 -- so of a queue of the pool
-pub read_of : (nodes : Slab Node) (queues : List Queue) (room spare : ℕ) (seen : PoolView) (j : ℕ) (queue : Queue) →
+pub read_of : {nodes : Slab Node} {queues : List Queue} {room spare : ℕ} {seen : PoolView} {j : ℕ} {queue : Queue} →
     IsPool nodes queues room → record { queues = cells_in_queues (get nodes) queues; spare = spare } ≡ seen →
     j < length seen.queues → queue ≡ get_or queues j queue → IsRead (get nodes) queues seen.queues j queue
-read_of nodes queues room spare seen j queue had is inside read =
+read_of {nodes} {queues} {seen = seen} {j} {queue} had is inside read =
     let view = ap (λ (v : PoolView). v.queues) is in
     is_read (get nodes) queues seen.queues j queue had.linked view
     (inside_seen (get nodes) queues seen.queues j view inside) read
 
-pub as_many : (nodes : Nodes) (queues : List Queue) (seen : List (List Queued)) (j : ℕ) (queue : Queue) →
+-- what stands first in it stands first in what is seen
+pub first_seen : {nodes : Slab Node} {queues : List Queue} {room spare : ℕ} {seen : PoolView} {j : ℕ} {queue : Queue}
+    (p : Queued → Bool) {n : ℕ} → IsPool nodes queues room →
+    record { queues = cells_in_queues (get nodes) queues; spare = spare } ≡ seen → j < length seen.queues →
+    queue ≡ get_or queues j queue → n ≡ position_or_len p (cells (linked (get nodes) queue)) →
+    n ≡ position_or_len p (queue_of seen.queues j)
+first_seen p had is inside read first =
+    first ∙ ap (position_or_len p) (sym (read_of had is inside read).are_cells)
+
+pub as_many : {nodes : Nodes} {queues : List Queue} {seen : List (List Queued)} {j : ℕ} {queue : Queue} →
     IsRead nodes queues seen j queue → length (queue_of seen j) ≡ queue.len
-as_many nodes queues seen j queue r =
+as_many {nodes} {queue = queue} r =
     ap length r.are_cells ∙ length-map (linked nodes queue) (λ (e : ℕ × Queued). e.1) ∙ r.is_linked.chained.whole
 
 -- ## Another queue in its place

@@ -65,6 +65,7 @@ impl InputList {
     /// A cell arrives. Its cushion is the number of more urgent cells that wait in the buffer of its output. Three
     /// places bound where it goes in, and it takes the least: its cushion, that of the first less urgent cell for
     /// its output, and the end. The other cells keep their order. It takes room for one cell and no memory.
+    #[tactic(auto, using(cq_base::proofs::Lists::first_inside))]
     pub fn insert(&mut self, queued: Queued, cushion: u64)
         requires spare { 0 < self.old.spare }
         requires in_range { queued.cell.output < self.old.outputs }
@@ -135,6 +136,7 @@ impl InputList {
     }
 
     // The place of the first cell for an output that has this id, or the end.
+    #[tactic(auto, using(cq_base::proofs::Lists::first_inside))]
     fn place_of_id(&self, output: Port, id: CellId) -> usize
         requires { output < self.now.outputs }
         ensures { result ≡ position_or_len (λ x. is_for output x && has_id id x) self.now.cells }
@@ -145,6 +147,7 @@ impl InputList {
 
     /// The place of the first cell for an output that is no more urgent than this key, or the end where there is none.
     /// So it is the place of the cell that has the key, where a cell for the output has it.
+    #[tactic(auto, using(cq_base::proofs::Lists::first_inside))]
     pub fn place_of_key(&self, output: Port, key: Key) -> u64
         requires { output < self.now.outputs }
         ensures { result ≡ position_or_len (λ x. is_for output x && not (is_before x.key key)) self.now.cells }

@@ -15,7 +15,7 @@ module _ (m : Machine) (laws : KeepsLaws m) where
       after_length steps (m.sent state l r) (laws.sent_length state l r long) inside
 
   -- a rank of any class lowers no floor
-  given_floor : (state : List ℕ) (c d : ℕ) → length state ≡ m.size → c < m.classes → d < m.classes →
+  pub given_floor : (state : List ℕ) (c d : ℕ) → length state ≡ m.size → c < m.classes → d < m.classes →
       m.floor state d ≤ m.floor (m.given state c) d
   given_floor state c d long in_c in_d = elim (cases_Bool (eqb c d)) [
     | inl same ↦ let e : c ≡ d = eqb-true c d same in

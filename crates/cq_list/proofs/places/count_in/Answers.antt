@@ -20,10 +20,10 @@ pub each-preserved : goal.each-preserved
 each-preserved c =
     let len = c.len-len.ensures.len in
     let past =
-    count_past_block c.args.blocks.now _ c.places-item.result c.each-test.true c.places-item.is c.args.output
+    count_past_block c.args.blocks.now _ c.each-test.true c.places-item.is c.args.output
     c.each.left (omega arith) in
     let same = ap (λ n. count_of c.args.output
     (take (c.each.left - n) (concat (drop (c.each.places-index + 1) c.args.blocks.now)))) len in
     let few = count_le c.args.output c.places-item.result in
-    let more = rest_next c.args.blocks.now _ c.places-item.result c.each-test.true c.places-item.is in
+    let more = rest_next c.args.blocks.now _ c.each-test.true c.places-item.is in
     (omega arith, omega arith, omega arith)

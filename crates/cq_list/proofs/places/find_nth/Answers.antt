@@ -11,6 +11,6 @@ nth_in-requires-clause-ahead c = none_ahead c.args.blocks.now c.args.output
 pub nth_in-requires-clause-early : goal.nth_in-requires-clause-early
 nth_in-requires-clause-early c =
     let inside = some_blocks c.args.blocks.now c.args.output _ _ _ c.requires.all c.requires.there in
-    let next = count_next c.args.blocks.now 0 c.index-blocks-0.result inside c.index-blocks-0.is c.args.output in
+    let next = count_next c.args.blocks.now 0 inside c.index-blocks-0.is c.args.output in
     let none = (none_ahead c.args.blocks.now c.args.output).few in
     omega arith

@@ -7,12 +7,12 @@ use Rattle.cq_list.proofs.input_list.InputList.at.Goals as goal
 
 pub at-requires : goal.at-requires
 at-requires c =
-    let there = shown _ _ _ _ c.self.invariant c.self.view_is c.args.place c.at-output.result c.at-output.ensures in
+    let there = shown c.self.invariant c.self.view_is c.args.place c.at-output.result c.at-output.ensures in
     let queue = queue_of c.self.inside.pool.queues c.at-output.result in
     subst (λ (k : ℕ). k < length queue) (sym c.count_ahead-ahead.ensures) (slice_get_within queue _ there.0 there.1)
 
 pub returns : goal.returns
 returns c =
-    let there = shown _ _ _ _ c.self.invariant c.self.view_is c.args.place c.at-output.result c.at-output.ensures in
+    let there = shown c.self.invariant c.self.view_is c.args.place c.at-output.result c.at-output.ensures in
     there.2 ∙ sym there.1 ∙ ap (slice_get (queue_of c.self.inside.pool.queues c.at-output.result))
     (sym c.count_ahead-ahead.ensures) ∙ c.at.ensures

@@ -4,4 +4,4 @@ use Rattle.cq_list.proofs.input_list.InputList.front_for.Goals as goal
 
 pub returns : goal.returns
 returns c =
-    c.first.ensures ∙ first_is _ _ _ _ c.self.invariant c.self.view_is c.args.output
+    c.first.ensures ∙ first_is c.self.invariant c.self.view_is c.args.output

@@ -6,23 +6,23 @@ use Rattle.cq_list.proofs.input_list.InputList.place_for.Goals as goal
 
 pub returns-in-None : goal.returns-in-None
 returns-in-None c =
-    sym (position-none _ _ _ _ c.self.invariant c.self.view_is c.args.output (sym c.first.ensures ∙ c.in-None.is))
+    sym (position-none c.self.invariant c.self.view_is c.args.output (sym c.first.ensures ∙ c.in-None.is))
 
 pub len_of-all-requires : goal.len_of-all-requires
 len_of-all-requires c = queue_inside _ c.args.output _ (sym c.first.ensures ∙ c.in-Some.is)
 
 pub place_of-requires-clause-all : goal.place_of-requires-clause-all
 place_of-requires-clause-all c =
-    c.len_of-all.ensures ∙ counted _ _ _ _ c.self.invariant c.self.view_is c.args.output
+    c.len_of-all.ensures ∙ counted c.self.invariant c.self.view_is c.args.output
 
 pub place_of-requires-clause-there : goal.place_of-requires-clause-there
 place_of-requires-clause-there c =
-    let some = some_places _ _ _ _ c.self.invariant c.self.view_is c.args.output _ (sym c.first.ensures ∙ c.in-Some.is)
+    let some = some_places c.self.invariant c.self.view_is c.args.output _ (sym c.first.ensures ∙ c.in-Some.is)
     in
-    let all = c.len_of-all.ensures ∙ counted _ _ _ _ c.self.invariant c.self.view_is c.args.output in omega arith
+    let all = c.len_of-all.ensures ∙ counted c.self.invariant c.self.view_is c.args.output in omega arith
 
 pub returns-in-Some : goal.returns-in-Some
 returns-in-Some c =
     let first = c.place_of.ensures ∙ nth_is_first (is_output c.args.output) c.self.inside.places.outputs in
-    ap Some first ∙ sym (position-some _ _ _ _ c.self.invariant c.self.view_is c.args.output _
+    ap Some first ∙ sym (position-some c.self.invariant c.self.view_is c.args.output _
     (sym c.first.ensures ∙ c.in-Some.is))

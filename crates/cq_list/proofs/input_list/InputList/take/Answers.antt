@@ -8,7 +8,7 @@ use Rattle.cq_list.proofs.input_list.InputList.take.Goals as goal
 pub returns-in-None : goal.returns-in-None
 returns-in-None c =
     let none = taken_none c.args.output c.args.self.now.cells
-    (position-none _ _ _ _ c.self.invariant c.self.view_is c.args.output (sym c.first.ensures ∙ c.in-None.is)) in
+    (position-none c.self.invariant c.self.view_is c.args.output (sym c.first.ensures ∙ c.in-None.is)) in
     record { first = none.0; cells = none.1; spare = omega arith; outputs = refl }
 
 pub len_of-requires : goal.len_of-requires
@@ -16,9 +16,9 @@ len_of-requires c = queue_inside _ c.args.output _ (sym c.first.ensures ∙ c.in
 
 pub remove_first-requires : goal.remove_first-requires
 remove_first-requires c =
-    let some = some_places _ _ _ _ c.self.invariant c.self.view_is c.args.output _
+    let some = some_places c.self.invariant c.self.view_is c.args.output _
     (sym c.first.ensures ∙ c.in-Some.is) in
-    let all = c.len_of.ensures ∙ counted _ _ _ _ c.self.invariant c.self.view_is c.args.output in
+    let all = c.len_of.ensures ∙ counted c.self.invariant c.self.view_is c.args.output in
     record { all = all; some = omega arith }
 
 -- what the new places and the new pool stand for
@@ -26,9 +26,9 @@ now : (c : goal.After-take) → StandFor c.self.inside.outputs c.remove_first.ne
     (without_first c.args.output c.args.self.now.cells)
 now c =
     let spare : c.remove_first.new.self.spare ≡ c.take.new.self.spare =
-    let same = (had _ _ _ _ c.self.invariant c.self.view_is).spare in
+    let same = (had c.self.invariant c.self.view_is).spare in
     omega arith in
-    left _ _ _ _ c.self.invariant c.self.view_is c.args.output _ _ _ c.take.ensures.first
+    left c.self.invariant c.self.view_is c.args.output _ _ _ c.take.ensures.first
     c.remove_first.ensures.outputs c.take.ensures.queues spare
 
 pub invariant_of-self : goal.invariant_of-self
@@ -36,7 +36,7 @@ invariant_of-self c = kept _ _ _ _ (now c)
 
 pub returns-in-Some-clause-first : goal.returns-in-Some-clause-first
 returns-in-Some-clause-first c =
-    sym c.take.ensures.first ∙ first_is _ _ _ _ c.self.invariant c.self.view_is c.args.output
+    sym c.take.ensures.first ∙ first_is c.self.invariant c.self.view_is c.args.output
 
 pub returns-in-Some-clause-cells : goal.returns-in-Some-clause-cells
 returns-in-Some-clause-cells c = cells_are _ _ _ _ (now c)

@@ -5,7 +5,7 @@ use Rattle.cq_list.proofs.input_list.InputList.thread_of.Goals as goal
 
 pub outputs-init : goal.outputs-init
 outputs-init c =
-    c.len-place.ensures ∙ as_many _ _ _ _ c.self.invariant c.self.view_is ∙ sym
+    c.len-place.ensures ∙ as_many c.self.invariant c.self.view_is ∙ sym
     (least_starts c.args.id c.args.self.now.cells)
 
 pub outputs-preserved : goal.outputs-preserved
@@ -15,12 +15,12 @@ outputs-preserved c =
 
 pub returns-then-place-len : goal.returns-then-place-len
 returns-then-place-len c =
-    found_nowhere c.args.id _ _ _ _ (had _ _ _ _ c.self.invariant c.self.view_is).waiting.in_range
+    found_nowhere c.args.id _ _ _ _ (had c.self.invariant c.self.view_is).waiting.in_range
     c.outputs.auto.output-end c.outputs-test.false c.outputs.invariant _
-    (c.len.ensures ∙ as_many _ _ _ _ c.self.invariant c.self.view_is) c.if-place-len.true
+    (c.len.ensures ∙ as_many c.self.invariant c.self.view_is) c.if-place-len.true
 
 pub returns : goal.returns
 returns c =
-    found_at c.args.id _ _ _ _ (had _ _ _ _ c.self.invariant c.self.view_is).waiting.in_range
+    found_at c.args.id _ _ _ _ (had c.self.invariant c.self.view_is).waiting.in_range
     c.outputs.auto.output-end c.outputs-test.false c.outputs.invariant _
-    (c.len.ensures ∙ as_many _ _ _ _ c.self.invariant c.self.view_is) c.if-place-len.false
+    (c.len.ensures ∙ as_many c.self.invariant c.self.view_is) c.if-place-len.false

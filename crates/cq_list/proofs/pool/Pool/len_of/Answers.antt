@@ -3,4 +3,4 @@ use Rattle.cq_list.proofs.Queues.{read_of, as_many}
 use Rattle.cq_list.proofs.pool.Pool.len_of.Goals as goal
 
 pub returns : goal.returns
-returns c = sym (as_many _ _ _ _ _ (read_of _ _ _ _ _ _ _ c.self.invariant c.self.view_is c.requires c.index.ensures))
+returns c = sym (as_many (read_of c.self.invariant c.self.view_is c.requires c.index.ensures))

@@ -8,24 +8,24 @@ use Rattle.cq_list.proofs.pool.Pool.put.Goals as goal
 
 pub put_into-requires-clause-linked : goal.put_into-requires-clause-linked
 put_into-requires-clause-linked c =
-    (read_of _ _ _ _ _ _ _ c.self.invariant c.self.view_is c.requires.in_range c.index-queue.ensures).is_linked
+    (read_of c.self.invariant c.self.view_is c.requires.in_range c.index-queue.ensures).is_linked
 
 pub put_into-requires-clause-count : goal.put_into-requires-clause-count
 put_into-requires-clause-count c =
-    let read = read_of _ _ _ _ _ _ _ c.self.invariant c.self.view_is c.requires.in_range c.index-queue.ensures in
+    let read = read_of c.self.invariant c.self.view_is c.requires.in_range c.index-queue.ensures in
     c.ahead_of-ahead.ensures.count ∙ no_sooner_is_later c.args.queued _
     (subst (HasOtherKey c.args.queued) read.are_cells c.requires.other_key)
 
 pub returns-clause-place : goal.returns-clause-place
 returns-clause-place c =
-    let read = read_of _ _ _ _ _ _ _ c.self.invariant c.self.view_is c.requires.in_range c.index-queue.ensures in
+    let read = read_of c.self.invariant c.self.view_is c.requires.in_range c.index-queue.ensures in
     c.ahead_of-ahead.ensures.count
     ∙ ap (position_or_len (is_no_sooner c.args.queued.key)) (sym read.are_cells)
     ∙ no_sooner_is_later c.args.queued _ c.requires.other_key
 
 pub invariant_of-self : goal.invariant_of-self
 invariant_of-self c =
-    let read = read_of _ _ _ _ _ _ _ c.self.invariant c.self.view_is c.requires.in_range c.index-queue.ensures in
+    let read = read_of c.self.invariant c.self.view_is c.requires.in_range c.index-queue.ensures in
     let spare = ap (λ (v : PoolView). v.spare) c.self.view_is in
     is_pool_changed c.self.inside.nodes _ _ _ c.self.inside.queues.items _ c.index-queue.result.now _ c.self.invariant
     read c.put_into.ensures.others c.put_into.ensures.linked (omega arith) (omega arith) c.put_into.ensures.capacity
@@ -33,5 +33,5 @@ invariant_of-self c =
 pub returns-clause-queues : goal.returns-clause-queues
 returns-clause-queues c =
     view_changed c.self.inside.nodes c.put_into.new.nodes _ c.self.inside.room _ _ _ _ c.self.invariant
-    (read_of _ _ _ _ _ _ _ c.self.invariant c.self.view_is c.requires.in_range c.index-queue.ensures)
+    (read_of c.self.invariant c.self.view_is c.requires.in_range c.index-queue.ensures)
     c.put_into.ensures.others (put c.args.queued) c.put_into.ensures.cells

@@ -11,9 +11,9 @@ use Rattle.cq_list.proofs.pool.Pool.take.Goals as goal
 
 pub remove-node-requires : goal.remove-node-requires
 remove-node-requires c =
-    let read = read_of _ _ _ _ _ _ _ c.self.invariant c.self.view_is (inside_some _ c.args.output 0 c.requires)
+    let read = read_of c.self.invariant c.self.view_is (inside_some _ c.args.output 0 c.requires)
     c.index-queue.ensures in
-    let some : 0 < c.index-queue.result.now.len = let many = as_many _ _ _ _ _ read in let some = c.requires in
+    let some : 0 < c.index-queue.result.now.len = let many = as_many read in let some = c.requires in
     omega arith in
     ap is_some (head_there _ _ read.is_linked.chained some).1
 
@@ -28,10 +28,10 @@ record Taken (c : goal.After-result-1) : Type 0 where
 
 taken : (c : goal.After-result-1) → Taken c
 taken c =
-    let read = read_of _ _ _ _ _ _ _ c.self.invariant c.self.view_is (inside_some _ c.args.output 0 c.requires)
+    let read = read_of c.self.invariant c.self.view_is (inside_some _ c.args.output 0 c.requires)
     c.index-queue.ensures in
     let some : c.index-queue.result.now.len ≡ c.index-queue.result.now.len - 1 + 1 = let many =
-    as_many _ _ _ _ _ read in let some = c.requires in omega arith in
+    as_many read in let some = c.requires in omega arith in
     let own = head_own _ _ _ _ _ read.is_linked some c.remove-node.ensures.value in
     record {
       read = read;
