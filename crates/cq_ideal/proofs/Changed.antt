@@ -1,6 +1,7 @@
--- Lists that are made item by item, and lists that are new up to a place, and old from it on.
+-- Lists that are made item by item, what is seen of one item, and lists that are new up to a place, and old from it on.
 use Rattle.std.proofs.Common.{◌≡◌, ℕ, ◌+◌, ◌<◌, ◌≤◌, List, [], ◌∷◌, ◌++◌, length, map, get_or, replicate, set, take, drop, sym, ap, ◌∙◌, arith, append_assoc, length-append}
-use Rattle.std.proofs.lemmas.List.{append-nil, drop_all, drop_more, get_or_at, length-drop, length-take, length-take-le, map_push, replicate_more, set_at, take_all, take_more}
+use Rattle.std.proofs.lemmas.List.{append-nil, drop_all, drop_more, get_or_at, get_or-map, length-drop, length-map, length-take, length-take-le, map-set, map_push, replicate_more, set_at, take_all, take_more}
+use Rattle.std.proofs.Math.Seq.{map-set_same}
 
 -- ## One item more
 
@@ -22,6 +23,22 @@ pub map_same : {X Y : Type 0} (f : X → Y) (y : Y) (n : ℕ) (xs more : List X)
 map_same f y n xs more x so_far is here =
     ap (map f) is ∙ map_push f xs x ∙ ap (λ t. t ++ f x ∷ []) so_far ∙ ap (λ z. replicate n y ++ z ∷ []) here
     ∙ replicate_more n y
+
+-- ## One item of some of which something is seen
+
+module _ {X Y : Type 0} (f : X → Y) (items : List X) {seen : List Y} (are : map f items ≡ seen) (o : ℕ) where
+  pub item_inside : o < length seen → o < length items
+  item_inside inside = let long = ap length are in let same = length-map items f in omega arith
+
+  pub seen_at : {x : X} (d : Y) → o < length items → x ≡ get_or items o x → f x ≡ get_or seen o d
+  seen_at {x} d inside is = ap f is ∙ sym (get_or-map f items o x d inside) ∙ ap (λ l. get_or l o d) are
+
+  -- another item in its place
+  pub seen_set : (s : X) {y : Y} → f s ≡ y → map f (set items o s) ≡ set seen o y
+  seen_set s e = map-set f items o s ∙ ap (λ l. set l o (f s)) are ∙ ap (set seen o) e
+
+  pub seen_same : {x : X} (s : X) → x ≡ get_or items o x → f s ≡ f x → map f (set items o s) ≡ seen
+  seen_same {x} s is e = map-set_same f items o s x (e ∙ ap f is) ∙ are
 
 -- ## One item changed
 

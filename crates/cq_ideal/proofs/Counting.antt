@@ -78,8 +78,6 @@ counts_left n cell counts can k d inside =
     let p = one_at_most (eqb cell.output r.output && is_first cell) in
     let c = one_at_most (eqb cell.output r.output) in
     let P : Refused → Type 0 = λ r. (r.packets + n < 2 ^ 64) × (r.cells + n < 2 ^ 64) in
-    let first = was.0 in
-    let second = was.1 in
     let now : P (with_cells (cell ∷ []) r) = (omega arith, omega arith) in
     subst P (sym is) now
 
@@ -87,7 +85,6 @@ pub fewer_left : (n m : ℕ) (counts : List Refused) → CanCount m counts → n
 fewer_left n m counts can le k d inside =
     let was = can k d inside in
     let first = was.0 in
-    let second = was.1 in
     (omega arith, omega arith)
 
 -- ## The counts one after another
@@ -167,8 +164,6 @@ zero_fits n limits few =
         AllByRecursion (λ r. (r.packets + n < 2 ^ 64) × (r.cells + n < 2 ^ 64)) counts
     each [] none = tt
     each (r ∷ counts) none =
-        let packets = none.0.0 in
-        let cells = none.0.1 in
         ((omega arith, omega arith), each counts none.1)
 
 -- ## The walk over the inputs
@@ -210,7 +205,6 @@ module _ (cells : List (Option Cell)) (first : LimiterView) (input : ℕ) (now :
       refused (drop input first.marks) (drop input cells)
       ≡ listed cell ++ refused (drop (input + 1) first.marks) (drop (input + 1) cells)
   split cell is =
-      let many = has.marks in
       let mark = get_or first.marks input false in
       let arrival = arrival_at cells input in
       let ahead = drop_more first.marks input false (omega arith) in
@@ -261,7 +255,6 @@ pub counting_last : (cells : List (Option Cell)) (first : LimiterView) (input : 
     Counting cells first input now → HasPorts first → length first.limits ≤ input →
     now.refused ≡ with_refused (refused first.marks cells) first.refused
 counting_last cells first input now so_far has past =
-    let many = has.marks in
     let over : drop input first.marks ≡ [] = drop_all input first.marks (omega arith) in
     sym (none_counted now.refused)
     ∙ ap (λ (l : List Bool). with_refused (refused l (drop input cells)) now.refused) (sym over)

@@ -72,7 +72,6 @@ same_packet packet output [] are same = tt
 same_packet packet output (cell ∷ cells) are same = λ on.
     ⊎_elim
     (λ goes.
-    let number = goes.0 in
     let here : packet ≡ cell.id.packet = omega arith in
     let goes_on = subst (λ (p : ℕ). AreOfPackets (p + 1) cells) (sym here) are.1 in
     (sym (same.0 here), same_packet packet output cells goes_on same.1))
@@ -204,7 +203,6 @@ module _ (limits : List (Option ℕ)) (j : ℕ) (none : slice_index_or limits j 
   all_elsewhere inputs marks (cells ∷ traffic) [] judged long keep clear = absurd judged
   all_elsewhere inputs marks (cells ∷ traffic) (a ∷ admissions) judged long keep clear =
       let held = judged.0.0 in
-      let many = long.0 in
       let slot : (i : ℕ) → i < inputs → mark_at a.marks i ≡ true →
       ((cell : Cell) → arrival_at cells i ≡ Some cell → Elsewhere cell) × UpToNext Elsewhere (cells_at i traffic) =
       λ i inside up. one_slot (arrival_at cells i) (mark_at marks i) (mark_at a.marks i) (cells_at i traffic)

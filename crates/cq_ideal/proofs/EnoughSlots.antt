@@ -17,7 +17,7 @@ use Rattle.cq_ideal.proofs.Whole.{empties, if_ok, waiting-empty}
 
 -- ## What is admitted
 
-fewer : (marks : List Bool) (cells : List (Option Cell)) →
+pub fewer : (marks : List Bool) (cells : List (Option Cell)) →
     length (present (admitted marks cells)) ≤ length (present cells)
 fewer [] cells = omega arith
 fewer (mark ∷ marks) [] = omega arith

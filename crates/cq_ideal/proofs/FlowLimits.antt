@@ -75,7 +75,7 @@ module _ (i c j : ℕ) where
   none_past a [] at lt = refl
   none_past a (None ∷ cells) at lt = none_past (a + 1) cells at (omega arith)
   none_past a (Some cell ∷ cells) at lt =
-      let here = at.0 in other cell (present cells) (λ e. omega arith) ∙ none_past (a + 1) cells at.1 (omega arith)
+      other cell (present cells) (λ e. omega arith) ∙ none_past (a + 1) cells at.1 (omega arith)
 
   at_place : (a k : ℕ) (cells : List (Option Cell)) → StandAt a cells → i ≡ a + k →
       of_flow i c j (present cells) ≡ of_flow i c j (cell_listed (arrival_at cells k))
@@ -86,7 +86,7 @@ module _ (i c j : ℕ) where
       ap (λ (l : List Cell). cond (is_of_flow i c j cell) (cell ∷ l) l) (none_past (a + 1) cells at.1 (omega arith))
   at_place a (suc k) (None ∷ cells) at e = at_place (a + 1) k cells at (omega arith)
   at_place a (suc k) (Some cell ∷ cells) at e =
-      let here = at.0 in other cell (present cells) (λ same. omega arith) ∙ at_place (a + 1) k cells at.1 (omega arith)
+      other cell (present cells) (λ same. omega arith) ∙ at_place (a + 1) k cells at.1 (omega arith)
 
   joins : (x : Option Cell) (cells : List Cell) →
       of_flow i c j (cell_listed x) ++ of_flow i c j cells ≡ of_flow i c j (cons_option x cells)

@@ -3,7 +3,7 @@
 -- some kind is less urgent than a new one of that kind, none of them stands behind it: the first cell behind it is
 -- less urgent, and so is each that follows. So of that kind the new cell is the last, and of any other kind the list
 -- shows what it showed.
-use Rattle.std.proofs.Common.{◌≡◌, ◌+◌, Bool, true, false, cond, List, [], ◌∷◌, ◌++◌, length, refl, sym, ap, ◌∙◌, subst, ⊎_elim, arith}
+use Rattle.std.proofs.Common.{◌≡◌, Bool, true, false, cond, List, [], ◌∷◌, ◌++◌, refl, sym, ap, ◌∙◌, subst, ⊎_elim}
 use Rattle.std.specs.List.{AllByRecursion, filter}
 use Rattle.std.proofs.lemmas.Bool.{cond_both, cases_Bool, both_ways, false_from_ne_true, cond-true, cond-false}
 use Rattle.cq_base.specs.declared.key.Key.{Key}
@@ -11,6 +11,7 @@ use Rattle.cq_base.specs.declared.cell.Queued.{Queued}
 use Rattle.cq_base.specs.Key.{is_before}
 use Rattle.cq_base.specs.Cells.{EachPair, put}
 use Rattle.cq_base.proofs.Keys.{key_laws}
+use Rattle.cq_urgency.proofs.Rising.{all_put}
 
 -- the second cell is not the more urgent
 abbrev pub NoLater : Queued → Queued → Type 0
@@ -20,19 +21,6 @@ pub all_from : {X : Type 0} (P Q : X → Type 0) → ((x : X) → P x → Q x) �
     AllByRecursion Q xs
 all_from P Q f [] a = tt
 all_from P Q f (x ∷ xs) a = (f x a.0, all_from P Q f xs a.1)
-
-pub all_put : (P : Queued → Type 0) (n : Queued) (xs : List Queued) → P n → AllByRecursion P xs →
-    AllByRecursion P (put n xs)
-all_put P n [] p a = (p, tt)
-all_put P n (x ∷ xs) p a =
-    cond_both (is_before n.key x.key) (n ∷ x ∷ xs) (x ∷ put n xs) (AllByRecursion P) (λ _. (p, a))
-    (λ _. (a.0, all_put P n xs p a.1))
-
-pub length_put : (n : Queued) (xs : List Queued) → length (put n xs) ≡ length xs + 1
-length_put n [] = refl
-length_put n (x ∷ xs) =
-    cond_both (is_before n.key x.key) (n ∷ x ∷ xs) (x ∷ put n xs) (λ l. length l ≡ length (x ∷ xs) + 1)
-    (λ _. omega arith) (λ _. let rest = length_put n xs in omega arith)
 
 -- what is before a cell is before each that is not more urgent than that one
 before_later : (n x y : Key) → is_before n x ≡ true → is_before y x ≡ false → is_before n y ≡ true

@@ -21,13 +21,15 @@ present [] = []
 present (None ∷ cells) = present cells
 present (Some cell ∷ cells) = cell ∷ present cells
 
+-- a result has one value
+pub only_ok : {X E : Type 0} {x : Result X E} {a b : X} → x ≡ Ok a → x ≡ Ok b → a ≡ b
+only_ok e f = cc
+
 -- what came of the inputs from this one on, where no rank was too great
 pub after_ok : (P : Ranking → Type 0) (o : Option Queued) (x : Result Ranking TagFault) (r : Ranking) →
     after_input o x ≡ Ok r →
     ((rest : Ranking) → x ≡ Ok rest → P (record { came = o ∷ rest.came; ranks = rest.ranks })) → P r
-after_ok P o (Ok rest) r h f =
-    let made : Ranking = record { came = o ∷ rest.came; ranks = rest.ranks } in
-    let same : made ≡ r = cc in subst P same (f rest refl)
+after_ok P o (Ok rest) r h f = subst P (only_ok refl h) (f rest refl)
 after_ok P o (Err fault) r h f = absurd (let P : ⊥ = cc in P)
 
 pub fits_ok : (b : Bool) (x : Result Ranking TagFault) (fault : TagFault) (r : Ranking) → cond b x (Err fault) ≡ Ok r →
@@ -154,9 +156,7 @@ module _ (ms : List Machine) (j slot : ℕ) (laws : KeepsLaws (machine_at ms j))
       AreOfClasses (machine_at ms j) j (present cells) → Filled (present cells) xs (put_all j r.came xs) ranks r.ranks
   unfolding of_flow
   filled_from [] input ranks xs r h inside stands are =
-      let made : Ranking = record { came = []; ranks = ranks } in
-      let same : made ≡ r = cc in
-      subst (λ (q : Ranking). Filled [] xs (put_all j q.came xs) ranks q.ranks) same
+      subst (λ (q : Ranking). Filled [] xs (put_all j q.came xs) ranks q.ranks) (only_ok refl h)
       (record {
         stands = stands_next (machine_at ms j) laws (slice_index_or ranks j []) slot input xs stands;
         ports = refl;

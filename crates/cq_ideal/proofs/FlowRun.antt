@@ -17,7 +17,7 @@ use Rattle.cq_ideal.specs.IdealSlot.{IdealState, Sent, ideal_slot, departures_fr
 use Rattle.cq_ideal.specs.IdealRun.{Ran, then_ran, ideal_run, departures_of}
 use Rattle.cq_ideal.specs.Flows.{leaves_in_flow, left_in_flow}
 use Rattle.cq_ideal.proofs.FlowStands.{Stands, is_kind, shown, of_flow}
-use Rattle.cq_ideal.proofs.FlowRank.{present, AreOfClasses}
+use Rattle.cq_ideal.proofs.FlowRank.{present, only_ok, AreOfClasses}
 use Rattle.cq_ideal.proofs.FlowSlot.{listed, Served, served, slot_ports}
 
 -- ## What an output sends
@@ -114,9 +114,7 @@ goes_on ms slot traffic x =
 then_ok : (P : Ran → Type 0) (gone : List (Option Queued)) (x : Result Ran TagFault) (ran : Ran) →
     then_ran gone x ≡ Ok ran →
     ((rest : Ran) → x ≡ Ok rest → P (record { gone = gone ∷ rest.gone; after = rest.after })) → P ran
-then_ok P gone (Ok rest) ran h f =
-    let made : Ran = record { gone = gone ∷ rest.gone; after = rest.after } in
-    let same : made ≡ ran = cc in subst P same (f rest refl)
+then_ok P gone (Ok rest) ran h f = subst P (only_ok refl h) (f rest refl)
 then_ok P gone (Err fault) ran h f = absurd (let P : ⊥ = cc in P)
 
 pub run_ok : (P : Ran → Type 0) (ms : List Machine) (slot : ℕ) (traffic : List (List (Option Cell)))
@@ -166,16 +164,15 @@ module _ (ms : List Machine) (j : ℕ) (laws : KeepsLaws (machine_at ms j)) (i c
       Passed slot traffic state ran
   unfolding ideal_run goes_on flow_came come_count departures_of
   passed [] slot state ran h in_lists in_ranks stands are =
-      let made : Ran = record { gone = []; after = state } in
-      let same : made ≡ ran = cc in
-      subst (Passed slot [] state) same (record { shows = append-nil (shown i c (slice_index_or state.lists j [])) })
+      subst (Passed slot [] state) (only_ok refl h)
+      (record { shows = append-nil (shown i c (slice_index_or state.lists j [])) })
   passed (cells ∷ traffic) slot state ran h in_lists in_ranks stands are =
       run_ok (Passed slot (cells ∷ traffic) state) ms slot traffic (ideal_slot ms slot cells state) ran h
       (λ sent rest slot_is rest_is.
       let s = served ms j slot laws i c cells state sent slot_is in_lists in_ranks stands are.0 in
       let p =
-      passed traffic (slot + 1) sent.after rest rest_is (let ports = s.ports in omega arith)
-      (let states = s.states in omega arith) s.stands are.1 in
+      passed traffic (slot + 1) sent.after rest rest_is (omega arith)
+      (omega arith) s.stands are.1 in
       passed_step slot cells traffic state sent rest s p)
 
 -- where there is no such port nothing leaves it
@@ -184,9 +181,7 @@ pub no_port : (ms : List Machine) (i c j : ℕ) (traffic : List (List (Option Ce
     left_in_flow i c j (departures_of slot ran.gone) ≡ []
 unfolding ideal_run goes_on departures_of
 no_port ms i c j [] slot state ran h outside =
-    let made : Ran = record { gone = []; after = state } in
-    let same : made ≡ ran = cc in
-    subst (λ (r : Ran). left_in_flow i c j (departures_of slot r.gone) ≡ []) same refl
+    subst (λ (r : Ran). left_in_flow i c j (departures_of slot r.gone) ≡ []) (only_ok refl h) refl
 no_port ms i c j (cells ∷ traffic) slot state ran h outside =
     run_ok (λ r. left_in_flow i c j (departures_of slot r.gone) ≡ []) ms slot traffic (ideal_slot ms slot cells state)
     ran h

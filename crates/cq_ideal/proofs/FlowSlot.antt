@@ -33,7 +33,6 @@ stands_sent m laws state slot (y ∷ ys) stands = record {
       (λ x w. record {
         level = w.level;
         rank = let l = laws.sent_floor state y.key.level y.key.rank x.cell.class stands.size w.class in
-            let r = w.rank in
             omega arith;
         class = w.class;
         came = w.came;

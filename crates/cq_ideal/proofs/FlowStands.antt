@@ -9,14 +9,16 @@ use Rattle.std.specs.List.{AllByRecursion, filter}
 use Rattle.std.specs.declared.cmp.Ordering.{Ordering}
 use Rattle.std.specs.declared.cmp.Ordering.TheVariants.{Less, Equal, Greater}
 use Rattle.std.specs.Ordering.{nat_cmp, ordering_then, is_lt}
-use Rattle.std.proofs.lemmas.Bool.{cond_both, cases_Bool, cases_eq, ltb-true, eqb-true, eq-eqb, and_parts, and_from, and_right, cond-true, cond-false}
+use Rattle.std.proofs.lemmas.Bool.{cond_both, cases_Bool, ltb-true, eqb-true, eq-eqb, and_parts, and_from, and_right, cond-true, cond-false}
 use Rattle.std.proofs.lemmas.List.{append-nil, map-append}
 use Rattle.cq_base.specs.declared.cell.Cell.{Cell}
 use Rattle.cq_base.specs.declared.cell.Queued.{Queued}
 use Rattle.cq_base.specs.Key.{is_before}
 use Rattle.cq_base.specs.Cells.{EachPair, put}
+use Rattle.cq_rank.proofs.Floors.{given_floor}
 use Rattle.cq_rank.specs.Machine.{Machine, KeepsLaws}
-use Rattle.cq_ideal.proofs.FlowPut.{NoLater, all_from, all_put, in_order_put, filter-put, filter-put_other}
+use Rattle.cq_ideal.proofs.FlowPut.{NoLater, all_from, in_order_put, filter-put, filter-put_other}
+use Rattle.cq_urgency.proofs.Rising.{all_put}
 
 -- ## Keys that are not the lesser
 
@@ -122,28 +124,16 @@ module _ (m : Machine) (laws : KeepsLaws m) (state : List ℕ) (slot input : ℕ
           level = w.level;
           rank = w.rank;
           class = w.class;
-          came = let s = w.came in omega arith;
-          before = λ e. let s = w.came in absurd (omega arith);
+          came = omega arith;
+          before = λ e. absurd (omega arith);
         }) xs stands.waited;
   }
 
   module _ (n : Queued) (known : n.cell.class < m.classes) (level_is : n.key.level ≡ m.level n.cell.class)
       (rank_is : n.key.rank ≡ m.ranked state n.cell.class) (slot_is : n.key.slot ≡ slot)
       (input_is : n.key.input ≡ input) where
-    -- no floor falls
-    no_lower : (d : ℕ) → d < m.classes → m.floor state d ≤ m.floor (m.given state n.cell.class) d
-    no_lower d l =
-        ⊎_elim
-        (λ same. subst (λ (e : ℕ). m.floor state e ≤ m.floor (m.given state n.cell.class) e) same
-        (let above = laws.above state n.cell.class stands.size known in
-        let is = laws.given_floor state n.cell.class stands.size known in
-        omega arith))
-        (λ other. laws.other_floor state n.cell.class d stands.size known l other)
-        (cases_eq n.cell.class d)
-
     -- what is known of the list with the new cell
     pub stands_put : Stands m (m.given state n.cell.class) slot (input + 1) (put n xs)
-    unfolding no_lower
     stands_put = record {
       size = laws.given_length state n.cell.class stands.size known;
       order = in_order_put n xs stands.order;
@@ -159,7 +149,8 @@ module _ (m : Machine) (laws : KeepsLaws m) (state : List ℕ) (slot input : ℕ
           (all_from (HasWaited m state slot input) (HasWaited m (m.given state n.cell.class) slot (input + 1))
           (λ x w. record {
             level = w.level;
-            rank = let l = no_lower x.cell.class w.class in let r = w.rank in omega arith;
+            rank = let l = given_floor m laws state n.cell.class x.cell.class stands.size known w.class in
+                omega arith;
             class = w.class;
             came = w.came;
             before = λ e. let b = w.before e in omega arith;

@@ -88,7 +88,6 @@ pub in_turn_next : (M : List ℕ → Machine) (slot : ℕ) (cells : List (Option
 in_turn_next M slot cells first input ranks ranks_new came cell q so_far places inside port next fixed many one =
     let none : Option Queued = None in
     let ms = map M first.fixed in
-    let long = so_far.long in
     let rest = drop (input + 1) cells in
     let others = ranking ms slot (input + 1) rest ranks_new.states in
     let here : ranking ms slot input (cell ∷ rest) ranks.states ≡ after_input q others =
@@ -134,7 +133,6 @@ in_turn_last M slot class_count cells first input ranks came so_far for some pas
     let none : Option Queued = None in
     let ms = map M first.fixed in
     let left = length (drop input cells) in
-    let long = so_far.long in
     let places = so_far.places (omega arith) in
     let in_cells = length-drop input cells in
     let in_came = length-drop input came in

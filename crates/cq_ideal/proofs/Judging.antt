@@ -121,8 +121,6 @@ pub judged_next : (cells : List (Option Cell)) (first : LimiterView) (input : �
     Judging cells first (input + 1) after
 judged_next cells first input now after cell up so_far lt here inside turned marks held limits refused =
     let rest = drop (input + 1) cells in
-    let longer = so_far.inputs in
-    let wide = so_far.outputs in
     let within : (c : Cell) → cell ≡ Some c → c.output < length now.held = λ c e. let l = inside c e in omega arith in
     let e : up ≡ mark_after first.limits now.held (get_or now.marks input false) cell =
     turned ∙ ap (λ (l : List (Option ℕ)). mark_after l now.held (get_or now.marks input false) cell) so_far.limits in
@@ -198,15 +196,11 @@ pub record Judged (cells : List (Option Cell)) (first now : LimiterView) : Type 
   pub held : (j : ℕ) → get_or now.held j 0 ≡ get_or first.held j 0 + count_for j (admitted now.marks cells)
   pub ports : HasPorts now
 
-pub judged_last : (cells : List (Option Cell)) (first : LimiterView) (input : ℕ) (now : LimiterView) →
+pub judged_last : {cells : List (Option Cell)} {first : LimiterView} {input : ℕ} {now : LimiterView} →
     Judging cells first input now → HasPorts first → ComeToPorts (length first.limits) cells →
     length first.limits ≤ input → Judged cells first now
-judged_last cells first input now so_far has come past =
+judged_last {cells} {first} {input} {now} so_far has come past =
     let none : Option Cell = None in
-    let inputs = so_far.inputs in
-    let outputs = so_far.outputs in
-    let many = has.marks in
-    let held = has.held in
     let limits = ap length so_far.limits in
     let over : drop input now.marks ≡ [] = drop_all input now.marks (omega arith) in
     let marks : now.marks ≡ marks_after first.limits first.held first.marks cells =

@@ -128,6 +128,5 @@ counted_among came slot input cell a (suc n) low high is =
 pub counted_in : (ports : ℕ) (came : List Arrival) (slot inputs : ℕ) → inputs ≡ 64 → (c : Comes ports came slot) →
     1 ≤ count_for c.cell.output (arriving came slot)
 counted_in ports came slot inputs are c =
-    let inside = c.inside in
     subst (λ (cells : List (Option Cell)). 1 ≤ count_for c.cell.output cells) (sym (arriving_is came slot inputs are))
     (counted_among came slot c.input c.cell 0 inputs (omega arith) (omega arith) c.found_is)

@@ -38,7 +38,6 @@ one_departs ms slot (cells ∷ later ∷ traffic) s ran one some is = absurd (om
 one_departs ms slot (cells ∷ []) s ran one some is =
     let p = first_slot ms slot cells [] s ran is in
     let w = some_waits s.lists some in
-    let has = w.2 in
     let here = of_slot slot p.sent.gone ((counted ms slot cells s p.sent p.ran_slot).departs w.0 w.1 (omega arith)) in
     let none = (measured ms (slot + 1) [] p.sent.after p.second p.ran_second).slots in
     let rest = slots_within (slot + 1) p.second.gone in
@@ -122,7 +121,6 @@ module _ (ms : List Machine) (ports : ℕ) (came : List Arrival) (all : AllByRec
       let p = first_slot ms slot (arriving came slot) (arriving_from came (slot + 1) n) s ran
       (ap (λ l. ideal_run ms slot l s) (sym (arriving_here came slot n)) ∙ is) in
       let count = counted ms slot (arriving came slot) s p.sent p.ran_slot in
-      let as_many = count.ports in
       let both = slots_of-append (departures_in slot p.sent.gone) (departures_of (slot + 1) p.second.gone) in
       let are : slots_of (departures_of slot ran.gone) ≡ slots_of
       (departures_in slot p.sent.gone ++ departures_of (slot + 1) p.second.gone) =
@@ -134,7 +132,6 @@ module _ (ms : List Machine) (ports : ℕ) (came : List Arrival) (all : AllByRec
       omega arith)
       (λ (now : k ≤ 0).
       let c = comes ms ports came slot all (omega arith) in
-      let inside = c.output in
       let one = counted_in ports came slot 64 refl c in
       let sent = of_slot slot p.sent.gone (count.departs c.cell.output (omega arith) (omega arith)) in
       omega arith)

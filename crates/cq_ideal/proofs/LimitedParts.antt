@@ -13,6 +13,7 @@ use Rattle.cq_ideal.specs.IdealRun.{departures_of, ideal_run}
 use Rattle.cq_ideal.specs.IdealSlot.{IdealState}
 use Rattle.cq_ideal.specs.LimitedIdeal.{LimitedRan, LimitedSent, limited_run, limited_slot, then_limited}
 use Rattle.cq_ideal.specs.Refused.{refused_in}
+use Rattle.cq_ideal.proofs.FlowRank.{only_ok}
 use Rattle.cq_ideal.proofs.LimitedRuns.{none_in, none_refused_ran, run_of_none}
 use Rattle.cq_ideal.proofs.Parted.{quiet_from, stays_empty}
 use Rattle.cq_ideal.proofs.Waiting.{waiting}
@@ -87,18 +88,12 @@ module _ (limits : List (Option ℕ)) (ms : List Machine) where
           (y : Result LimitedRan TagFault) → limited_run limits ms n after first.after ≡ y →
           behind first.admissions first.gone y ≡ Ok ran → LimitedHalves slot n before after s ran
       second_of first here (Ok second) there f =
-          let joined : LimitedRan = record {
-            admissions = first.admissions ++ second.admissions;
-            gone = first.gone ++ second.gone;
-            after = second.after;
-          } in
-          let same : joined ≡ ran = cc in
           record {
             first = first;
             second = second;
             ran_first = here;
             ran_second = there;
-            gone = sym (ap (λ (r : LimitedRan). r.gone) same);
+            gone = ap (λ (r : LimitedRan). r.gone) (only_ok f refl);
           }
       second_of first here (Err fault) there f = absurd (let P : ⊥ = cc in P)
 

@@ -3,14 +3,13 @@
 use Rattle.std.proofs.Common.{◌≡◌, ℕ, zero, suc, ◌+◌, ◌<◌, ◌≤◌, ◌^◌, eqb, Bool, true, List, [], ◌∷◌, ◌++◌, length, map, get_or, set, take, replicate, refl, sym, ap, ◌∙◌, subst, arith}
 use Rattle.std.specs.Prelude.{All, IsTrue, ◌↔◌}
 use Rattle.std.specs.List.{list_all}
-use Rattle.std.proofs.lemmas.List.{get_or-map, length-map, length-replicate, get_or-replicate, map-set}
+use Rattle.std.proofs.lemmas.List.{get_or-map, length-map, length-replicate, get_or-replicate}
 use Rattle.std.proofs.lemmas.List.Elements.{All-push}
 use Rattle.std.proofs.lemmas.List.Folds.{list_all-map}
 use Rattle.std.proofs.lemmas.List.Sums.{AllPass-from_list_all, list_all-from_AllPass}
 use Rattle.std.proofs.lemmas.Bool.{eqb-true, eq-eqb}
-use Rattle.std.proofs.Math.Seq.{map-set_same}
 use Rattle.cq_base.specs.declared.cell.Queued.{Queued}
-use Rattle.cq_ideal.proofs.Changed.{map_next, map_same}
+use Rattle.cq_ideal.proofs.Changed.{item_inside, map_next, map_same, seen_at, seen_same, seen_set}
 use Rattle.cq_ideal.specs.Parts.{AreWithinRooms, IsWithin, QueueView, QueuesView, list_at}
 
 abbrev cells_in : QueueView → List Queued
@@ -19,7 +18,7 @@ cells_in q = q.cells
 abbrev room_in : QueueView → ℕ
 room_in q = q.room
 
-module _ (items : List QueueView) (o : ℕ) (q : QueueView) (v : QueuesView) (inside : o < length v.lists)
+module _ (items : List QueueView) (o : ℕ) {q : QueueView} {v : QueuesView} (inside : o < length v.lists)
     (is : q ≡ get_or items o q) (view_is : record { lists = map cells_in items; rooms = map room_in items } ≡ v) where
   lists_are : map cells_in items ≡ v.lists
   lists_are = ap (λ (w : QueuesView). w.lists) view_is
@@ -28,26 +27,23 @@ module _ (items : List QueueView) (o : ℕ) (q : QueueView) (v : QueuesView) (in
   rooms_are = ap (λ (w : QueuesView). w.rooms) view_is
 
   here : o < length items
-  here = let e = ap length lists_are in let l = length-map items cells_in in omega arith
+  here = item_inside cells_in items lists_are o inside
 
   pub cells_seen : q.cells ≡ list_at v.lists o
-  cells_seen = ap cells_in is ∙ sym (get_or-map cells_in items o q [] here) ∙ ap (λ l. list_at l o) lists_are
+  cells_seen = seen_at cells_in items lists_are o [] here is
 
   pub room_seen : q.room ≡ get_or v.rooms o 0
-  room_seen = ap room_in is ∙ sym (get_or-map room_in items o q 0 here) ∙ ap (λ l. get_or l o 0) rooms_are
+  room_seen = seen_at room_in items rooms_are o 0 here is
 
-  pub room_within : All IsWithin items → length q.cells ≤ q.room
-  room_within held = subst (λ (s : QueueView). length s.cells ≤ s.room) (sym is) (held o q here).0
+  -- the queue is within its room, which is a number of 64 bits
+  pub is_within : All IsWithin items → IsWithin q
+  is_within held = subst IsWithin (sym is) (held o q here)
 
-  pub room_few : All IsWithin items → q.room < 2 ^ 64
-  room_few held = subst (λ (s : QueueView). s.room < 2 ^ 64) (sym is) (held o q here).1
-
-  pub lists_after : (s : QueueView) (x y : List Queued) → s.cells ≡ x → x ≡ y →
-      map cells_in (set items o s) ≡ set v.lists o y
-  lists_after s x y e f = map-set cells_in items o s ∙ ap (λ l. set l o s.cells) lists_are ∙ ap (set v.lists o) (e ∙ f)
+  pub lists_after : (s : QueueView) {y : List Queued} → s.cells ≡ y → map cells_in (set items o s) ≡ set v.lists o y
+  lists_after s e = seen_set cells_in items lists_are o s e
 
   pub rooms_after : (s : QueueView) → s.room ≡ q.room → map room_in (set items o s) ≡ v.rooms
-  rooms_after s e = map-set_same room_in items o s q (e ∙ ap room_in is) ∙ rooms_are
+  rooms_after s e = seen_same room_in items rooms_are o s is e
 
 -- the lists that were made so far are empty, and have the rooms of the first outputs
 pub record Made (rooms : List ℕ) (n : ℕ) (items : List QueueView) : Type 0 where

@@ -15,7 +15,8 @@ use Rattle.cq_ideal.specs.IdealSlot.{filled, put_all, rests}
 use Rattle.cq_ideal.specs.Parts.{AllArrivedBefore, HaveOwnKeys, list_at}
 use Rattle.cq_ideal.specs.Ranking.{Ranking, ranking}
 use Rattle.cq_ideal.proofs.Came.{came_from}
-use Rattle.cq_ideal.proofs.FlowPut.{all_from, all_put}
+use Rattle.cq_ideal.proofs.FlowPut.{all_from}
+use Rattle.cq_urgency.proofs.Rising.{all_put}
 use Rattle.cq_ideal.proofs.Waiting.{filled_at, length-filled}
 
 pub arrived_later : (a b : ℕ) (lists : List (List Queued)) → a ≤ b → AllArrivedBefore a lists → AllArrivedBefore b lists

@@ -61,8 +61,8 @@ beyond : (b : Bool) (f : ℕ → Bool) (n next : ℕ) (cells : List Cell) → n 
     AllByRecursion (λ cell. f cell.id.packet ≡ cond (nat_lt cell.id.packet n) b (f cell.id.packet)) cells
 beyond b f n next [] lt are = tt
 beyond b f n next (cell ∷ cells) lt are =
-    let at : n ≤ cell.id.packet = ⊎_elim (λ on. let same = on.0 in omega arith)
-    (λ new. let from = new.0 in omega arith) are.0 in
+    let at : n ≤ cell.id.packet = ⊎_elim (λ on. omega arith)
+    (λ new. omega arith) are.0 in
     (past b f n cell at, beyond b f n (cell.id.packet + 1) cells (omega arith) are.1)
 
 kept : (up b : Bool) (cell : Cell) (taken : List Cell) → b ≡ not up →
@@ -96,14 +96,13 @@ step next mark up (Some cell) came taken refused same are rest =
     (λ on. record {
       is_taken = f;
       before = λ packet e.
-          ap f (let p : packet ≡ cell.id.packet = let o = on.0 in omega arith in p)
+          ap f (let p : packet ≡ cell.id.packet = omega arith in p)
           ∙ r.before cell.id.packet refl ∙ ap not (same on.1);
       are = all;
       others = none;
     })
     (λ new.
     let g : ℕ → Bool = λ n. cond (nat_lt n next) (not mark) (f n) in
-    let from = new.0 in
     let alike : AllByRecursion (λ c. f c.id.packet ≡ g c.id.packet) (cell ∷ came) =
     (past (not mark) f next cell new.0, beyond (not mark) f next (cell.id.packet + 1) came (omega arith) are.1) in
     record {

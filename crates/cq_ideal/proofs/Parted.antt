@@ -16,7 +16,7 @@ use Rattle.cq_ideal.specs.IdealRun.{Ran, departures_of, ideal_run, then_ran}
 use Rattle.cq_ideal.specs.IdealSlot.{IdealState, Sent, departures_in, ideal_slot}
 use Rattle.cq_ideal.proofs.FlowCount.{none_after}
 use Rattle.cq_ideal.proofs.FlowFound.{length-arriving}
-use Rattle.cq_ideal.proofs.FlowRank.{present}
+use Rattle.cq_ideal.proofs.FlowRank.{only_ok, present}
 use Rattle.cq_ideal.proofs.FlowRun.{goes_on, run_ok}
 use Rattle.cq_ideal.proofs.Waiting.{counted, quiet_slot, waiting}
 
@@ -108,9 +108,7 @@ module _ (ms : List Machine) where
       ideal_run ms slot traffic s ≡ Ok ran → Measured traffic s ran
   unfolding ideal_run
   measured slot [] s ran e =
-      let start : Ran = record { gone = []; after = s } in
-      let same : start ≡ ran = cc in
-      subst (Measured [] s) same (record { slots = refl; ports = refl })
+      subst (Measured [] s) (only_ok refl e) (record { slots = refl; ports = refl })
   measured slot (cells ∷ traffic) s ran e =
       let p = first_slot slot cells traffic s ran e in
       let rest = measured (slot + 1) traffic p.sent.after p.second p.ran_second in

@@ -8,9 +8,9 @@ use Rattle.std.proofs.lemmas.List.{append-nil, length-append}
 use Rattle.std.proofs.lemmas.List.Elements.{filter-append}
 use Rattle.cq_base.specs.declared.cell.Cell.{Cell}
 use Rattle.cq_ideal.specs.declared.refused.Refused.{Refused}
-use Rattle.cq_ideal.specs.Admission.{Admission, admitted, refused}
+use Rattle.cq_ideal.specs.Admission.{Admission, admission, admitted, marks_after, refused}
 use Rattle.cq_ideal.specs.Ideal.{count_for}
-use Rattle.cq_ideal.specs.Refused.{AreAllZero, cells_refused, packets_refused, refused_at, refused_counts, refused_in, with_refused}
+use Rattle.cq_ideal.specs.Refused.{AreAllZero, EachCountsOnce, cells_refused, packets_refused, refused_at, refused_counts, refused_in, with_refused}
 
 -- ## Two lists of refused cells
 
@@ -121,3 +121,7 @@ each_once j (true ∷ marks) (Some cell ∷ cells) =
     let rest = each_once j marks cells in
     let here = cells_cons j cell (refused marks cells) in omega arith
 each_once j (false ∷ marks) (Some cell ∷ cells) = let rest = each_once j marks cells in omega arith
+
+pub counts_once : EachCountsOnce
+unfolding admission
+counts_once limits held marks cells j = each_once j (marks_after limits held marks cells) cells

@@ -16,12 +16,16 @@ use Rattle.cq_ideal.specs.Parts.{AreTold, FirstsHaveLeft, FitTogether, RanksView
 
 -- ## The walk
 
-pub record Sending (M : List ℕ → Machine) (slot : ℕ) (first_ranks : RanksView) (first_queues : QueuesView)
-    (first_sent : RoomView Departure) (output : ℕ) (ranks : RanksView) (queues : QueuesView)
-    (sent : RoomView Departure) : Type 0 where
+-- what no output changes
+pub record KeepsShape (first_ranks ranks : RanksView) (first_queues queues : QueuesView) : Type 0 where
   pub fixed : ranks.fixed ≡ first_ranks.fixed
   pub rooms : queues.rooms ≡ first_queues.rooms
   pub long : length queues.lists ≡ length first_queues.lists
+
+pub record Sending (M : List ℕ → Machine) (slot : ℕ) (first_ranks : RanksView) (first_queues : QueuesView)
+    (first_sent : RoomView Departure) (output : ℕ) (ranks : RanksView) (queues : QueuesView)
+    (sent : RoomView Departure) : Type 0 where
+  pub kept : KeepsShape first_ranks ranks first_queues queues
   pub states : ranks.states
       ≡ changed_to (all_told (map M first_ranks.fixed) (fronts first_queues.lists) first_ranks.states)
       first_ranks.states output
@@ -65,9 +69,7 @@ pub sending_first : (M : List ℕ → Machine) (slot : ℕ) (ranks : RanksView) 
 unfolding departures_in
 sending_first M slot ranks queues sent room =
     record {
-      fixed = refl;
-      rooms = refl;
-      long = refl;
+      kept = record { fixed = refl; rooms = refl; long = refl };
       states = refl;
       lists = refl;
       items = refl;
@@ -120,20 +122,21 @@ sending_next M slot first_ranks first_queues first_sent output ranks queues sent
     drop_more (fronts old) output none (omega arith)
     ∙ ap (λ (p : Option Queued). p ∷ drop (output + 1) (fronts old)) (sym front) in
     let later = departures_from slot (output + 1) (drop (output + 1) (fronts old)) in
-    let count = so_far.spare in
     let long = ap length items in
     let longer = length-append sent.items (one_sent slot output gone) in
     let few = length-one slot output gone in
-    let had = so_far.room in
     record {
-      fixed = fixed ∙ so_far.fixed;
-      rooms = rooms ∙ so_far.rooms;
-      long = ap length lists ∙ length-set queues.lists output (drop 1 (list_at queues.lists output)) ∙ so_far.long;
+      kept = record {
+        fixed = fixed ∙ so_far.kept.fixed;
+        rooms = rooms ∙ so_far.kept.rooms;
+        long =
+            ap length lists ∙ length-set queues.lists output (drop 1 (list_at queues.lists output)) ∙ so_far.kept.long;
+      };
       states =
           told_next ms (fronts old) first_ranks.states ranks.states ranks_new.states output gone (omega arith)
           so_far.states front
           (states ∙ ap (λ f. set ranks.states output (told (machine_at (map M f) output)
-          (get_or ranks.states output []) gone)) so_far.fixed);
+          (get_or ranks.states output []) gone)) so_far.kept.fixed);
       lists =
           lists ∙ ap (λ l. set l output (drop 1 (list_at queues.lists output))) so_far.lists
           ∙ next_place (rests old) old output _ [] (length-map old (λ xs. drop 1 xs)) inside rest;
@@ -155,12 +158,12 @@ pub record AreSent (M : List ℕ → Machine) (slot : ℕ) (first_ranks : RanksV
     pub gone : FirstsHaveLeft first_queues queues
     pub left : HaveLeft slot (fronts first_queues.lists) first_sent sent
 
-pub sending_last : (M : List ℕ → Machine) (slot : ℕ) (first_ranks : RanksView) (first_queues : QueuesView)
-    (first_sent : RoomView Departure) (output : ℕ) (ranks : RanksView) (queues : QueuesView)
-    (sent : RoomView Departure) → FitTogether (map M first_ranks.fixed) first_ranks first_queues →
+pub sending_last : {M : List ℕ → Machine} {slot : ℕ} {first_ranks : RanksView} {first_queues : QueuesView}
+    {first_sent : RoomView Departure} {output : ℕ} {ranks : RanksView} {queues : QueuesView}
+    {sent : RoomView Departure} → FitTogether (map M first_ranks.fixed) first_ranks first_queues →
     Sending M slot first_ranks first_queues first_sent output ranks queues sent → length first_queues.lists ≤ output →
     AreSent M slot first_ranks first_queues first_sent ranks queues sent
-sending_last M slot first_ranks first_queues first_sent output ranks queues sent fit so_far end =
+sending_last {M} {slot} {first_ranks} {first_queues} {first_sent} {output} {sent = sent} fit so_far end =
     let ms = map M first_ranks.fixed in
     let old = first_queues.lists in
     let fronts_long = length-map old (λ (xs : List Queued). slice_get xs 0) in
@@ -170,12 +173,10 @@ sending_last M slot first_ranks first_queues first_sent output ranks queues sent
     ∙ so_far.items in
     let long = ap length items in
     let longer = length-append first_sent.items (departures_in slot (fronts old)) in
-    let count = so_far.spare in
     let states = fit.states in
-    let lists = fit.lists in
     record {
       told = record {
-        fixed = so_far.fixed;
+        fixed = so_far.kept.fixed;
         states =
             so_far.states
             ∙ at_end (all_told ms (fronts old) first_ranks.states) first_ranks.states output
@@ -183,7 +184,7 @@ sending_last M slot first_ranks first_queues first_sent output ranks queues sent
       };
       gone = record {
         lists = so_far.lists ∙ at_end (rests old) old output (length-map old (λ xs. drop 1 xs)) end;
-        rooms = so_far.rooms;
+        rooms = so_far.kept.rooms;
       };
       left = record { items = items; spare = omega arith };
     }

@@ -182,9 +182,6 @@ module _ {M : List ℕ → Machine} {slot : ℕ} {cells : List (Option Cell)} {v
     ports = known.parts.limits;
     arrivals = comes;
     held = λ j inside.
-        let limits = known.parts.limits in
-        let rooms = known.parts.fit.rooms in
-        let lists = known.parts.fit.lists in
         let long = ap length known.rooms in
         let had = known.can.spare j (omega arith) in
         let list = ap (λ (l : List (List Queued)). length (get_or l j [])) lists_are in
@@ -263,7 +260,6 @@ module _ {M : List ℕ → Machine} {slot : ℕ} {cells : List (Option Cell)} {v
         pub holds_then : HoldsLists queues_new.lists judged
         holds_then =
             let limits = ap length judges.limits in
-            let ports = judges.ports.held in
             holds_filled came (admitted judged.marks cells) queues.lists queues_new.lists old judged holds lists
             judges.limits (omega arith) judges.held
             (came_for (map M ranks.fixed) slot (admitted judged.marks cells) ranks.states r taken.ranked)

@@ -80,7 +80,6 @@ module _ (i : ℕ) where
   none_past a (true ∷ marks) (None ∷ cells) at lt = none_past (a + 1) marks cells at (omega arith)
   none_past a (false ∷ marks) (None ∷ cells) at lt = none_past (a + 1) marks cells at (omega arith)
   none_past a (true ∷ marks) (Some cell ∷ cells) at lt =
-      let here = at.0 in
       other_input cell (refused marks cells) (λ e. omega arith) ∙ none_past (a + 1) marks cells at.1 (omega arith)
   none_past a (false ∷ marks) (Some cell ∷ cells) at lt = none_past (a + 1) marks cells at.1 (omega arith)
 
@@ -91,7 +90,6 @@ module _ (i : ℕ) where
   refused_at_place a zero (true ∷ marks) (None ∷ cells) at e = none_past (a + 1) marks cells at (omega arith)
   refused_at_place a zero (false ∷ marks) (None ∷ cells) at e = none_past (a + 1) marks cells at (omega arith)
   refused_at_place a zero (true ∷ marks) (Some cell ∷ cells) at e =
-      let here = at.0 in
       let same : cell.id.input ≡ i = omega arith in
       cond-true (cell.id.input == i) (cell ∷ of_input (refused marks cells)) (of_input (refused marks cells))
       (eq-eqb cell.id.input i same)
@@ -102,7 +100,6 @@ module _ (i : ℕ) where
   refused_at_place a (suc k) (false ∷ marks) (None ∷ cells) at e =
       refused_at_place (a + 1) k marks cells at (omega arith)
   refused_at_place a (suc k) (true ∷ marks) (Some cell ∷ cells) at e =
-      let here = at.0 in
       other_input cell (refused marks cells) (λ same. omega arith)
       ∙ refused_at_place (a + 1) k marks cells at.1 (omega arith)
   refused_at_place a (suc k) (false ∷ marks) (Some cell ∷ cells) at e =

@@ -16,7 +16,7 @@ use Rattle.cq_rank.specs.Switch.{AreForOneSwitch}
 use Rattle.cq_ideal.specs.IdealSlot.{filled, put_all}
 use Rattle.cq_ideal.specs.Limiter.{HoldsLists, LimiterView}
 use Rattle.cq_ideal.specs.Parts.{AreParts, CanPut, RanksView, QueuesView, CameToPorts, FitTogether, AllArrivedBefore, HaveOwnKeys, HaveRoomFor, list_at, with_came, with_cell}
-use Rattle.cq_ideal.proofs.FlowPut.{all_put, length_put}
+use Rattle.cq_urgency.proofs.Rising.{all_put, length_put}
 use Rattle.cq_ideal.proofs.Waiting.{filled_none}
 
 -- ## Putting cells into the lists
@@ -173,8 +173,6 @@ at_input : (came : List (Option Queued)) (first : QueuesView) (input : ℕ) (que
     Putting came first input queues → AtInput came first input queues
 at_input came first input queues few ports inside so_far =
     let none : Option Queued = None in
-    let places = ports.places in
-    let long = so_far.long in
     record {
       next = drop_more came input none (omega arith);
       inside = λ q at. let out = ports.outputs input q at in omega arith;
@@ -188,7 +186,6 @@ pub putting_room : (came : List (Option Queued)) (first : QueuesView) (input : �
 putting_room came first input queues few as_many ports inside so_far q at =
     let here = at_input came first input queues few ports inside so_far in
     let out = here.inside q at in
-    let long = so_far.long in
     let rooms = ap (λ (r : List ℕ). length r) so_far.rooms in
     let room = subst (λ o. HaveRoomFor (o ∷ drop (input + 1) came) queues) at
     (subst (λ l. HaveRoomFor l queues) here.next so_far.room) in

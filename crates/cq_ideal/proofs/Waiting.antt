@@ -17,8 +17,8 @@ use Rattle.cq_ideal.specs.Ideal.{count_for}
 use Rattle.cq_ideal.specs.Ranking.{Ranking, ranking, after_input, keyed}
 use Rattle.cq_ideal.specs.Parts.{count_to}
 use Rattle.cq_ideal.specs.IdealSlot.{IdealState, Sent, put_all, filled, fronts, rests, all_told, ideal_sends, ideal_slot, departures_from, departures_in}
-use Rattle.cq_ideal.proofs.FlowPut.{length_put}
-use Rattle.cq_ideal.proofs.FlowRank.{after_ok, fits_ok, present}
+use Rattle.cq_urgency.proofs.Rising.{length_put}
+use Rattle.cq_ideal.proofs.FlowRank.{after_ok, fits_ok, only_ok, present}
 
 -- ## Numbers that are added over a range
 
@@ -169,8 +169,7 @@ pub ranked_cells : (ms : List Machine) (slot input : ℕ) (cells : List (Option 
     → ranking ms slot input cells ranks ≡ Ok r → map cell_here r.came ≡ cells
 unfolding cell_here
 ranked_cells ms slot input [] ranks r h =
-    let made : Ranking = record { came = []; ranks = ranks } in
-    let same : made ≡ r = cc in subst (λ (r : Ranking). map cell_here r.came ≡ []) same refl
+    subst (λ (r : Ranking). map cell_here r.came ≡ []) (only_ok refl h) refl
 ranked_cells ms slot input (None ∷ cells) ranks r h =
     after_ok (λ r. map cell_here r.came ≡ None ∷ cells) None (ranking ms slot (input + 1) cells ranks) r h
     (λ rest is. ap (λ (l : List (Option Cell)). None ∷ l) (ranked_cells ms slot (input + 1) cells ranks rest is))
@@ -289,16 +288,7 @@ pub sends_ok : (P : Sent → Type 0) (ms : List Machine) (old : IdealState) (x :
         ranks = all_told ms (fronts (filled r.came old.lists)) r.ranks;
       };
     })) → P sent
-sends_ok P ms old (Ok r) sent h f =
-    let made : Sent =
-    record {
-      gone = fronts (filled r.came old.lists);
-      after = record {
-        lists = rests (filled r.came old.lists);
-        ranks = all_told ms (fronts (filled r.came old.lists)) r.ranks;
-      };
-    } in
-    let same : made ≡ sent = cc in subst P same (f r refl)
+sends_ok P ms old (Ok r) sent h f = subst P (only_ok refl h) (f r refl)
 sends_ok P ms old (Err fault) sent h f = absurd (let P : ⊥ = cc in P)
 
 pub counted : (ms : List Machine) (slot : ℕ) (cells : List (Option Cell)) (old : IdealState) (sent : Sent) →

@@ -13,6 +13,7 @@ use Rattle.cq_ideal.specs.IdealSlot.{IdealState}
 use Rattle.cq_ideal.specs.IdealRun.{Ran, ideal_run, empty_ideal}
 use Rattle.cq_ideal.proofs.Ends.{nothing_left}
 use Rattle.cq_ideal.proofs.FlowCount.{come_count-traffic_of, length-traffic_of, quiet_at_end}
+use Rattle.cq_ideal.proofs.FlowRank.{only_ok}
 use Rattle.cq_ideal.proofs.FlowRun.{come_count, QuietAfter, drained}
 use Rattle.cq_ideal.proofs.Parted.{first_slot, none_arrive}
 use Rattle.cq_ideal.proofs.Waiting.{counted, waiting}
@@ -24,10 +25,7 @@ pub empties : (ms : List Machine) (traffic : List (List (Option Cell))) (slot e 
     waiting s.lists + come_count traffic + e ≤ length traffic → waiting ran.after.lists ≡ 0
 unfolding ideal_run come_count
 empties ms [] slot e s ran is quiet enough =
-    let begun : Ran = record { gone = []; after = s } in
-    let same : begun ≡ ran = cc in
-    let left = ap (λ (r : Ran). waiting r.after.lists) same in
-    omega arith
+    let left = ap (λ (r : Ran). waiting r.after.lists) (only_ok refl is) in omega arith
 empties ms (cells ∷ traffic) slot e s ran is quiet enough =
     let p = first_slot ms slot cells traffic s ran is in
     let same = ap (λ (r : Ran). waiting r.after.lists) p.both in

@@ -21,29 +21,17 @@ cell_of input packet index last =
       len = 64;
     }
 
--- input 0 has two packets of one cell, of which the later will be refused
-abbrev pub early_packet : Cell
-early_packet = cell_of 0 0 0 true
+-- A packet of one cell, by its input and its number there. Input 0 has two of them, of which the later will be
+-- refused, and input 1 has one behind its packet of two cells.
+abbrev pub one_cell : ℕ → ℕ → Cell
+one_cell input packet = cell_of input packet 0 true
 
-abbrev pub late_packet : Cell
-late_packet = cell_of 0 1 0 true
+-- The first packet of an input, where it has two cells. That of input 1 will be refused, and that of input 2 admitted.
+abbrev pub first_of_two : ℕ → Cell
+first_of_two input = cell_of input 0 0 false
 
--- input 1 has a packet of two cells, which will be refused, and then one of one cell
-abbrev pub refused_first : Cell
-refused_first = cell_of 1 0 0 false
-
-abbrev pub refused_second : Cell
-refused_second = cell_of 1 0 1 true
-
-abbrev pub next_packet : Cell
-next_packet = cell_of 1 1 0 true
-
--- input 2 has a packet of two cells, which will be admitted
-abbrev pub admitted_first : Cell
-admitted_first = cell_of 2 0 0 false
-
-abbrev pub admitted_second : Cell
-admitted_second = cell_of 2 0 1 true
+abbrev pub second_of_two : ℕ → Cell
+second_of_two input = cell_of input 0 1 true
 
 abbrev pub limit_one : List (Option ℕ)
 limit_one = Some 1 ∷ None ∷ None ∷ []
@@ -59,10 +47,10 @@ first_come_all = first_come one_class ∷ first_come one_class ∷ first_come on
 -- what arrives in the four slots
 abbrev pub discard_slots : List (List (Option Cell))
 discard_slots =
-    (Some early_packet ∷ Some refused_first ∷ None ∷ [])
-    ∷ (None ∷ Some refused_second ∷ Some admitted_first ∷ [])
-    ∷ (None ∷ Some next_packet ∷ Some admitted_second ∷ [])
-    ∷ (Some late_packet ∷ None ∷ None ∷ []) ∷ []
+    (Some (one_cell 0 0) ∷ Some (first_of_two 1) ∷ None ∷ [])
+    ∷ (None ∷ Some (second_of_two 1) ∷ Some (first_of_two 2) ∷ [])
+    ∷ (None ∷ Some (one_cell 1 1) ∷ Some (second_of_two 2) ∷ [])
+    ∷ (Some (one_cell 0 1) ∷ None ∷ None ∷ []) ∷ []
 
 -- In slot 0 the cell of input 0 fills output 0, so that the packet of input 1 is refused. In slot 1 its second cell
 -- is refused too, though output 0 holds nothing, and the packet of input 2 is admitted. In slot 2 output 0 holds
@@ -72,23 +60,23 @@ discard_slots =
 abbrev pub discard_admissions : List Admission
 discard_admissions =
     record {
-      cells = Some early_packet ∷ None ∷ None ∷ [];
-      refused = refused_first ∷ [];
+      cells = Some (one_cell 0 0) ∷ None ∷ None ∷ [];
+      refused = first_of_two 1 ∷ [];
       marks = false ∷ true ∷ false ∷ [];
     }
     ∷ record {
-      cells = None ∷ None ∷ Some admitted_first ∷ [];
-      refused = refused_second ∷ [];
+      cells = None ∷ None ∷ Some (first_of_two 2) ∷ [];
+      refused = second_of_two 1 ∷ [];
       marks = false ∷ true ∷ false ∷ [];
     }
     ∷ record {
-      cells = None ∷ Some next_packet ∷ Some admitted_second ∷ [];
+      cells = None ∷ Some (one_cell 1 1) ∷ Some (second_of_two 2) ∷ [];
       refused = [];
       marks = false ∷ false ∷ false ∷ [];
     }
     ∷ record {
       cells = None ∷ None ∷ None ∷ [];
-      refused = late_packet ∷ [];
+      refused = one_cell 0 1 ∷ [];
       marks = true ∷ false ∷ false ∷ [];
     } ∷ []
 
@@ -97,10 +85,10 @@ discard_ran =
     record {
       admissions = discard_admissions;
       gone =
-          (Some (keyed early_packet 0 0 0 0) ∷ None ∷ None ∷ [])
-          ∷ (Some (keyed admitted_first 0 0 1 2) ∷ None ∷ None ∷ [])
-          ∷ (Some (keyed next_packet 0 0 2 1) ∷ None ∷ None ∷ [])
-          ∷ (Some (keyed admitted_second 0 0 2 2) ∷ None ∷ None ∷ []) ∷ [];
+          (Some (keyed (one_cell 0 0) 0 0 0 0) ∷ None ∷ None ∷ [])
+          ∷ (Some (keyed (first_of_two 2) 0 0 1 2) ∷ None ∷ None ∷ [])
+          ∷ (Some (keyed (one_cell 1 1) 0 0 2 1) ∷ None ∷ None ∷ [])
+          ∷ (Some (keyed (second_of_two 2) 0 0 2 2) ∷ None ∷ None ∷ []) ∷ [];
       after =
           record {
             state = record { lists = [] ∷ [] ∷ [] ∷ []; ranks = [] ∷ [] ∷ [] ∷ [] };

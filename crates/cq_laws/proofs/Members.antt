@@ -49,7 +49,6 @@ first_in p x xs c true e h rest =
 first_in p x xs c false e h rest =
     let r = rest h in
     let later = first_later p x xs e in
-    let is = r.is in
     record { place = suc r.place; is = omega arith; at = r.at; passes = r.passes }
 
 pub first_at : (p : Queued → Bool) (xs : List Queued) (c : Queued) → find p xs ≡ Some c → IsFirst p xs c
@@ -138,7 +137,7 @@ put_old d c (x ∷ xs) h =
     (λ _. inr h)
     (λ _. ⊎_elim (λ e. inl e) (λ k. inr (put_old d c xs k)) h)
 
-all_put : (P : Queued → Type 0) (c : Queued) (xs : List Queued) → P c → AllByRecursion P xs →
+pub all_put : (P : Queued → Type 0) (c : Queued) (xs : List Queued) → P c → AllByRecursion P xs →
     AllByRecursion P (put c xs)
 all_put P c xs p a =
     all_from P (put c xs) (λ d k. ⊎_elim (λ e. subst P e p) (λ m. all_among P xs d a m) (among_put d c xs k))
@@ -177,8 +176,8 @@ inserted_at [] (suc p) zero n c h = record { was = inl (omega arith, cc) }
 inserted_at [] (suc p) (suc t) n c h = cc
 inserted_at (x ∷ xs) (suc p) zero n c h = record { was = inr (zero, h, omega arith) }
 inserted_at (x ∷ xs) (suc p) (suc t) n c h =
-    ⊎_elim (λ k. let le = k.0 in record { was = inl (omega arith, k.1) })
-    (λ k. let le = k.2 in record { was = inr (suc k.0, k.1, omega arith) }) (inserted_at xs p t n c h).was
+    ⊎_elim (λ k. record { was = inl (omega arith, k.1) })
+    (λ k. record { was = inr (suc k.0, k.1, omega arith) }) (inserted_at xs p t n c h).was
 
 pub insert_new : (xs : List Queued) (p : ℕ) (n : Queued) → IsAmong n (insert xs p n)
 insert_new xs zero n = inl refl

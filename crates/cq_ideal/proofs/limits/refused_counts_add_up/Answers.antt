@@ -1,5 +1,4 @@
-use Rattle.cq_ideal.specs.Admission.{admission, marks_after}
-use Rattle.cq_ideal.proofs.Refusals.{all_zero, counts_more, each_once, one_slot_more}
+use Rattle.cq_ideal.proofs.Refusals.{all_zero, counts_more, counts_once, one_slot_more}
 use Rattle.cq_ideal.proofs.limits.refused_counts_add_up.Goals as goal
 
 pub returns-clause-none : goal.returns-clause-none
@@ -12,5 +11,4 @@ pub returns-clause-one_more : goal.returns-clause-one_more
 returns-clause-one_more c = one_slot_more
 
 pub returns-clause-each_once : goal.returns-clause-each_once
-unfolding admission
-returns-clause-each_once c = λ limits held marks cells j. each_once j (marks_after limits held marks cells) cells
+returns-clause-each_once c = counts_once

@@ -11,43 +11,27 @@ use Rattle.cq_ideal.proofs.send.send.Goals.{in-Some, in-None}
 
 pub outputs-init : goal.outputs-init
 outputs-init g c =
-    let fit = c.requires.fit in
-    let lists = fit.lists in
-    let fixed = fit.fixed in
-    let room = c.requires.sent in
     record {
-      sending = sending_first g.R.Rank.machine c.args.slot c.args.ranks.now c.args.queues.now c.args.sent.now (omega
-          arith);
+      sending = sending_first g.R.Rank.machine c.args.slot c.args.ranks.now c.args.queues.now c.args.sent.now
+          (omega arith);
       holds = c.requires.holds;
       judges = record { marks = refl; refused = refl; limits = refl };
     }
 
 pub sent-requires-clause-output : goal.sent-requires-clause-output
 sent-requires-clause-output g c =
-    let long = c.outputs.invariant.sending.long in
-    let ports = c.len-ports.ensures.len in
-    let test = c.outputs-test.true in
     let held = ap length c.outputs.invariant.holds.held in
     let mapped = length-map c.outputs.queues.lists length in
     omega arith
 
 pub sent-requires-clause-holds : goal.sent-requires-clause-holds
 sent-requires-clause-holds g c =
-    let long = c.outputs.invariant.sending.long in
-    let ports = c.len-ports.ensures.len in
-    let test = c.outputs-test.true in
     holds_some c.outputs.queues.lists c.outputs.limiter c.outputs.output (omega arith) c.outputs.invariant.holds
     c.pop-gone.result c.pop-gone.ensures.first
 
 pub outputs-preserved : goal.outputs-preserved
 outputs-preserved g c =
     let inv = c.outputs.invariant.sending in
-    let fit = c.requires.fit in
-    let lists = fit.lists in
-    let states = fit.states in
-    let long = inv.long in
-    let ports = c.len-ports.ensures.len in
-    let test = c.outputs-test.true in
     let output = c.outputs.output in
     let gone = c.pop-gone.result in
     let step : (sent : RoomView Departure) → sent.items ≡ c.outputs.sent.items ++ one_sent c.args.slot output gone →
@@ -92,22 +76,13 @@ outputs-preserved g c =
     ]
 
 pub returns-clause-told : goal.returns-clause-told
-returns-clause-told g c =
-    let ports = c.len-ports.ensures.len in
-    let test = c.outputs-test.false in
-    (sending_last _ _ _ _ _ _ _ _ _ c.requires.fit c.outputs.invariant.sending (omega arith)).told
+returns-clause-told g c = (sending_last c.requires.fit c.outputs.invariant.sending (omega arith)).told
 
 pub returns-clause-gone : goal.returns-clause-gone
-returns-clause-gone g c =
-    let ports = c.len-ports.ensures.len in
-    let test = c.outputs-test.false in
-    (sending_last _ _ _ _ _ _ _ _ _ c.requires.fit c.outputs.invariant.sending (omega arith)).gone
+returns-clause-gone g c = (sending_last c.requires.fit c.outputs.invariant.sending (omega arith)).gone
 
 pub returns-clause-left : goal.returns-clause-left
-returns-clause-left g c =
-    let ports = c.len-ports.ensures.len in
-    let test = c.outputs-test.false in
-    (sending_last _ _ _ _ _ _ _ _ _ c.requires.fit c.outputs.invariant.sending (omega arith)).left
+returns-clause-left g c = (sending_last c.requires.fit c.outputs.invariant.sending (omega arith)).left
 
 pub returns-clause-fit : goal.returns-clause-fit
 returns-clause-fit g c =
@@ -116,4 +91,4 @@ returns-clause-fit g c =
     let told = returns-clause-told g c in
     fit_same g.R.Rank.machine c.args.ranks.now c.outputs.ranks c.args.queues.now c.outputs.queues c.requires.fit
     told.fixed (ap length told.states
-    ∙ length-told ms (fronts c.args.queues.now.lists) c.args.ranks.now.states) inv.long inv.rooms
+    ∙ length-told ms (fronts c.args.queues.now.lists) c.args.ranks.now.states) inv.kept.long inv.kept.rooms

@@ -24,20 +24,18 @@ pub take_in-requires : goal.take_in-requires
 take_in-requires g c =
     can_take_in (known g (goal.at.take_in-requires g c).After-self) c.len.ensures.within c.len.ensures.few
 
-pub arrive-requires-clause-ports : goal.arrive-requires-clause-ports
-arrive-requires-clause-ports g c =
-    come_to_ports (known g (goal.at.arrive-requires-clause-ports g c).After-self) c.take_in.ensures.judged
-    c.in_default.ensures.taken
-
-pub arrive-requires-clause-room : goal.arrive-requires-clause-room
-arrive-requires-clause-room g c =
-    have_room (known g (goal.at.arrive-requires-clause-room g c).After-self) c.take_in.ensures.judged
-    c.in_default.ensures.taken
-
-pub arrive-requires-clause-keys : goal.arrive-requires-clause-keys
-arrive-requires-clause-keys g c =
-    have_keys (known g (goal.at.arrive-requires-clause-keys g c).After-self) c.take_in.ensures.judged
-    c.in_default.ensures.taken
+pub arrive-requires : goal.arrive-requires
+arrive-requires g c =
+    let begins = known g (goal.at.arrive-requires g c).After-self in
+    let judged = c.take_in.ensures.judged in
+    let taken = c.in_default.ensures.taken in
+    record {
+      few = omega arith;
+      as_many = omega arith;
+      ports = come_to_ports begins judged taken;
+      room = have_room begins judged taken;
+      keys = have_keys begins judged taken;
+    }
 
 pub send-requires-clause-fit : goal.send-requires-clause-fit
 send-requires-clause-fit g c =
@@ -83,19 +81,21 @@ returns-in-Err-clause-slot g c =
 
 pub returns-in-Err-clause-unchanged : goal.returns-in-Err-clause-unchanged
 returns-in-Err-clause-unchanged g c =
+    let begins = known g (goal.at.returns-in-Err-clause-unchanged g c).After-self in
     record {
       sent = refl;
-      lists = ap (λ (v : IdealSwitch). v.state.lists) c.self.view_is;
-      refused = c.in-Err.ensures.stays ∙ ap (λ (v : IdealSwitch). v.refused) c.self.view_is;
+      lists = ap (λ (s : IdealState). s.lists) begins.state;
+      refused = c.in-Err.ensures.stays ∙ begins.refused;
       next = ap (λ (v : IdealSwitch). v.next) c.self.view_is;
     }
 
 pub returns-in-Err-clause-same : goal.returns-in-Err-clause-same
 returns-in-Err-clause-same g c =
+    let begins = known g (goal.at.returns-in-Err-clause-same g c).After-self in
     record {
-      fixed = c.take_in.ensures.fixed ∙ ap (λ (v : IdealSwitch). v.fixed) c.self.view_is;
-      limits = c.take_in.ensures.judged.limits ∙ ap (λ (v : IdealSwitch). v.limits) c.self.view_is;
-      rooms = ap (λ (v : IdealSwitch). v.rooms) c.self.view_is;
+      fixed = c.take_in.ensures.fixed ∙ begins.fixed;
+      limits = c.take_in.ensures.judged.limits ∙ begins.limits;
+      rooms = begins.rooms;
     }
 
 pub returns-clause-answer : goal.returns-clause-answer
@@ -148,10 +148,9 @@ returns-clause-slot g c =
 
 pub returns-clause-same : goal.returns-clause-same
 returns-clause-same g c =
+    let begins = known g (goal.at.returns-clause-same g c).After-self in
     record {
-      fixed = c.send.ensures.told.fixed ∙ c.take_in.ensures.fixed ∙ ap (λ (v : IdealSwitch). v.fixed) c.self.view_is;
-      limits =
-          c.send.ensures.judges.limits ∙ c.take_in.ensures.judged.limits
-          ∙ ap (λ (v : IdealSwitch). v.limits) c.self.view_is;
-      rooms = c.send.ensures.gone.rooms ∙ c.arrive.ensures.rooms ∙ ap (λ (v : IdealSwitch). v.rooms) c.self.view_is;
+      fixed = c.send.ensures.told.fixed ∙ c.take_in.ensures.fixed ∙ begins.fixed;
+      limits = c.send.ensures.judges.limits ∙ c.take_in.ensures.judged.limits ∙ begins.limits;
+      rooms = c.send.ensures.gone.rooms ∙ c.arrive.ensures.rooms ∙ begins.rooms;
     }

@@ -13,9 +13,6 @@ inputs-init c = judging_first c.args.arrivals.now c.args.self.now
 pub turn-requires-clause-few : goal.turn-requires-clause-few
 turn-requires-clause-few c =
     let cell = c.in-Some.cell in
-    let few = c.requires.few in
-    let ports = c.len-ports.ensures.len in
-    let inside = c.inputs-test.true in
     let at = sym c.in-Some.is ∙ c.at.ensures.answer in
     let here = from_input c.args.arrivals.now c.inputs.input (Some cell) c.at.ensures.arrivals.places (omega arith)
     at in
@@ -24,11 +21,6 @@ turn-requires-clause-few c =
 
 pub inputs-preserved : goal.inputs-preserved
 inputs-preserved c =
-    let few = c.requires.few in
-    let ports = c.len-ports.ensures.len in
-    let inside = c.inputs-test.true in
-    let marks = c.len-ports.ensures.ports.marks in
-    let held = c.len-ports.ensures.ports.held in
     let input = c.inputs.input in
     let cells = c.args.arrivals.now in
     let first = c.args.self.now in
@@ -52,22 +44,12 @@ inputs-preserved c =
 
 pub returns-clause-marks : goal.returns-clause-marks
 returns-clause-marks c =
-    let ports = c.len-ports.ensures.len in
-    let past = c.inputs-test.false in
-    (judged_last c.args.arrivals.now c.args.self.now c.inputs.input c.inputs.self c.inputs.invariant
-    c.len-ports.ensures.ports c.requires.arrivals (omega arith)).marks
+    (judged_last c.inputs.invariant c.len-ports.ensures.ports c.requires.arrivals (omega arith)).marks
 
 pub returns-clause-held : goal.returns-clause-held
 returns-clause-held c =
-    let ports = c.len-ports.ensures.len in
-    let past = c.inputs-test.false in
-    let last = judged_last c.args.arrivals.now c.args.self.now c.inputs.input c.inputs.self c.inputs.invariant
-    c.len-ports.ensures.ports c.requires.arrivals (omega arith) in
-    λ j inside. last.held j
+    λ j inside. (judged_last c.inputs.invariant c.len-ports.ensures.ports c.requires.arrivals (omega arith)).held j
 
 pub returns-clause-ports : goal.returns-clause-ports
 returns-clause-ports c =
-    let ports = c.len-ports.ensures.len in
-    let past = c.inputs-test.false in
-    (judged_last c.args.arrivals.now c.args.self.now c.inputs.input c.inputs.self c.inputs.invariant
-    c.len-ports.ensures.ports c.requires.arrivals (omega arith)).ports
+    (judged_last c.inputs.invariant c.len-ports.ensures.ports c.requires.arrivals (omega arith)).ports

@@ -1,4 +1,4 @@
-use Rattle.std.proofs.Common.{◌≡◌, ◌<◌, ◌≤◌, ◌↔◌, ◌^◌, ℕ, subst, sym}
+use Rattle.std.proofs.Common.{◌≡◌, ◌<◌, ◌≤◌, ◌↔◌, ◌^◌, ◌∙◌, ℕ, subst, sym}
 use Rattle.std.specs.Prelude.{IfOk, IsErr}
 use Rattle.std.proofs.lemmas.Result.{on_ok_weaker, on_err_weaker}
 use Rattle.cq_ideal.proofs.Ranked.{seen, fixed_after, many_after, states_after, states_same}
@@ -6,45 +6,33 @@ use Rattle.cq_ideal.proofs.ranks.Ranks.rank.Goals as goal
 
 pub rank-requires : goal.rank-requires
 rank-requires g c =
-    subst (λ (n : ℕ). c.args.class < n) (sym (seen g.R.Rank.fixed g.R.Rank.state g.R.Rank.machine
-    c.self.inside.ranks.items c.args.output c.index_mut.result.now c.args.self.now c.requires.output
-    c.index_mut.ensures.value c.self.view_is (λ m s. m.classes))) c.requires.class
+    subst (λ (n : ℕ). c.args.class < n) (sym (seen _ _ _ _ c.requires.output c.index_mut.ensures.value c.self.view_is
+    g.R.Rank.machine (λ m s. m.classes))) c.requires.class
 
 pub returns-clause-fixed : goal.returns-clause-fixed
 returns-clause-fixed g c =
-    fixed_after g.R.Rank.fixed g.R.Rank.state g.R.Rank.machine c.self.inside.ranks.items c.args.output
-    c.index_mut.result.now c.args.self.now c.requires.output c.index_mut.ensures.value c.self.view_is
-    c.rank.new.self c.rank.ensures.fixed
+    fixed_after _ _ _ _ c.requires.output c.index_mut.ensures.value c.self.view_is _ c.rank.ensures.fixed
 
 pub returns-clause-rank : goal.returns-clause-rank
 returns-clause-rank g c =
-    subst (λ (n : ℕ). IfOk c.rank.result (λ rank. rank ≡ n)) (seen g.R.Rank.fixed g.R.Rank.state g.R.Rank.machine
-    c.self.inside.ranks.items c.args.output c.index_mut.result.now c.args.self.now c.requires.output
-    c.index_mut.ensures.value c.self.view_is (λ m s. m.ranked s c.args.class)) c.rank.ensures.rank
+    subst (λ (n : ℕ). IfOk c.rank.result (λ rank. rank ≡ n)) (seen _ _ _ _ c.requires.output
+    c.index_mut.ensures.value c.self.view_is g.R.Rank.machine (λ m s. m.ranked s c.args.class)) c.rank.ensures.rank
 
 pub returns-clause-given : goal.returns-clause-given
 returns-clause-given g c =
-    on_ok_weaker c.rank.result (λ given. states_after g.R.Rank.fixed g.R.Rank.state g.R.Rank.machine
-    c.self.inside.ranks.items c.args.output c.index_mut.result.now c.args.self.now c.requires.output
-    c.index_mut.ensures.value c.self.view_is c.rank.new.self _ _ given (seen g.R.Rank.fixed g.R.Rank.state
-    g.R.Rank.machine c.self.inside.ranks.items c.args.output c.index_mut.result.now c.args.self.now
-    c.requires.output c.index_mut.ensures.value c.self.view_is (λ m s. m.given s c.args.class)))
-    c.rank.ensures.given
+    on_ok_weaker c.rank.result (λ given. states_after _ _ _ _ c.requires.output c.index_mut.ensures.value
+    c.self.view_is _ (given ∙ seen _ _ _ _ c.requires.output c.index_mut.ensures.value c.self.view_is
+    g.R.Rank.machine (λ m s. m.given s c.args.class))) c.rank.ensures.given
 
 pub returns-clause-overflow : goal.returns-clause-overflow
 returns-clause-overflow g c =
-    subst (λ (n : ℕ). IsErr c.rank.result ↔ (2 ^ 128 ≤ n)) (seen g.R.Rank.fixed g.R.Rank.state g.R.Rank.machine
-    c.self.inside.ranks.items c.args.output c.index_mut.result.now c.args.self.now c.requires.output
-    c.index_mut.ensures.value c.self.view_is (λ m s. m.ranked s c.args.class)) c.rank.ensures.overflow
+    subst (λ (n : ℕ). IsErr c.rank.result ↔ (2 ^ 128 ≤ n)) (seen _ _ _ _ c.requires.output
+    c.index_mut.ensures.value c.self.view_is g.R.Rank.machine (λ m s. m.ranked s c.args.class)) c.rank.ensures.overflow
 
 pub returns-clause-refused : goal.returns-clause-refused
 returns-clause-refused g c =
-    on_err_weaker c.rank.result (λ same. states_same g.R.Rank.fixed g.R.Rank.state g.R.Rank.machine
-    c.self.inside.ranks.items c.args.output c.index_mut.result.now c.args.self.now c.requires.output
-    c.index_mut.ensures.value c.self.view_is c.rank.new.self same) c.rank.ensures.refused
+    on_err_weaker c.rank.result (λ same. states_same _ _ _ _ c.requires.output c.index_mut.ensures.value
+    c.self.view_is _ same) c.rank.ensures.refused
 
 pub returns-clause-many : goal.returns-clause-many
-returns-clause-many g c =
-    many_after g.R.Rank.fixed g.R.Rank.state g.R.Rank.machine c.self.inside.ranks.items c.args.output
-    c.index_mut.result.now c.args.self.now c.requires.output c.index_mut.ensures.value c.self.view_is
-    c.rank.new.self
+returns-clause-many g c = many_after _ _ _ _ c.requires.output c.index_mut.ensures.value c.self.view_is c.rank.new.self
