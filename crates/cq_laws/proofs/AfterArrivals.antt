@@ -130,8 +130,8 @@ module _ (ms : List Machine) (slot : ℕ) (cells : List (Option Cell)) (came : L
     pub arrived_slack : HasSlack 0 new
     arrived_slack i t c at =
         ⊎_elim
-        (λ r. let le = r.within in omega arith)
-        (λ r. let had = slack i r.before c r.stood in let fallen = r.fallen in omega arith)
+        (λ r. omega arith)
+        (λ r. let had = slack i r.before c r.stood in omega arith)
         (arrivals_fall ms slot cells came old new arrive i t c at)
 
     pub arrived_has : (j : ℕ) (c : Queued) → HasFor new j c → HasFor old j c ⊎ CameFor came j c

@@ -76,4 +76,4 @@ module _ (ms : List Machine) (gone : List (Option Queued)) (slot : ℕ) (old new
   sent_slack n slack i t c at =
       let r = departures_fall ms gone old new depart i t c at in
       let had = slack i r.before c r.stood in
-      let fallen = r.fallen in omega arith
+      omega arith

@@ -25,7 +25,6 @@ not_left j xs f order is h =
     let r = at_among (without_first j xs) f h in
     let st = left_at j xs r.0 f r.1 in
     let le = first_le (is_for j) xs st.place f st.at first.passes in
-    let place = first.is in
     let here = one_in_order xs first.place st.place f order first.at st.at in
     ⊎_elim (λ lt. let same = st.stayed lt in absurd (omega arith))
     (λ ge. let same = st.moved ge in absurd (omega arith)) (cases_lt r.0 (place_for j xs))

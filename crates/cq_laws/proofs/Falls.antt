@@ -29,9 +29,8 @@ module _ (ms : List Machine) (slot : ℕ) (cells : List (Option Cell)) (came : L
       let same = same_cushion c in
       ⊎_elim
       (λ r. let is = ap (cushion_of old) r.1 in
-      let le = r.0 in
       inl (record { arrived = e ∙ ap Some r.1; within = omega arith }))
-      (λ r. let le = r.2 in inr (record { before = r.0; stood = r.1; fallen = omega arith }))
+      (λ r. inr (record { before = r.0; stood = r.1; fallen = omega arith }))
       (inserted_at (input old i) (place_of_arrival (cushion_of old n) n (input old i)) t n c at).was
 
   pub arrivals_fall : EachArrivesOrFalls came old new

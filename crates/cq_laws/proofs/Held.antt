@@ -104,7 +104,6 @@ no_longer : (xs ys : List Queued) → HasNoRepeat xs → ((c : Queued) → IsAmo
 no_longer [] ys once to = omega arith
 no_longer (x ∷ xs) ys once to =
     let off = take_off x ys (to x (inl refl)) in
-    let less = off.one_less in
     let rest = no_longer xs off.rest once.1
     (λ c h. ⊎_elim (λ e. absurd (once.0 (subst (λ d. IsAmong d xs) (sym e) h))) (λ k. k)
     (off.others c (to c (inr h)))) in

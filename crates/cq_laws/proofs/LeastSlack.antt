@@ -103,7 +103,7 @@ unfolding listed_slacks
 listed_slack f n [] v h = absurd h
 listed_slack f n (x ∷ xs) v (inl e) = (zero, x, refl, omega arith)
 listed_slack f n (x ∷ xs) v (inr h) =
-    let r = listed_slack f (n + 1) xs v h in let is = r.3 in (suc r.0, r.1, r.2, omega arith)
+    let r = listed_slack f (n + 1) xs v h in (suc r.0, r.1, r.2, omega arith)
 
 has_slack : (f : Fabric) (i t : ℕ) (c : Queued) → slice_get (input f i) t ≡ Some c →
     Among (cushion_of f c - t) (slacks f i)
@@ -113,7 +113,7 @@ has_slack f i t c h = slack_listed f 0 (input f i) t t c (omega arith) h
 slack_of : (f : Fabric) (i v : ℕ) → Among v (slacks f i) →
     (t : ℕ) × (c : Queued) × (slice_get (input f i) t ≡ Some c) × (v ≡ cushion_of f c - t)
 unfolding slacks listed_slacks
-slack_of f i v h = let r = listed_slack f 0 (input f i) v h in let is = r.3 in (r.0, r.1, r.2, omega arith)
+slack_of f i v h = let r = listed_slack f 0 (input f i) v h in (r.0, r.1, r.2, omega arith)
 
 -- ## Where a cell stands that has arrived
 
@@ -188,9 +188,6 @@ module _ (ms : List Machine) (slot class_count : ℕ) (cells : List (Option Cell
       moved_rises (slot + 1) r.arrived r.filled r.first
       (arrived ms slot class_count cells f g ideal r agrees come step) step.first_chosen step.fill i
       between.before c between.stood in
-      let a = two.risen in
-      let b = between.fallen in
-      let d = one.risen in
       record { before = one.before; stood = one.stood; risen = omega arith }
 
   -- from the arrivals to those of the next slot
@@ -201,8 +198,6 @@ module _ (ms : List Machine) (slot class_count : ℕ) (cells : List (Option Cell
       (λ a. inl a)
       (λ a.
       let b = slot_rises i a.before c a.stood in
-      let fallen = a.fallen in
-      let risen = b.risen in
       inr (record { before = b.before; stood = b.stood; fallen = omega arith }))
       (arrivals_fall ms (slot + 1) cells' came' g next arrive i t c at)
 
@@ -215,7 +210,6 @@ module _ (ms : List Machine) (slot class_count : ℕ) (cells : List (Option Cell
       let at_slot = (keyed ms slot class_count cells f g ideal r agrees come step).slot_is i c came in
       let is : input r.arrived i ≡ insert (input f i) (place_of_arrival (cushion_of f c) c (input f i)) c =
       step.arrive.lists i ∙ ap (λ q. list_arrived f q (input f i)) came in
-      let number = step.numbered in
       ap (position_or_len (λ (x : Queued). x.key.slot == r.slot)) is
       ∙ position-insert (λ (x : Queued). x.key.slot == r.slot) (input f i)
       (place_of_arrival (cushion_of f c) c (input f i)) c (omega arith) (eq-eqb c.key.slot r.slot (omega arith))
@@ -238,7 +232,6 @@ module _ (ms : List Machine) (slot class_count : ℕ) (cells : List (Option Cell
     unfolding slack_on_arrival
     low i v h =
         let at = slack_of r.arrived i v h in
-        let is = at.3 in
         let within = slack_arrived ms slot class_count cells f g ideal r agrees come step i at.0 at.1 at.2 in
         ⊎_elim
         (λ a.
@@ -253,8 +246,6 @@ module _ (ms : List Machine) (slot class_count : ℕ) (cells : List (Option Cell
         ∙ ap (λ (n : ℕ). Some n) same))
         (λ a.
         let more = has.more i a.before at.1 a.stood in
-        let lt = more.2 in
-        let fallen = a.fallen in
         inr (more.0, more.1, omega arith))
         (arrivals_fall ms slot cells r.came f r.arrived step.arrive i at.0 at.1 at.2)
 
@@ -295,7 +286,5 @@ module _ (ms : List Machine) (slot class_count : ℕ) (cells : List (Option Cell
               new_least (least_slack x i) (slacks r.arrived i) _
               (has_slack r.arrived i rise.before c rise.stood) in
               let is = least_after x r i (let inside = inside_input g i t c at in omega arith) in
-              let risen = rise.risen in
-              let le = new.2 in
               (new.0, is ∙ new.1, omega arith);
         }

@@ -41,10 +41,8 @@ module _ (m : Partners) (i j : ℕ) (only : IsOnlyPair m i j) where
     together n stable =
         ⊎_elim (λ e. e)
         (λ ne. ⊎_elim
-        (λ (better : HasBetterOutput o n i j). let place = first.place in absurd (omega arith))
-        (λ (better : HasBetterInput o n i j). let lt = better.2 in
-        let position = first.position in
-        absurd (omega arith))
+        (λ (better : HasBetterOutput o n i j). absurd (omega arith))
+        (λ (better : HasBetterInput o n i j). absurd (omega arith))
         (stable.settled i j first.offered ne))
         (is_partner (partner_of n i) j)
 
@@ -52,19 +50,17 @@ module _ (m : Partners) (i j : ℕ) (only : IsOnlyPair m i j) where
     other_output l ne h =
         let mine : partner_place o m i ≡ 0 = ap (depth (outputs_of o i)) only.pair ∙ first.place in
         ⊎_elim (λ lt. (let P : partner_place o m i < place_of o i l = omega arith in P))
-        (λ ge. let place = first.place in
-        absurd (ne (sym (same_at_place (outputs_of o i) j l (omega arith) first.offered))))
+        (λ ge. absurd (ne (sym (same_at_place (outputs_of o i) j l (omega arith) first.offered))))
         (cases_lt 0 (place_of o i l))
 
     other_input : (k : ℕ) → k ≢ i → IsOffered o k j → HasBetterInput o m k j
-    other_input k ne h =
-        let position = first.position in (
-          i,
-          only.pair,
-          ⊎_elim (λ lt. (let P : position_of o j i < position_of o j k = omega arith in P))
-              (λ ge. absurd (ne (same_at_place (inputs_of o j) k i (omega arith) (first.shown k h))))
-              (cases_lt 0 (position_of o j k)),
-        )
+    other_input k ne h = (
+      i,
+      only.pair,
+      ⊎_elim (λ lt. (let P : position_of o j i < position_of o j k = omega arith in P))
+          (λ ge. absurd (ne (same_at_place (inputs_of o j) k i (omega arith) (first.shown k h))))
+          (cases_lt 0 (position_of o j k)),
+    )
 
     pair_stable : IsStable o m
     pair_stable =

@@ -46,7 +46,6 @@ pub first_least : (j : ℕ) (xs : List Queued) (s : ℕ) (c f : Queued) → Keep
 first_least j xs s c f order at out is =
     let first = first_at (is_for j) xs f is in
     let le = first_le (is_for j) xs s c at (eq-eqb c.cell.output j out) in
-    let place = first.is in
     ⊎_elim
     (λ lt. inr (each_pair_at _ xs first.place s f c order first.at at lt
     (eqb-true f.cell.output j first.passes ∙ sym out)))
@@ -207,7 +206,7 @@ module _ (old new : Fabric) (o : Orders) (m : Partners) (order : (i : ℕ) → K
     slack_risen n slack i t c at =
         let r = matching_rises i t c at in
         let had = slack i r.before c r.stood in
-        let risen = r.risen in omega arith
+        omega arith
 
     pub least_buffered : HasSlack 0 old → (j : ℕ) (c : Queued) → IsMostUrgentFor old j c → IsAmong c (buffer new j)
     least_buffered slack j c least =
