@@ -4,7 +4,8 @@
 use Rattle.std.proofs.Common.{ℕ, zero, suc, ◌≡◌, ◌≢◌, ◌+◌, ◌<◌, ◌≤◌, ◌&&◌, Bool, true, false, not, is_none, eqb, ltb, ⊎_elim, List, [], ◌∷◌, ◌++◌, length, set, get_or, replicate, Option, Some, None, refl, sym, ◌∙◌, ap, arith}
 use Rattle.std.specs.Prelude.{filter}
 use Rattle.std.specs.List.{IsDistinct, range_with_len}
-use Rattle.std.proofs.lemmas.Bool.{cases_eq, cases_lt, cond_both, cond-true, cond-false, eq-eqb, ne_eqb, lt-ltb, le-ltb, eqb-true, and_left, true≢false}
+use Rattle.std.proofs.Math.Bool.{and-true}
+use Rattle.std.proofs.lemmas.Bool.{cases_eq, cases_lt, cond_both, cond-true, cond-false, eq-eqb, ne_eqb, lt-ltb, le-ltb, eqb-true, and_left, and_right, true≢false}
 use Rattle.std.proofs.lemmas.List.{get_or-set_same, get_or-set_other, append-nil}
 use Rattle.std.proofs.lemmas.List.Elements.{filter_agree, filter-append}
 use Rattle.std.proofs.lemmas.List.FromFn.{length-range_with_len}
@@ -105,22 +106,13 @@ waits-yes : (o : Orders) (places : List ℕ) (m : Partners) (i : ℕ) → get_or
     partner_of m i ≡ None → is_waiting o places m i ≡ true
 waits-yes o places m i left e = rw (lt-ltb _ _ left, e) refl
 
-and_false : (b : Bool) → (b && false) ≡ false
-and_false true = refl
-and_false false = refl
-
-and_true : (b : Bool) → (b && true) ≡ b
-and_true true = refl
-and_true false = refl
-
 some_one : (p : Option ℕ) → p ≢ None → is_none p ≡ false
 some_one None h = absurd (h refl)
 some_one (Some j) h = refl
 
 waits-no : (o : Orders) (places : List ℕ) (m : Partners) (i : ℕ) → partner_of m i ≢ None →
     is_waiting o places m i ≡ false
-waits-no o places m i h =
-    ap (λ b. ltb (get_or places i 0) (length (outputs_of o i)) && b) (some_one (partner_of m i) h) ∙ and_false _
+waits-no o places m i h = and_right _ _ (some_one (partner_of m i) h)
 
 waits-done : (o : Orders) (places : List ℕ) (m : Partners) (i : ℕ) → length (outputs_of o i) ≤ get_or places i 0 →
     is_waiting o places m i ≡ false
@@ -228,7 +220,7 @@ waiting-first o m e =
     (λ i.
     let none : partner_of m i ≡ None = ap (λ l. partner_of l i) e ∙ nobody (ports o) i in
     let zero : get_or (start o).places i 0 ≡ 0 = next_place-start o i in
-    sym (ap (λ p. ltb (get_or (start o).places i 0) (length (outputs_of o i)) && is_none p) none ∙ and_true _
+    sym (ap (λ p. ltb (get_or (start o).places i 0) (length (outputs_of o i)) && is_none p) none ∙ and-true _
     ∙ ap (λ n. ltb n (length (outputs_of o i))) zero)) (range_with_len 0 (ports o))
 
 -- an order is empty or not
