@@ -3,10 +3,10 @@
 -- mark is up, where the fabric and the ideal switch agree. By its own records it is a run without limits of what they
 -- admit, and so its matchings and its slack are what they are without limits.
 use Rattle.std.proofs.Common.{◌≡◌, ℕ, ◌+◌, ◌<◌, ◌≤◌, List, [], ◌∷◌, take, Option, Ok, ap, ◌∙◌, refl, sym, subst, ⊎_elim, arith}
-use Rattle.std.specs.Prelude.{All, IsOkAnd, Result, length, max}
+use Rattle.std.specs.Prelude.{All, IsOkAnd, Result, length}
 use Rattle.std.specs.List.{AllByRecursion}
 use Rattle.std.proofs.lemmas.Bool.{cases_lt}
-use Rattle.cq_base.specs.Arriving.{Arrival, end_of}
+use Rattle.cq_base.specs.Arriving.{Arrival}
 use Rattle.cq_cells.specs.Traffic.{IsTraffic}
 use Rattle.cq_base.specs.declared.cell.Cell.{Cell}
 use Rattle.cq_base.specs.declared.cell.TagFault.{TagFault}
@@ -217,14 +217,6 @@ module _ (t : Tables) (came : List Arrival) where
         (empty_agree (ports_of t.setup) (openings_of t.setup)) fits
         (stable_run ms 0 (admitted_in (admissions_in rs)) plain is.end.state (slots_in rs) (plainly rs is)))
 
-    -- it ends with the last arrival, or with the last departure
-    end_of_run : length rs ≡ max (end_of came) (figures_of (ports_of t.setup) (slots_in rs)).slots
-    end_of_run =
-        let many = as_many_slots in
-        let last = slots_are t came (departures_in_run rs) sends_as_ideal in
-        let told = slots_sent rs is in
-        omega arith
-
     pub emulates : EmulatesIdeal t came rs is
     emulates = record {
       slot_by_slot = slot_by_slot;
@@ -232,7 +224,11 @@ module _ (t : Tables) (came : List Arrival) where
       input_best = best_in_each;
       slack = always_slack;
       ends = as_many_slots;
-      slots = end_of_run;
+      slots =
+          let many = as_many_slots in
+          let last = slots_are t came (departures_in_run rs) sends_as_ideal in
+          let told = slots_sent rs is in
+          omega arith;
       drained = is.runs.empty;
     }
 
