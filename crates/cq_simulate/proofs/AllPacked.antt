@@ -9,15 +9,14 @@ use Rattle.std.proofs.lemmas.List.{append-nil, drop_more, get_or-set_other, get_
 use Rattle.cq_base.specs.Packed.{unpacked}
 use Rattle.cq_base.specs.declared.cell.Departure.{Departure}
 use Rattle.cq_base.specs.declared.packed.PackedDeparture.{PackedDeparture}
-use Rattle.cq_cells.specs.Schedule.{arrivals}
 use Rattle.cq_pcap.specs.Captured.{Captured}
 use Rattle.cq_pcap.proofs.Writing.{written_with}
 use Rattle.cq_pcap.specs.Written.{record_of, written}
 use Rattle.cq_pcap.specs.declared.write.OutPacket.{OutPacket}
-use Rattle.cq_route.specs.Tables.{AreTables, ports_of}
+use Rattle.cq_route.specs.Tables.{ports_of}
 use Rattle.cq_route.specs.declared.tables.Tables.{Tables}
-use Rattle.cq_simulate.specs.Packets.{ArePacked, LeaveWhole, packets_out}
-use Rattle.cq_simulate.specs.Pieces.{CanBeJoined, IsEmptied, Took, left_with, records_of}
+use Rattle.cq_simulate.specs.Packets.{ArePacked, HaveLeftOf, packets_out}
+use Rattle.cq_simulate.specs.Pieces.{CanBeJoined, IsCaptured, IsEmptied, Took, left_with, records_of}
 use Rattle.cq_simulate.specs.declared.packing.Packing.{Packing}
 use Rattle.cq_simulate.proofs.Departed.{departed_captured, departed_class, departed_output}
 use Rattle.cq_simulate.proofs.Packed.{all_pushed, none_large}
@@ -90,12 +89,11 @@ module _ {t : Tables} {captures : List (List Captured)} {sent left rest : List D
   others_left : rest ≡ drop (so_far.done + 1) sent
   others_left = sym (ap (λ (ds : List Departure). drop 1 ds) parts)
 
-  module _ (are : AreTables t) (many : length captures ≡ ports_of t.setup)
-      (whole : LeaveWhole (arrivals t captures) sent) where
+  module _ {stamp : ℕ} (of_run : HaveLeftOf t captures sent stamp) where
     pub at_port : d.output < length places
     at_port =
         let of_port : (get_or sent so_far.done d).output < ports_of t.setup =
-        departed_output t captures sent are many whole so_far.done d inside in
+        departed_output of_run so_far.done d inside in
         let same : (get_or sent so_far.done d).output ≡ d.output = its_output in
         let as_many : length places ≡ ports_of t.setup = so_far.outputs in
         omega arith
@@ -110,16 +108,15 @@ module _ {t : Tables} {captures : List (List Captured)} {sent left rest : List D
       pub can_take : CanBeJoined captures place.joiner d
       can_take =
           let x : Departure = get_or sent so_far.done d in
-          let came = departed_captured t captures sent are many whole so_far.done d inside in
-          let class = departed_class t captures sent are many whole so_far.done d inside in
+          let came : IsCaptured captures x.queued.cell = departed_captured of_run so_far.done d inside in
+          let class : x.queued.cell.class < length t.setup.classes = departed_class of_run so_far.done d inside in
           let below : ℕ → Type 0 = λ n. x.queued.cell.id.input < n in
           let below_classes : ℕ → Type 0 = λ n. x.queued.cell.class < n in
           subst (λ (y : Departure). CanBeJoined captures place.joiner y) here (record {
             input = subst below (sym own.so_far.inputs) came.input;
             class = subst below_classes (sym own.so_far.classes) class;
             captured = came;
-            fits = cell_fits t captures sent d.output so_far.done d inside its_output place.joiner own.packets
-                own.so_far are many whole class;
+            fits = cell_fits t captures sent d.output so_far.done d inside its_output own.so_far of_run class;
           })
 
       module _ (new : Packing) (took : Took t captures d place new) where
@@ -132,16 +129,16 @@ module _ {t : Tables} {captures : List (List Captured)} {sent left rest : List D
         gone_on_with None is_none put small = record {
           packets = own.packets;
           so_far =
-              kept t captures sent d.output so_far.done d inside its_output place.joiner new.joiner own.packets
-              own.so_far took_here.inputs took_here.classes took_here.pair took_here.others (sym is_none);
+              kept t captures sent d.output so_far.done d inside its_output new.joiner own.so_far took_here.inputs
+              took_here.classes took_here.pair took_here.others (sym is_none);
           bytes = put ∙ append-nil place.bytes.items ∙ own.bytes;
         }
         gone_on_with (Some p) is_one put small = record {
           packets = own.packets ++ p ∷ [];
           so_far =
-              packed t captures sent d.output so_far.done d inside its_output place.joiner new.joiner own.packets
-              own.so_far took_here.inputs took_here.classes took_here.pair took_here.others p (own.packets ++ p ∷ [])
-              is_one refl (all_pushed own.packets (own.packets ++ p ∷ []) p refl own.so_far.small small);
+              packed t captures sent d.output so_far.done d inside its_output new.joiner own.so_far took_here.inputs
+              took_here.classes took_here.pair took_here.others p (own.packets ++ p ∷ []) is_one refl
+              (all_pushed own.packets (own.packets ++ p ∷ []) p refl own.so_far.small small);
           bytes = put ∙ ap (λ (bs : List ℕ). bs ++ record_of p) own.bytes ∙ written_with own.packets p;
         }
 
@@ -167,7 +164,7 @@ module _ {t : Tables} {captures : List (List Captured)} {sent left rest : List D
             (record {
               packets = was.packets;
               so_far =
-                  at_other t captures sent j so_far.done d inside q.joiner was.packets was.so_far
+                  at_other t captures sent j so_far.done d inside was.so_far
                   (λ (e : (get_or sent so_far.done d).output ≡ j). ne (sym e ∙ its_output));
               bytes = was.bytes;
             })

@@ -27,7 +27,7 @@ use Rattle.cq_pcap.specs.Captured.{Captured}
 use Rattle.cq_route.specs.Tables.{AreTables, IsSetup, classes_of, ports_of}
 use Rattle.cq_route.specs.declared.tables.Tables.{Tables}
 use Rattle.cq_scfq.specs.Disciplines.{machines_of, openings_of}
-use Rattle.cq_simulate.specs.Packets.{LeaveWhole, LeftInPackets}
+use Rattle.cq_simulate.specs.Packets.{HaveLeftOf, LeaveWhole, LeftInPackets}
 use Rattle.cq_simulate.specs.Pieces.{IsCaptured}
 use Rattle.cq_simulate.specs.IdealRuns.{ideal_departures, ran_ideal, slots_ran}
 use Rattle.cq_simulate.proofs.OfPackets.{packets_come}
@@ -101,9 +101,8 @@ all_taken P p (x ∷ cells) all =
     (λ _. (all.0, all_taken P p cells all.1)) (λ _. all_taken P p cells all.1)
 
 -- what holds of all that came of its flow holds of a cell that departs
-module _ (t : Tables) (captures : List (List Captured)) (sent : List Departure) (are : AreTables t)
-    (many : length captures ≡ ports_of t.setup) (whole : LeaveWhole (arrivals t captures) sent)
-    (k : ℕ) (e : Departure) (inside : k < length sent) where
+module _ (t : Tables) (captures : List (List Captured)) (sent : List Departure)
+    (whole : LeaveWhole (arrivals t captures) sent) (k : ℕ) (e : Departure) (inside : k < length sent) where
   flow_departed : (P : Cell → Type 0) →
       AllByRecursion P (came_in_flow (get_or sent k e).queued.cell.id.input (get_or sent k e).queued.cell.class (get_or
       sent k e).output (arrivals t captures)) → P (get_or sent k e).queued.cell
@@ -170,19 +169,18 @@ module _ (ports i c j : ℕ) where
       (λ l. AllByRecursion (λ (_ : Cell). j < ports) (map (λ (x : Arrival). x.cell) l))
       (λ of. (for_port a of all.0, came_for_port came all.1)) (λ _. came_for_port came all.1)
 
-module _ (t : Tables) (captures : List (List Captured)) (sent : List Departure) (are : AreTables t)
-    (many : length captures ≡ ports_of t.setup) (whole : LeaveWhole (arrivals t captures) sent)
-    (k : ℕ) (e : Departure) (inside : k < length sent) where
+module _ {t : Tables} {captures : List (List Captured)} {sent : List Departure} {stamp : ℕ}
+    (of_run : HaveLeftOf t captures sent stamp) (k : ℕ) (e : Departure) (inside : k < length sent) where
   pub departed_captured : IsCaptured captures (get_or sent k e).queued.cell
   departed_captured =
-      departed t captures sent are many whole k e inside (IsCaptured captures)
-      (all_captured t captures (let b = are.cell_bytes in omega arith))
+      departed t captures sent of_run.whole k e inside (IsCaptured captures)
+      (all_captured t captures (let b = of_run.tables.cell_bytes in omega arith))
 
   pub departed_class : (get_or sent k e).queued.cell.class < length t.setup.classes
   departed_class =
-      departed t captures sent are many whole k e inside (λ cell. cell.class < length t.setup.classes)
+      departed t captures sent of_run.whole k e inside (λ cell. cell.class < length t.setup.classes)
       (all_from (IsInRange (ports_of t.setup) (classes_of t.setup)) (λ a. a.cell.class < length t.setup.classes)
-      (λ a r. r.class) (arrivals t captures) (traffic_is t captures are many).in_range)
+      (λ a r. r.class) (arrivals t captures) (traffic_is t captures of_run.tables of_run.captures).in_range)
 
   -- so each departure is at a port
   pub departed_output : (get_or sent k e).output < ports_of t.setup
@@ -190,8 +188,8 @@ module _ (t : Tables) (captures : List (List Captured)) (sent : List Departure) 
       let d : Departure = get_or sent k e in
       let ports = ports_of t.setup in
       let came = all_from (IsInRange ports (classes_of t.setup)) (λ a. a.cell.output < ports) (λ a r. r.output)
-      (arrivals t captures) (traffic_is t captures are many).in_range in
-      flow_departed t captures sent are many whole k e inside (λ _. d.output < ports)
+      (arrivals t captures) (traffic_is t captures of_run.tables of_run.captures).in_range in
+      flow_departed t captures sent of_run.whole k e inside (λ _. d.output < ports)
       (came_for_port ports d.queued.cell.id.input d.queued.cell.class d.output (arrivals t captures) came)
 
 -- ## The last slot

@@ -69,7 +69,7 @@ module _ (t : Tables) (captures : List (List Captured)) (tables : AreTables t)
     left =
         recursion_from_All (λ d. IsOfPacket t captures d.queued.cell) sent
         (λ k d inside.
-        departed t captures sent tables many (left_in_packets t captures sent tables many as_departed) k d inside
+        departed t captures sent (left_in_packets t captures sent tables many as_departed) k d inside
         (IsOfPacket t captures) (all_of_packets t captures))
 
     lost : AllByRecursion (IsOfPacket t captures) (refused_in ran.admissions)

@@ -207,16 +207,14 @@ module _ (f : Fabric) (m : Partners) (is : IsMatching (orders_of f.inputs) m) wh
 
 module _ (ms : List Machine) (slot : ℕ) (cells : List (Option Cell)) (f g : Fabric) (r : SlotRecord)
     (step : FabricSlot IsInputBest ms slot cells f r g) where
-  came_is : (i : ℕ) (c : Queued) → came_to r.came i ≡ Some c → arrival_at cells i ≡ Some c.cell
-  came_is i c is =
-      (came_from ms slot 0 cells f.ranks (record { came = r.came; ranks = r.arrived.ranks }) step.arrive.ranked i c
-      is).cell_is
-
   arrived_one : (i : ℕ) → length (input r.arrived i) ≤ length (input f i) + one_if (arrival_at cells i)
   arrived_one i =
       let e : length (input r.arrived i) ≡ length (list_arrived f (came_to r.came i) (input f i)) =
       ap length (step.arrive.lists i) in
-      let l = longer_one f (came_to r.came i) (arrival_at cells i) (input f i) (came_is i) in
+      let l =
+      longer_one f (came_to r.came i) (arrival_at cells i) (input f i) (λ c is.
+      (came_from ms slot 0 cells f.ranks (record { came = r.came; ranks = r.arrived.ranks }) step.arrive.ranked i c
+      is).cell_is) in
       omega arith
 
   arrived_all : (n : ℕ) → at_inputs r.arrived n ≤ at_inputs f n + length (present cells)

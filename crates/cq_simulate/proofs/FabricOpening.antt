@@ -7,7 +7,8 @@ use Rattle.cq_base.specs.Arriving.{Arrival, traffic_of}
 use Rattle.cq_base.specs.Room.{RoomView}
 use Rattle.cq_base.specs.declared.cell.Departure.{Departure}
 use Rattle.cq_base.specs.declared.cell.Transfer.{Transfer}
-use Rattle.cq_cells.specs.Traffic.{IsShort, IsTraffic, is_from, is_to, number_of}
+use Rattle.cq_cells.specs.Scheduled.{Scheduled}
+use Rattle.cq_cells.specs.Traffic.{IsTraffic, is_from, is_to, number_of}
 use Rattle.cq_engine.specs.Engine.{CanBeMade, EngineView, fresh_engine, marked_fabric}
 use Rattle.cq_ideal.specs.Admission.{Marked, marks_down}
 use Rattle.cq_ideal.specs.Ideal.{IdealSwitch}
@@ -21,7 +22,7 @@ use Rattle.cq_laws.specs.Measures.{figures_of, no_figures}
 use Rattle.cq_prefs.specs.Pairing.{IsInputBest}
 use Rattle.cq_rank.specs.Machine.{Machine}
 use Rattle.cq_rank.specs.Switch.{AreForOneSwitch, class_count}
-use Rattle.cq_route.specs.Tables.{AreTables, IsSetup, classes_of, ports_of}
+use Rattle.cq_route.specs.Tables.{AreTables, classes_of, ports_of}
 use Rattle.cq_route.specs.declared.tables.Tables.{Tables}
 use Rattle.cq_scfq.specs.Discipline.{fixed_of, machine_from, state_of}
 use Rattle.cq_scfq.specs.Disciplines.{machines_of, openings_of}
@@ -33,6 +34,7 @@ use Rattle.cq_simulate.specs.FabricRuns.{IsKeptOf, unpacked_run}
 use Rattle.cq_simulate.specs.FreshFabric.{ArePortsFor, IsFreshFor, by_port}
 use Rattle.cq_simulate.specs.GoingOn.{HasKept, IsReadyOn, IsRefusalOn}
 use Rattle.cq_simulate.specs.IdealRuns.{IsRefusalOf, ideal_departures}
+use Rattle.cq_simulate.specs.ScheduleFor.{IsScheduleFor}
 use Rattle.cq_simulate.specs.declared.fabric_run.FabricRun.{FabricRun}
 use Rattle.cq_simulate.specs.declared.fabric_run.PackedFabricRun.{PackedFabricRun}
 use Rattle.cq_simulate.specs.declared.ports.Ports.{Ports}
@@ -141,30 +143,25 @@ module _ {t : Tables} {came : List Arrival} {first : EngineView} (fresh : IsFres
 
 -- ## What is known once its run can begin
 
-pub record IsMade (t : Tables) (came : List Arrival) (first : EngineView) (sent : RoomView Departure)
+pub record IsMade (t : Tables) (s : Scheduled) (first : EngineView) (sent : RoomView Departure)
     (note : RoomView Transfer) : Type 0 where
   -- the tables and the arrivals
-  pub setup : IsSetup t.setup
-  pub traffic : IsTraffic (ports_of t.setup) (classes_of t.setup) came
-  pub short : IsShort came
-  pub few : length came ≤ 2 ^ 34
+  pub fit : IsScheduleFor t s
+  pub few : length s.came ≤ 2 ^ 34
   -- the engine
-  pub fresh : IsFreshFor t came first
+  pub fresh : IsFreshFor t s.came first
   -- the rooms of what it sends and notes
   pub nothing_sent : sent.items ≡ []
-  pub sent_room : sent.spare ≡ length came + ports_of t.setup
+  pub sent_room : sent.spare ≡ length s.came + ports_of t.setup
   pub nothing_noted : note.items ≡ []
-  pub note_room : note.spare ≡ length came + 2 * ports_of t.setup
+  pub note_room : note.spare ≡ length s.came + 2 * ports_of t.setup
 
-pub made_for : {t : Tables} {came : List Arrival} {first : EngineView} {sent : RoomView Departure}
-    {note : RoomView Transfer} (ports total : ℕ) → AreTables t →
-    IsTraffic (ports_of t.setup) (classes_of t.setup) came → IsShort came → ports ≡ ports_of t.setup →
-    total ≡ length came → total ≤ 2 ^ 34 → IsFreshFor t came first → sent.items ≡ [] → sent.spare ≡ total + ports →
-    note.items ≡ [] → note.spare ≡ total + 2 * ports → IsMade t came first sent note
-made_for ports total tables traffic short many all few fresh nothing_sent sent_room nothing_noted note_room = record {
-  setup = tables.setup;
-  traffic = traffic;
-  short = short;
+pub made_for : {t : Tables} {s : Scheduled} {first : EngineView} {sent : RoomView Departure} {note : RoomView Transfer}
+    {ports total : ℕ} → IsScheduleFor t s → ports ≡ ports_of t.setup → total ≡ length s.came → total ≤ 2 ^ 34 →
+    IsFreshFor t s.came first → sent.items ≡ [] → sent.spare ≡ total + ports → note.items ≡ [] →
+    note.spare ≡ total + 2 * ports → IsMade t s first sent note
+made_for fit many all few fresh nothing_sent sent_room nothing_noted note_room = record {
+  fit = fit;
   few = omega arith;
   fresh = fresh;
   nothing_sent = nothing_sent;
@@ -173,27 +170,27 @@ made_for ports total tables traffic short many all few fresh nothing_sent sent_r
   note_room = omega arith;
 }
 
-module _ {t : Tables} {came : List Arrival} {first : EngineView} {sent : RoomView Departure}
-    {note : RoomView Transfer} (made : IsMade t came first sent note) where
+module _ {t : Tables} {s : Scheduled} {first : EngineView} {sent : RoomView Departure} {note : RoomView Transfer}
+    (made : IsMade t s first sent note) where
   -- it can run from slot 0 on
-  pub ready : IsReadyFabric (map machine_from first.fixed) came first sent note
+  pub ready : IsReadyFabric (map machine_from first.fixed) s.came first sent note
   ready =
       let fresh = made.fresh in
       let is = fresh.fresh in
       let n = ports_of t.setup in
-      let at_most = made.setup.ports in
+      let at_most = made.fit.tables.setup.ports in
       let many : length first.fixed ≡ n = port_count fresh in
       let known : class_count (map machine_from first.fixed) ≡ classes_of t.setup =
       ap class_count fresh.machines ∙ fresh.classes in
-      let from : ℕ → ℕ = λ i. number_of (is_from i) came in
-      let to : ℕ → ℕ = λ j. number_of (is_to j) came in
+      let from : ℕ → ℕ = λ i. number_of (is_from i) s.came in
+      let to : ℕ → ℕ = λ j. number_of (is_to j) s.came in
       record {
         running = ap (λ (e : EngineView). e.stopped) is;
         next = ap (λ (e : EngineView). e.next) is;
         ports = omega arith;
-        traffic = subst (λ (k : ℕ). IsTraffic k (class_count (map machine_from first.fixed)) came) (sym many)
-            (subst (λ (k : ℕ). IsTraffic n k came) (sym known) made.traffic);
-        short = made.short;
+        traffic = subst (λ (k : ℕ). IsTraffic k (class_count (map machine_from first.fixed)) s.came) (sym many)
+            (subst (λ (k : ℕ). IsTraffic n k s.came) (sym known) made.fit.traffic);
+        short = made.fit.short;
         few = made.few;
         fabric = ap (λ (e : EngineView). e.fabric) is
             ∙ (λ k. empty_fabric (sym many k) (sym (ap (λ (e : EngineView). e.fabric.ranks) is) k));
@@ -210,21 +207,21 @@ module _ {t : Tables} {came : List Arrival} {first : EngineView} {sent : RoomVie
       }
 
   -- as an engine can that goes on
-  pub can_begin : IsReadyOn (map machine_from first.fixed) came first sent note
-  can_begin = ready_on (map machine_from first.fixed) came first sent note ready
+  pub can_begin : IsReadyOn (map machine_from first.fixed) s.came first sent note
+  can_begin = ready_on (map machine_from first.fixed) s.came first sent note ready
 
   -- what it has run is the run of the tables
-  pub run_is_kept : (run : PackedFabricRun) → HasKept (map machine_from first.fixed) came first sent note run →
-      IsKeptOf t came (unpacked_run run)
+  pub run_is_kept : (run : PackedFabricRun) → HasKept (map machine_from first.fixed) s.came first sent note run →
+      IsKeptOf t s.came (unpacked_run run)
   run_is_kept run kept =
       kept_of made.fresh kept.last (unpacked_run run)
-      (has_run (map machine_from first.fixed) came first sent note ready kept.last run.sent run.note kept.ran)
+      (has_run (map machine_from first.fixed) s.came first sent note ready kept.last run.sent run.note kept.ran)
       kept.figures kept.refused
 
   -- and where it has none, the ideal switch has none
-  pub no_run : (why : RunRefusal) → IsRefusalOn (map machine_from first.fixed) came first why →
-      IsRefusalOf (ideal_departures t came) why
+  pub no_run : (why : RunRefusal) → IsRefusalOn (map machine_from first.fixed) s.came first why →
+      IsRefusalOf (ideal_departures t s.came) why
   no_run (refusal.Tag fault) stops =
       sym (ideal_of_tables made.fresh)
-      ∙ first_fault (map machine_from first.fixed) came first sent note ready fault stops
+      ∙ first_fault (map machine_from first.fixed) s.came first sent note ready fault stops
   no_run refusal.NoMemory stops = tt

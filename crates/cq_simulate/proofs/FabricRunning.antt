@@ -20,7 +20,7 @@ use Rattle.cq_base.specs.declared.cell.TagFault.{TagFault}
 use Rattle.cq_base.specs.declared.cell.Transfer.{Transfer}
 use Rattle.cq_base.specs.declared.figures.Figures.{Figures}
 use Rattle.cq_engine.proofs.Kept.{limited_lists_kept, limited_outputs_kept}
-use Rattle.cq_engine.specs.Engine.{EngineView, SlotDone, marked_fabric, ports_of}
+use Rattle.cq_engine.specs.Engine.{EngineView, IsMadeAs, SlotDone, marked_fabric, ports_of}
 use Rattle.cq_ideal.proofs.Ends.{nothing_left}
 use Rattle.cq_ideal.proofs.FlowRank.{present}
 use Rattle.cq_ideal.proofs.FlowRun.{come_count}
@@ -87,9 +87,7 @@ pub record Crossing (whole : Bool) (ms : List Machine) (came : List Arrival) (fi
   pub agrees : LimitedAgrees slot (marked_fabric now) ideal
   pub running : now.stopped ≡ false
   pub next : now.next ≡ slot
-  pub fixed : now.fixed ≡ first.fixed
-  pub from_inputs : now.from_inputs ≡ first.from_inputs
-  pub to_outputs : now.to_outputs ≡ first.to_outputs
+  pub made : IsMadeAs first now
   pub ports : length now.fabric.inputs ≡ ports_of first
   pub records : List LimitedRecord
   pub long : first.next + length records ≡ slot
@@ -108,6 +106,15 @@ pub record Crossing (whole : Bool) (ms : List Machine) (came : List Arrival) (fi
   pub few : whole ≡ true → waiting ideal.state.lists + come_count (arriving_from came slot n) + (end_of came - slot) ≤ n
   pub going : whole ≡ true → (m : ℕ) (f : Marked Fabric) → m < length records → RanTo ms came first m records f →
       end_of came ≤ first.next + m → IsEmptyFabric f.state → ⊥
+
+-- a later slot changes none of it either
+pub made_on : {first now after : EngineView} → IsMadeAs first now → IsMadeAs now after → IsMadeAs first after
+made_on was is = record {
+  fixed = is.fixed ∙ was.fixed;
+  limits = is.limits ∙ was.limits;
+  from_inputs = is.from_inputs ∙ was.from_inputs;
+  to_outputs = is.to_outputs ∙ was.to_outputs;
+}
 
 -- ## Before the first slot
 
@@ -178,9 +185,7 @@ crossing_first whole ms came first sent note n ready slots =
       agrees = begins first ready.sound;
       running = ready.running;
       next = refl;
-      fixed = refl;
-      from_inputs = refl;
-      to_outputs = refl;
+      made = record { fixed = refl; limits = refl; from_inputs = refl; to_outputs = refl };
       ports = ready.inputs;
       records = [];
       long = omega arith;
@@ -288,11 +293,9 @@ module _ (whole : Bool) (ms : List Machine) (came : List Arrival) (first : Engin
       (whole ≡ true → end_of came ≤ slot → IsEmptyFabric now.fabric → ⊥) → ports_of first ≤ 64 →
       AreForPorts (ports_of first) classes (arriving came slot) →
       SlotDone ms slot (arriving came slot) now after sent sent_new note note_new → after.stopped ≡ false →
-      after.next ≡ slot + 1 → after.fixed ≡ now.fixed → after.limits ≡ now.limits →
-      after.from_inputs ≡ now.from_inputs → after.to_outputs ≡ now.to_outputs →
+      after.next ≡ slot + 1 → IsMadeAs now after →
       Crossing whole ms came first first_sent first_note (slot + 1) n after sent_new note_new
-  crossing_next slot n now sent note after sent_new note_new classes c more few for_ports done running next fixed
-      limits from_inputs to_outputs =
+  crossing_next slot n now sent note after sent_new note_new classes c more few for_ports done running next made =
       let cells = arriving came slot in
       let p = ports_of first in
       let f = marked_fabric now in
@@ -323,9 +326,7 @@ module _ (whole : Bool) (ms : List Machine) (came : List Arrival) (first : Engin
         agrees = alike.agrees;
         running = running;
         next = next;
-        fixed = fixed ∙ c.fixed;
-        from_inputs = from_inputs ∙ c.from_inputs;
-        to_outputs = to_outputs ∙ c.to_outputs;
+        made = made_on c.made made;
         ports = limited_ports_kept first.limits ms slot classes cells f g ideal r c.agrees come stable ∙ c.ports;
         records = c.records ++ r ∷ [];
         long = omega arith;
@@ -368,7 +369,7 @@ module _ (whole : Bool) (ms : List Machine) (came : List Arrival) (first : Engin
               ∙ ap (with_refused r.admission.refused) c.went.refused
               ∙ sym (all_counted_both (refused_in (admissions_in c.records)) r.admission.refused first.refused)
               ∙ ap (λ (l : List Cell). with_refused l first.refused) (sym (refused_more c.records r));
-          limits = limits ∙ c.went.limits;
+          limits = made.limits ∙ c.went.limits;
           running = running;
         };
         lists = λ i inside.

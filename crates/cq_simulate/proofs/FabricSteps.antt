@@ -1,5 +1,5 @@
 -- What each step of the loop over the slots of the fabric asks for, where so many slots are left as are not yet over.
-use Rattle.std.proofs.Common.{◌≡◌, ◌↔◌, ℕ, suc, ◌+◌, ◌-◌, ◌*◌, ◌<◌, ◌≤◌, ◌^◌, Bool, true, false, List, [], length, map, replicate, Option, Some, Result, Ok, Err, refl, sym, ap, ◌∙◌, subst, ⊎_elim, arith}
+use Rattle.std.proofs.Common.{◌≡◌, ◌↔◌, ℕ, suc, ◌+◌, ◌-◌, ◌*◌, ◌<◌, ◌≤◌, ◌^◌, Bool, true, false, List, [], ◌++◌, length, map, replicate, Option, Some, Result, Ok, Err, refl, sym, ap, ◌∙◌, subst, ⊎_elim, arith}
 use Rattle.std.specs.Prelude.{IsTrue, slice_index}
 use Rattle.std.proofs.lemmas.Bool.{cases_lt}
 use Rattle.cq_base.specs.Arrivals.{arrival_at, no_arrivals}
@@ -10,7 +10,7 @@ use Rattle.cq_base.specs.declared.cell.Departure.{Departure}
 use Rattle.cq_base.specs.declared.cell.TagFault.{TagFault}
 use Rattle.cq_base.specs.declared.cell.Transfer.{Transfer}
 use Rattle.cq_cells.specs.Traffic.{IsShort}
-use Rattle.cq_engine.specs.Engine.{EngineView, HaveBufferRoom, HaveListRoom, SlotDone, answer_to, its_admission, marked_fabric, ports_of}
+use Rattle.cq_engine.specs.Engine.{EngineView, HaveBufferRoom, HaveListRoom, IsMadeAs, IsReadyFor, SlotDone, answer_to, its_admission, marked_fabric, ports_of}
 use Rattle.cq_engine.specs.Resting.{HasRested}
 use Rattle.cq_ideal.specs.Admission.{Marked}
 use Rattle.cq_ideal.specs.Ideal.{HaveLeft, count_for}
@@ -25,7 +25,7 @@ use Rattle.cq_rank.specs.Machine.{Machine}
 use Rattle.cq_rank.specs.Switch.{class_count}
 use Rattle.cq_simulate.proofs.FabricCounts.{square_few}
 use Rattle.cq_simulate.proofs.FabricRunning.{Crossing, crossing_fault, crossing_first, crossing_left, crossing_next, crossing_over, over_by, over_by_is}
-use Rattle.cq_simulate.proofs.Handed.{TakenOver, few_left, left_with_all, room_again}
+use Rattle.cq_simulate.proofs.Handed.{IsFree, few_left, free_again, left_with_all}
 use Rattle.cq_simulate.proofs.Steps.{ends_early}
 use Rattle.cq_simulate.proofs.FabricStretches.{crossing_rest, same_fabric}
 use Rattle.cq_ideal.proofs.Counting.{counts_fit}
@@ -72,31 +72,27 @@ pub record HasHad (ms : List Machine) (slot : ℕ) (cells : List (Option Cell)) 
   pub done : SlotDone ms slot cells old new sent sent_new note note_new
   pub running : new.stopped ≡ false
   pub next : new.next ≡ slot + 1
-  pub fixed : new.fixed ≡ old.fixed
-  pub limits : new.limits ≡ old.limits
-  pub from_inputs : new.from_inputs ≡ old.from_inputs
-  pub to_outputs : new.to_outputs ≡ old.to_outputs
+  pub made : IsMadeAs old new
 
 -- what left in a slot stands in a list of its own, and is taken over from there
-module _ {ms : List Machine} {slot : ℕ} {cells : List (Option Cell)} {old new : EngineView}
-    {leaving left : RoomView Departure} {note note_new : RoomView Transfer} (none : leaving.items ≡ [])
+module _ {ms : List Machine} {slot ports : ℕ} {cells : List (Option Cell)} {old new : EngineView}
+    {leaving left : RoomView Departure} {note note_new : RoomView Transfer} (free : IsFree ports leaving)
     (had : HasHad ms slot cells old new leaving left note note_new)
   where
     left_here : HaveLeft slot had.done.record_of.of_slot.gone leaving left
     left_here = record { items = had.done.departed; spare = had.done.departed_room }
 
-    pub few_leave : length left.items ≤ leaving.spare
-    few_leave = few_left slot had.done.record_of.of_slot.gone leaving left none left_here
+    few_leave : length left.items ≤ ports
+    few_leave = few_left free left_here
 
-    pub room_is_back : (emptied : RoomView Departure) → emptied.spare ≡ left.spare + length left.items →
-        emptied.spare ≡ leaving.spare
-    room_is_back = room_again slot had.done.record_of.of_slot.gone leaving left none left_here
+    pub again_free : {emptied : RoomView Departure} → emptied.items ≡ [] →
+        emptied.spare ≡ left.spare + length left.items → IsFree ports emptied
+    again_free none room = free_again free left_here none room
 
-    pub handed : (sent sent_new : RoomView Departure) → TakenOver sent left sent_new →
-        HasHad ms slot cells old new sent sent_new note note_new
-    handed sent sent_new taken =
-        let has : HaveLeft slot had.done.record_of.of_slot.gone sent sent_new = left_with_all slot
-        had.done.record_of.of_slot.gone leaving left none left_here sent sent_new taken in
+    pub handed : {sent sent_new : RoomView Departure} → sent_new.items ≡ sent.items ++ left.items →
+        sent_new.spare + length left.items ≡ sent.spare → HasHad ms slot cells old new sent sent_new note note_new
+    handed items spare =
+        let has = left_with_all free left_here items spare in
         record {
           done =
               record {
@@ -111,23 +107,15 @@ module _ {ms : List Machine} {slot : ℕ} {cells : List (Option Cell)} {old new 
               };
           running = had.running;
           next = had.next;
-          fixed = had.fixed;
-          limits = had.limits;
-          from_inputs = had.from_inputs;
-          to_outputs = had.to_outputs;
+          made = had.made;
         }
 
--- all that an engine asks for a slot
+-- all that an engine asks for a slot, where what leaves is put into this list
 pub record CanRun (M : List ℕ → Machine) (slot : ℕ) (cells : List (Option Cell)) (now : EngineView)
-    (sent : RoomView Departure) (note : RoomView Transfer) : Type 0 where
+    (leaving : RoomView Departure) (note : RoomView Transfer) : Type 0 where
   pub early : slot < 2 ^ 64 - 1
   pub arrivals : AreForPorts (length now.fixed) (class_count (map M now.fixed)) cells
-  pub list_room : HaveListRoom cells now
-  pub buffer_room : HaveBufferRoom cells now
-  pub refused : CanCount (ports_of now) now.refused
-  pub sent_room : length now.fixed ≤ sent.spare
-  pub note_room : 2 * length now.fixed ≤ note.spare
-  pub proposals : now.figures.proposals + 2 * (length now.fixed * length now.fixed) < 2 ^ 64
+  pub ready : IsReadyFor cells now leaving note
 
 -- The run, which began there and is to its end or not, stands at this slot, which is to be run.
 pub record Stands (whole : Bool) (end : ℕ) (M : List ℕ → Machine) (came : List Arrival) (first : EngineView)
@@ -182,7 +170,7 @@ module _ (whole : Bool) (end : ℕ) (M : List ℕ → Machine) (came : List Arri
     early = omega arith
 
     same_ports : length now.fixed ≡ length first.fixed
-    same_ports = ap (λ (l : List (List ℕ)). length l) b.fixed
+    same_ports = ap (λ (l : List (List ℕ)). length l) b.made.fixed
 
     for_ports : AreForPorts (length first.fixed) (class_count (map M first.fixed)) (arriving came slot)
     for_ports = arrivals_for (length first.fixed) (class_count (map M first.fixed)) came slot ready.traffic
@@ -193,7 +181,7 @@ module _ (whole : Bool) (end : ℕ) (M : List ℕ → Machine) (came : List Arri
         subst (λ (cells : List (Option Cell)). AreForPorts (length now.fixed) (class_count (map M now.fixed)) cells)
         (sym are)
         (subst (λ (fixed : List (List ℕ)). AreForPorts (length fixed) (class_count (map M fixed))
-        (arriving came slot)) (sym b.fixed) for_ports)
+        (arriving came slot)) (sym b.made.fixed) for_ports)
 
     list_room : (cells : List (Option Cell)) → cells ≡ arriving came slot → HaveListRoom cells now
     list_room cells are i cell at =
@@ -205,7 +193,7 @@ module _ (whole : Bool) (end : ℕ) (M : List ℕ → Machine) (came : List Arri
         let comes = arrives_found came slot i in
         let one : one_if (arrival_at (arriving came slot) i) ≡ 1 = ap one_if there in
         let same : slice_index now.from_inputs i ≡ slice_index first.from_inputs i =
-        ap (λ (l : List ℕ). slice_index l i) b.from_inputs in
+        ap (λ (l : List ℕ). slice_index l i) b.made.from_inputs in
         omega arith
 
     buffer_room : (cells : List (Option Cell)) → cells ≡ arriving came slot → HaveBufferRoom cells now
@@ -216,7 +204,7 @@ module _ (whole : Bool) (end : ℕ) (M : List ℕ → Machine) (came : List Arri
         let to = for_here j came slot left in
         let here : count_for j cells ≡ count_for j (arriving came slot) = ap (count_for j) are in
         let same : slice_index now.to_outputs j ≡ slice_index first.to_outputs j =
-        ap (λ (l : List ℕ). slice_index l j) b.to_outputs in
+        ap (λ (l : List ℕ). slice_index l j) b.made.to_outputs in
         omega arith
 
     sent_room : length now.fixed ≤ sent.spare
@@ -248,17 +236,21 @@ module _ (whole : Bool) (end : ℕ) (M : List ℕ → Machine) (came : List Arri
         (subst (λ (counts : List Refused). CanCount (ports_of first) counts) (sym b.went.refused)
         (counts_fit lost (ports_of first) (length lost) first.refused room (omega arith)))
 
-    can_run : (cells : List (Option Cell)) → cells ≡ arriving came slot → CanRun M slot cells now sent note
-    can_run cells are =
+    can_run : (cells : List (Option Cell)) → cells ≡ arriving came slot → (leaving : RoomView Departure) →
+        length now.fixed ≤ leaving.spare → CanRun M slot cells now leaving note
+    can_run cells are leaving room =
         record {
           early = early;
           arrivals = arrivals_fit cells are;
-          list_room = list_room cells are;
-          buffer_room = buffer_room cells are;
-          refused = can_refuse;
-          sent_room = sent_room;
-          note_room = note_room;
-          proposals = proposals_fit;
+          ready =
+              record {
+                list_room = list_room cells are;
+                buffer_room = buffer_room cells are;
+                refused = can_refuse;
+                sent_room = room;
+                note_room = note_room;
+                proposals = proposals_fit;
+              };
         }
 
     at_next : (cells : List (Option Cell)) (after : EngineView) (sent_new : RoomView Departure)
@@ -269,10 +261,10 @@ module _ (whole : Bool) (end : ℕ) (M : List ℕ → Machine) (came : List Arri
         crossing_next whole (map M first.fixed) came first first_sent first_note slot left now sent note after sent_new
         note_new (class_count (map M first.fixed)) b_next more ready.ports for_ports
         (subst (λ (fixed : List (List ℕ)). SlotDone (map M fixed) slot (arriving came slot) now after sent sent_new
-        note note_new) b.fixed
+        note note_new) b.made.fixed
         (subst (λ (cells : List (Option Cell)). SlotDone (map M now.fixed) slot cells now after sent sent_new note
         note_new) are had.done))
-        had.running had.next had.fixed had.limits had.from_inputs had.to_outputs
+        had.running had.next had.made
 
     at_fault : (cells : List (Option Cell)) (fault : TagFault) (j count : ℕ) → slot + suc j ≡ first.next + count →
         cells ≡ arriving came slot →
@@ -285,7 +277,7 @@ module _ (whole : Bool) (end : ℕ) (M : List ℕ → Machine) (came : List Arri
         (ap (λ (limits : List (Option ℕ)). ranking (map M first.fixed) slot 0 (fabric_admission limits
         (arriving came slot) (marked_fabric now)).cells now.fabric.ranks) (sym b.went.limits)
         ∙ ap (λ (fixed : List (List ℕ)). ranking (map M fixed) slot 0 (its_admission
-        (arriving came slot) now).cells now.fabric.ranks) (sym b.fixed)
+        (arriving came slot) now).cells now.fabric.ranks) (sym b.made.fixed)
         ∙ ap (λ (l : List (Option Cell)). ranking (map M now.fixed) slot 0
         (its_admission l now).cells now.fabric.ranks) (sym are)
         ∙ rank_err (ranking (map M now.fixed) slot 0 (its_admission cells now).cells now.fabric.ranks) fault answer)
@@ -301,7 +293,7 @@ module _ (whole : Bool) (end : ℕ) (M : List ℕ → Machine) (came : List Arri
         (ports_of now) now.fabric.ranks now.marks) (marked_fabric new)
     ran = subst (λ (fixed : List (List ℕ)). LimitedFabricRun IsInputBest now.limits (map M fixed) slot (replicate
         (next - slot) no_arrivals) (marked_fabric now) (quiet_limited_slots (map M fixed) (next - slot) slot
-        (ports_of now) now.fabric.ranks now.marks) (marked_fabric new)) b.fixed rested.slots
+        (ports_of now) now.fabric.ranks now.marks) (marked_fabric new)) b.made.fixed rested.slots
 
     at_rest : Before next new sent note
     at_rest =
@@ -315,8 +307,13 @@ module _ (whole : Bool) (end : ℕ) (M : List ℕ → Machine) (came : List Arri
         (λ t. arrivals_for (length first.fixed) classes came t ready.traffic) (next - slot) slot (end - next)
         (end - slot) now.fabric.ranks now.marks now new left b
         (λ t from to. quiet t from (omega arith)) (λ is some. let before = to_come is (omega arith) in omega arith) ran
-        rested.figures (rested.next ∙ sym there) rested.running rested.fixed rested.limits rested.refused
-        rested.from_inputs rested.to_outputs)
+        rested.figures (rested.next ∙ sym there) rested.running rested.refused
+        (record {
+          fixed = rested.fixed;
+          limits = rested.limits;
+          from_inputs = rested.from_inputs;
+          to_outputs = rested.to_outputs;
+        }))
 
     more_at_rest : (whole ≡ true → end_of came ≤ slot → IsEmptyFabric now.fabric → ⊥) → whole ≡ true →
         end_of came ≤ next → IsEmptyFabric new.fabric → ⊥
@@ -349,12 +346,33 @@ module _ {whole : Bool} {end : ℕ} {M : List ℕ → Machine} {came : List Arri
     {first_sent : RoomView Departure} {first_note : RoomView Transfer} {slot : ℕ} {now : EngineView}
     {sent : RoomView Departure} {note : RoomView Transfer}
     (here : Stands whole end M came first first_sent first_note slot now sent note) where
+  -- each output can send a cell
+  pub room_here : length now.fixed ≤ sent.spare
+  room_here =
+      sent_room whole end M came first first_sent first_note here.ready here.few slot now sent note here.crossing
+      here.more here.some
+
+  -- a list that is free has a place for each of them
+  pub places_here : {leaving : RoomView Departure} → IsFree (length first.fixed) leaving →
+      length now.fixed ≤ leaving.spare
+  places_here free = let same = ap (λ (l : List (List ℕ)). length l) here.crossing.made.fixed in omega arith
+
+  -- and the departures of the run can take over what leaves there
+  pub can_take_over : {cells : List (Option Cell)} {after : EngineView} {leaving left : RoomView Departure}
+      {note_new : RoomView Transfer} → IsFree (length first.fixed) leaving →
+      HasHad (map M now.fixed) slot cells now after leaving left note note_new → length left.items ≤ sent.spare
+  can_take_over free had =
+      let few = few_leave free had in
+      let same = ap (λ (l : List (List ℕ)). length l) here.crossing.made.fixed in
+      let room = room_here in
+      omega arith
+
   -- the slot finds all that it asks for
-  pub can_run_here : (cells : List (Option Cell)) → cells ≡ arriving came slot → CanRun M slot cells now sent note
+  pub can_run_here : (cells : List (Option Cell)) → cells ≡ arriving came slot → (leaving : RoomView Departure) →
+      length now.fixed ≤ leaving.spare → CanRun M slot cells now leaving note
   can_run_here =
       can_run whole end M came first first_sent first_note here.ready here.few slot now sent note here.crossing
-      here.more
-      here.some
+      here.more here.some
 
   -- once it is run, the run stands at the next one
   pub next_here : (cells : List (Option Cell)) (after : EngineView) (sent_new : RoomView Departure)
@@ -364,8 +382,7 @@ module _ {whole : Bool} {end : ℕ} {M : List ℕ → Machine} {came : List Arri
       note_new
   next_here =
       at_next whole end M came first first_sent first_note here.ready here.few slot now sent note here.crossing
-      here.more
-      here.some
+      here.more here.some
 
   -- and a tag fault of the slot is one at which the run stops
   pub fault_here : (cells : List (Option Cell)) (fault : TagFault) (j count : ℕ) → slot + suc j ≡ first.next + count →
@@ -374,8 +391,7 @@ module _ {whole : Bool} {end : ℕ} {M : List ℕ → Machine} {came : List Arri
       StopsWithin (map M first.fixed) came first count fault
   fault_here =
       at_fault whole end M came first first_sent first_note here.ready here.few slot now sent note here.crossing
-      here.more
-      here.some
+      here.more here.some
 
 -- ## A run to its end
 
@@ -423,11 +439,11 @@ module _ (M : List ℕ → Machine) {came : List Arrival} {first : EngineView} {
               (going refl);
         }
 
-    pub run_ends : end_of came ≤ slot → IsEmptyFabric now.fabric →
+    pub run_ends : (end_of came ≤ slot) × IsEmptyFabric now.fabric →
         HasRunOn (map M first.fixed) came first now first_sent sent first_note note
-    run_ends le empty =
+    run_ends over =
         at_end true (over_by came first.next) M came first first_sent first_note ready few_all slot now sent note runs
-        refl le empty
+        refl over.0 over.1
 
 -- ## A run up to a slot
 

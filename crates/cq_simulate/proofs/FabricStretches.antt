@@ -8,7 +8,7 @@ use Rattle.cq_base.specs.Room.{RoomView}
 use Rattle.cq_base.specs.declared.cell.Cell.{Cell}
 use Rattle.cq_base.specs.declared.cell.Departure.{Departure}
 use Rattle.cq_base.specs.declared.cell.Transfer.{Transfer}
-use Rattle.cq_engine.specs.Engine.{EngineView, SlotDone, marked_fabric, ports_of}
+use Rattle.cq_engine.specs.Engine.{EngineView, IsMadeAs, SlotDone, marked_fabric, ports_of}
 use Rattle.cq_ideal.proofs.Counting.{none_counted}
 use Rattle.cq_ideal.specs.Admission.{Marked}
 use Rattle.cq_ideal.specs.IdealSlot.{departures_in}
@@ -46,23 +46,21 @@ pub crossing_rest : (whole : Bool) (ms : List Machine) (came : List Arrival) (fi
     (whole ≡ true → 0 < k → slot + k < end_of came) →
     LimitedFabricRun IsInputBest now.limits ms slot (replicate k no_arrivals) (marked_fabric now)
     (quiet_limited_slots ms k slot ports ranks marks) (marked_fabric after) →
-    after.figures ≡ now.figures → after.next ≡ slot + k → after.stopped ≡ false → after.fixed ≡ now.fixed →
-    after.limits ≡ now.limits → after.refused ≡ now.refused → after.from_inputs ≡ now.from_inputs →
-    after.to_outputs ≡ now.to_outputs → Crossing whole ms came first first_sent first_note (slot + k) n after sent note
+    after.figures ≡ now.figures → after.next ≡ slot + k → after.stopped ≡ false → after.refused ≡ now.refused →
+    IsMadeAs now after → Crossing whole ms came first first_sent first_note (slot + k) n after sent note
 crossing_rest whole ms came first first_sent sent first_note note ports classes few for_ports zero slot n m ranks marks
-    now after left c quiet
-    more ran figures next running fixed limits refused from_inputs to_outputs =
+    now after left c quiet more ran figures next running refused made =
     let at : slot ≡ slot + 0 = omega arith in
     let is_next : now.next ≡ after.next = c.next ∙ at ∙ sym next in
     let fabric : marked_fabric now ≡ marked_fabric after = sym ran in
     let same : now ≡ after = λ e. record {
-      fixed = sym fixed e;
-      limits = sym limits e;
+      fixed = sym made.fixed e;
+      limits = sym made.limits e;
       fabric = (fabric e).state;
       marks = (fabric e).marks;
       refused = sym refused e;
-      from_inputs = sym from_inputs e;
-      to_outputs = sym to_outputs e;
+      from_inputs = sym made.from_inputs e;
+      to_outputs = sym made.to_outputs e;
       figures = sym figures e;
       next = is_next e;
       stopped = (c.went.running ∙ sym running) e;
@@ -71,12 +69,10 @@ crossing_rest whole ms came first first_sent sent first_note note ports classes 
     subst (λ (s : ℕ). Crossing whole ms came first first_sent first_note s n after sent note) at
     (subst (λ (l : ℕ). Crossing whole ms came first first_sent first_note slot l after sent note) count
     (subst (λ (v : EngineView). Crossing whole ms came first first_sent first_note slot m v sent note) same c))
-crossing_rest whole ms came first first_sent sent first_note note ports classes few for_ports
-    (suc k) slot n zero ranks marks now after left c
-    quiet more ran figures next running fixed limits refused from_inputs to_outputs = absurd (omega arith)
-crossing_rest whole ms came first first_sent sent first_note note ports classes few for_ports (suc k) slot n
-    (suc m) ranks marks now after left
-    c quiet more ran figures next running fixed limits refused from_inputs to_outputs =
+crossing_rest whole ms came first first_sent sent first_note note ports classes few for_ports (suc k) slot n zero ranks
+    marks now after left c quiet more ran figures next running refused made = absurd (omega arith)
+crossing_rest whole ms came first first_sent sent first_note note ports classes few for_ports (suc k) slot n (suc m)
+    ranks marks now after left c quiet more ran figures next running refused made =
     let r : LimitedRecord = quiet_limited_slot ms slot ports ranks marks in
     let leave : departures_in slot r.of_slot.gone ≡ [] = quiet_gone ms slot ports ranks in
     let cross : transfers_in r.of_slot ≡ [] = quiet_transfers ms slot ports ranks in
@@ -111,11 +107,17 @@ crossing_rest whole ms came first first_sent sent first_note note ports classes 
     (for_ports slot)
     (subst (λ (cells : List (Option Cell)). SlotDone ms slot cells now middle sent sent note note)
     (sym quiet_here) done)
-    refl refl refl refl refl refl in
+    refl refl (record { fixed = refl; limits = refl; from_inputs = refl; to_outputs = refl }) in
     let at : slot + 1 + k ≡ slot + suc k = omega arith in
     subst (λ (s : ℕ). Crossing whole ms came first first_sent first_note s n after sent note) at
     (crossing_rest whole ms came first first_sent sent first_note note ports classes few for_ports k (slot + 1) n m
     (idled ms ports ranks)
     marks middle after (omega arith) after_one (λ t from to. quiet t (omega arith) (omega arith))
     (λ is pos. let some = more is (omega arith) in omega arith) ran.2
-    figures (next ∙ sym at) running fixed limits refused from_inputs to_outputs)
+    figures (next ∙ sym at) running refused
+    (record {
+      fixed = made.fixed;
+      limits = made.limits;
+      from_inputs = made.from_inputs;
+      to_outputs = made.to_outputs;
+    }))

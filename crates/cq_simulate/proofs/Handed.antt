@@ -7,36 +7,32 @@ use Rattle.cq_base.specs.declared.cell.Queued.{Queued}
 use Rattle.cq_ideal.specs.Ideal.{HaveLeft}
 use Rattle.cq_ideal.specs.IdealSlot.{departures_in}
 
--- the departures of the run took over what stood in the list
-pub record TakenOver (sent left sent_new : RoomView Departure) : Type 0 where
-  pub items : sent_new.items ≡ sent.items ++ left.items
-  pub spare : sent_new.spare + length left.items ≡ sent.spare
+-- nothing stands in the list, and it has a place for each port
+pub record IsFree (ports : ℕ) (leaving : RoomView Departure) : Type 0 where
+  pub none : leaving.items ≡ []
+  pub few : leaving.spare ≡ ports
 
-module _ (slot : ℕ) (gone : List (Option Queued)) (leaving left : RoomView Departure) (none : leaving.items ≡ [])
-    (has : HaveLeft slot gone leaving left) where
+module _ {slot ports : ℕ} {gone : List (Option Queued)} {leaving left : RoomView Departure}
+    (free : IsFree ports leaving) (has : HaveLeft slot gone leaving left) where
   -- where nothing stood before there stands what the slot sent
   all_new : left.items ≡ departures_in slot gone
-  all_new = has.items ∙ ap (λ (ds : List Departure). ds ++ departures_in slot gone) none
+  all_new = has.items ∙ ap (λ (ds : List Departure). ds ++ departures_in slot gone) free.none
 
-  pub few_left : length left.items ≤ leaving.spare
-  few_left =
-      let many : length left.items ≡ length (departures_in slot gone) =
-      ap (λ (ds : List Departure). length ds) all_new in
-      let spare : left.spare + length (departures_in slot gone) ≡ leaving.spare = has.spare in
-      omega arith
+  many : length left.items ≡ length (departures_in slot gone)
+  many = ap (λ (ds : List Departure). length ds) all_new
 
-  -- the list has its room again once it is emptied
-  pub room_again : (emptied : RoomView Departure) → emptied.spare ≡ left.spare + length left.items →
-      emptied.spare ≡ leaving.spare
-  room_again emptied is =
-      let many : length left.items ≡ length (departures_in slot gone) =
-      ap (λ (ds : List Departure). length ds) all_new in
-      let spare : left.spare + length (departures_in slot gone) ≡ leaving.spare = has.spare in
-      omega arith
+  pub few_left : length left.items ≤ ports
+  few_left = let same = many in omega arith
 
-  pub left_with_all : (sent sent_new : RoomView Departure) → TakenOver sent left sent_new →
-      HaveLeft slot gone sent sent_new
-  left_with_all sent sent_new taken = record {
-    items = taken.items ∙ ap (λ (ds : List Departure). sent.items ++ ds) all_new;
-    spare = subst (λ (ds : List Departure). sent_new.spare + length ds ≡ sent.spare) all_new taken.spare;
+  -- the list is free again once it is emptied
+  pub free_again : {emptied : RoomView Departure} → emptied.items ≡ [] →
+      emptied.spare ≡ left.spare + length left.items → IsFree ports emptied
+  free_again none room = record { none = none; few = let same = many in omega arith }
+
+  -- the departures of the run took over what stood in it
+  pub left_with_all : {sent sent_new : RoomView Departure} → sent_new.items ≡ sent.items ++ left.items →
+      sent_new.spare + length left.items ≡ sent.spare → HaveLeft slot gone sent sent_new
+  left_with_all {sent} {sent_new} items spare = record {
+    items = items ∙ ap (λ (ds : List Departure). sent.items ++ ds) all_new;
+    spare = subst (λ (ds : List Departure). sent_new.spare + length ds ≡ sent.spare) all_new spare;
   }

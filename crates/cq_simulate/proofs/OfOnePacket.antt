@@ -101,47 +101,50 @@ begun xs are a has = ⊎_elim (λ it. it) (λ (none : packet a + 1 ≡ 0). absur
 abbrev later_one : Arrival → Arrival → Arrival
 later_one a b = if nat_lt a.slot b.slot then b else a
 
+-- of two it is one, and neither is later
+record IsLaterOne (a b v : Arrival) : Type 0 where
+  pub one : (v ≡ a) ⊎ (v ≡ b)
+  pub first : a.slot ≤ v.slot
+  pub second : b.slot ≤ v.slot
+
+later_is : (a b : Arrival) → IsLaterOne a b (later_one a b)
+later_is a b =
+    ⊎_elim
+    (λ lt. subst (IsLaterOne a b) (sym (ap (λ (c : Bool). cond c b a) (lt-ltb a.slot b.slot lt)))
+    (record { one = inr refl; first = omega arith; second = omega arith }))
+    (λ ge. subst (IsLaterOne a b) (sym (ap (λ (c : Bool). cond c b a) (le-ltb a.slot b.slot ge)))
+    (record { one = inl refl; first = omega arith; second = omega arith }))
+    (cases_lt a.slot b.slot)
+
 pub record IsLatest (xs : List Arrival) (g : Arrival) : Type 0 where
   pub has : Has xs g
   pub after : (y : Arrival) → Has xs y → y.slot ≤ g.slot
+
+same_slot : {x y : Arrival} → x ≡ y → x.slot ≡ y.slot
+same_slot same = ap (λ (a : Arrival). a.slot) same
 
 latest_on : (x : Arrival) (xs : List Arrival) → IsLatest (x ∷ xs) (fold later_one x xs)
 latest_on x [] =
     record {
       has = inl refl;
-      after =
-          λ y has. ⊎_elim (λ (same : x ≡ y). let e : x.slot ≡ y.slot = ap (λ (a : Arrival). a.slot) same in omega arith)
-          (λ none. absurd none) has;
+      after = λ y has. ⊎_elim (λ (same : x ≡ y). let e = same_slot same in omega arith) (λ none. absurd none) has;
     }
 latest_on x (z ∷ zs) =
-    let result : Arrival → Type 0 = λ v. IsLatest (x ∷ z ∷ zs) (fold later_one v zs) in
-    ⊎_elim
-    (λ lt.
-    let is : later_one x z ≡ z = ap (λ (b : Bool). cond b z x) (lt-ltb x.slot z.slot lt) in
-    let it : IsLatest (z ∷ zs) (fold later_one z zs) = latest_on z zs in
-    let first : z.slot ≤ (fold later_one z zs).slot = it.after z (inl refl) in
-    subst result (sym is)
-    (record {
-      has = inr it.has;
+    let v = later_one x z in
+    let later : IsLaterOne x z v = later_is x z in
+    let it : IsLatest (v ∷ zs) (fold later_one v zs) = latest_on v zs in
+    let most : v.slot ≤ (fold later_one v zs).slot = it.after v (inl refl) in
+    let first : x.slot ≤ v.slot = later.first in
+    let second : z.slot ≤ v.slot = later.second in
+    record {
+      has =
+          ⊎_elim
+          (λ same. ⊎_elim (λ (is : v ≡ x). inl (sym is ∙ same)) (λ (is : v ≡ z). inr (inl (sym is ∙ same))) later.one)
+          (λ more. inr (inr more)) it.has;
       after = λ y has.
-          ⊎_elim (λ (same : x ≡ y). let e : x.slot ≡ y.slot = ap (λ (a : Arrival). a.slot) same in omega arith)
-          (λ more. it.after y more) has;
-    }))
-    (λ ge.
-    let is : later_one x z ≡ x = ap (λ (b : Bool). cond b z x) (le-ltb x.slot z.slot ge) in
-    let it : IsLatest (x ∷ zs) (fold later_one x zs) = latest_on x zs in
-    let first : x.slot ≤ (fold later_one x zs).slot = it.after x (inl refl) in
-    subst result (sym is)
-    (record {
-      has = ⊎_elim (λ same. inl same) (λ more. inr (inr more)) it.has;
-      after = λ y has.
-          ⊎_elim (λ same. it.after y (inl same))
-          (λ more.
-          ⊎_elim (λ (same : z ≡ y). let e : z.slot ≡ y.slot = ap (λ (a : Arrival). a.slot) same in omega arith)
-          (λ last. it.after y (inr last)) more)
-          has;
-    }))
-    (cases_lt x.slot z.slot)
+          ⊎_elim (λ (same : x ≡ y). let e = same_slot same in omega arith)
+          (⊎_elim (λ (same : z ≡ y). let e = same_slot same in omega arith) (λ more. it.after y (inr more))) has;
+    }
 
 pub latest_is : (xs : List Arrival) (y : Arrival) → Has xs y → (g : Arrival) × (latest xs ≡ Some g) × IsLatest xs g
 latest_is [] y has = absurd has

@@ -33,7 +33,7 @@ use Rattle.cq_simulate.specs.PartedRuns.{IsPartFault}
 use Rattle.cq_simulate.specs.declared.refusal.RunRefusal.TheVariants as refusal
 
 module _ (t : Tables) (s : Scheduled) {first : EngineView} {first_sent : RoomView Departure}
-    {first_note : RoomView Transfer} (made : IsMade t s.came first first_sent first_note) where
+    {first_note : RoomView Transfer} (made : IsMade t s first first_sent first_note) where
   machines_are : length first.fixed ≡ length (machines_of t.setup)
   machines_are = sym (length-map first.fixed machine_from) ∙ ap length made.fresh.machines
 

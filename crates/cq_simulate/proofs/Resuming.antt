@@ -19,7 +19,7 @@ use Rattle.cq_laws.specs.Records.{gone_in, transfers_of_run}
 use Rattle.cq_laws.specs.declared.frozen.Frozen.{Frozen}
 use Rattle.cq_prefs.specs.Pairing.{IsInputBest}
 use Rattle.cq_rank.specs.Machine.{Machine}
-use Rattle.cq_resume.specs.Resumed.{IsResumed, Kept, Runs, RunsOn, Stops, kept_on}
+use Rattle.cq_resume.specs.Resumed.{IsResumed, Kept, RunsOn, Stops, kept_on}
 use Rattle.cq_resume.specs.Switch.{switch_of}
 use Rattle.cq_resume.specs.declared.taken.Taken.{Taken}
 use Rattle.cq_route.specs.declared.tables.Tables.{Tables}
@@ -38,33 +38,29 @@ module _ (M : List ℕ → Machine) (t : Tables) (s : Scheduled) (first : Engine
       P t.limits (machines_of t.setup)
   by_tables P has = subst (P t.limits) machines (subst (λ (l : List (Option ℕ)). P l (map M first.fixed)) limits has)
 
+  -- these slots are a run by these limits and machines, or one that stops
+  abbrev pub RunBy : ℕ → List LimitedRecord → Marked Fabric → List (Option ℕ) → List Machine → Type 0
+  RunBy m rs f l ms =
+      LimitedFabricRun IsInputBest l ms first.next (arriving_from s.came first.next m) (marked_fabric first) rs f
+
+  abbrev pub StopBy : ℕ → List LimitedRecord → TagFault → List (Option ℕ) → List Machine → Type 0
+  StopBy m rs fault l ms =
+      LimitedFabricStops IsInputBest l ms first.next (arriving_from s.came first.next m) (marked_fabric first) rs fault
+
   -- a run of the engine is one of the switch
   pub of_switch : (m : ℕ) (rs : List LimitedRecord) (f : Marked Fabric) →
-      LimitedFabricRun IsInputBest first.limits (map M first.fixed) first.next (arriving_from s.came first.next m)
-      (marked_fabric first) rs f →
-      Runs (switch_of t s) first.next (arriving_from s.came first.next m) (marked_fabric first) rs f
-  of_switch m rs f =
-      by_tables (λ l ms.
-      LimitedFabricRun IsInputBest l ms first.next (arriving_from s.came first.next m) (marked_fabric first) rs f)
+      RunBy m rs f first.limits (map M first.fixed) → RunBy m rs f t.limits (machines_of t.setup)
+  of_switch m rs f = by_tables (RunBy m rs f)
 
-  of_engine : (m : ℕ) (rs : List LimitedRecord) (f : Marked Fabric) →
-      Runs (switch_of t s) first.next (arriving_from s.came first.next m) (marked_fabric first) rs f →
-      LimitedFabricRun IsInputBest first.limits (map M first.fixed) first.next (arriving_from s.came first.next m)
-      (marked_fabric first) rs f
+  of_engine : (m : ℕ) (rs : List LimitedRecord) (f : Marked Fabric) → RunBy m rs f t.limits (machines_of t.setup) →
+      RunBy m rs f first.limits (map M first.fixed)
   of_engine m rs f run =
-      by_tables (λ l ms.
-      LimitedFabricRun IsInputBest l ms first.next (arriving_from s.came first.next m) (marked_fabric first) rs f →
-      LimitedFabricRun IsInputBest first.limits (map M first.fixed) first.next (arriving_from s.came first.next m)
-      (marked_fabric first) rs f) (λ here. here) run
+      by_tables (λ l ms. RunBy m rs f l ms → RunBy m rs f first.limits (map M first.fixed)) (λ here. here) run
 
   -- and where it stops, the switch does
   pub stop_of_switch : (m : ℕ) (rs : List LimitedRecord) (fault : TagFault) →
-      LimitedFabricStops IsInputBest first.limits (map M first.fixed) first.next (arriving_from s.came first.next m)
-      (marked_fabric first) rs fault →
-      Stops (switch_of t s) first.next (arriving_from s.came first.next m) (marked_fabric first) rs fault
-  stop_of_switch m rs fault =
-      by_tables (λ l ms.
-      LimitedFabricStops IsInputBest l ms first.next (arriving_from s.came first.next m) (marked_fabric first) rs fault)
+      StopBy m rs fault first.limits (map M first.fixed) → StopBy m rs fault t.limits (machines_of t.setup)
+  stop_of_switch m rs fault = by_tables (StopBy m rs fault)
 
 module _ (M : List ℕ → Machine) (t : Tables) (s : Scheduled) (first : EngineView) (taken : Taken)
     (machines : map M first.fixed ≡ machines_of t.setup) (limits : first.limits ≡ t.limits)

@@ -21,6 +21,7 @@ use Rattle.cq_ideal.specs.Admission.{Admission, Marked, admission, admitted, mar
 use Rattle.cq_ideal.specs.Ideal.{IdealSwitch, HaveLeft, count_for, marked_state}
 use Rattle.cq_ideal.specs.IdealSlot.{IdealState, Sent, ideal_slot, departures_in}
 use Rattle.cq_ideal.specs.IdealRun.{departures_of}
+use Rattle.cq_ideal.specs.OneSlot.{IsSameSwitch}
 use Rattle.cq_ideal.specs.LimitedIdeal.{LimitedRan, LimitedSent, ideal_admission, ideal_held, limited_run, limited_slot, then_limited, with_admission}
 use Rattle.cq_ideal.specs.Limiter.{CanCount}
 use Rattle.cq_ideal.specs.Refused.{refused_counts, with_refused}
@@ -158,9 +159,7 @@ pub record Running (ms : List Machine) (came : List Arrival) (first : IdealSwitc
   pub left : slot + n ≡ enough came
   pub running : now.stopped ≡ false
   pub next : now.next ≡ slot
-  pub fixed : now.fixed ≡ first.fixed
-  pub limits : now.limits ≡ first.limits
-  pub rooms : now.rooms ≡ first.rooms
+  pub same : IsSameSwitch first now
   pub whole : run_from first.limits ms came 0 (enough came) (marked_state first)
       ≡ sent_after sent.items (run_from first.limits ms came slot n (marked_state now))
   pub lost : List Cell
@@ -172,6 +171,12 @@ pub record Running (ms : List Machine) (came : List Arrival) (first : IdealSwitc
   pub few : waiting now.state.lists + come_count (arriving_from came slot n) + (end_of came - slot) ≤ n
   pub many : length lost + come_count (arriving_from came slot n) ≤ length came
   pub early : slots_of sent.items ≤ slot
+
+-- it is the same switch after a later slot too
+pub same_on : {first now after : IdealSwitch} → IsSameSwitch first now → IsSameSwitch now after →
+    IsSameSwitch first after
+same_on was is =
+    record { fixed = is.fixed ∙ was.fixed; limits = is.limits ∙ was.limits; rooms = is.rooms ∙ was.rooms }
 
 pub waiting-none : (n : ℕ) → waiting (replicate n []) ≡ 0
 unfolding waiting
@@ -204,9 +209,7 @@ running_first ms came first first_sent ready =
       left = omega arith;
       running = ready.running;
       next = ready.next;
-      fixed = refl;
-      limits = refl;
-      rooms = refl;
+      same = record { fixed = refl; limits = refl; rooms = refl };
       whole = sym (sent_after-none start) ∙ ap (λ (l : List Departure). sent_after l start) (sym ready.nothing);
       lost = [];
       refused = ready.refused;
@@ -276,10 +279,8 @@ pub running_next : (ms : List Machine) (came : List Arrival) (first : IdealSwitc
     limited_slot first.limits ms slot (arriving came slot) (marked_state now) ≡ Ok of_slot →
     marked_state after ≡ of_slot.after → after.refused ≡ with_refused of_slot.admission.refused now.refused →
     HaveLeft slot of_slot.gone sent sent_new → after.stopped ≡ false → after.next ≡ slot + 1 →
-    after.fixed ≡ now.fixed → after.limits ≡ now.limits → after.rooms ≡ now.rooms →
-    Running ms came first first_sent (slot + 1) n after sent_new
-running_next ms came first first_sent slot n now sent after sent_new of_slot r is state refused left running next fixed
-    limits rooms =
+    IsSameSwitch now after → Running ms came first first_sent (slot + 1) n after sent_new
+running_next ms came first first_sent slot n now sent after sent_new of_slot r is state refused left running next same =
     let o = of_admitted first.limits ms slot (arriving came slot) (marked_state now) of_slot is in
     let c = counted ms slot of_slot.admission.cells now.state o.sent o.ran in
     let becomes : after.state ≡ o.sent.after = ap (λ (m : Marked IdealState). m.state) state ∙ o.after in
@@ -306,9 +307,7 @@ running_next ms came first first_sent slot n now sent after sent_new of_slot r i
       left = omega arith;
       running = running;
       next = next;
-      fixed = fixed ∙ r.fixed;
-      limits = limits ∙ r.limits;
-      rooms = rooms ∙ r.rooms;
+      same = same_on r.same same;
       whole =
           r.whole
           ∙ ap (sent_after sent.items) (next_sent first.limits ms came slot n (marked_state now) of_slot is)

@@ -1,5 +1,5 @@
 -- What each step of the loop over the slots asks for, where so many slots are left as are not yet over.
-use Rattle.std.proofs.Common.{◌≡◌, ◌↔◌, ℕ, suc, ◌+◌, ◌-◌, ◌<◌, ◌≤◌, ◌^◌, Bool, true, false, List, [], length, map, replicate, Option, Result, Ok, Err, refl, sym, ap, ◌∙◌, subst, ⊎_elim, arith}
+use Rattle.std.proofs.Common.{◌≡◌, ◌↔◌, ℕ, suc, ◌+◌, ◌-◌, ◌<◌, ◌≤◌, ◌^◌, Bool, true, false, List, [], ◌++◌, length, map, replicate, Option, Result, Ok, Err, refl, sym, ap, ◌∙◌, subst, ⊎_elim, arith}
 use Rattle.std.specs.Prelude.{IsTrue, All, IfOk, slice_index}
 use Rattle.std.proofs.lemmas.Bool.{cases_lt}
 use Rattle.std.proofs.lemmas.Result.{IfOk-weaker}
@@ -15,7 +15,7 @@ use Rattle.cq_rank.specs.Machine.{Machine}
 use Rattle.cq_rank.specs.Switch.{class_count}
 use Rattle.cq_ideal.specs.Admission.{Marked}
 use Rattle.cq_ideal.specs.Ideal.{IdealSwitch, HasRoomFor, HaveLeft, answer_to, count_for, its_slot, marked_state}
-use Rattle.cq_ideal.specs.OneSlot.{HasHadSlot, IsSameSwitch}
+use Rattle.cq_ideal.specs.OneSlot.{CanHaveSlot, HasHadSlot, IsSameSwitch}
 use Rattle.cq_ideal.specs.IdealSlot.{IdealState}
 use Rattle.cq_ideal.specs.LimitedEnding.{departures_limited}
 use Rattle.cq_ideal.specs.LimitedIdeal.{LimitedRan, LimitedSent, limited_run, limited_slot, nothing_came}
@@ -24,7 +24,7 @@ use Rattle.cq_ideal.specs.Limiter.{CanCount}
 use Rattle.cq_ideal.specs.Ranking.{AreForPorts}
 use Rattle.cq_simulate.specs.Ready.{IsReady}
 use Rattle.cq_ideal.proofs.Waiting.{waiting}
-use Rattle.cq_simulate.proofs.Handed.{TakenOver, few_left, left_with_all, room_again}
+use Rattle.cq_simulate.proofs.Handed.{IsFree, few_left, free_again, left_with_all}
 use Rattle.cq_simulate.proofs.Stretches.{running_rest}
 use Rattle.cq_simulate.proofs.Running.{Running, can_count, running_first, running_next, running_over, running_fault, slot_left, run_from, sent_from}
 use Rattle.cq_ideal.specs.Ending.{arriving_from, slots_of}
@@ -74,8 +74,8 @@ pub record HasHad (ms : List Machine) (slot : ℕ) (cells : List (Option Cell)) 
   pub same : IsSameSwitch old new
 
 -- what left in a slot stands in a list of its own, and is taken over from there
-module _ {ms : List Machine} {slot : ℕ} {cells : List (Option Cell)} {old new : IdealSwitch}
-    {leaving left : RoomView Departure} (none : leaving.items ≡ []) (had : HasHad ms slot cells old new leaving left)
+module _ {ms : List Machine} {slot ports : ℕ} {cells : List (Option Cell)} {old new : IdealSwitch}
+    {leaving left : RoomView Departure} (free : IsFree ports leaving) (had : HasHad ms slot cells old new leaving left)
   where
     left_here : (s : LimitedSent) × HaveLeft slot s.gone leaving left
     left_here =
@@ -85,16 +85,16 @@ module _ {ms : List Machine} {slot : ℕ} {cells : List (Option Cell)} {old new 
               HasHadSlot slot of_slot old new leaving left)) ok.1 had.done).sent,
         )
 
-    pub few_leave : length left.items ≤ leaving.spare
-    few_leave = few_left slot left_here.0.gone leaving left none left_here.1
+    few_leave : length left.items ≤ ports
+    few_leave = few_left free left_here.1
 
-    pub room_is_back : (emptied : RoomView Departure) → emptied.spare ≡ left.spare + length left.items →
-        emptied.spare ≡ leaving.spare
-    room_is_back = room_again slot left_here.0.gone leaving left none left_here.1
+    pub again_free : {emptied : RoomView Departure} → emptied.items ≡ [] →
+        emptied.spare ≡ left.spare + length left.items → IsFree ports emptied
+    again_free none room = free_again free left_here.1 none room
 
-    pub handed : (sent sent_new : RoomView Departure) → TakenOver sent left sent_new →
-        HasHad ms slot cells old new sent sent_new
-    handed sent sent_new taken = record {
+    pub handed : {sent sent_new : RoomView Departure} → sent_new.items ≡ sent.items ++ left.items →
+        sent_new.spare + length left.items ≡ sent.spare → HasHad ms slot cells old new sent sent_new
+    handed {sent} {sent_new} items spare = record {
       answer = had.answer;
       done =
           IfOk-weaker (its_slot ms slot cells old)
@@ -102,7 +102,7 @@ module _ {ms : List Machine} {slot : ℕ} {cells : List (Option Cell)} {old new 
           (λ (of_slot : LimitedSent). HasHadSlot slot of_slot old new sent sent_new)
           (λ of_slot has. record {
             state = has.state;
-            sent = left_with_all slot of_slot.gone leaving left none has.sent sent sent_new taken;
+            sent = left_with_all free has.sent items spare;
             spare = has.spare;
             refused = has.refused;
             next = has.next;
@@ -134,47 +134,68 @@ module _ (M : List ℕ → Machine) {came : List Arrival} {first : IdealSwitch} 
     r_next : Running (map M first.fixed) came first first_sent slot (suc (enough came - (slot + 1))) now sent
     r_next = subst (λ (n : ℕ). Running (map M first.fixed) came first first_sent slot n now sent) one_more r
 
-    pub early : slot < 2 ^ 64 - 1
+    early : slot < 2 ^ 64 - 1
     early = let l = a_slot_left in let short : enough came ≤ 2 ^ 63 + 2 ^ 35 = ready.short in omega arith
 
-    pub arrivals_fit : (cells : List (Option Cell)) → cells ≡ arriving came slot →
+    arrivals_fit : (cells : List (Option Cell)) → cells ≡ arriving came slot →
         AreForPorts (length now.fixed) (class_count (map M now.fixed)) cells
     arrivals_fit cells are =
         subst (λ (cells : List (Option Cell)). AreForPorts (length now.fixed) (class_count (map M now.fixed)) cells)
         (sym are)
         (subst (λ (fixed : List (List ℕ)). AreForPorts (length fixed) (class_count (map M fixed)) (arriving came slot))
-        (sym r.fixed)
+        (sym r.same.fixed)
         (arrivals_for (length first.fixed) (class_count (map M first.fixed)) came slot ready.traffic))
 
-    pub room_left : (cells : List (Option Cell)) → cells ≡ arriving came slot → HasRoomFor cells now
+    room_left : (cells : List (Option Cell)) → cells ≡ arriving came slot → HasRoomFor cells now
     room_left cells are j inside =
-        let rooms : length now.rooms ≡ length first.rooms = ap (λ (l : List ℕ). length l) r.rooms in
+        let rooms : length now.rooms ≡ length first.rooms = ap (λ (l : List ℕ). length l) r.same.rooms in
         let lists : length first.rooms ≡ length first.fixed = ready.lists in
         let each = r_next.each j (omega arith) in
         let here = for_here j came slot (enough came - (slot + 1)) in
         let room : slice_index first.rooms j ≡ number_of (is_to j) came = ready.rooms j (omega arith) in
-        let same : slice_index now.rooms j ≡ slice_index first.rooms j = ap (λ (l : List ℕ). slice_index l j) r.rooms in
+        let same : slice_index now.rooms j ≡ slice_index first.rooms j =
+        ap (λ (l : List ℕ). slice_index l j) r.same.rooms in
         let count : count_for j cells ≡ count_for j (arriving came slot) = ap (count_for j) are in
         omega arith
 
-    pub room_to_count : CanCount (length now.fixed) now.refused
+    room_to_count : CanCount (length now.fixed) now.refused
     room_to_count =
-        subst (λ (fixed : List (List ℕ)). CanCount (length fixed) now.refused) (sym r.fixed)
+        subst (λ (fixed : List (List ℕ)). CanCount (length fixed) now.refused) (sym r.same.fixed)
         (can_count (map M first.fixed) came first first_sent slot (enough came - slot) now sent r ready.ports
         ready.short)
 
-    pub room_sent : length now.fixed ≤ sent.spare
-    room_sent =
+    same_ports : length now.fixed ≡ length first.fixed
+    same_ports = ap (λ (l : List (List ℕ)). length l) r.same.fixed
+
+    -- the slot finds all that it asks for, with a free list for what is sent
+    pub can_have : {cells : List (Option Cell)} {leaving : RoomView Departure} → cells ≡ arriving came slot →
+        IsFree (length first.fixed) leaving → CanHaveSlot (map M now.fixed) slot cells now leaving
+    can_have {cells} are free = record {
+      running = r.running;
+      next = sym r.next;
+      early = early;
+      arrivals = arrivals_fit cells are;
+      spare = room_left cells are;
+      refused = room_to_count;
+      sent = let same = same_ports in omega arith;
+    }
+
+    -- and the departures of the run can take over what leaves there
+    pub can_take_over : {cells : List (Option Cell)} {after : IdealSwitch} {leaving left : RoomView Departure} →
+        IsFree (length first.fixed) leaving → HasHad (map M now.fixed) slot cells now after leaving left →
+        length left.items ≤ sent.spare
+    can_take_over free had =
+        let few = few_leave free had in
         let spare = r.spare in
-        let same : length now.fixed ≡ length first.fixed = ap (λ (l : List (List ℕ)). length l) r.fixed in
         omega arith
 
     as_now : (cells : List (Option Cell)) → cells ≡ arriving came slot →
         its_slot (map M now.fixed) slot cells now
         ≡ limited_slot first.limits (map M first.fixed) slot (arriving came slot) (marked_state now)
     as_now cells are =
-        ap (λ (l : List (Option ℕ)). limited_slot l (map M now.fixed) slot cells (marked_state now)) r.limits
-        ∙ ap (λ (fixed : List (List ℕ)). limited_slot first.limits (map M fixed) slot cells (marked_state now)) r.fixed
+        ap (λ (l : List (Option ℕ)). limited_slot l (map M now.fixed) slot cells (marked_state now)) r.same.limits
+        ∙ ap (λ (fixed : List (List ℕ)). limited_slot first.limits (map M fixed) slot cells (marked_state now))
+        r.same.fixed
         ∙ ap (λ (l : List (Option Cell)). limited_slot first.limits (map M first.fixed) slot l (marked_state now)) are
 
     pub at_next : (cells : List (Option Cell)) (after : IdealSwitch) (sent_new : RoomView Departure) →
@@ -187,7 +208,7 @@ module _ (M : List ℕ → Machine) {came : List Arrival} {first : IdealSwitch} 
         ok.1 had.done in
         running_next (map M first.fixed) came first first_sent slot (enough came - (slot + 1)) now sent after sent_new
         ok.0 r_next (sym (as_now cells are) ∙ ok.1) done.state done.refused done.sent had.running done.next
-        had.same.fixed had.same.limits had.same.rooms
+        had.same
 
     pub at_fault : (cells : List (Option Cell)) (fault : TagFault) → cells ≡ arriving came slot →
         Err fault ≡ answer_to (its_slot (map M now.fixed) slot cells now) →
@@ -205,9 +226,9 @@ module _ (M : List ℕ → Machine) {came : List Arrival} {first : IdealSwitch} 
         ≡ Ok (nothing_came (next - slot) (length now.fixed) (marked_state new))
     ran =
         ap (λ (fixed : List (List ℕ)). limited_run first.limits (map M fixed) slot (replicate (next - slot)
-        no_arrivals) (marked_state now)) (sym r.fixed)
+        no_arrivals) (marked_state now)) (sym r.same.fixed)
         ∙ ap (λ (l : List (Option ℕ)). limited_run l (map M now.fixed) slot (replicate (next - slot) no_arrivals)
-        (marked_state now)) (sym r.limits)
+        (marked_state now)) (sym r.same.limits)
         ∙ rested.slots
 
     pub at_rest : Before next new sent
@@ -222,7 +243,8 @@ module _ (M : List ℕ → Machine) {came : List Arrival} {first : IdealSwitch} 
         (running_rest (map M first.fixed) came first first_sent sent (length now.fixed) (next - slot) slot
         (enough came - next) (enough came - slot) now new left r
         (λ t from to. quiet.none t from (omega arith)) (λ some. let before = more (omega arith) in omega arith) ran
-        (rested.next ∙ sym there) rested.running rested.lists rested.fixed rested.limits rested.refused rested.rooms)
+        (rested.next ∙ sym there) rested.running rested.lists rested.refused
+        (record { fixed = rested.fixed; limits = rested.limits; rooms = rested.rooms }))
 
     pub more_at_rest : (end_of came ≤ slot → waiting now.state.lists ≡ 0 → ⊥) → end_of came ≤ next →
         waiting new.state.lists ≡ 0 → ⊥
@@ -235,13 +257,13 @@ module _ (M : List ℕ → Machine) {came : List Arrival} {first : IdealSwitch} 
         (cases_lt slot next)
 
   module _ {slot : ℕ} {now : IdealSwitch} {sent : RoomView Departure} (r : Before slot now sent) where
-    pub at_end : end_of came ≤ slot → All (λ cells. cells ≡ []) now.state.lists →
+    pub at_end : (end_of came ≤ slot) × All (λ cells. cells ≡ []) now.state.lists →
         departures_limited (limited_run first.limits (map M first.fixed) 0 (traffic_of came) (marked_state first))
         ≡ Ok sent.items
-    at_end le none =
+    at_end over =
         whole_run first.limits (map M first.fixed) came (marked_state first)
-        ∙ running_over (map M first.fixed) came first first_sent slot (enough came - slot) now sent r le
-        (none_waits now.state.lists none)
+        ∙ running_over (map M first.fixed) came first first_sent slot (enough came - slot) now sent r over.0
+        (none_waits now.state.lists over.1)
 
     -- so no departure is of a late slot
     pub early_at_end : slots_of sent.items ≤ 2 ^ 63 + 2 ^ 35

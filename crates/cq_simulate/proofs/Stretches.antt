@@ -21,11 +21,12 @@ use Rattle.cq_ideal.specs.Ideal.{IdealSwitch, marked_state}
 use Rattle.cq_ideal.specs.IdealRun.{departures_of}
 use Rattle.cq_ideal.specs.IdealSlot.{IdealState, departures_in}
 use Rattle.cq_ideal.specs.LimitedIdeal.{LimitedRan, limited_run, nothing_came}
+use Rattle.cq_ideal.specs.OneSlot.{IsSameSwitch}
 use Rattle.cq_ideal.specs.Rest.{HasRested}
 use Rattle.cq_laws.proofs.QuietSlots.{no_departures}
 use Rattle.cq_rank.specs.Machine.{Machine}
 use Rattle.cq_ideal.proofs.Waiting.{waiting}
-use Rattle.cq_simulate.proofs.Running.{Running, come_here, run_from, sent_after, sent_from}
+use Rattle.cq_simulate.proofs.Running.{Running, come_here, run_from, same_on, sent_after, sent_from}
 use Rattle.cq_traffic.proofs.Quiet.{quiet_slots}
 use Rattle.cq_traffic.proofs.ToOutputs.{come_for, for_here}
 
@@ -116,11 +117,10 @@ pub running_rest : (ms : List Machine) (came : List Arrival) (first : IdealSwitc
     ((t : ℕ) → slot ≤ t → t < slot + k → arriving came t ≡ no_arrivals) → (0 < k → slot + k ≤ end_of came) →
     limited_run first.limits ms slot (replicate k no_arrivals) (marked_state now)
     ≡ Ok (nothing_came k ports (marked_state after)) →
-    after.next ≡ slot + k → after.stopped ≡ false → after.state.lists ≡ now.state.lists → after.fixed ≡ now.fixed →
-    after.limits ≡ now.limits → after.refused ≡ now.refused → after.rooms ≡ now.rooms →
-    Running ms came first first_sent (slot + k) n after sent
-running_rest ms came first first_sent sent ports k slot n m now after left r quiet late ran next running lists fixed
-    limits refused rooms =
+    after.next ≡ slot + k → after.stopped ≡ false → after.state.lists ≡ now.state.lists →
+    after.refused ≡ now.refused → IsSameSwitch now after → Running ms came first first_sent (slot + k) n after sent
+running_rest ms came first first_sent sent ports k slot n m now after left r quiet late ran next running lists refused
+    same =
     let had : slot + m ≡ enough came = r.left in
     let waits : waiting after.state.lists ≡ waiting now.state.lists = ap waiting lists in
     let fewer : come_count (arriving_from came (slot + k) n) ≤ come_count (arriving_from came slot m) =
@@ -135,9 +135,7 @@ running_rest ms came first first_sent sent ports k slot n m now after left r qui
       left = omega arith;
       running = running;
       next = next;
-      fixed = fixed ∙ r.fixed;
-      limits = limits ∙ r.limits;
-      rooms = rooms ∙ r.rooms;
+      same = same_on r.same same;
       whole = r.whole ∙ ap (sent_after sent.items) (same_run first.limits ms came ports k slot n m (marked_state now)
           (marked_state after) left quiet ran);
       lost = r.lost;

@@ -27,7 +27,7 @@ use Rattle.cq_rank.specs.Switch.{class_count}
 use Rattle.cq_resume.proofs.GoesOn.{GoesOn, came_before, goes_on}
 use Rattle.cq_resume.specs.Switch.{Switch, switch_of}
 use Rattle.cq_resume.specs.declared.taken.Taken.{Taken}
-use Rattle.cq_route.specs.Tables.{AreTables, classes_of, ports_of}
+use Rattle.cq_route.specs.Tables.{classes_of, ports_of}
 use Rattle.cq_route.specs.declared.tables.Tables.{Tables}
 use Rattle.cq_scfq.specs.Discipline.{fixed_of, machine_from}
 use Rattle.cq_scfq.specs.Disciplines.{machine_of, machines_of}
@@ -37,6 +37,7 @@ use Rattle.cq_simulate.proofs.Opening.{room_at}
 use Rattle.cq_simulate.specs.FreshFabric.{ArePortsFor, by_port}
 use Rattle.cq_simulate.specs.GoingOn.{IsReadyOn, to_come}
 use Rattle.cq_simulate.specs.PartedRuns.{CanBeTakenUp}
+use Rattle.cq_simulate.specs.ScheduleFor.{IsScheduleFor}
 use Rattle.cq_simulate.specs.declared.ports.Ports.{Ports}
 use Rattle.cq_traffic.proofs.FromInputs.{bit}
 
@@ -292,31 +293,28 @@ by_machine : (is : ℕ → Arrival → Bool) (t : Tables) (came : List Arrival) 
 by_machine is t came =
     ap (λ (n : ℕ). map (λ port. number_of (is port) came) (range_with_len 0 n)) (sym (machines_many t))
 
-module _ (t : Tables) (s : Scheduled) (taken : Taken) (p : Ports) (are : ArePortsFor t s.came p)
-    (sound : CanBeTakenUp (switch_of t s) taken)
-    (traffic : IsTraffic (ports_of t.setup) (classes_of t.setup) s.came) where
+module _ {t : Tables} {s : Scheduled} {taken : Taken} {p : Ports} (are : ArePortsFor t s.came p)
+    (sound : CanBeTakenUp (switch_of t s) taken) (fit : IsScheduleFor t s) where
   -- an engine can be made of the ports that goes on from what was taken up
   pub can_thaw : {from to : List ℕ} {limits : List (Option ℕ)} → from ≡ p.from_inputs.items →
       to ≡ p.to_outputs.items → limits ≡ t.limits →
       CanGoOn (map machine_from (map fixed_of p.ranks.items)) limits from to taken.frozen
   can_thaw from to same =
-      can_go_on (switch_of t s) taken.frozen _ _ _ _ (goes_of t s taken sound traffic) are.machines are.classes same
+      can_go_on (switch_of t s) taken.frozen _ _ _ _ (goes_of t s taken sound fit.traffic) are.machines are.classes same
       (from ∙ are.from_inputs ∙ by_machine is_from t s.came) (to ∙ are.to_outputs ∙ by_machine is_to t s.came)
 
   -- and it runs on
-  pub runs_on : (engine : EngineView) (sent : RoomView Departure) (note : RoomView Transfer) (count total : ℕ) →
-      AreTables t → IsShort s.came → count ≡ ports_of t.setup → total ≡ length s.came → total ≤ 2 ^ 34 →
-      engine.fixed ≡ map fixed_of p.ranks.items → frozen_of engine ≡ taken.frozen →
-      engine.from_inputs ≡ p.from_inputs.items → engine.to_outputs ≡ p.to_outputs.items → engine.stopped ≡ false →
-      sent.spare ≡ total + count → note.spare ≡ total + 2 * count →
-      IsReadyOn (map machine_from engine.fixed) s.came engine sent note
-  runs_on engine sent note count total tables short counted all few fixed frozen from to running sent_room note_room =
-      let w = switch_of t s in
-      let at_most = tables.setup.ports in
+  pub runs_on : (engine : EngineView) (sent : RoomView Departure) (note : RoomView Transfer) {count total : ℕ} →
+      count ≡ ports_of t.setup → total ≡ length s.came → total ≤ 2 ^ 34 → engine.fixed ≡ map fixed_of p.ranks.items →
+      frozen_of engine ≡ taken.frozen → engine.from_inputs ≡ p.from_inputs.items →
+      engine.to_outputs ≡ p.to_outputs.items → engine.stopped ≡ false → sent.spare ≡ total + count →
+      note.spare ≡ total + 2 * count → IsReadyOn (map machine_from engine.fixed) s.came engine sent note
+  runs_on engine sent note counted all few fixed frozen from to running sent_room note_room =
+      let at_most = fit.tables.setup.ports in
       let many : length (machines_of t.setup) ≡ ports_of t.setup = machines_many t in
-      ready_from w machine_from engine sent note
-      (subst (GoesOn w) (sym frozen) (goes_of t s taken sound traffic))
+      ready_from (switch_of t s) machine_from engine sent note
+      (subst (GoesOn (switch_of t s)) (sym frozen) (goes_of t s taken sound fit.traffic))
       (ap (map machine_from) fixed ∙ are.machines) running (omega arith)
-      (subst (λ (n : ℕ). IsTraffic n (classes_of t.setup) s.came) (sym many) traffic) are.classes short (omega arith)
-      (from ∙ are.from_inputs ∙ by_machine is_from t s.came) (to ∙ are.to_outputs ∙ by_machine is_to t s.came)
-      (omega arith) (omega arith)
+      (subst (λ (n : ℕ). IsTraffic n (classes_of t.setup) s.came) (sym many) fit.traffic) are.classes fit.short
+      (omega arith) (from ∙ are.from_inputs ∙ by_machine is_from t s.came)
+      (to ∙ are.to_outputs ∙ by_machine is_to t s.came) (omega arith) (omega arith)

@@ -8,15 +8,14 @@ use Rattle.std.proofs.lemmas.List.{append-nil, map-append, take_more, drop_more,
 use Rattle.std.proofs.lemmas.List.Elements.{filter-append}
 use Rattle.cq_base.specs.declared.cell.Cell.{Cell}
 use Rattle.cq_base.specs.declared.cell.Departure.{Departure}
-use Rattle.cq_cells.specs.Schedule.{arrivals}
 use Rattle.cq_ideal.specs.Flows.{leaves_in_flow, left_in_flow}
 use Rattle.cq_pcap.specs.Captured.{Captured}
 use Rattle.cq_pcap.specs.declared.write.OutPacket.{OutPacket}
 use Rattle.cq_reasm.specs.Joining.{JoinerView, IsOtherPair, open_after, open_at}
 use Rattle.cq_reasm.specs.Open.{Open}
-use Rattle.cq_route.specs.Tables.{AreTables, ports_of}
+use Rattle.cq_route.specs.Tables.{ports_of}
 use Rattle.cq_route.specs.declared.tables.Tables.{Tables}
-use Rattle.cq_simulate.specs.Packets.{LeaveWhole, ends_packet_at, leaving, packets_out}
+use Rattle.cq_simulate.specs.Packets.{HaveLeftOf, ends_packet_at, leaving, packets_out}
 use Rattle.cq_simulate.specs.Pieces.{Fits, left_with, opened, piece_at}
 use Rattle.cq_simulate.proofs.Departed.{departed_output}
 use Rattle.cq_simulate.proofs.Joining.{flow_fits, opened-append}
@@ -67,9 +66,9 @@ module _ (t : Tables) (captures : List (List Captured)) (sent : List Departure) 
       next_flow i c ∙ ap (λ (l : List Cell). left_in_flow i c output (take k sent) ++ l)
       (of_other i c output (get_or sent k e) [] other) ∙ append-nil (left_in_flow i c output (take k sent))
 
-  pub at_other : (joiner : JoinerView) (packets : List OutPacket) → SoFar t captures sent output k joiner packets →
+  pub at_other : {joiner : JoinerView} {packets : List OutPacket} → SoFar t captures sent output k joiner packets →
       (get_or sent k e).output ≢ output → SoFar t captures sent output (k + 1) joiner packets
-  at_other joiner packets so_far ne =
+  at_other {packets = packets} so_far ne =
       let d : Departure = get_or sent k e in
       let away : (d.output == output) ≡ false = ne_eqb d.output output ne in
       record {
@@ -95,20 +94,20 @@ module _ (t : Tables) (captures : List (List Captured)) (sent : List Departure) 
         (and_from (c.id.input == c.id.input) (c.class == c.class) (eq-eqb c.id.input c.id.input refl)
         (eq-eqb c.class c.class refl))
 
-    pub cell_fits : (joiner : JoinerView) (packets : List OutPacket) → SoFar t captures sent output k joiner packets →
-        AreTables t → length captures ≡ ports_of t.setup → LeaveWhole (arrivals t captures) sent →
+    pub cell_fits : {joiner : JoinerView} {packets : List OutPacket} {stamp : ℕ} →
+        SoFar t captures sent output k joiner packets → HaveLeftOf t captures sent stamp →
         (get_or sent k e).queued.cell.class < length t.setup.classes →
         Fits captures (open_at joiner (get_or sent k e).queued.cell.id.input (get_or sent k e).queued.cell.class)
         (get_or sent k e).queued.cell
-    cell_fits joiner packets so_far are many whole few =
+    cell_fits so_far of_run few =
         let d : Departure = get_or sent k e in
         let i = d.queued.cell.id.input in
         let c = d.queued.cell.class in
         let parts : take k sent ++ (d ∷ drop (k + 1) sent) ≡ sent =
         ap (λ (l : List Departure). take k sent ++ l) (sym (drop_more sent k e inside)) ∙ take-append-drop k sent in
-        let l = whole i in
+        let l = of_run.whole i in
         subst (λ (o : Option Open). Fits captures o d.queued.cell) (sym (so_far.open_packets i c few))
-        (flow_fits t captures i (let b = are.cell_bytes in omega arith) c output l.is_taken
+        (flow_fits t captures i (let b = of_run.tables.cell_bytes in omega arith) c output l.is_taken
         (left_in_flow i c output (take k sent)) d.queued.cell (left_in_flow i c output (drop (k + 1) sent))
         (sym (l.left c output)
         ∙ ap (left_in_flow i c output) (sym parts)
@@ -116,7 +115,7 @@ module _ (t : Tables) (captures : List (List Captured)) (sent : List Departure) 
         ∙ ap (λ (l : List Cell). left_in_flow i c output (take k sent) ++ l)
         (of_flow i c output d (drop (k + 1) sent) own)))
 
-    module _ (joiner joiner_new : JoinerView) (packets : List OutPacket)
+    module _ {joiner : JoinerView} (joiner_new : JoinerView) {packets : List OutPacket}
         (so_far : SoFar t captures sent output k joiner packets) (inputs : joiner_new.inputs ≡ joiner.inputs)
         (classes : joiner_new.classes ≡ joiner.classes) (pair : open_at joiner_new
         (get_or sent k e).queued.cell.id.input (get_or sent k e).queued.cell.class ≡ open_after
@@ -236,15 +235,14 @@ none_of p (x ∷ xs) h =
     ∙ none_of p xs (λ k e l. h (suc k) e (omega arith))
 
 -- at what is no port nothing departs
-pub nowhere : (t : Tables) (captures : List (List Captured)) (sent : List Departure) (output : ℕ) → AreTables t →
-    length captures ≡ ports_of t.setup → LeaveWhole (arrivals t captures) sent →
-    ports_of t.setup ≤ output → packets_out t captures sent output ≡ []
+pub nowhere : {t : Tables} {captures : List (List Captured)} {sent : List Departure} {stamp : ℕ} (output : ℕ) →
+    HaveLeftOf t captures sent stamp → ports_of t.setup ≤ output → packets_out t captures sent output ≡ []
 unfolding packets_out
-nowhere t captures sent output are many whole none =
+nowhere {t} {captures} {sent} output of_run none =
     ap (map (leaving t captures))
     (none_of (ends_packet_at output) sent
     (λ k e inside.
     let d : Departure = get_or sent k e in
-    let at_port : d.output < ports_of t.setup = departed_output t captures sent are many whole k e inside in
+    let at_port : d.output < ports_of t.setup = departed_output of_run k e inside in
     and_left (d.output == output) d.queued.cell.last (ne_eqb d.output output
     (λ (same : d.output ≡ output). absurd (omega arith)))))

@@ -7,5 +7,6 @@ pub mod IdealRuns
 pub mod Packets
 pub mod Pieces
 pub mod Ready
+pub mod ScheduleFor
 pub mod GoingOn
 pub mod PartedRuns

@@ -2,12 +2,12 @@
 use Rattle.std.specs.Prelude.{◌≡◌, ℕ, ◌+◌, ◌*◌, ◌<◌, ◌&&◌, ◌==◌, Bool, List, length, map, filter, slice_index_or}
 use Rattle.cq_base.specs.Arriving.{Arrival}
 use Rattle.cq_base.specs.declared.cell.Departure.{Departure}
-use Rattle.cq_cells.specs.Schedule.{first_stamp, packet_at}
+use Rattle.cq_cells.specs.Schedule.{arrivals, first_stamp, packet_at}
 use Rattle.cq_ideal.specs.Flows.{came_in_flow, left_in_flow}
 use Rattle.cq_pcap.specs.Captured.{Captured}
 use Rattle.cq_pcap.specs.Written.{written}
 use Rattle.cq_pcap.specs.declared.write.OutPacket.{OutPacket}
-use Rattle.cq_route.specs.Tables.{ports_of}
+use Rattle.cq_route.specs.Tables.{AreTables, ports_of}
 use Rattle.cq_route.specs.declared.tables.Tables.{Tables}
 use Rattle.cq_simulate.specs.declared.packing.Packing.{Packing}
 
@@ -20,6 +20,14 @@ pub record LeftInPackets (came : List Arrival) (i : ℕ) (sent : List Departure)
 -- the cells that departed are those of whole packets, one packet after another of each input, class and output
 abbrev pub LeaveWhole : List Arrival → List Departure → Type 0
 LeaveWhole came sent = (i : ℕ) → LeftInPackets came i sent
+
+-- What left in a run over the schedule of these captures, one for each port of the switch of these tables, is of whole
+-- packets. Its slots are counted from this stamp.
+pub record HaveLeftOf (t : Tables) (cs : List (List Captured)) (sent : List Departure) (stamp : ℕ) : Type 0 where
+  pub tables : AreTables t
+  pub captures : length cs ≡ ports_of t.setup
+  pub whole : LeaveWhole (arrivals t cs) sent
+  pub t0 : stamp ≡ first_stamp cs
 
 -- whether the last cell of a packet departs at this output
 abbrev pub ends_packet_at : ℕ → Departure → Bool

@@ -1,16 +1,15 @@
 //! The run of the fabric.
 ghost use Rattle.std.specs.Prelude.{◌≡◌, ◌↔◌, ◌≤◌, IsTrue, false, IfOk, IfErr, Ok, OnOk, [], length, map};
 ghost use Rattle.cq_base.specs.Arriving.{arriving, end_of};
-ghost use Rattle.cq_cells.specs.Traffic.{IsTraffic, IsShort};
 ghost use Rattle.cq_engine.specs.Resting.{HasRested};
 ghost use Rattle.cq_laws.specs.Fabric.{IsEmptyFabric};
-ghost use Rattle.cq_route.specs.Tables.{AreTables, classes_of, ports_of};
 ghost use Rattle.cq_simulate.specs.FabricRuns.{IsKeptOf, unpacked_run};
 ghost use Rattle.cq_simulate.specs.IdealRuns.{ideal_departures, IsRefusalOf};
+ghost use Rattle.cq_simulate.specs.ScheduleFor.{IsScheduleFor};
 ghost use Rattle.cq_simulate.specs.GoingOn.{HasKept, HasRunOn, IsReadyOn, IsRefusalOn, StopsOn};
 ghost use Rattle.cq_traffic.specs.Stretch.{IsQuiet};
 
-use crate::RunRefusal;
+use crate::RunResult;
 use crate::ports::{engine_for, port_count};
 use cq_base::{Departure, Departures, Figures, Room, Slot, TagFault, Transfer};
 use cq_cells::{Coming, Schedule};
@@ -61,11 +60,8 @@ pub fn run_fabric<R: Threads + Sync, G: Gate>(
     tables: &Tables,
     schedule: &Schedule,
     gate: &G,
-) -> Result<FabricRun, RunRefusal>
-    requires tables { AreTables tables.now }
-    requires ports { schedule.now.ports ≡ ports_of tables.now.setup }
-    requires traffic { IsTraffic (ports_of tables.now.setup) (classes_of tables.now.setup) schedule.now.came }
-    requires short { IsShort schedule.now.came }
+) -> RunResult<FabricRun>
+    requires { IsScheduleFor tables.now schedule.now }
     ensures run { IfOk result (IsKeptOf tables.now schedule.now.came) }
     ensures as_ideal { IfOk result (λ run. ideal_departures tables.now schedule.now.came ≡ Ok run.sent.items) }
     ensures refused { IfErr result (IsRefusalOf (ideal_departures tables.now schedule.now.came)) }
@@ -93,11 +89,8 @@ pub fn run_fabric_packed<R: Threads + Sync, G: Gate>(
     tables: &Tables,
     schedule: &Schedule,
     gate: &G,
-) -> Result<PackedFabricRun, RunRefusal>
-    requires tables { AreTables tables.now }
-    requires ports { schedule.now.ports ≡ ports_of tables.now.setup }
-    requires traffic { IsTraffic (ports_of tables.now.setup) (classes_of tables.now.setup) schedule.now.came }
-    requires short { IsShort schedule.now.came }
+) -> RunResult<PackedFabricRun>
+    requires { IsScheduleFor tables.now schedule.now }
     ensures run { IfOk result (λ run. IsKeptOf tables.now schedule.now.came (unpacked_run run)) }
     ensures as_ideal { IfOk result (λ run. ideal_departures tables.now schedule.now.came ≡ Ok run.sent.items) }
     ensures refused { IfErr result (IsRefusalOf (ideal_departures tables.now schedule.now.came)) }
@@ -121,7 +114,7 @@ pub fn run_on<T: Threads + Sync, R: Rank, G: Gate>(
     gate: &G,
     mut sent: Departures,
     mut note: Room<Transfer>,
-) -> Result<PackedFabricRun, RunRefusal>
+) -> RunResult<PackedFabricRun>
     requires ready { IsReadyOn (map R.machine engine.fixed) schedule.now.came engine sent note }
     requires ports { ports ≡ length engine.fixed }
     ensures run { IfOk result (HasKept (map R.machine engine.fixed) schedule.now.came engine sent note) }

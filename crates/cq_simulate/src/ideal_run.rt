@@ -1,19 +1,18 @@
 //! The run of the ideal switch.
 ghost use Rattle.std.specs.Prelude.{◌≡◌, ◌↔◌, ◌+◌, ◌<◌, ◌≤◌, ◌^◌, IsTrue, false, All, Ok, Err, IfOk, IfErr, OnOk, [], length, map, max};
 ghost use Rattle.cq_base.specs.Arriving.{arriving, end_of, traffic_of};
-ghost use Rattle.cq_cells.specs.Traffic.{IsTraffic, IsShort};
 ghost use Rattle.cq_ideal.specs.Admission.{NoLimits};
 ghost use Rattle.cq_ideal.specs.Ideal.{marked_state};
 ghost use Rattle.cq_ideal.specs.LimitedEnding.{departures_limited};
 ghost use Rattle.cq_ideal.specs.LimitedIdeal.{limited_run};
 ghost use Rattle.cq_ideal.specs.Rest.{HasRested};
-ghost use Rattle.cq_route.specs.Tables.{AreTables, classes_of, ports_of};
 ghost use Rattle.cq_ideal.specs.Ending.{slots_of};
 ghost use Rattle.cq_simulate.specs.IdealRuns.{ideal_departures, slots_ran, IsRefusalOf};
 ghost use Rattle.cq_simulate.specs.Ready.{IsReady};
+ghost use Rattle.cq_simulate.specs.ScheduleFor.{IsScheduleFor};
 ghost use Rattle.cq_traffic.specs.Stretch.{IsQuiet};
 
-use crate::RunRefusal;
+use crate::RunResult;
 use cq_base::{Departure, Departures, Room, Slot, TagFault};
 use cq_cells::{Coming, Schedule};
 use cq_ideal::Ideal;
@@ -38,15 +37,8 @@ pub struct IdealRun {
 ///
 /// - `Tag`: a rank does not fit 128 bits; the first such fault of the ideal switch.
 /// - `NoMemory`: there was not the memory for the lists and the departures.
-pub fn run_ideal(
-    alloc: Global,
-    tables: &Tables,
-    schedule: &Schedule,
-) -> Result<IdealRun, RunRefusal>
-    requires tables { AreTables tables.now }
-    requires ports { schedule.now.ports ≡ ports_of tables.now.setup }
-    requires traffic { IsTraffic (ports_of tables.now.setup) (classes_of tables.now.setup) schedule.now.came }
-    requires short { IsShort schedule.now.came }
+pub fn run_ideal(alloc: Global, tables: &Tables, schedule: &Schedule) -> RunResult<IdealRun>
+    requires { IsScheduleFor tables.now schedule.now }
     ensures sent { IfOk result (λ run. ideal_departures tables.now schedule.now.came ≡ Ok run.sent.items) }
     ensures slots { IfOk result (λ run. run.slots ≡ slots_of run.sent.items) }
     // after so many slots the run ends, or with the last arrival, where that is later: what arrives last may be refused
@@ -67,11 +59,8 @@ pub fn run_ideal_packed(
     alloc: Global,
     tables: &Tables,
     schedule: &Schedule,
-) -> Result<Departures, RunRefusal>
-    requires tables { AreTables tables.now }
-    requires ports { schedule.now.ports ≡ ports_of tables.now.setup }
-    requires traffic { IsTraffic (ports_of tables.now.setup) (classes_of tables.now.setup) schedule.now.came }
-    requires short { IsShort schedule.now.came }
+) -> RunResult<Departures>
+    requires { IsScheduleFor tables.now schedule.now }
     ensures sent { IfOk result (λ sent. ideal_departures tables.now schedule.now.came ≡ Ok sent.items) }
     ensures early { IfOk result (λ sent. slots_of sent.items ≤ 2 ^ 63 + 2 ^ 35) }
     ensures refused { IfErr result (IsRefusalOf (ideal_departures tables.now schedule.now.came)) }

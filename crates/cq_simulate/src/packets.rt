@@ -1,9 +1,9 @@
 //! The packets that leave an output.
 ghost use Rattle.std.specs.Prelude.{◌≡◌, ◌+◌, ◌*◌, ◌<◌, ◌≤◌, ℕ, All, IfOk, IfSome, OnOk, [], length};
-ghost use Rattle.cq_cells.specs.Schedule.{arrivals, first_stamp, packet_at, packets_of as packets_at};
-ghost use Rattle.cq_route.specs.Tables.{AreTables, ports_of};
+ghost use Rattle.cq_cells.specs.Schedule.{first_stamp, packet_at, packets_of as packets_at};
+ghost use Rattle.cq_route.specs.Tables.{ports_of};
 ghost use Rattle.cq_reasm.specs.Joining.{IsOtherPair, open_after, open_at};
-ghost use Rattle.cq_simulate.specs.Packets.{LeaveWhole, packets_out};
+ghost use Rattle.cq_simulate.specs.Packets.{HaveLeftOf, packets_out};
 ghost use Rattle.cq_simulate.specs.Pieces.{Fits, IsCaptured, left_with, piece_at};
 
 use cq_base::{Cell, Departure, NoMemory, Port, Slot};
@@ -25,10 +25,7 @@ pub fn packets_of(
     tables: &Tables,
     t0: u64,
 ) -> Result<Vec<OutPacket>, NoMemory>
-    requires tables { AreTables tables.now }
-    requires captures { length captures.now ≡ ports_of tables.now.setup }
-    requires whole { LeaveWhole (arrivals tables.now captures.now) sent.now }
-    requires t0 { t0 ≡ first_stamp captures.now }
+    requires { HaveLeftOf tables.now captures.now sent.now t0 }
     ensures packets { IfOk result (λ packets. packets.items ≡ packets_out tables.now captures.now sent.now output) }
     ensures nowhere { ports_of tables.now.setup ≤ output → IfOk result (λ packets. packets.items ≡ []) }
     ensures bodies { IfOk result (λ packets. All (λ p. length p.body ≤ 262144) packets.items) }

@@ -1,10 +1,8 @@
 //! The captures of what leaves all outputs, built in one pass over the departures.
-ghost use Rattle.std.specs.Prelude.{◌≡◌, ◌≤◌, ◌++◌, All, IfOk, OnOk, length};
-ghost use Rattle.cq_cells.specs.Schedule.{arrivals, first_stamp};
-ghost use Rattle.cq_pcap.specs.Written.{record_of};
-ghost use Rattle.cq_route.specs.Tables.{AreTables, ports_of};
-ghost use Rattle.cq_simulate.specs.Packets.{ArePacked, LeaveWhole, leaving};
-ghost use Rattle.cq_simulate.specs.Pieces.{CanBeJoined, IsCaptured, IsEmptied, Took};
+ghost use Rattle.std.specs.Prelude.{◌≡◌, ◌≤◌, All, IfOk, OnOk, length};
+ghost use Rattle.cq_cells.specs.Schedule.{first_stamp};
+ghost use Rattle.cq_simulate.specs.Packets.{ArePacked, HaveLeftOf};
+ghost use Rattle.cq_simulate.specs.Pieces.{CanBeJoined, IsEmptied, Took};
 
 use crate::packets::{frame_of, original_of, stamp_of, take};
 use cq_base::{Cell, Departure, Departures, NoMemory, PackedDeparture};
@@ -31,10 +29,7 @@ pub fn packets_of_all(
     tables: &Tables,
     t0: u64,
 ) -> Result<Vec<Packing>, NoMemory>
-    requires tables { AreTables tables.now }
-    requires captures { length captures.now ≡ ports_of tables.now.setup }
-    requires whole { LeaveWhole (arrivals tables.now captures.now) sent.items }
-    requires t0 { t0 ≡ first_stamp captures.now }
+    requires { HaveLeftOf tables.now captures.now sent.items t0 }
     ensures { IfOk result (λ places. ArePacked tables.now captures.now sent.items places.items) }
 {
     let ports = captures.len() as u16;
@@ -90,27 +85,6 @@ fn emptied(
     Ok(places)
 }
 
-// Puts the packet of a departure behind the bytes of a capture, as it was captured.
-fn put_whole(
-    out: &mut Vec<u8>,
-    departure: &Departure,
-    captures: &[Capture],
-    tables: &Tables,
-    t0: u64,
-) -> Result<(), NoMemory>
-    requires slot_ns { tables.now.slot_ns ≤ 1000000000 }
-    requires t0 { t0 ≡ first_stamp captures.now }
-    requires captured { IsCaptured captures.now departure.now.queued.cell }
-    ensures record { OnOk result (out.new.items ≡
-        out.old.items ++ record_of (leaving tables.now captures.now departure.now)) }
-    ensures small { length (leaving tables.now captures.now departure.now).body ≤ 262144 }
-{
-    let cell = &departure.queued.cell;
-    let stamp = stamp_of(departure.slot, tables, t0);
-    let original = original_of(captures, cell.id.input, cell.id.packet);
-    put_packet(out, stamp, original, frame_of(captures, cell))
-}
-
 impl Packing {
     // No packet is open, and none has left.
     fn new(alloc: Global, inputs: u16, classes: u16, room: usize) -> Result<Packing, NoMemory>
@@ -139,7 +113,9 @@ impl Packing {
     {
         let cell = &departure.queued.cell;
         if cell.last && cell.id.index == 0 {
-            return put_whole(&mut self.bytes, departure, captures, tables, t0);
+            let stamp = stamp_of(departure.slot, tables, t0);
+            let original = original_of(captures, cell.id.input, cell.id.packet);
+            return put_packet(&mut self.bytes, stamp, original, frame_of(captures, cell));
         }
         let left = take(&mut self.joiner, departure, captures, tables, t0)?;
         match left {

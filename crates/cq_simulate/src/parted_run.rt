@@ -1,18 +1,18 @@
 //! The run of the fabric in parts: up to a slot, and on from there.
 ghost use Rattle.std.specs.Prelude.{◌≡◌, ◌-◌, ◌<◌, ◌≤◌, ◌^◌, IfErr, IfOk, OnOk, false, length, map};
 ghost use Rattle.cq_base.specs.Arriving.{arriving};
-ghost use Rattle.cq_cells.specs.Traffic.{IsShort, IsTraffic};
 ghost use Rattle.cq_engine.specs.Resting.{HasRested};
 ghost use Rattle.cq_resume.specs.Parts.{IsParted};
 ghost use Rattle.cq_resume.specs.Resumed.{IsResumed};
 ghost use Rattle.cq_resume.specs.Switch.{switch_of};
-ghost use Rattle.cq_route.specs.Tables.{AreTables, classes_of, ports_of};
+ghost use Rattle.cq_route.specs.Tables.{ports_of};
 ghost use Rattle.cq_scfq.specs.Disciplines.{openings_of};
 ghost use Rattle.cq_simulate.specs.GoingOn.{HasPartedTo, IsReadyPart, NoneCome, StopsWithin};
 ghost use Rattle.cq_simulate.specs.PartedRuns.{CanBeTakenUp, IsPartFault, IsResumeFault, kept_of, taken_at};
 ghost use Rattle.cq_simulate.specs.FabricRuns.{unpacked_run};
+ghost use Rattle.cq_simulate.specs.ScheduleFor.{IsScheduleFor};
 
-use crate::RunRefusal;
+use crate::RunResult;
 use crate::fabric_run::{PackedFabricRun, rest_to, run_on};
 use crate::ports::{engine_for, port_count, ports_for};
 use cq_base::{Departure, Departures, NoMemory, Room, Slot, TagFault, Transfer};
@@ -49,11 +49,8 @@ pub fn part_fabric<R: Threads + Sync, G: Gate>(
     schedule: &Schedule,
     slots: Slot,
     gate: &G,
-) -> Result<Parted, RunRefusal>
-    requires tables { AreTables tables.now }
-    requires ports { schedule.now.ports ≡ ports_of tables.now.setup }
-    requires traffic { IsTraffic (ports_of tables.now.setup) (classes_of tables.now.setup) schedule.now.came }
-    requires short { IsShort schedule.now.came }
+) -> RunResult<Parted>
+    requires fit { IsScheduleFor tables.now schedule.now }
     requires slots { slots < 2 ^ 63 }
     ensures parted { IfOk result (λ run.
         IsParted (switch_of tables.now schedule.now) (openings_of tables.now.setup) slots (taken_at run)) }
@@ -92,11 +89,8 @@ pub fn resume_fabric<R: Threads + Sync, G: Gate>(
     schedule: &Schedule,
     taken: &Taken,
     gate: &G,
-) -> Result<PackedFabricRun, RunRefusal>
-    requires tables { AreTables tables.now }
-    requires ports { schedule.now.ports ≡ ports_of tables.now.setup }
-    requires traffic { IsTraffic (ports_of tables.now.setup) (classes_of tables.now.setup) schedule.now.came }
-    requires short { IsShort schedule.now.came }
+) -> RunResult<PackedFabricRun>
+    requires fit { IsScheduleFor tables.now schedule.now }
     requires sound { CanBeTakenUp (switch_of tables.now schedule.now) taken.now }
     ensures run { IfOk result (λ run.
         IsResumed (switch_of tables.now schedule.now) taken.now (kept_of (unpacked_run run))) }

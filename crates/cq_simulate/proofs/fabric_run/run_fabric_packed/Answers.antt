@@ -9,11 +9,11 @@ use Rattle.cq_simulate.proofs.fabric_run.run_fabric_packed.Goals.{In_ok-engine}
 
 -- the engine is made for the tables and the schedule, with room for all that it is to send and to note
 made : (g : given.Over) (c : In_ok-engine g) →
-    IsMade c.args.tables.now c.args.schedule.now.came c.in_ok-engine.engine c.in_ok-sent.sent c.in_ok-note.note
+    IsMade c.args.tables.now c.args.schedule.now c.in_ok-engine.engine c.in_ok-sent.sent c.in_ok-note.note
 made g c =
-    made_for c.port_count-ports.result c.total-total.result c.requires.tables c.requires.traffic c.requires.short
-    c.port_count-ports.ensures c.total-total.ensures.cells c.total-total.ensures.few c.in_ok-engine.ensures
-    c.in_ok-sent.ensures.items c.in_ok-sent.ensures.spare c.in_ok-note.ensures.items c.in_ok-note.ensures.spare
+    made_for c.requires c.port_count-ports.ensures c.total-total.ensures.cells c.total-total.ensures.few
+    c.in_ok-engine.ensures c.in_ok-sent.ensures.items c.in_ok-sent.ensures.spare c.in_ok-note.ensures.items
+    c.in_ok-note.ensures.spare
 
 pub run_on-requires-clause-ready : goal.run_on-requires-clause-ready
 run_on-requires-clause-ready g c =

@@ -1,10 +1,10 @@
-use Rattle.std.proofs.Common.{◌≡◌, ◌+◌, ◌-◌, ◌<◌, ◌≤◌, ◌^◌, ℕ, List, true, zero, length, map, ap, sym, ◌∙◌, arith}
+use Rattle.std.proofs.Common.{◌+◌, ◌-◌, ◌<◌, ◌^◌, true, zero, map, ap, sym, ◌∙◌, arith}
 use Rattle.std.specs.Result.{is_err}
 use Rattle.std.proofs.lemmas.Result.{err_from_is_err_and}
 use Rattle.cq_base.specs.Arriving.{end_of}
 use Rattle.cq_laws.specs.Fabric.{IsEmptyFabric}
 use Rattle.cq_simulate.proofs.FabricRunning.{over_by}
-use Rattle.cq_simulate.proofs.FabricSteps.{CanRun, HasHad, Stands, can_run_here, fault_here, few_leave, goes_on, handed, next_here, room_is_back, run_begins, run_ends, run_stands}
+use Rattle.cq_simulate.proofs.FabricSteps.{CanRun, HasHad, Stands, again_free, can_run_here, can_take_over, fault_here, goes_on, handed, next_here, places_here, run_begins, run_ends, run_stands}
 use Rattle.cq_simulate.proofs.fabric_run.run_slots.Given as given
 use Rattle.cq_simulate.proofs.fabric_run.run_slots.Goals as goal
 use Rattle.cq_simulate.proofs.fabric_run.run_slots.Goals.{After-arrivals, In_ok-slot}
@@ -23,15 +23,13 @@ stands g c =
     c.is_over.ensures)
     c.skip-slot.ensures.quiet c.skip-slot.ensures.rested
 
--- and finds all that it asks for, with room for what leaves in the departures of the run
+-- and finds all that it asks for, with a list of its own for what leaves
 can : (g : given.Over) (c : After-arrivals g) →
-    CanRun g.R.Rank.machine c.skip-slot.result c.arrivals.result.now c.skip-slot.new.engine c.slots.sent
+    CanRun g.R.Rank.machine c.skip-slot.result c.arrivals.result.now c.skip-slot.new.engine c.slots.leaving
     c.slots.note
-can g c = can_run_here (stands g c) c.arrivals.result.now (c.arrivals.ensures ∙ c.skip-slot.ensures.came)
-
--- the list in which it leaves first has a place for each port
-places : (g : given.Over) (c : After-arrivals g) → c.slots.leaving.spare ≡ length c.skip-slot.new.engine.fixed
-places g c = c.slots.invariant.few ∙ sym (ap (λ (l : List (List ℕ)). length l) (stands g c).crossing.fixed)
+can g c =
+    can_run_here (stands g c) c.arrivals.result.now (c.arrivals.ensures ∙ c.skip-slot.ensures.came) c.slots.leaving
+    (places_here (stands g c) c.slots.invariant.leaves)
 
 -- what the engine says of the slot
 had : (g : given.Over) (c : In_ok-slot g) →
@@ -42,10 +40,7 @@ had g c =
       done = c.in_ok-slot.ensures.slot;
       running = c.slot.ensures.stopped ∙ ap is_err c.in_ok-slot.was;
       next = c.in_ok-slot.ensures.went_on.next;
-      fixed = c.slot.ensures.made.fixed;
-      limits = c.slot.ensures.made.limits;
-      from_inputs = c.slot.ensures.made.from_inputs;
-      to_outputs = c.slot.ensures.made.to_outputs;
+      made = c.slot.ensures.made;
     }
 
 -- ## The loop
@@ -55,8 +50,7 @@ slots-init g c =
     rw c.next-slot.ensures
     (record {
       runs = run_begins g.R.Rank.machine c.requires.ready;
-      none = c.requires.none;
-      few = c.requires.few;
+      leaves = record { none = c.requires.none; few = c.requires.few };
     })
 
 pub slot-requires-clause-early : goal.slot-requires-clause-early
@@ -69,23 +63,13 @@ slot-requires-clause-arrivals g c =
 
 pub slot-requires-clause-ready : goal.slot-requires-clause-ready
 slot-requires-clause-ready g c =
-    let at = goal.at.slot-requires-clause-ready g c in
-    let here = can g at.After-arrivals in
-    let room = places g at.After-arrivals in
-    λ _ _. record {
-      list_room = here.list_room;
-      buffer_room = here.buffer_room;
-      refused = here.refused;
-      sent_room = omega arith;
-      note_room = here.note_room;
-      proposals = here.proposals;
-    }
+    λ _ _. (can g (goal.at.slot-requires-clause-ready g c).After-arrivals).ready
 
 pub returns-in_err-slot-clause-fault : goal.returns-in_err-slot-clause-fault
 returns-in_err-slot-clause-fault g c =
     let here = stands g (goal.at.returns-in_err-slot-clause-fault g c).After-arrivals in
     let p = err_from_is_err_and c.from_residual.result c.from_residual.ensures.1 in
-    let had = here.crossing.long in
+    let long = here.crossing.long in
     let count = c.skip-slot.result + 1 - c.args.engine.now.next in
     rw (p.1, p.2)
     (record {
@@ -104,34 +88,26 @@ pub slots-smaller : goal.slots-smaller
 slots-smaller g c =
     let some : c.skip-slot.result < over_by c.args.schedule.now.came c.args.engine.now.next =
     (stands g (goal.at.slots-smaller g c).After-arrivals).some in
-    let late = c.skip-slot.ensures.quiet.late in
     omega arith
 
 pub take_all-requires : goal.take_all-requires
 take_all-requires g c =
     let at = goal.at.take_all-requires g c in
-    let left : length c.slot.new.sent.items ≤ c.slots.leaving.spare =
-    few_leave c.slots.invariant.none (had g at.In_ok-slot) in
-    let room = places g at.After-arrivals in
-    let more : length c.skip-slot.new.engine.fixed ≤ c.slots.sent.spare = (can g at.After-arrivals).sent_room in
-    omega arith
+    can_take_over (stands g at.After-arrivals) c.slots.invariant.leaves (had g at.In_ok-slot)
 
 pub slots-preserved : goal.slots-preserved
 slots-preserved g c =
     let at = goal.at.slots-preserved g c in
-    let done = had g at.In_ok-slot in
-    let none = c.slots.invariant.none in
-    let taken = c.take_all.ensures in
     record {
       runs =
           next_here (stands g at.After-arrivals) c.arrivals.result.now c.slot.new.self c.take_all.new.self
           c.slot.new.note (c.arrivals.ensures ∙ c.skip-slot.ensures.came)
-          (handed none done c.slots.sent c.take_all.new.self (record { items = taken.items; spare = taken.spare }));
-      none = taken.none_left;
-      few = room_is_back none done c.take_all.new.sent taken.room ∙ c.slots.invariant.few;
+          (handed c.slots.invariant.leaves (had g at.In_ok-slot) c.take_all.ensures.items c.take_all.ensures.spare);
+      leaves =
+          again_free c.slots.invariant.leaves (had g at.In_ok-slot) c.take_all.ensures.none_left
+          c.take_all.ensures.room;
     }
 
 pub returns-clause-run : goal.returns-clause-run
 returns-clause-run g c =
-    let over = c.is_over.ensures.0 c.slots-test.false in
-    run_ends g.R.Rank.machine c.requires.ready c.slots.invariant.runs over.0 over.1
+    run_ends g.R.Rank.machine c.requires.ready c.slots.invariant.runs (c.is_over.ensures.0 c.slots-test.false)

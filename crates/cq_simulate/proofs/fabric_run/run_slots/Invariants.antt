@@ -1,13 +1,13 @@
-use Rattle.std.proofs.Common.{◌≡◌, ◌-◌, true, [], length, map}
+use Rattle.std.proofs.Common.{◌-◌, true, length, map}
 use Rattle.cq_simulate.proofs.FabricRunning.{Crossing, over_by}
+use Rattle.cq_simulate.proofs.Handed.{IsFree}
 use Rattle.cq_simulate.proofs.fabric_run.run_slots.Given as goal
 
 abbrev pub invariant-slots : goal.invariant-slots
 invariant-slots g l = record {
   runs : Crossing true (map g.R.Rank.machine l.initial.engine.fixed) l.schedule.came l.initial.engine l.initial.sent
       l.initial.note l.slot (over_by l.schedule.came l.initial.engine.next - l.slot) l.engine l.sent l.note;
-  none : l.leaving.items ≡ [];
-  few : l.leaving.spare ≡ length l.initial.engine.fixed;
+  leaves : IsFree (length l.initial.engine.fixed) l.leaving;
 }
 
 abbrev pub decreases-slots : goal.decreases-slots

@@ -1,9 +1,9 @@
-use Rattle.std.proofs.Common.{◌≡◌, ◌≤◌, ℕ, List, length, map, ap, sym, ◌∙◌, arith}
+use Rattle.std.proofs.Common.{◌≡◌, ◌≤◌, map, ap, sym, ◌∙◌, arith}
 use Rattle.std.specs.Result.{is_err}
 use Rattle.std.proofs.lemmas.Result.{err_from_is_err_and}
 use Rattle.cq_base.specs.Arriving.{end_of}
 use Rattle.cq_ideal.proofs.Waiting.{waiting}
-use Rattle.cq_simulate.proofs.Steps.{Before, HasHad, a_slot_left, arrivals_fit, at_end, at_fault, at_first, at_next, at_rest, early, early_at_end, few_leave, handed, more_at_rest, not_over, room_is_back, room_left, room_sent, room_to_count}
+use Rattle.cq_simulate.proofs.Steps.{Before, HasHad, a_slot_left, again_free, at_end, at_fault, at_first, at_next, at_rest, can_have, can_take_over, early_at_end, handed, more_at_rest, not_over}
 use Rattle.cq_simulate.proofs.ideal_run.run_slots.Given as given
 use Rattle.cq_simulate.proofs.ideal_run.run_slots.Goals as goal
 use Rattle.cq_simulate.proofs.ideal_run.run_slots.Goals.{After-arrivals, In_ok-slot}
@@ -27,10 +27,6 @@ going g c =
     (not_over c.is_over.result (end_of c.args.schedule.now.came) c.slots.slot c.slots.ideal.state.lists
     c.slots-test.true c.is_over.ensures)
 
--- the list in which what is sent leaves first has a place for each port
-places : (g : given.Over) (c : After-arrivals g) → c.slots.leaving.spare ≡ length c.skip-slot.new.ideal.fixed
-places g c = c.slots.invariant.few ∙ sym (ap (λ (l : List (List ℕ)). length l) (stands g c).fixed)
-
 -- what the switch says of the slot
 had : (g : given.Over) (c : In_ok-slot g) →
     HasHad (map g.R.Rank.machine c.skip-slot.new.ideal.fixed) c.skip-slot.result c.arrivals.result.now
@@ -49,30 +45,14 @@ pub slots-init : goal.slots-init
 slots-init g c =
     record {
       runs = at_first g.R.Rank.machine c.requires.ready;
-      none = c.requires.none;
-      few = c.requires.few;
+      leaves = record { none = c.requires.none; few = c.requires.few };
     }
 
 pub slot-requires : goal.slot-requires
 slot-requires g c =
     let at = (goal.at.slot-requires g c).After-arrivals in
-    let here = stands g at in
-    let more = going g at in
-    let are = c.arrivals.ensures ∙ c.skip-slot.ensures.came in
-    let room = places g at in
-    record {
-      running = here.running;
-      next = sym c.skip-slot.ensures.rested.next;
-      early =
-          early g.R.Rank.machine c.requires.ready here more;
-      arrivals =
-          arrivals_fit g.R.Rank.machine c.requires.ready here more c.arrivals.result.now are;
-      spare =
-          room_left g.R.Rank.machine c.requires.ready here more c.arrivals.result.now are;
-      refused =
-          room_to_count g.R.Rank.machine c.requires.ready here more;
-      sent = omega arith;
-    }
+    can_have g.R.Rank.machine c.requires.ready (stands g at) (going g at) (c.arrivals.ensures
+    ∙ c.skip-slot.ensures.came) c.slots.invariant.leaves
 
 pub returns-in_err-slot-clause-fault : goal.returns-in_err-slot-clause-fault
 returns-in_err-slot-clause-fault g c =
@@ -88,39 +68,31 @@ slots-smaller g c =
     let at = (goal.at.slots-smaller g c).After-arrivals in
     let left =
     a_slot_left g.R.Rank.machine c.requires.ready (stands g at) (going g at) in
-    let late = c.skip-slot.ensures.quiet.late in
     omega arith
 
 pub take_all-requires : goal.take_all-requires
 take_all-requires g c =
     let at = goal.at.take_all-requires g c in
-    let left : length c.slot.new.sent.items ≤ c.slots.leaving.spare =
-    few_leave c.slots.invariant.none (had g at.In_ok-slot) in
-    let few = places g at.After-arrivals in
-    let room : length c.skip-slot.new.ideal.fixed ≤ c.slots.sent.spare =
-    room_sent g.R.Rank.machine c.requires.ready (stands g at.After-arrivals) (going g at.After-arrivals) in
-    omega arith
+    can_take_over g.R.Rank.machine c.requires.ready (stands g at.After-arrivals) (going g at.After-arrivals)
+    c.slots.invariant.leaves (had g at.In_ok-slot)
 
 pub slots-preserved : goal.slots-preserved
 slots-preserved g c =
     let at = goal.at.slots-preserved g c in
-    let done = had g at.In_ok-slot in
-    let none = c.slots.invariant.none in
-    let taken = c.take_all.ensures in
     record {
       runs =
           at_next g.R.Rank.machine c.requires.ready (stands g at.After-arrivals)
           (going g at.After-arrivals) c.arrivals.result.now c.slot.new.self c.take_all.new.self
           (c.arrivals.ensures ∙ c.skip-slot.ensures.came)
-          (handed none done c.slots.sent c.take_all.new.self (record { items = taken.items; spare = taken.spare }));
-      none = taken.none_left;
-      few = room_is_back none done c.take_all.new.sent taken.room ∙ c.slots.invariant.few;
+          (handed c.slots.invariant.leaves (had g at.In_ok-slot) c.take_all.ensures.items c.take_all.ensures.spare);
+      leaves =
+          again_free c.slots.invariant.leaves (had g at.In_ok-slot) c.take_all.ensures.none_left
+          c.take_all.ensures.room;
     }
 
 pub returns-clause-sent : goal.returns-clause-sent
 returns-clause-sent g c =
-    let over = c.is_over.ensures.0 c.slots-test.false in
-    at_end g.R.Rank.machine c.requires.ready c.slots.invariant.runs over.0 over.1
+    at_end g.R.Rank.machine c.requires.ready c.slots.invariant.runs (c.is_over.ensures.0 c.slots-test.false)
 
 pub returns-clause-early : goal.returns-clause-early
 returns-clause-early g c =

@@ -1,5 +1,6 @@
-use Rattle.std.proofs.Common.{◌≡◌, ◌-◌, [], length, map}
+use Rattle.std.proofs.Common.{◌-◌, length, map}
 use Rattle.cq_base.specs.Arriving.{enough}
+use Rattle.cq_simulate.proofs.Handed.{IsFree}
 use Rattle.cq_simulate.proofs.Running.{Running}
 use Rattle.cq_simulate.proofs.ideal_run.run_slots.Given as goal
 
@@ -7,8 +8,7 @@ abbrev pub invariant-slots : goal.invariant-slots
 invariant-slots g l = record {
   runs : Running (map g.R.Rank.machine l.initial.ideal.fixed) l.schedule.came l.initial.ideal l.initial.sent l.slot
       (enough l.schedule.came - l.slot) l.ideal l.sent;
-  none : l.leaving.items ≡ [];
-  few : l.leaving.spare ≡ length l.initial.ideal.fixed;
+  leaves : IsFree (length l.initial.ideal.fixed) l.leaving;
 }
 
 abbrev pub decreases-slots : goal.decreases-slots

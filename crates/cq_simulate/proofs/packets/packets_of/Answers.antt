@@ -21,29 +21,21 @@ departures-init c =
 pub take-requires-clause-input : goal.take-requires-clause-input
 take-requires-clause-input c =
     let same = c.departures.invariant.inputs in
-    let inside =
-    (departed_captured c.args.tables.now c.args.captures.now c.args.sent.now c.requires.tables c.requires.captures
-    c.requires.whole c.departures.departure-index _ c.departures-test.true).input in
+    let inside = (departed_captured c.requires c.departures.departure-index _ c.departures-test.true).input in
     rw same inside
 
 pub take-requires-clause-class : goal.take-requires-clause-class
 take-requires-clause-class c =
-    rw c.departures.invariant.classes
-    (departed_class c.args.tables.now c.args.captures.now c.args.sent.now c.requires.tables c.requires.captures
-    c.requires.whole c.departures.departure-index _ c.departures-test.true)
+    rw c.departures.invariant.classes (departed_class c.requires c.departures.departure-index _ c.departures-test.true)
 
 pub take-requires-clause-captured : goal.take-requires-clause-captured
-take-requires-clause-captured c =
-    departed_captured c.args.tables.now c.args.captures.now c.args.sent.now c.requires.tables c.requires.captures
-    c.requires.whole c.departures.departure-index _ c.departures-test.true
+take-requires-clause-captured c = departed_captured c.requires c.departures.departure-index _ c.departures-test.true
 
 pub take-requires-clause-fits : goal.take-requires-clause-fits
 take-requires-clause-fits c =
-    cell_fits c.args.tables.now c.args.captures.now c.args.sent.now c.args.output c.departures.departure-index _
-    c.departures-test.true c.if-departure-output.true c.departures.joiner c.departures.packets.items
-    c.departures.invariant c.requires.tables c.requires.captures c.requires.whole
-    (departed_class c.args.tables.now c.args.captures.now c.args.sent.now c.requires.tables c.requires.captures
-    c.requires.whole c.departures.departure-index _ c.departures-test.true)
+    cell_fits c.args.tables.now c.args.captures.now c.args.sent.now c.args.output
+    c.departures.departure-index _ c.departures-test.true c.if-departure-output.true c.departures.invariant c.requires
+    (departed_class c.requires c.departures.departure-index _ c.departures-test.true)
 
 pub departures-preserved : goal.departures-preserved
 departures-preserved c =
@@ -51,36 +43,31 @@ departures-preserved c =
     let captures = c.args.captures.now in
     let sent = c.args.sent.now in
     let k = c.departures.departure-index in
-    let joiner = c.departures.joiner in
-    let packets = c.departures.packets.items in
     let inv = c.departures.invariant in
     elim c.if-departure-output.branch [
       | then-departure-output+in_ok-left+in-Some+in_ok-push-in-Some w ↦
           rw (w.joiner-is, w.packets-is)
-          (packed t captures sent c.args.output k _ c.departures-test.true w.if-departure-output.true joiner
-          w.take.new.joiner packets inv w.take.ensures.inputs w.take.ensures.classes w.in_ok-left.ensures.pair
+          (packed t captures sent c.args.output k _ c.departures-test.true w.if-departure-output.true
+          w.take.new.joiner inv w.take.ensures.inputs w.take.ensures.classes w.in_ok-left.ensures.pair
           w.take.ensures.others w.in-Some.packet w.push.new.self.items
           (sym w.in-Some.is ∙ w.in_ok-left.ensures.packet) w.in_ok-push-in-Some.ensures.items
-          (all_pushed packets w.push.new.self.items w.in-Some.packet w.in_ok-push-in-Some.ensures.items inv.small
-          (rw w.in-Some.is at w.in_ok-left.ensures.body)))
+          (all_pushed c.departures.packets.items w.push.new.self.items w.in-Some.packet
+          w.in_ok-push-in-Some.ensures.items inv.small (rw w.in-Some.is at w.in_ok-left.ensures.body)))
       | then-departure-output+in_ok-left+in-None w ↦
           rw (w.joiner-is, w.packets-is)
-          (kept t captures sent c.args.output k _ c.departures-test.true w.if-departure-output.true joiner
-          w.take.new.joiner packets inv w.take.ensures.inputs w.take.ensures.classes w.in_ok-left.ensures.pair
+          (kept t captures sent c.args.output k _ c.departures-test.true w.if-departure-output.true
+          w.take.new.joiner inv w.take.ensures.inputs w.take.ensures.classes w.in_ok-left.ensures.pair
           w.take.ensures.others
           (sym w.in_ok-left.ensures.packet ∙ w.in-None.is))
       | else-departure-output w ↦
-          rw (w.joiner-is, w.packets-is) (at_other t captures sent c.args.output k _ c.departures-test.true joiner
-          packets inv w.if-departure-output.false)
+          rw (w.joiner-is, w.packets-is) (at_other t captures sent c.args.output k _ c.departures-test.true
+          inv w.if-departure-output.false)
     ]
 
 pub returns-clause-nowhere : goal.returns-clause-nowhere
 returns-clause-nowhere c none =
-    let t = c.args.tables.now in
-    let captures = c.args.captures.now in
-    let sent = c.args.sent.now in
-    let k = c.departures.departure-index in
-    let end : length sent ≤ k = omega (arith, c.departures-test.false) in
-    c.departures.invariant.made ∙ ap (λ (l : List Departure). packets_out t captures l c.args.output)
-    (take_all k sent end)
-    ∙ nowhere t captures sent c.args.output c.requires.tables c.requires.captures c.requires.whole none
+    let end : length c.args.sent.now ≤ c.departures.departure-index = omega (arith, c.departures-test.false) in
+    c.departures.invariant.made
+    ∙ ap (λ (l : List Departure). packets_out c.args.tables.now c.args.captures.now l c.args.output)
+    (take_all c.departures.departure-index c.args.sent.now end)
+    ∙ nowhere c.args.output c.requires none

@@ -19,14 +19,14 @@ index_mut-requires c =
     let first = first_unpacked c.departures.left c.pop_first.new.self c.in-Some.packed c.departure-departure.result
     c.in-Some.ensures c.departure-departure.ensures in
     let inside : c.departure-departure.result.output < length c.departures.places.items =
-    at_port c.departures.invariant first c.requires.tables c.requires.captures c.requires.whole in
+    at_port c.departures.invariant first c.requires in
     omega (arith, c.departures.places.ok.0)
 
 pub take-requires-clause-can : goal.take-requires-clause-can
 take-requires-clause-can c =
     let first = first_unpacked c.departures.left c.pop_first.new.self c.in-Some.packed c.departure-departure.result
     c.in-Some.ensures c.departure-departure.ensures in
-    can_take c.departures.invariant first c.requires.tables c.requires.captures c.requires.whole
+    can_take c.departures.invariant first c.requires
     c.index_mut.result.now c.index_mut.ensures.value
 
 pub departures-smaller : goal.departures-smaller
@@ -36,7 +36,7 @@ pub departures-preserved : goal.departures-preserved
 departures-preserved c =
     let first = first_unpacked c.departures.left c.pop_first.new.self c.in-Some.packed c.departure-departure.result
     c.in-Some.ensures c.departure-departure.ensures in
-    one_more c.departures.invariant first c.requires.tables c.requires.captures c.requires.whole
+    one_more c.departures.invariant first c.requires
     c.index_mut.result.now c.index_mut.ensures.value
     c.take.new.self c.in_ok-take.ensures
 

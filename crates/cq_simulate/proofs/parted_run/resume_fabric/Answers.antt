@@ -11,24 +11,22 @@ use Rattle.cq_simulate.proofs.parted_run.resume_fabric.Goals as goal
 
 pub thaw-requires-clause-made : goal.thaw-requires-clause-made
 thaw-requires-clause-made g c =
-    can_be_made c.args.tables.now c.args.schedule.now.came c.in_ok-ports.ports c.requires.tables c.in_ok-ports.ensures
-    c.as_slice-3.ensures.value c.as_slice-4.ensures.value c.as_slice-5.ensures
+    can_be_made c.args.tables.now c.args.schedule.now.came c.in_ok-ports.ports c.requires.fit.tables
+    c.in_ok-ports.ensures c.as_slice-3.ensures.value c.as_slice-4.ensures.value c.as_slice-5.ensures
 
 pub thaw-requires-clause-goes_on : goal.thaw-requires-clause-goes_on
 thaw-requires-clause-goes_on g c =
-    can_thaw c.args.tables.now c.args.schedule.now c.args.taken.now c.in_ok-ports.ports c.in_ok-ports.ensures
-    c.requires.sound c.requires.traffic c.as_slice-3.ensures.value c.as_slice-4.ensures.value c.as_slice-5.ensures
+    can_thaw c.in_ok-ports.ensures c.requires.sound c.requires.fit c.as_slice-3.ensures.value c.as_slice-4.ensures.value
+    c.as_slice-5.ensures
 
 -- ## The run that goes on
 
 pub run_on-requires-clause-ready : goal.run_on-requires-clause-ready
 run_on-requires-clause-ready g c =
     let is = c.in_ok-engine.ensures in
-    λ _ _. runs_on c.args.tables.now c.args.schedule.now c.args.taken.now c.in_ok-ports.ports c.in_ok-ports.ensures
-    c.requires.sound c.requires.traffic c.in_ok-engine.engine c.in_ok-sent.sent c.in_ok-note.note
-    c.port_count-count.result c.total-total.result c.requires.tables c.requires.short c.port_count-count.ensures
-    c.total-total.ensures.cells c.total-total.ensures.few is.fixed is.frozen
-    (is.from_inputs ∙ c.as_slice-3.ensures.value) (is.to_outputs ∙ c.as_slice-4.ensures.value) is.stopped
+    λ _ _. runs_on c.in_ok-ports.ensures c.requires.sound c.requires.fit c.in_ok-engine.engine c.in_ok-sent.sent
+    c.in_ok-note.note c.port_count-count.ensures c.total-total.ensures.cells c.total-total.ensures.few is.fixed
+    is.frozen (is.from_inputs ∙ c.as_slice-3.ensures.value) (is.to_outputs ∙ c.as_slice-4.ensures.value) is.stopped
     c.in_ok-sent.ensures.spare c.in_ok-note.ensures.spare
 
 pub run_on-requires-clause-ports : goal.run_on-requires-clause-ports

@@ -1,7 +1,7 @@
 use Rattle.std.proofs.Common.{◌+◌, ◌-◌, false, ap, sym, ◌∙◌, arith}
 use Rattle.std.specs.Result.{is_err}
 use Rattle.std.proofs.lemmas.Result.{err_from_is_err_and}
-use Rattle.cq_simulate.proofs.FabricSteps.{CanRun, Stands, can_run_here, fault_here, next_here, part_begins, part_ends, part_rests, part_stands}
+use Rattle.cq_simulate.proofs.FabricSteps.{CanRun, Stands, can_run_here, fault_here, next_here, part_begins, part_ends, part_rests, part_stands, room_here}
 use Rattle.cq_simulate.proofs.parted_run.run_before.Given as given
 use Rattle.cq_simulate.proofs.parted_run.run_before.Goals as goal
 use Rattle.cq_simulate.proofs.parted_run.run_before.Goals.{After-arrivals-arrivals}
@@ -25,7 +25,7 @@ can : (g : given.Over) (c : After-arrivals-arrivals g) →
     c.skip_before-slot.new.engine c.slots.sent c.slots.note
 can g c =
     can_run_here (stands g c) c.arrivals-arrivals.result.now (c.arrivals-arrivals.ensures
-    ∙ c.skip_before-slot.ensures.came)
+    ∙ c.skip_before-slot.ensures.came) c.slots.sent (room_here (stands g c))
 
 -- ## The loop
 
@@ -56,15 +56,7 @@ slot-requires-clause-arrivals g c =
 
 pub slot-requires-clause-ready : goal.slot-requires-clause-ready
 slot-requires-clause-ready g c =
-    let here = can g (goal.at.slot-requires-clause-ready g c).After-arrivals-arrivals in
-    λ _ _. record {
-      list_room = here.list_room;
-      buffer_room = here.buffer_room;
-      refused = here.refused;
-      sent_room = here.sent_room;
-      note_room = here.note_room;
-      proposals = here.proposals;
-    }
+    λ _ _. (can g (goal.at.slot-requires-clause-ready g c).After-arrivals-arrivals).ready
 
 pub returns-in_err-slot-clause-fault : goal.returns-in_err-slot-clause-fault
 returns-in_err-slot-clause-fault g c =
@@ -96,10 +88,7 @@ slots-preserved g c =
             done = c.in_ok-slot.ensures.slot;
             running = c.slot.ensures.stopped ∙ ap is_err c.in_ok-slot.was;
             next = c.in_ok-slot.ensures.went_on.next;
-            fixed = c.slot.ensures.made.fixed;
-            limits = c.slot.ensures.made.limits;
-            from_inputs = c.slot.ensures.made.from_inputs;
-            to_outputs = c.slot.ensures.made.to_outputs;
+            made = c.slot.ensures.made;
           });
       before = omega arith;
     }
