@@ -22,7 +22,6 @@ use Rattle.cq_ideal.specs.IdealRun.{departures_of}
 use Rattle.cq_ideal.specs.IdealSlot.{IdealState, departures_in}
 use Rattle.cq_ideal.specs.LimitedIdeal.{LimitedRan, limited_run, nothing_came}
 use Rattle.cq_ideal.specs.OneSlot.{IsSameSwitch}
-use Rattle.cq_ideal.specs.Rest.{HasRested}
 use Rattle.cq_laws.proofs.QuietSlots.{no_departures}
 use Rattle.cq_rank.specs.Machine.{Machine}
 use Rattle.cq_ideal.proofs.Waiting.{waiting}
@@ -35,27 +34,6 @@ use Rattle.cq_traffic.proofs.ToOutputs.{come_for, for_here}
 pub nobody_departs : (n slot : ℕ) → departures_in slot (replicate n None) ≡ []
 unfolding departures_in
 nobody_departs n slot = no_departures n slot 0
-
--- no slot is skipped
-no_slots : (limits : List (Option ℕ)) (ms : List Machine) (k slot ports : ℕ) (s : Marked IdealState) → k ≡ 0 →
-    limited_run limits ms slot (replicate k no_arrivals) s ≡ Ok (nothing_came k ports s)
-unfolding limited_run
-no_slots limits ms zero slot ports s none = refl
-no_slots limits ms (suc k) slot ports s none = absurd (omega arith)
-
-pub no_rest : (ms : List Machine) (slot : ℕ) (now : IdealSwitch) → now.next ≡ slot → now.stopped ≡ false →
-    HasRested ms slot slot now now
-no_rest ms slot now next running = record {
-  slots = no_slots now.limits ms (slot - slot) slot (length now.fixed) (marked_state now) (omega arith);
-  next = next;
-  lists = refl;
-  fixed = refl;
-  limits = refl;
-  marks = refl;
-  refused = refl;
-  rooms = refl;
-  running = running;
-}
 
 -- fewer come in some slots than in those with the stretch before them
 fewer_come : (count : List (List (Option Cell)) → ℕ) (came : List Arrival) →
