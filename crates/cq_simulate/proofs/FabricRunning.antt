@@ -30,6 +30,7 @@ use Rattle.cq_ideal.proofs.Refusals.{one_slot_more}
 use Rattle.cq_ideal.proofs.Waiting.{counted, waiting, total}
 use Rattle.cq_ideal.specs.Admission.{Admission, Marked}
 use Rattle.cq_ideal.specs.Ending.{arriving_from}
+use Rattle.cq_ideal.specs.Ideal.{HaveLeft}
 use Rattle.cq_ideal.specs.IdealRun.{departures_of}
 use Rattle.cq_ideal.specs.IdealSlot.{IdealState, departures_in}
 use Rattle.cq_ideal.specs.LimitedIdeal.{LimitedSent}
@@ -115,6 +116,12 @@ made_on was is = record {
   from_inputs = is.from_inputs ∙ was.from_inputs;
   to_outputs = is.to_outputs ∙ was.to_outputs;
 }
+
+-- the slot was done, and what left in it, which stood in a list of its own, stands behind what was sent
+pub record Passed (ms : List Machine) (slot : ℕ) (cells : List (Option Cell)) (now after : EngineView)
+    (leaving left sent sent_new : RoomView Departure) (note note_new : RoomView Transfer) : Type 0 where
+  pub done : SlotDone ms slot cells now after leaving left note note_new
+  pub put : HaveLeft slot done.record_of.of_slot.gone sent sent_new
 
 -- ## Before the first slot
 
@@ -292,14 +299,16 @@ module _ (whole : Bool) (ms : List Machine) (came : List Arrival) (first : Engin
       Crossing whole ms came first first_sent first_note slot (suc n) now sent note →
       (whole ≡ true → end_of came ≤ slot → IsEmptyFabric now.fabric → ⊥) → ports_of first ≤ 64 →
       AreForPorts (ports_of first) classes (arriving came slot) →
-      SlotDone ms slot (arriving came slot) now after sent sent_new note note_new → after.stopped ≡ false →
+      {leaving left : RoomView Departure} →
+      Passed ms slot (arriving came slot) now after leaving left sent sent_new note note_new → after.stopped ≡ false →
       after.next ≡ slot + 1 → IsMadeAs now after →
       Crossing whole ms came first first_sent first_note (slot + 1) n after sent_new note_new
-  crossing_next slot n now sent note after sent_new note_new classes c more few for_ports done running next made =
+  crossing_next slot n now sent note after sent_new note_new classes c more few for_ports passed running next made =
       let cells = arriving came slot in
       let p = ports_of first in
       let f = marked_fabric now in
       let g = marked_fabric after in
+      let done = passed.done in
       let r = done.record_of in
       let gone = departures_in slot r.of_slot.gone in
       let admitted = r.admission.cells in
@@ -343,7 +352,7 @@ module _ (whole : Bool) (ms : List Machine) (came : List Arrival) (first : Engin
               (subst (λ (k : ℕ). LimitedFabricSlot IsInputBest first.limits ms k cells f r g) at step));
           departed =
               let seen = length-map c.records (λ (r : LimitedRecord). r.of_slot) in
-              done.departed
+              passed.put.items
               ∙ ap (λ (l : List Departure). l ++ gone) c.went.departed
               ∙ append_assoc first_sent.items (departures_of first.next (gone_in (slots_in c.records))) gone
               ∙ ap (λ (l : List Departure). first_sent.items ++ l)
@@ -391,7 +400,7 @@ module _ (whole : Bool) (ms : List Machine) (came : List Arrival) (first : Engin
             length (present admitted) = k.all in
             let same : length gone ≡ length (departures_in slot o.sent.gone) =
             ap (λ (l : List (Option Queued)). length (departures_in slot l)) o.gone in
-            let left : sent_new.spare + length gone ≡ sent.spare = done.departed_room in
+            let left : sent_new.spare + length gone ≡ sent.spare = passed.put.spare in
             omega arith;
         room =
             let had : at_inputs f.state p + come_count (arriving_from came slot (suc n)) + 2 * p ≤ note.spare =

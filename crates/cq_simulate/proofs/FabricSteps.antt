@@ -24,7 +24,7 @@ use Rattle.cq_prefs.specs.Pairing.{IsInputBest}
 use Rattle.cq_rank.specs.Machine.{Machine}
 use Rattle.cq_rank.specs.Switch.{class_count}
 use Rattle.cq_simulate.proofs.FabricCounts.{square_few}
-use Rattle.cq_simulate.proofs.FabricRunning.{Crossing, crossing_fault, crossing_first, crossing_left, crossing_next, crossing_over, over_by, over_by_is}
+use Rattle.cq_simulate.proofs.FabricRunning.{Crossing, Passed, crossing_fault, crossing_first, crossing_left, crossing_next, crossing_over, over_by, over_by_is}
 use Rattle.cq_simulate.proofs.Handed.{IsFree, few_left, free_again, left_with_all}
 use Rattle.cq_simulate.proofs.Steps.{ends_early}
 use Rattle.cq_simulate.proofs.FabricStretches.{crossing_rest, same_fabric}
@@ -89,26 +89,10 @@ module _ {ms : List Machine} {slot ports : ℕ} {cells : List (Option Cell)} {ol
         emptied.spare ≡ left.spare + length left.items → IsFree ports emptied
     again_free none room = free_again free left_here none room
 
-    pub handed : {sent sent_new : RoomView Departure} → sent_new.items ≡ sent.items ++ left.items →
-        sent_new.spare + length left.items ≡ sent.spare → HasHad ms slot cells old new sent sent_new note note_new
-    handed items spare =
-        let has = left_with_all free left_here items spare in
-        record {
-          done =
-              record {
-                record_of = had.done.record_of;
-                is_slot = had.done.is_slot;
-                departed = has.items;
-                departed_room = has.spare;
-                crossed = had.done.crossed;
-                crossed_room = had.done.crossed_room;
-                counted = had.done.counted;
-                refused = had.done.refused;
-              };
-          running = had.running;
-          next = had.next;
-          made = had.made;
-        }
+    pub taken_over : {sent sent_new : RoomView Departure} → sent_new.items ≡ sent.items ++ left.items →
+        sent_new.spare + length left.items ≡ sent.spare →
+        Passed ms slot cells old new leaving left sent sent_new note note_new
+    taken_over items spare = record { done = had.done; put = left_with_all free left_here items spare }
 
 -- all that an engine asks for a slot, where what leaves is put into this list
 pub record CanRun (M : List ℕ → Machine) (slot : ℕ) (cells : List (Option Cell)) (now : EngineView)
@@ -253,17 +237,19 @@ module _ (whole : Bool) (end : ℕ) (M : List ℕ → Machine) (came : List Arri
               };
         }
 
-    at_next : (cells : List (Option Cell)) (after : EngineView) (sent_new : RoomView Departure)
-        (note_new : RoomView Transfer) → cells ≡ arriving came slot → HasHad
-        (map M now.fixed) slot cells now after sent sent_new note note_new → Before (slot + 1) after sent_new note_new
+    at_next : (cells : List (Option Cell)) (after : EngineView) (leaving leaving_new sent_new : RoomView Departure)
+        (note_new : RoomView Transfer) → cells ≡ arriving came slot →
+        HasHad (map M now.fixed) slot cells now after leaving leaving_new note note_new →
+        Passed (map M now.fixed) slot cells now after leaving leaving_new sent sent_new note note_new →
+        Before (slot + 1) after sent_new note_new
     unfolding left
-    at_next cells after sent_new note_new are had =
+    at_next cells after leaving leaving_new sent_new note_new are had passed =
         crossing_next whole (map M first.fixed) came first first_sent first_note slot left now sent note after sent_new
         note_new (class_count (map M first.fixed)) b_next more ready.ports for_ports
-        (subst (λ (fixed : List (List ℕ)). SlotDone (map M fixed) slot (arriving came slot) now after sent sent_new
-        note note_new) b.made.fixed
-        (subst (λ (cells : List (Option Cell)). SlotDone (map M now.fixed) slot cells now after sent sent_new note
-        note_new) are had.done))
+        (subst (λ (fixed : List (List ℕ)). Passed (map M fixed) slot (arriving came slot) now after leaving leaving_new
+        sent sent_new note note_new) b.made.fixed
+        (subst (λ (cells : List (Option Cell)). Passed (map M now.fixed) slot cells now after leaving leaving_new sent
+        sent_new note note_new) are passed))
         had.running had.next had.made
 
     at_fault : (cells : List (Option Cell)) (fault : TagFault) (j count : ℕ) → slot + suc j ≡ first.next + count →
@@ -375,14 +361,15 @@ module _ {whole : Bool} {end : ℕ} {M : List ℕ → Machine} {came : List Arri
       here.more here.some
 
   -- once it is run, the run stands at the next one
-  pub next_here : (cells : List (Option Cell)) (after : EngineView) (sent_new : RoomView Departure)
-      (note_new : RoomView Transfer) → cells ≡ arriving came slot →
-      HasHad (map M now.fixed) slot cells now after sent sent_new note note_new →
+  pub next_here : (cells : List (Option Cell)) (after : EngineView) {leaving left : RoomView Departure}
+      (sent_new : RoomView Departure) (note_new : RoomView Transfer) → cells ≡ arriving came slot →
+      HasHad (map M now.fixed) slot cells now after leaving left note note_new →
+      Passed (map M now.fixed) slot cells now after leaving left sent sent_new note note_new →
       Crossing whole (map M first.fixed) came first first_sent first_note (slot + 1) (end - (slot + 1)) after sent_new
       note_new
-  next_here =
+  next_here cells after {leaving} {left} =
       at_next whole end M came first first_sent first_note here.ready here.few slot now sent note here.crossing
-      here.more here.some
+      here.more here.some cells after leaving left
 
   -- and a tag fault of the slot is one at which the run stops
   pub fault_here : (cells : List (Option Cell)) (fault : TagFault) (j count : ℕ) → slot + suc j ≡ first.next + count →

@@ -21,7 +21,7 @@ use Rattle.cq_laws.specs.Quiet.{idled, quiet_slot}
 use Rattle.cq_laws.specs.Records.{transfers_in}
 use Rattle.cq_prefs.specs.Pairing.{IsInputBest}
 use Rattle.cq_rank.specs.Machine.{Machine}
-use Rattle.cq_simulate.proofs.FabricRunning.{Crossing, crossing_next}
+use Rattle.cq_simulate.proofs.FabricRunning.{Crossing, Passed, crossing_next}
 use Rattle.cq_simulate.proofs.Stretches.{nobody_departs}
 
 pub same_fabric : (limits : List (Option ℕ)) (ms : List Machine) (k slot ports : ℕ) (ranks : List (List ℕ))
@@ -105,8 +105,9 @@ crossing_rest whole ms came first first_sent sent first_note note ports classes 
     crossing_next whole ms came first first_sent first_note slot m now sent note middle sent note classes c
     (λ is le empty. let some = more is (omega arith) in omega arith) few
     (for_ports slot)
-    (subst (λ (cells : List (Option Cell)). SlotDone ms slot cells now middle sent sent note note)
-    (sym quiet_here) done)
+    (subst (λ (cells : List (Option Cell)). Passed ms slot cells now middle sent sent sent sent note note)
+    (sym quiet_here)
+    (record { done = done; put = record { items = done.departed; spare = done.departed_room } }))
     refl refl (record { fixed = refl; limits = refl; from_inputs = refl; to_outputs = refl }) in
     let at : slot + 1 + k ≡ slot + suc k = omega arith in
     subst (λ (s : ℕ). Crossing whole ms came first first_sent first_note s n after sent note) at

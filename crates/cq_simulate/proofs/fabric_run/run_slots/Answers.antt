@@ -4,7 +4,7 @@ use Rattle.std.proofs.lemmas.Result.{err_from_is_err_and}
 use Rattle.cq_base.specs.Arriving.{end_of}
 use Rattle.cq_laws.specs.Fabric.{IsEmptyFabric}
 use Rattle.cq_simulate.proofs.FabricRunning.{over_by}
-use Rattle.cq_simulate.proofs.FabricSteps.{CanRun, HasHad, Stands, again_free, can_run_here, can_take_over, fault_here, goes_on, handed, next_here, places_here, run_begins, run_ends, run_stands}
+use Rattle.cq_simulate.proofs.FabricSteps.{CanRun, HasHad, Stands, again_free, can_run_here, can_take_over, fault_here, goes_on, next_here, places_here, run_begins, run_ends, run_stands, taken_over}
 use Rattle.cq_simulate.proofs.fabric_run.run_slots.Given as given
 use Rattle.cq_simulate.proofs.fabric_run.run_slots.Goals as goal
 use Rattle.cq_simulate.proofs.fabric_run.run_slots.Goals.{After-arrivals, In_ok-slot}
@@ -101,8 +101,9 @@ slots-preserved g c =
     record {
       runs =
           next_here (stands g at.After-arrivals) c.arrivals.result.now c.slot.new.self c.take_all.new.self
-          c.slot.new.note (c.arrivals.ensures ∙ c.skip-slot.ensures.came)
-          (handed c.slots.invariant.leaves (had g at.In_ok-slot) c.take_all.ensures.items c.take_all.ensures.spare);
+          c.slot.new.note (c.arrivals.ensures ∙ c.skip-slot.ensures.came) (had g at.In_ok-slot)
+          (taken_over c.slots.invariant.leaves (had g at.In_ok-slot) c.take_all.ensures.items
+          c.take_all.ensures.spare);
       leaves =
           again_free c.slots.invariant.leaves (had g at.In_ok-slot) c.take_all.ensures.none_left
           c.take_all.ensures.room;

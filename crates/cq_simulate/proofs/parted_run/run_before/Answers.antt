@@ -89,6 +89,14 @@ slots-preserved g c =
             running = c.slot.ensures.stopped ∙ ap is_err c.in_ok-slot.was;
             next = c.in_ok-slot.ensures.went_on.next;
             made = c.slot.ensures.made;
+          })
+          (record {
+            done = c.in_ok-slot.ensures.slot;
+            put =
+                record {
+                  items = c.in_ok-slot.ensures.slot.departed;
+                  spare = c.in_ok-slot.ensures.slot.departed_room;
+                };
           });
       before = omega arith;
     }
