@@ -85,9 +85,9 @@ module _ {ms : List Machine} {slot ports : ℕ} {cells : List (Option Cell)} {ol
     few_leave : length left.items ≤ ports
     few_leave = few_left free left_here
 
-    pub again_free : {emptied : RoomView Departure} → emptied.items ≡ [] →
-        emptied.spare ≡ left.spare + length left.items → IsFree ports emptied
-    again_free none room = free_again free left_here none room
+    pub emptied : {after : RoomView Departure} → after.items ≡ [] → after.spare ≡ left.spare + length left.items →
+        IsFree ports after
+    emptied none room = free_again free left_here none room
 
     pub taken_over : {sent sent_new : RoomView Departure} → sent_new.items ≡ sent.items ++ left.items →
         sent_new.spare + length left.items ≡ sent.spare →

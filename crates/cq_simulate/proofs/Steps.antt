@@ -88,9 +88,9 @@ module _ {ms : List Machine} {slot ports : ℕ} {cells : List (Option Cell)} {ol
     few_leave : length left.items ≤ ports
     few_leave = few_left free left_here.1
 
-    pub again_free : {emptied : RoomView Departure} → emptied.items ≡ [] →
-        emptied.spare ≡ left.spare + length left.items → IsFree ports emptied
-    again_free none room = free_again free left_here.1 none room
+    pub emptied : {after : RoomView Departure} → after.items ≡ [] → after.spare ≡ left.spare + length left.items →
+        IsFree ports after
+    emptied none room = free_again free left_here.1 none room
 
     pub handed : {sent sent_new : RoomView Departure} → sent_new.items ≡ sent.items ++ left.items →
         sent_new.spare + length left.items ≡ sent.spare → HasHad ms slot cells old new sent sent_new

@@ -4,7 +4,7 @@ use Rattle.std.proofs.lemmas.Result.{err_from_is_err_and}
 use Rattle.cq_base.specs.Arriving.{end_of}
 use Rattle.cq_laws.specs.Fabric.{IsEmptyFabric}
 use Rattle.cq_simulate.proofs.FabricRunning.{over_by}
-use Rattle.cq_simulate.proofs.FabricSteps.{CanRun, HasHad, Stands, again_free, can_run_here, can_take_over, fault_here, goes_on, next_here, places_here, run_begins, run_ends, run_stands, taken_over}
+use Rattle.cq_simulate.proofs.FabricSteps.{CanRun, HasHad, Stands, can_run_here, can_take_over, emptied, fault_here, goes_on, next_here, places_here, run_begins, run_ends, run_stands, taken_over}
 use Rattle.cq_simulate.proofs.fabric_run.run_slots.Given as given
 use Rattle.cq_simulate.proofs.fabric_run.run_slots.Goals as goal
 use Rattle.cq_simulate.proofs.fabric_run.run_slots.Goals.{After-arrivals, In_ok-slot}
@@ -29,7 +29,7 @@ can : (g : given.Over) (c : After-arrivals g) →
     c.slots.note
 can g c =
     can_run_here (stands g c) c.arrivals.result.now (c.arrivals.ensures ∙ c.skip-slot.ensures.came) c.slots.leaving
-    (places_here (stands g c) c.slots.invariant.leaves)
+    (places_here (stands g c) c.slots.invariant.free)
 
 -- what the engine says of the slot
 had : (g : given.Over) (c : In_ok-slot g) →
@@ -50,7 +50,7 @@ slots-init g c =
     rw c.next-slot.ensures
     (record {
       runs = run_begins g.R.Rank.machine c.requires.ready;
-      leaves = record { none = c.requires.none; few = c.requires.few };
+      free = record { none = c.requires.none; few = c.requires.few };
     })
 
 pub slot-requires-clause-early : goal.slot-requires-clause-early
@@ -93,7 +93,7 @@ slots-smaller g c =
 pub take_all-requires : goal.take_all-requires
 take_all-requires g c =
     let at = goal.at.take_all-requires g c in
-    can_take_over (stands g at.After-arrivals) c.slots.invariant.leaves (had g at.In_ok-slot)
+    can_take_over (stands g at.After-arrivals) c.slots.invariant.free (had g at.In_ok-slot)
 
 pub slots-preserved : goal.slots-preserved
 slots-preserved g c =
@@ -102,11 +102,9 @@ slots-preserved g c =
       runs =
           next_here (stands g at.After-arrivals) c.arrivals.result.now c.slot.new.self c.take_all.new.self
           c.slot.new.note (c.arrivals.ensures ∙ c.skip-slot.ensures.came) (had g at.In_ok-slot)
-          (taken_over c.slots.invariant.leaves (had g at.In_ok-slot) c.take_all.ensures.items
+          (taken_over c.slots.invariant.free (had g at.In_ok-slot) c.take_all.ensures.items
           c.take_all.ensures.spare);
-      leaves =
-          again_free c.slots.invariant.leaves (had g at.In_ok-slot) c.take_all.ensures.none_left
-          c.take_all.ensures.room;
+      free = emptied c.slots.invariant.free (had g at.In_ok-slot) c.take_all.ensures.none_left c.take_all.ensures.room;
     }
 
 pub returns-clause-run : goal.returns-clause-run

@@ -7,7 +7,7 @@ abbrev pub invariant-slots : goal.invariant-slots
 invariant-slots g l = record {
   runs : Crossing true (map g.R.Rank.machine l.initial.engine.fixed) l.schedule.came l.initial.engine l.initial.sent
       l.initial.note l.slot (over_by l.schedule.came l.initial.engine.next - l.slot) l.engine l.sent l.note;
-  leaves : IsFree (length l.initial.engine.fixed) l.leaving;
+  free : IsFree (length l.initial.engine.fixed) l.leaving;
 }
 
 abbrev pub decreases-slots : goal.decreases-slots

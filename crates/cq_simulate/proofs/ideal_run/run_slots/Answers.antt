@@ -3,7 +3,7 @@ use Rattle.std.specs.Result.{is_err}
 use Rattle.std.proofs.lemmas.Result.{err_from_is_err_and}
 use Rattle.cq_base.specs.Arriving.{end_of}
 use Rattle.cq_ideal.proofs.Waiting.{waiting}
-use Rattle.cq_simulate.proofs.Steps.{Before, HasHad, a_slot_left, again_free, at_end, at_fault, at_first, at_next, at_rest, can_have, can_take_over, early_at_end, handed, more_at_rest, not_over}
+use Rattle.cq_simulate.proofs.Steps.{Before, HasHad, a_slot_left, at_end, at_fault, at_first, at_next, at_rest, can_have, can_take_over, early_at_end, emptied, handed, more_at_rest, not_over}
 use Rattle.cq_simulate.proofs.ideal_run.run_slots.Given as given
 use Rattle.cq_simulate.proofs.ideal_run.run_slots.Goals as goal
 use Rattle.cq_simulate.proofs.ideal_run.run_slots.Goals.{After-arrivals, In_ok-slot}
@@ -45,14 +45,14 @@ pub slots-init : goal.slots-init
 slots-init g c =
     record {
       runs = at_first g.R.Rank.machine c.requires.ready;
-      leaves = record { none = c.requires.none; few = c.requires.few };
+      free = record { none = c.requires.none; few = c.requires.few };
     }
 
 pub slot-requires : goal.slot-requires
 slot-requires g c =
     let at = (goal.at.slot-requires g c).After-arrivals in
     can_have g.R.Rank.machine c.requires.ready (stands g at) (going g at) (c.arrivals.ensures
-    ∙ c.skip-slot.ensures.came) c.slots.invariant.leaves
+    ∙ c.skip-slot.ensures.came) c.slots.invariant.free
 
 pub returns-in_err-slot-clause-fault : goal.returns-in_err-slot-clause-fault
 returns-in_err-slot-clause-fault g c =
@@ -74,7 +74,7 @@ pub take_all-requires : goal.take_all-requires
 take_all-requires g c =
     let at = goal.at.take_all-requires g c in
     can_take_over g.R.Rank.machine c.requires.ready (stands g at.After-arrivals) (going g at.After-arrivals)
-    c.slots.invariant.leaves (had g at.In_ok-slot)
+    c.slots.invariant.free (had g at.In_ok-slot)
 
 pub slots-preserved : goal.slots-preserved
 slots-preserved g c =
@@ -84,10 +84,8 @@ slots-preserved g c =
           at_next g.R.Rank.machine c.requires.ready (stands g at.After-arrivals)
           (going g at.After-arrivals) c.arrivals.result.now c.slot.new.self c.take_all.new.self
           (c.arrivals.ensures ∙ c.skip-slot.ensures.came)
-          (handed c.slots.invariant.leaves (had g at.In_ok-slot) c.take_all.ensures.items c.take_all.ensures.spare);
-      leaves =
-          again_free c.slots.invariant.leaves (had g at.In_ok-slot) c.take_all.ensures.none_left
-          c.take_all.ensures.room;
+          (handed c.slots.invariant.free (had g at.In_ok-slot) c.take_all.ensures.items c.take_all.ensures.spare);
+      free = emptied c.slots.invariant.free (had g at.In_ok-slot) c.take_all.ensures.none_left c.take_all.ensures.room;
     }
 
 pub returns-clause-sent : goal.returns-clause-sent

@@ -8,7 +8,7 @@ abbrev pub invariant-slots : goal.invariant-slots
 invariant-slots g l = record {
   runs : Running (map g.R.Rank.machine l.initial.ideal.fixed) l.schedule.came l.initial.ideal l.initial.sent l.slot
       (enough l.schedule.came - l.slot) l.ideal l.sent;
-  leaves : IsFree (length l.initial.ideal.fixed) l.leaving;
+  free : IsFree (length l.initial.ideal.fixed) l.leaving;
 }
 
 abbrev pub decreases-slots : goal.decreases-slots
