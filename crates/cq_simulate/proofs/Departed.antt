@@ -174,7 +174,7 @@ module _ {t : Tables} {captures : List (List Captured)} {sent : List Departure} 
   pub departed_captured : IsCaptured captures (get_or sent k e).queued.cell
   departed_captured =
       departed t captures sent of_run.whole k e inside (IsCaptured captures)
-      (all_captured t captures (let b = of_run.tables.cell_bytes in omega arith))
+      (all_captured t captures (omega arith))
 
   pub departed_class : (get_or sent k e).queued.cell.class < length t.setup.classes
   departed_class =

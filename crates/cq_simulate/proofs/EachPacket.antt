@@ -82,7 +82,6 @@ module _ (t : Tables) (captures : List (List Captured)) (tables : AreTables t)
     unfolding ran_ideal
     packets_of_ran =
         let ports : ℕ = ports_of t.setup in
-        let most = tables.setup.ports in
         let runs = runnable t.setup came tables.setup (traffic_is t captures tables many) in
         let packets : (input : ℕ) → input < 64 → AreOfPackets 0 (came_at input came) =
         λ input inside.

@@ -178,7 +178,6 @@ module _ {t : Tables} {s : Scheduled} {first : EngineView} {sent : RoomView Depa
       let fresh = made.fresh in
       let is = fresh.fresh in
       let n = ports_of t.setup in
-      let at_most = made.fit.tables.setup.ports in
       let many : length first.fixed ≡ n = port_count fresh in
       let known : class_count (map machine_from first.fixed) ≡ classes_of t.setup =
       ap class_count fresh.machines ∙ fresh.classes in
@@ -201,9 +200,9 @@ module _ {t : Tables} {s : Scheduled} {first : EngineView} {sent : RoomView Depa
         refused = ap (λ (e : EngineView). e.refused) is
             ∙ ap (λ (l : List (Option ℕ)). refused_counts l []) (sym (limits_are fresh));
         nothing_sent = made.nothing_sent;
-        sent_room = let room = made.sent_room in omega arith;
+        sent_room = omega arith;
         nothing_noted = made.nothing_noted;
-        note_room = let room = made.note_room in omega arith;
+        note_room = omega arith;
       }
 
   -- as an engine can that goes on

@@ -186,7 +186,6 @@ crossing_first whole ms came first sent note n ready slots =
     let come = come_few first.next n came in
     let wait : waiting (ideal_of first.fabric).lists ≡ sum (fabric_held first.fabric) =
     all_wait first.next first.fabric (ideal_of first.fabric) (agrees_of first.next first.fabric ready.sound) in
-    let cells = ready.cells in
     record {
       ideal = ideal_at first;
       agrees = begins first ready.sound;
@@ -208,9 +207,8 @@ crossing_first whole ms came first sent note n ready slots =
       };
       lists = λ i inside. let had = ready.lists i inside in let from = from_few i first.next n came in omega arith;
       buffers = λ j inside. let had = ready.buffers j inside in let to = for_few j first.next n came in omega arith;
-      spare = let had = ready.sent_room in omega arith;
+      spare = omega arith;
       room =
-          let had = ready.note_room in
           let at = all_at_inputs first.fabric p ready.inputs in
           omega arith;
       proposed = omega arith;
@@ -285,7 +283,6 @@ module _ (whole : Bool) (ms : List Machine) (came : List Arrival) (first : Engin
       (λ (before : m < length c.records). c.going is m f before run late empty)
       (λ (now_or_later : length c.records ≤ m).
       let at : m ≡ length c.records = omega arith in
-      let long = c.long in
       let all : take m c.records ≡ c.records = take_all m c.records now_or_later in
       let here : Ran (length c.records) c.records f =
       subst (λ (k : ℕ). Ran k c.records f) at (subst (λ (l : List LimitedRecord). Ran m l f) all run) in

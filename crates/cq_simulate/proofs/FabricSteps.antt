@@ -192,10 +192,10 @@ module _ (whole : Bool) (end : ℕ) (M : List ℕ → Machine) (came : List Arri
         omega arith
 
     sent_room : length now.fixed ≤ sent.spare
-    sent_room = let spare = b.spare in let ports = same_ports in omega arith
+    sent_room = let ports = same_ports in omega arith
 
     note_room : 2 * length now.fixed ≤ note.spare
-    note_room = let room = b.room in let ports = same_ports in omega arith
+    note_room = let ports = same_ports in omega arith
 
     proposals_fit : now.figures.proposals + 2 * (length now.fixed * length now.fixed) < 2 ^ 64
     proposals_fit =
@@ -204,14 +204,12 @@ module _ (whole : Bool) (end : ℕ) (M : List ℕ → Machine) (came : List Arri
         let square = square_few (length now.fixed) (omega arith) in
         let cells : length came ≤ 2 ^ 34 = ready.few in
         let before : first.figures.proposals < 2 ^ 63 = ready.proposals in
-        let proposed = b.proposed in
         omega arith
 
     can_refuse : CanCount (ports_of now) now.refused
     can_refuse =
         let most : ports_of first ≤ 64 = ready.ports in
         let lost = refused_in (admissions_in b.records) in
-        let many = b.many in
         let room : CanCount (ports_of first + length lost) first.refused = λ k d inside.
         let packets = (ready.refused k d inside).0 in
         let cells = (ready.refused k d inside).1 in
@@ -442,7 +440,7 @@ module _ (M : List ℕ → Machine) {came : List Arrival} {last : ℕ} {first : 
       Crossing false (map M first.fixed) came first first_sent first_note slot (last - slot) now sent note
 
   few_slots : last ≤ 2 ^ 63 + 2 ^ 36
-  few_slots = let early = ready.early in omega arith
+  few_slots = omega arith
 
   pub part_begins : Parts first.next first first_sent first_note
   part_begins =

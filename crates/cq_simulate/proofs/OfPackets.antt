@@ -69,7 +69,6 @@ pub of_packets : (t : Tables) (captures : List (List Captured)) (input : ℕ) �
     length captures ≡ ports_of t.setup → input < length captures →
     AreOfPackets 0 (cells_at input (traffic_of (arrivals t captures)))
 of_packets t captures input tables as_many inside =
-    let ports = tables.setup.ports in
     let rise = later_rise (arrivals t captures) (traffic_is t captures tables as_many).one_by_one in
     let few : input < 64 = omega arith in
     subst (AreOfPackets 0)

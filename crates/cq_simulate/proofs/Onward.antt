@@ -120,8 +120,6 @@ module _ (ms : List Machine) (came : List Arrival) (first : EngineView) (first_s
             × (r.cells + length (to_come first.next came) < 2 ^ 63)) counts) (sym ready.refused)
             (λ k d inside.
             let had = zero_fits (length (to_come first.next came) + 2 ^ 63) first.limits (omega arith) k d inside in
-            let packets = had.0 in
-            let cells = had.1 in
             (omega arith, omega arith));
       }
 
@@ -130,7 +128,6 @@ module _ (ms : List Machine) (came : List Arrival) (first : EngineView) (first_s
   has_run last sent note has =
       let next : first.next ≡ 0 = ready.next in
       let rs = has.records in
-      let late = has.all_came in
       let lost = refused_in (admissions_in rs) in
       record {
         records = rs;

@@ -95,7 +95,6 @@ module _ (M : List ℕ → Machine) (t : Tables) (ports : ℕ) (fixed states : L
       sent.spare ≡ length came + ports → IsReady (map M first.fixed) came first sent
   ready came sent setup classes rooms_are traffic short nothing spare =
       let count : length first.fixed ≡ length t.setup.kinds = machine_count M first.fixed t.setup made.machines in
-      let few = setup.ports in
       let kinds : ports ≡ length t.setup.kinds = made.many in
       let f : ℕ → ℕ = λ j. number_of (is_to j) came in
       let room : first.rooms ≡ map f (range_with_len 0 ports) = ap (λ (v : IdealSwitch). v.rooms) is ∙ rooms_are in

@@ -52,7 +52,6 @@ module _ (t : Tables) (s : Scheduled) {first : EngineView} {first_sent : RoomVie
       let begins = ready made in
       let next : first.next ≡ 0 = begins.next in
       let rs = has.records in
-      let reached = has.reached in
       let long : length rs ≡ slots = omega arith in
       let lost = refused_in (admissions_in rs) in
       let sent_is =

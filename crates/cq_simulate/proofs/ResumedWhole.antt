@@ -272,7 +272,6 @@ module _ (t : Tables) (captures : List (List Captured)) (are : AreTables t) (man
     -- all its cells are those of packets
     line_packets : AreOfPackets 0 (cells_of line)
     line_packets =
-        let most = are.setup.ports in
         ⊎_elim
         (λ (inside : i < ports).
         subst (AreOfPackets 0) (come_in_order i (let few : i < 64 = omega arith in few) came runs.rise)
@@ -291,7 +290,6 @@ module _ (t : Tables) (captures : List (List Captured)) (are : AreTables t) (man
     -- those that come from the slot on
     slots_are : cells_at i slots ≡ cells_of late
     slots_are =
-        let most = are.setup.ports in
         ⊎_elim
         (λ (inside : i < ports).
         comes_from i (let few : i < 64 = omega arith in few) came next (length rs) runs.rise runs_on.all_came)

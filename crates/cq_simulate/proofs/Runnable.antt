@@ -73,7 +73,6 @@ pub runnable : (setup : Setup) (came : List Arrival) → IsSetup setup →
     IsTraffic (ports_of setup) (classes_of setup) came →
     IsRunnable (machines_of setup) (ports_of setup) (openings_of setup) came
 runnable setup came is traffic =
-    let few = is.ports in
     record {
       machines = λ j inside. keeps_laws setup j inside;
       ports_are = length-map setup.kinds (λ (k : Kind). opening_of k setup.classes);
@@ -81,9 +80,9 @@ runnable setup came is traffic =
       for_switch = all_from (IsInRange (ports_of setup) (classes_of setup))
           (IsForSwitch (machines_of setup) (ports_of setup))
           (λ a r. record {
-            input = let i = r.input in omega arith;
+            input = omega arith;
             output = r.output;
-            class = let c = r.class in let e = right_classes setup a.cell.output r.output in omega arith;
+            class = let e = right_classes setup a.cell.output r.output in omega arith;
           }) came traffic.in_range;
       rise = later_rise came traffic.one_by_one;
     }

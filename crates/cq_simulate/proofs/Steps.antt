@@ -186,7 +186,6 @@ module _ (M : List ℕ → Machine) {came : List Arrival} {first : IdealSwitch} 
         length left.items ≤ sent.spare
     can_take_over free had =
         let few = few_leave free had in
-        let spare = r.spare in
         omega arith
 
     as_now : (cells : List (Option Cell)) → cells ≡ arriving came slot →

@@ -281,8 +281,6 @@ module _ (w : Switch) where
             let lost =
             All-from_recursion (λ (r : Refused). (r.packets ≤ length w.came) × (r.cells ≤ length w.came)) engine.refused
             goes.lost k d inside in
-            let packets = lost.0 in
-            let cells = lost.1 in
             (omega arith, omega arith);
       }
 
@@ -310,7 +308,6 @@ module _ {t : Tables} {s : Scheduled} {taken : Taken} {p : Ports} (are : ArePort
       engine.to_outputs ≡ p.to_outputs.items → engine.stopped ≡ false → sent.spare ≡ total + count →
       note.spare ≡ total + 2 * count → IsReadyOn (map machine_from engine.fixed) s.came engine sent note
   runs_on engine sent note counted all few fixed frozen from to running sent_room note_room =
-      let at_most = fit.tables.setup.ports in
       let many : length (machines_of t.setup) ≡ ports_of t.setup = machines_many t in
       ready_from (switch_of t s) machine_from engine sent note
       (subst (GoesOn (switch_of t s)) (sym frozen) (goes_of t s taken sound fit.traffic))

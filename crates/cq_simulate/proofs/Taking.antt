@@ -107,7 +107,7 @@ module _ (t : Tables) (captures : List (List Captured)) (sent : List Departure) 
         ap (λ (l : List Departure). take k sent ++ l) (sym (drop_more sent k e inside)) ∙ take-append-drop k sent in
         let l = of_run.whole i in
         subst (λ (o : Option Open). Fits captures o d.queued.cell) (sym (so_far.open_packets i c few))
-        (flow_fits t captures i (let b = of_run.tables.cell_bytes in omega arith) c output l.is_taken
+        (flow_fits t captures i (omega arith) c output l.is_taken
         (left_in_flow i c output (take k sent)) d.queued.cell (left_in_flow i c output (drop (k + 1) sent))
         (sym (l.left c output)
         ∙ ap (left_in_flow i c output) (sym parts)
@@ -143,7 +143,6 @@ module _ (t : Tables) (captures : List (List Captured)) (sent : List Departure) 
           leaves_in_flow i c output (get_or sent k e) ≡ false → open_at joiner_new i c ≡ opened captures None
           (left_in_flow i c output (take (k + 1) sent))
       of_others i c few other away =
-          let same = so_far.classes in
           others i c (omega arith) other ∙ so_far.open_packets i c few
           ∙ ap (opened captures None) (sym (same_flow i c away))
 

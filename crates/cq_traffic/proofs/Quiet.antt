@@ -78,7 +78,6 @@ pub before_both : (came : List Arrival) (slot last n : ℕ) (next : Option ℕ) 
 before_both came slot last n None all le is =
     record { late = omega arith; within = omega arith; no_later = omega arith }
 before_both came slot last n (Some next) at le is =
-    let late = at.late in
     record { late = omega arith; within = omega arith; no_later = omega arith }
 
 -- ## What comes in a stretch

@@ -69,7 +69,6 @@ pub returns-in_err-slot-clause-fault : goal.returns-in_err-slot-clause-fault
 returns-in_err-slot-clause-fault g c =
     let here = stands g (goal.at.returns-in_err-slot-clause-fault g c).After-arrivals in
     let p = err_from_is_err_and c.from_residual.result c.from_residual.ensures.1 in
-    let long = here.crossing.long in
     let count = c.skip-slot.result + 1 - c.args.engine.now.next in
     rw (p.1, p.2)
     (record {

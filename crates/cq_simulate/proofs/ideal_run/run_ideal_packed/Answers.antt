@@ -20,7 +20,6 @@ overflow_add-total c =
     let count : length (map fixed_of items) ≡ length c.args.tables.now.setup.kinds =
     machine_count machine_from (map fixed_of items) c.args.tables.now.setup c.in_ok-ranks.ensures.machines in
     let same : length (map fixed_of items) ≡ length items = length-map items fixed_of in
-    let few = c.requires.tables.setup.ports in
     let cells = few_cells c.args.schedule.now.came in
     omega (arith, c.requires.short, c.total.ensures.cells, c.len-ports.ensures)
 
@@ -61,7 +60,6 @@ pub run_slots-requires-clause-ready : goal.run_slots-requires-clause-ready
 run_slots-requires-clause-ready c =
     let items = c.in_ok-ranks.ranks.items in
     let t = c.args.tables.now in
-    let some = c.requires.tables.setup.ports in
     let len : c.len-ports.result ≡ length items = omega (arith, c.len-ports.ensures, c.in_ok-ranks.ranks.ok) in
     let f : ℕ → ℕ = λ j. number_of (is_to j) c.args.schedule.now.came in
     ready machine_from t (length items) (map fixed_of items) (map state_of items) c.as_slice-2.result.now

@@ -12,21 +12,11 @@ one_more {X} xs i x now more so_far is inside read =
 
 pub places-init : goal.places-init
 places-init g c =
-    let spare = c.in_ok-room.ensures.spare in
-    record { items = c.in_ok-room.ensures.items; spare = omega arith }
-
-pub push-requires : goal.push-requires
-push-requires g c =
-    let inside = c.places-test.true in
-    let spare = c.places.invariant.spare in
-    omega arith
+    record { items = c.in_ok-room.ensures.items; spare = omega (arith, c.in_ok-room.ensures.spare) }
 
 pub places-preserved : goal.places-preserved
 places-preserved g c =
-    let test = c.places-test.true in
     let inside : c.places.at < length c.args.items.now = omega arith in
-    let spare = c.places.invariant.spare in
-    let left = c.push.ensures.spare in
     record {
       items =
           one_more c.args.items.now c.places.at c.index-items-at.result c.places.room.items c.push.new.self.items
@@ -36,12 +26,4 @@ places-preserved g c =
 
 pub returns-clause-items : goal.returns-clause-items
 returns-clause-items g c =
-    let past = c.places-test.false in
     c.places.invariant.items ∙ take_all c.places.at c.args.items.now (omega arith)
-
-pub returns-clause-spare : goal.returns-clause-spare
-returns-clause-spare g c =
-    let past = c.places-test.false in
-    let end = c.places.auto.at-end in
-    let spare = c.places.invariant.spare in
-    omega arith

@@ -5,8 +5,7 @@ use Rattle.cq_simulate.proofs.parted_run.packed_holding.Goals as goal
 pub take_all-requires : goal.take_all-requires
 take_all-requires c =
     let many = ap (λ (l : List Departure). length l) c.in_ok-room.ensures.items in
-    let room = c.in_ok-departures.ensures.spare in
-    omega arith
+    omega (arith, c.in_ok-departures.ensures.spare)
 
 pub returns-clause-items : goal.returns-clause-items
 returns-clause-items c =
@@ -17,6 +16,4 @@ returns-clause-items c =
 pub returns-clause-spare : goal.returns-clause-spare
 returns-clause-spare c =
     let many = ap (λ (l : List Departure). length l) c.in_ok-room.ensures.items in
-    let room = c.in_ok-departures.ensures.spare in
-    let taken = c.take_all.ensures.spare in
-    omega arith
+    omega (arith, c.in_ok-departures.ensures.spare)

@@ -62,8 +62,6 @@ pub returns-in_err-slot-clause-fault : goal.returns-in_err-slot-clause-fault
 returns-in_err-slot-clause-fault g c =
     let here = stands g (goal.at.returns-in_err-slot-clause-fault g c).After-arrivals-arrivals in
     let p = err_from_is_err_and c.from_residual.result c.from_residual.ensures.1 in
-    let starts = c.requires.ready.next in
-    let left = c.if-slot-last.false in
     let last = c.args.last in
     rw (p.1, p.2)
     (fault_here here c.arrivals-arrivals.result.now c.in_err-slot.field-0.0 (last - (c.skip_before-slot.result + 1))
@@ -71,14 +69,10 @@ returns-in_err-slot-clause-fault g c =
     (sym c.in_err-slot.was ∙ c.slot.ensures.answer))
 
 pub slots-smaller : goal.slots-smaller
-slots-smaller g c =
-    let late = c.skip_before-slot.ensures.late in
-    let left = c.if-slot-last.false in
-    omega arith
+slots-smaller g c = omega arith
 
 pub slots-preserved : goal.slots-preserved
 slots-preserved g c =
-    let left = c.if-slot-last.false in
     record {
       crossing =
           next_here (stands g (goal.at.slots-preserved g c).After-arrivals-arrivals)
@@ -104,8 +98,6 @@ slots-preserved g c =
 pub returns-then-slot-last-clause-run : goal.returns-then-slot-last-clause-run
 returns-then-slot-last-clause-run g c =
     let skipped = c.skip_before-slot.ensures in
-    let over = c.if-slot-last.true in
-    let within = skipped.within in
     part_ends g.R.Rank.machine c.requires.ready
     (part_rests g.R.Rank.machine c.requires.ready c.slots.invariant.crossing
     skipped.late skipped.within skipped.none skipped.rested)
@@ -113,6 +105,4 @@ returns-then-slot-last-clause-run g c =
 
 pub returns-clause-run : goal.returns-clause-run
 returns-clause-run g c =
-    let over = c.slots-test.false in
-    let before = c.slots.invariant.before in
     part_ends g.R.Rank.machine c.requires.ready c.slots.invariant.crossing (omega arith)

@@ -9,7 +9,6 @@ pub returns : goal.returns
 returns c =
     let came = c.args.schedule.now.came in
     let ranks = c.in_ok-ranks.ensures in
-    let some = c.requires.tables.setup.ports in
     let ports : c.port_count-ports.result ≡ ports_of c.args.tables.now.setup = c.port_count-ports.ensures in
     record {
       machines = ranks.machines;
