@@ -7,17 +7,14 @@ use Rattle.cq_run.specs.Plans.{captures_out}
 use Rattle.cq_run.proofs.Captures.{made_all, one_built, packed_of_lent, some_left, whole_of_lent}
 use Rattle.cq_run.proofs.build.build_captures.Goals as goal
 
-pub packets_of_all-requires-clause-captures : goal.packets_of_all-requires-clause-captures
-packets_of_all-requires-clause-captures c =
-    ap (λ (cs : List (List Captured)). length cs) c.as_slice.ensures ∙ c.requires.captures
-
-pub packets_of_all-requires-clause-whole : goal.packets_of_all-requires-clause-whole
-packets_of_all-requires-clause-whole c =
-    whole_of_lent c.args.tables.now c.args.captures c.args.run.sent.items c.as_slice.result.now c.as_slice.ensures
-    c.requires.run.whole
-
-pub packets_of_all-requires-clause-t0 : goal.packets_of_all-requires-clause-t0
-packets_of_all-requires-clause-t0 c = c.requires.run.first_stamp ∙ ap first_stamp (sym c.as_slice.ensures)
+pub packets_of_all-requires : goal.packets_of_all-requires
+packets_of_all-requires c = record {
+  tables = c.requires.tables;
+  captures = ap (λ (cs : List (List Captured)). length cs) c.as_slice.ensures ∙ c.requires.captures;
+  whole = whole_of_lent c.args.tables.now c.args.captures c.args.run.sent.items c.as_slice.result.now
+      c.as_slice.ensures c.requires.run.whole;
+  t0 = c.requires.run.first_stamp ∙ ap first_stamp (sym c.as_slice.ensures);
+}
 
 pub ports-init : goal.ports-init
 ports-init c = record {

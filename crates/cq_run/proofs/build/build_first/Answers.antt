@@ -4,19 +4,16 @@ use Rattle.cq_pcap.specs.Captured.{Captured}
 use Rattle.cq_run.proofs.Captures.{file_is, packed_of_lent, some_left, switched_whole, whole_of_lent}
 use Rattle.cq_run.proofs.build.build_first.Goals as goal
 
-pub packets_of_all-requires-clause-captures : goal.packets_of_all-requires-clause-captures
-packets_of_all-requires-clause-captures c =
-    ap (λ (cs : List (List Captured)). length cs) c.deref.ensures.value ∙ c.requires.captures
-
-pub packets_of_all-requires-clause-whole : goal.packets_of_all-requires-clause-whole
-packets_of_all-requires-clause-whole c =
-    whole_of_lent c.args.tables.now c.args.captures.items c.args.run.sent.items c.deref.result.now
-    c.deref.ensures.value
-    (switched_whole c.args.tables.now c.args.captures.items c.args.run c.requires.tables c.requires.captures
-    c.requires.run).whole
-
-pub packets_of_all-requires-clause-t0 : goal.packets_of_all-requires-clause-t0
-packets_of_all-requires-clause-t0 c = c.requires.run.first_stamp ∙ ap first_stamp (sym c.deref.ensures.value)
+pub packets_of_all-requires : goal.packets_of_all-requires
+packets_of_all-requires c = record {
+  tables = c.requires.tables;
+  captures = ap (λ (cs : List (List Captured)). length cs) c.deref.ensures.value ∙ c.requires.captures;
+  whole = whole_of_lent c.args.tables.now c.args.captures.items c.args.run.sent.items c.deref.result.now
+      c.deref.ensures.value
+      (switched_whole c.args.tables.now c.args.captures.items c.args.run c.requires.tables c.requires.captures
+      c.requires.run).whole;
+  t0 = c.requires.run.first_stamp ∙ ap first_stamp (sym c.deref.ensures.value);
+}
 
 pub unreachable-requires : goal.unreachable-requires
 unreachable-requires c =

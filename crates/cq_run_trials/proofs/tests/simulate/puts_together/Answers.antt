@@ -1,4 +1,4 @@
-use Rattle.std.proofs.Common.{◌∙◌, List, ap, subst, sym}
+use Rattle.std.proofs.Common.{◌∙◌, List, ap, subst, sym, rules}
 use Rattle.cq_base.specs.declared.cell.Departure.{Departure}
 use Rattle.cq_cells.specs.Schedule.{arrivals}
 use Rattle.cq_simulate.specs.IdealRuns.{ideal_departures}
@@ -6,17 +6,29 @@ use Rattle.cq_simulate.specs.Packets.{LeaveWhole}
 use Rattle.cq_simulate.proofs.Departed.{left_in_packets}
 use Rattle.cq_run_trials.proofs.tests.simulate.puts_together.Goals as goal
 
-pub packets_of-requires-clause-whole : goal.packets_of-requires-clause-whole
-packets_of-requires-clause-whole g c =
+pub packets_of-requires : goal.packets_of-requires
+packets_of-requires g c =
     let t = c.args.tables.now in
     let captures = c.args.captures.now in
     let P : List Departure → Type 0 = λ sent. LeaveWhole (arrivals t captures) sent in
-    subst P (sym c.items.ensures)
-    (left_in_packets t captures c.in_ok-run.run'.sent.items c.requires.tables c.requires.captures
-    (ap (λ s. ideal_departures t s.came) (sym c.in_ok-schedule.ensures.schedule) ∙ c.in_ok-run.ensures.sent))
+    record {
+      tables = c.requires.tables;
+      captures = c.requires.captures;
+      whole =
+          subst P (sym c.items.ensures)
+          (left_in_packets t captures c.in_ok-run.run'.sent.items c.requires.tables c.requires.captures
+          (ap (λ s. ideal_departures t s.came) (sym c.in_ok-schedule.ensures.schedule) ∙ c.in_ok-run.ensures.sent));
+      t0 = search rules;
+    }
 
-pub packets_of_all-requires-clause-whole : goal.packets_of_all-requires-clause-whole
-packets_of_all-requires-clause-whole g c =
+pub packets_of_all-requires : goal.packets_of_all-requires
+packets_of_all-requires g c =
     let t = c.args.tables.now in
-    left_in_packets t c.args.captures.now c.in_ok-sent.sent.items c.requires.tables c.requires.captures
-    (ap (λ s. ideal_departures t s.came) (sym c.in_ok-schedule.ensures.schedule) ∙ c.in_ok-sent.ensures.sent)
+    record {
+      tables = c.requires.tables;
+      captures = c.requires.captures;
+      whole =
+          left_in_packets t c.args.captures.now c.in_ok-sent.sent.items c.requires.tables c.requires.captures
+          (ap (λ s. ideal_departures t s.came) (sym c.in_ok-schedule.ensures.schedule) ∙ c.in_ok-sent.ensures.sent);
+      t0 = search rules;
+    }
