@@ -1,7 +1,7 @@
 -- States and texts stand one for one. What the lines of a text that is allowed tell is a state in range, and its
 -- lines are those of the text. And who gathers what the lines of a state tell has the state again, so states with
 -- the same lines are the same.
-use Rattle.std.proofs.Common.{◌≡◌, ℕ, ◌+◌, ◌≤◌, false, true, List, [], ◌∷◌, ◌++◌, length, map, drop, Option, Some, refl, ap, sym, subst, ◌∙◌, arith, append_assoc, ⊎_elim, inl, inr}
+use Rattle.std.proofs.Common.{◌≡◌, ℕ, ◌+◌, ◌≤◌, false, true, List, [], ◌∷◌, ◌++◌, length, map, drop, Option, Some, refl, ap, sym, subst, ◌∙◌, arith, rules, append_assoc, ⊎_elim, inl, inr}
 use Rattle.std.specs.Prelude.{IsTrue, unwrap_or, ◌⊎◌}
 use Rattle.std.specs.List.{AllByRecursion}
 use Rattle.std.proofs.lemmas.List.{append-nil}
@@ -12,12 +12,13 @@ use Rattle.cq_state.proofs.OneReading.{state_is_exact}
 use Rattle.cq_state.proofs.Written.{at, Completes, state_has_text}
 use Rattle.cq_state.specs.declared.kind.Kind.{Kind}
 use Rattle.cq_state.specs.declared.kind.Kind.TheVariants.{Version, Next, Shape, Sum, Input, Rank, Listed, Buffered, Sent, Moved, End}
+use Rattle.cq_state.specs.declared.state.Head.{Head}
 use Rattle.cq_state.specs.declared.state.Seen.{Seen}
 use Rattle.cq_state.specs.declared.state.Named.{Named}
 use Rattle.cq_state.specs.declared.state.Sent as kept
 use Rattle.cq_state.specs.declared.state.State.{State}
 use Rattle.cq_state.specs.StateText.{Line, kinds, start, IsStateText}
-use Rattle.cq_state.specs.State.{IsInRange, IsSeen, AreRankNumbers, IsNamed, IsSent, IsMoved, state_lines, state_text, numbered, input_line, rank_line, cell_line, sent_line, moved_line}
+use Rattle.cq_state.specs.State.{IsHead, IsInRange, IsSeen, AreRankNumbers, IsNamed, IsSent, IsMoved, state_lines, state_text, numbered, input_line, rank_line, cell_line, sent_line, moved_line}
 use Rattle.cq_state.specs.Gather.{added, gathered, nothing, number_at, seen_of, rank_of, named_of, sent_of, moved_of}
 use Rattle.cq_state.specs.OneText.{HaveOneText}
 
@@ -63,6 +64,12 @@ with_sent s xs = record s { sent = s.sent ++ xs }
 
 abbrev with_moved : State → List Transfer → State
 with_moved s xs = record s { moved = s.moved ++ xs }
+
+-- the state of these parts
+abbrev of_parts : Head → List Seen → List (List ℕ) → List Named → List Named → List kept.Sent → List Transfer → State
+of_parts head inputs ranks listed buffered sent moved =
+    let begun = with_ranks (with_inputs (record nothing { head = head }) inputs) ranks in
+    with_moved (with_sent (with_buffered (with_listed begun listed) buffered) sent) moved
 
 inputs_add : (xs : List Seen) (s : State) (rest : List Line) → gathered s (numbered input_line 0 xs ++ rest)
     ≡ gathered (with_inputs s xs) rest
@@ -124,14 +131,8 @@ all_own ports (t ∷ xs) all = (all.0.own, all_own ports xs all.1)
 pub state_again : (s : State) → IsInRange s → gathered nothing (state_lines s) ≡ s
 unfolding state_lines
 state_again s is =
-    let s1 : State = record nothing { head = s.head } in
-    let s2 : State = with_inputs s1 s.inputs in
-    let s3 : State = with_ranks s2 s.ranks in
-    let s4 : State = with_listed s3 s.listed in
-    let s5 : State = with_buffered s4 s.buffered in
-    let s6 : State = with_sent s5 s.sent in
-    inputs_add s.inputs s1 _ ∙ ranks_add s.ranks s2 _ ∙ listed_add s.listed s3 _ ∙ buffered_add s.buffered s4 _
-    ∙ sent_add s.sent s5 _ ∙ moved_add s.moved s6 _ (all_own s.head.ports s.moved is.moved)
+    inputs_add s.inputs (record nothing { head = s.head }) _ ∙ ranks_add s.ranks _ _ ∙ listed_add s.listed _ _
+    ∙ buffered_add s.buffered _ _ ∙ sent_add s.sent _ _ ∙ moved_add s.moved _ _ (all_own s.head.ports s.moved is.moved)
 
 -- ## What a text tells
 
@@ -182,43 +183,28 @@ each_told xs c =
     let moved = many_told Moved (drop 10 kinds) ports (λ _. refl) (plain moved_line) moved_of (IsMoved ports)
     (λ _ fs w. told_line Moved (moved_told ports fs some w)) sent.behind 0 (inl refl) sent.rest in
     let end = one_told End false_is_not_true (λ _. refl) [] ports moved.behind moved.rest in
-    let s : State = record {
-      head = record {
-        next = number_at next.fields 0;
-        ports = ports;
-        classes = number_at shape.fields 1;
-        t0 = number_at shape.fields 2;
-        total = number_at shape.fields 3;
-        proposals = number_at sum.fields 0;
-        most = number_at sum.fields 1;
-      };
-      inputs = inputs.values;
-      ranks = ranks.values;
-      listed = listed.values;
-      buffered = buffered.values;
-      sent = sent.values;
-      moved = moved.values;
-    } in (
+    let s : State = of_parts (record {
+      next = number_at next.fields 0;
+      ports = ports;
+      classes = number_at shape.fields 1;
+      t0 = number_at shape.fields 2;
+      total = number_at shape.fields 3;
+      proposals = number_at sum.fields 0;
+      most = number_at sum.fields 1;
+    }) inputs.values ranks.values listed.values buffered.values sent.values moved.values in
+    let head : IsHead s.head = record {
+      next = next_told.1;
+      ports = is_shape.ports;
+      classes = is_shape.classes;
+      t0 = is_shape.t0;
+      total = is_shape.total;
+      proposals = sum_told.1;
+      most = sum_told.2;
+    } in
+    let inputs_told = all_told ports (length inputs.values) inputs.enough inputs.few in
+    let outputs_told = all_told ports (length ranks.values) ranks.enough ranks.few in (
       s,
-      record {
-        head = record {
-          next = next_told.1;
-          ports = is_shape.ports;
-          classes = is_shape.classes;
-          t0 = is_shape.t0;
-          total = is_shape.total;
-          proposals = sum_told.1;
-          most = sum_told.2;
-        };
-        inputs_told = all_told ports (length inputs.values) inputs.enough inputs.few;
-        outputs_told = all_told ports (length ranks.values) ranks.enough ranks.few;
-        inputs = inputs.in_range;
-        ranks = ranks.in_range;
-        listed = listed.in_range;
-        buffered = buffered.in_range;
-        sent = sent.in_range;
-        moved = moved.in_range;
-      },
+      search rules,
       cons_is xs _ _ _ _ version.is (ap (line_of Version) (version_told version.fields version.within))
           (cons_is _ _ _ _ _ next.is (ap (line_of Next) next_told.0)
           (cons_is _ _ _ _ _ shape.is (ap (line_of Shape) is_shape.fields)

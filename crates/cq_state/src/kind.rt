@@ -2,7 +2,7 @@
 ghost use Rattle.std.specs.Prelude.{◌≡◌, ◌≢◌, ℕ, ◌≤◌, List, ◌++◌, length, take, Option, IfSome, IfNone, IsTrue, ◌↔◌};
 ghost use Rattle.cq_lines.specs.Lines.{line, ending};
 ghost use Rattle.cq_lines.specs.Ranges.{Within, any_number};
-ghost use Rattle.cq_state.specs.StateText.{word, needed, is_free, ranges, further, between, count, count_or_none};
+ghost use Rattle.cq_state.specs.StateText.{HasRoom, word, needed, is_free, ranges, further, between, count, count_or_none};
 
 use cq_lines::{Range, behind, take_fields_within};
 
@@ -99,39 +99,57 @@ impl Kind {
     }
 }
 
-/// The fields of a line of this kind at the front, behind so many lines of its kind in a switch of so many
-/// ports, and what stands behind the line. None where no such line stands there.
-pub fn take_kind<'a>(
-    kind: Kind,
-    ports: u16,
-    index: u64,
-    text: &'a [u8],
-    to: &mut [Option<u128>; MOST_FIELDS],
-) -> Option<(usize, &'a [u8])>
-    ensures found { IfSome result (λ f. (f.0 ≤ length to.new)
-        × Within (ranges ports index kind) (further kind) (take f.0 to.new)
-        × (text.now ≡ line (word kind) (take f.0 to.new) ++ f.1.now)) }
-    ensures none { IfNone result ((fs : List (Option ℕ)) (more : List ℕ) →
-        Within (ranges ports index kind) (further kind) fs → text.now ≢ line (word kind) fs ++ more) }
-{
-    let rest = behind(text, kind.word())?;
-    take_kind_fields(kind, ports, u128::from(index), rest, to)
+/// A line that is due: its kind, behind how many lines of its kind it comes, and how many ports there are.
+#[derive(Clone, Copy)]
+pub struct Due {
+    pub kind: Kind,
+    pub seen: u64,
+    pub ports: u16,
 }
 
-// The fields of a line of this kind behind its word.
-fn take_kind_fields<'a>(
-    kind: Kind,
-    ports: u16,
-    index: u128,
+impl Due {
+    /// Whether there may be this line.
+    fn has_room(self) -> bool
+        ensures { IsTrue result ↔ HasRoom self.ports self.kind self.seen }
+    {
+        self.kind.is_free() || self.seen < self.kind.needed(self.ports)
+    }
+}
+
+/// The fields of the line that is due, at the front, and what stands behind it. None where there may be no such line, or
+/// none stands there.
+pub fn take_due<'a>(
+    due: Due,
+    text: &'a [u8],
+    to: &mut [Option<u128>; MOST_FIELDS],
+) -> Option<(usize, &'a [u8])>
+    ensures room { IfSome result (λ f. HasRoom due.ports due.kind due.seen) }
+    ensures found { IfSome result (λ f. (f.0 ≤ length to.new)
+        × Within (ranges due.ports due.seen due.kind) (further due.kind) (take f.0 to.new)
+        × (text.now ≡ line (word due.kind) (take f.0 to.new) ++ f.1.now)) }
+    ensures none { IfNone result ((fs : List (Option ℕ)) (more : List ℕ) → HasRoom due.ports due.kind due.seen →
+        Within (ranges due.ports due.seen due.kind) (further due.kind) fs → text.now ≢ line (word due.kind) fs ++ more) }
+{
+    if !due.has_room() {
+        return None;
+    }
+    let rest = behind(text, due.kind.word())?;
+    take_due_fields(due, rest, to)
+}
+
+// The fields of the line that is due, behind its word.
+fn take_due_fields<'a>(
+    due: Due,
     text: &'a [u8],
     to: &mut [Option<u128>; MOST_FIELDS],
 ) -> Option<(usize, &'a [u8])>
     ensures found { IfSome result (λ f. (f.0 ≤ length to.new)
-        × Within (ranges ports index kind) (further kind) (take f.0 to.new)
+        × Within (ranges due.ports due.seen due.kind) (further due.kind) (take f.0 to.new)
         × (text.now ≡ ending (take f.0 to.new) ++ f.1.now)) }
     ensures none { IfNone result ((fs : List (Option ℕ)) (more : List ℕ) →
-        Within (ranges ports index kind) (further kind) fs → text.now ≢ ending fs ++ more) }
+        Within (ranges due.ports due.seen due.kind) (further due.kind) fs → text.now ≢ ending fs ++ more) }
 {
+    let index = u128::from(due.seen);
     let own = Range::between(index, index);
     let count = Range::between(0, MOST);
     let count_or_none = Range {
@@ -141,9 +159,9 @@ fn take_kind_fields<'a>(
     };
     let level = Range::between(0, 15);
     let rank = Range::between(0, u128::MAX);
-    let port = Range::between(0, u128::from(ports.saturating_sub(1)));
+    let port = Range::between(0, u128::from(due.ports.saturating_sub(1)));
     let wide = Range::between(0, WIDE);
-    match kind {
+    match due.kind {
         Kind::Version => take_fields_within(text, &[Range::between(1, 1)], 0, to),
         Kind::Next => take_fields_within(text, &[count], 0, to),
         Kind::Shape => {

@@ -6,7 +6,7 @@ ghost use Rattle.cq_state.specs.declared.kind.Kind.TheVariants.{Shape};
 ghost use Rattle.cq_state.specs.StateText.{Line, ComesAt, HasRoom, word, ranges, further, ports_behind, spelled, start, MayEnd};
 ghost use Rattle.cq_state.specs.Places.{place_of};
 
-use crate::kind::{KINDS, Kind, MOST_FIELDS, take_kind};
+use crate::kind::{Due, KINDS, Kind, MOST_FIELDS, take_due};
 
 /// Where a line comes: which kinds are due, in order, how many lines of the first of them stand there, and
 /// how many ports there are.
@@ -70,7 +70,12 @@ pub fn next_line<'a>(
     let mut due = place.due;
     let mut seen = place.seen;
     'kinds: while let Some((kind, later)) = due.split_first() {
-        if let Some((count, rest)) = take_due(*kind, ports, seen, text, to) {
+        let line = Due {
+            kind: *kind,
+            seen,
+            ports,
+        };
+        if let Some((count, rest)) = take_due(line, text, to) {
             let place = Place {
                 due,
                 seen: seen + 1,
@@ -85,34 +90,6 @@ pub fn next_line<'a>(
         seen = 0;
     }
     None
-}
-
-// One line more of a kind of which so many stand there. None where there may be no more.
-fn take_due<'a>(
-    kind: Kind,
-    ports: u16,
-    seen: u64,
-    text: &'a [u8],
-    to: &mut [Option<u128>; MOST_FIELDS],
-) -> Option<(usize, &'a [u8])>
-    ensures room { IfSome result (λ f. HasRoom ports kind seen) }
-    ensures found { IfSome result (λ f. (f.0 ≤ length to.new)
-        × Within (ranges ports seen kind) (further kind) (take f.0 to.new)
-        × (text.now ≡ line (word kind) (take f.0 to.new) ++ f.1.now)) }
-    ensures none { IfNone result ((fs : List (Option ℕ)) (more : List ℕ) → HasRoom ports kind seen →
-        Within (ranges ports seen kind) (further kind) fs → text.now ≢ line (word kind) fs ++ more) }
-{
-    if has_room(kind, ports, seen) {
-        take_kind(kind, ports, seen, text, to)
-    } else {
-        None
-    }
-}
-
-fn has_room(kind: Kind, ports: u16, seen: u64) -> bool
-    ensures { IsTrue result ↔ HasRoom ports kind seen }
-{
-    kind.is_free() || seen < kind.needed(ports)
 }
 
 // How many ports there are behind a line with these fields.
