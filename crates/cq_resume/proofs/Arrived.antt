@@ -86,11 +86,17 @@ module _ (came : List Arrival) (s : State) where
       missed (images_held (λ (d : Sent). d.cell) IsMiss s.sent
       (all_right IsMiss (s.listed ++ s.buffered) (map (λ (d : Sent). d.cell) s.sent) (none_missed are)))
 
-  module _ (listed buffered : List Queued) (sent : List Gone) (first : AreFound came s.head.next s.listed listed)
-      (second : AreFound came s.head.next s.buffered buffered) (third : AreGone came s.head.next s.sent sent)
-      (names : List Name) (same : IsPermutation (names_of listed buffered sent) names) where
+  -- the cells that were looked up, and all their names
+  pub record AreLookedUp (listed buffered : List Queued) (sent : List Gone) (names : List Name) : Type 0 where
+    pub listed_are : AreFound came s.head.next s.listed listed
+    pub buffered_are : AreFound came s.head.next s.buffered buffered
+    pub sent_are : AreGone came s.head.next s.sent sent
+    pub same : IsPermutation (names_of listed buffered sent) names
+
+  module _ {listed buffered : List Queued} {sent : List Gone} {names : List Name}
+      (are : AreLookedUp listed buffered sent names) where
     zips : AllZip (IsOf came s.head.next) (named_in s) (names_of listed buffered sent)
-    zips = names_zip came s listed buffered sent first second third
+    zips = names_zip came s listed buffered sent are.listed_are are.buffered_are are.sent_are
 
     abbrev told : List Name
     told = names_of listed buffered sent
@@ -114,12 +120,12 @@ module _ (came : List Arrival) (s : State) where
           once = apart_alike.1
               (λ i j d lt inside.
               apart_from_distinct same_name told i j d
-              (still_differ names told (IsPermutation-sym told names same) (rising_differ names rising)) lt inside);
+              (still_differ names told (IsPermutation-sym told names are.same) (rising_differ names rising)) lt inside);
         }
 
     -- and the other way
     pub arrivals_rise : AllAdjacentBelow IsNameNotAfter names (length names) → AreArrivals came s →
         AllPairs IsNameBefore names
-    arrivals_rise order are =
+    arrivals_rise order arrive =
         rising_names names order
-        (still_differ told names same (IsDistinct-from_apart same_name told (apart_alike.0 are.once)))
+        (still_differ told names are.same (IsDistinct-from_apart same_name told (apart_alike.0 arrive.once)))

@@ -3,6 +3,7 @@
 use Rattle.std.proofs.Common.{◌≡◌, ℕ, ◌+◌, ◌<◌, ◌≤◌, eqb, leb, ltb, Bool, true, false, cond, List, [], ◌∷◌, Option, None, Some, refl, sym, ap, ◌∙◌, subst, inl, inr, ⊎_elim, arith}
 use Rattle.std.specs.Prelude.{◌&&◌, filter, find, option_map}
 use Rattle.std.specs.List.{AllByRecursion}
+use Rattle.std.proofs.Math.Bool.{and-false, and-true}
 use Rattle.std.proofs.lemmas.Bool.{and_from, and_left, and_right, cases_Bool, cases_eq, cases_lt, eq-eqb, le-leb, le-ltb, lt-leb, lt-ltb, ne_eqb}
 use Rattle.cq_base.specs.Arriving.{Arrival, arriving_at, is_at}
 use Rattle.cq_base.specs.declared.cell.Cell.{Cell}
@@ -152,23 +153,15 @@ found_at slot input (a ∷ came) =
     ⊎_elim
     (λ own.
     ap (λ (b : Bool). cond (eqb a.slot slot && b) (Some a) (find (is_at slot input) came)) own
-    ∙ ap (λ (b : Bool). cond b (Some a) (find (is_at slot input) came)) (and_yes (eqb a.slot slot))
+    ∙ ap (λ (b : Bool). cond b (Some a) (find (is_at slot input) came)) (and-true (eqb a.slot slot))
     ∙ ap (λ (o : Option Arrival). cond (eqb a.slot slot) (Some a) o) (found_at slot input came)
     ∙ sym (ap (λ (l : List Arrival). find (is_in slot) l) (passed (is_from input) a came own)))
     (λ other.
     ap (λ (b : Bool). cond (eqb a.slot slot && b) (Some a) (find (is_at slot input) came)) other
-    ∙ ap (λ (b : Bool). cond b (Some a) (find (is_at slot input) came)) (and_no (eqb a.slot slot))
+    ∙ ap (λ (b : Bool). cond b (Some a) (find (is_at slot input) came)) (and-false (eqb a.slot slot))
     ∙ found_at slot input came
     ∙ sym (ap (λ (l : List Arrival). find (is_in slot) l) (failed (is_from input) a came other)))
     (cases_Bool (is_from input a))
-  where
-    and_yes : (b : Bool) → (b && true) ≡ b
-    and_yes true = refl
-    and_yes false = refl
-
-    and_no : (b : Bool) → (b && false) ≡ false
-    and_no true = refl
-    and_no false = refl
 
 module _ (input from next : ℕ) (came : List Arrival) where
   pub none_comes : IsNextArrival (filter (is_from input) came) from None → coming input from next came ≡ []

@@ -19,6 +19,7 @@ use Rattle.cq_resume.specs.declared.found.Gone.{Gone}
 use Rattle.cq_resume.specs.declared.found.Name.{Name}
 use Rattle.cq_resume.specs.declared.packets.Tally.{Tally}
 use Rattle.cq_resume.specs.declared.taken.Taken.{Taken}
+use Rattle.cq_resume.proofs.Copied.{buffered_at, listed_at}
 use Rattle.cq_resume.proofs.Judging.{mapped_alike}
 use Rattle.cq_resume.proofs.Slacks.{buffer_is, list_is}
 use Rattle.cq_resume.proofs.Telling.{IsOf, its_input, names_zip, told_is}
@@ -80,19 +81,17 @@ module _ (w : Switch) (s : State) (f : Found) (found : IsFound w.came s f) where
       (names_of f.listed.items f.buffered.items f.sent.items) f.names.items found.same) in
       λ k. record { cells = cells k; longest = x.longest; slack = x.slack }
 
-  lists_are : map (λ i. filter (λ q. eqb q.key.input i) f.listed.items) (range_with_len 0 s.head.ports)
-      ≡ (fabric_told w.came s).inputs
+  lists_are : map (listed_at f.listed.items) (range_with_len 0 s.head.ports) ≡ (fabric_told w.came s).inputs
   unfolding fabric_told
   lists_are =
-      sym (mapped_alike (list_told w.came s) (λ i. filter (λ q. eqb q.key.input i) f.listed.items)
-      (list_is w s f.listed.items f.buffered.items found.listed found.buffered) (range_with_len 0 s.head.ports))
+      sym (mapped_alike (list_told w.came s) (listed_at f.listed.items)
+      (list_is w s f.listed.items f.buffered.items found.listed found.buffered) _)
 
-  buffers_are : map (λ j. filter (λ q. eqb q.cell.output j) f.buffered.items) (range_with_len 0 s.head.ports)
-      ≡ (fabric_told w.came s).buffers
+  buffers_are : map (buffered_at f.buffered.items) (range_with_len 0 s.head.ports) ≡ (fabric_told w.came s).buffers
   unfolding fabric_told
   buffers_are =
-      sym (mapped_alike (buffer_told w.came s) (λ j. filter (λ q. eqb q.cell.output j) f.buffered.items)
-      (buffer_is w s f.listed.items f.buffered.items found.listed found.buffered) (range_with_len 0 s.head.ports))
+      sym (mapped_alike (buffer_told w.came s) (buffered_at f.buffered.items)
+      (buffer_is w s f.listed.items f.buffered.items found.listed found.buffered) _)
 
   -- what is taken up is what the state comes to, part by part
   pub taken_is : (x : Tally) (t : Taken) → IsTally w s x → t.frozen.next ≡ s.head.next →
@@ -101,27 +100,22 @@ module _ (w : Switch) (s : State) (f : Found) (found : IsFound w.came s f) where
       t.frozen.figures.inputs ≡ map (λ at. figures_at_input f.names.items at.0 at.1) (enumerate_from 0 s.inputs) →
       t.frozen.figures.outputs ≡ map (output_told (map departed f.sent.items)) (range_with_len 0 s.head.ports) →
       t.frozen.refused ≡ x.refused → t.frozen.marks ≡ x.marks → t.frozen.ranks ≡ s.ranks →
-      t.frozen.lists ≡ map (λ i. filter (λ q. eqb q.key.input i) f.listed.items) (range_with_len 0 s.head.ports) →
-      t.frozen.buffers ≡ map (λ j. filter (λ q. eqb q.cell.output j) f.buffered.items) (range_with_len 0
-      s.head.ports) → t.sent ≡ map departed f.sent.items → t.note ≡ s.moved → t ≡ taken_of w s
+      t.frozen.lists ≡ map (listed_at f.listed.items) (range_with_len 0 s.head.ports) →
+      t.frozen.buffers ≡ map (buffered_at f.buffered.items) (range_with_len 0 s.head.ports) →
+      t.sent ≡ map departed f.sent.items → t.note ≡ s.moved → t ≡ taken_of w s
   unfolding frozen_told figures_told
   taken_is x t tally next slots proposals most inputs outputs refused marks ranks lists buffers sent note =
-      let departures = sent_is in
-      let all_slots : t.frozen.figures.slots ≡ slots_of (sent_told w.came s) = slots ∙ ap slots_of (sym departures) in
-      let all_inputs : t.frozen.figures.inputs
-      ≡ map (λ at. input_told s at.0 at.1) (enumerate_from 0 s.inputs) =
-      inputs
+      let all_slots = slots ∙ ap slots_of (sym sent_is) in
+      let all_inputs = inputs
       ∙ mapped_alike (λ (at : ℕ × Seen). figures_at_input f.names.items at.0 at.1)
       (λ (at : ℕ × Seen). input_told s at.0 at.1) (λ at. input_is at.0 at.1) (enumerate_from 0 s.inputs) in
-      let all_outputs : t.frozen.figures.outputs
-      ≡ map (output_told (sent_told w.came s)) (range_with_len 0 s.head.ports) =
-      outputs
-      ∙ ap (λ (l : List Departure). map (output_told l) (range_with_len 0 s.head.ports)) (sym departures) in
+      let all_outputs = outputs
+      ∙ ap (λ (l : List Departure). map (output_told l) (range_with_len 0 s.head.ports)) (sym sent_is) in
       let all_refused = refused ∙ tally.refused in
       let all_marks = marks ∙ tally.marks in
       let all_lists = lists ∙ lists_are in
       let all_buffers = buffers ∙ buffers_are in
-      let all_sent = sent ∙ sym departures in
+      let all_sent = sent ∙ sym sent_is in
       λ k. record {
         frozen = record {
           next = next k;

@@ -1,9 +1,11 @@
 -- Lists that are made item by item: copies, and what the items before a place come to.
-use Rattle.std.proofs.Common.{◌≡◌, ℕ, ◌+◌, ◌<◌, ◌≤◌, List, [], ◌∷◌, ◌++◌, length, map, flat_map, take, get_or, sym, ap, ◌∙◌, arith}
+use Rattle.std.proofs.Common.{◌≡◌, ℕ, ◌+◌, ◌<◌, ◌≤◌, eqb, List, [], ◌∷◌, ◌++◌, length, map, flat_map, take, get_or, sym, ap, ◌∙◌, arith}
+use Rattle.std.specs.Prelude.{filter}
 use Rattle.std.specs.List.{range_with_len}
 use Rattle.std.proofs.lemmas.List.{append-nil, map-append, take_all, take_more}
 use Rattle.std.proofs.lemmas.List.Concat.{flat_map-append}
 use Rattle.std.proofs.lemmas.List.FromFn.{map-range_with_len_more}
+use Rattle.cq_base.specs.declared.cell.Queued.{Queued}
 
 -- an item of a list that owns its memory is read and copied
 pub copy_more : {X : Type 0} (xs : List X) (i : ℕ) (read copy : X) (now new : List X) → i < length xs →
@@ -11,6 +13,13 @@ pub copy_more : {X : Type 0} (xs : List X) (i : ℕ) (read copy : X) (now new : 
 copy_more {X} xs i read copy now new inside so_far is same more =
     more ∙ ap (λ (l : List X). l ++ copy ∷ []) so_far ∙ ap (λ (x : X). take i xs ++ x ∷ []) (same ∙ is)
     ∙ sym (take_more xs i read inside)
+
+-- the cells of an input, and those for an output
+abbrev pub listed_at : List Queued → ℕ → List Queued
+listed_at listed i = filter (λ q. eqb q.key.input i) listed
+
+abbrev pub buffered_at : List Queued → ℕ → List Queued
+buffered_at buffered j = filter (λ q. eqb q.cell.output j) buffered
 
 -- what numbers from 0 on come to
 pub ranged_more : {Y : Type 0} (f : ℕ → Y) (i : ℕ) (y : Y) (now new : List Y) → now ≡ map f (range_with_len 0 i) →

@@ -1,10 +1,10 @@
 -- The fifth clause, of found cells. Of any two names of one flow the one that arrived first leaves first: said of the
 -- names by input and slot, each and each later one; or of any two that stand among the lines. Of departures it says
 -- that they were sent in the order of arrival, since those of one output stand by the slots in which they were sent.
-use Rattle.std.proofs.Common.{◌≡◌, ℕ, ◌<◌, ◌≤◌, ◌↔◌, ◌⊎◌, eqb, true, false, List, [], ◌∷◌, ◌++◌, length, map, get_or, sym, ap, ◌∙◌, subst, inl, inr, ⊎_elim, arith}
-use Rattle.std.specs.Prelude.{All, IsPermutation}
+use Rattle.std.proofs.Common.{◌≡◌, ℕ, ◌<◌, ◌↔◌, ◌⊎◌, eqb, true, false, List, [], ◌∷◌, ◌++◌, length, map, get_or, sym, ap, ◌∙◌, subst, inl, inr, ⊎_elim, arith}
+use Rattle.std.specs.Prelude.{All, Contains, IsPermutation}
 use Rattle.std.specs.List.{AllByRecursion, AllPairs, AllZip}
-use Rattle.std.proofs.lemmas.Bool.{and_from, cases_eq, cases_lt, cases_order, eq-eqb}
+use Rattle.std.proofs.lemmas.Bool.{and_from, cases_order, eq-eqb}
 use Rattle.std.proofs.lemmas.List.{get_or_default}
 use Rattle.std.proofs.lemmas.List.Sorted.{Contains-permutation, IsPermutation-sym}
 use Rattle.cq_base.specs.Cells.{IsBefore}
@@ -37,35 +37,41 @@ never_itself : (m : Name) → IsNameBefore m m → ⊥
 never_itself m (inl less) = omega arith
 never_itself m (inr (same, less)) = omega arith
 
+-- of two items that are among others, of each of which and each later one something holds: it holds of the two, this way
+-- or the other way, or they are one
+either_way : {X : Type 0} (P : X → X → Type 0) (xs : List X) → AllPairs P xs → (x y : X) → Contains xs x →
+    Contains xs y → P x y ⊎ ((x ≡ y) ⊎ P y x)
+either_way {X} P xs pairs x y at to =
+    let i = at.0 in
+    let j = to.0 in
+    let inner : i < length xs = at.1 in
+    let outer : j < length xs = to.1 in
+    let x_is : get_or xs i x ≡ x = at.2 in
+    let y_is : get_or xs j x ≡ y = get_or_default xs j x y outer ∙ to.2 in
+    elim (cases_order i j) [
+      | inl even ↦ inr (inl (sym x_is ∙ ap (λ (k : ℕ). get_or xs k x) even ∙ y_is))
+      | inr ways ↦ elim ways [
+        | inl lt ↦
+            inl (subst (λ (a : X). P a y) x_is (subst (λ (b : X). P (get_or xs i x) b) y_is (pairs i j x lt outer)))
+        | inr gt ↦
+            let turned = subst (λ (b : X). P (get_or xs j x) b) x_is (pairs j i x gt inner) in
+            inr (inr (subst (λ (a : X). P a x) y_is turned))
+      ]
+    ]
+
 module _ (told names : List Name) (same : IsPermutation told names) (rising : AllPairs IsNameBefore names) where
   pub flows_hold : FlowsStand names → FlowsHold told
   flows_hold flows m n first second before =
       let at = Contains-permutation told names m same (has_place told m first) in
       let to = Contains-permutation told names n same (has_place told n second) in
-      let i = at.0 in
-      let j = to.0 in
-      let inner : i < length names = at.1 in
-      let outer : j < length names = to.1 in
-      let m_is : get_or names i m ≡ m = at.2 in
-      let n_is : get_or names j m ≡ n = get_or_default names j m n outer ∙ to.2 in
-      ⊎_elim
-      (λ lt. subst (λ (a : Name). LeavesEarlier a n) m_is
-      (subst (λ (b : Name). LeavesEarlier (get_or names i m) b) n_is (flows i j m lt outer)))
-      (λ ge. absurd (back i j inner m_is n_is ge))
-      (cases_lt i j)
-    where
-      back : (i j : ℕ) → i < length names → get_or names i m ≡ m → get_or names j m ≡ n → j ≤ i → ⊥
-      back i j inner m_is n_is le =
-          elim (cases_eq j i) [
-            | inl even ↦
-                let one : n ≡ m = sym n_is ∙ ap (λ (k : ℕ). get_or names k m) even ∙ m_is in
-                never_itself m (subst (λ (b : Name). IsNameBefore m b) one before)
-            | inr other ↦
-                let turned : IsNameBefore n m =
-                subst (λ (a : Name). IsNameBefore a m) n_is
-                (subst (λ (b : Name). IsNameBefore (get_or names j m) b) m_is (rising j i m (omega arith) inner)) in
-                never_itself m (name_on m n m before turned)
-          ]
+      elim (either_way (λ (a b : Name). IsNameBefore a b × LeavesEarlier a b) names
+      (λ i j d lt inside. (rising i j d lt inside, flows i j d lt inside)) m n at to) [
+        | inl ahead ↦ ahead.1
+        | inr ways ↦ elim ways [
+          | inl one ↦ absurd (never_itself m (subst (λ (b : Name). IsNameBefore m b) (sym one) before))
+          | inr turned ↦ absurd (never_itself m (name_on m n m before turned.0))
+        ]
+      ]
 
   pub flows_stand : FlowsHold told → FlowsStand names
   flows_stand hold i j d lt inside =
@@ -299,35 +305,20 @@ module _ (listing buffering : List Queued) (sending : List Gone) (next : ℕ) (s
       sent_in_turn : (g h : Gone) → Has sending g → Has sending h → OneFlow g.queued h.queued →
           g.queued.key.slot < h.queued.key.slot → g.slot < h.slot
       sent_in_turn g h is_sent too one less =
-          let at = has_place sending g is_sent in
-          let to = has_place sending h too in
-          let i = at.0 in
-          let j = to.0 in
-          let inner : i < length sending = at.1 in
-          let outer : j < length sending = to.1 in
-          let g_is : get_or sending i g ≡ g = at.2 in
-          let h_is : get_or sending j g ≡ h = get_or_default sending j g h outer ∙ to.2 in
           let output = one.output in
-          ⊎_elim
-          (λ even.
-          let same : g ≡ h = sym g_is ∙ ap (λ (k : ℕ). get_or sending k g) even ∙ h_is in
-          let slots = ap (λ (x : Gone). x.queued.key.slot) same in
-          absurd (omega arith))
-          (λ ways.
-          ⊎_elim
-          (λ lt.
-          let order : IsSentBefore g h =
-          subst (λ (x : Gone). IsSentBefore x h) g_is
-          (subst (λ (y : Gone). IsSentBefore (get_or sending i g) y) h_is (stand.ordered i j g lt outer)) in
-          ⊎_elim (λ before. before) (λ even. let more = even.1 in absurd (omega arith)) order)
-          (λ gt.
-          let turned : GoneKeep h g =
-          subst (λ (x : Gone). GoneKeep x g) h_is
-          (subst (λ (y : Gone). GoneKeep (get_or sending j g) y) g_is (keep.sent j i g gt inner)) in
-          let more = turned (record { input = sym one.input; output = sym one.output; class = sym one.class }) in
-          absurd (omega arith))
-          ways)
-          (cases_order i j)
+          elim (either_way (λ (a b : Gone). IsSentBefore a b × GoneKeep a b) sending
+          (λ i j d lt inside. (stand.ordered i j d lt inside, keep.sent i j d lt inside)) g h
+          (has_place sending g is_sent) (has_place sending h too)) [
+            | inl ahead ↦ ⊎_elim (λ sooner. sooner) (λ beside. let more = beside.1 in absurd (omega arith)) ahead.0
+            | inr ways ↦ elim ways [
+              | inl same ↦ let slots = ap (λ (x : Gone). x.queued.key.slot) same in absurd (omega arith)
+              | inr turned ↦
+                  let back : OneFlow h.queued g.queued =
+                  record { input = sym one.input; output = sym one.output; class = sym one.class } in
+                  let more = turned.1 back in
+                  absurd (omega arith)
+            ]
+          ]
 
 -- ## Of names
 

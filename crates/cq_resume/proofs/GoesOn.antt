@@ -1,7 +1,7 @@
 -- What a run goes on from. The cells that a sound state names are different arrivals before its next slot. So the
 -- fabric that it tells of stands in order, no key is in it twice, and in each list, for each output and in each count
 -- there are no more cells than came, and none has more than there were slots.
-use Rattle.std.proofs.Common.{◌≡◌, ◌≢◌, ℕ, zero, suc, ◌+◌, ◌<◌, ◌≤◌, ◌^◌, ◌⊎◌, Bool, true, false, cond, List, [], ◌∷◌, length, map, Option, None, Some, refl, sym, ap, ◌∙◌, subst, inl, inr, ⊎_elim, arith, length-append}
+use Rattle.std.proofs.Common.{◌≡◌, ◌≢◌, ℕ, zero, suc, ◌+◌, ◌<◌, ◌≤◌, ◌^◌, ◌⊎◌, Bool, true, false, cond, List, [], ◌∷◌, length, get_or, map, Option, None, Some, refl, sym, ap, ◌∙◌, subst, inl, inr, ⊎_elim, arith, length-append}
 use Rattle.std.specs.Prelude.{◌==◌, ◌&&◌, IsSome, filter, find, nat_lt, not, slice_get}
 use Rattle.std.specs.List.{AllByRecursion, enumerate_from, filter_map, range_with_len}
 use Rattle.std.specs.Option.{option_map}
@@ -61,6 +61,23 @@ pub record GoesOn (w : Switch) (x : Frozen) : Type 0 where
   pub outputs : (j : ℕ) (y : OutputFigures) → slice_get x.figures.outputs j ≡ Some y → y.cells ≤ x.next
   pub lists : (i : ℕ) → length (input (fabric_in x) i) ≤ number_of (is_from i) (came_before x.next w.came)
   pub buffers : (j : ℕ) → held_for j (fabric_in x) ≤ number_of (is_to j) (came_before x.next w.came)
+
+-- ## What is told for each number
+
+module _ (told : ℕ → List Queued) (many : ℕ) where
+  abbrev each_told : List (List Queued)
+  each_told = map told (range_with_len 0 many)
+
+  told_at : (i : ℕ) → i < many → get_or each_told i [] ≡ told i
+  told_at i inside = get_or-map-range_with_len told 0 many i i [] inside (omega arith)
+
+  of_told : (P : List Queued → Type 0) → P [] → (i : ℕ) → P (told i) → P (get_or each_told i [])
+  of_told P none i here =
+      ⊎_elim (λ inside. subst P (sym (told_at i inside)) here)
+      (λ past.
+      let long = length-map-range_with_len told 0 many in
+      subst P (sym (get_or_past each_told i [] (omega arith))) none)
+      (cases_lt i many)
 
 -- ## A name and its arrival
 
@@ -303,34 +320,20 @@ module _ (w : Switch) (s : State) (in_range : IsInRange s) (shape : HasShape w s
   -- the list of an input and the buffer of an output
   pub list_is : (i : ℕ) → i < s.head.ports → input f i ≡ list_told w.came s i
   unfolding fabric_told
-  list_is i inside = get_or-map-range_with_len (list_told w.came s) 0 s.head.ports i i [] inside (omega arith)
-
-  no_list : (i : ℕ) → s.head.ports ≤ i → input f i ≡ []
-  unfolding fabric_told
-  no_list i past =
-      let long = length-map-range_with_len (list_told w.came s) 0 s.head.ports in
-      get_or_past (map (list_told w.came s) (range_with_len 0 s.head.ports)) i [] (omega arith)
+  list_is = told_at (list_told w.came s) s.head.ports
 
   pub buffer_is : (j : ℕ) → j < s.head.ports → buffer f j ≡ buffer_told w.came s j
   unfolding fabric_told
-  buffer_is j inside = get_or-map-range_with_len (buffer_told w.came s) 0 s.head.ports j j [] inside (omega arith)
+  buffer_is = told_at (buffer_told w.came s) s.head.ports
 
-  no_buffer : (j : ℕ) → s.head.ports ≤ j → buffer f j ≡ []
-  unfolding fabric_told
-  no_buffer j past =
-      let long = length-map-range_with_len (buffer_told w.came s) 0 s.head.ports in
-      get_or_past (map (buffer_told w.came s) (range_with_len 0 s.head.ports)) j [] (omega arith)
-
-  -- what holds of the list that is told, and of none, holds of each list
+  -- what holds of the one that is told, and of none, holds of each
   of_list : (P : List Queued → Type 0) → P [] → (i : ℕ) → P (list_told w.came s i) → P (input f i)
-  of_list P none i told =
-      ⊎_elim (λ inside. subst P (sym (list_is i inside)) told) (λ past. subst P (sym (no_list i past)) none)
-      (cases_lt i s.head.ports)
+  unfolding fabric_told
+  of_list = of_told (list_told w.came s) s.head.ports
 
   of_buffer : (P : List Queued → Type 0) → P [] → (j : ℕ) → P (buffer_told w.came s j) → P (buffer f j)
-  of_buffer P none j told =
-      ⊎_elim (λ inside. subst P (sym (buffer_is j inside)) told) (λ past. subst P (sym (no_buffer j past)) none)
-      (cases_lt j s.head.ports)
+  unfolding fabric_told
+  of_buffer = of_told (buffer_told w.came s) s.head.ports
 
   -- a cell of a list, and one of a buffer
   pub record InList (i : ℕ) (q : Queued) : Type 0 where

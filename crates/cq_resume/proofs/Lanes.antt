@@ -157,6 +157,18 @@ module _ {X : Type 0} (input lane : X → ℕ) (R : X → X → Type 0) where
       abbrev then : List (Option X)
       then = set now (lane here) (Some here)
 
+      read_here : (l : ℕ) → l ≡ lane here → get_or then l None ≡ Some here
+      read_here l same =
+          ap (λ (k : ℕ). get_or then k None) same ∙ get_or-set_same now (lane here) (Some here) None fits
+
+      read_other : (l : ℕ) → (l ≡ lane here → ⊥) → get_or then l None ≡ get_or now l None
+      read_other l other = get_or-set_other now (lane here) l (Some here) None other
+
+      -- an item of another lane stands at another place
+      not_mine : (l : ℕ) → (l ≡ lane here → ⊥) → (k : ℕ) (d : X) → k ≡ n → lane (get_or xs k d) ≡ l → ⊥
+      not_mine l other k d same in_lane =
+          other (sym in_lane ∙ ap (λ (j : ℕ). lane (get_or xs j d)) same ∙ ap lane (get_or_default xs n d e inside))
+
       -- then it is the last one of its lane
       last_then : AreLast xs (n + 1) (input here) then
       last_then =
@@ -164,10 +176,7 @@ module _ {X : Type 0} (input lane : X → ℕ) (R : X → X → Type 0) where
             some = λ l y is.
                 elim (cases_eq l (lane here)) [
                   | inl same ↦
-                      let read : get_or then l None ≡ Some here =
-                      ap (λ (k : ℕ). get_or then k None) same
-                      ∙ get_or-set_same now (lane here) (Some here) None fits in
-                      let clash : Some here ≡ Some y = sym read ∙ is in
+                      let clash : Some here ≡ Some y = sym (read_here l same) ∙ is in
                       let own : here ≡ y = cc in
                       record {
                         place = n;
@@ -178,7 +187,7 @@ module _ {X : Type 0} (input lane : X → ℕ) (R : X → X → Type 0) where
                         latest = λ k d lt le at in_lane. omega arith;
                       }
                   | inr other ↦
-                      let old = are.some l y (sym (get_or-set_other now (lane here) l (Some here) None other) ∙ is) in
+                      let old = are.some l y (sym (read_other l other) ∙ is) in
                       let below = old.below in
                       record {
                         place = old.place;
@@ -188,11 +197,7 @@ module _ {X : Type 0} (input lane : X → ℕ) (R : X → X → Type 0) where
                         in_lane = old.in_lane;
                         latest = λ k d lt le at in_lane.
                             elim (cases_eq k n) [
-                              | inl same ↦
-                                  let mine : lane here ≡ l =
-                                  ap lane (sym (get_or_default xs n d e inside))
-                                  ∙ ap (λ (j : ℕ). lane (get_or xs j d)) (sym same) ∙ in_lane in
-                                  other (sym mine)
+                              | inl same ↦ not_mine l other k d same in_lane
                               | inr less ↦ old.latest k d lt (omega arith) at in_lane
                             ];
                       }
@@ -200,23 +205,13 @@ module _ {X : Type 0} (input lane : X → ℕ) (R : X → X → Type 0) where
             none = λ l within is k d lt at in_lane.
                 elim (cases_eq l (lane here)) [
                   | inl same ↦
-                      let read : get_or then l None ≡ Some here =
-                      ap (λ (k : ℕ). get_or then k None) same
-                      ∙ get_or-set_same now (lane here) (Some here) None fits in
-                      let clash : Some here ≡ None = sym read ∙ is in
+                      let clash : Some here ≡ None = sym (read_here l same) ∙ is in
                       let P : ⊥ = cc in P
                   | inr other ↦
                       let long = length-set now (lane here) (Some here) in
                       elim (cases_eq k n) [
-                        | inl here_too ↦
-                            let mine : lane here ≡ l =
-                            ap lane (sym (get_or_default xs n d e inside))
-                            ∙ ap (λ (j : ℕ). lane (get_or xs j d)) (sym here_too) ∙ in_lane in
-                            other (sym mine)
-                        | inr less ↦
-                            are.none l (omega arith) (sym (get_or-set_other now (lane here) l (Some here) None other)
-                            ∙ is)
-                            k d (omega arith) at in_lane
+                        | inl own ↦ not_mine l other k d own in_lane
+                        | inr less ↦ are.none l (omega arith) (sym (read_other l other) ∙ is) k d (omega arith) at in_lane
                       ]
                 ];
           }

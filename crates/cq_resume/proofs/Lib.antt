@@ -29,7 +29,6 @@ pub mod Ranged
 pub mod Departed
 pub mod Departing
 pub mod Continued
-pub mod Written
 pub mod Joining
 pub mod Judged
 pub mod Stepped

@@ -27,23 +27,20 @@ pub record Walked (names : List Name) (limits : List (Option ℕ)) (all left : L
   pub counted : with_refused (cells_in (unnamed names left)) now ≡ with_refused (cells_in (unnamed names all)) first
   pub few : CanCount (length left) now
 
-pub walked_first : (names : List Name) (limits : List (Option ℕ)) (all : List Arrival) (first : List Refused) →
+pub walked_first : {names : List Name} {limits : List (Option ℕ)} {all : List Arrival} {first : List Refused} →
     CanCount (length all) first → Walked names limits all all false first first
-walked_first names limits all first can = record { marks = refl; counted = refl; few = can }
+walked_first can = record { marks = refl; counted = refl; few = can }
 
 -- none is left
-pub walked_mark : (names : List Name) (limits : List (Option ℕ)) (all left : List Arrival) (mark : Bool)
-    (first now : List Refused) → Walked names limits all left mark first now → left ≡ [] →
-    Some mark ≡ mark_on (has_name names) (has_limit limits) false all
-walked_mark names limits all left mark first now known none =
-    sym (ap (λ (l : List Arrival). mark_on (has_name names) (has_limit limits) mark l) none) ∙ known.marks
+module _ {names : List Name} {limits : List (Option ℕ)} {all left : List Arrival} {mark : Bool}
+    {first now : List Refused} (known : Walked names limits all left mark first now) (none : left ≡ []) where
+  pub walked_mark : Some mark ≡ mark_on (has_name names) (has_limit limits) false all
+  walked_mark = sym (ap (λ (l : List Arrival). mark_on (has_name names) (has_limit limits) mark l) none) ∙ known.marks
 
-pub walked_counts : (names : List Name) (limits : List (Option ℕ)) (all left : List Arrival) (mark : Bool)
-    (first now : List Refused) → Walked names limits all left mark first now → left ≡ [] →
-    now ≡ with_refused (cells_in (unnamed names all)) first
-walked_counts names limits all left mark first now known none =
-    sym (none_counted now)
-    ∙ sym (ap (λ (l : List Arrival). with_refused (cells_in (unnamed names l)) now) none) ∙ known.counted
+  pub walked_counts : now ≡ with_refused (cells_in (unnamed names all)) first
+  walked_counts =
+      sym (none_counted now)
+      ∙ sym (ap (λ (l : List Arrival). with_refused (cells_in (unnamed names l)) now) none) ∙ known.counted
 
 module _ (names : List Name) (limits : List (Option ℕ)) (all left rest : List Arrival) (mark : Bool)
     (first now : List Refused) (known : Walked names limits all left mark first now) (a : Arrival)
@@ -126,13 +123,13 @@ module _ (ports input from next : ℕ) (came : List Arrival) (a : Arrival) (rest
   pub comes_here : a.cell.id.input ≡ input
   comes_here = there.1
 
-module _ (names : List Name) (limits : List (Option ℕ)) (all rest : List Arrival) (mark : Bool)
-    (first now : List Refused) (input from next : ℕ) (came : List Arrival)
-    (known : Walked names limits all (coming input from next came) mark first now) (slot : ℕ) (cell : Cell)
-    (splits : coming input from next came ≡ record { slot = slot; cell = cell } ∷ rest) (is_told limited may : Bool)
+module _ (input from next : ℕ) (came : List Arrival) {names : List Name} {limits : List (Option ℕ)}
+    {all rest : List Arrival} {mark : Bool} {first now : List Refused}
+    (known : Walked names limits all (coming input from next came) mark first now) {slot : ℕ} {cell : Cell}
+    (splits : coming input from next came ≡ record { slot = slot; cell = cell } ∷ rest) {is_told limited may : Bool}
     (name : is_told ≡ list_any (λ n. eqb n.queued.key.slot slot && eqb n.queued.key.input input) names)
-    (limit : limited ≡ has_limit limits cell.output) (test : may ≡ may_come
-    (cell.id.index == 0) is_told limited mark) where
+    (limit : limited ≡ has_limit limits cell.output)
+    (test : may ≡ may_come (cell.id.index == 0) is_told limited mark) where
   abbrev its : Arrival
   its = record { slot = slot; cell = cell }
 

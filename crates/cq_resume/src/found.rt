@@ -61,6 +61,7 @@ fn told_of(schedule: &Schedule, next: Slot, named: Named) -> Option<Queued>
 }
 
 // The cells of these names. None where one of them does not arrive before the next slot.
+#[tactic(auto, using(crate::proofs::Zipped::zip_all))]
 fn told_all(
     alloc: Global,
     schedule: &Schedule,
@@ -82,6 +83,7 @@ fn told_all(
 }
 
 // The cells that were sent. None where one of them does not arrive before the next slot.
+#[tactic(auto, using(crate::proofs::Zipped::zip_all))]
 fn gone_all(
     alloc: Global,
     schedule: &Schedule,

@@ -5,6 +5,7 @@
 #![tactic(auto)]
 
 mod between;
+mod copies;
 mod floors;
 mod flows;
 mod found;

@@ -8,6 +8,7 @@ ghost use Rattle.cq_resume.specs.Switch.{Switch};
 ghost use Rattle.cq_resume.specs.Taking.{CanTakeUp, departed, figures_at_input, longer, with_departure};
 
 use crate::between::between;
+use crate::copies::copied;
 use crate::found::{Found, Gone, Name, names_at};
 use crate::packets::Tally;
 use crate::slack::buffer_at;
@@ -42,45 +43,29 @@ fn list_at(listed: &[Queued], input: Port) -> &[Queued]
     )
 }
 
-// These cells, as a value.
-fn cells_of(alloc: Global, cells: &[Queued]) -> Result<Sequence<Queued>, NoMemory>
-    ensures { IfOk result (λ copy. copy ≡ cells.now) }
-{
-    Ok(Sequence::of(Vec::from_slice(alloc, cells)?))
-}
-
-// The list of each input.
-fn lists_of(
+// The list of each input, and the buffer of each output.
+fn queues_of(
     alloc: Global,
     listed: &[Queued],
-    ports: u16,
-) -> Result<Sequence<Sequence<Queued>>, NoMemory>
-    requires { AllPairs IsNoLaterInput listed.now }
-    ensures { IfOk result (λ lists. lists ≡ map (λ i. filter (λ q. q.key.input == i) listed.now) (range_with_len 0 ports)) }
-{
-    let mut lists = Vec::new(alloc);
-    'inputs: for input in 0..ports {
-        let cells = cells_of(alloc, list_at(listed, input))?;
-        lists.push(cells)?;
-    }
-    Ok(Sequence::of(lists))
-}
-
-// The buffer of each output.
-fn buffers_of(
-    alloc: Global,
     buffered: &[Queued],
     ports: u16,
-) -> Result<Sequence<Sequence<Queued>>, NoMemory>
-    requires { BuffersStand buffered.now }
-    ensures { IfOk result (λ buffers. buffers ≡ map (λ j. filter (λ q. q.cell.output == j) buffered.now) (range_with_len 0 ports)) }
+) -> Result<(Sequence<Sequence<Queued>>, Sequence<Sequence<Queued>>), NoMemory>
+    requires listed { AllPairs IsNoLaterInput listed.now }
+    requires buffered { BuffersStand buffered.now }
+    ensures lists { IfOk result (λ queues. queues.0
+        ≡ map (λ i. filter (λ q. q.key.input == i) listed.now) (range_with_len 0 ports)) }
+    ensures buffers { IfOk result (λ queues. queues.1
+        ≡ map (λ j. filter (λ q. q.cell.output == j) buffered.now) (range_with_len 0 ports)) }
 {
+    let mut lists = Vec::new(alloc);
     let mut buffers = Vec::new(alloc);
-    'outputs: for output in 0..ports {
-        let cells = cells_of(alloc, buffer_at(buffered, output))?;
-        buffers.push(cells)?;
+    'ports: for port in 0..ports {
+        let list = copied(alloc, list_at(listed, port))?;
+        let buffer = copied(alloc, buffer_at(buffered, port))?;
+        lists.push(list)?;
+        buffers.push(buffer)?;
     }
-    Ok(Sequence::of(buffers))
+    Ok((Sequence::of(lists), Sequence::of(buffers)))
 }
 
 // The departure of a cell that was sent.
@@ -209,8 +194,7 @@ pub fn take_up(alloc: Global, state: State, found: Found, tally: Tally) -> Resul
     let slots = slots_of(&sent);
     let inputs = inputs_of(alloc, &found.names, inputs.as_slice())?;
     let outputs = outputs_of(alloc, &sent, head.ports)?;
-    let lists = lists_of(alloc, &found.listed, head.ports)?;
-    let buffers = buffers_of(alloc, &found.buffered, head.ports)?;
+    let (lists, buffers) = queues_of(alloc, &found.listed, &found.buffered, head.ports)?;
     let figures = Figures {
         slots,
         proposals: head.proposals,

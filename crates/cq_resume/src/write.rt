@@ -6,6 +6,7 @@ ghost use Rattle.cq_state.specs.Refusals.{IsTooLong};
 ghost use Rattle.cq_state.specs.State.{state_text};
 
 use crate::Frozen;
+use crate::copies::copied;
 use cq_base::{Departure, InputFigures, NoMemory, Port, Queued, Sequence, Transfer};
 use cq_state::{Head, Named, Seen, Sent, State, StateLong, text_of};
 use std::alloc::{AllocError, Global};
@@ -52,13 +53,6 @@ fn all_seen(alloc: Global, inputs: &[InputFigures]) -> Result<Vec<Seen>, AllocEr
         .collect(alloc)
 }
 
-// The numbers of a rank state.
-fn numbers_of(alloc: Global, numbers: &[u128]) -> Result<Sequence<u128>, NoMemory>
-    ensures { IfOk result (λ copy. copy ≡ numbers.now) }
-{
-    Ok(Sequence::of(Vec::from_slice(alloc, numbers)?))
-}
-
 // The numbers of each rank state.
 fn all_numbers(
     alloc: Global,
@@ -68,7 +62,7 @@ fn all_numbers(
 {
     let mut copies = Vec::new(alloc);
     'outputs: for output in 0..ranks.len() {
-        let copy = numbers_of(alloc, ranks[output].as_slice())?;
+        let copy = copied(alloc, ranks[output].as_slice())?;
         copies.push(copy)?;
     }
     Ok(Sequence::of(copies))
@@ -101,13 +95,6 @@ fn all_sent(alloc: Global, sent: &[Departure]) -> Result<Vec<Sent>, AllocError>
         .collect(alloc)
 }
 
-// The transfers.
-fn all_moved(alloc: Global, note: &[Transfer]) -> Result<Sequence<Transfer>, NoMemory>
-    ensures { IfOk result (λ moved. moved ≡ note.now) }
-{
-    Ok(Sequence::of(Vec::from_slice(alloc, note)?))
-}
-
 // What a stopped run tells, with this at its head.
 fn told(
     alloc: Global,
@@ -125,7 +112,7 @@ fn told(
         listed: all_named(alloc, frozen.lists.as_slice())?,
         buffered: all_named(alloc, frozen.buffers.as_slice())?,
         sent: Sequence::of(all_sent(alloc, sent)?),
-        moved: all_moved(alloc, note)?,
+        moved: copied(alloc, note)?,
     })
 }
 

@@ -1,16 +1,14 @@
-use Rattle.std.proofs.Common.{◌≡◌, ℕ, ◌<◌, ◌++◌, true, false, List, Option, None, Some, map, refl, sym, ◌∙◌, subst}
+use Rattle.std.proofs.Common.{◌≡◌, ◌<◌, ◌++◌, true, false, List, Option, None, Some, map, refl, sym, ◌∙◌, subst}
 use Rattle.std.specs.Prelude.{IfNone, IfSome}
-use Rattle.std.specs.List.{AllByRecursion, AllPairs}
-use Rattle.cq_base.specs.Arriving.{Arrival}
-use Rattle.cq_base.specs.declared.cell.Queued.{Queued}
-use Rattle.cq_resume.specs.Finding.{AreGone, AreFound, IsNameBefore, SomeMissed, told_of}
-use Rattle.cq_resume.specs.declared.found.Gone.{Gone}
+use Rattle.std.specs.List.{AllByRecursion, AllPairs, AllZip}
+use Rattle.cq_resume.specs.Finding.{IsGone, IsNameBefore, IsTold, SomeMissed, told_of}
 use Rattle.cq_resume.specs.declared.found.Name.{Name}
-use Rattle.cq_resume.proofs.Arrived.{are_arrivals, arrivals_rise, buffered_missed, images_held, sent_missed}
+use Rattle.cq_resume.proofs.Arrived.{AreLookedUp, are_arrivals, arrivals_rise, buffered_missed, images_held, sent_missed}
 use Rattle.cq_resume.proofs.Each.{all_left, all_right}
 use Rattle.cq_state.specs.declared.state.Named.{Named}
 use Rattle.cq_state.specs.declared.state.Sent.{Sent}
 use Rattle.cq_resume.proofs.found.find.Goals as goal
+use Rattle.cq_resume.proofs.found.find.Goals.{In_ok-names}
 
 -- what is said of an answer, where there is one and where there is none
 some_is : {X : Type 0} (o : Option X) (P : X → Type 0) (x : X) → o ≡ Some x → IfSome o P → P x
@@ -20,17 +18,26 @@ none_is : {X : Type 0} (o : Option X) (P : Type 0) → o ≡ None → IfNone o P
 none_is o P is holds = subst (λ (a : Option _). IfNone a P) is holds
 
 -- the same of the same lists
-are_told : (came : List Arrival) (next : ℕ) (names names' : List Named) (told told' : List Queued) →
-    names ≡ names' → told' ≡ told → AreFound came next names told → AreFound came next names' told'
-are_told came next names names' told told' own is all =
-    subst (λ (l : List Named). AreFound came next l told') own
-    (subst (λ (l : List Queued). AreFound came next names l) (sym is) all)
+zip_same : {A B : Type 0} (R : A → B → Type 0) (xs xs' : List A) (ys ys' : List B) → xs ≡ xs' → ys' ≡ ys →
+    AllZip R xs ys → AllZip R xs' ys'
+zip_same {A} {B} R xs xs' ys ys' own is all =
+    subst (λ (l : List A). AllZip R l ys') own (subst (λ (l : List B). AllZip R xs l) (sym is) all)
 
-are_gone : (came : List Arrival) (next : ℕ) (sent sent' : List Sent) (gone gone' : List Gone) →
-    sent ≡ sent' → gone' ≡ gone → AreGone came next sent gone → AreGone came next sent' gone'
-are_gone came next sent sent' gone gone' own is all =
-    subst (λ (l : List Sent). AreGone came next l gone') own
-    (subst (λ (l : List Gone). AreGone came next sent l) (sym is) all)
+-- what was looked up, where no name is missed
+looked_up : (c : In_ok-names) → AreLookedUp c.args.schedule.now.came c.args.state.now c.deref.result.now
+    c.deref-2.result.now c.deref-3.result.now c.in_ok-names.names.items
+looked_up c =
+    let came = c.args.schedule.now.came in
+    let next = c.args.state.now.head.next in
+    record {
+      listed_are = zip_same (IsTold came next) _ _ _ _ c.as_slice.ensures c.deref.ensures.value
+          (some_is _ _ _ c.in-Some.is c.in_ok-listed.ensures.told);
+      buffered_are = zip_same (IsTold came next) _ _ _ _ c.as_slice-2.ensures c.deref-2.ensures.value
+          (some_is _ _ _ c.in-Some-buffered.is c.in_ok-buffered.ensures.told);
+      sent_are = zip_same (IsGone came next) _ _ _ _ c.as_slice-3.ensures c.deref-3.ensures.value
+          (some_is _ _ _ c.in-Some-sent.is c.in_ok-sent.ensures.gone);
+      same = c.in_ok-names.ensures.same;
+    }
 
 pub told_all-requires-2 : goal.told_all-requires-2
 told_all-requires-2 c =
@@ -72,16 +79,8 @@ pub returns-then-not-differ-clause-refused : goal.returns-then-not-differ-clause
 returns-then-not-differ-clause-refused c = (
   refl,
   (λ are.
-      let came = c.args.schedule.now.came in
-      let s = c.args.state.now in
       let rising =
-      arrivals_rise came s c.deref.result.now c.deref-2.result.now c.deref-3.result.now
-      (are_told came s.head.next _ _ _ _ c.as_slice.ensures c.deref.ensures.value
-      (some_is _ _ _ c.in-Some.is c.in_ok-listed.ensures.told))
-      (are_told came s.head.next _ _ _ _ c.as_slice-2.ensures c.deref-2.ensures.value
-      (some_is _ _ _ c.in-Some-buffered.is c.in_ok-buffered.ensures.told))
-      (are_gone came s.head.next _ _ _ _ c.as_slice-3.ensures c.deref-3.ensures.value
-      (some_is _ _ _ c.in-Some-sent.is c.in_ok-sent.ensures.gone)) c.in_ok-names.names.items c.in_ok-names.ensures.same
+      arrivals_rise _ _ (looked_up (goal.at.returns-then-not-differ-clause-refused c).In_ok-names)
       c.in_ok-names.ensures.ordered are in
       let clash : false ≡ true =
       sym c.if-not-differ.true
@@ -91,14 +90,6 @@ returns-then-not-differ-clause-refused c = (
 
 pub returns-clause-arrive : goal.returns-clause-arrive
 returns-clause-arrive c =
-    let came = c.args.schedule.now.came in
-    let s = c.args.state.now in
-    are_arrivals came s c.deref.result.now c.deref-2.result.now c.deref-3.result.now
-    (are_told came s.head.next _ _ _ _ c.as_slice.ensures c.deref.ensures.value
-    (some_is _ _ _ c.in-Some.is c.in_ok-listed.ensures.told))
-    (are_told came s.head.next _ _ _ _ c.as_slice-2.ensures c.deref-2.ensures.value
-    (some_is _ _ _ c.in-Some-buffered.is c.in_ok-buffered.ensures.told))
-    (are_gone came s.head.next _ _ _ _ c.as_slice-3.ensures c.deref-3.ensures.value
-    (some_is _ _ _ c.in-Some-sent.is c.in_ok-sent.ensures.gone)) c.in_ok-names.names.items c.in_ok-names.ensures.same
+    are_arrivals _ _ (looked_up (goal.at.returns-clause-arrive c).In_ok-names)
     (subst (λ (l : List Name). AllPairs IsNameBefore l) c.deref-4.ensures.value
     (c.differ.ensures.0 c.if-not-differ.false))

@@ -1,7 +1,7 @@
 use Rattle.std.proofs.Common.{◌≡◌, ◌<◌, None, refl, sym, ◌∙◌}
 use Rattle.cq_resume.specs.Finding.{IsGone, told_of}
 use Rattle.cq_resume.proofs.Each.{all_at}
-use Rattle.cq_resume.proofs.Zipped.{zip_all, zip_more}
+use Rattle.cq_resume.proofs.Zipped.{zip_more}
 use Rattle.cq_state.specs.declared.state.Sent.{Sent}
 use Rattle.cq_resume.proofs.found.gone_all.Goals as goal
 
@@ -15,11 +15,6 @@ sent-preserved c =
     zip_more (IsGone c.args.schedule.now.came c.args.next) c.args.sent.now c.sent.departure-index _ c.sent.all.items
     c.push.new.self.items _ c.sent-test.true c.sent.invariant (refl, sym c.told_of.ensures ∙ c.in-Some.is)
     c.in_ok-push-in-Some.ensures.items
-
-pub returns-clause-gone : goal.returns-clause-gone
-returns-clause-gone c =
-    zip_all (IsGone c.args.schedule.now.came c.args.next) c.args.sent.now c.sent.departure-index c.sent.all.items
-    c.sent-test.false c.sent.invariant
 
 pub returns-in-None-clause-none : goal.returns-in-None-clause-none
 returns-in-None-clause-none c all =

@@ -1,7 +1,7 @@
 use Rattle.std.proofs.Common.{◌≡◌, ◌<◌, None, sym, ◌∙◌}
 use Rattle.cq_resume.specs.Finding.{IsTold, told_of}
 use Rattle.cq_resume.proofs.Each.{all_at}
-use Rattle.cq_resume.proofs.Zipped.{zip_all, zip_more}
+use Rattle.cq_resume.proofs.Zipped.{zip_more}
 use Rattle.cq_state.specs.declared.state.Named.{Named}
 use Rattle.cq_resume.proofs.found.told_all.Goals as goal
 
@@ -15,11 +15,6 @@ names-preserved c =
     zip_more (IsTold c.args.schedule.now.came c.args.next) c.args.named.now c.names.name-index _ c.names.all.items
     c.push.new.self.items c.in-Some.queued c.names-test.true c.names.invariant
     (sym c.told_of.ensures ∙ c.in-Some.is) c.in_ok-push-in-Some.ensures.items
-
-pub returns-clause-told : goal.returns-clause-told
-returns-clause-told c =
-    zip_all (IsTold c.args.schedule.now.came c.args.next) c.args.named.now c.names.name-index c.names.all.items
-    c.names-test.false c.names.invariant
 
 pub returns-in-None-clause-none : goal.returns-in-None-clause-none
 returns-in-None-clause-none c all =

@@ -37,8 +37,8 @@ outputs_of-requires c =
     subst (λ (l : List Departure). AllByRecursion (λ d. d.output < c.args.state.head.ports) l) (sym all)
     (departed_for c.args.state.head.ports c.args.found.sent.items c.requires.outputs)
 
-pub lists_of-requires : goal.lists_of-requires
-lists_of-requires c =
+pub queues_of-requires-clause-listed : goal.queues_of-requires-clause-listed
+queues_of-requires-clause-listed c =
     subst (λ (l : List Queued). AllPairs IsNoLaterInput l) (sym c.deref-5.ensures.value) c.requires.lists
 
 pub returns : goal.returns
@@ -55,8 +55,8 @@ returns c w found tally =
     (c.in_ok-outputs.ensures
     ∙ ap (λ (l : List Departure). map (output_told l) ports) (c.deref-4.ensures.value ∙ gone))
     refl refl refl
-    (c.in_ok-lists.ensures
+    (c.in_ok-lists.ensures.lists
     ∙ ap (λ (l : List Queued). map (λ (i : ℕ). filter (λ q. eqb q.key.input i) l) ports) c.deref-5.ensures.value)
-    (c.in_ok-buffers.ensures
+    (c.in_ok-lists.ensures.buffers
     ∙ ap (λ (l : List Queued). map (λ (j : ℕ). filter (λ q. eqb q.cell.output j) l) ports) c.deref-6.ensures.value)
     (c.of.ensures ∙ gone) refl

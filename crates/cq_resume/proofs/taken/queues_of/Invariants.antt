@@ -1,0 +1,10 @@
+use Rattle.std.proofs.Common.{◌≡◌, map}
+use Rattle.std.specs.List.{range_with_len}
+use Rattle.cq_resume.proofs.Copied.{buffered_at, listed_at}
+use Rattle.cq_resume.proofs.taken.queues_of.Given as goal
+
+abbrev pub invariant-ports : goal.invariant-ports
+invariant-ports l = record {
+  lists : l.lists.items ≡ map (listed_at l.listed) (range_with_len 0 l.port);
+  buffers : l.buffers.items ≡ map (buffered_at l.buffered) (range_with_len 0 l.port);
+}
