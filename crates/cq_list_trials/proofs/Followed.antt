@@ -126,7 +126,7 @@ pub record Changing (m : Partners) (slot n : ℕ) (old now : List Waiting) : Typ
   pub waits : (i : ℕ) (none : Waiting) → n ≤ i → i < length old → get_or now i none ≡ get_or old i none
   pub same : (i : ℕ) → IsSameBut (partner_of m i) (list_of (cells_of old) i) (list_of (cells_of now) i)
 
-module _ (m : Partners) (slot n : ℕ) (old now : List Waiting) (had : Changing m slot n old now) where
+module _ {m : Partners} {slot n : ℕ} {old now : List Waiting} (had : Changing m slot n old now) where
   -- the list of input n stays
   pub past_changed : AreOwn slot old → Changing m slot (n + 1) old now
   past_changed own =

@@ -1,3 +1,2 @@
-pub mod Arriving
 pub mod Crossing
 pub mod Followed

@@ -1,31 +1,22 @@
 //! A phase by workers: worked examples by one and by several, and workers who wait for one another.
 ghost use Rattle.std.specs.Prelude.{◌≡◌, ◌<◌, ◌≤◌, IfOk};
 
-use super::meeting::Meeting;
 use super::opposed::opposed_offers;
-use super::waiting::{arrive, waiting};
 use cq_base::Port;
 use cq_crew::{OpenGate, Settled, pair_phase};
-use cq_list::InputList;
 use cq_pair::{Core, LowestFirst};
 use cq_prefs::{Matching, Offers};
+use cq_trial_kit::{Meeting, list_of};
 use std::alloc::Global;
 use std::test::Fail;
 use std::thread::Threads;
 
-// The list of an input of two, with one cell for the output of its own number.
-fn list_for_one(alloc: Global, input: Port) -> Result<InputList, Fail>
-    requires { input < 2 }
-    ensures { IfOk result (λ list. list.outputs ≡ 2) }
-{
-    let mut list = InputList::new(alloc, 2, 1)?;
-    arrive(&mut list, waiting(input, input, 0, 0));
-    Ok(list)
-}
-
 // Two inputs, each with an offer to the output of its own number.
 fn offers_apart(alloc: Global) -> Result<Offers, Fail> {
-    let lists = [list_for_one(alloc, 0)?, list_for_one(alloc, 1)?];
+    let lists = [
+        list_of(alloc, 0, 2, &[(0, 0)])?,
+        list_of(alloc, 1, 2, &[(1, 0)])?,
+    ];
     let mut offers = Offers::new(alloc, 2)?;
     offers.fill(&lists);
     Ok(offers)
@@ -82,9 +73,8 @@ fn any_number_of_workers_comes_to_the_same(rt: HostRuntime) -> Result<(), Fail> 
         for workers in [1u16, 2, 64] {
             let settled = settled_by(&rt, rt.alloc(), &offers, workers)?;
             let outputs = last_to_first(rt.alloc(), ports)?;
-            assert_eq!(rt;
-                settled,
-                (workers > 1, outputs, proposals),
+            assert!(rt;
+                settled == (workers > 1, outputs, proposals),
                 "{ports} ports, {workers} workers"
             );
         }
@@ -97,11 +87,8 @@ fn one_core_comes_to_the_same(rt: HostRuntime) -> Result<(), Fail> {
     let offers = opposed_offers(rt.alloc(), 64)?;
     let mut core = Core::begin(&offers);
     core.settle(&offers, &mut LowestFirst);
-    assert_eq!(rt;
-        partners(rt.alloc(), core.pairs())?,
-        last_to_first(rt.alloc(), 64)?
-    );
-    assert_eq!(rt; core.made(), 2080);
+    assert!(rt; partners(rt.alloc(), core.pairs())? == last_to_first(rt.alloc(), 64)?);
+    assert!(rt; core.made() == 2080);
     Ok(())
 }
 
@@ -109,7 +96,7 @@ fn one_core_comes_to_the_same(rt: HostRuntime) -> Result<(), Fail> {
 fn without_offers_there_is_nothing_to_share(rt: HostRuntime) -> Result<(), Fail> {
     let offers = Offers::new(rt.alloc(), 3)?;
     let (shared, partners, proposals) = settled_by(&rt, rt.alloc(), &offers, 64)?;
-    assert_eq!(rt; partners.as_slice(), [None; 3].as_slice());
+    assert!(rt; partners.as_slice() == [None; 3].as_slice());
     assert!(rt; !shared && proposals == 0);
     Ok(())
 }
@@ -149,11 +136,11 @@ fn met<R: Threads + Sync>(
 #[test]
 fn two_workers_meet(rt: HostRuntime) -> Result<(), Fail> {
     let (partners, proposals, held) = met(&rt, rt.alloc(), &offers_apart(rt.alloc())?, 2)?;
-    assert_eq!(rt; partners.as_slice(), [Some(0), Some(1)].as_slice());
-    assert_eq!(rt; [proposals, held], [2, 2]);
+    assert!(rt; partners.as_slice() == [Some(0), Some(1)].as_slice());
+    assert!(rt; [proposals, held] == [2, 2]);
     let (partners, proposals, held) = met(&rt, rt.alloc(), &opposed_offers(rt.alloc(), 2)?, 2)?;
-    assert_eq!(rt; partners.as_slice(), [Some(1), Some(0)].as_slice());
-    assert_eq!(rt; [proposals, held], [3, 2]);
+    assert!(rt; partners.as_slice() == [Some(1), Some(0)].as_slice());
+    assert!(rt; [proposals, held] == [3, 2]);
     Ok(())
 }
 
@@ -163,8 +150,8 @@ fn two_workers_and_three_meet_over_three_inputs(rt: HostRuntime) -> Result<(), F
     let offers = opposed_offers(rt.alloc(), 3)?;
     for workers in [2u16, 3] {
         let (partners, proposals, held) = met(&rt, rt.alloc(), &offers, workers)?;
-        assert_eq!(rt; partners.as_slice(), [Some(2), Some(1), Some(0)].as_slice());
-        assert_eq!(rt; [proposals, held], [6, 3]);
+        assert!(rt; partners.as_slice() == [Some(2), Some(1), Some(0)].as_slice());
+        assert!(rt; [proposals, held] == [6, 3]);
     }
     Ok(())
 }

@@ -1,35 +1,5 @@
-//! Numbers that look drawn, the same in each run.
+//! Numbers that look drawn, one from the other.
 ghost use Rattle.std.specs.Prelude.{◌<◌, ◌^◌};
-
-/// A linear congruential generator, with the constants of Knuth's MMIX.
-#[derive(Drop)]
-pub(super) struct Draws {
-    pub(super) state: u64,
-}
-
-impl Draws {
-    fn step(&mut self) {
-        self.state = self
-            .state
-            .wrapping_mul(6_364_136_223_846_793_005)
-            .wrapping_add(1_442_695_040_888_963_407);
-    }
-
-    /// The next number below the end.
-    pub(super) fn below(&mut self, end: u64) -> u64
-        requires { 0 < end }
-        ensures { result < end }
-    {
-        self.step();
-        (self.state >> 33) % end
-    }
-
-    /// The next number of 16 bits.
-    pub(super) fn word(&mut self) -> u16 {
-        self.step();
-        (self.state >> 48) as u16
-    }
-}
 
 /// The number after this one, by the generator that the standard of C gives as an example.
 pub(super) fn next_draw(draw: u64) -> u64

@@ -7,11 +7,10 @@ ghost use Rattle.cq_list_trials.specs.Followed.{AreOwn, HasChanged, IsOwn};
 ghost use Rattle.cq_prefs.specs.Orders.{ports};
 ghost use Rattle.cq_prefs.specs.Pairing.{IsFreeOutput};
 
-use super::draws::Draws;
-use super::waiting::waiting;
 use cq_base::{NoMemory, Port, Queued};
 use cq_list::InputList;
 use cq_prefs::{Matching, Offers};
+use cq_trial_kit::{Draws, waiting};
 use std::alloc::Global;
 use std::marker::Model;
 use std::test::Fail;
@@ -202,7 +201,7 @@ impl Followed {
 
 #[test]
 fn renewed_offers_are_those_that_are_filled_anew(rt: HostRuntime) -> Result<(), Fail> {
-    let mut drawn = Draws { state: 2 };
+    let mut drawn = Draws::from_seed(2);
     for ports in 1..13 {
         let mut switch = Followed::new(rt.alloc(), ports)?;
         let mut filled = Offers::new(rt.alloc(), ports)?;

@@ -4,32 +4,22 @@ ghost use Rattle.cq_prefs.specs.Orders.{ports};
 ghost use Rattle.cq_ledger.specs.Seats.{HasClaimedAll, IsSeatOf};
 
 use super::opposed::opposed_offers;
-use super::waiting::{arrive, waiting};
 use cq_base::Port;
 use cq_ledger::{Ledger, LedgerSeat, Outcome};
-use cq_list::InputList;
 use cq_prefs::{Matching, Offers};
+use cq_trial_kit::list_of;
 use std::alloc::Global;
 use std::test::Fail;
 use std::thread::{Threads, join};
-
-// The list of an input, with one cell for output 0.
-fn list_for_the_first(alloc: Global, input: Port, rank: u128) -> Result<InputList, Fail>
-    ensures { IfOk result (λ list. list.outputs ≡ 3) }
-{
-    let mut list = InputList::new(alloc, 3, 1)?;
-    arrive(&mut list, waiting(input, 0, rank, 0));
-    Ok(list)
-}
 
 // Each input has an offer to output 0 alone, which prefers inputs 2, 1 and 0 in this order.
 fn contested_offers(alloc: Global) -> Result<Offers, Fail>
     ensures { IfOk result (λ offers. ports offers ≡ 3) }
 {
     let lists = [
-        list_for_the_first(alloc, 0, 2)?,
-        list_for_the_first(alloc, 1, 1)?,
-        list_for_the_first(alloc, 2, 0)?,
+        list_of(alloc, 0, 3, &[(0, 2)])?,
+        list_of(alloc, 1, 3, &[(0, 1)])?,
+        list_of(alloc, 2, 3, &[(0, 0)])?,
     ];
     let mut offers = Offers::new(alloc, 3)?;
     offers.fill(&lists);
@@ -107,72 +97,87 @@ fn closed_with_both(
     closed(ledger, seat)
 }
 
+// What a seat comes to: the answer of a claim with the hand after it, and what each of three proposals comes to with
+// the hand that it leaves.
+type Work = (
+    (Option<bool>, Option<Port>),
+    [(Option<Outcome>, Option<Port>); 3],
+);
+
+const NO_PROPOSAL: (Option<Outcome>, Option<Port>) = (None, None);
+
+// What a proposal comes to, and the hand that it leaves.
+fn proposed_on(ledger: &Ledger, seat: &mut LedgerSeat) -> (Option<Outcome>, Option<Port>)
+    requires { IsSeatOf ledger.now seat.old }
+    ensures { IsSeatOf ledger.now seat.new }
+{
+    (proposed(ledger, seat), seat.hand())
+}
+
+// Claims an input, and proposes three times at most.
+fn worked(ledger: &Ledger, seat: &mut LedgerSeat, input: Port) -> Work
+    requires seat { IsSeatOf ledger.now seat.old }
+    requires ports { ports ledger.now.offers ≡ 3 }
+    ensures { IsSeatOf ledger.now seat.new }
+{
+    let claim = (claimed(ledger, seat, input), seat.hand());
+    let proposals = [
+        proposed_on(ledger, seat),
+        proposed_on(ledger, seat),
+        proposed_on(ledger, seat),
+    ];
+    (claim, proposals)
+}
+
+// The work of a seat that has claimed an input, where its proposals come to this.
+fn work_for(input: Port, proposals: [(Option<Outcome>, Option<Port>); 3]) -> Work {
+    ((Some(true), Some(input)), proposals)
+}
+
 #[test]
 fn two_seats_share_one_ledger(rt: HostRuntime) -> Result<(), Fail> {
     use Outcome::{Displaced, Held};
+    let held = (Some(Held), None);
     let offers = opposed_offers(rt.alloc(), 3)?;
     let (ledger, mut a) = Ledger::start(rt.alloc(), &offers)?;
     let mut b = ledger.split(&mut a);
-    assert_eq!(rt; claimed(&ledger, &mut a, 0), Some(true));
-    assert_eq!(rt; a.hand(), Some(0));
-    assert_eq!(rt; proposed(&ledger, &mut a), Some(Held));
-    assert_eq!(rt; a.hand(), None);
-    assert_eq!(rt; claimed(&ledger, &mut b, 1), Some(true));
-    assert_eq!(rt; proposed(&ledger, &mut b), Some(Displaced(0)));
-    assert_eq!(rt; b.hand(), Some(0));
-    assert_eq!(rt; proposed(&ledger, &mut b), Some(Held));
-    assert_eq!(rt; claimed(&ledger, &mut a, 2), Some(true));
-    assert_eq!(rt; proposed(&ledger, &mut a), Some(Displaced(1)));
-    assert_eq!(rt; proposed(&ledger, &mut a), Some(Displaced(0)));
-    assert_eq!(rt; proposed(&ledger, &mut a), Some(Held));
-    assert_eq!(rt; claimed(&ledger, &mut a, 1), Some(false));
-    assert_eq!(rt; [a.made(), b.made()], [4, 2]);
-    assert_eq!(rt;
-        [a.claimed(0), a.claimed(1), a.claimed(2), b.claimed(1)],
-        [true, false, true, true]
-    );
-    assert_eq!(rt;
-        closed_with_both(ledger, a, b),
-        Some(([Some(2), Some(1), Some(0)], 6))
-    );
+    let first = [held, NO_PROPOSAL, NO_PROPOSAL];
+    assert!(rt; worked(&ledger, &mut a, 0) == work_for(0, first));
+    let second = [(Some(Displaced(0)), Some(0)), held, NO_PROPOSAL];
+    assert!(rt; worked(&ledger, &mut b, 1) == work_for(1, second));
+    let third = [
+        (Some(Displaced(1)), Some(1)),
+        (Some(Displaced(0)), Some(0)),
+        held,
+    ];
+    assert!(rt; worked(&ledger, &mut a, 2) == work_for(2, third));
+    assert!(rt; claimed(&ledger, &mut a, 1) == Some(false));
+    let claims = [a.claimed(0), a.claimed(1), a.claimed(2), b.claimed(1)];
+    assert!(rt; claims == [true, false, true, true] && [a.made(), b.made()] == [4, 2]);
+    assert!(rt; closed_with_both(ledger, a, b) == Some(([Some(2), Some(1), Some(0)], 6)));
     Ok(())
 }
 
 #[test]
 fn one_seat_claims_every_input(rt: HostRuntime) -> Result<(), Fail> {
     use Outcome::{Held, Rejected};
+    let held = (Some(Held), None);
     let offers = opposed_offers(rt.alloc(), 3)?;
     let (ledger, mut seat) = Ledger::start(rt.alloc(), &offers)?;
-    assert_eq!(rt; claimed(&ledger, &mut seat, 2), Some(true));
-    assert_eq!(rt; proposed(&ledger, &mut seat), Some(Held));
-    assert_eq!(rt; claimed(&ledger, &mut seat, 1), Some(true));
-    assert_eq!(rt; proposed(&ledger, &mut seat), Some(Rejected));
-    assert_eq!(rt; proposed(&ledger, &mut seat), Some(Held));
-    assert_eq!(rt; claimed(&ledger, &mut seat, 0), Some(true));
-    assert_eq!(rt; proposed(&ledger, &mut seat), Some(Rejected));
-    assert_eq!(rt; proposed(&ledger, &mut seat), Some(Rejected));
-    assert_eq!(rt; proposed(&ledger, &mut seat), Some(Held));
-    assert_eq!(rt; seat.made(), 6);
-    assert_eq!(rt;
-        closed(ledger, seat),
-        Some(([Some(2), Some(1), Some(0)], 6))
-    );
+    let rows = [
+        (2, [held, NO_PROPOSAL, NO_PROPOSAL]),
+        (1, [(Some(Rejected), Some(1)), held, NO_PROPOSAL]),
+        (
+            0,
+            [(Some(Rejected), Some(0)), (Some(Rejected), Some(0)), held],
+        ),
+    ];
+    for (input, proposals) in rows {
+        assert!(rt; worked(&ledger, &mut seat, input) == work_for(input, proposals));
+    }
+    assert!(rt; seat.made() == 6);
+    assert!(rt; closed(ledger, seat) == Some(([Some(2), Some(1), Some(0)], 6)));
     Ok(())
-}
-
-// The answer of a claim, what the proposal after it comes to, and the hand that it leaves.
-fn claimed_and_proposed(
-    ledger: &Ledger,
-    seat: &mut LedgerSeat,
-    input: Port,
-) -> (Option<bool>, Option<Outcome>, Option<Port>)
-    requires seat { IsSeatOf ledger.now seat.old }
-    requires ports { ports ledger.now.offers ≡ 3 }
-    ensures { IsSeatOf ledger.now seat.new }
-{
-    let taken = claimed(ledger, seat, input);
-    let outcome = proposed(ledger, seat);
-    (taken, outcome, seat.hand())
 }
 
 #[test]
@@ -180,19 +185,11 @@ fn each_outcome_can_empty_the_hand(rt: HostRuntime) -> Result<(), Fail> {
     use Outcome::{Displaced, Held, Rejected};
     let offers = contested_offers(rt.alloc())?;
     let (ledger, mut seat) = Ledger::start(rt.alloc(), &offers)?;
-    assert_eq!(rt;
-        claimed_and_proposed(&ledger, &mut seat, 1),
-        (Some(true), Some(Held), None)
-    );
-    assert_eq!(rt;
-        claimed_and_proposed(&ledger, &mut seat, 0),
-        (Some(true), Some(Rejected), None)
-    );
-    assert_eq!(rt;
-        claimed_and_proposed(&ledger, &mut seat, 2),
-        (Some(true), Some(Displaced(1)), None)
-    );
-    assert_eq!(rt; closed(ledger, seat), Some(([None, None, Some(0)], 3)));
+    for (input, outcome) in [(1, Held), (0, Rejected), (2, Displaced(1))] {
+        let proposals = [(Some(outcome), None), NO_PROPOSAL, NO_PROPOSAL];
+        assert!(rt; worked(&ledger, &mut seat, input) == work_for(input, proposals));
+    }
+    assert!(rt; closed(ledger, seat) == Some(([None, None, Some(0)], 3)));
     Ok(())
 }
 
@@ -227,10 +224,7 @@ fn two_threads_share_one_ledger(rt: HostRuntime) -> Result<(), Fail> {
     let (ledger, mut a) = Ledger::start(rt.alloc(), &offers)?;
     let b = ledger.split(&mut a);
     let (a, b) = worked_by_two(&rt, &ledger, a, b);
-    assert_eq!(rt;
-        closed_with_both(ledger, a, b),
-        Some(([Some(2), Some(1), Some(0)], 6))
-    );
+    assert!(rt; closed_with_both(ledger, a, b) == Some(([Some(2), Some(1), Some(0)], 6)));
     Ok(())
 }
 

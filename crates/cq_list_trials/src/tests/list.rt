@@ -3,23 +3,20 @@
 ghost use Rattle.std.specs.Prelude.{◌≡◌, ℕ, ◌+◌, ◌<◌, ◌≤◌, ◌&&◌, IfOk, length};
 ghost use Rattle.cq_base.specs.Key.{is_before};
 ghost use Rattle.cq_base.specs.Cells.{ArrivedBefore, MoreUrgentAhead, is_for};
-ghost use Rattle.cq_list_trials.specs.Arriving.{IsNewest, HasArrived};
+ghost use Rattle.cq_trial_kit.specs.Arriving.{IsNewest, HasArrived};
 
 use super::draws::next_draw;
-use super::waiting::{arrive, waiting};
-use cq_base::Queued;
+use cq_base::{NoMemory, Queued};
 use cq_list::InputList;
+use cq_trial_kit::{list_of, waiting};
 use std::alloc::Global;
 use std::test::Fail;
 
 // The slots of the cells, where a cell arrives in slot 2 behind one for each of two outputs.
-fn slots_after(alloc: Global, output: u16, rank: u128) -> Result<[u64; 3], Fail>
+fn slots_after(alloc: Global, output: u16, rank: u128) -> Result<[u64; 3], NoMemory>
     requires { output < 2 }
 {
-    let mut list = InputList::new(alloc, 2, 3)?;
-    arrive(&mut list, waiting(0, 0, 3, 0));
-    arrive(&mut list, waiting(0, 1, 0, 1));
-    arrive(&mut list, waiting(0, output, rank, 2));
+    let list = list_of(alloc, 0, 2, &[(0, 3), (1, 0), (output, rank)])?;
     Ok([
         list.at(0).key.slot,
         list.at(1).key.slot,
@@ -29,34 +26,30 @@ fn slots_after(alloc: Global, output: u16, rank: u128) -> Result<[u64; 3], Fail>
 
 #[test]
 fn a_cell_goes_ahead_of_less_urgent_ones_for_its_output(rt: HostRuntime) -> Result<(), Fail> {
-    assert_eq!(rt; slots_after(rt.alloc(), 0, 1)?, [2, 0, 1]);
-    assert_eq!(rt; slots_after(rt.alloc(), 1, 5)?, [0, 1, 2]);
+    assert!(rt; slots_after(rt.alloc(), 0, 1)? == [2, 0, 1]);
+    assert!(rt; slots_after(rt.alloc(), 1, 5)? == [0, 1, 2]);
     Ok(())
 }
 
 // Two cells for output 0, of which the newer one is the more urgent, and one for output 1.
-fn three_cells(alloc: Global) -> Result<InputList, Fail>
+fn three_cells(alloc: Global) -> Result<InputList, NoMemory>
     ensures { IfOk result (λ list. list.outputs ≡ 3) }
 {
-    let mut list = InputList::new(alloc, 3, 3)?;
-    arrive(&mut list, waiting(0, 0, 3, 0));
-    arrive(&mut list, waiting(0, 1, 0, 1));
-    arrive(&mut list, waiting(0, 0, 1, 2));
-    Ok(list)
+    list_of(alloc, 0, 3, &[(0, 3), (1, 0), (0, 1)])
 }
 
 #[test]
 fn a_cell_is_found_by_its_output_and_by_its_id(rt: HostRuntime) -> Result<(), Fail> {
     let list = three_cells(rt.alloc())?;
-    assert_eq!(rt; list.front_for(0), Some(waiting(0, 0, 1, 2)));
-    assert_eq!(rt; list.front_for(1), Some(waiting(0, 1, 0, 1)));
-    assert_eq!(rt; list.front_for(2), None);
-    assert_eq!(rt; list.place_for(0), Some(0));
-    assert_eq!(rt; list.place_for(1), Some(2));
-    assert_eq!(rt; list.place_for(2), None);
-    assert_eq!(rt; list.thread_of(waiting(0, 0, 3, 0).cell.id), Some(1));
-    assert_eq!(rt; list.thread_of(waiting(0, 1, 0, 1).cell.id), Some(2));
-    assert_eq!(rt; list.thread_of(waiting(0, 0, 3, 3).cell.id), None);
+    assert!(rt; list.front_for(0) == Some(waiting(0, 0, 1, 2)));
+    assert!(rt; list.front_for(1) == Some(waiting(0, 1, 0, 1)));
+    assert!(rt; list.front_for(2) == None);
+    assert!(rt; list.place_for(0) == Some(0));
+    assert!(rt; list.place_for(1) == Some(2));
+    assert!(rt; list.place_for(2) == None);
+    assert!(rt; list.thread_of(waiting(0, 0, 3, 0).cell.id) == Some(1));
+    assert!(rt; list.thread_of(waiting(0, 1, 0, 1).cell.id) == Some(2));
+    assert!(rt; list.thread_of(waiting(0, 0, 3, 3).cell.id) == None);
     Ok(())
 }
 
@@ -153,15 +146,12 @@ fn drawn_calls_answer_as_a_plain_list_does(rt: HostRuntime) -> Result<(), Fail> 
             let place = place_in(&plain, &queued).min(cushion as usize);
             plain.insert(place, queued)?;
         } else {
-            assert_eq!(rt;
-                depart(&mut list, output, slot),
-                take_plain(&mut plain, output)
-            );
+            assert!(rt; depart(&mut list, output, slot) == take_plain(&mut plain, output));
         }
     }
-    assert_eq!(rt; list.len(), plain.len() as u64);
+    assert!(rt; list.len() == plain.len() as u64);
     for place in 0..list.len() {
-        assert_eq!(rt; Some(list.at(place)), plain.get(place as usize).copied());
+        assert!(rt; Some(list.at(place)) == plain.get(place as usize).copied());
     }
     Ok(())
 }
@@ -169,9 +159,9 @@ fn drawn_calls_answer_as_a_plain_list_does(rt: HostRuntime) -> Result<(), Fail> 
 #[test]
 fn a_cell_is_found_by_its_key(rt: HostRuntime) -> Result<(), Fail> {
     let list = three_cells(rt.alloc())?;
-    assert_eq!(rt; list.place_of_key(0, waiting(0, 0, 1, 2).key), 0);
-    assert_eq!(rt; list.place_of_key(0, waiting(0, 0, 3, 0).key), 1);
-    assert_eq!(rt; list.place_of_key(1, waiting(0, 1, 0, 1).key), 2);
-    assert_eq!(rt; list.place_of_key(2, waiting(0, 2, 0, 3).key), 3);
+    assert!(rt; list.place_of_key(0, waiting(0, 0, 1, 2).key) == 0);
+    assert!(rt; list.place_of_key(0, waiting(0, 0, 3, 0).key) == 1);
+    assert!(rt; list.place_of_key(1, waiting(0, 1, 0, 1).key) == 2);
+    assert!(rt; list.place_of_key(2, waiting(0, 2, 0, 3).key) == 3);
     Ok(())
 }

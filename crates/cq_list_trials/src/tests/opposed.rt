@@ -2,10 +2,10 @@
 ghost use Rattle.std.specs.Prelude.{◌≡◌, ◌≤◌, IfOk};
 ghost use Rattle.cq_prefs.specs.Orders.{ports};
 
-use super::waiting::{arrive, waiting};
 use cq_base::Port;
 use cq_list::InputList;
 use cq_prefs::Offers;
+use cq_trial_kit::{arrive, waiting};
 use std::alloc::Global;
 use std::test::Fail;
 

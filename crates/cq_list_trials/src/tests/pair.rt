@@ -3,35 +3,14 @@
 ghost use Rattle.std.specs.Prelude.{◌≡◌, ◌<◌, length, IfOk, IfSome};
 ghost use Rattle.cq_pair.specs.Progress.{IsReached};
 
-use super::draws::Draws;
 use super::opposed::opposed_offers;
-use super::waiting::{arrive, waiting};
-use cq_base::Port;
+use cq_base::{NoMemory, Port};
 use cq_list::InputList;
-use cq_pair::{Core, LastFirst, LowestFirst, Outcome};
+use cq_pair::{Core, LastFirst, LowestFirst, Order, Outcome};
 use cq_prefs::Offers;
+use cq_trial_kit::{Draws, list_of};
 use std::alloc::Global;
 use std::test::Fail;
-
-// The list of an input of three. Cells arrive one after another, each given as its output and its rank.
-fn list_of(alloc: Global, input: Port, cells: [(Port, u16); 3]) -> Result<InputList, Fail>
-    ensures { IfOk result (λ list. list.outputs ≡ 3) }
-{
-    let mut list = InputList::new(alloc, 3, 3)?;
-    arrive(
-        &mut list,
-        waiting(input, cells[0].0 % 3, cells[0].1 as u128, 0),
-    );
-    arrive(
-        &mut list,
-        waiting(input, cells[1].0 % 3, cells[1].1 as u128, 1),
-    );
-    arrive(
-        &mut list,
-        waiting(input, cells[2].0 % 3, cells[2].1 as u128, 2),
-    );
-    Ok(list)
-}
 
 // The place of an input, or None where it is not there.
 fn place_among(inputs: &[Port], input: Port) -> Option<usize>
@@ -85,61 +64,63 @@ fn outputs_keep_the_best_and_displace_the_others(rt: HostRuntime) -> Result<(), 
     use Outcome::{Displaced, Held, Rejected};
     let offers = opposed_offers(rt.alloc(), 3)?;
     let mut core = Core::begin(&offers);
-    assert_eq!(rt;
-        six_proposed(&mut core, &offers, [0, 1, 0, 2, 1, 0]),
-        [
-            Some(Held),
-            Some(Displaced(0)),
-            Some(Held),
-            Some(Displaced(1)),
-            Some(Displaced(0)),
-            Some(Held)
-        ]
+    assert!(rt;
+        six_proposed(&mut core, &offers, [0, 1, 0, 2, 1, 0])
+            == [
+                Some(Held),
+                Some(Displaced(0)),
+                Some(Held),
+                Some(Displaced(1)),
+                Some(Displaced(0)),
+                Some(Held)
+            ]
     );
-    assert_eq!(rt; partners(&core, &offers), [Some(2), Some(1), Some(0)]);
-    assert_eq!(rt; core.made(), 6);
+    assert!(rt; partners(&core, &offers) == [Some(2), Some(1), Some(0)]);
+    assert!(rt; core.made() == 6);
     let mut core = Core::begin(&offers);
-    assert_eq!(rt;
-        six_proposed(&mut core, &offers, [2, 1, 0, 1, 0, 0]),
-        [
-            Some(Held),
-            Some(Rejected),
-            Some(Rejected),
-            Some(Held),
-            Some(Rejected),
-            Some(Held)
-        ]
+    assert!(rt;
+        six_proposed(&mut core, &offers, [2, 1, 0, 1, 0, 0])
+            == [
+                Some(Held),
+                Some(Rejected),
+                Some(Rejected),
+                Some(Held),
+                Some(Rejected),
+                Some(Held)
+            ]
     );
-    assert_eq!(rt; partners(&core, &offers), [Some(2), Some(1), Some(0)]);
-    assert_eq!(rt; core.made(), 6);
-    assert_eq!(rt; core.free().len(), 0);
+    assert!(rt; partners(&core, &offers) == [Some(2), Some(1), Some(0)]);
+    assert!(rt; core.made() == 6);
+    assert!(rt; core.free().len() == 0);
     Ok(())
 }
 
 #[test]
 fn settling_does_not_depend_on_who_proposes_next(rt: HostRuntime) -> Result<(), Fail> {
     let offers = opposed_offers(rt.alloc(), 3)?;
-    let mut last = Core::begin(&offers);
-    last.settle(&offers, &mut LastFirst);
-    assert_eq!(rt; partners(&last, &offers), [Some(2), Some(1), Some(0)]);
-    assert_eq!(rt; last.made(), 6);
-    let mut lowest = Core::begin(&offers);
-    lowest.settle(&offers, &mut LowestFirst);
-    assert_eq!(rt; partners(&lowest, &offers), [Some(2), Some(1), Some(0)]);
-    assert_eq!(rt; lowest.made(), 6);
+    let settled = ([Some(2), Some(1), Some(0)], 6);
+    assert!(rt; settled_by(&offers, &mut LastFirst) == settled);
+    assert!(rt; settled_by(&offers, &mut LowestFirst) == settled);
     Ok(())
 }
 
+// The partners, and the number of proposals, where the order tells who proposes next.
+fn settled_by<O: Order>(offers: &Offers, order: &mut O) -> ([Option<Port>; 3], u64) {
+    let mut core = Core::begin(offers);
+    core.settle(offers, order);
+    (partners(&core, offers), core.made())
+}
+
 // The list of an input with one to three drawn offers.
-fn drawn_list(alloc: Global, drawn: &mut Draws, input: Port) -> Result<InputList, Fail>
+fn drawn_list(alloc: Global, drawn: &mut Draws, input: Port) -> Result<InputList, NoMemory>
     ensures { IfOk result (λ list. list.outputs ≡ 3) }
 {
     let cells = [
-        (drawn.word(), drawn.word()),
-        (drawn.word(), drawn.word()),
-        (drawn.word(), drawn.word()),
+        (drawn.word() % 3, drawn.word() as u128),
+        (drawn.word() % 3, drawn.word() as u128),
+        (drawn.word() % 3, drawn.word() as u128),
     ];
-    list_of(alloc, input, cells)
+    list_of(alloc, input, 3, &cells)
 }
 
 // Offers of three ports, as drawn.
@@ -261,13 +242,11 @@ fn other_stable(offers: &Offers, settled: &[Option<Port>; 3]) -> (bool, bool) {
 
 #[test]
 fn drawn_offers_settle_at_the_best_of_all_stable_matchings(rt: HostRuntime) -> Result<(), Fail> {
-    let mut drawn = Draws { state: 1 };
+    let mut drawn = Draws::from_seed(1);
     let mut some_have_several = false;
     for round in 0..40u16 {
         let offers = drawn_offers(rt.alloc(), &mut drawn)?;
-        let mut core = Core::begin(&offers);
-        core.settle(&offers, &mut LastFirst);
-        let settled = partners(&core, &offers);
+        let (settled, _) = settled_by(&offers, &mut LastFirst);
         let (several, best) = other_stable(&offers, &settled);
         assert!(rt; best && is_stable(&offers, &settled), "in round {round}");
         some_have_several = some_have_several || several;

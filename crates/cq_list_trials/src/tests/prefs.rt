@@ -3,48 +3,41 @@
 ghost use Rattle.std.specs.Prelude.{◌≡◌, ◌<◌, ◌≤◌, All, IfOk, length};
 ghost use Rattle.cq_prefs.specs.Orders.{ports};
 
-use super::draws::Draws;
-use super::waiting::{arrive, waiting};
-use cq_base::Port;
+use cq_base::{NoMemory, Port};
 use cq_list::InputList;
 use cq_prefs::Offers;
+use cq_trial_kit::{Draws, arrive, list_of, waiting};
 use std::alloc::Global;
 use std::test::Fail;
 
-// The list of an input of three, with two cells, each given as its output and its rank.
-fn two_waiting(
-    alloc: Global,
-    input: Port,
-    first: (Port, u128),
-    second: (Port, u128),
-) -> Result<InputList, Fail>
-    requires first { first.0 < 3 }
-    requires second { second.0 < 3 }
-    ensures { IfOk result (λ list. list.outputs ≡ 3) }
+// A copy of the offers of three inputs with two cells each.
+fn three_offers(alloc: Global) -> Result<Offers, NoMemory>
+    ensures { IfOk result (λ offers. ports offers ≡ 3) }
 {
-    let mut list = InputList::new(alloc, 3, 2)?;
-    arrive(&mut list, waiting(input, first.0, first.1, 0));
-    arrive(&mut list, waiting(input, second.0, second.1, 1));
-    Ok(list)
+    let lists = [
+        list_of(alloc, 0, 3, &[(0, 1), (1, 0)])?,
+        list_of(alloc, 1, 3, &[(1, 1), (0, 0)])?,
+        list_of(alloc, 2, 3, &[(0, 2), (2, 0)])?,
+    ];
+    let mut offers = Offers::new(alloc, 3)?;
+    offers.fill(&lists);
+    offers.copy(alloc)
+}
+
+// Whether a port of each side prefers the others in this order.
+fn prefer(offers: &Offers, port: Port, outputs: &[Port], inputs: &[Port]) -> bool
+    requires { port < ports offers.now }
+{
+    offers.outputs_of(port) == outputs && offers.inputs_of(port) == inputs
 }
 
 #[test]
 fn each_side_prefers_by_first_cells(rt: HostRuntime) -> Result<(), Fail> {
-    let lists = [
-        two_waiting(rt.alloc(), 0, (0, 1), (1, 0))?,
-        two_waiting(rt.alloc(), 1, (1, 1), (0, 0))?,
-        two_waiting(rt.alloc(), 2, (0, 2), (2, 0))?,
-    ];
-    let mut offers = Offers::new(rt.alloc(), 3)?;
-    offers.fill(&lists);
-    let offers = offers.copy(rt.alloc())?;
-    assert_eq!(rt; offers.ports(), 3);
-    assert_eq!(rt; offers.outputs_of(0), [0, 1].as_slice());
-    assert_eq!(rt; offers.outputs_of(1), [1, 0].as_slice());
-    assert_eq!(rt; offers.outputs_of(2), [0, 2].as_slice());
-    assert_eq!(rt; offers.inputs_of(0), [1, 0, 2].as_slice());
-    assert_eq!(rt; offers.inputs_of(1), [0, 1].as_slice());
-    assert_eq!(rt; offers.inputs_of(2), [2].as_slice());
+    let offers = three_offers(rt.alloc())?;
+    assert!(rt; offers.ports() == 3);
+    assert!(rt; prefer(&offers, 0, &[0, 1], &[1, 0, 2]));
+    assert!(rt; prefer(&offers, 1, &[1, 0], &[0, 1]));
+    assert!(rt; prefer(&offers, 2, &[0, 2], &[2]));
     Ok(())
 }
 
@@ -113,7 +106,7 @@ fn agrees(offers: &Offers, lists: &[InputList], list: &InputList, input: Port) -
 
 #[test]
 fn drawn_lists_are_read_as_a_slow_reading_says(rt: HostRuntime) -> Result<(), Fail> {
-    let mut drawn = Draws { state: 1 };
+    let mut drawn = Draws::from_seed(1);
     for ports in 1..9 {
         let mut offers = Offers::new(rt.alloc(), ports)?;
         for round in 0..10u16 {

@@ -4,8 +4,8 @@ ghost use Rattle.std.specs.Prelude.{◌≡◌, ◌+◌, ◌<◌, ◌≤◌, IfOk
 ghost use Rattle.cq_base.specs.Cells.{ArrivedBefore};
 
 use super::draws::next_draw;
-use super::waiting::waiting;
-use cq_base::{Key, Queued};
+use cq_base::{Key, NoMemory, Queued};
+use cq_trial_kit::waiting;
 use cq_urgency::OutputBuffer;
 use std::alloc::Global;
 use std::test::Fail;
@@ -23,7 +23,7 @@ fn come(buffer: &mut OutputBuffer, queued: Queued)
 }
 
 // Cells of ranks 5, 2, 5 and 9 come in, in slots 0 to 3.
-fn four_cells(alloc: Global) -> Result<OutputBuffer, Fail>
+fn four_cells(alloc: Global) -> Result<OutputBuffer, NoMemory>
     ensures { IfOk result (λ buffer. length buffer.cells ≡ 4) }
 {
     let mut buffer = OutputBuffer::new(alloc, 4)?;
@@ -43,11 +43,11 @@ fn equal_ranks_wait_in_the_order_of_their_arrival(rt: HostRuntime) -> Result<(),
         buffer.at(2).key.slot,
         buffer.at(3).key.slot,
     ];
-    assert_eq!(rt; slots, [1, 0, 2, 3]);
-    assert_eq!(rt; buffer.cushion(waiting(0, 0, 5, 2).key), 2);
-    assert_eq!(rt; buffer.cushion(waiting(0, 0, 5, 3).key), 3);
-    assert_eq!(rt; buffer.pop().map(|sent| sent.key.slot), Some(1));
-    assert_eq!(rt; buffer.len(), 3);
+    assert!(rt; slots == [1, 0, 2, 3]);
+    assert!(rt; buffer.cushion(waiting(0, 0, 5, 2).key) == 2);
+    assert!(rt; buffer.cushion(waiting(0, 0, 5, 3).key) == 3);
+    assert!(rt; buffer.pop().map(|sent| sent.key.slot) == Some(1));
+    assert!(rt; buffer.len() == 3);
     Ok(())
 }
 
@@ -90,23 +90,23 @@ fn drawn_calls_answer_as_a_plain_list_does(rt: HostRuntime) -> Result<(), Fail> 
         drawn = next_draw(drawn);
         let queued = waiting(0, 0, (drawn / 16 % 40) as u128, slot);
         let place = place_in(&plain, queued.key);
-        assert_eq!(rt; buffer.cushion(queued.key), place as u64);
+        assert!(rt; buffer.cushion(queued.key) == place as u64);
         let len = buffer.len();
-        assert_eq!(rt; len, plain.len() as u64);
+        assert!(rt; len == plain.len() as u64);
         if len > 0 {
             let at = drawn / 128 % len;
-            assert_eq!(rt; Some(buffer.at(at)), plain.get(at as usize).copied());
+            assert!(rt; Some(buffer.at(at)) == plain.get(at as usize).copied());
         }
         let fills = slot % 800 < 400;
         if len < 300 && (drawn / 65536 % 8 < 7) == fills {
             come(&mut buffer, queued);
             plain.insert(place, queued)?;
         } else {
-            assert_eq!(rt; leave(&mut buffer, slot), leave_plain(&mut plain));
+            assert!(rt; leave(&mut buffer, slot) == leave_plain(&mut plain));
         }
     }
     for place in 0..buffer.len() {
-        assert_eq!(rt; Some(buffer.at(place)), plain.get(place as usize).copied());
+        assert!(rt; Some(buffer.at(place)) == plain.get(place as usize).copied());
     }
     Ok(())
 }

@@ -3,32 +3,27 @@ ghost use Rattle.std.specs.Prelude.{◌≡◌, ◌<◌, ◌≤◌, ◌∷◌, []
 ghost use Rattle.cq_prefs.specs.FirstCells.{HasCellFor};
 ghost use Rattle.cq_list_trials.specs.Crossing.{CanCross};
 
-use super::waiting::{arrive, waiting};
 use cq_base::{Port, Room, Transfer};
 use cq_list::InputList;
 use cq_prefs::Matching;
+use cq_trial_kit::{list_of, waiting};
 use cq_urgency::OutputBuffer;
 use cq_xbar::transfer;
 use std::alloc::Global;
 use std::test::Fail;
 
-// The list of an input of three, with a cell for each of these outputs, that arrived one after another. The first of
-// them that is for the wanted output is there.
+// The list of an input of three, with a cell of rank 0 for each of these outputs, that arrived one after another. The
+// first of them that is for the wanted output is there.
 fn three_waiting(
     alloc: Global,
     input: Port,
-    outputs: (Port, Port, Port),
+    outputs: [Port; 3],
     wanted: Port,
 ) -> Result<InputList, Fail>
-    requires first { outputs.0 < 3 }
-    requires second { outputs.1 < 3 }
-    requires third { outputs.2 < 3 }
     ensures { IfOk result (λ list. HasCellFor list.cells wanted) }
 {
-    let mut list = InputList::new(alloc, 3, 3)?;
-    arrive(&mut list, waiting(input, outputs.0, 0, 0));
-    arrive(&mut list, waiting(input, outputs.1, 0, 1));
-    arrive(&mut list, waiting(input, outputs.2, 0, 2));
+    let cells = outputs.map(|output| (output % 3, 0));
+    let list = list_of(alloc, input, 3, &cells)?;
     match list.front_for(wanted) {
         Some(_) => Ok(list),
         None => Err(Fail::new("no cell for the output")),
@@ -71,9 +66,9 @@ fn noted(input: Port, output: Port, arrived: u32) -> Transfer {
 #[test]
 fn matched_inputs_send_their_first_cells_for_their_partners(rt: HostRuntime) -> Result<(), Fail> {
     let mut lists = [
-        three_waiting(rt.alloc(), 0, (0, 1, 1), 1)?,
-        three_waiting(rt.alloc(), 1, (2, 1, 0), 2)?,
-        three_waiting(rt.alloc(), 2, (0, 2, 0), 0)?,
+        three_waiting(rt.alloc(), 0, [0, 1, 1], 1)?,
+        three_waiting(rt.alloc(), 1, [2, 1, 0], 2)?,
+        three_waiting(rt.alloc(), 2, [0, 2, 0], 0)?,
     ];
     let mut buffers = [
         OutputBuffer::new(rt.alloc(), 1)?,
@@ -82,10 +77,10 @@ fn matched_inputs_send_their_first_cells_for_their_partners(rt: HostRuntime) -> 
     ];
     let mut note = Room::new(rt.alloc(), 3)?;
     cross(&mut lists, &mut buffers, &mut note);
-    assert_eq!(rt; note.items(), [noted(0, 1, 1), noted(2, 0, 0)].as_slice());
-    assert_eq!(rt; [lists[0].len(), lists[1].len(), lists[2].len()], [2, 3, 2]);
-    assert_eq!(rt; buffers[0].pop(), Some(waiting(2, 0, 0, 0)));
-    assert_eq!(rt; buffers[1].pop(), Some(waiting(0, 1, 0, 1)));
-    assert_eq!(rt; buffers[2].pop(), None);
+    assert!(rt; note.items() == [noted(0, 1, 1), noted(2, 0, 0)].as_slice());
+    assert!(rt; [lists[0].len(), lists[1].len(), lists[2].len()] == [2, 3, 2]);
+    assert!(rt; buffers[0].pop() == Some(waiting(2, 0, 0, 0)));
+    assert!(rt; buffers[1].pop() == Some(waiting(0, 1, 0, 1)));
+    assert!(rt; buffers[2].pop() == None);
     Ok(())
 }

@@ -1,35 +1,26 @@
-use Rattle.std.proofs.Common.{◌<◌, ◌∙◌, ◌+◌, length, sym, subst, arith}
+use Rattle.std.proofs.Common.{◌∙◌, ◌+◌, sym, subst, arith}
 use Rattle.cq_list.specs.InputList.{cells_of}
 use Rattle.cq_prefs.specs.FirstCells.{orders_of}
 use Rattle.cq_prefs.specs.Renewal.{AreSameWithout}
-use Rattle.cq_list_trials.proofs.Followed.{Changing, one_changed, past_changed, all_own, all_same, own_keys}
+use Rattle.cq_list_trials.proofs.Followed.{one_changed, past_changed, all_own, all_same, own_keys}
 use Rattle.cq_list_trials.proofs.tests.followed.change_each.Goals as goal
 use Rattle.cq_list_trials.proofs.tests.followed.change_each.Goals.{in-Some, in_default}
 
 pub loop-input-preserved : goal.loop-input-preserved
 loop-input-preserved c =
-    let m = c.args.changed.now in
-    let old = c.args.lists.now in
-    let n = c.loop-input.input in
-    let had = c.loop-input.invariant in
-    let inside : n < length old = omega arith in
     elim c.match-partner_of.branch [
-      | in-Some w ↦ subst (Changing m c.args.slot (n + 1) old) (sym w.lists-is)
-          (one_changed m c.args.slot n old c.loop-input.lists had w.in-Some.output w.index-lists-input.result
-          w.change_one.new.list (sym c.partner_of.ensures.partner ∙ w.in-Some.is) inside w.change_one.ensures.outputs
-          w.change_one.ensures.own w.change_one.ensures.changed)
-      | in_default w ↦ subst (Changing m c.args.slot (n + 1) old) (sym w.lists-is)
-          (past_changed m c.args.slot n old c.loop-input.lists had c.requires.own)
+      | in-Some w ↦
+          rw w.lists-is (one_changed c.loop-input.invariant w.in-Some.output w.index-lists-input.result
+          w.change_one.new.list (sym c.partner_of.ensures.partner ∙ w.in-Some.is) (omega arith)
+          w.change_one.ensures.outputs w.change_one.ensures.own w.change_one.ensures.changed)
+      | in_default w ↦ rw w.lists-is (past_changed c.loop-input.invariant c.requires.own)
     ]
 
 pub renew-requires-clause-keys : goal.renew-requires-clause-keys
 renew-requires-clause-keys c =
-    own_keys (c.args.slot + 1) c.loop-input.lists
-    (all_own c.args.changed.now c.args.slot c.loop-input.input c.args.lists.now c.loop-input.lists
-    c.loop-input.invariant (omega arith))
+    own_keys (c.args.slot + 1) c.loop-input.lists (all_own c.loop-input.invariant (omega arith))
 
 pub renew-requires-clause-others : goal.renew-requires-clause-others
 renew-requires-clause-others c =
     subst (λ o. AreSameWithout c.args.changed.now o (orders_of (cells_of c.loop-input.lists))) (sym c.requires.offers)
-    (all_same c.args.changed.now c.args.slot c.loop-input.input c.args.lists.now c.loop-input.lists
-    c.loop-input.invariant c.requires.own (omega arith))
+    (all_same c.loop-input.invariant c.requires.own (omega arith))

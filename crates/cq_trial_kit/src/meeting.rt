@@ -6,10 +6,10 @@ use std::sync::atomic::AtomicU64;
 use std::sync::atomic::Ordering::SeqCst;
 use std::thread::yield_now;
 
-// How many turns a claim is held for at most.
+/// How many turns a claim is held for at most.
 const TURNS: u32 = 10_000_000;
 
-// What one worker has told of.
+/// What one worker has told of.
 #[derive(Drop)]
 struct Told {
     // A bit for each input that it claimed.
@@ -29,7 +29,7 @@ impl Told {
 
 /// Holds the first claim of each worker until all workers have told of one, and counts what it is told.
 #[derive(Drop)]
-pub(super) struct Meeting {
+pub struct Meeting {
     workers: u16,
     zero: Told,
     one: Told,
@@ -42,7 +42,7 @@ pub(super) struct Meeting {
 
 impl Meeting {
     /// A gate for two workers or three.
-    pub(super) fn of(workers: u16) -> Meeting {
+    pub fn of(workers: u16) -> Meeting {
         Meeting {
             workers,
             zero: Told::nothing(),
@@ -56,34 +56,34 @@ impl Meeting {
     }
 
     /// Whether each worker has told of a claim.
-    pub(super) fn have_met(&self) -> bool {
+    pub fn have_met(&self) -> bool {
         let two_have = self.claims_of(0) > 0 && self.claims_of(1) > 0;
         two_have && (self.workers < 3 || self.claims_of(2) > 0)
     }
 
     /// How many claims were held for all turns, and some worker told of none.
-    pub(super) fn in_vain(&self) -> u64 {
+    pub fn in_vain(&self) -> u64 {
         self.in_vain.load(SeqCst)
     }
 
     /// How often the seat shown with a proposal had not made as many as its worker has told of.
-    pub(super) fn miscounted(&self) -> u64 {
+    pub fn miscounted(&self) -> u64 {
         self.miscounted.load(SeqCst)
     }
 
     /// How many claims were told again, and how many proposals were told by a worker that had not told of just the
     /// claims of its seat, or for an input whose claim nobody had told.
-    pub(super) fn misclaimed(&self) -> u64 {
+    pub fn misclaimed(&self) -> u64 {
         self.misclaimed.load(SeqCst)
     }
 
     /// How many proposals were told to be held by an output that held nobody.
-    pub(super) fn held(&self) -> u64 {
+    pub fn held(&self) -> u64 {
         self.held.load(SeqCst)
     }
 
     /// How many proposals each of the three workers told of.
-    pub(super) fn proposals(&self) -> [u64; 3] {
+    pub fn proposals(&self) -> [u64; 3] {
         [
             self.zero.proposals.load(SeqCst),
             self.one.proposals.load(SeqCst),
@@ -121,7 +121,7 @@ impl Meeting {
     }
 }
 
-// The bit of an input among 64.
+/// The bit of an input among 64.
 fn bit_of(input: Port) -> u64 {
     1u64.wrapping_shl(input as u32)
 }

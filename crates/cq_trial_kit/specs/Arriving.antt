@@ -1,4 +1,3 @@
--- Only proofs use this.
 -- The newest cell goes into a list.
 use Rattle.std.specs.Prelude.{◌≡◌, ◌+◌, ◌<◌, length}
 use Rattle.cq_base.specs.declared.cell.Queued.{Queued}
