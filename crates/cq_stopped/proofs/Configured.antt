@@ -175,7 +175,6 @@ module _ (t : Tables) (captures : List (List Captured)) where
   unfolding arrivals_at cell_of
   small_here input some is =
       let ps = packets_of captures input in
-      let small = is.small in
       let many = few_packets ps in
       all_flat HasSmallName (arrivals_of t captures input) 0 (length ps)
       (λ k from lt.
@@ -208,7 +207,7 @@ least_of a (n ∷ ns) = let rest = least_of (min a n) ns in omega arith
 
 least_low : (ns : List ℕ) → AllByRecursion IsStamp ns → least ns < 2 ^ 63
 least_low [] all = omega arith
-least_low (n ∷ ns) all = let low = all.0 in let le = least_of n ns in omega arith
+least_low (n ∷ ns) all = let le = least_of n ns in omega arith
 
 stamps_low : (captures : List (List Captured)) →
     ((i : ℕ) → i < length captures → IsRecorded (packets_of captures i)) →
@@ -235,7 +234,6 @@ configured t s made tables recorded =
     let setup = t.setup in
     let many : length (machines_of setup) ≡ length setup.kinds =
     length-map setup.kinds (λ (k : Kind). machine_of k setup.classes) in
-    let range = tables.setup.ports in
     let classes = tables.setup.classes in
     let known = schedule_known t s tables made in
     let stamp : s.first_stamp ≡ first_stamp made.captures = ap (λ (x : Scheduled). x.first_stamp) made.schedule in

@@ -51,7 +51,7 @@ module _ (last : ℕ) where
 
   most_few : (a : ℕ) (ns : List ℕ) → a ≤ last → AllByRecursion IsFew ns → fold max a ns ≤ last
   most_few a [] le all = le
-  most_few a (n ∷ ns) le all = let one = all.0 in most_few (max a n) ns (omega arith) all.1
+  most_few a (n ∷ ns) le all = most_few (max a n) ns (omega arith) all.1
 
   least_few : (a : ℕ) (ns : List ℕ) → a ≤ last → fold min a ns ≤ last
   least_few a [] le = le
@@ -140,7 +140,6 @@ module _ (w : Switch) (ranks : List (List ℕ)) (at : Taken) (rs : List LimitedR
       let same : at.frozen.figures.proposals ≡ sum (flat_map proposals_in (slots_in rs)) =
       ap (λ (x : Figures). x.proposals) figures_are_of in
       let all = all_proposed w configured.few at.frozen.next ranks (marked_in at.frozen) rs slots_known in
-      let few = configured.few_cells in
       omega arith
 
   most_low : at.frozen.figures.most < 2 ^ 63
@@ -150,7 +149,6 @@ module _ (w : Switch) (ranks : List (List ℕ)) (at : Taken) (rs : List LimitedR
       ap (λ (x : Figures). x.most) figures_are_of in
       let less = most_of_all 0 (flat_map proposals_in (slots_in rs)) in
       let all = all_proposed w configured.few at.frozen.next ranks (marked_in at.frozen) rs slots_known in
-      let few = configured.few_cells in
       omega arith
 
   seen_many : length (map seen_as at.frozen.figures.inputs) ≡ ports
@@ -188,7 +186,6 @@ module _ (w : Switch) (ranks : List (List ℕ)) (at : Taken) (rs : List LimitedR
         let it = is_of_one w at ideal (came_of rs) known c has in
         let q = it.cell in
         let own = it.kept.own in
-        let before = own.before in
         let level : q.key.level ≡ (machine_at w.machines q.cell.output).level q.cell.class = own.keyed.level in
         let low = configured.level q.cell.output q.cell.class it.kept.inside own.keyed.class in
         subst (λ (n : Named). IsNamed ports n) it.is
@@ -234,9 +231,6 @@ module _ (w : Switch) (ranks : List (List ℕ)) (at : Taken) (rs : List LimitedR
     unfolding state_of
     in_range =
         let many : length at.frozen.lists ≡ ports = known.ports in
-        let some = configured.some in
-        let few = configured.few in
-        let cells = configured.few_cells in
         let st = told_state w at in
         record {
           head = record {

@@ -138,8 +138,6 @@ module _ (m : Partners) (lists : List (List Queued)) (slot phase : ℕ) where
       (λ i k a b lt first second.
       let x = noted_is slot phase i (list_of lists i) (partner_of m i) a first in
       let y = noted_is slot phase k (list_of lists k) (partner_of m k) b second in
-      let one = x.input_is in
-      let two = y.input_is in
       let less : a.input < b.input = omega arith in
       inr (x.slot_is ∙ sym y.slot_is, inr (x.phase_is ∙ sym y.phase_is, less)))
       (range_with_len 0 (length m)) (range_rises 0 (length m))
@@ -168,8 +166,6 @@ slot_moved r =
     let y =
     all_of_has (IsOfPhase r.second r.sent.inputs r.slot 2) second b (phase_transfers r.second r.sent.inputs r.slot 2)
     two in
-    let p = x.phase_is in
-    let q = y.phase_is in
     inr (x.slot_is ∙ sym y.slot_is, inl (let lt : a.phase < b.phase = omega arith in lt)))
 
 -- the transfers of some slots

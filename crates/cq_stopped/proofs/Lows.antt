@@ -6,6 +6,7 @@ use Rattle.std.proofs.lemmas.Bool.{ltb-true}
 use Rattle.cq_base.specs.declared.cell.Cell.{Cell}
 use Rattle.cq_base.specs.declared.cell.Queued.{Queued}
 use Rattle.cq_base.specs.declared.cell.TagFault.{TagFault}
+use Rattle.cq_ideal.proofs.FlowRank.{only_ok}
 use Rattle.cq_ideal.specs.IdealSlot.{all_told}
 use Rattle.cq_ideal.specs.Ranking.{Ranking, after_input, keyed, ranking}
 use Rattle.cq_laws.specs.Phases.{came_to}
@@ -51,9 +52,7 @@ module _ (ms : List Machine) (keeps : (j : ℕ) → KeepsLow (machine_at ms j)) 
   pub ranked_low : (slot i : ℕ) (cells : List (Option Cell)) (states : List (List ℕ)) (r : Ranking) →
       AllByRecursion AreLow states → ranking ms slot i cells states ≡ Ok r → RankedLow r
   ranked_low slot i [] states r all h =
-      let made : Ranking = record { came = []; ranks = states } in
-      let same : made ≡ r = cc in
-      subst (λ (y : Ranking). RankedLow y) same
+      subst RankedLow (only_ok refl h)
       (record { states = all; came = λ k q is. absurd (let clash : None ≡ Some q = is in let P : ⊥ = cc in P) })
   ranked_low slot i (None ∷ cells) states r all h =
       behind_low None (ranking ms slot (i + 1) cells states) r h

@@ -119,9 +119,6 @@ module _ (w : Switch) (at : Taken) (ideal : IdealState) (cs : List (List (Option
       (λ d e first second before.
       ⊎_elim (λ (lt : d.slot < e.slot). inl lt)
       (λ (both : (d.slot ≡ e.slot) × (d.output < e.output)).
-      let x = first.own in
-      let y = second.own in
-      let lt = both.1 in
       inr (
         both.0,
         (let less : output_of w.came (named_as d.queued) < output_of w.came (named_as e.queued) = omega arith in less),

@@ -1,7 +1,7 @@
 -- How many proposals a run makes. A phase has no more than the number of ports squared, and none where no cell waits
 -- at an input. And in each slot in which a cell waits or comes one leaves, so there are no more such slots than cells
 -- that came.
-use Rattle.std.proofs.Common.{◌≡◌, ℕ, zero, suc, ◌+◌, ◌*◌, ◌-◌, ◌<◌, ◌≤◌, Bool, true, false, List, [], ◌∷◌, ◌++◌, length, map, fold, max, replicate, Option, Some, None, refl, sym, ap, ◌∙◌, subst, inl, ⊎_elim, arith, mul-le-mul}
+use Rattle.std.proofs.Common.{◌≡◌, ℕ, zero, suc, ◌+◌, ◌*◌, ◌-◌, ◌<◌, ◌≤◌, true, List, [], ◌∷◌, ◌++◌, length, map, fold, max, replicate, Option, Some, None, refl, sym, ap, ◌∙◌, subst, inl, ⊎_elim, arith, mul-le-mul}
 use Rattle.std.specs.Prelude.{is_some, sum}
 use Rattle.std.specs.List.{flat_map}
 use Rattle.std.proofs.lemmas.Bool.{cases_lt}
@@ -10,6 +10,7 @@ use Rattle.cq_base.specs.Arrivals.{arrival_at}
 use Rattle.cq_base.specs.Arriving.{arriving}
 use Rattle.cq_base.specs.declared.cell.Cell.{Cell}
 use Rattle.cq_base.specs.declared.cell.Queued.{Queued}
+use Rattle.cq_ideal.proofs.EnoughSlots.{fewer}
 use Rattle.cq_ideal.proofs.FlowCount.{come_count-first}
 use Rattle.cq_ideal.proofs.FlowRank.{present}
 use Rattle.cq_ideal.proofs.FlowRun.{come_count}
@@ -68,16 +69,6 @@ unfolding waiting
 empty_waits zero = refl
 empty_waits (suc n) = let rest = empty_waits n in omega arith
 
--- what is admitted is no more than what arrives
-fewer_admitted : (marks : List Bool) (cells : List (Option Cell)) →
-    length (present (admitted marks cells)) ≤ length (present cells)
-fewer_admitted [] cells = omega arith
-fewer_admitted (mark ∷ marks) [] = omega arith
-fewer_admitted (true ∷ marks) (None ∷ cells) = fewer_admitted marks cells
-fewer_admitted (false ∷ marks) (None ∷ cells) = fewer_admitted marks cells
-fewer_admitted (true ∷ marks) (Some cell ∷ cells) = let rest = fewer_admitted marks cells in omega arith
-fewer_admitted (false ∷ marks) (Some cell ∷ cells) = let rest = fewer_admitted marks cells in omega arith
-
 arrival_present : (cells : List (Option Cell)) (i : ℕ) → is_some (arrival_at cells i) ≡ true →
     1 ≤ length (present cells)
 arrival_present [] i some = absurd (let P : ⊥ = cc in P)
@@ -102,7 +93,7 @@ module _ (w : Switch) (few : length w.machines ≤ 64) where
           let after = marks_after w.limits (fabric_held f.state) f.marks (arriving w.came slot) in
           let same : came ≡ length (present (admitted after (arriving w.came slot))) =
           ap (λ (a : Admission). length (present a.cells)) k.step.admits in
-          let less = fewer_admitted after (arriving w.came slot) in
+          let less = fewer after (arriving w.came slot) in
           omega arith
 
       -- the ideal switch beside it

@@ -13,9 +13,9 @@ use Rattle.cq_base.specs.Cells.{EachPair as EachCell, is_for, put}
 use Rattle.cq_base.specs.Key.{is_before}
 use Rattle.cq_base.specs.declared.cell.Queued.{Queued}
 use Rattle.cq_base.specs.declared.key.Key.{Key}
-use Rattle.cq_ideal.proofs.FlowPut.{NoLater, all_from, all_put, in_order_put}
+use Rattle.cq_ideal.proofs.FlowPut.{NoLater, all_from, in_order_put}
 use Rattle.cq_ideal.specs.IdealSlot.{put_all}
-use Rattle.cq_laws.proofs.Members.{among_put}
+use Rattle.cq_laws.proofs.Members.{all_put, among_put}
 use Rattle.cq_laws.specs.Fabric.{IsAmong}
 use Rattle.cq_laws.specs.Phases.{came_to}
 use Rattle.cq_resume.proofs.Chained.{EachPair}
@@ -122,7 +122,6 @@ module _ (j slot : ℕ) where
         record {
           differ = λ same inputs. let lt = e.before (same ∙ slot_is) in omega arith;
           later = λ inputs classes.
-              let came = e.came in
               let other : x.key.slot ≢ slot = λ same. let lt = e.before same in omega arith in
               ⊎_elim (λ (lt : x.key.slot < slot). let l : x.key.slot < q.key.slot = omega arith in l)
               (λ (ge : slot ≤ x.key.slot). absurd (other (omega arith))) (cases_lt x.key.slot slot);
@@ -135,7 +134,6 @@ module _ (j slot : ℕ) where
         record {
           differ = λ same inputs. let lt = e.before (sym same ∙ slot_is) in omega arith;
           later = λ inputs classes.
-              let came = e.came in
               ⊎_elim
               (λ (lt : x.key.slot < slot). absurd (both_ways (is_before x.key q.key) late (old lt (sym classes))))
               (λ (ge : slot ≤ x.key.slot).

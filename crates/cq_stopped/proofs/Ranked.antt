@@ -10,10 +10,12 @@ use Rattle.cq_base.specs.declared.cell.Cell.{Cell}
 use Rattle.cq_base.specs.declared.cell.Queued.{Queued}
 use Rattle.cq_base.specs.declared.cell.TagFault.{TagFault}
 use Rattle.cq_ideal.proofs.Came.{came_from}
+use Rattle.cq_ideal.proofs.FlowRank.{only_ok}
 use Rattle.cq_ideal.specs.Ranking.{Ranking, after_input, keyed, ranking}
 use Rattle.cq_laws.specs.Phases.{came_to}
 use Rattle.cq_laws.specs.Quiet.{KeepLaws}
-use Rattle.cq_rank.specs.Machine.{KeepsLaws, Machine, machine_at}
+use Rattle.cq_rank.proofs.Floors.{given_floor}
+use Rattle.cq_rank.specs.Machine.{Machine, machine_at}
 
 -- what came of the inputs from one on, where no rank was too great
 pub record Behind (o : Option Queued) (x : Result Ranking TagFault) (r : Ranking) : Type 0 where
@@ -24,13 +26,12 @@ pub record Behind (o : Option Queued) (x : Result Ranking TagFault) (r : Ranking
 
 pub behind : (o : Option Queued) (x : Result Ranking TagFault) (r : Ranking) → after_input o x ≡ Ok r → Behind o x r
 behind o (Ok rest) r h =
-    let made : Ranking = record { came = o ∷ rest.came; ranks = rest.ranks } in
-    let same : made ≡ r = cc in
+    let same = only_ok h refl in
     record {
       rest = rest;
       is = refl;
-      came = ap (λ (y : Ranking). y.came) (sym same);
-      states = ap (λ (y : Ranking). y.ranks) (sym same);
+      came = ap (λ (y : Ranking). y.came) same;
+      states = ap (λ (y : Ranking). y.ranks) same;
     }
 behind o (Err fault) r h = absurd (let P : ⊥ = cc in P)
 
@@ -38,19 +39,6 @@ pub fits : (b : Bool) (x : Result Ranking TagFault) (fault : TagFault) (r : Rank
     (b ≡ true) × (x ≡ Ok r)
 fits true x fault r h = (refl, h)
 fits false x fault r h = absurd (let P : ⊥ = cc in P)
-
--- no floor falls where a rank is given
-no_lower : (m : Machine) (laws : KeepsLaws m) (s : List ℕ) (c d : ℕ) → length s ≡ m.size → c < m.classes →
-    d < m.classes → m.floor s d ≤ m.floor (m.given s c) d
-no_lower m laws s c d sized known other =
-    ⊎_elim
-    (λ (same : c ≡ d).
-    let is : m.floor (m.given s c) d ≡ m.ranked s d =
-    subst (λ (e : ℕ). m.floor (m.given s c) e ≡ m.ranked s e) same (laws.given_floor s c sized known) in
-    let above : m.floor s d ≤ m.ranked s d = laws.above s d sized other in
-    let le : m.floor s d ≤ m.floor (m.given s c) d = omega arith in le)
-    (λ ne. laws.other_floor s c d sized known other ne)
-    (cases_eq c d)
 
 module _ (ms : List Machine) (slot : ℕ) where
   -- the rank states after a cell got its rank
@@ -111,7 +99,7 @@ module _ (ms : List Machine) (slot : ℕ) where
         (machine_at ms cell.output).floor (slice_index_or ranks cell.output []) d
         ≤ (machine_at ms cell.output).floor s d)
         (sym (get_or-set_same ranks cell.output (given ranks cell) [] known.inside))
-        (no_lower (machine_at ms cell.output) (keep.laws cell.output known.inside)
+        (given_floor (machine_at ms cell.output) (keep.laws cell.output known.inside)
         (slice_index_or ranks cell.output []) cell.class d sized known.class here)) class)
         (λ ne.
         let kept : slice_index_or (after ranks cell) j [] ≡ slice_index_or ranks j [] =
@@ -121,13 +109,29 @@ module _ (ms : List Machine) (slot : ℕ) where
         ≤ (machine_at ms j).floor (slice_index_or (after ranks cell) j []) d = omega arith in le)
         (cases_eq cell.output j)
 
+  -- what a cell at an input gets
+  abbrev one_at : ℕ → List (List ℕ) → Cell → Queued
+  one_at i ranks cell =
+      let m = machine_at ms cell.output in
+      keyed cell (m.level cell.class) (m.ranked (slice_index_or ranks cell.output []) cell.class) slot i
+
+  -- its rank fits, and behind it come the other inputs
+  one_behind : (i : ℕ) (cell : Cell) (cells : List (Option Cell)) (ranks : List (List ℕ)) (r : Ranking) →
+      ranking ms slot i (Some cell ∷ cells) ranks ≡ Ok r →
+      ((one_at i ranks cell).key.rank < 2 ^ 128)
+      × Behind (Some (one_at i ranks cell)) (ranking ms slot (i + 1) cells (after ranks cell)) r
+  one_behind i cell cells ranks r h =
+      let rank = (one_at i ranks cell).key.rank in
+      let f = fits (nat_lt rank (2 ^ 128)) _ _ r h in (
+        ltb-true rank (2 ^ 128) f.0,
+        behind (Some (one_at i ranks cell)) (ranking ms slot (i + 1) cells (after ranks cell)) r f.1,
+      )
+
   pub ranked_from : (i : ℕ) (cells : List (Option Cell)) (ranks : List (List ℕ)) (r : Ranking) → KeepLaws ms ranks →
       ((k : ℕ) (cell : Cell) → arrival_at cells k ≡ Some cell → IsKnown (length ranks) cell) →
       ranking ms slot i cells ranks ≡ Ok r → (k : ℕ) (q : Queued) → came_to r.came k ≡ Some q → IsRanked ranks q
   ranked_from i [] ranks r keep known h k q at =
-      let made : Ranking = record { came = []; ranks = ranks } in
-      let same : made ≡ r = cc in
-      let clash : None ≡ Some q = ap (λ (x : Ranking). came_to x.came k) same ∙ at in
+      let clash : None ≡ Some q = ap (λ (x : Ranking). came_to x.came k) (only_ok refl h) ∙ at in
       absurd (let P : ⊥ = cc in P)
   ranked_from i (None ∷ cells) ranks r keep known h zero q at =
       let b = behind None (ranking ms slot (i + 1) cells ranks) r h in
@@ -139,26 +143,18 @@ module _ (ms : List Machine) (slot : ℕ) where
       (ap (λ (l : List (Option Queued)). came_to l (suc k)) (sym b.came) ∙ at)
   ranked_from i (Some cell ∷ cells) ranks r keep known h zero q at =
       let here = known zero cell refl in
-      let m = machine_at ms cell.output in
-      let state = slice_index_or ranks cell.output [] in
-      let one : Queued = keyed cell (m.level cell.class) (m.ranked state cell.class) slot i in
-      let f = fits (nat_lt (m.ranked state cell.class) (2 ^ 128)) _ _ r h in
-      let b = behind (Some one) (ranking ms slot (i + 1) cells (after ranks cell)) r f.1 in
-      let is : one ≡ q = same_Some one q (ap (λ (l : List (Option Queued)). came_to l 0) (sym b.came) ∙ at) in
-      subst (λ (x : Queued). IsRanked ranks x) is
+      let b = one_behind i cell cells ranks r h in
+      let came = ap (λ (l : List (Option Queued)). came_to l 0) (sym b.1.came) in
+      subst (λ (x : Queued). IsRanked ranks x) (same_Some (one_at i ranks cell) q (came ∙ at))
       (record {
         level = refl;
-        rank = ltb-true (m.ranked state cell.class) (2 ^ 128) f.0;
-        above = (keep.laws cell.output here.inside).above state cell.class (keep.sized cell.output here.inside)
-            here.class;
+        rank = b.0;
+        above = (keep.laws cell.output here.inside).above (slice_index_or ranks cell.output []) cell.class
+            (keep.sized cell.output here.inside) here.class;
       })
   ranked_from i (Some cell ∷ cells) ranks r keep known h (suc k) q at =
       let here = known zero cell refl in
-      let m = machine_at ms cell.output in
-      let state = slice_index_or ranks cell.output [] in
-      let one : Queued = keyed cell (m.level cell.class) (m.ranked state cell.class) slot i in
-      let f = fits (nat_lt (m.ranked state cell.class) (2 ^ 128)) _ _ r h in
-      let b = behind (Some one) (ranking ms slot (i + 1) cells (after ranks cell)) r f.1 in
+      let b = (one_behind i cell cells ranks r h).1 in
       let at' : came_to b.rest.came k ≡ Some q =
       ap (λ (l : List (Option Queued)). came_to l (suc k)) (sym b.came) ∙ at in
       let same : length (after ranks cell) ≡ length ranks = many ranks keep cell here in
@@ -167,5 +163,4 @@ module _ (ms : List Machine) (slot : ℕ) where
       (λ l other is. subst (λ (n : ℕ). IsKnown n other) (sym same) (known (suc l) other is)) b.is k q at' in
       let own = known (suc k) q.cell (came_from ms slot (i + 1) cells (after ranks cell) b.rest b.is k q at').cell_is in
       let up = rises ranks keep cell here q.cell.output q.cell.class own.inside own.class in
-      let above = it.above in
       record { level = it.level; rank = it.rank; above = omega arith }

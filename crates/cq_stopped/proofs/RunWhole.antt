@@ -31,7 +31,6 @@ whole_is t s rs is =
     length-map t.setup.kinds (λ kind. machine_of kind t.setup.classes) in
     let begins : empty_limited_fabric (ports_of t.setup) ranks ≡ opening w ranks =
     ap (λ (n : ℕ). empty_limited_fabric n ranks) (sym ports) in
-    let came = is.runs.all_came in
     let figures : figures_of (ports_of t.setup) (slots_in rs)
     ≡ fold figures_after (no_figures (length (machines_of t.setup))) (slots_in rs) =
     figures_fold (ports_of t.setup) (slots_in rs)

@@ -141,14 +141,11 @@ module _ (w : Switch) (ranks : List (List ℕ)) (configured : IsConfigured w ran
   its_known k cell at =
       let inside = come.outputs k cell at in
       let class = come.classes k cell at in
-      let ports = known.ports in
-      let states = known.states in
       let same = configured.same cell.output (let lt : cell.output < length w.machines = omega arith in lt) in
       record { inside = omega arith; class = omega arith }
 
   keep : KeepLaws w.machines ideal.ranks
   keep =
-      let states = known.states in
       record {
         laws = λ j inside. configured.laws j (let lt : j < length w.machines = omega arith in lt);
         sized = λ j inside. (known.lanes j (let lt : j < length w.machines = omega arith in lt)).stands.size;
@@ -164,8 +161,7 @@ module _ (w : Switch) (ranks : List (List ℕ)) (configured : IsConfigured w ran
   is_keyed k q at =
       let c = its_came k q at in
       let ranked = its_rank k q at in
-      let ports = known.ports in
-      let input : q.key.input ≡ k = let e = c.input_is in omega arith in
+      let input : q.key.input ≡ k = omega arith in
       let arrive : arriving_at w.came q.key.slot q.key.input ≡ Some q.cell =
       ap (λ (t : ℕ). arriving_at w.came t q.key.input) c.slot_is ∙ ap (λ (i : ℕ). arriving_at w.came n i) input
       ∙ arrives k q.cell c.cell_is in
@@ -211,7 +207,7 @@ module _ (w : Switch) (ranks : List (List ℕ)) (configured : IsConfigured w ran
   unfolding lists
   full_is j =
       list_after r.of_slot.came ideal.lists
-      (λ k q at. let lt = its_keys.outputs k q at in let ports = known.agrees.ports in omega arith) j
+      (λ k q at. let lt = its_keys.outputs k q at in omega arith) j
 
   lists_many : length lists ≡ length w.machines
   unfolding lists
@@ -269,7 +265,6 @@ module _ (w : Switch) (ranks : List (List ℕ)) (configured : IsConfigured w ran
 
     older : (q : Queued) → IsOwn w n j q → IsOwn w (n + 1) j q
     older q own =
-        let lt = own.before in
         record { keyed = own.keyed; here = own.here; before = let l : q.key.slot < n + 1 = omega arith in l }
 
     pub own_full : AllByRecursion (IsOwn w (n + 1) j) (full j)
@@ -282,7 +277,6 @@ module _ (w : Switch) (ranks : List (List ℕ)) (configured : IsConfigured w ran
         (all_of_has (IsOwn w n j) (list_of ideal.lists j) q own_waiting (has_of_among (list_of ideal.lists j) q was)))
         (λ (new : CameFor r.of_slot.came j q).
         let c = its_came new.0 q new.1 in
-        let slot = c.slot_is in
         record {
           keyed = is_keyed new.0 q new.1;
           here = new.2;
@@ -299,7 +293,6 @@ module _ (w : Switch) (ranks : List (List ℕ)) (configured : IsConfigured w ran
     earlier =
         all_weaker (IsOwn w n j) (IsEarlier j n 0)
         (λ q own.
-        let lt = own.before in
         record { came = omega arith; before = λ same. absurd (omega arith) })
         (left_at j sent ++ list_of ideal.lists j) lane.own
 
@@ -343,7 +336,6 @@ module _ (w : Switch) (ranks : List (List ℕ)) (configured : IsConfigured w ran
     unfolding next
     its_served =
         let lists_are = many in
-        let states = known.states in
         served w.machines j n (configured.laws j inside) 0 0 r.admission.cells ideal
         (record { gone = r.of_slot.gone; after = alike.next }) alike.sent
         (let lt : j < length ideal.lists = omega arith in lt) (let lt : j < length ideal.ranks = omega arith in lt)
@@ -397,7 +389,6 @@ module _ (w : Switch) (ranks : List (List ℕ)) (configured : IsConfigured w ran
       all_both (IsSentRight w (n + 1)) sent (departures_from n 0 r.of_slot.gone)
       (all_weaker (IsSentRight w n) (IsSentRight w (n + 1))
       (λ d right.
-      let lt = right.before in
       record {
         own = right.own;
         inside = right.inside;
@@ -411,8 +402,6 @@ module _ (w : Switch) (ranks : List (List ℕ)) (configured : IsConfigured w ran
       let own =
       all_of_has (IsOwn w (n + 1) k) (full k) q (own_full k inside)
       (first_has (full k) q (sym (gone_is k inside) ∙ at)) in
-      let here = own.here in
-      let lt = own.before in
       record { own = omega arith; inside = omega arith; from = omega arith; before = omega arith })
       (λ (outside : length w.machines ≤ k).
       let clash : None ≡ Some q = sym (none_gone k outside) ∙ at in absurd (let P : ⊥ = cc in P))
@@ -435,7 +424,7 @@ module _ (w : Switch) (ranks : List (List ℕ)) (configured : IsConfigured w ran
       old (has_right (left_at j sent) (list_of ideal.lists j) q (has_of_among (list_of ideal.lists j) q was)))
       (λ (new : CameFor r.of_slot.came j q).
       let c = its_came new.0 q new.1 in
-      let input : q.key.input ≡ new.0 = let e = c.input_is in omega arith in
+      let input : q.key.input ≡ new.0 = omega arith in
       ap (λ (t : ℕ). came_in (cs ++ r.of_slot.came ∷ []) t q.key.input) c.slot_is
       ∙ came_now cs r.of_slot.came n known.long q.key.input
       ∙ ap (λ (i : ℕ). came_to r.of_slot.came i) input ∙ new.1)
@@ -485,9 +474,6 @@ module _ (w : Switch) (ranks : List (List ℕ)) (configured : IsConfigured w ran
       sym (came_now cs r.of_slot.came n known.long i)
       ∙ ap (λ (m : ℕ). came_in (cs ++ r.of_slot.came ∷ []) m i) same ∙ is in
       let c = its_came i q at in
-      let slot = c.slot_is in
-      let input = c.input_is in
-      let ports = known.ports in
       let inside : q.cell.output < length w.machines = let l = its_keys.outputs i q at in omega arith in
       let there : Has (left_at q.cell.output sent ++ full q.cell.output) q =
       has_right (left_at q.cell.output sent) (full q.cell.output) q
@@ -509,7 +495,6 @@ module _ (w : Switch) (ranks : List (List ℕ)) (configured : IsConfigured w ran
 
   states_next : length next.ranks ≡ length w.machines
   states_next =
-      let some = configured.some in
       (its_served 0 (let lt : 0 < length w.machines = omega arith in lt)).states ∙ known.states
 
   -- ## Together

@@ -109,7 +109,6 @@ module _ (p : Cell → Bool) where
   by_inputs (x ∷ xs) n low =
       let first = number_cons x xs in
       let rest = by_inputs xs n low.1 in
-      let own = low.0 in
       let here = one_place x 0 n (omega arith) (omega arith) in
       let both =
       total_sum (λ i. number (of_input i (x ∷ xs))) (at_own x) (λ i. number (of_input i xs)) 0 n
@@ -159,7 +158,7 @@ refused_low a (mark ∷ marks) [] n at le = tt
 refused_low a (true ∷ marks) (None ∷ cells) n at le = refused_low (a + 1) marks cells n at (omega arith)
 refused_low a (false ∷ marks) (None ∷ cells) n at le = refused_low (a + 1) marks cells n at (omega arith)
 refused_low a (true ∷ marks) (Some cell ∷ cells) n at le =
-    let own = at.0 in (omega arith, refused_low (a + 1) marks cells n at.1 (omega arith))
+    (omega arith, refused_low (a + 1) marks cells n at.1 (omega arith))
 refused_low a (false ∷ marks) (Some cell ∷ cells) n at le = refused_low (a + 1) marks cells n at.1 (omega arith)
 
 module _ (w : Switch) where

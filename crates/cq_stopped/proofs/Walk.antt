@@ -16,6 +16,7 @@ use Rattle.cq_base.specs.declared.cell.TagFault.{TagFault}
 use Rattle.cq_cells.specs.NextArrival.{ArrivesIn}
 use Rattle.cq_cells.specs.Traffic.{is_from}
 use Rattle.cq_ideal.proofs.Admitted.{admitted_at, marks_kept}
+use Rattle.cq_ideal.proofs.FlowRank.{only_ok}
 use Rattle.cq_ideal.proofs.Packets.{refused_here}
 use Rattle.cq_ideal.specs.Admission.{Admission, Marked, admission, held_after, is_full, is_full_at, mark_after, mark_at, marks_after, unless}
 use Rattle.cq_ideal.specs.Ending.{arriving_from}
@@ -41,9 +42,7 @@ use Rattle.cq_stopped.proofs.Ranked.{behind, fits}
 pub came_where : (ms : List Machine) (slot i : ℕ) (cells : List (Option Cell)) (ranks : List (List ℕ)) (r : Ranking) →
     ranking ms slot i cells ranks ≡ Ok r → (k : ℕ) → is_some (came_to r.came k) ≡ is_some (arrival_at cells k)
 came_where ms slot i [] ranks r h k =
-    let made : Ranking = record { came = []; ranks = ranks } in
-    let same : made ≡ r = cc in
-    ap (λ (y : Ranking). is_some (came_to y.came k)) (sym same)
+    ap (λ (y : Ranking). is_some (came_to y.came k)) (only_ok h refl)
 came_where ms slot i (None ∷ cells) ranks r h zero =
     let it = behind None (ranking ms slot (i + 1) cells ranks) r h in
     ap (λ (l : List (Option Queued)). is_some (came_to l zero)) it.came
