@@ -20,7 +20,6 @@ impl Order for LowestFirst {
     /// The first place.
     fn choose(&mut self, _free: &[Port]) -> usize
         requires { 0 < length _free.now }
-        ensures inside { result < length _free.now }
         ensures first { result ≡ 0 }
     {
         0
@@ -36,7 +35,6 @@ impl Order for LastFirst {
     /// The last place.
     fn choose(&mut self, free: &[Port]) -> usize
         requires { 0 < length free.now }
-        ensures inside { result < length free.now }
         ensures last { result + 1 ≡ length free.now }
     {
         free.len() - 1
