@@ -63,6 +63,15 @@ skipped_within came slot next end quiet ends inside =
     let late : slot ≤ next = quiet.late in
     ⊎_elim (λ lt. let before = quiet.more lt in omega arith) (λ ge. omega arith) (cases_lt slot next)
 
+-- where no slot is skipped nothing comes either
+pub quiet_if : {came : List Arrival} {slot next : ℕ} → slot ≤ next → (slot < next → IsQuiet came slot next) →
+    IsQuiet came slot next
+quiet_if late is = record {
+  late = late;
+  none = λ t from to. (is (omega arith)).none t from to;
+  more = λ some. (is some).more some;
+}
+
 starts_in : (came : List Arrival) (next : ℕ) → next ≤ over_by came next
 starts_in came next = let over = over_by_is came next in omega arith
 
@@ -448,12 +457,16 @@ module _ (M : List ℕ → Machine) {came : List Arrival} {last : ℕ} {first : 
 
   module _ {slot : ℕ} {now : EngineView} {sent : RoomView Departure} {note : RoomView Transfer}
       (parts : Parts slot now sent note) where
-    -- slots in which nothing comes are skipped
-    pub part_rests : {next : ℕ} {new : EngineView} → slot ≤ next → next ≤ last → NoneCome came slot next →
-        HasRested (map M now.fixed) slot next now new → Parts next new sent note
-    part_rests late within none rested =
-        at_rest false last M came first first_sent first_note ready.ready few_slots slot _ now _ sent note parts late
-        within none (λ is lt. never is) rested
+    -- slots in which nothing comes are skipped, if any are
+    pub part_rests : {next : ℕ} {new : EngineView} → slot ≤ last → slot ≤ next →
+        (slot < next → (next ≤ last) × NoneCome came slot next) →
+        HasRested (map M now.fixed) slot next now new → Parts next new sent note × (next ≤ last)
+    part_rests {next} before late skipped rested =
+        let within : next ≤ last = ⊎_elim (λ lt. (skipped lt).0) (λ ge. omega arith) (cases_lt slot next) in (
+          at_rest false last M came first first_sent first_note ready.ready few_slots slot _ now _ sent note parts late
+              within (λ t from to. (skipped (omega arith)).1 t from to) (λ is lt. never is) rested,
+          within,
+        )
 
     pub part_stands : slot < last → Stands false last M came first first_sent first_note slot now sent note
     part_stands some =

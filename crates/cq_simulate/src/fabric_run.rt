@@ -1,5 +1,5 @@
 //! The run of the fabric.
-ghost use Rattle.std.specs.Prelude.{◌≡◌, ◌↔◌, ◌≤◌, IsTrue, false, IfOk, IfErr, Ok, OnOk, [], length, map};
+ghost use Rattle.std.specs.Prelude.{◌≡◌, ◌↔◌, ◌<◌, ◌≤◌, ℕ, IsTrue, false, IfOk, IfErr, Ok, OnOk, [], length, map};
 ghost use Rattle.cq_base.specs.Arriving.{arriving, end_of};
 ghost use Rattle.cq_engine.specs.Resting.{HasRested};
 ghost use Rattle.cq_laws.specs.Fabric.{IsEmptyFabric};
@@ -7,7 +7,6 @@ ghost use Rattle.cq_simulate.specs.FabricRuns.{IsKeptOf, unpacked_run};
 ghost use Rattle.cq_simulate.specs.IdealRuns.{ideal_departures, IsRefusalOf};
 ghost use Rattle.cq_simulate.specs.ScheduleFor.{IsScheduleFor};
 ghost use Rattle.cq_simulate.specs.GoingOn.{HasKept, HasRunOn, IsReadyOn, IsRefusalOn, StopsOn};
-ghost use Rattle.cq_traffic.specs.Stretch.{IsQuiet};
 
 use crate::RunResult;
 use crate::ports::{engine_for, port_count};
@@ -147,17 +146,21 @@ fn is_over<R: Rank>(engine: &Engine<R>, schedule: &Schedule, slot: Slot) -> bool
     schedule.end() <= slot && engine.empty()
 }
 
-// The cells of the slot come. Where none comes and none waits, the slots up to the next arrival are skipped: the fabric
-// rests, and the cells of that slot come. The answer is the slot whose cells came.
-fn skip<R: Rank>(
+// The cells of the slot come. Where none comes and none waits, the slots up to the one that `until` tells are skipped:
+// the fabric rests, and the cells of that slot come. The answer is the slot whose cells came.
+pub fn skip<R: Rank, F: FnOnce() -> Slot>(
     engine: &mut Engine<R>,
     schedule: &Schedule,
     slot: Slot,
     coming: &mut Coming,
+    until: F,
 ) -> Slot
     requires running { engine.old.stopped ≡ false }
     requires next { engine.old.next ≡ slot }
-    ensures quiet { IsQuiet schedule.now.came slot result }
+    requires tells { F.pre until }
+    requires late { (next : ℕ) → F.post until next → slot ≤ next }
+    ensures late { slot ≤ result }
+    ensures told { slot < result → F.post until result }
     ensures rested { HasRested (map R.machine engine.old.fixed) slot result engine.old engine.new }
     ensures came { coming.new ≡ arriving schedule.now.came result }
 {
@@ -165,13 +168,13 @@ fn skip<R: Rank>(
     if !coming.is_empty() || !engine.empty() {
         return slot;
     }
-    let next = quiet_until(schedule, slot);
+    let next = until();
     rest_to(engine, schedule, slot, next, coming)
 }
 
 // The slots from this one up to the next are skipped: the fabric rests, and the cells of that slot come. The answer is
 // the slot whose cells came.
-pub fn rest_to<R: Rank>(
+fn rest_to<R: Rank>(
     engine: &mut Engine<R>,
     schedule: &Schedule,
     slot: Slot,
@@ -217,7 +220,9 @@ fn run_slots<T: Threads + Sync, R: Rank, G: Gate>(
     let mut coming = Coming::none();
     let mut slot = engine.next();
     'slots: while !is_over(engine, schedule, slot) {
-        slot = skip(engine, schedule, slot, &mut coming);
+        slot = skip(engine, schedule, slot, &mut coming, || {
+            quiet_until(schedule, slot)
+        });
         engine.slot(rt, alloc, slot, coming.arrivals(), gate, leaving, note)?;
         sent.take_all(leaving);
         slot += 1;

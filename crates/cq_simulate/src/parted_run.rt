@@ -1,7 +1,5 @@
 //! The run of the fabric in parts: up to a slot, and on from there.
 ghost use Rattle.std.specs.Prelude.{◌≡◌, ◌-◌, ◌<◌, ◌≤◌, ◌^◌, IfErr, IfOk, OnOk, false, length, map};
-ghost use Rattle.cq_base.specs.Arriving.{arriving};
-ghost use Rattle.cq_engine.specs.Resting.{HasRested};
 ghost use Rattle.cq_resume.specs.Parts.{IsParted};
 ghost use Rattle.cq_resume.specs.Resumed.{IsResumed};
 ghost use Rattle.cq_resume.specs.Switch.{switch_of};
@@ -13,7 +11,7 @@ ghost use Rattle.cq_simulate.specs.FabricRuns.{unpacked_run};
 ghost use Rattle.cq_simulate.specs.ScheduleFor.{IsScheduleFor};
 
 use crate::RunResult;
-use crate::fabric_run::{PackedFabricRun, rest_to, run_on};
+use crate::fabric_run::{PackedFabricRun, run_on, skip};
 use crate::ports::{engine_for, port_count, ports_for};
 use cq_base::{Departure, Departures, NoMemory, Room, Slot, TagFault, Transfer};
 use cq_cells::{Coming, Schedule};
@@ -154,32 +152,6 @@ fn quiet_before(schedule: &Schedule, slot: Slot, last: Slot) -> Slot
     schedule.next_arrival(slot).unwrap_or(last).min(last)
 }
 
-// The cells of the slot come. Where none comes and none waits, the slots up to the next arrival are skipped, but none
-// from the last one on: the fabric rests, and the cells of that slot come. The answer is the slot whose cells came.
-fn skip_before<R: Rank>(
-    engine: &mut Engine<R>,
-    schedule: &Schedule,
-    slot: Slot,
-    last: Slot,
-    coming: &mut Coming,
-) -> Slot
-    requires running { engine.old.stopped ≡ false }
-    requires next { engine.old.next ≡ slot }
-    requires before { slot ≤ last }
-    ensures late { slot ≤ result }
-    ensures within { result ≤ last }
-    ensures none { NoneCome schedule.now.came slot result }
-    ensures rested { HasRested (map R.machine engine.old.fixed) slot result engine.old engine.new }
-    ensures came { coming.new ≡ arriving schedule.now.came result }
-{
-    schedule.arrive(slot, coming);
-    if !coming.is_empty() || !engine.empty() {
-        return slot;
-    }
-    let next = quiet_before(schedule, slot, last);
-    rest_to(engine, schedule, slot, next, coming)
-}
-
 // Runs a fabric over the slots from the next one up to the last, which it does not run.
 fn run_before<T: Threads + Sync, R: Rank, G: Gate>(
     rt: &T,
@@ -200,7 +172,9 @@ fn run_before<T: Threads + Sync, R: Rank, G: Gate>(
     let mut coming = Coming::none();
     let mut slot = engine.next();
     'slots: while slot < last {
-        slot = skip_before(engine, schedule, slot, last, &mut coming);
+        slot = skip(engine, schedule, slot, &mut coming, || {
+            quiet_before(schedule, slot, last)
+        });
         if slot >= last {
             return Ok(());
         }

@@ -1,10 +1,10 @@
-use Rattle.std.proofs.Common.{◌+◌, ◌-◌, ◌<◌, ◌^◌, true, zero, map, ap, sym, ◌∙◌, arith}
+use Rattle.std.proofs.Common.{◌+◌, ◌-◌, ◌<◌, ◌^◌, true, zero, map, ap, sym, ◌∙◌, arith, rules}
 use Rattle.std.specs.Result.{is_err}
 use Rattle.std.proofs.lemmas.Result.{err_from_is_err_and}
 use Rattle.cq_base.specs.Arriving.{end_of}
 use Rattle.cq_laws.specs.Fabric.{IsEmptyFabric}
 use Rattle.cq_simulate.proofs.FabricRunning.{over_by}
-use Rattle.cq_simulate.proofs.FabricSteps.{CanRun, HasHad, Stands, can_run_here, can_take_over, emptied, fault_here, goes_on, next_here, places_here, run_begins, run_ends, run_stands, taken_over}
+use Rattle.cq_simulate.proofs.FabricSteps.{CanRun, HasHad, Stands, can_run_here, can_take_over, emptied, fault_here, goes_on, next_here, places_here, quiet_if, run_begins, run_ends, run_stands, taken_over}
 use Rattle.cq_simulate.proofs.fabric_run.run_slots.Given as given
 use Rattle.cq_simulate.proofs.fabric_run.run_slots.Goals as goal
 use Rattle.cq_simulate.proofs.fabric_run.run_slots.Goals.{After-arrivals, In_ok-slot}
@@ -21,7 +21,8 @@ stands g c =
     (goes_on c.is_over.result (end_of c.args.schedule.now.came) c.slots.slot
     (IsEmptyFabric c.slots.engine.fabric) c.slots-test.true
     c.is_over.ensures)
-    c.skip-slot.ensures.quiet c.skip-slot.ensures.rested
+    (quiet_if c.skip-slot.ensures.late (λ lt. let told = c.skip-slot.ensures.told lt in search rules))
+    c.skip-slot.ensures.rested
 
 -- and finds all that it asks for, with a list of its own for what leaves
 can : (g : given.Over) (c : After-arrivals g) →

@@ -1,4 +1,4 @@
-use Rattle.std.proofs.Common.{◌+◌, ◌-◌, false, ap, sym, ◌∙◌, arith}
+use Rattle.std.proofs.Common.{◌+◌, ◌-◌, ◌≤◌, false, ap, sym, ◌∙◌, arith, rules}
 use Rattle.std.specs.Result.{is_err}
 use Rattle.std.proofs.lemmas.Result.{err_from_is_err_and}
 use Rattle.cq_simulate.proofs.FabricSteps.{CanRun, Stands, can_run_here, fault_here, next_here, part_begins, part_ends, part_rests, part_stands, room_here}
@@ -11,21 +11,20 @@ use Rattle.cq_simulate.proofs.parted_run.run_before.Goals.{After-arrivals-arriva
 -- once slots in which nothing comes are skipped, the run stands at a slot before the last
 stands : (g : given.Over) (c : After-arrivals-arrivals g) →
     Stands false c.args.last g.R.Rank.machine c.args.schedule.now.came c.args.engine.now c.args.sent.now
-    c.args.note.now c.skip_before-slot.result c.skip_before-slot.new.engine c.slots.sent c.slots.note
+    c.args.note.now c.skip-slot.result c.skip-slot.new.engine c.slots.sent c.slots.note
 stands g c =
-    let skipped = c.skip_before-slot.ensures in
     part_stands g.R.Rank.machine c.requires.ready
-    (part_rests g.R.Rank.machine c.requires.ready c.slots.invariant.crossing
-    skipped.late skipped.within skipped.none skipped.rested)
-    c.if-slot-last.false
+    (part_rests g.R.Rank.machine c.requires.ready c.slots.invariant.crossing c.slots.invariant.before
+    c.skip-slot.ensures.late (λ lt. let told = c.skip-slot.ensures.told lt in search rules)
+    c.skip-slot.ensures.rested).0 c.if-slot-last.false
 
 -- and finds all that it asks for
 can : (g : given.Over) (c : After-arrivals-arrivals g) →
-    CanRun g.R.Rank.machine c.skip_before-slot.result c.arrivals-arrivals.result.now
-    c.skip_before-slot.new.engine c.slots.sent c.slots.note
+    CanRun g.R.Rank.machine c.skip-slot.result c.arrivals-arrivals.result.now
+    c.skip-slot.new.engine c.slots.sent c.slots.note
 can g c =
     can_run_here (stands g c) c.arrivals-arrivals.result.now (c.arrivals-arrivals.ensures
-    ∙ c.skip_before-slot.ensures.came) c.slots.sent (room_here (stands g c))
+    ∙ c.skip-slot.ensures.came) c.slots.sent (room_here (stands g c))
 
 -- ## The loop
 
@@ -37,14 +36,11 @@ slots-init g c =
       before = c.requires.ready.next;
     })
 
-pub skip_before-slot-requires-clause-running : goal.skip_before-slot-requires-clause-running
-skip_before-slot-requires-clause-running g c = c.slots.invariant.crossing.running
+pub skip-slot-requires-clause-running : goal.skip-slot-requires-clause-running
+skip-slot-requires-clause-running g c = c.slots.invariant.crossing.running
 
-pub skip_before-slot-requires-clause-next : goal.skip_before-slot-requires-clause-next
-skip_before-slot-requires-clause-next g c = c.slots.invariant.crossing.next
-
-pub skip_before-slot-requires-clause-before : goal.skip_before-slot-requires-clause-before
-skip_before-slot-requires-clause-before g c = c.slots.invariant.before
+pub skip-slot-requires-clause-next : goal.skip-slot-requires-clause-next
+skip-slot-requires-clause-next g c = c.slots.invariant.crossing.next
 
 pub slot-requires-clause-early : goal.slot-requires-clause-early
 slot-requires-clause-early g c =
@@ -64,8 +60,8 @@ returns-in_err-slot-clause-fault g c =
     let p = err_from_is_err_and c.from_residual.result c.from_residual.ensures.1 in
     let last = c.args.last in
     rw (p.1, p.2)
-    (fault_here here c.arrivals-arrivals.result.now c.in_err-slot.field-0.0 (last - (c.skip_before-slot.result + 1))
-    (last - c.args.engine.now.next) (omega arith) (c.arrivals-arrivals.ensures ∙ c.skip_before-slot.ensures.came)
+    (fault_here here c.arrivals-arrivals.result.now c.in_err-slot.field-0.0 (last - (c.skip-slot.result + 1))
+    (last - c.args.engine.now.next) (omega arith) (c.arrivals-arrivals.ensures ∙ c.skip-slot.ensures.came)
     (sym c.in_err-slot.was ∙ c.slot.ensures.answer))
 
 pub slots-smaller : goal.slots-smaller
@@ -77,7 +73,7 @@ slots-preserved g c =
       crossing =
           next_here (stands g (goal.at.slots-preserved g c).After-arrivals-arrivals)
           c.arrivals-arrivals.result.now c.slot.new.self c.slot.new.sent c.slot.new.note
-          (c.arrivals-arrivals.ensures ∙ c.skip_before-slot.ensures.came)
+          (c.arrivals-arrivals.ensures ∙ c.skip-slot.ensures.came)
           (record {
             done = c.in_ok-slot.ensures.slot;
             running = c.slot.ensures.stopped ∙ ap is_err c.in_ok-slot.was;
@@ -97,11 +93,11 @@ slots-preserved g c =
 
 pub returns-then-slot-last-clause-run : goal.returns-then-slot-last-clause-run
 returns-then-slot-last-clause-run g c =
-    let skipped = c.skip_before-slot.ensures in
-    part_ends g.R.Rank.machine c.requires.ready
-    (part_rests g.R.Rank.machine c.requires.ready c.slots.invariant.crossing
-    skipped.late skipped.within skipped.none skipped.rested)
-    (omega arith)
+    let rests =
+    part_rests g.R.Rank.machine c.requires.ready c.slots.invariant.crossing c.slots.invariant.before
+    c.skip-slot.ensures.late (λ lt. let told = c.skip-slot.ensures.told lt in search rules) c.skip-slot.ensures.rested in
+    let within : c.skip-slot.result ≤ c.args.last = rests.1 in
+    part_ends g.R.Rank.machine c.requires.ready rests.0 (omega arith)
 
 pub returns-clause-run : goal.returns-clause-run
 returns-clause-run g c =
