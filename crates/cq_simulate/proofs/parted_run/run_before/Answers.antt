@@ -36,12 +36,6 @@ slots-init g c =
       before = c.requires.ready.next;
     })
 
-pub skip-slot-requires-clause-running : goal.skip-slot-requires-clause-running
-skip-slot-requires-clause-running g c = c.slots.invariant.crossing.running
-
-pub skip-slot-requires-clause-next : goal.skip-slot-requires-clause-next
-skip-slot-requires-clause-next g c = c.slots.invariant.crossing.next
-
 pub slot-requires-clause-early : goal.slot-requires-clause-early
 slot-requires-clause-early g c =
     λ _ _. (can g (goal.at.slot-requires-clause-early g c).After-arrivals-arrivals).early
