@@ -224,6 +224,7 @@ module _ (t : Tables) (came : List Arrival) where
       input_best = best_in_each;
       slack = always_slack;
       ends = as_many_slots;
+      -- it ends with the last arrival, or with the last departure
       slots =
           let many = as_many_slots in
           let last = slots_are t came (departures_in_run rs) sends_as_ideal in
