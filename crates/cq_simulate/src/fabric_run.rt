@@ -169,27 +169,6 @@ pub fn skip<R: Rank, F: FnOnce() -> Slot>(
         return slot;
     }
     let next = until();
-    rest_to(engine, schedule, slot, next, coming)
-}
-
-// The slots from this one up to the next are skipped: the fabric rests, and the cells of that slot come. The answer is
-// the slot whose cells came.
-fn rest_to<R: Rank>(
-    engine: &mut Engine<R>,
-    schedule: &Schedule,
-    slot: Slot,
-    next: Slot,
-    coming: &mut Coming,
-) -> Slot
-    requires running { engine.old.stopped ≡ false }
-    requires empty { IsEmptyFabric engine.old.fabric }
-    requires next { engine.old.next ≡ slot }
-    requires late { slot ≤ next }
-    requires came { coming.old ≡ arriving schedule.now.came slot }
-    ensures slot { result ≡ next }
-    ensures rested { HasRested (map R.machine engine.old.fixed) slot next engine.old engine.new }
-    ensures came { coming.new ≡ arriving schedule.now.came next }
-{
     if next == slot {
         return slot;
     }

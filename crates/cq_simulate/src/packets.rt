@@ -69,7 +69,8 @@ pub(crate) fn take(
     ensures pair { OnOk result (open_at joiner.new departure.now.queued.cell.id.input departure.now.queued.cell.class ≡
         open_after (open_at joiner.old departure.now.queued.cell.id.input departure.now.queued.cell.class)
         departure.now.queued.cell (piece_at captures.now departure.now.queued.cell)) }
-    ensures others { (input class : ℕ) → class < joiner.old.classes → IsOtherPair input class departure.now.queued.cell →
+    ensures others { (input class : ℕ) → class < joiner.old.classes →
+        IsOtherPair input class departure.now.queued.cell →
         open_at joiner.new input class ≡ open_at joiner.old input class }
 {
     let cell = &departure.queued.cell;
