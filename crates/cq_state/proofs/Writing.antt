@@ -42,20 +42,29 @@ numbered_more line n (y ∷ xs) x =
     ap (λ ls. line n y ∷ ls) (numbered_more line (n + 1) xs x
     ∙ ap (λ m. numbered line (n + 1) xs ++ line m x ∷ []) e)
 
--- the items of a list, a line each: a line of one kind with these fields
+-- the items of a list, a line each
+module _ {X : Type 0} (xs : List X) (old : List ℕ) where
+  pub each_put : (line : X → Line) (i : ℕ) (d : X) (now new : List ℕ) → i < length xs →
+      now ≡ old ++ text (map line (take i xs)) → new ≡ now ++ spelled (line (get_or xs i d)) →
+      new ≡ old ++ text (map line (take (i + 1) xs))
+  each_put line i d now new inside e f =
+      let x = get_or xs i d in
+      line_behind old now new (map line (take i xs)) (line x) e f
+      ∙ ap (λ ls. old ++ text ls) (sym (ap (map line) (take_more xs i d inside) ∙ map-append line (take i xs) (x ∷ [])))
+
+  pub lines_put : (line : X → Line) (i : ℕ) (new : List ℕ) → length xs ≤ i →
+      new ≡ old ++ text (map line (take i xs)) → new ≡ old ++ text (map line xs)
+  lines_put line i new past e = e ∙ ap (λ ys. old ++ text (map line ys)) (take_all i xs past)
+
+-- a line of one kind with these fields
 module _ {X : Type 0} (xs : List X) (old : List ℕ) (k : Kind) where
   pub line_put : (line : X → Line) → ((x : X) → (line x).kind ≡ k) → (i : ℕ) (d : X) (fs : List (Option ℕ)) (now new :
       List ℕ) → i < length xs → now ≡ old ++ text (map line (take i xs)) → fs ≡ (line (get_or xs i d)).fields →
       new ≡ now ++ spelled (record { kind = k; fields = fs }) → new ≡ old ++ text (map line (take (i + 1) xs))
   line_put line own i d fs now new inside e fields f =
       let x = get_or xs i d in
-      line_behind old now new (map line (take i xs)) (line x) e (f ∙ ap (λ z. now ++ spelled z) (same_line k fs (line x)
-      (own x) fields))
-      ∙ ap (λ ls. old ++ text ls) (sym (ap (map line) (take_more xs i d inside) ∙ map-append line (take i xs) (x ∷ [])))
-
-  pub lines_put : (line : X → Line) (i : ℕ) (new : List ℕ) → length xs ≤ i →
-      new ≡ old ++ text (map line (take i xs)) → new ≡ old ++ text (map line xs)
-  lines_put line i new past e = e ∙ ap (λ ys. old ++ text (map line ys)) (take_all i xs past)
+      each_put xs old line i d now new inside e
+      (f ∙ ap (λ z. now ++ spelled z) (same_line k fs (line x) (own x) fields))
 
   pub numbered_line_put : (line : ℕ → X → Line) → ((i : ℕ) (x : X) → (line i x).kind ≡ k) → (i : ℕ) (d : X) (fs : List
       (Option ℕ)) (now new : List ℕ) → i < length xs → now ≡ old ++ text (numbered line 0 (take i xs)) →

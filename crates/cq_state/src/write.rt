@@ -3,7 +3,7 @@ ghost use Rattle.std.specs.Prelude.{◌≡◌, ◌≤◌, ◌^◌, [], ◌∷◌
 ghost use Rattle.std.specs.List.{flat_map};
 ghost use Rattle.cq_state.specs.Refusals.{IsTooLong};
 ghost use Rattle.cq_state.specs.State.{state_text, head_lines, numbered, input_line, rank_line, cell_numbers, cell_line, sent_line, moved_line};
-ghost use Rattle.cq_state.specs.StateText.{spelled};
+ghost use Rattle.cq_state.specs.StateText.{Line, spelled};
 
 use crate::kind::Kind;
 use crate::state::{Head, Named, Seen, Sent, State};
@@ -47,8 +47,8 @@ fn put_state(alloc: Global, text: &mut Vec<u8>, state: &State) -> Result<(), NoM
     put_ranks(alloc, text, state.ranks.as_slice())?;
     put_cells(text, Kind::Listed, state.listed.as_slice())?;
     put_cells(text, Kind::Buffered, state.buffered.as_slice())?;
-    put_sent(text, state.sent.as_slice())?;
-    put_moved(text, state.moved.as_slice())?;
+    put_each(text, state.sent.as_slice())?;
+    put_each(text, state.moved.as_slice())?;
     put_numbers(text, Kind::End, &[])
 }
 
@@ -139,13 +139,29 @@ fn cell_fields(cell: Named) -> [Option<u128>; 4]
     ]
 }
 
-fn put_sent(text: &mut Vec<u8>, sent: &[Sent]) -> Result<(), NoMemory>
-    ensures { OnOk result (text.new.items ≡ text.old.items ++ flat_map spelled (map sent_line sent.now)) }
+// What a line of its own tells.
+trait Told {
+    ghost line: { Self → Line };
+
+    fn put(&self, text: &mut Vec<u8>) -> Result<(), NoMemory>
+        ensures { OnOk result (text.new.items ≡ text.old.items ++ spelled (line self.now)) };
+}
+
+fn put_each<T: Told>(text: &mut Vec<u8>, items: &[T]) -> Result<(), NoMemory>
+    ensures { OnOk result (text.new.items ≡ text.old.items ++ flat_map spelled (map T.line items.now)) }
 {
-    'sent: for departure in sent {
-        put_numbers(text, Kind::Sent, &sent_fields(*departure))?;
+    'items: for item in items {
+        item.put(text)?;
     }
     Ok(())
+}
+
+impl Told for Sent {
+    ghost line = { sent_line };
+
+    fn put(&self, text: &mut Vec<u8>) -> Result<(), NoMemory> {
+        put_numbers(text, Kind::Sent, &sent_fields(*self))
+    }
 }
 
 fn sent_fields(sent: Sent) -> [Option<u128>; 5]
@@ -155,13 +171,12 @@ fn sent_fields(sent: Sent) -> [Option<u128>; 5]
     [Some(u128::from(sent.slot)), level, rank, slot, input]
 }
 
-fn put_moved(text: &mut Vec<u8>, moved: &[Transfer]) -> Result<(), NoMemory>
-    ensures { OnOk result (text.new.items ≡ text.old.items ++ flat_map spelled (map moved_line moved.now)) }
-{
-    'moved: for transfer in moved {
-        put_numbers(text, Kind::Moved, &moved_fields(*transfer))?;
+impl Told for Transfer {
+    ghost line = { moved_line };
+
+    fn put(&self, text: &mut Vec<u8>) -> Result<(), NoMemory> {
+        put_numbers(text, Kind::Moved, &moved_fields(*self))
     }
-    Ok(())
 }
 
 fn moved_fields(moved: Transfer) -> [Option<u128>; 6]

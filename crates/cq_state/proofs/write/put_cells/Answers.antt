@@ -10,6 +10,6 @@ cells-preserved c =
     c.cells-test.true c.cells.invariant c.cell_fields.ensures c.in_ok-put_numbers.ensures
 
 pub returns : goal.returns
-returns c = lines_put c.args.cells.now c.args.text.now.items c.args.kind (cell_line c.args.kind) c.cells.cell-index
-    _ c.cells-test.false
+returns c =
+    lines_put c.args.cells.now c.args.text.now.items (cell_line c.args.kind) c.cells.cell-index _ c.cells-test.false
     c.cells.invariant
