@@ -1,0 +1,11 @@
+use Rattle.std.proofs.Common.{Some, rules}
+use Rattle.std.proofs.lemmas.Iterator.{YieldsList-from_map, YieldsList-from_slice}
+use Rattle.std.proofs.lemmas.Iterator.Adapters.{items_from_extend}
+use Rattle.cq_state.proofs.write.rank_fields.Goals as goal
+
+pub returns : goal.returns
+returns c =
+    let put =
+    items_from_extend c.extend.result c.extend.ensures.ran
+    (YieldsList-from_map _ Some (YieldsList-from_slice c.args.numbers.now cc) (cc) (λ x r q k. search rules)) in
+    search rules
