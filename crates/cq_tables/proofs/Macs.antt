@@ -1,10 +1,12 @@
 -- Addresses that are known: a set of them has those of the rows so far, and they differ.
-use Rattle.std.proofs.Common.{◌≡◌, ◌≢◌, ℕ, zero, suc, ◌+◌, ◌<◌, Bool, true, false, not, ◌||◌, List, [], ◌∷◌, ◌++◌, length, get_or, take, map, Option, Some, None, Result, IfErr, Ordering, Less, Equal, Greater, nat_cmp, refl, ap, ◌∙◌, sym, arith}
+use Rattle.std.proofs.Common.{◌≡◌, ◌≢◌, ℕ, zero, suc, ◌+◌, ◌<◌, Bool, true, false, ◌||◌, List, [], ◌∷◌, ◌++◌, length, get_or, take, map, Option, Some, None, Result, IfErr, Ordering, Less, Equal, Greater, nat_cmp, refl, ap, ◌∙◌, sym, arith}
 use Rattle.std.specs.Cmp.Lexicographic.{slice_cmp}
 use Rattle.std.specs.List.{AllPairs, list_any}
 use Rattle.std.specs.Ordering.{is_eq, match_ordering}
 use Rattle.std.specs.BTreeSet.{insert_key}
 use Rattle.std.specs.Str.{bytes_eq}
+use Rattle.std.proofs.Math.Bool.{or_self_left}
+use Rattle.std.proofs.lemmas.Bool.{not-true, or_parts}
 use Rattle.std.proofs.lemmas.Map.Text.{is_eq-slice_cmp}
 use Rattle.std.proofs.lemmas.Slice.Eq.{bytes_eq-Decides}
 use Rattle.std.proofs.lemmas.List.Quantifiers.{all_pairs_push}
@@ -35,10 +37,6 @@ pub set_has : (mac : List ℕ) (macs : List (List ℕ)) →
 set_has mac [] = refl
 set_has mac (x ∷ xs) = rw (is_eq-slice_cmp mac x, set_has mac xs)
 
-or_same : (a b : Bool) → (a || b) ≡ (a || (a || b))
-or_same true b = refl
-or_same false b = refl
-
 or_swap : (a b c : Bool) → (b || (a || c)) ≡ (a || (b || c))
 or_swap true true c = refl
 or_swap true false c = refl
@@ -51,7 +49,7 @@ inserted : (o : Ordering) (mac x q : List ℕ) (xs rest : List (List ℕ)) → o
 inserted Less mac x q xs rest is e = refl
 inserted Equal mac x q xs rest is e =
     let same : mac ≡ x = (bytes_eq-Decides mac x).0 (sym (is_eq-slice_cmp mac x) ∙ ap is_eq (sym is)) in
-    rw same (or_same (bytes_eq q x) (has xs q))
+    rw same (sym (or_self_left (bytes_eq q x) (has xs q)))
 inserted Greater mac x q xs rest is e = rw e (or_swap (bytes_eq q mac) (bytes_eq q x) (has xs q))
 
 -- one more address in a set
@@ -108,24 +106,16 @@ has_last [] row q = refl
 has_last (r ∷ rows) row q =
     rw (has_last rows row q) (or_swap (bytes_eq q row.mac) (bytes_eq q r.mac) (has (map mac rows) q))
 
-false_parts : (a b : Bool) → (a || b) ≡ false → (a ≡ false) × (b ≡ false)
-false_parts true b h = cc
-false_parts false b h = (refl, h)
-
 others : (rows : List AddressRow) (q : List ℕ) → has (map mac rows) q ≡ false → (k : ℕ) (d : AddressRow) →
     k < length rows → (get_or rows k d).mac ≢ q
 others [] q h k d small = absurd (omega arith)
 others (r ∷ rows) q h zero d small =
-    λ e. let t : true
-    ≡ false = sym ((bytes_eq-Decides q r.mac).1 (sym e))
-    ∙ (false_parts (bytes_eq q r.mac) (has (map mac rows) q) h).0 in
+    λ e.
+    let clash : true ≡ false =
+    sym ((bytes_eq-Decides q r.mac).1 (sym e)) ∙ (or_parts (bytes_eq q r.mac) (has (map mac rows) q) h).0 in
     cc
 others (r ∷ rows) q h (suc k) d small =
-    others rows q (false_parts (bytes_eq q r.mac) (has (map mac rows) q) h).1 k d (omega arith)
-
-not_false : (b : Bool) → not b ≡ true → b ≡ false
-not_false true h = cc
-not_false false h = refl
+    others rows q (or_parts (bytes_eq q r.mac) (has (map mac rows) q) h).1 k d (omega arith)
 
 pub record Walked_apart (ports : ℕ) (vs : List Value) (i : ℕ) (known : List (List ℕ)) (rows : List AddressRow) : Type
     0 where
@@ -157,7 +147,7 @@ module _ {ports : ℕ} {vs : List Value} {i : ℕ} {known : List (List ℕ)} {ro
     knows = λ q. added q ∙ (ap (λ (b : Bool). bytes_eq q row.mac || b) (w.knows q) ∙ sym (has_last rows row q));
     differ =
         all_pairs_push (λ (a b : AddressRow). a.mac ≢ b.mac) rows row w.differ
-        (others rows row.mac (sym (w.knows row.mac) ∙ not_false (has known row.mac) fresh));
+        (others rows row.mac (sym (w.knows row.mac) ∙ not-true (has known row.mac) fresh));
   })
 
   pub apart_stop : {B : Type 0} (r : Result B TableRefusal) (v : Value) → i < length vs → v ≡ get_or vs i v

@@ -26,6 +26,12 @@ each_past check [] (suc i) n h = refl
 each_past check (v ∷ vs) zero n h = absurd (omega arith)
 each_past check (v ∷ vs) (suc i) n h = each_past check vs i n (omega arith)
 
+-- where no element is left to check, all hold
+pub walk_holds : (check : ℕ → Data → Check) (vs : List Value) (i : ℕ) →
+    first (each check 0 (map view vs)) ≡ first (each check i (map view (drop i vs))) → length vs ≤ i →
+    first (each check 0 (map view vs)) ≡ None
+walk_holds check vs i so_far past = so_far ∙ (ap first (each_past check vs i i past) ∙ first_none)
+
 module _ {A : Type 0} where
   abbrev pub rows_of : (Members → A) → List Value → List A
   rows_of row vs = map row (map members (map view vs))
@@ -79,9 +85,6 @@ module _ {A : Type 0} where
     pub walked_stop : {B : Type 0} (r : Result B TableRefusal) (v : Value) → i < length vs → v ≡ get_or vs i v
         → IfErr r (Refuses (check i (view v))) → IfErr r (Refuses (first (each check 0 (map view vs))))
     walked_stop r v small is told = rw (w.checked, each_drop check vs i i v small) (here r _ _ (rw (sym is) told))
-
-    pub walked_held : length vs ≤ i → first (each check 0 (map view vs)) ≡ None
-    walked_held past = w.checked ∙ (ap first (each_past check vs i i past) ∙ first_none)
 
     pub walked_read : length vs ≤ i → rows ≡ rows_of row vs
     walked_read past = w.read ∙ rows_past row vs i past

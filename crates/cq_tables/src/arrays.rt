@@ -36,6 +36,7 @@ fn class_in(
 }
 
 /// The classes that the elements tell, in this version.
+#[tactic(auto, using(crate::proofs::Walk::walk_holds))]
 pub fn class_rows(
     alloc: Global,
     values: &[Value],
@@ -79,6 +80,7 @@ fn rule_in(
 }
 
 /// The rules that the elements tell, among so many ports and classes.
+#[tactic(auto, using(crate::proofs::Walk::walk_holds))]
 pub fn rule_rows(
     alloc: Global,
     values: &[Value],
@@ -124,6 +126,7 @@ pub struct PortEntries {
 }
 
 /// The ports that the elements tell.
+#[tactic(auto, using(crate::proofs::Walk::walk_holds))]
 pub fn port_rows(alloc: Global, values: &[Value]) -> Result<PortEntries, TableRefusal>
     ensures held { IfOk result (λ _. first (each (element_check Array.Ports (λ _. port_keys)) 0 (map view values.now))
         ≡ None) }

@@ -1,6 +1,6 @@
 use Rattle.std.proofs.Common.{◌≡◌, [], rules, arith}
 use Rattle.cq_tables.proofs.Macs.{apart_more, apart_none, apart_stop}
-use Rattle.cq_tables.proofs.Walk.{walked_held, walked_read}
+use Rattle.cq_tables.proofs.Walk.{walked_read}
 use Rattle.cq_tables.proofs.addresses.address_rows.Goals as goal
 
 pub addresses-init : goal.addresses-init
@@ -10,17 +10,13 @@ addresses-init c =
 
 pub returns-in_err-row-clause-refused : goal.returns-in_err-row-clause-refused
 returns-in_err-row-clause-refused c =
-    apart_stop c.addresses.invariant c.from_residual.result c.index-values-index.result (omega arith)
-    c.index-values-index.is (search rules)
+    apart_stop c.addresses.invariant _ _ (omega arith) c.index-values-index.is (search rules)
 
 pub addresses-preserved : goal.addresses-preserved
 addresses-preserved c =
     let told = c.in_ok-row.ensures in
     apart_more c.addresses.invariant c.index-values-index.result (omega arith) c.index-values-index.is told.held
     told.value told.output told.fresh told.known (search rules)
-
-pub returns-clause-held : goal.returns-clause-held
-returns-clause-held c = walked_held c.addresses.invariant.walked (omega arith)
 
 pub returns-clause-value : goal.returns-clause-value
 returns-clause-value c = walked_read c.addresses.invariant.walked (omega arith)

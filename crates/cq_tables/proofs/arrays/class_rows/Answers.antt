@@ -1,17 +1,13 @@
 use Rattle.std.proofs.Common.{rules, arith}
-use Rattle.cq_tables.proofs.Walk.{walked_held, walked_more, walked_stop}
+use Rattle.cq_tables.proofs.Walk.{walked_more, walked_stop}
 use Rattle.cq_tables.proofs.arrays.class_rows.Goals as goal
 
 pub returns-in_err-row-clause-refused : goal.returns-in_err-row-clause-refused
 returns-in_err-row-clause-refused c =
-    walked_stop c.classes.invariant c.from_residual.result c.index-values-index.result (omega arith)
-    c.index-values-index.is (search rules)
+    walked_stop c.classes.invariant _ _ (omega arith) c.index-values-index.is (search rules)
 
 pub classes-preserved : goal.classes-preserved
 classes-preserved c =
     let told = c.in_ok-row.ensures in
-    walked_more c.classes.invariant c.index-values-index.result (omega arith) c.index-values-index.is
-    told.held told.value (told.level, told.cost) (search rules)
-
-pub returns-clause-held : goal.returns-clause-held
-returns-clause-held c = walked_held c.classes.invariant (omega arith)
+    walked_more c.classes.invariant _ (omega arith) c.index-values-index.is told.held told.value
+    (told.level, told.cost) (search rules)

@@ -1,11 +1,10 @@
 use Rattle.std.proofs.Common.{rules, arith}
-use Rattle.cq_tables.proofs.Walk.{walked_held, walked_more, walked_stop}
+use Rattle.cq_tables.proofs.Walk.{walked_more, walked_stop}
 use Rattle.cq_tables.proofs.arrays.port_rows.Goals as goal
 
 pub returns-in_err-port-clause-refused : goal.returns-in_err-port-clause-refused
 returns-in_err-port-clause-refused c =
-    walked_stop c.ports.invariant.0 c.from_residual.result c.index-values-index.result (omega arith)
-    c.index-values-index.is (search rules)
+    walked_stop c.ports.invariant.0 _ _ (omega arith) c.index-values-index.is (search rules)
 
 pub ports-preserved : goal.ports-preserved
 ports-preserved c =
@@ -17,6 +16,3 @@ ports-preserved c =
         walked_more c.ports.invariant.1.1 v.result (omega arith) v.is told.held told.limit told.range (search rules),
       ),
     )
-
-pub returns-clause-held : goal.returns-clause-held
-returns-clause-held c = walked_held c.ports.invariant.0 (omega arith)
