@@ -54,9 +54,9 @@ module _ (r : Reader) (config : List ℕ) (m : Contents) (t : Tables) (captures 
 
     ran : (whole : Plan) → IsEmulation r config m whole → Ran whole
     ran whole e =
-        let tables : e.tables ≡ t = cc (e.configured, configured) in
+        let tables : e.tables ≡ t = cc (e.read.configured, configured) in
         let over : captures_in r t m ≡ Ok e.captures =
-        subst (λ (u : Tables). captures_in r u m ≡ Ok e.captures) tables e.captured in
+        subst (λ (u : Tables). captures_in r u m ≡ Ok e.captures) tables e.read.captured in
         let same : e.captures ≡ captures = cc (over, captured) in
         let keeps : KeepsUp t captures e.records =
         subst (λ (cs : List (List Captured)). KeepsUp t cs e.records) same
@@ -165,8 +165,9 @@ parts_are_the_run r config state slots m left is =
     let stops = is.stops in
     let written : all_replaced ((state, stops.text) ∷ []) (Some m) ≡ Some left =
     subst (λ (plan : Plan). all_replaced plan.writes (Some m) ≡ Some left) stops.written is.written in
-    let aims = aimed r config state m left stops.tables stops.captures stops.text stops.configured stops.captured
+    let read = stops.read in
+    let aims = aimed r config state m left stops.tables stops.captures stops.text read.configured read.captured
     written is.configuration_stays is.captures_stay stops.stopped.short in
     subst (λ (v : Result Aim Refusal). IsOkAnd v (IsAimOfRun r config m)) (sym aims)
-    (aim_of_run r config m stops.tables stops.captures stops.configured stops.captured stops.given slots is.early
+    (aim_of_run r config m stops.tables stops.captures read.configured read.captured stops.given slots is.early
     stops.text stops.stopped)

@@ -21,16 +21,17 @@ use Rattle.cq_run.specs.declared.stop.Halt.{Halt}
 use Rattle.cq_run.specs.Aim.{Aim, Auditing}
 use Rattle.cq_run.specs.AuditEnds.{IsAuditHalted, IsAuditNo, IsAuditPassed}
 use Rattle.cq_run.specs.Given.{EndsGiven, IsGiven}
-use Rattle.cq_run.specs.Headline.{IsAudited}
+use Rattle.cq_run.specs.Headline.{AreRead, IsAudited}
 use Rattle.cq_run.specs.Judged.{IsJudged}
 use Rattle.cq_run.specs.Judging.{Judges}
 use Rattle.cq_run.specs.Pace.{InTurn}
 use Rattle.cq_run.specs.Plan.{Plan}
 use Rattle.cq_run.specs.Plans.{audited}
 use Rattle.cq_run.specs.Reader.{Reader}
-use Rattle.cq_run.specs.Verdict.{◌>>=◌, captures_in, ideally_sent, tables_in, text_in}
+use Rattle.cq_run.specs.Verdict.{◌>>=◌, captures_in, ideally_sent, text_in}
 use Rattle.cq_run.proofs.Captures.{sent_ok}
 use Rattle.cq_run.proofs.Reached.{Reached, Settles, given_ends, given_so, ok_settles, read_ends, read_on, refused_settles, settled}
+use Rattle.cq_run.proofs.ReadOn.{read_told}
 use Rattle.cq_run.proofs.Stays.{text_stays}
 use Rattle.cq_run.proofs.TextRead.{text_stands}
 use Rattle.cq_run.proofs.Told.{told_two}
@@ -73,14 +74,13 @@ module _ (given : Given) (trace log : List ℕ) where
 
   -- what a yes says
   emulates_at : (r : Reader) (config : List ℕ) (plan : Plan) → IsAuditPassed given.tables given.captures trace log →
-      plan ≡ audited → (m : Contents) → (tables_in config m ≡ Ok given.tables)
-      × (captures_in r given.tables m ≡ Ok given.captures) → (text_in LongTrace given.tables.trace m ≡ Ok trace)
-      × (text_in LongLog given.tables.log m ≡ Ok log) → IsAudited r config m plan
+      plan ≡ audited → (m : Contents) → AreRead r config m given.tables given.captures →
+      (text_in LongTrace given.tables.trace m ≡ Ok trace) × (text_in LongLog given.tables.log m ≡ Ok log) →
+      IsAudited r config m plan
   emulates_at r config plan passed is m read texts = record {
     tables = given.tables;
-    configured = read.0;
     captures = given.captures;
-    captured = read.1;
+    read = read;
     trace = trace;
     traced = text_stands (Audited LongTrace) given.tables.trace m trace texts.0;
     log = log;
@@ -171,6 +171,6 @@ module _ {S : Type 0} {space : S → Space} {may_fail : Call → S → S → Typ
             (ok_settles (ideally_sent given.tables given.captures) (aim_of given trace log) passed.sent plan
             passed.ideally (passed.meets, written)) (subst N (sym written) tt) (λ r.
             told_two told _ _ _ (emulates_at given trace log r config plan passed written)
-            (told_two told _ _ _ (λ m a b. (a, b)) is.tables (is.captures r))
+            (read_told is r)
             (told_two told _ _ _ (λ m a b. (a, b)) (subst P is.told traced.ok)
             (subst Q (traced.told ∙ is.told) logged.ok)))

@@ -6,12 +6,14 @@ use Rattle.std.specs.Prelude.{Option, None, Some, IfSome, MatchOption, Result, O
 use Rattle.cq_pcap.specs.Captured.{Captured}
 use Rattle.cq_pcap.specs.Record.{Spells}
 use Rattle.cq_route.specs.declared.tables.PortRow.{PortRow}
+use Rattle.cq_space.specs.Call.{Call}
+use Rattle.cq_space.specs.Failing.{Fails, Lasts, Reads}
 use Rattle.cq_space.specs.Space.{Contents, Space, Closed}
 use Rattle.cq_run.specs.declared.decoding.Decoding.{Decoding}
 use Rattle.cq_run.specs.declared.refusal.Refusal.{Refusal}
 use Rattle.cq_run.specs.declared.stop.Halt.{Halt}
 use Rattle.cq_run.specs.declared.stop.Halt.TheVariants.{NoMemory}
-use Rattle.cq_run.specs.Decoding.{IsBegun, IsBegunFor, source}
+use Rattle.cq_run.specs.Decoding.{HasBegun, IsBegun, IsBegunFor, source}
 use Rattle.cq_run.specs.Input.{IsHaltFor}
 use Rattle.cq_run.specs.Judging.{Halts, Judges}
 use Rattle.cq_run.specs.Pace.{Ahead, AnyName, InTurn, Uncounted}
@@ -19,9 +21,14 @@ use Rattle.cq_run.specs.Reader.{Reader}
 use Rattle.cq_run.specs.Verdict.{◌>>=◌, capture_in, captures_from, packets_at}
 use Rattle.cq_run.proofs.Chain.{judges_after, judges_as_err, judges_as_ok, judges_both, judges_computed, judges_then}
 use Rattle.cq_run.proofs.Counted.{counts_of, halts_ahead, name_after}
+use Rattle.cq_run.proofs.Failed.{fails_after}
 use Rattle.cq_run.proofs.OneReading.{capture_halts, capture_is}
 use Rattle.cq_run.proofs.Stays.{packets_stay}
 use Rattle.cq_run.proofs.Told.{told_any}
+
+-- in a call that reads this name, the object failed since then
+abbrev pub Unread : {S : Type 0} → (S → Space) → (Call → S → S → Type 0) → (S → S → Type 0) → S → S → List ℕ → Type 0
+Unread space may_fail keeps old new asked = Fails space may_fail keeps (Reads asked) old new
 
 -- ## What was begun for an input, and has ended
 
@@ -49,25 +56,32 @@ module _ (r : Reader) (input limit : ℕ) where
       subst P (sym h.told)
       (capture_halts r name input limit (source d) b.1.short Ahead R old new h.found b.1.whole h.faulty k)
 
--- it can be finished
-pub begun_is : (read : Option (List ℕ)) (limit : ℕ) (told : Option Contents) (begun : Option Decoding)
-    → IsBegunFor read limit told begun → IfSome begun IsBegun
-begun_is None limit told None b = tt
-begun_is None limit told (Some d) b = absurd b
-begun_is (Some name) limit told None b = absurd b
-begun_is (Some name) limit told (Some d) b = b.0
+  -- or it is accepted
+  judged_first : (R : List ℕ → Type 0) (old mid : Space) (packets : List Captured) (read : Option (List ℕ))
+      (begun : Option Decoding) → IsBegunFor read limit old.told begun → mid.mode ≡ Closed → mid.told ≡ old.told →
+      mid.faults ≡ old.faults → MatchOption begun (packets ≡ []) (λ d. Spells (source d) packets) →
+      Judges Ahead (packets_at r input limit read) R old mid (Ok packets)
+  judged_first R old mid packets read begun b c t l h =
+      record { ok = arrived old.told packets read begun b h; halt = tt; closed = c; told = t; uncounted = l }
 
-pub begun_small : (read : Option (List ℕ)) (limit : ℕ) (told : Option Contents) (begun : Option Decoding)
+-- it can be finished
+is_begun : (read : Option (List ℕ)) (limit : ℕ) (told : Option Contents) (begun : Option Decoding)
+    → IsBegunFor read limit told begun → IfSome begun IsBegun
+is_begun None limit told None b = tt
+is_begun None limit told (Some d) b = absurd b
+is_begun (Some name) limit told None b = absurd b
+is_begun (Some name) limit told (Some d) b = b.0
+
+is_small : (read : Option (List ℕ)) (limit : ℕ) (told : Option Contents) (begun : Option Decoding)
     → limit ≤ 2 ^ 28 → IsBegunFor read limit told begun → IfSome begun (λ d. length (source d) ≤ 2 ^ 28)
-begun_small None limit told None small b = tt
-begun_small None limit told (Some d) small b = absurd b
-begun_small (Some name) limit told None small b = absurd b
-begun_small (Some name) limit told (Some d) small b = let s : length (source d) ≤ limit = b.1.short in omega arith
+is_small None limit told None small b = tt
+is_small None limit told (Some d) small b = absurd b
+is_small (Some name) limit told None small b = absurd b
+is_small (Some name) limit told (Some d) small b = let s : length (source d) ≤ limit = b.1.short in omega arith
 
 -- ## The first input, and those after it
 
-module _ (r : Reader) (limit input : ℕ) (row : PortRow) (rows : List PortRow) (Q R : List ℕ → Type 0)
-    (more : (name : List ℕ) → Q name → R name) (old mid new : Space) where
+module _ (r : Reader) (limit input : ℕ) (row : PortRow) (rows : List PortRow) where
   abbrev then_later : List Captured → Contents → Result (List (List Captured)) Refusal
   then_later packets m = captures_from r limit (input + 1) rows m >>= (λ others. Ok (packets ∷ others))
 
@@ -78,84 +92,106 @@ module _ (r : Reader) (limit input : ℕ) (row : PortRow) (rows : List PortRow) 
   unfolding captures_from
   first_is m = refl
 
-  -- the first file could not be read, and no later one was
-  pub file_ends : (halt : Halt) → Halts InTurn (packets_at r input limit row.read) R old mid halt → mid.mode ≡ Closed
-      → mid.told ≡ old.told → Judges Ahead (captures_from r limit input (row ∷ rows)) R old mid (Err halt)
-  file_ends halt h c t =
-      judges_as_err first_then (captures_from r limit input (row ∷ rows)) first_is R old mid halt
-      (judges_then (packets_at r input limit row.read) then_later R R old mid halt (λ name u. u)
-      record {
-        ok = tt;
-        halt = halts_ahead (packets_at r input limit row.read) R old mid halt h;
-        closed = c;
-        told = t;
-        uncounted = tt;
-      })
+  -- the first ends it
+  first_ends : (R : List ℕ → Type 0) (old new : Space) (halt : Halt) →
+      Judges Ahead (packets_at r input limit row.read) R old new (Err halt) →
+      Judges Ahead (captures_from r limit input (row ∷ rows)) R old new (Err halt)
+  first_ends R old new halt h =
+      judges_as_err first_then (captures_from r limit input (row ∷ rows)) first_is R old new halt
+      (judges_then (packets_at r input limit row.read) then_later R R old new halt (λ name u. u) h)
 
-  module _ (begun : Option Decoding) (b : IsBegunFor row.read limit old.told begun) (t : mid.told ≡ old.told)
-      (l : mid.faults ≡ old.faults) where
+  -- the first file could not be read, and no later one was
+  pub file_ends : (R : List ℕ → Type 0) (old new : Space) (halt : Halt) →
+      Halts InTurn (packets_at r input limit row.read) R old new halt → new.mode ≡ Closed → new.told ≡ old.told →
+      Judges Ahead (captures_from r limit input (row ∷ rows)) R old new (Err halt)
+  file_ends R old new halt h c t = first_ends R old new halt (record {
+    ok = tt;
+    halt = halts_ahead (packets_at r input limit row.read) R old new halt h;
+    closed = c;
+    told = t;
+    uncounted = tt;
+  })
+
+module _ {S : Type 0} {space : S → Space} {keeps : S → S → Type 0} {row : PortRow} {limit : ℕ} {old mid : S}
+    {begun : Option Decoding} (b : HasBegun space keeps row limit old mid begun) where
+  pub begun_is : IfSome begun IsBegun
+  begun_is = is_begun row.read limit (space old).told begun b.decoding
+
+  pub begun_small : limit ≤ 2 ^ 28 → IfSome begun (λ d. length (source d) ≤ 2 ^ 28)
+  begun_small small = is_small row.read limit (space old).told begun small b.decoding
+
+  -- what failed since the first file was read failed since this call began, for no fault was counted before
+  module _ (lasts : Lasts keeps) (r : Reader) (input : ℕ) (rows : List PortRow) {may_fail : Call → S → S → Type 0}
+      {new : S} where
     -- the first capture ends it, whatever the later ones came to
-    pub capture_ends : (halt : Halt) (later : Result (List (List Captured)) Halt)
-        → MatchOption begun ⊥ (λ d. IsHaltFor input (source d) halt)
-        → Judges Ahead (captures_from r limit (input + 1) rows) Q mid new later
-        → Judges Ahead (captures_from r limit input (row ∷ rows)) R old new (Err halt)
-    capture_ends halt later h g =
-        let counts : Uncounted Ahead (AnyName Q) mid.faults new.faults =
-        counts_of (captures_from r limit (input + 1) rows) Q mid new later g in
-        judges_as_err first_then (captures_from r limit input (row ∷ rows)) first_is R old new halt
-        (judges_then (packets_at r input limit row.read) then_later R R old new halt (λ name u. u)
-        record {
+    pub capture_ends : {halt : Halt} {later : Result (List (List Captured)) Halt} →
+        MatchOption begun ⊥ (λ d. IsHaltFor input (source d) halt) →
+        Judges Ahead (captures_from r limit (input + 1) rows) (Unread space may_fail keeps mid new) (space mid)
+        (space new) later → Judges Ahead (captures_from r limit input (row ∷ rows))
+        (Unread space may_fail keeps old new) (space old) (space new) (Err halt)
+    capture_ends {halt} {later} h g =
+        let Q : List ℕ → Type 0 = Unread space may_fail keeps mid new in
+        let R : List ℕ → Type 0 = Unread space may_fail keeps old new in
+        first_ends r limit input row rows R (space old) (space new) halt (record {
           ok = tt;
-          halt = halted r input limit R old new halt row.read begun b h
-              (name_after Ahead Q R old.faults mid.faults new.faults more l counts);
+          halt = halted r input limit R (space old) (space new) halt row.read begun b.decoding h
+              (name_after Ahead Q R (space old).faults (space mid).faults (space new).faults
+              (λ name. fails_after space may_fail keeps (Reads name) old mid new lasts b.uncounted b.kept) b.uncounted
+              (counts_of (captures_from r limit (input + 1) rows) Q (space mid) (space new) later g));
           closed = g.closed;
-          told = g.told ∙ t;
+          told = g.told ∙ b.told;
           uncounted = tt;
         })
 
-    module _ (packets : List Captured) (c : mid.mode ≡ Closed)
-        (h : MatchOption begun (packets ≡ []) (λ d. Spells (source d) packets)) where
-      judged_first : Judges Ahead (packets_at r input limit row.read) R old mid (Ok packets)
-      judged_first = record {
-        ok = arrived r input limit old.told packets row.read begun b h;
-        halt = tt;
-        closed = c;
-        told = t;
-        uncounted = l;
-      }
-
-      abbrev in_front : List (List Captured) → Contents → Result (List (List Captured)) Refusal
-      in_front others m = Ok (packets ∷ others)
-
+    module _ (packets : List Captured) (h : MatchOption begun (packets ≡ []) (λ d. Spells (source d) packets)) where
       -- the first capture is sound, and a later one ends it
-      pub later_ends : (halt : Halt) → Judges Ahead (captures_from r limit (input + 1) rows) Q mid new (Err halt)
-          → Judges Ahead (captures_from r limit input (row ∷ rows)) R old new (Err halt)
-      later_ends halt g =
-          judges_as_err first_then (captures_from r limit input (row ∷ rows)) first_is R old new halt
-          (judges_after (packets_at r input limit row.read) then_later R Q R old mid new packets halt
-          (packets_stay r input limit row.read) more judged_first
-          (judges_then (captures_from r limit (input + 1) rows) in_front Q Q mid new halt (λ name u. u) g))
+      pub later_ends : {halt : Halt} → Judges Ahead (captures_from r limit (input + 1) rows)
+          (Unread space may_fail keeps mid new) (space mid) (space new) (Err halt) →
+          Judges Ahead (captures_from r limit input (row ∷ rows)) (Unread space may_fail keeps old new) (space old)
+          (space new) (Err halt)
+      later_ends {halt} g =
+          let Q : List ℕ → Type 0 = Unread space may_fail keeps mid new in
+          let R : List ℕ → Type 0 = Unread space may_fail keeps old new in
+          judges_as_err (first_then r limit input row rows) (captures_from r limit input (row ∷ rows))
+          (first_is r limit input row rows) R (space old) (space new) halt
+          (judges_after (packets_at r input limit row.read) (then_later r limit input row rows) R Q R (space old)
+          (space mid) (space new) packets halt (packets_stay r input limit row.read)
+          (λ name. fails_after space may_fail keeps (Reads name) old mid new lasts b.uncounted b.kept)
+          (judged_first r input limit R (space old) (space mid) packets row.read begun b.decoding b.closed b.told
+          b.uncounted h)
+          (judges_then (captures_from r limit (input + 1) rows)
+          (λ (others : List (List Captured)) (m : Contents). Ok (packets ∷ others)) Q Q (space mid) (space new) halt
+          (λ name u. u) g))
 
       -- all are sound
-      pub all_arrive : (others : List (List Captured))
-          → Judges Ahead (captures_from r limit (input + 1) rows) Q mid new (Ok others)
-          → Judges Ahead (captures_from r limit input (row ∷ rows)) R old new (Ok (packets ∷ others))
-      all_arrive others g =
-          judges_as_ok first_then (captures_from r limit input (row ∷ rows)) first_is R old new (packets ∷ others)
-          (judges_both (packets_at r input limit row.read) then_later R R R old mid new packets (packets ∷ others)
-          judged_first
-          (judges_both (captures_from r limit (input + 1) rows) in_front Q R R mid new new others (packets ∷ others) g
-          (judges_computed (Ok (packets ∷ others)) R new (packets ∷ others) g.closed refl)))
+      pub all_arrive : {others : List (List Captured)} → Judges Ahead (captures_from r limit (input + 1) rows)
+          (Unread space may_fail keeps mid new) (space mid) (space new) (Ok others) →
+          Judges Ahead (captures_from r limit input (row ∷ rows)) (Unread space may_fail keeps old new) (space old)
+          (space new) (Ok (packets ∷ others))
+      all_arrive {others} g =
+          let Q : List ℕ → Type 0 = Unread space may_fail keeps mid new in
+          let R : List ℕ → Type 0 = Unread space may_fail keeps old new in
+          let all : List (List Captured) = packets ∷ others in
+          judges_as_ok (first_then r limit input row rows) (captures_from r limit input (row ∷ rows))
+          (first_is r limit input row rows) R (space old) (space new) all
+          (judges_both (packets_at r input limit row.read) (then_later r limit input row rows) R R R (space old)
+          (space mid) (space new) packets all
+          (judged_first r input limit R (space old) (space mid) packets row.read begun b.decoding b.closed b.told
+          b.uncounted h)
+          (judges_both (captures_from r limit (input + 1) rows)
+          (λ (others : List (List Captured)) (m : Contents). Ok (packets ∷ others)) Q R R (space mid) (space new)
+          (space new) others all g (judges_computed (Ok all) R (space new) all g.closed refl)))
 
       -- all are sound, and memory ran out after that
-      pub memory_ends : (others : List (List Captured))
-          → Judges Ahead (captures_from r limit (input + 1) rows) Q mid new (Ok others)
-          → Judges Ahead (captures_from r limit input (row ∷ rows)) R old new (Err NoMemory)
-      memory_ends others g = record {
+      pub memory_ends : {others : List (List Captured)} → Judges Ahead (captures_from r limit (input + 1) rows)
+          (Unread space may_fail keeps mid new) (space mid) (space new) (Ok others) →
+          Judges Ahead (captures_from r limit input (row ∷ rows)) (Unread space may_fail keeps old new) (space old)
+          (space new) (Err NoMemory)
+      memory_ends g = record {
         ok = tt;
-        halt = inl (g.uncounted ∙ l);
+        halt = inl (g.uncounted ∙ b.uncounted);
         closed = g.closed;
-        told = g.told ∙ t;
+        told = g.told ∙ b.told;
         uncounted = tt;
       }
 

@@ -26,7 +26,7 @@ use Rattle.cq_run.specs.Judging.{IsRefused}
 use Rattle.cq_run.specs.Verdict.{judged, judged_or_words, MayRead}
 use Rattle.cq_run.specs.World.{World, IsUntouched}
 use Rattle.cq_run.specs.Writing.{IsDone, IsCutAtFile}
-use Rattle.cq_run.specs.Ending.{CallsFor, WordsEnd, CommandEnds, status_of}
+use Rattle.cq_run.specs.Ending.{CallsFor, CommandEnds, EndsFor, WordsEnd, status_of}
 use Rattle.cq_run.specs.StatusCauses.{StatusCauses}
 use Rattle.cq_run.proofs.Never.{never_words}
 use Rattle.cq_run.proofs.Counted.{counts_same, rose_from}
@@ -204,12 +204,6 @@ module _ (p : Pace) (a : Reader) (R : List ℕ → Type 0) (command : Command) (
       counts_known p (AnyName Asked) (Outruns status.NoMemory) command old.files new.files (λ u. inr refl) h
   memory_counts (inr h) = absurd h
 
--- how a run ends, by whether its words are a command
-abbrev pub Ends : Pace → Reader → (List ℕ → Type 0) → (List ℕ → Type 0) → Type 0 → Option Command → World → World →
-    Result (Unit {0}) Stop → Type 0
-Ends p a R W T command old new end =
-    MatchOption command (WordsEnd old new end) (λ c. CommandEnds p a R W T c old new end)
-
 command_causes : (p : Pace) (a : Reader) (R W : List ℕ → Type 0) (T : Type 0) (command : Command) (old new : World)
     (end : Result (Unit {0}) Stop) → CommandEnds p a R W T command old new end →
     StatusCauses p (judged a command) (known_to command old.files).told old new (status_of end)
@@ -280,7 +274,7 @@ words_causes p a old new end (e, h) =
     }
 
 causes : (p : Pace) (a : Reader) (R W : List ℕ → Type 0) (T : Type 0) (command : Option Command) (old new : World)
-    (end : Result (Unit {0}) Stop) → Ends p a R W T command old new end →
+    (end : Result (Unit {0}) Stop) → EndsFor p a R W T command old new end →
     StatusCauses p (judged_or_words a command) (known_by command old.files) old new (status_of end)
 causes p a R W T None old new end h = words_causes p a old new end h
 causes p a R W T (Some c) old new end h = command_causes p a R W T c old new end h
@@ -288,7 +282,7 @@ causes p a R W T (Some c) old new end h = command_causes p a R W T c old new end
 -- the top call's status is that of its end
 pub causes_at : (p : Pace) (a : Reader) (R W : List ℕ → Type 0) (T : Type 0) (command : Option Command)
     (old new : World) (end : Result (Unit {0}) Stop) (answer : Status) → answer ≡ status_of end →
-    Ends p a R W T command old new end →
+    EndsFor p a R W T command old new end →
     StatusCauses p (judged_or_words a command) (known_by command old.files) old new answer
 causes_at p a R W T command old new end answer e h =
     let P : Status → Type 0 =
@@ -349,13 +343,13 @@ not_words p a R W T command old new (Err (Cut at)) h e = cc
 -- words that are no command end with the status of such words
 pub words_end : (p : Pace) (a : Reader) (R W : List ℕ → Type 0) (T : Type 0) (command : Option Command)
     (old new : World) (end : Result (Unit {0}) Stop) (answer : Status) → answer ≡ status_of end
-    → Ends p a R W T command old new end → command ≡ None → answer ≡ status.Words
+    → EndsFor p a R W T command old new end → command ≡ None → answer ≡ status.Words
 words_end p a R W T None old new end answer e h none = e ∙ ap status_of h.0
 words_end p a R W T (Some c) old new end answer e h none = absurd (let P : ⊥ = cc none in P)
 
 pub only_words : (p : Pace) (a : Reader) (R W : List ℕ → Type 0) (T : Type 0) (command : Option Command)
     (old new : World) (end : Result (Unit {0}) Stop) (answer : Status) → answer ≡ status_of end →
-    Ends p a R W T command old new end → answer ≡ status.Words → command ≡ None
+    EndsFor p a R W T command old new end → answer ≡ status.Words → command ≡ None
 only_words p a R W T None old new end answer e h w = refl
 only_words p a R W T (Some c) old new end answer e h w = absurd (not_words p a R W T c old new end h (sym e ∙ w))
 
@@ -364,7 +358,7 @@ only_words p a R W T (Some c) old new end answer e h w = absurd (not_words p a R
 -- a command that is done emulates
 emulated : (p : Pace) (a : Reader) (R W : List ℕ → Type 0) (T : Type 0) (command : Option Command) (old new : World)
     (x : Unit {0})
-    → Ends p a R W T command old new (Ok x) → (c : Command) → command ≡ Some c
+    → EndsFor p a R W T command old new (Ok x) → (c : Command) → command ≡ Some c
     → IfSome old.files.told (λ m. (plan : Plan) × Emulates a c m plan × IsDone plan old new)
 emulated p a R W T None old new x h c e = absurd (let P : ⊥ = cc e in P)
 emulated p a R W T (Some d) old new x h c e =
@@ -376,7 +370,7 @@ emulated p a R W T (Some d) old new x h c e =
 -- the same of an end that is known by its status
 pub emulated_at : (p : Pace) (a : Reader) (R W : List ℕ → Type 0) (T : Type 0) (command : Option Command)
     (old new : World) (end : Result (Unit {0}) Stop)
-    → status_of end ≡ status.Done → Ends p a R W T command old new end → (c : Command) → command ≡ Some c
+    → status_of end ≡ status.Done → EndsFor p a R W T command old new end → (c : Command) → command ≡ Some c
     → IfSome old.files.told (λ m. (plan : Plan) × Emulates a c m plan × IsDone plan old new)
 emulated_at p a R W T command old new (Ok x) done h c e = emulated p a R W T command old new x h c e
 emulated_at p a R W T command old new (Err (Halted (Refused r))) done h c e = absurd (not_done r done)

@@ -1,4 +1,5 @@
 pub mod Put
+pub mod Exits
 pub mod Removed
 pub mod Stays
 pub mod Captures

@@ -238,5 +238,5 @@ runs_audited r config m left plan is =
     let P : List (List ℕ × List ℕ) → Type 0 = λ ws. all_replaced ws (Some m) ≡ Some left in
     let Q : List (List ℕ × List ℕ) → Type 0 = λ ws. AllByRecursion (λ w. w.0 ≢ config) ws in
     let R : List (List ℕ × List ℕ) → Type 0 = λ ws. AllByRecursion (λ w. length w.1 ≤ 268435456) ws in
-    audited_so e.tables e.captures e.records e.keeps_up r config m left e.configured e.captured
+    audited_so e.tables e.captures e.records e.keeps_up r config m left e.read.configured e.read.captured
     (subst P names is.written) (subst Q names is.configuration_stays) (subst R names is.short)

@@ -2,7 +2,7 @@
 -- state. Where all of them are there, they aim at the text of the state, or at what the run keeps that goes on, which
 -- is met or denied.
 use Rattle.std.proofs.Common.{◌≡◌, ◌++◌, ◌∷◌, [], ℕ, IsTrue, List, refl, sym, subst, inr}
-use Rattle.std.specs.Prelude.{IfOk, IfSome, Option, Result, Ok, Err}
+use Rattle.std.specs.Prelude.{IfErr, IfOk, IfSome, Option, Result, Ok, Err}
 use Rattle.std.specs.List.{AllByRecursion}
 use Rattle.cq_base.specs.Texts.{log_of, trace_of}
 use Rattle.cq_pcap.specs.Captured.{Captured}
@@ -25,19 +25,20 @@ use Rattle.cq_run.specs.Headline.{AreGiven, IsStopped, IsTakenUp}
 use Rattle.cq_run.specs.Judged.{IsJudged}
 use Rattle.cq_run.specs.Judging.{Judges}
 use Rattle.cq_run.specs.Pace.{InTurn}
-use Rattle.cq_run.specs.PartEnds.{IsPartHalt, IsResumeHalt, kept_by}
+use Rattle.cq_run.specs.PartEnds.{IsPartHalt, IsResumeHalt, IsResuming, kept_by}
 use Rattle.cq_run.specs.Parting.{IsPartRefusal, IsPartText, IsResumeRefusal, IsResumedText}
 use Rattle.cq_run.specs.Plan.{Plan}
 use Rattle.cq_run.specs.Plans.{captures_out, resumed, state_written}
 use Rattle.cq_run.specs.Reader.{Reader}
 use Rattle.cq_run.specs.Refusals.{meaning_of}
-use Rattle.cq_run.specs.Verdict.{◌>>=◌, captures_in, state_in, tables_in}
+use Rattle.cq_run.specs.Verdict.{◌>>=◌, state_in}
 use Rattle.cq_run.proofs.Captures.{plan_is}
 use Rattle.cq_run.proofs.Planned.{all_any}
 use Rattle.cq_run.proofs.Reached.{Reached, Settles, given_ends, given_so, read_ends, read_on, settled}
+use Rattle.cq_run.proofs.ReadOn.{read_told}
 use Rattle.cq_run.proofs.Stays.{short_stays}
 use Rattle.cq_run.proofs.TextRead.{text_stands}
-use Rattle.cq_run.proofs.Told.{told_two}
+use Rattle.cq_run.proofs.Told.{told_map, told_two}
 
 -- ## Untold contents
 
@@ -119,16 +120,15 @@ module _ {S : Type 0} {space : S → Space} {may_fail : Call → S → S → Typ
           let P : Plan → Type 0 = λ p. AllByRecursion (λ write. write.0 ≡ name) p.writes in
           part_settled (Ok plan) (parting given slots name, refl, (text, text_is, written))
           (subst P (sym written) (refl, tt)) (λ r.
-          told_two (space old).told _ _ _ (λ m a b. record {
+          told_map (space old).told _ _ (λ m are_read. record {
             tables = given.tables;
-            configured = a;
             captures = given.captures;
-            captured = b;
+            read = are_read;
             given = are;
             text = text;
             stopped = text_is;
             written = written;
-          }) is.tables (is.captures r))
+          }) (read_told is r))
 
   -- ## Going on
 
@@ -169,33 +169,35 @@ module _ {S : Type 0} {space : S → Space} {may_fail : Call → S → S → Typ
             (λ r text (m : Contents). Ok (resuming given text)) resume_reached kept Q text
             (λ r. short_stays (State stopped.Long) name) (λ r. read))
 
-        -- the run cannot go on, or memory ran out
-        pub resume_halts : (halt : Halt) → IsResumeHalt given.tables given.captures text halt →
-            IsJudged space may_fail keeps InTurn (Resume config name) old now (Err halt)
-        resume_halts halt h = resume_settled (Err halt) (resume_settles given text halt h) tt (λ r. tt)
-
-        -- what was kept of it is built
-        pub resume_plans : (c : Crossed) (plan : Plan) → AreGiven given.tables given.captures →
-            IsResumedText given.tables given.captures text (kept_by c) →
-            plan.writes ≡ captures_out given.tables given.captures c.switched.sent.items 0 given.tables.ports ++
-            (given.tables.trace, trace_of c.switched.sent.items) ∷ (given.tables.log, log_of c.note.items) ∷ [] →
-            plan.text ≡ report_with c.figures c.refused.items →
-            IsJudged space may_fail keeps InTurn (Resume config name) old now (Ok plan)
-        unfolding resumed
-        resume_plans c plan are goes writes report =
-            let written : plan ≡ resumed given.tables given.captures (kept_by c) = plan_is plan _ _ writes report in
+        -- and what is made of both
+        pub resume_judged : (result : Result Plan Halt) → IfOk result (IsResuming given.tables given.captures text) →
+            IfErr result (IsResumeHalt given.tables given.captures text) →
+            IsJudged space may_fail keeps InTurn (Resume config name) old now result
+        resume_judged (Ok plan) met refused =
             let P : Option Contents → Type 0 = λ o. IfSome o (λ m. state_in name m ≡ Ok text) in
-            resume_settled (Ok plan) (resuming given text, refl, (kept_by c, goes, written)) (all_any plan.writes) (λ r.
-            told_two (space old).told _ _ _ (λ m (ab : (tables_in config m ≡ Ok given.tables)
-            × (captures_in r given.tables m ≡ Ok given.captures)) d. record {
+            resume_settled (Ok plan)
+            (Resuming given.tables given.captures text, refl, (met.kept, met.goes_on, met.written))
+            (all_any plan.writes) (λ r.
+            told_two (space old).told _ _ _ (λ m are_read d. record {
               tables = given.tables;
-              configured = ab.0;
               captures = given.captures;
-              captured = ab.1;
-              given = are;
+              read = are_read;
+              given = met.given;
               text = text;
               found = text_stands (State stopped.Long) name m text d;
-              kept = kept_by c;
-              goes_on = goes;
-              written = written;
-            }) (told_two (space old).told _ _ _ (λ m a b. (a, b)) is.tables (is.captures r)) (subst P is.told read.ok))
+              kept = met.kept;
+              goes_on = met.goes_on;
+              written = met.written;
+            }) (read_told is r) (subst P is.told read.ok))
+        resume_judged (Err halt) met refused =
+            resume_settled (Err halt) (resume_settles given text halt refused) tt (λ r. tt)
+
+-- what was kept of a run that goes on is built
+pub resuming_is : (t : Tables) (captures : List (List Captured)) (text : List ℕ) (c : Crossed) (plan : Plan) →
+    AreGiven t captures → IsResumedText t captures text (kept_by c) →
+    plan.writes ≡ captures_out t captures c.run.sent.items 0 t.ports ++ (t.trace, trace_of c.run.sent.items)
+    ∷ (t.log, log_of c.run.note.items) ∷ [] →
+    plan.text ≡ report_with c.run.figures c.run.refused.items → IsResuming t captures text plan
+unfolding resumed
+resuming_is t captures text c plan are goes writes report =
+    record { given = are; kept = kept_by c; goes_on = goes; written = plan_is plan _ _ writes report }

@@ -125,6 +125,13 @@ module _ {S : Type 0} {space : S → Space} {may_fail : Call → S → S → Typ
     sent_plans sent plan e meets names emulates =
         sent_settled (Ok plan) (ok_settles _ (aim_of given.tables given.captures) sent plan e meets) names emulates
 
+-- what is judged of a command that is this one
+pub judged_as : {S : Type 0} (space : S → Space) (may_fail : Call → S → S → Type 0) (keeps : S → S → Type 0) (p : Pace)
+    (command x : Command) (old new : S) (result : Result Plan Halt) → command ≡ x →
+    IsJudged space may_fail keeps p x old new result → IsJudged space may_fail keeps p command old new result
+judged_as space may_fail keeps p command x old new result e h =
+    let P : Command → Type 0 = λ y. IsJudged space may_fail keeps p y old new result in subst P (sym e) h
+
 -- ## Judging made traffic
 
 module _ {S : Type 0} (space : S → Space) (may_fail : Call → S → S → Type 0) (keeps : S → S → Type 0)

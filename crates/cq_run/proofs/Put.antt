@@ -45,16 +45,6 @@ pub line_after : (a b b' c text : List ℕ) → b ≡ b' → a ++ (b ++ c) ++ li
 unfolding line
 line_after a b b' c text e = ap (λ ys. a ++ (ys ++ c) ++ (text ++ 10 ∷ [])) e ∙ simp append_assoc
 
--- a line of a text and a number, after a text
-pub line_behind : (head a b : List ℕ) → head ++ line (a ++ b) ≡ line (head ++ a ++ b)
-unfolding line
-line_behind head a b = simp append_assoc
-
--- and of two of each
-pub lines_behind : (head a b c d : List ℕ) → head ++ line (a ++ b ++ c ++ d) ≡ line (head ++ a ++ b ++ c ++ d)
-unfolding line
-lines_behind head a b c d = simp append_assoc
-
 -- a text of two numbers in pieces, behind a head
 pub two_behind : (head a b b' c d d' : List ℕ) → b ≡ b' → d ≡ d' →
     head ++ (a ++ (b ++ (c ++ (d ++ [])))) ≡ head ++ (a ++ b' ++ c ++ d')
@@ -121,6 +111,23 @@ puts_then a b old mid new (Err f) e l h = record {
         failed = rose_from old.faults mid.faults new.faults l h.cause.failed;
       };
 }
+
+-- a line whose head is put first
+line_behind : (head text : List ℕ) → head ++ line text ≡ line (head ++ text)
+unfolding line
+line_behind head text = simp append_assoc
+
+module _ {E : Type 0} (head text : List ℕ) {old new : Taken} {r : Result (Unit {0}) E} where
+  -- its head was cut short
+  pub line_cut : IsErr r → (n : ℕ) × (new.bytes ≡ append_known old.bytes (take n head)) → old.faults ≤ new.faults →
+      Rose old.faults new.faults → Puts (line (head ++ text)) old new r
+  line_cut err front later rose =
+      puts_as _ _ _ _ _ (line_behind head text) (puts_cut head (line text) _ _ _ err front later rose)
+
+  -- its head was put whole, and then the rest was put
+  pub line_then : {mid : Taken} → mid.bytes ≡ append_known old.bytes head → mid.faults ≡ old.faults →
+      Puts (line text) mid new r → Puts (line (head ++ text)) old new r
+  line_then e l h = puts_as _ _ _ _ _ (line_behind head text) (puts_then head (line text) _ _ _ _ e l h)
 
 -- all pieces, by those before the one at a place
 pieces_at : (ps : List (Bor (List ℕ))) (i : ℕ) (d : Bor (List ℕ)) → i < length ps →

@@ -10,6 +10,8 @@ use Rattle.cq_space.specs.Failing.{Fails, Lasts, Reads}
 use Rattle.cq_space.specs.Space.{Contents, Space}
 use Rattle.cq_run.specs.declared.stop.Halt.{Halt}
 use Rattle.cq_run.specs.Given.{EndsGiven, IsGiven}
+use Rattle.cq_run.specs.Headline.{AreRead}
+use Rattle.cq_run.specs.declared.reading.Given.{Given}
 use Rattle.cq_run.specs.Judging.{Judges}
 use Rattle.cq_run.specs.Pace.{InTurn, Pace}
 use Rattle.cq_run.specs.Reader.{Reader}
@@ -18,6 +20,7 @@ use Rattle.cq_run.proofs.Chain.{judges_after, judges_at, judges_then}
 use Rattle.cq_run.proofs.Failed.{fails_after}
 use Rattle.cq_run.proofs.OneReading.{from_front}
 use Rattle.cq_run.proofs.Stays.{tables_stay}
+use Rattle.cq_run.proofs.Told.{told_two}
 
 module _ {S : Type 0} {space : S → Space} {may_fail : Call → S → S → Type 0} {keeps : S → S → Type 0}
     {config : List ℕ} {old new : S} {p : Pace} where
@@ -70,3 +73,10 @@ given_read {old = old} {mid = mid} {new = new} {t = t} {captures = captures} las
       told = (h from_front).told ∙ read.told;
       uncounted = (h from_front).uncounted ∙ read.uncounted;
     }
+
+-- of contents that are told it is what they give
+pub read_told : {S : Type 0} {space : S → Space} {keeps : S → S → Type 0} {config : List ℕ} {old new : S}
+    {given : Given} → IsGiven space keeps config old new given → (r : Reader) →
+    IfSome (space old).told (λ m. AreRead r config m given.tables given.captures)
+read_told {space = space} {old = old} is r =
+    told_two (space old).told _ _ _ (λ m a b. record { configured = a; captured = b }) is.tables (is.captures r)

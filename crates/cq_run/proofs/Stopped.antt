@@ -13,13 +13,14 @@ use Rattle.cq_resume.specs.Switch.{Switch, switch_of}
 use Rattle.cq_resume.specs.declared.refusal.StateRefusal.{StateRefusal}
 use Rattle.cq_resume.specs.declared.refusal.StateRefusal.TheVariants as of_state
 use Rattle.cq_resume.specs.declared.taken.Taken.{Taken}
-use Rattle.cq_route.specs.Tables.{AreTables, classes_of, ports_of}
+use Rattle.cq_route.specs.Tables.{classes_of}
 use Rattle.cq_route.specs.declared.tables.Tables.{Tables}
 use Rattle.cq_scfq.specs.Disciplines.{openings_of}
 use Rattle.cq_simulate.proofs.ResumedCounts.{resumed_counts}
 use Rattle.cq_simulate.proofs.ResumedWhole.{resumed_whole}
 use Rattle.cq_simulate.specs.PartedRuns.{CanBeTakenUp, IsPartFault, IsResumeFault, kept_of}
-use Rattle.cq_simulate.specs.declared.fabric_run.FabricRun.{FabricRun}
+use Rattle.cq_simulate.specs.FabricRuns.{unpacked_run}
+use Rattle.cq_simulate.specs.declared.fabric_run.PackedFabricRun.{PackedFabricRun}
 use Rattle.cq_simulate.specs.declared.refusal.RunRefusal.{RunRefusal}
 use Rattle.cq_simulate.specs.declared.refusal.RunRefusal.TheVariants as of_run
 use Rattle.cq_state.specs.Refusals.{IsTooLong}
@@ -27,6 +28,7 @@ use Rattle.cq_state.specs.State.{state_text}
 use Rattle.cq_state.specs.declared.state.State.{State}
 use Rattle.cq_state.specs.declared.write.StateLong.{StateLong}
 use Rattle.cq_state.specs.declared.write.StateLong.TheVariants as of_text
+use Rattle.cq_run.specs.Headline.{AreGiven}
 use Rattle.cq_run.specs.PartEnds.{IsPartHalt, IsResumeHalt, IsResumedBy, halt_for_state, halt_for_text}
 use Rattle.cq_run.specs.Parting.{IsPartText, text_at}
 use Rattle.cq_run.specs.Switching.{halt_of}
@@ -103,23 +105,23 @@ module _ (t : Tables) (captures : List (List Captured)) where
       resume_halt (of_run.Tag fault) h = record { from = from; read = read; stops = h }
       resume_halt of_run.NoMemory h = tt
 
-      module _ (run : FabricRun) (resumed : IsResumed (switch_of t schedule) from (kept_of run)) (are : AreTables t)
-          (many : length captures ≡ ports_of t.setup) where
+      module _ (run : PackedFabricRun) (resumed : IsResumed (switch_of t schedule) from (kept_of (unpacked_run run)))
+          (given : AreGiven t captures) where
         -- what it keeps is that of the run that goes on, and leaves in whole packets
-        pub resumed_by : (stamp : ℕ) → stamp ≡ schedule.first_stamp → IsResumedBy t captures text (record {
-          switched = record { sent = run.sent; first_stamp = stamp };
-          note = run.note;
-          figures = run.figures;
-          refused = run.refused;
-        })
+        pub resumed_by : (stamp : ℕ) → stamp ≡ schedule.first_stamp → IsResumedBy t captures text
+            (record { run = run; first_stamp = stamp })
         resumed_by stamp e = record {
+          given = given;
           resumed = record { from = from; read = read; resumed = resumed };
           sent = record {
-            whole = resumed_whole t captures from (kept_of run) are many (taken_up read) resumed;
+            whole =
+                resumed_whole t captures from (kept_of (unpacked_run run)) given.tables given.each (taken_up read)
+                resumed;
             first_stamp = e;
           };
         }
 
         -- no output sent more cells than there were slots
         pub reportable : All (λ x. x.cells ≤ run.figures.slots) run.figures.outputs
-        reportable = resumed_counts t captures from (kept_of run) are many (taken_up read) resumed
+        reportable =
+            resumed_counts t captures from (kept_of (unpacked_run run)) given.tables given.each (taken_up read) resumed

@@ -1,8 +1,10 @@
 -- How a run may end, what it leaves then, and its status.
-use Rattle.std.specs.Prelude.{◌≡◌, ◌⊎◌, ℕ, List, IfSome, MatchOption, Result, Ok, Err, IsOkAnd}
+use Rattle.std.specs.Prelude.{◌≡◌, ◌⊎◌, ℕ, List, Option, IfSome, MatchOption, Result, Ok, Err, IsOkAnd}
 use Rattle.std.specs.List.{AllByRecursion}
 use Rattle.cq_base.specs.declared.status.Status.{Status}
 use Rattle.cq_base.specs.declared.status.Status.TheVariants as status
+use Rattle.cq_space.specs.Call.{Call}
+use Rattle.cq_space.specs.Failing.{Fails, FailsTaking, Reads, Writes}
 use Rattle.cq_space.specs.Space.{Space}
 use Rattle.cq_words.specs.declared.command.Command.{Command}
 use Rattle.cq_run.specs.declared.refusal.Refusal.{Refusal}
@@ -20,7 +22,7 @@ use Rattle.cq_run.specs.Planning.{CommandHalts, known_to}
 use Rattle.cq_run.specs.Reader.{Reader}
 use Rattle.cq_run.specs.Refusals.{meaning_of}
 use Rattle.cq_run.specs.Verdict.{judged, MayRead, MayWrite}
-use Rattle.cq_run.specs.World.{World, IsUntouched}
+use Rattle.cq_run.specs.World.{World, IsUntouched, world}
 use Rattle.cq_run.specs.Writing.{IsDone, IsCut}
 
 -- the plan meets what the command aims at where that is known, and in any case it writes only names of the command
@@ -47,12 +49,28 @@ CommandEnds pace r unread unwritten untaken command old new (Err (Cut at)) =
 abbrev pub WordsEnd : World → World → Result (Unit {0}) Stop → Type 0
 WordsEnd old new end = (end ≡ Err (Halted (Refused refusal.Words))) × (new ≡ old)
 
--- how a run may end: by whether its words are a command
+-- how a run may end: by whether there is a command
+abbrev pub EndsFor : Pace → Reader → (unread unwritten : List ℕ → Type 0) → Type 0 → Option Command → World → World
+    → Result (Unit {0}) Stop → Type 0
+EndsFor pace r unread unwritten untaken asked old new end =
+    MatchOption asked (WordsEnd old new end)
+    (λ command. CommandEnds pace r unread unwritten untaken command old new end)
+
+-- by whether its words are a command
 abbrev pub Ends : Pace → Reader → (unread unwritten : List ℕ → Type 0) → Type 0 → List (List ℕ) → World → World
     → Result (Unit {0}) Stop → Type 0
 Ends pace r unread unwritten untaken words old new end =
-    MatchOption (command_for words) (WordsEnd old new end)
-    (λ command. CommandEnds pace r unread unwritten untaken command old new end)
+    EndsFor pace r unread unwritten untaken (command_for words) old new end
+
+-- in objects that are a file space and a sink, and in which the calls failed
+abbrev pub EndsIn : {F O : Type 0} → (F → Space) → (Call → F → F → Type 0) → (F → F → Type 0)
+    → (O → Option (List ℕ)) → (O → ℕ) → (O → O → Type 0) → (O → O → Type 0) → Pace → Reader → Option Command
+    → (old new : F) → (before after : O) → Result (Unit {0}) Stop → Type 0
+EndsIn space may_fail keeps taken faults may_refuse holds pace r asked old new before after end =
+    EndsFor pace r (λ name. Fails space may_fail keeps (Reads name) old new)
+    (λ name. Fails space may_fail keeps (Writes name) old new)
+    (FailsTaking taken faults may_refuse holds before after) asked (world space taken faults old before)
+    (world space taken faults new after) end
 
 -- the status of a run that halts so
 abbrev pub halt_status : Halt → Status

@@ -50,13 +50,18 @@ pub record KeepsUp (t : Tables) (captures : List (List Captured)) (rs : List Lim
   -- each packet leaves its output whole or is counted as refused there: one of both, once
   pub once : EachPacketOnce t captures (departures_in_run rs) (refused_in_run rs)
 
+-- what is read of a configuration over these contents: its tables, and the captures that they name
+pub record AreRead (r : Reader) (config : List ℕ) (m : Contents) (t : Tables) (captures : List (List Captured)) :
+    Type 0 where
+  pub configured : tables_in config m ≡ Ok t
+  pub captured : captures_in r t m ≡ Ok captures
+
 -- What is written for a configuration over these contents: the captures of what left each output, the trace, the log
 -- and the report of a switch that keeps up with the ideal one.
 pub record IsEmulation (r : Reader) (config : List ℕ) (m : Contents) (plan : Plan) : Type 0 where
   pub tables : Tables
-  pub configured : tables_in config m ≡ Ok tables
   pub captures : List (List Captured)
-  pub captured : captures_in r tables m ≡ Ok captures
+  pub read : AreRead r config m tables captures
   pub records : List LimitedRecord
   pub keeps_up : KeepsUp tables captures records
   pub written : plan ≡ crossed tables captures (departures_in_run records) records
@@ -76,9 +81,8 @@ pub record IsPassage (r : Reader) (from to : List ℕ) (m : Contents) (plan : Pl
 -- and the trace is at once what that run sends and what the ideal switch sends.
 pub record IsAudited (r : Reader) (config : List ℕ) (m : Contents) (plan : Plan) : Type 0 where
   pub tables : Tables
-  pub configured : tables_in config m ≡ Ok tables
   pub captures : List (List Captured)
-  pub captured : captures_in r tables m ≡ Ok captures
+  pub read : AreRead r config m tables captures
   pub trace : List ℕ
   pub traced : get m tables.trace ≡ Some trace
   pub log : List ℕ
@@ -94,9 +98,8 @@ pub record IsAudited (r : Reader) (config : List ℕ) (m : Contents) (plan : Pla
 pub record IsStopped (r : Reader) (config : List ℕ) (slots : ℕ) (state : List ℕ) (m : Contents) (plan : Plan) : Type 0
   where
     pub tables : Tables
-    pub configured : tables_in config m ≡ Ok tables
     pub captures : List (List Captured)
-    pub captured : captures_in r tables m ≡ Ok captures
+    pub read : AreRead r config m tables captures
     pub given : AreGiven tables captures
     pub text : List ℕ
     pub stopped : IsPartText tables captures slots text
@@ -106,9 +109,8 @@ pub record IsStopped (r : Reader) (config : List ℕ) (slots : ℕ) (state : Lis
 -- state tells of what was kept before.
 pub record IsTakenUp (r : Reader) (config state : List ℕ) (m : Contents) (plan : Plan) : Type 0 where
   pub tables : Tables
-  pub configured : tables_in config m ≡ Ok tables
   pub captures : List (List Captured)
-  pub captured : captures_in r tables m ≡ Ok captures
+  pub read : AreRead r config m tables captures
   pub given : AreGiven tables captures
   pub text : List ℕ
   pub found : get m state ≡ Some text

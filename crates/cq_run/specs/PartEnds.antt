@@ -1,5 +1,5 @@
 -- How stopping a run and taking one up end, over captures and a text that were read.
-use Rattle.std.specs.Prelude.{ℕ, List}
+use Rattle.std.specs.Prelude.{◌≡◌, ℕ, List}
 use Rattle.cq_pcap.specs.Captured.{Captured}
 use Rattle.cq_resume.specs.Resumed.{Kept}
 use Rattle.cq_resume.specs.declared.refusal.StateRefusal.{StateRefusal}
@@ -7,8 +7,11 @@ use Rattle.cq_resume.specs.declared.refusal.StateRefusal.TheVariants as of_state
 use Rattle.cq_route.specs.declared.tables.Tables.{Tables}
 use Rattle.cq_state.specs.declared.write.StateLong.{StateLong}
 use Rattle.cq_state.specs.declared.write.StateLong.TheVariants as of_text
+use Rattle.cq_run.specs.Headline.{AreGiven}
 use Rattle.cq_run.specs.Parting.{IsPartRefusal, IsResumeRefusal, IsResumedText}
-use Rattle.cq_run.specs.Switching.{IsSent}
+use Rattle.cq_run.specs.Plan.{Plan}
+use Rattle.cq_run.specs.Plans.{resumed}
+use Rattle.cq_run.specs.Switching.{IsSent, sent_by}
 use Rattle.cq_run.specs.declared.refusal.Refusal.TheVariants.{State}
 use Rattle.cq_run.specs.declared.refusal.StateFault.TheVariants.{Line, Long, Shape, Unsound}
 use Rattle.cq_run.specs.declared.stop.Halt.{Halt}
@@ -31,16 +34,24 @@ IsResumeHalt t captures text NoMemory = Unit {0}
 abbrev pub kept_by : Crossed → Kept
 kept_by c =
     record {
-      sent = c.switched.sent.items;
-      note = c.note.items;
-      figures = c.figures;
-      refused = c.refused.items;
+      sent = c.run.sent.items;
+      note = c.run.note.items;
+      figures = c.run.figures;
+      refused = c.run.refused.items;
     }
 
 -- it is what the run keeps that goes on from the state whose text this is, and it can be built
 pub record IsResumedBy (t : Tables) (captures : List (List Captured)) (text : List ℕ) (c : Crossed) : Type 0 where
+  pub given : AreGiven t captures
   pub resumed : IsResumedText t captures text (kept_by c)
-  pub sent : IsSent t captures c.switched
+  pub sent : IsSent t captures (sent_by c)
+
+-- the plan is what is written of the run that goes on from the state whose text this is
+pub record IsResuming (t : Tables) (captures : List (List Captured)) (text : List ℕ) (plan : Plan) : Type 0 where
+  pub given : AreGiven t captures
+  pub kept : Kept
+  pub goes_on : IsResumedText t captures text kept
+  pub written : plan ≡ resumed t captures kept
 
 -- ## Why the program stops
 

@@ -57,10 +57,10 @@ denial_text audit.LongTrace = codes "audit: A6 trace"
 denial_text audit.LongLog = codes "audit: A6 log"
 denial_text (audit.Line n) = codes "audit: A1 at line " ++ decimal n
 denial_text (audit.Transfer slot phase input) =
-    (codes "audit: A2" ++ in_phase_text slot phase) ++ codes " input " ++ decimal input
+    (codes "audit: A2" ++ in_phase_text slot phase) ++ (codes " input " ++ decimal input)
 denial_text (audit.Blocking slot phase input output) =
-    (codes "audit: A3" ++ in_phase_text slot phase) ++ codes " input " ++ decimal input ++ codes " output "
-    ++ decimal output
+    (codes "audit: A3" ++ in_phase_text slot phase)
+    ++ (codes " input " ++ decimal input ++ codes " output " ++ decimal output)
 denial_text (audit.Left n) = codes "audit: A4 at line " ++ decimal n
 denial_text (audit.Trace n) = codes "audit: A5 at line " ++ decimal n
 

@@ -21,7 +21,7 @@ use Rattle.cq_run.specs.declared.switching.Crossed.{Crossed}
 use Rattle.cq_run.specs.declared.switching.Switched.{Switched}
 use Rattle.cq_run.specs.Headline.{KeepsUp}
 use Rattle.cq_run.specs.Plan.{Plan}
-use Rattle.cq_run.specs.Plans.{capture_out, crossed}
+use Rattle.cq_run.specs.Plans.{capture_out, crossed, switched}
 use Rattle.cq_run.specs.Verdict.{ideally_sent}
 
 -- these are the departures of the ideal switch, and the stamp from which their slots are counted
@@ -34,15 +34,25 @@ pub record IsSent (t : Tables) (captures : List (List Captured)) (s : Switched) 
   pub whole : LeaveWhole (arrivals t captures) s.sent.items
   pub first_stamp : s.first_stamp ≡ first_stamp captures
 
+-- what it sent
+abbrev pub sent_by : Crossed → Switched
+sent_by c = record { sent = c.run.sent; first_stamp = c.first_stamp }
+
 -- they are the departures of the crossbar switch, which keeps up, with its transfers, its figures and what was refused
 pub record IsCrossed (t : Tables) (captures : List (List Captured)) (c : Crossed) : Type 0 where
-  pub switched : IsSwitched t captures c.switched
+  pub switched : IsSwitched t captures (sent_by c)
   pub records : List LimitedRecord
   pub keeps_up : KeepsUp t captures records
-  pub departed : c.switched.sent.items ≡ departures_in_run records
-  pub note : c.note.items ≡ transfers_of_run (slots_in records)
-  pub figures : c.figures ≡ figures_of (ports_of t.setup) (slots_in records)
-  pub refused : c.refused.items ≡ refused_counts t.limits (refused_in_run records)
+  pub departed : c.run.sent.items ≡ departures_in_run records
+  pub note : c.run.note.items ≡ transfers_of_run (slots_in records)
+  pub figures : c.run.figures ≡ figures_of (ports_of t.setup) (slots_in records)
+  pub refused : c.run.refused.items ≡ refused_counts t.limits (refused_in_run records)
+
+-- the plan is what the ideal switch does with these captures
+pub record IsIdeal (t : Tables) (captures : List (List Captured)) (plan : Plan) : Type 0 where
+  pub sent : List Departure
+  pub is_sent : ideally_sent t captures ≡ Ok sent
+  pub written : plan ≡ switched t captures sent
 
 -- the plan is what the crossbar switch does with these captures: it keeps up, and sends what the ideal switch sends
 pub record IsCrossing (t : Tables) (captures : List (List Captured)) (plan : Plan) : Type 0 where

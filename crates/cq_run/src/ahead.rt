@@ -4,22 +4,21 @@
 //! decoded. Each reader that is started is joined by the call that started it, after those of the later inputs,
 //! whatever they come to: neither what was begun nor its reader can be dropped, and only a join uses a reader up. So
 //! a way out that leaves one behind is no program.
-ghost use Rattle.std.specs.Prelude.{◌≡◌, ◌+◌, ◌≤◌, ◌<◌, ◌^◌, ◌∷◌, [], IfErr, IfOk, IfSome, MatchOption, OnOk, length};
+ghost use Rattle.std.specs.Prelude.{◌≡◌, ◌+◌, ◌≤◌, ◌<◌, ◌^◌, ◌∷◌, [], IfErr, IfOk, IfSome, MatchOption, length};
 ghost use Rattle.cq_pcap.specs.Record.{Spells};
-ghost use Rattle.cq_route.specs.Tables.{AreTables, ports_of};
+ghost use Rattle.cq_route.specs.Tables.{AreTables};
 ghost use Rattle.cq_space.specs.Failing.{Fails, Reads};
 ghost use Rattle.cq_space.specs.Space.{Closed};
-ghost use Rattle.cq_run.specs.Decoding.{IsBegun, IsBegunFor, source};
-ghost use Rattle.cq_run.specs.Given.{EndsGiven, IsGiven};
+ghost use Rattle.cq_run.specs.Decoding.{HasBegun, IsBegun, source};
 ghost use Rattle.cq_run.specs.Input.{IsHaltFor};
 ghost use Rattle.cq_run.specs.Judging.{Halts, Judges};
 ghost use Rattle.cq_run.specs.Pace.{Ahead, InTurn};
 ghost use Rattle.cq_run.specs.Reader.{Reader};
-ghost use Rattle.cq_run.specs.Verdict.{captures_from, captures_in, packets_at};
+ghost use Rattle.cq_run.specs.Verdict.{captures_from, packets_at};
 
 use crate::Halt;
 use crate::decoding::{Decoding, begin, finish};
-use crate::reading::{Given, read_configuration, read_file, unreadable};
+use crate::reading::{read_file, unreadable};
 use cq_base::{Name, NoMemory, Port, Sequence};
 use cq_pcap::Capture;
 use cq_route::{PortRow, Tables};
@@ -29,58 +28,22 @@ use std::alloc::Global;
 use std::sync::Wait;
 use std::thread::Threads;
 
-/// What the configuration of this name gives, where its captures are read ahead.
-pub fn stream_given<R: Threads + Wait + Copy + Send + 'static, F: Files, W: Watch + 'static>(
-    rt: R,
-    alloc: Global,
-    files: &mut F,
-    config: Name,
-    watch: &W,
-) -> Result<Given, Halt>
-    requires { (F.space files.old).mode ≡ Closed }
-    ensures given { IfOk result (IsGiven F.space F.keeps config files.old files.new) }
-    ensures ends { IfErr result (EndsGiven F.space F.may_fail F.keeps Ahead config files.old files.new) }
-{
-    let tables = read_configuration(alloc, files, config)?;
-    let captures = stream_inputs(rt, alloc, files, &tables, watch)?;
-    Ok(Given { tables, captures })
-}
-
-// What arrives at each input, in order. Where several have a fault, the first of these is told; files behind it
-// may have been read, and a fault met there is counted and not told. Each reader that was started is joined.
-fn stream_inputs<R: Threads + Wait + Copy + Send + 'static, F: Files, W: Watch + 'static>(
+/// What arrives at the inputs of these rows of the tables, in order, of which the first is this input. Where several
+/// have a fault, the first of these is told; files behind it may have been read, and a fault met there is counted and
+/// not told. Each reader that was started is joined.
+pub fn stream_from<R: Threads + Wait + Copy + Send + 'static, F: Files, W: Watch + 'static>(
     rt: R,
     alloc: Global,
     files: &mut F,
     tables: &Tables,
+    rows: &[PortRow],
+    input: Port,
     watch: &W,
 ) -> Result<Sequence<Capture>, Halt>
     requires closed { (F.space files.old).mode ≡ Closed }
     requires tables { AreTables tables.now }
-    ensures judges { (r : Reader) → Judges Ahead (captures_in r tables.now)
-        (λ asked. Fails F.space F.may_fail F.keeps (Reads asked) files.old files.new)
-        (F.space files.old) (F.space files.new) result }
-    ensures kept { F.keeps files.old files.new }
-    ensures each { IfOk result (λ captures. length captures ≡ ports_of tables.now.setup) }
-{
-    let rows = tables.ports.as_slice();
-    stream_from(rt, alloc, files, rows, 0, tables.limit_bytes, watch)
-}
-
-// What arrives at the inputs of these rows, of which the first is this input.
-fn stream_from<R: Threads + Wait + Copy + Send + 'static, F: Files, W: Watch + 'static>(
-    rt: R,
-    alloc: Global,
-    files: &mut F,
-    rows: &[PortRow],
-    input: Port,
-    limit: u64,
-    watch: &W,
-) -> Result<Sequence<Capture>, Halt>
-    requires closed { (F.space files.old).mode ≡ Closed }
-    requires limit { limit ≤ 2 ^ 28 }
     requires few { input + length rows.now < 2 ^ 16 }
-    ensures judges { (r : Reader) → Judges Ahead (captures_from r limit input rows.now)
+    ensures judges { (r : Reader) → Judges Ahead (captures_from r tables.now.limit_bytes input rows.now)
         (λ asked. Fails F.space F.may_fail F.keeps (Reads asked) files.old files.new)
         (F.space files.old) (F.space files.new) result }
     ensures kept { F.keeps files.old files.new }
@@ -89,8 +52,8 @@ fn stream_from<R: Threads + Wait + Copy + Send + 'static, F: Files, W: Watch + '
     match rows.split_first() {
         None => Ok(Sequence::of(Vec::new(alloc))),
         Some((row, rest)) => {
-            let begun = begin_port(rt, alloc, files, row, input, limit, watch)?;
-            let later = stream_from(rt, alloc, files, rest, input + 1, limit, watch);
+            let begun = begin_port(rt, alloc, files, row, input, tables.limit_bytes, watch)?;
+            let later = stream_from(rt, alloc, files, tables, rest, input + 1, watch);
             let capture = finish_port(&rt, alloc, begun, input)?;
             let captures = later?;
             Ok(in_front(capture, captures)?)
@@ -110,11 +73,10 @@ fn begin_port<R: Threads + Wait + Copy + Send + 'static, F: Files, W: Watch + 's
 ) -> Result<Option<Decoding>, Halt>
     requires closed { (F.space files.old).mode ≡ Closed }
     requires limit { limit ≤ 2 ^ 28 }
-    ensures begun { IfOk result (IsBegunFor row.now.read limit (F.space files.old).told) }
+    ensures begun { IfOk result (HasBegun F.space F.keeps row.now limit files.old files.new) }
     ensures halts { IfErr result (λ halt. (r : Reader) → Halts InTurn (packets_at r input limit row.now.read)
         (λ asked. Fails F.space F.may_fail F.keeps (Reads asked) files.old files.new)
         (F.space files.old) (F.space files.new) halt) }
-    ensures uncounted { OnOk result ((F.space files.new).faults ≡ (F.space files.old).faults) }
     ensures told { (F.space files.new).told ≡ (F.space files.old).told }
     ensures closed { (F.space files.new).mode ≡ Closed }
     ensures kept { F.keeps files.old files.new }

@@ -4,9 +4,10 @@ ghost use Rattle.cq_route.specs.Tables.{AreTables, ports_of};
 ghost use Rattle.cq_run.specs.Plans.{audited, capture_out, captures_out, check_line, checked, counted, state_written, switched, yes_line};
 ghost use Rattle.cq_report.specs.Report.{report_with};
 ghost use Rattle.cq_base.specs.Texts.{log_of, trace_of};
-ghost use Rattle.cq_run.specs.Switching.{IsSent, IsSwitched};
+ghost use Rattle.cq_run.specs.Switching.{IsSent, IsSwitched, sent_by};
 
 use crate::plan::{Work, Write};
+use crate::reading::Given;
 use crate::switching::{Crossed, Switched};
 use cq_base::{Figures, MOST_DIGITS, Name, NoMemory, Sequence, Supply, digits};
 use cq_pcap::Capture;
@@ -71,39 +72,29 @@ fn put_counted(text: &mut Vec<u8>, name: &[u8], count: usize) -> Result<(), NoMe
 
 /// What leaves the one output of a switch of one port, under this name. The departures are used up while its file
 /// grows, and then the captures are given up.
-pub fn build_passed(
-    alloc: Global,
-    tables: &Tables,
-    captures: Vec<Capture>,
-    run: Switched,
-    to: Name,
-) -> Result<Work, NoMemory>
-    requires tables { AreTables tables.now }
-    requires captures { length captures.items ≡ ports_of tables.now.setup }
-    requires run { IsSwitched tables.now captures.items run }
+pub fn build_passed(alloc: Global, given: Given, run: Switched, to: Name) -> Result<Work, NoMemory>
+    requires tables { AreTables given.tables }
+    requires captures { length given.captures ≡ ports_of given.tables.setup }
+    requires run { IsSwitched given.tables given.captures run }
     ensures writes { IfOk result (λ plan. plan.writes
-        ≡ (to, capture_out tables.now captures.items run.sent.items 0) ∷ []) }
+        ≡ (to, capture_out given.tables given.captures run.sent.items 0) ∷ []) }
     ensures text { IfOk result (λ plan. plan.text ≡ []) }
 {
-    let bytes = build_first(alloc, tables, captures, run)?;
+    let bytes = build_first(alloc, given, run)?;
     let writes = Vec::from_array(alloc, [Write::of(to, bytes)])?;
     Ok(Work::of(writes, Vec::new(alloc)))
 }
 
 // The capture of what leaves the first output.
-fn build_first(
-    alloc: Global,
-    tables: &Tables,
-    captures: Vec<Capture>,
-    run: Switched,
-) -> Result<Vec<u8>, NoMemory>
-    requires tables { AreTables tables.now }
-    requires captures { length captures.items ≡ ports_of tables.now.setup }
-    requires run { IsSwitched tables.now captures.items run }
-    ensures { IfOk result (λ bytes. bytes.items ≡ capture_out tables.now captures.items run.sent.items 0) }
+fn build_first(alloc: Global, given: Given, run: Switched) -> Result<Vec<u8>, NoMemory>
+    requires tables { AreTables given.tables }
+    requires captures { length given.captures ≡ ports_of given.tables.setup }
+    requires run { IsSwitched given.tables given.captures run }
+    ensures { IfOk result (λ bytes. bytes.items ≡ capture_out given.tables given.captures run.sent.items 0) }
 {
+    let Given { tables, captures } = given;
     let Switched { sent, first_stamp } = run;
-    let left = packets_of_all(alloc, sent, &captures, tables, first_stamp)?;
+    let left = packets_of_all(alloc, sent, captures.as_slice(), &tables, first_stamp)?;
     drop(captures);
     let mut places = Supply::of(left);
     let Some(place) = places.pop_first() else {
@@ -113,52 +104,44 @@ fn build_first(
 }
 
 /// What leaves each output of a switch, and the trace of its run.
-pub fn build_switched(
-    alloc: Global,
-    tables: &Tables,
-    captures: Sequence<Capture>,
-    run: Switched,
-) -> Result<Work, NoMemory>
-    requires tables { AreTables tables.now }
-    requires captures { length captures ≡ ports_of tables.now.setup }
-    requires run { IsSwitched tables.now captures run }
-    ensures { IfOk result (λ plan. plan ≡ switched tables.now captures run.sent.items) }
+pub fn build_switched(alloc: Global, given: Given, run: Switched) -> Result<Work, NoMemory>
+    requires tables { AreTables given.tables }
+    requires captures { length given.captures ≡ ports_of given.tables.setup }
+    requires run { IsSwitched given.tables given.captures run }
+    ensures { IfOk result (λ plan. plan ≡ switched given.tables given.captures run.sent.items) }
 {
+    let Given { tables, captures } = given;
     let trace = trace_text_of_packed(alloc, run.sent.as_slice())?;
-    let mut writes = build_captures(alloc, tables, captures, run)?;
+    let mut writes = build_captures(alloc, &tables, captures, run)?;
     put_write(alloc, &mut writes, &tables.trace, trace)?;
     Ok(Work::of(writes, Vec::new(alloc)))
 }
 
 /// What leaves each output of the crossbar switch, the trace and the log of its run, and its report. The log comes
 /// first, since it uses up the transfers.
-pub fn build_crossed(
-    alloc: Global,
-    tables: &Tables,
-    captures: Sequence<Capture>,
-    run: Crossed,
-) -> Result<Work, NoMemory>
-    requires tables { AreTables tables.now }
-    requires captures { length captures ≡ ports_of tables.now.setup }
-    requires run { IsSent tables.now captures run.switched }
-    requires reportable { All (λ x. x.cells ≤ run.figures.slots) run.figures.outputs }
+pub fn build_crossed(alloc: Global, given: Given, crossed: Crossed) -> Result<Work, NoMemory>
+    requires tables { AreTables given.tables }
+    requires captures { length given.captures ≡ ports_of given.tables.setup }
+    requires run { IsSent given.tables given.captures (sent_by crossed) }
+    requires reportable { All (λ x. x.cells ≤ crossed.run.figures.slots) crossed.run.figures.outputs }
     ensures writes { IfOk result (λ plan. plan.writes
-        ≡ captures_out tables.now captures run.switched.sent.items 0 tables.now.ports
-        ++ (tables.now.trace, trace_of run.switched.sent.items) ∷ (tables.now.log, log_of run.note.items) ∷ []) }
-    ensures text { IfOk result (λ plan. plan.text ≡ report_with run.figures run.refused.items) }
+        ≡ captures_out given.tables given.captures crossed.run.sent.items 0 given.tables.ports
+        ++ (given.tables.trace, trace_of crossed.run.sent.items) ∷ (given.tables.log, log_of crossed.run.note.items)
+        ∷ []) }
+    ensures text { IfOk result (λ plan. plan.text ≡ report_with crossed.run.figures crossed.run.refused.items) }
 {
-    let Crossed {
-        switched,
-        note,
-        figures,
-        refused,
-    } = run;
-    let log = log_text_of_room(alloc, note)?;
-    let trace = trace_text_of_packed(alloc, switched.sent.as_slice())?;
-    let mut writes = build_captures(alloc, tables, captures, switched)?;
+    let Given { tables, captures } = given;
+    let Crossed { run, first_stamp } = crossed;
+    let log = log_text_of_room(alloc, run.note)?;
+    let trace = trace_text_of_packed(alloc, run.sent.as_slice())?;
+    let switched = Switched {
+        sent: run.sent,
+        first_stamp,
+    };
+    let mut writes = build_captures(alloc, &tables, captures, switched)?;
     put_write(alloc, &mut writes, &tables.trace, trace)?;
     put_write(alloc, &mut writes, &tables.log, log)?;
-    Ok(Work::of(writes, report_text(alloc, &figures, &refused)?))
+    Ok(Work::of(writes, report_text(alloc, &run.figures, &run.refused)?))
 }
 
 /// The text of a stopped run, under this name, and nothing else.

@@ -9,11 +9,12 @@ ghost use Rattle.cq_run.specs.Aim.{Meets, Reporting};
 ghost use Rattle.cq_run.specs.Judged.{IsJudged};
 ghost use Rattle.cq_run.specs.Judging.{IsHaltOf};
 ghost use Rattle.cq_run.specs.Pace.{Ahead, InTurn};
+ghost use Rattle.cq_run.specs.PartEnds.{IsResumeHalt, IsResuming};
 ghost use Rattle.cq_run.specs.Planning.{IsWithinRange};
-ghost use Rattle.cq_run.specs.Switching.{IsCrossing, IsPassing};
+ghost use Rattle.cq_run.specs.Switching.{IsCrossing, IsIdeal, IsPassing};
 ghost use Rattle.cq_run.specs.Verdict.{ideally_sent};
 
-use crate::ahead::stream_given;
+use crate::ahead::stream_from;
 use crate::build::{
     build_check, build_crossed, build_passed, build_report, build_state, build_switched, build_yes,
 };
@@ -38,6 +39,7 @@ use std::thread::Threads;
 /// What a command comes to: the work to be done, with all its bytes, or the first refusal or denial. It reads
 /// only, and leaves the file space closed. The gate is told of the workers' steps, and changes no answer. The
 /// clauses hold for any reader of captures that goes by the grammar.
+#[tactic(auto, using(crate::proofs::Planned::judged_as))]
 pub fn judge<R: Threads + Sync, F: Files, G: Gate>(
     rt: &R,
     alloc: Global,
@@ -52,8 +54,14 @@ pub fn judge<R: Threads + Sync, F: Files, G: Gate>(
     match command {
         Command::Pass { from, to } => pass(rt, alloc, files, from, to, gate),
         Command::Check { config } => check(alloc, files, config),
-        Command::Ideal { config } => ideal(rt, alloc, files, config),
-        Command::Run { config } => run(rt, alloc, files, config, gate),
+        Command::Ideal { config } => {
+            let given = read_given(alloc, files, config)?;
+            ideal(rt, alloc, given)
+        }
+        Command::Run { config } => {
+            let given = read_given(alloc, files, config)?;
+            cross(rt, alloc, given, gate)
+        }
         Command::Soak { seed, ports, slots } => soak(rt, alloc, seed, ports, slots, gate),
         Command::Audit { config } => audit(rt, alloc, files, config),
         Command::Part {
@@ -61,7 +69,11 @@ pub fn judge<R: Threads + Sync, F: Files, G: Gate>(
             slots,
             state,
         } => part(rt, alloc, files, config, slots, state, gate),
-        Command::Resume { config, state } => resume(rt, alloc, files, config, state, gate),
+        Command::Resume { config, state } => {
+            let given = read_given(alloc, files, config)?;
+            let text = read_stopped(alloc, files, state)?;
+            resume(rt, alloc, given, text, gate)
+        }
     }
 }
 
@@ -79,28 +91,29 @@ fn pass<R: Threads + Sync, F: Files, G: Gate>(
 {
     let tables = Tables::plain(alloc, from.text(), to.text())?;
     let capture = read_input(alloc, files, from, 0, tables.limit_bytes)?;
-    pass_on(rt, alloc, &tables, capture, to, gate)
+    pass_on(rt, alloc, tables, capture, to, gate)
 }
 
 // What the crossbar switch of one port makes of this capture, with all its bytes.
 fn pass_on<R: Threads + Sync, G: Gate>(
     rt: &R,
     alloc: Global,
-    tables: &Tables,
+    tables: Tables,
     capture: Capture,
     to: Name,
     gate: &G,
 ) -> Result<Work, Halt>
-    requires tables { AreTables tables.now }
-    requires port { ports_of tables.now.setup ≡ 1 }
-    ensures passing { IfOk result (IsPassing tables.now capture to) }
-    ensures refused { IfErr result (IsHaltOf (ideally_sent tables.now (capture ∷ []))) }
+    requires tables { AreTables tables }
+    requires port { ports_of tables.setup ≡ 1 }
+    ensures passing { IfOk result (IsPassing tables capture to) }
+    ensures refused { IfErr result (IsHaltOf (ideally_sent tables (capture ∷ []))) }
 {
     let mut captures = Vec::new(alloc);
     put_capture(&mut captures, capture)?;
-    let crossed = switch_by_crossbar(rt, alloc, tables, &captures, gate)?;
+    let captures = Sequence::of(captures);
+    let crossed = switch_by_crossbar(rt, alloc, &tables, captures.as_slice(), gate)?;
     let switched = crossed.into_switched();
-    Ok(build_passed(alloc, tables, captures, switched, to)?)
+    Ok(build_passed(alloc, Given { tables, captures }, switched, to)?)
 }
 
 fn check<F: Files>(alloc: Global, files: &mut F, config: Name) -> Result<Work, Halt>
@@ -111,33 +124,15 @@ fn check<F: Files>(alloc: Global, files: &mut F, config: Name) -> Result<Work, H
     Ok(build_check(alloc, &tables)?)
 }
 
-fn ideal<R: Threads + Sync, F: Files>(
-    rt: &R,
-    alloc: Global,
-    files: &mut F,
-    config: Name,
-) -> Result<Work, Halt>
-    requires { (F.space files.old).mode ≡ Closed }
-    ensures { IsJudged F.space F.may_fail F.keeps InTurn (Command.Ideal config) files.old files.new result }
+// What the ideal switch makes of these captures, one for each port, with all its bytes.
+fn ideal<R: Threads + Sync>(rt: &R, alloc: Global, given: Given) -> Result<Work, Halt>
+    requires tables { AreTables given.tables }
+    requires captures { length given.captures ≡ ports_of given.tables.setup }
+    ensures ideal { IfOk result (IsIdeal given.tables given.captures) }
+    ensures refused { IfErr result (IsHaltOf (ideally_sent given.tables given.captures)) }
 {
-    let given = read_given(alloc, files, config)?;
-    let Given { tables, captures } = given;
-    let switched = switch_ideally(rt, alloc, &tables, captures.as_slice())?;
-    Ok(build_switched(alloc, &tables, captures, switched)?)
-}
-
-fn run<R: Threads + Sync, F: Files, G: Gate>(
-    rt: &R,
-    alloc: Global,
-    files: &mut F,
-    config: Name,
-    gate: &G,
-) -> Result<Work, Halt>
-    requires { (F.space files.old).mode ≡ Closed }
-    ensures { IsJudged F.space F.may_fail F.keeps InTurn (Command.Run config) files.old files.new result }
-{
-    let given = read_given(alloc, files, config)?;
-    cross(rt, alloc, given, gate)
+    let switched = switch_ideally(rt, alloc, &given.tables, given.captures.as_slice())?;
+    Ok(build_switched(alloc, given, switched)?)
 }
 
 /// What `run` comes to for a configuration, where captures are decoded by readers ahead of judging. The watch is told
@@ -155,8 +150,10 @@ where
     requires closed { (F.space files.old).mode ≡ Closed }
     ensures { IsJudged F.space F.may_fail F.keeps Ahead (Command.Run config) files.old files.new result }
 {
-    let given = stream_given(rt, alloc, files, config, watch)?;
-    cross(&rt, alloc, given, gate)
+    let tables = read_configuration(alloc, files, config)?;
+    let rows = tables.ports.as_slice();
+    let captures = stream_from(rt, alloc, files, &tables, rows, 0, watch)?;
+    cross(&rt, alloc, Given { tables, captures }, gate)
 }
 
 // What the crossbar switch makes of these captures, one for each port, with all its bytes. The captures are given up
@@ -172,9 +169,8 @@ fn cross<R: Threads + Sync, G: Gate>(
     ensures crossing { IfOk result (IsCrossing given.tables given.captures) }
     ensures refused { IfErr result (IsHaltOf (ideally_sent given.tables given.captures)) }
 {
-    let Given { tables, captures } = given;
-    let crossed = switch_by_crossbar(rt, alloc, &tables, captures.as_slice(), gate)?;
-    Ok(build_crossed(alloc, &tables, captures, crossed)?)
+    let crossed = switch_by_crossbar(rt, alloc, &given.tables, given.captures.as_slice(), gate)?;
+    Ok(build_crossed(alloc, given, crossed)?)
 }
 
 fn soak<R: Threads + Sync, G: Gate>(
@@ -194,7 +190,7 @@ fn soak<R: Threads + Sync, G: Gate>(
 {
     let soak = make(alloc, seed, ports, slots)?;
     let crossed = switch_by_crossbar(rt, alloc, &soak.tables, &soak.captures, gate)?;
-    Ok(build_report(alloc, &crossed.figures, &crossed.refused)?)
+    Ok(build_report(alloc, &crossed.run.figures, &crossed.run.refused)?)
 }
 
 fn audit<R: Threads + Sync, F: Files>(
@@ -207,14 +203,13 @@ fn audit<R: Threads + Sync, F: Files>(
     ensures { IsJudged F.space F.may_fail F.keeps InTurn (Command.Audit config) files.old files.new result }
 {
     let given = read_given(alloc, files, config)?;
-    let Given { tables, captures } = given;
-    let trace = read_text(alloc, files, &tables.trace, Denial::LongTrace)?;
-    let log = read_text(alloc, files, &tables.log, Denial::LongLog)?;
+    let trace = read_text(alloc, files, &given.tables.trace, Denial::LongTrace)?;
+    let log = read_text(alloc, files, &given.tables.log, Denial::LongLog)?;
     audit_texts(
         rt,
         alloc,
-        &tables,
-        captures.as_slice(),
+        &given.tables,
+        given.captures.as_slice(),
         trace.as_slice(),
         log.as_slice(),
     )?;
@@ -235,32 +230,37 @@ fn part<R: Threads + Sync, F: Files, G: Gate>(
     ensures { IsJudged F.space F.may_fail F.keeps InTurn (Command.Part config slots state) files.old files.new result }
 {
     let given = read_given(alloc, files, config)?;
-    let Given { tables, captures } = given;
-    let text = part_by_crossbar(rt, alloc, &tables, captures.as_slice(), slots, gate)?;
+    let text = part_by_crossbar(
+        rt,
+        alloc,
+        &given.tables,
+        given.captures.as_slice(),
+        slots,
+        gate,
+    )?;
     Ok(build_state(alloc, state, text)?)
 }
 
-fn resume<R: Threads + Sync, F: Files, G: Gate>(
+// What the crossbar switch makes of these captures, one for each port, from the state on whose text this is.
+fn resume<R: Threads + Sync, G: Gate>(
     rt: &R,
     alloc: Global,
-    files: &mut F,
-    config: Name,
-    state: Name,
+    given: Given,
+    text: Sequence<u8>,
     gate: &G,
 ) -> Result<Work, Halt>
-    requires { (F.space files.old).mode ≡ Closed }
-    ensures { IsJudged F.space F.may_fail F.keeps InTurn (Command.Resume config state) files.old files.new result }
+    requires tables { AreTables given.tables }
+    requires captures { length given.captures ≡ ports_of given.tables.setup }
+    ensures resuming { IfOk result (IsResuming given.tables given.captures text) }
+    ensures refused { IfErr result (IsResumeHalt given.tables given.captures text) }
 {
-    let given = read_given(alloc, files, config)?;
-    let Given { tables, captures } = given;
-    let text = read_stopped(alloc, files, state)?;
     let crossed = resume_by_crossbar(
         rt,
         alloc,
-        &tables,
-        captures.as_slice(),
+        &given.tables,
+        given.captures.as_slice(),
         text.as_slice(),
         gate,
     )?;
-    Ok(build_crossed(alloc, &tables, captures, crossed)?)
+    Ok(build_crossed(alloc, given, crossed)?)
 }

@@ -5,7 +5,7 @@ ghost use Rattle.cq_run.specs.Headline.{AreGiven};
 ghost use Rattle.cq_run.specs.PartEnds.{IsPartHalt, IsResumeHalt, IsResumedBy};
 ghost use Rattle.cq_run.specs.Parting.{IsPartText};
 
-use crate::switching::{Crossed, Switched};
+use crate::switching::Crossed;
 use crate::{Halt, Refusal, StateFault};
 use cq_cells::Schedule;
 use cq_crew::Gate;
@@ -18,6 +18,7 @@ use std::thread::Threads;
 
 /// The text of the state in which the crossbar switch stands after so many slots with these captures, one for each
 /// port.
+#[tactic(auto, using(crate::proofs::Crossed::are_given))]
 pub fn part_by_crossbar<R: Threads + Sync, G: Gate>(
     rt: &R,
     alloc: Global,
@@ -59,23 +60,17 @@ pub fn resume_by_crossbar<R: Threads + Sync, G: Gate>(
 ) -> Result<Crossed, Halt>
     requires tables { AreTables tables.now }
     requires captures { length captures.now ≡ ports_of tables.now.setup }
-    ensures given { OnOk result (AreGiven tables.now captures.now) }
     ensures resumed { IfOk result (IsResumedBy tables.now captures.now text.now) }
-    ensures reportable { IfOk result (λ crossed. All (λ x. x.cells ≤ crossed.figures.slots) crossed.figures.outputs) }
+    ensures reportable { IfOk result (λ crossed.
+        All (λ x. x.cells ≤ crossed.run.figures.slots) crossed.run.figures.outputs) }
     ensures refused { IfErr result (IsResumeHalt tables.now captures.now text.now) }
 {
     let schedule = Schedule::of(rt, alloc, captures, tables)?;
     let taken = read_state(alloc, text, tables, &schedule)?;
     let resumed = resume_fabric(rt, alloc, tables, &schedule, &taken, gate)?;
-    let switched = Switched {
-        sent: resumed.sent,
-        first_stamp: schedule.t0(),
-    };
     Ok(Crossed {
-        switched,
-        note: resumed.note,
-        figures: resumed.figures,
-        refused: resumed.refused,
+        run: resumed,
+        first_stamp: schedule.t0(),
     })
 }
 

@@ -12,7 +12,7 @@ ghost use Rattle.cq_run.specs.Reader.{Reader};
 ghost use Rattle.cq_run.specs.Verdict.{verdict};
 ghost use Rattle.cq_run.specs.Writing.{IsDone};
 ghost use Rattle.cq_run.specs.World.{world, taken_by};
-ghost use Rattle.cq_run.specs.Ending.{CommandEnds};
+ghost use Rattle.cq_run.specs.Ending.{EndsIn};
 ghost use Rattle.cq_run.specs.Answers.{Answers};
 ghost use Rattle.cq_run.specs.StatusCauses.{StatusCauses};
 
@@ -99,12 +99,8 @@ fn stream<R, F: Files, O: Sink, G: Gate, W: Watch + 'static>(
 where
     R: Threads + Wait + Sync + Copy + Send + 'static,
     requires { (F.space files.old).mode ≡ Closed }
-    ensures ends { (r : Reader) → CommandEnds Ahead r
-        (λ name. Fails F.space F.may_fail F.keeps (Reads name) files.old files.new)
-        (λ name. Fails F.space F.may_fail F.keeps (Writes name) files.old files.new)
-        (FailsTaking O.taken O.faults O.may_fail O.keeps out.old out.new) (Command.Run config.now)
-        (world F.space O.taken O.faults files.old out.old)
-        (world F.space O.taken O.faults files.new out.new) result }
+    ensures ends { (r : Reader) → EndsIn F.space F.may_fail F.keeps O.taken O.faults O.may_fail O.keeps Ahead r
+        (Some (Command.Run config.now)) files.old files.new out.old out.new result }
     ensures closed { (F.space files.new).mode ≡ Closed }
 {
     let name = Name::of(alloc, config).map_err(Halt::from)?;

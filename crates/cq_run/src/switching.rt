@@ -3,18 +3,18 @@ ghost use Rattle.std.specs.Prelude.{◌≡◌, ◌≤◌, All, IfOk, IfErr, OnOk
 ghost use Rattle.cq_route.specs.Tables.{AreTables, ports_of};
 ghost use Rattle.cq_run.specs.AuditEnds.{IsAuditHalted, IsAuditPassed};
 ghost use Rattle.cq_run.specs.Judging.{IsHaltOf};
-ghost use Rattle.cq_run.specs.Switching.{IsCrossed, IsSwitched};
+ghost use Rattle.cq_run.specs.Switching.{IsCrossed, IsSwitched, sent_by};
 ghost use Rattle.cq_run.specs.Verdict.{ideally_sent};
 
 use crate::{Denial, Halt, Refusal};
 use cq_audit::{AuditRefusal, audit_log, audit_trace};
-use cq_base::{Departures, Figures, Room, Transfer};
+use cq_base::Departures;
 use cq_cells::Schedule;
 use cq_crew::Gate;
 use cq_pcap::Capture;
 use cq_report::trace_text_of_packed;
 use cq_route::Tables;
-use cq_simulate::{Refused, RunRefusal, run_fabric_packed, run_ideal_packed};
+use cq_simulate::{PackedFabricRun, RunRefusal, run_fabric_packed, run_ideal_packed};
 use std::alloc::Global;
 use std::thread::Threads;
 
@@ -25,27 +25,26 @@ pub struct Switched {
     pub first_stamp: u64,
 }
 
-/// What the crossbar switch sent and transferred, what was seen of its run, and what was refused.
+/// What the crossbar switch did, and the stamp from which its slots are counted, in nanoseconds.
 #[derive(Drop)]
 pub struct Crossed {
-    pub switched: Switched,
-    pub note: Room<Transfer>,
-    pub figures: Figures,
-    pub refused: Vec<Refused>,
+    pub run: PackedFabricRun,
+    pub first_stamp: u64,
 }
 
 impl Crossed {
     /// What was sent. The rest is dropped.
     pub fn into_switched(self) -> Switched
-        ensures { result ≡ self.switched }
+        ensures { result ≡ sent_by self }
     {
-        let Crossed {
-            switched,
+        let Crossed { run, first_stamp } = self;
+        let PackedFabricRun {
+            sent,
             note: _,
             figures: _,
             refused: _,
-        } = self;
-        switched
+        } = run;
+        Switched { sent, first_stamp }
     }
 }
 
@@ -81,20 +80,15 @@ pub fn switch_by_crossbar<R: Threads + Sync, G: Gate>(
     requires tables { AreTables tables.now }
     requires captures { length captures.now ≡ ports_of tables.now.setup }
     ensures crossed { IfOk result (IsCrossed tables.now captures.now) }
-    ensures reportable { IfOk result (λ crossed. All (λ x. x.cells ≤ crossed.figures.slots) crossed.figures.outputs) }
+    ensures reportable { IfOk result (λ crossed.
+        All (λ x. x.cells ≤ crossed.run.figures.slots) crossed.run.figures.outputs) }
     ensures refused { IfErr result (IsHaltOf (ideally_sent tables.now captures.now)) }
 {
     let schedule = Schedule::of(rt, alloc, captures, tables)?;
     let run = run_fabric_packed(rt, alloc, tables, &schedule, gate)?;
-    let switched = Switched {
-        sent: run.sent,
-        first_stamp: schedule.t0(),
-    };
     Ok(Crossed {
-        switched,
-        note: run.note,
-        figures: run.figures,
-        refused: run.refused,
+        run,
+        first_stamp: schedule.t0(),
     })
 }
 

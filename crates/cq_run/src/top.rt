@@ -11,7 +11,7 @@ ghost use Rattle.cq_run.specs.Reader.{Reader};
 ghost use Rattle.cq_run.specs.Verdict.{verdict};
 ghost use Rattle.cq_run.specs.Writing.{IsDone};
 ghost use Rattle.cq_run.specs.World.{world, taken_by};
-ghost use Rattle.cq_run.specs.Ending.{Ends, CommandEnds, status_of};
+ghost use Rattle.cq_run.specs.Ending.{EndsIn, status_of};
 ghost use Rattle.cq_run.specs.Line.{Tells};
 ghost use Rattle.cq_run.specs.Answers.{Answers};
 ghost use Rattle.cq_run.specs.StatusCauses.{StatusCauses};
@@ -110,12 +110,8 @@ fn run<R: Threads + Sync, F: Files, O: Sink, G: Gate>(
     gate: &G,
 ) -> Result<(), Stop>
     requires { (F.space files.old).mode ≡ Closed }
-    ensures ends { (r : Reader) → Ends InTurn r
-        (λ name. Fails F.space F.may_fail F.keeps (Reads name) files.old files.new)
-        (λ name. Fails F.space F.may_fail F.keeps (Writes name) files.old files.new)
-        (FailsTaking O.taken O.faults O.may_fail O.keeps out.old out.new) (map string_bytes words.now)
-        (world F.space O.taken O.faults files.old out.old)
-        (world F.space O.taken O.faults files.new out.new) result }
+    ensures ends { (r : Reader) → EndsIn F.space F.may_fail F.keeps O.taken O.faults O.may_fail O.keeps InTurn r
+        (command_for (map string_bytes words.now)) files.old files.new out.old out.new result }
     ensures closed { (F.space files.new).mode ≡ Closed }
 {
     match command_of(alloc, words).map_err(Halt::from)? {
@@ -136,12 +132,8 @@ fn obey<R: Threads + Sync, F: Files, O: Sink, G: Gate>(
 ) -> Result<(), Stop>
     requires closed { (F.space files.old).mode ≡ Closed }
     requires range { IsWithinRange command }
-    ensures ends { (r : Reader) → CommandEnds InTurn r
-        (λ name. Fails F.space F.may_fail F.keeps (Reads name) files.old files.new)
-        (λ name. Fails F.space F.may_fail F.keeps (Writes name) files.old files.new)
-        (FailsTaking O.taken O.faults O.may_fail O.keeps out.old out.new) command
-        (world F.space O.taken O.faults files.old out.old)
-        (world F.space O.taken O.faults files.new out.new) result }
+    ensures ends { (r : Reader) → EndsIn F.space F.may_fail F.keeps O.taken O.faults O.may_fail O.keeps InTurn r
+        (Some command) files.old files.new out.old out.new result }
     ensures closed { (F.space files.new).mode ≡ Closed }
 {
     let work = judge(rt, alloc, files, command, gate)?;

@@ -6,7 +6,7 @@ use Rattle.cq_run.proofs.build.build_crossed.Goals as goal
 pub returns-clause-writes : goal.returns-clause-writes
 returns-clause-writes c =
     c.of.ensures.writes
-    ∙ crossed_writes c.args.tables.now c.args.captures c.args.run.switched.sent.items c.in_ok-writes.writes.items
+    ∙ crossed_writes c.args.given.tables c.args.given.captures c.args.crossed.run.sent.items c.in_ok-writes.writes.items
     c.put_write.new.writes.items c.put_write-2.new.writes.items c.in_ok-trace.trace.items c.in_ok-log.log.items
-    c.args.run.note.items c.in_ok-writes.ensures c.in_ok-put_write.ensures c.in_ok-put_write-2.ensures
+    c.args.crossed.run.note.items c.in_ok-writes.ensures c.in_ok-put_write.ensures c.in_ok-put_write-2.ensures
     (c.in_ok-trace.ensures ∙ ap trace_of c.as_slice.ensures) c.in_ok-log.ensures

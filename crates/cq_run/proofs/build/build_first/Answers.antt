@@ -7,26 +7,26 @@ use Rattle.cq_run.proofs.build.build_first.Goals as goal
 pub packets_of_all-requires : goal.packets_of_all-requires
 packets_of_all-requires c = record {
   tables = c.requires.tables;
-  captures = ap (λ (cs : List (List Captured)). length cs) c.deref.ensures.value ∙ c.requires.captures;
-  whole = whole_of_lent c.args.tables.now c.args.captures.items c.args.run.sent.items c.deref.result.now
-      c.deref.ensures.value
-      (switched_whole c.args.tables.now c.args.captures.items c.args.run c.requires.tables c.requires.captures
+  captures = ap (λ (cs : List (List Captured)). length cs) c.as_slice.ensures ∙ c.requires.captures;
+  whole = whole_of_lent c.args.given.tables c.args.given.captures c.args.run.sent.items c.as_slice.result.now
+      c.as_slice.ensures
+      (switched_whole c.args.given.tables c.args.given.captures c.args.run c.requires.tables c.requires.captures
       c.requires.run).whole;
-  t0 = c.requires.run.first_stamp ∙ ap first_stamp (sym c.deref.ensures.value);
+  t0 = c.requires.run.first_stamp ∙ ap first_stamp (sym c.as_slice.ensures);
 }
 
 pub unreachable-requires : goal.unreachable-requires
 unreachable-requires c =
     let some = c.requires.tables.setup.ports in
-    some_left c.args.tables.now c.args.captures.items c.args.run.sent.items c.in_ok-left.left.items
-    (packed_of_lent c.args.tables.now c.args.captures.items c.args.run.sent.items c.deref.result.now
-    c.in_ok-left.left.items c.deref.ensures.value c.in_ok-left.ensures) 0 (omega arith)
+    some_left c.args.given.tables c.args.given.captures c.args.run.sent.items c.in_ok-left.left.items
+    (packed_of_lent c.args.given.tables c.args.given.captures c.args.run.sent.items c.as_slice.result.now
+    c.in_ok-left.left.items c.as_slice.ensures c.in_ok-left.ensures) 0 (omega arith)
     (sym c.of-places.ensures ∙ c.in_default.ensures.0)
 
 pub returns : goal.returns
 returns c =
     let some = c.requires.tables.setup.ports in
-    file_is c.args.tables.now c.args.captures.items c.args.run.sent.items c.in_ok-left.left.items
-    (packed_of_lent c.args.tables.now c.args.captures.items c.args.run.sent.items c.deref.result.now
-    c.in_ok-left.left.items c.deref.ensures.value c.in_ok-left.ensures) 0 (omega arith) c.in-Some.place
+    file_is c.args.given.tables c.args.given.captures c.args.run.sent.items c.in_ok-left.left.items
+    (packed_of_lent c.args.given.tables c.args.given.captures c.args.run.sent.items c.as_slice.result.now
+    c.in_ok-left.left.items c.as_slice.ensures c.in_ok-left.ensures) 0 (omega arith) c.in-Some.place
     c.pop_first.new.self (sym c.of-places.ensures ∙ c.in-Some.ensures)

@@ -1,7 +1,6 @@
 use Rattle.std.proofs.Common.{◌≡◌, ℕ, List, refl, subst, sym}
 use Rattle.std.specs.Prelude.{IfOk, IfSome, Option, Result, Ok, Err}
 use Rattle.std.specs.List.{AllByRecursion}
-use Rattle.std.proofs.lemmas.Result.{err_from_is_err_and}
 use Rattle.cq_route.specs.declared.tables.Tables.{Tables}
 use Rattle.cq_space.specs.Call.{Call}
 use Rattle.cq_space.specs.Failing.{Fails, Lasts, Reads}
@@ -20,6 +19,7 @@ use Rattle.cq_run.specs.declared.stop.Halt.{Halt}
 use Rattle.cq_run.proofs.Reached.{Reached, Settles, begun, read_ends, read_on, settled}
 use Rattle.cq_run.proofs.Stays.{tables_stay}
 use Rattle.cq_run.proofs.Told.{told_any}
+use Rattle.cq_run.proofs.Exits.{exit_is}
 use Rattle.cq_run.proofs.judge.check.Goals as goal
 
 -- nothing is said of the plan
@@ -57,19 +57,16 @@ module _ {S : Type 0} (space : S → Space) (may_fail : Call → S → S → Typ
 
 pub returns-in_err-tables : goal.returns-in_err-tables
 returns-in_err-tables g c =
-    let p = err_from_is_err_and c.from_residual.result c.from_residual.ensures.1 in
     let F = g.F.Files in
-    rw (p.1, p.2)
+    rw (exit_is _ c.from_residual.ensures.1)
     (tables_end F.space F.may_fail F.keeps c.args.config c.args.files.now c.read_configuration.new.files
     g.met.F.Files.lasts c.requires c.read_configuration.ensures.kept _ c.in_err-tables.field-0.0
     c.in_err-tables.ensures.judges (λ name u. u))
 
 pub returns-in_err-build_check : goal.returns-in_err-build_check
 returns-in_err-build_check g c =
-    let p = err_from_is_err_and c.from_residual-in_err-build_check.result c.from_residual-in_err-build_check.ensures.1
-    in
     let F = g.F.Files in
-    rw (p.1, p.2)
+    rw (exit_is _ c.from_residual-in_err-build_check.ensures.1)
     (tables_read F.space F.may_fail F.keeps c.args.config c.args.files.now c.read_configuration.new.files
     g.met.F.Files.lasts c.requires c.read_configuration.ensures.kept _ c.in_ok-tables.tables
     c.in_ok-tables.ensures.judges _ tt tt)

@@ -1,11 +1,11 @@
 use Rattle.std.proofs.Common.{◌∙◌, List, length, ap, subst}
-use Rattle.std.proofs.lemmas.Result.{err_from_is_err_and}
 use Rattle.cq_pcap.specs.Captured.{Captured}
 use Rattle.cq_run.specs.Judging.{IsHaltOf}
-use Rattle.cq_run.specs.Switching.{IsCrossed, IsSwitched}
+use Rattle.cq_run.specs.Switching.{IsCrossed, IsSwitched, sent_by}
 use Rattle.cq_run.specs.Verdict.{ideally_sent}
 use Rattle.cq_run.proofs.Captures.{switched_whole}
 use Rattle.cq_run.proofs.Crossed.{crossing}
+use Rattle.cq_run.proofs.Exits.{exit_is}
 use Rattle.cq_run.proofs.judge.cross.Goals as goal
 
 pub switch_by_crossbar-requires-clause-captures : goal.switch_by_crossbar-requires-clause-captures
@@ -14,8 +14,8 @@ switch_by_crossbar-requires-clause-captures g c κs within =
 
 pub build_crossed-requires-clause-run : goal.build_crossed-requires-clause-run
 build_crossed-requires-clause-run g c =
-    let P : List (List Captured) → Type 0 = λ cs. IsSwitched c.args.given.tables cs c.in_ok-crossed.crossed.switched in
-    switched_whole c.args.given.tables c.args.given.captures c.in_ok-crossed.crossed.switched c.requires.tables
+    let P : List (List Captured) → Type 0 = λ cs. IsSwitched c.args.given.tables cs (sent_by c.in_ok-crossed.crossed) in
+    switched_whole c.args.given.tables c.args.given.captures (sent_by c.in_ok-crossed.crossed) c.requires.tables
     c.requires.captures (subst P c.as_slice.ensures c.in_ok-crossed.ensures.crossed.switched)
 
 pub returns-clause-crossing : goal.returns-clause-crossing
@@ -27,7 +27,6 @@ returns-clause-crossing g c =
 
 pub returns-in_err-crossed-clause-refused : goal.returns-in_err-crossed-clause-refused
 returns-in_err-crossed-clause-refused g c =
-    let p = err_from_is_err_and c.from_residual.result c.from_residual.ensures.1 in
     let P : List (List Captured) → Type 0 =
     λ cs. IsHaltOf (ideally_sent c.args.given.tables cs) c.in_err-crossed.field-0.0 in
-    rw (p.1, p.2) (subst P c.as_slice.ensures c.in_err-crossed.ensures.refused)
+    rw (exit_is _ c.from_residual.ensures.1) (subst P c.as_slice.ensures c.in_err-crossed.ensures.refused)

@@ -1,5 +1,28 @@
-use Rattle.cq_run.proofs.Planned.{soak_judged}
+use Rattle.std.proofs.Common.{refl}
+use Rattle.cq_run.proofs.CrossingRun.{ideal_judged, run_ends, run_judged, switching}
+use Rattle.cq_run.proofs.Exits.{exit_is}
+use Rattle.cq_run.proofs.Parted.{resume_ends, resume_judged, text_ends}
+use Rattle.cq_run.proofs.Planned.{sent_ends, soak_judged}
 use Rattle.cq_run.proofs.judge.judge.Goals as goal
+
+pub returns-in_err-given-in-Ideal : goal.returns-in_err-given-in-Ideal
+returns-in_err-given-in-Ideal g c =
+    rw (exit_is _ c.from_residual.ensures.1, c.in-Ideal.is)
+    (sent_ends (λ s. refl) switching (λ r. refl) (λ name. tt) c.in_err-given-in-Ideal.ensures.ends)
+
+pub returns-in_ok-given-in-Ideal : goal.returns-in_ok-given-in-Ideal
+returns-in_ok-given-in-Ideal g c =
+    rw c.in-Ideal.is
+    (ideal_judged c.in_ok-given-in-Ideal.ensures.given c.ideal.result c.ideal.ensures.ideal c.ideal.ensures.refused)
+
+pub returns-in_err-given-in-Run : goal.returns-in_err-given-in-Run
+returns-in_err-given-in-Run g c =
+    rw (exit_is _ c.from_residual-in_err-given-in-Run.ensures.1, c.in-Run.is) (run_ends c.in_err-given-in-Run.ensures.ends)
+
+pub returns-in_ok-given-in-Run : goal.returns-in_ok-given-in-Run
+returns-in_ok-given-in-Run g c =
+    rw c.in-Run.is
+    (run_judged c.in_ok-given-in-Run.ensures.given c.cross.result c.cross.ensures.crossing c.cross.ensures.refused)
 
 pub returns-in-Soak : goal.returns-in-Soak
 returns-in-Soak g c =
@@ -9,23 +32,19 @@ returns-in-Soak g c =
     c.requires.closed (g.met.F.Files.lasts.none _) c.soak.result c.soak.ensures.meets c.soak.ensures.writes
     c.soak.ensures.sent c.soak.ensures.refused)
 
-pub returns-in-Pass : goal.returns-in-Pass
-returns-in-Pass g c = rw c.in-Pass.is c.pass.ensures
+pub returns-in_err-given-in-Resume : goal.returns-in_err-given-in-Resume
+returns-in_err-given-in-Resume g c =
+    rw (exit_is _ c.from_residual-in_err-given-in-Resume.ensures.1, c.in-Resume.is)
+    (resume_ends c.in_err-given-in-Resume.ensures.ends)
 
-pub returns-in-Check : goal.returns-in-Check
-returns-in-Check g c = rw c.in-Check.is c.check.ensures
+pub returns-in_err-text-in-Resume : goal.returns-in_err-text-in-Resume
+returns-in_err-text-in-Resume g c =
+    rw (exit_is _ c.from_residual-in_err-text-in-Resume.ensures.1, c.in-Resume.is)
+    (text_ends g.met.F.Files.lasts c.in_ok-given-in-Resume.ensures.given c.read_stopped.ensures.kept
+    c.in_err-text-in-Resume.ensures.judges)
 
-pub returns-in-Ideal : goal.returns-in-Ideal
-returns-in-Ideal g c = rw c.in-Ideal.is c.ideal.ensures
-
-pub returns-in-Run : goal.returns-in-Run
-returns-in-Run g c = rw c.in-Run.is c.run.ensures
-
-pub returns-in-Audit : goal.returns-in-Audit
-returns-in-Audit g c = rw c.in-Audit.is c.audit.ensures
-
-pub returns-in-Part : goal.returns-in-Part
-returns-in-Part g c = rw c.in-Part.is c.part.ensures
-
-pub returns-in-Resume : goal.returns-in-Resume
-returns-in-Resume g c = rw c.in-Resume.is c.resume.ensures
+pub returns-in_ok-text-in-Resume : goal.returns-in_ok-text-in-Resume
+returns-in_ok-text-in-Resume g c =
+    rw c.in-Resume.is
+    (resume_judged g.met.F.Files.lasts c.in_ok-given-in-Resume.ensures.given c.read_stopped.ensures.kept
+    c.in_ok-text-in-Resume.ensures.judges c.resume.result c.resume.ensures.resuming c.resume.ensures.refused)

@@ -1,23 +1,18 @@
-use Rattle.std.proofs.lemmas.Result.{err_from_is_err_and}
 use Rattle.cq_run.proofs.Parted.{part_ends, part_halts, part_plans}
+use Rattle.cq_run.proofs.Exits.{exit_is}
 use Rattle.cq_run.proofs.judge.part.Goals as goal
 
 pub returns-in_err-given : goal.returns-in_err-given
-returns-in_err-given g c =
-    let p = err_from_is_err_and c.from_residual.result c.from_residual.ensures.1 in
-    rw (p.1, p.2) (part_ends c.in_err-given.ensures.ends)
+returns-in_err-given g c = rw (exit_is _ c.from_residual.ensures.1) (part_ends c.in_err-given.ensures.ends)
 
 pub returns-in_err-text : goal.returns-in_err-text
 returns-in_err-text g c =
-    let p = err_from_is_err_and c.from_residual-in_err-text.result c.from_residual-in_err-text.ensures.1 in
-    let refused = rw c.as_slice.ensures at c.in_err-text.ensures.refused in
-    rw (p.1, p.2) (part_halts c.in_ok-given.ensures.given c.in_err-text.field-0.0 refused)
+    rw (exit_is _ c.from_residual-in_err-text.ensures.1)
+    (part_halts c.in_ok-given.ensures.given _ (rw c.as_slice.ensures at c.in_err-text.ensures.refused))
 
 pub returns-in_err-build_state : goal.returns-in_err-build_state
 returns-in_err-build_state g c =
-    let left = c.from_residual-in_err-build_state in
-    let p = err_from_is_err_and left.result left.ensures.1 in
-    rw (p.1, p.2) (part_halts c.in_ok-given.ensures.given _ tt)
+    rw (exit_is _ c.from_residual-in_err-build_state.ensures.1) (part_halts c.in_ok-given.ensures.given _ tt)
 
 pub returns : goal.returns
 returns g c =

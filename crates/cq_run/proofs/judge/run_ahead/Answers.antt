@@ -1,11 +1,35 @@
-use Rattle.std.proofs.lemmas.Result.{err_from_is_err_and}
+use Rattle.std.proofs.Common.{◌∙◌, ap, arith, length, List}
+use Rattle.cq_route.specs.declared.tables.PortRow.{PortRow}
 use Rattle.cq_run.proofs.CrossingRun.{run_ends, run_judged}
+use Rattle.cq_run.proofs.Exits.{exit_is}
+use Rattle.cq_run.proofs.ReadOn.{captures_end, given_read, tables_end}
 use Rattle.cq_run.proofs.judge.run_ahead.Goals as goal
 
-pub returns-in_err-given : goal.returns-in_err-given
-returns-in_err-given g c =
-    let p = err_from_is_err_and c.from_residual.result c.from_residual.ensures.1 in
-    rw (p.1, p.2) (run_ends c.in_err-given.ensures.ends)
+pub stream_from-requires-clause-few : goal.stream_from-requires-clause-few
+stream_from-requires-clause-few g c κs within =
+    let tables = c.in_ok-tables.ensures.in_range in
+    omega (arith, ap (λ (rows : List PortRow). length rows) c.as_slice-rows.ensures, tables.files, tables.setup.ports)
+
+pub returns-in_err-tables : goal.returns-in_err-tables
+returns-in_err-tables g c =
+    rw (exit_is _ c.from_residual.ensures.1)
+    (run_ends (tables_end c.read_configuration.ensures.kept c.in_err-tables.ensures.judges))
+
+pub returns-in_err-captures : goal.returns-in_err-captures
+returns-in_err-captures g c =
+    rw (exit_is _ c.from_residual-in_err-captures.ensures.1)
+    (run_ends (captures_end g.met.F.Files.lasts c.in_ok-tables.ensures.judges c.read_configuration.ensures.kept
+    (λ r. rw c.as_slice-rows.ensures at (c.in_err-captures.ensures.judges r)) c.stream_from.ensures.kept))
+
+pub cross-requires-clause-captures : goal.cross-requires-clause-captures
+cross-requires-clause-captures g c κs within =
+    c.in_ok-captures.ensures.each ∙ ap (λ (rows : List PortRow). length rows) c.as_slice-rows.ensures
+    ∙ c.in_ok-tables.ensures.in_range.files
 
 pub returns : goal.returns
-returns g c = run_judged c.in_ok-given.ensures.given c.cross.result c.cross.ensures.crossing c.cross.ensures.refused
+returns g c =
+    let many = ap (λ (rows : List PortRow). length rows) c.as_slice-rows.ensures in
+    run_judged (given_read g.met.F.Files.lasts c.in_ok-tables.ensures.in_range c.in_ok-tables.ensures.judges
+    c.read_configuration.ensures.kept (λ r. rw c.as_slice-rows.ensures at (c.in_ok-captures.ensures.judges r))
+    (c.in_ok-captures.ensures.each ∙ many ∙ c.in_ok-tables.ensures.in_range.files) c.stream_from.ensures.kept)
+    c.cross.result c.cross.ensures.crossing c.cross.ensures.refused

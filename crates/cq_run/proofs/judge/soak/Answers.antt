@@ -17,7 +17,7 @@ returns-clause-meets g c =
     let is : IsCrossed (soak_tables c.args.ports) made x =
     subst Q c.in_ok-soak.ensures.tables
     (subst P (c.deref.ensures.value ∙ c.in_ok-soak.ensures.captures) c.in_ok-crossed.ensures.crossed) in
-    let text = c.in_ok-build_report.ensures.text ∙ ap (report_with x.figures) c.deref-2.ensures.value in (
+    let text = c.in_ok-build_report.ensures.text ∙ ap (report_with x.run.figures) c.deref-2.ensures.value in (
       is.records,
       is.keeps_up.runs,
       plan_reported (soak_tables c.args.ports) made x is c.in_ok-build_report.field-0

@@ -1,16 +1,15 @@
-use Rattle.std.proofs.lemmas.Result.{err_from_is_err_and}
 use Rattle.cq_run.proofs.ReadOn.{captures_end, given_read, tables_end}
+use Rattle.cq_run.proofs.Exits.{exit_is}
 use Rattle.cq_run.proofs.reading.read_given.Goals as goal
 
 pub returns-in_err-tables-clause-ends : goal.returns-in_err-tables-clause-ends
 returns-in_err-tables-clause-ends g c =
-    let p = err_from_is_err_and c.from_residual.result c.from_residual.ensures.1 in
-    rw (p.1, p.2) (tables_end c.read_configuration.ensures.kept c.in_err-tables.ensures.judges)
+    rw (exit_is _ c.from_residual.ensures.1)
+    (tables_end c.read_configuration.ensures.kept c.in_err-tables.ensures.judges)
 
 pub returns-in_err-captures-clause-ends : goal.returns-in_err-captures-clause-ends
 returns-in_err-captures-clause-ends g c =
-    let p = err_from_is_err_and c.from_residual-in_err-captures.result c.from_residual-in_err-captures.ensures.1 in
-    rw (p.1, p.2)
+    rw (exit_is _ c.from_residual-in_err-captures.ensures.1)
     (captures_end g.met.F.Files.lasts c.in_ok-tables.ensures.judges c.read_configuration.ensures.kept
     c.in_err-captures.ensures.judges c.read_inputs.ensures.kept)
 

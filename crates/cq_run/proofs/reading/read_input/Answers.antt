@@ -1,13 +1,12 @@
-use Rattle.std.proofs.lemmas.Result.{err_from_is_err_and}
 use Rattle.cq_pcap.specs.Faults.{fault_of}
 use Rattle.cq_run.specs.Pace.{InTurn}
 use Rattle.cq_run.proofs.OneReading.{capture_halts, capture_is}
+use Rattle.cq_run.proofs.Exits.{exit_is}
 use Rattle.cq_run.proofs.reading.read_input.Goals as goal
 
 pub returns-in_err-bytes-clause-judges : goal.returns-in_err-bytes-clause-judges
 returns-in_err-bytes-clause-judges g c = λ r.
-    let p = err_from_is_err_and c.from_residual.result c.from_residual.ensures.1 in
-    rw (p.1, p.2)
+    rw (exit_is _ c.from_residual.ensures.1)
     record {
       ok = tt;
       halt = c.in_err-bytes.ensures.halts r;

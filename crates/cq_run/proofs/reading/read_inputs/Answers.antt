@@ -1,12 +1,12 @@
 use Rattle.std.proofs.Common.{◌∙◌, ap, arith, sym, length, List}
 use Rattle.std.proofs.lemmas.List.{length-append}
-use Rattle.std.proofs.lemmas.Result.{err_from_is_err_and}
 use Rattle.cq_pcap.specs.Captured.{Captured}
 use Rattle.cq_route.specs.declared.tables.PortRow.{PortRow}
 use Rattle.cq_space.specs.Failing.{Reads}
 use Rattle.cq_run.proofs.Failed.{fails_after}
 use Rattle.cq_run.proofs.OneReading.{from_front}
 use Rattle.cq_run.proofs.Ports.{ends_all, reads_more, reads_all, reads_none}
+use Rattle.cq_run.proofs.Exits.{exit_is}
 use Rattle.cq_run.proofs.reading.read_inputs.Goals as goal
 
 pub ports-init : goal.ports-init
@@ -34,8 +34,7 @@ ports-preserved g c = record {
 
 pub returns-in_err-capture-clause-judges : goal.returns-in_err-capture-clause-judges
 returns-in_err-capture-clause-judges g c = λ r.
-    let p = err_from_is_err_and c.from_residual.result c.from_residual.ensures.1 in
-    rw (p.1, p.2, sym c.as_slice-rows.ensures)
+    rw (exit_is _ c.from_residual.ensures.1, sym c.as_slice-rows.ensures)
     (ends_all r c.args.tables.now.limit_bytes c.as_slice-rows.result.now c.ports.input c.index-rows-input.result
     c.ports-test.true c.index-rows-input.is (λ _. Unit {0}) _ _ (g.F.Files.space c.args.files.now)
     (g.F.Files.space c.ports.files) (g.F.Files.space c.read_port.new.files) c.ports.captures.items
@@ -69,9 +68,7 @@ read_port-requires-clause-closed g c = (c.ports.invariant.judged from_front).clo
 
 pub returns-in_err-put_capture-clause-judges : goal.returns-in_err-put_capture-clause-judges
 returns-in_err-put_capture-clause-judges g c = λ r.
-    let p =
-    err_from_is_err_and c.from_residual-in_err-put_capture.result c.from_residual-in_err-put_capture.ensures.1 in
-    rw (p.1, p.2)
+    rw (exit_is _ c.from_residual-in_err-put_capture.ensures.1)
     record {
       ok = tt;
       halt = (c.in_ok-capture.ensures.judges r).uncounted ∙ (c.ports.invariant.judged r).uncounted;

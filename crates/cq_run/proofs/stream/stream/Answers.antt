@@ -1,16 +1,15 @@
 use Rattle.std.proofs.Common.{inl, refl, sym}
-use Rattle.std.proofs.lemmas.Result.{err_from_is_err_and}
 use Rattle.cq_words.specs.declared.command.Command.TheVariants.{Run}
 use Rattle.cq_run.specs.Pace.{Ahead}
 use Rattle.cq_run.specs.World.{taken_by, world}
 use Rattle.cq_run.proofs.Obeyed.{cut_short, judging_ends, performed}
+use Rattle.cq_run.proofs.Exits.{exit_is}
 use Rattle.cq_run.proofs.stream.stream.Goals as goal
 
 -- want of memory for the name: nothing was read
 pub returns-in_err-name-clause-ends : goal.returns-in_err-name-clause-ends
 returns-in_err-name-clause-ends g c = λ r.
-    let p = err_from_is_err_and c.from_residual.result c.from_residual.ensures.1 in
-    rw (p.1, p.2) (inl (inl refl), record { told = refl; out = refl })
+    rw (exit_is _ c.from_residual.ensures.1) (inl (inl refl), record { told = refl; out = refl })
 
 pub returns-in_err-work-clause-ends : goal.returns-in_err-work-clause-ends
 returns-in_err-work-clause-ends g c = λ r.

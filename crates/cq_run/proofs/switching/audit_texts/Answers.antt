@@ -1,6 +1,5 @@
 use Rattle.std.proofs.Common.{◌<◌, ◌∙◌, ℕ, List, length, sym, ap, subst, inl, arith}
 use Rattle.std.proofs.lemmas.List.Elements.{recursion_from_All}
-use Rattle.std.proofs.lemmas.Result.{err_from_is_err_and}
 use Rattle.std.specs.Prelude.{IsOk, Option}
 use Rattle.cq_audit.specs.Audit.{IsNo, IsYes}
 use Rattle.cq_base.specs.Texts.{trace_of}
@@ -11,6 +10,7 @@ use Rattle.cq_ideal.specs.LimitedIdeal.{empty_limited}
 use Rattle.cq_route.specs.Tables.{ports_of}
 use Rattle.cq_scfq.specs.Disciplines.{machines_of, openings_of}
 use Rattle.cq_run.proofs.Denied.{both_passed, log_denied, ranks_fit, run_refused, trace_denied}
+use Rattle.cq_run.proofs.Exits.{exit_is}
 use Rattle.cq_run.proofs.switching.audit_texts.Goals as goal
 
 -- ## What judging the log asks for
@@ -44,20 +44,17 @@ audit_log-requires g c =
 -- ## Want of memory, and a tag fault
 
 pub returns-in_err-schedule-clause-halted : goal.returns-in_err-schedule-clause-halted
-returns-in_err-schedule-clause-halted g c =
-    let p = err_from_is_err_and c.from_residual.result c.from_residual.ensures.1 in rw (p.1, p.2) (inl tt)
+returns-in_err-schedule-clause-halted g c = rw (exit_is _ c.from_residual.ensures.1) (inl tt)
 
 pub returns-in_err-ideal-clause-halted : goal.returns-in_err-ideal-clause-halted
 returns-in_err-ideal-clause-halted g c =
-    let p = err_from_is_err_and c.from_residual-in_err-ideal.result c.from_residual-in_err-ideal.ensures.1 in
-    rw (p.1, p.2)
+    rw (exit_is _ c.from_residual-in_err-ideal.ensures.1)
     (run_refused c.args.tables.now c.args.captures.now c.in_ok-schedule.schedule.came c.args.trace.now c.args.log.now
     (ap (λ s. s.came) c.in_ok-schedule.ensures.schedule) c.in_err-ideal.field-0.0 c.in_err-ideal.ensures.refused)
 
 pub returns-in_err-text-clause-halted : goal.returns-in_err-text-clause-halted
 returns-in_err-text-clause-halted g c =
-    let p = err_from_is_err_and c.from_residual-in_err-text.result c.from_residual-in_err-text.ensures.1 in
-    rw (p.1, p.2) (inl tt)
+    rw (exit_is _ c.from_residual-in_err-text.ensures.1) (inl tt)
 
 -- ## The log, and then the trace
 
@@ -65,9 +62,8 @@ pub returns-in_err-audit_log-clause-halted : goal.returns-in_err-audit_log-claus
 returns-in_err-audit_log-clause-halted g c =
     let t = c.args.tables.now in
     let came = c.in_ok-schedule.schedule.came in
-    let p = err_from_is_err_and c.from_residual-in_err-audit_log.result c.from_residual-in_err-audit_log.ensures.1 in
     let P : List (Option ℕ) → Type 0 = λ limits. IsNo t.setup limits came c.args.log.now c.in_err-audit_log.field-0.0 in
-    rw (p.1, p.2)
+    rw (exit_is _ c.from_residual-in_err-audit_log.ensures.1)
     (log_denied t c.args.captures.now came c.args.trace.now c.args.log.now
     (ap (λ s. s.came) c.in_ok-schedule.ensures.schedule)
     c.in_ok-ideal.ideal.items c.in_ok-ideal.ensures.sent c.in_err-audit_log.field-0.0

@@ -1,13 +1,12 @@
 use Rattle.std.proofs.Common.{◌≤◌, ◌∙◌, All, ap, sym, subst}
 use Rattle.cq_base.specs.declared.figures.Figures.{Figures}
 use Rattle.cq_simulate.proofs.FabricLaws.{once_each_slot}
-use Rattle.cq_simulate.specs.FabricRuns.{unpacked_run}
 use Rattle.cq_run.proofs.Crossed.{is_crossed}
 use Rattle.cq_run.proofs.switching.switch_by_crossbar.Goals as goal
 
 pub returns-clause-crossed : goal.returns-clause-crossed
 returns-clause-crossed g c =
-    is_crossed c.args.tables.now c.args.captures.now c.in_ok-schedule.schedule.came (unpacked_run c.in_ok-run.run')
+    is_crossed c.args.tables.now c.args.captures.now c.in_ok-schedule.schedule.came c.in_ok-run.run'
     c.t0.result
     (record { tables = c.requires.tables; each = c.requires.captures; recorded = c.in_ok-schedule.ensures.recorded })
     (ap (λ s. s.came) c.in_ok-schedule.ensures.schedule)
