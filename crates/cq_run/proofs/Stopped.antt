@@ -107,7 +107,8 @@ module _ (t : Tables) (captures : List (List Captured)) where
 
       module _ (run : PackedFabricRun) (resumed : IsResumed (switch_of t schedule) from (kept_of (unpacked_run run)))
           (given : AreGiven t captures) where
-        -- what it keeps is that of the run that goes on, and leaves in whole packets
+        -- what it keeps is that of the run that goes on, and leaves in whole packets. No output sent more cells than
+        -- there were slots
         pub resumed_by : (stamp : ℕ) → stamp ≡ schedule.first_stamp → IsResumedBy t captures text
             (record { run = run; first_stamp = stamp })
         resumed_by stamp e = record {
@@ -119,9 +120,7 @@ module _ (t : Tables) (captures : List (List Captured)) where
                 resumed;
             first_stamp = e;
           };
+          reportable =
+              resumed_counts t captures from (kept_of (unpacked_run run)) given.tables given.each (taken_up read)
+              resumed;
         }
-
-        -- no output sent more cells than there were slots
-        pub reportable : All (λ x. x.cells ≤ run.figures.slots) run.figures.outputs
-        reportable =
-            resumed_counts t captures from (kept_of (unpacked_run run)) given.tables given.each (taken_up read) resumed

@@ -1,5 +1,5 @@
 -- How stopping a run and taking one up end, over captures and a text that were read.
-use Rattle.std.specs.Prelude.{◌≡◌, ℕ, List}
+use Rattle.std.specs.Prelude.{◌≡◌, ◌≤◌, ℕ, All, List}
 use Rattle.cq_pcap.specs.Captured.{Captured}
 use Rattle.cq_resume.specs.Resumed.{Kept}
 use Rattle.cq_resume.specs.declared.refusal.StateRefusal.{StateRefusal}
@@ -45,6 +45,7 @@ pub record IsResumedBy (t : Tables) (captures : List (List Captured)) (text : Li
   pub given : AreGiven t captures
   pub resumed : IsResumedText t captures text (kept_by c)
   pub sent : IsSent t captures (sent_by c)
+  pub reportable : All (λ x. x.cells ≤ c.run.figures.slots) c.run.figures.outputs
 
 -- the plan is what is written of the run that goes on from the state whose text this is
 pub record IsResuming (t : Tables) (captures : List (List Captured)) (text : List ℕ) (plan : Plan) : Type 0 where

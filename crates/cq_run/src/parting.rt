@@ -1,5 +1,5 @@
 //! Stopping a run over the captures that were read, and taking one up.
-ghost use Rattle.std.specs.Prelude.{◌≡◌, ◌<◌, ◌≤◌, ◌^◌, All, IfErr, IfOk, OnOk, length};
+ghost use Rattle.std.specs.Prelude.{◌≡◌, ◌<◌, ◌^◌, IfErr, IfOk, OnOk, length};
 ghost use Rattle.cq_route.specs.Tables.{AreTables, ports_of};
 ghost use Rattle.cq_run.specs.Headline.{AreGiven};
 ghost use Rattle.cq_run.specs.PartEnds.{IsPartHalt, IsResumeHalt, IsResumedBy};
@@ -61,8 +61,6 @@ pub fn resume_by_crossbar<R: Threads + Sync, G: Gate>(
     requires tables { AreTables tables.now }
     requires captures { length captures.now ≡ ports_of tables.now.setup }
     ensures resumed { IfOk result (IsResumedBy tables.now captures.now text.now) }
-    ensures reportable { IfOk result (λ crossed.
-        All (λ x. x.cells ≤ crossed.run.figures.slots) crossed.run.figures.outputs) }
     ensures refused { IfErr result (IsResumeHalt tables.now captures.now text.now) }
 {
     let schedule = Schedule::of(rt, alloc, captures, tables)?;

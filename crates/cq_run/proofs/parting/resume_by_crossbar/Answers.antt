@@ -1,5 +1,5 @@
 use Rattle.cq_run.proofs.Crossed.{are_given}
-use Rattle.cq_run.proofs.Stopped.{reportable, resume_halt, resume_refused, resumed_by, taken_up}
+use Rattle.cq_run.proofs.Stopped.{resume_halt, resume_refused, resumed_by, taken_up}
 use Rattle.cq_run.proofs.Exits.{exit_is}
 use Rattle.cq_run.proofs.parting.resume_by_crossbar.Goals as goal
 
@@ -21,14 +21,6 @@ returns-clause-resumed g c =
     (rw is at c.in_ok-resumed.ensures.run)
     (are_given _ _ c.requires.tables c.requires.captures c.in_ok-schedule.ensures.recorded) c.t0.result
     (rw is at c.t0.ensures)
-
-pub returns-clause-reportable : goal.returns-clause-reportable
-returns-clause-reportable g c =
-    let is = c.in_ok-schedule.ensures.schedule in
-    reportable c.args.tables.now c.args.captures.now c.args.text.now c.in_ok-taken.taken
-    (rw is at c.in_ok-taken.ensures.read) c.in_ok-resumed.resumed
-    (rw is at c.in_ok-resumed.ensures.run)
-    (are_given _ _ c.requires.tables c.requires.captures c.in_ok-schedule.ensures.recorded)
 
 -- ## A text that is refused, and a tag fault
 
