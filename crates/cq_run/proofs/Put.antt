@@ -45,14 +45,11 @@ pub line_after : (a b b' c text : List ℕ) → b ≡ b' → a ++ (b ++ c) ++ li
 unfolding line
 line_after a b b' c text e = ap (λ ys. a ++ (ys ++ c) ++ (text ++ 10 ∷ [])) e ∙ simp append_assoc
 
--- a text of two numbers in pieces, behind a head
-pub two_behind : (head a b b' c d d' : List ℕ) → b ≡ b' → d ≡ d' →
-    head ++ (a ++ (b ++ (c ++ (d ++ [])))) ≡ head ++ (a ++ b' ++ c ++ d')
-two_behind head a b b' c d d' e f =
-    ap (λ ys. head ++ (a ++ (ys ++ (c ++ (d ++ []))))) e
-    ∙ ap (λ ys. head ++ (a ++ (b' ++ (c ++ (ys ++ []))))) f
-    ∙ ap (λ ys. head ++ (a ++ (b' ++ (c ++ ys)))) (append-nil d')
-    ∙ simp append_assoc
+-- a text of two numbers in pieces: each has a text before it
+pub two_in_pieces : (a b b' c d d' : List ℕ) → b ≡ b' → d ≡ d' → a ++ (b ++ (c ++ (d ++ []))) ≡ a ++ b' ++ c ++ d'
+two_in_pieces a b b' c d d' e f =
+    ap (λ ys. a ++ (ys ++ (c ++ (d ++ [])))) e ∙ ap (λ ys. a ++ (b' ++ (c ++ (ys ++ [])))) f
+    ∙ ap (λ ys. a ++ (b' ++ (c ++ ys))) (append-nil d') ∙ simp append_assoc
 
 pub puts_as : {E : Type 0} (a b : List ℕ) (old new : Taken) (r : Result (Unit {0}) E) → a ≡ b → Puts a old new r →
     Puts b old new r

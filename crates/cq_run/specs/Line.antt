@@ -1,5 +1,5 @@
 -- The line that tells why a run stopped, and what a sink takes of it.
-use Rattle.std.specs.Prelude.{◌≡◌, ◌⊎◌, ℕ, List, [], ◌∷◌, ◌++◌, take, Result, Ok, Err, MatchResult, codes}
+use Rattle.std.specs.Prelude.{◌≡◌, ◌⊎◌, ℕ, List, [], ◌∷◌, ◌++◌, take, Option, Result, Ok, Err, MatchResult, codes}
 use Rattle.std.specs.Io.KnownBytes.{append_known}
 use Rattle.cq_space.specs.Causes.{Rose, HasCause}
 use Rattle.cq_run.specs.declared.stop.Halt.{Halt}
@@ -9,7 +9,7 @@ use Rattle.cq_run.specs.declared.stop.Unwritten.TheVariants.{File, Output}
 use Rattle.cq_run.specs.declared.stop.Stop.{Stop}
 use Rattle.cq_run.specs.declared.stop.Stop.TheVariants.{Halted, Cut}
 use Rattle.cq_run.specs.Refusals.{meaning_of}
-use Rattle.cq_run.specs.World.{Taken}
+use Rattle.cq_run.specs.World.{Taken, taken_by}
 
 -- what the line says of a halt
 abbrev pub halt_text : Halt → List ℕ
@@ -47,3 +47,7 @@ pub record Puts {E : Type 0} (text : List ℕ) (old new : Taken) (result : Resul
   pub bytes : MatchResult result (λ _. new.bytes ≡ append_known old.bytes text)
       (λ _. (n : ℕ) × (new.bytes ≡ append_known old.bytes (take n text)))
   pub cause : HasCause old.faults new.faults result
+
+-- the same of a sink, by its ghost members
+abbrev pub Says : {S E : Type 0} → (S → Option (List ℕ)) → (S → ℕ) → List ℕ → S → S → Result (Unit {0}) E → Type 0
+Says taken faults text old new result = Puts text (taken_by taken faults old) (taken_by taken faults new) result

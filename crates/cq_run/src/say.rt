@@ -2,9 +2,8 @@
 ghost use Rattle.std.specs.Prelude.{◌++◌};
 ghost use Rattle.std.specs.List.{flat_map};
 ghost use Rattle.cq_base.specs.Decimal.{decimal};
-ghost use Rattle.cq_run.specs.World.{taken_by};
-ghost use Rattle.cq_run.specs.Refusals.{denial_text, fault_text, in_phase_text, meaning_of, state_fault_text};
-ghost use Rattle.cq_run.specs.Line.{Puts, line, halt_text, unwritten_text, stop_text};
+ghost use Rattle.cq_run.specs.Refusals.{denial_text, fault_text, meaning_of, state_fault_text};
+ghost use Rattle.cq_run.specs.Line.{Says, line, halt_text, unwritten_text, stop_text};
 
 use crate::{CaptureFault, Denial, Halt, Refusal, StateFault, Stop, Unwritten};
 use cq_base::{MOST_DIGITS, Name, Port, Slot, TagFault, digits};
@@ -20,8 +19,7 @@ const WRITE_FAULT: &[u8; 13] = b"write fault: ";
 /// Puts the line of a stop. After a fault, which comes only where the sink's count of faults rose, a
 /// front of the line was put.
 pub fn say<S: Sink>(sink: &mut S, stop: &Stop) -> Result<(), WriteFault>
-    ensures { Puts (line (stop_text stop.now)) (taken_by S.taken S.faults sink.old)
-        (taken_by S.taken S.faults sink.new) result }
+    ensures { Says S.taken S.faults (line (stop_text stop.now)) sink.old sink.new result }
 {
     match stop {
         Stop::Halted { halt } => say_halt(sink, halt),
@@ -30,8 +28,7 @@ pub fn say<S: Sink>(sink: &mut S, stop: &Stop) -> Result<(), WriteFault>
 }
 
 fn say_halt<S: Sink>(sink: &mut S, halt: &Halt) -> Result<(), WriteFault>
-    ensures { Puts (line (halt_text halt.now)) (taken_by S.taken S.faults sink.old)
-        (taken_by S.taken S.faults sink.new) result }
+    ensures { Says S.taken S.faults (line (halt_text halt.now)) sink.old sink.new result }
 {
     match halt {
         Halt::Refused { refusal } => say_refusal(sink, refusal),
@@ -41,8 +38,7 @@ fn say_halt<S: Sink>(sink: &mut S, halt: &Halt) -> Result<(), WriteFault>
 }
 
 fn say_unwritten<S: Sink>(sink: &mut S, at: &Unwritten) -> Result<(), WriteFault>
-    ensures { Puts (line (unwritten_text at.now)) (taken_by S.taken S.faults sink.old)
-        (taken_by S.taken S.faults sink.new) result }
+    ensures { Says S.taken S.faults (line (unwritten_text at.now)) sink.old sink.new result }
 {
     match at {
         Unwritten::File { name } => say_name(sink, WRITE_FAULT, name),
@@ -51,8 +47,7 @@ fn say_unwritten<S: Sink>(sink: &mut S, at: &Unwritten) -> Result<(), WriteFault
 }
 
 fn say_refusal<S: Sink>(sink: &mut S, refusal: &Refusal) -> Result<(), WriteFault>
-    ensures { Puts (line (meaning_of refusal.now).text) (taken_by S.taken S.faults sink.old)
-        (taken_by S.taken S.faults sink.new) result }
+    ensures { Says S.taken S.faults (line (meaning_of refusal.now).text) sink.old sink.new result }
 {
     match refusal {
         Refusal::Words => say_line(sink, USAGE),
@@ -66,8 +61,8 @@ fn say_refusal<S: Sink>(sink: &mut S, refusal: &Refusal) -> Result<(), WriteFaul
 }
 
 fn say_configuration<S: Sink>(sink: &mut S, code: u8, path: &Name) -> Result<(), WriteFault>
-    ensures { Puts (line (meaning_of (Refusal.Configuration code path.now)).text)
-        (taken_by S.taken S.faults sink.old) (taken_by S.taken S.faults sink.new) result }
+    ensures { Says S.taken S.faults (line (meaning_of (Refusal.Configuration code path.now)).text)
+        sink.old sink.new result }
 {
     let mut places = [0u8; MOST_DIGITS];
     let count = digits(u128::from(code), &mut places);
@@ -84,8 +79,7 @@ fn say_configuration<S: Sink>(sink: &mut S, code: u8, path: &Name) -> Result<(),
 }
 
 fn say_tag<S: Sink>(sink: &mut S, fault: TagFault) -> Result<(), WriteFault>
-    ensures { Puts (line (meaning_of (Refusal.Tag fault)).text)
-        (taken_by S.taken S.faults sink.old) (taken_by S.taken S.faults sink.new) result }
+    ensures { Says S.taken S.faults (line (meaning_of (Refusal.Tag fault)).text) sink.old sink.new result }
 {
     let mut slot = [0u8; MOST_DIGITS];
     let slot_count = digits(u128::from(fault.slot), &mut slot);
@@ -108,8 +102,7 @@ fn say_tag<S: Sink>(sink: &mut S, fault: TagFault) -> Result<(), WriteFault>
 }
 
 fn say_capture<S: Sink>(sink: &mut S, input: u16, fault: CaptureFault) -> Result<(), WriteFault>
-    ensures { Puts (line (meaning_of (Refusal.Capture input fault)).text)
-        (taken_by S.taken S.faults sink.old) (taken_by S.taken S.faults sink.new) result }
+    ensures { Says S.taken S.faults (line (meaning_of (Refusal.Capture input fault)).text) sink.old sink.new result }
 {
     let mut places = [0u8; MOST_DIGITS];
     let count = digits(u128::from(input), &mut places);
@@ -118,8 +111,7 @@ fn say_capture<S: Sink>(sink: &mut S, input: u16, fault: CaptureFault) -> Result
 }
 
 fn say_fault<S: Sink>(sink: &mut S, fault: CaptureFault) -> Result<(), WriteFault>
-    ensures { Puts (line (fault_text fault)) (taken_by S.taken S.faults sink.old)
-        (taken_by S.taken S.faults sink.new) result }
+    ensures { Says S.taken S.faults (line (fault_text fault)) sink.old sink.new result }
 {
     match fault {
         CaptureFault::NoHeader => say_line(sink, b"1"),
@@ -134,15 +126,15 @@ fn say_fault<S: Sink>(sink: &mut S, fault: CaptureFault) -> Result<(), WriteFaul
 }
 
 fn say_long_record<S: Sink>(sink: &mut S, offset: u64, length: u32) -> Result<(), WriteFault>
-    ensures { Puts (line (fault_text (CaptureFault.LongRecord offset length)))
-        (taken_by S.taken S.faults sink.old) (taken_by S.taken S.faults sink.new) result }
+    ensures { Says S.taken S.faults (line (fault_text (CaptureFault.LongRecord offset length)))
+        sink.old sink.new result }
 {
-    say_two(sink, b"7 at ", offset, b", length ", u64::from(length))
+    put_two(sink, b"7 at ", offset, b", length ", u64::from(length))?;
+    put_pieces(sink, &[b"\n"])
 }
 
 fn say_denial<S: Sink>(sink: &mut S, denial: Denial) -> Result<(), WriteFault>
-    ensures { Puts (line (denial_text denial)) (taken_by S.taken S.faults sink.old)
-        (taken_by S.taken S.faults sink.new) result }
+    ensures { Says S.taken S.faults (line (denial_text denial)) sink.old sink.new result }
 {
     match denial {
         Denial::LongTrace => say_line(sink, b"audit: A6 trace"),
@@ -161,10 +153,11 @@ fn say_denial<S: Sink>(sink: &mut S, denial: Denial) -> Result<(), WriteFault>
 }
 
 fn say_transfer<S: Sink>(sink: &mut S, slot: Slot, phase: u8, input: Port) -> Result<(), WriteFault>
-    ensures { Puts (line (denial_text (Denial.Transfer slot phase input)))
-        (taken_by S.taken S.faults sink.old) (taken_by S.taken S.faults sink.new) result }
+    ensures { Says S.taken S.faults (line (denial_text (Denial.Transfer slot phase input)))
+        sink.old sink.new result }
 {
-    put_phase(sink, b"audit: A2", slot, phase)?;
+    let phase = u64::from(phase);
+    put_two(sink, b"audit: A2 at slot ", slot, b" phase ", phase)?;
     say_number(sink, b" input ", u64::from(input))
 }
 
@@ -175,22 +168,17 @@ fn say_blocking<S: Sink>(
     input: Port,
     output: Port,
 ) -> Result<(), WriteFault>
-    ensures { Puts (line (denial_text (Denial.Blocking slot phase input output)))
-        (taken_by S.taken S.faults sink.old) (taken_by S.taken S.faults sink.new) result }
+    ensures { Says S.taken S.faults (line (denial_text (Denial.Blocking slot phase input output)))
+        sink.old sink.new result }
 {
-    put_phase(sink, b"audit: A3", slot, phase)?;
-    say_two(
-        sink,
-        b" input ",
-        u64::from(input),
-        b" output ",
-        u64::from(output),
-    )
+    let (phase, input, output) = (u64::from(phase), u64::from(input), u64::from(output));
+    put_two(sink, b"audit: A3 at slot ", slot, b" phase ", phase)?;
+    put_two(sink, b" input ", input, b" output ", output)?;
+    put_pieces(sink, &[b"\n"])
 }
 
 fn say_state<S: Sink>(sink: &mut S, fault: StateFault) -> Result<(), WriteFault>
-    ensures { Puts (line (state_fault_text fault)) (taken_by S.taken S.faults sink.old)
-        (taken_by S.taken S.faults sink.new) result }
+    ensures { Says S.taken S.faults (line (state_fault_text fault)) sink.old sink.new result }
 {
     match fault {
         StateFault::Long => say_line(sink, b"state: S4"),
@@ -200,59 +188,36 @@ fn say_state<S: Sink>(sink: &mut S, fault: StateFault) -> Result<(), WriteFault>
     }
 }
 
-// Puts a text, and behind it in which phase of which slot.
-fn put_phase<S: Sink>(sink: &mut S, head: &[u8], slot: Slot, phase: u8) -> Result<(), WriteFault>
-    ensures { Puts (head.now ++ in_phase_text slot phase) (taken_by S.taken S.faults sink.old)
-        (taken_by S.taken S.faults sink.new) result }
-{
-    let mut place = [0u8; MOST_DIGITS];
-    let place_count = digits(u128::from(slot), &mut place);
-    let mut which = [0u8; MOST_DIGITS];
-    let which_count = digits(u128::from(phase), &mut which);
-    put_pieces(
-        sink,
-        &[
-            head,
-            b" at slot ",
-            &place[..place_count],
-            b" phase ",
-            &which[..which_count],
-        ],
-    )
-}
-
 fn say_line<S: Sink>(sink: &mut S, text: &[u8]) -> Result<(), WriteFault>
-    ensures { Puts (line text.now) (taken_by S.taken S.faults sink.old)
-        (taken_by S.taken S.faults sink.new) result }
+    ensures { Says S.taken S.faults (line text.now) sink.old sink.new result }
 {
     put_pieces(sink, &[text, b"\n"])
 }
 
 fn say_name<S: Sink>(sink: &mut S, head: &[u8], name: &Name) -> Result<(), WriteFault>
-    ensures { Puts (line (head.now ++ name.now)) (taken_by S.taken S.faults sink.old)
-        (taken_by S.taken S.faults sink.new) result }
+    ensures { Says S.taken S.faults (line (head.now ++ name.now)) sink.old sink.new result }
 {
     put_pieces(sink, &[head, name.text().as_bytes(), b"\n"])
 }
 
 fn say_number<S: Sink>(sink: &mut S, head: &[u8], number: u64) -> Result<(), WriteFault>
-    ensures { Puts (line (head.now ++ decimal number)) (taken_by S.taken S.faults sink.old)
-        (taken_by S.taken S.faults sink.new) result }
+    ensures { Says S.taken S.faults (line (head.now ++ decimal number)) sink.old sink.new result }
 {
     let mut places = [0u8; MOST_DIGITS];
     let count = digits(u128::from(number), &mut places);
     put_pieces(sink, &[head, &places[..count], b"\n"])
 }
 
-fn say_two<S: Sink>(
+// Puts two numbers, each behind a text.
+fn put_two<S: Sink>(
     sink: &mut S,
     head: &[u8],
     number: u64,
     middle: &[u8],
     other: u64,
 ) -> Result<(), WriteFault>
-    ensures { Puts (line (head.now ++ decimal number ++ middle.now ++ decimal other))
-        (taken_by S.taken S.faults sink.old) (taken_by S.taken S.faults sink.new) result }
+    ensures { Says S.taken S.faults (head.now ++ decimal number ++ middle.now ++ decimal other)
+        sink.old sink.new result }
 {
     let mut places = [0u8; MOST_DIGITS];
     let count = digits(u128::from(number), &mut places);
@@ -260,19 +225,12 @@ fn say_two<S: Sink>(
     let other_count = digits(u128::from(other), &mut others);
     put_pieces(
         sink,
-        &[
-            head,
-            &places[..count],
-            middle,
-            &others[..other_count],
-            b"\n",
-        ],
+        &[head, &places[..count], middle, &others[..other_count]],
     )
 }
 
 fn put_pieces<S: Sink>(sink: &mut S, pieces: &[&[u8]]) -> Result<(), WriteFault>
-    ensures { Puts (flat_map (λ p. p.now) pieces.now) (taken_by S.taken S.faults sink.old)
-        (taken_by S.taken S.faults sink.new) result }
+    ensures { Says S.taken S.faults (flat_map (λ p. p.now) pieces.now) sink.old sink.new result }
 {
     for piece in pieces {
         put_all(sink, piece)?;

@@ -17,7 +17,8 @@ returns-in_ok-given-in-Ideal g c =
 
 pub returns-in_err-given-in-Run : goal.returns-in_err-given-in-Run
 returns-in_err-given-in-Run g c =
-    rw (exit_is _ c.from_residual-in_err-given-in-Run.ensures.1, c.in-Run.is) (run_ends c.in_err-given-in-Run.ensures.ends)
+    rw (c.in-Run.is, exit_is _ c.from_residual-in_err-given-in-Run.ensures.1)
+    (run_ends c.in_err-given-in-Run.ensures.ends)
 
 pub returns-in_ok-given-in-Run : goal.returns-in_ok-given-in-Run
 returns-in_ok-given-in-Run g c =

@@ -1,10 +1,16 @@
-use Rattle.std.proofs.Common.{◌++◌, ℕ, ap, codes}
-use Rattle.cq_base.specs.Decimal.{decimal}
+use Rattle.std.proofs.Common.{◌∷◌, []}
 use Rattle.cq_run.specs.Line.{line}
-use Rattle.cq_run.proofs.Put.{puts_as}
+use Rattle.cq_run.proofs.Put.{puts_cut, puts_then}
 use Rattle.cq_run.proofs.say.say_long_record.Goals as goal
 
+pub returns-in_err-put_two : goal.returns-in_err-put_two
+unfolding line
+returns-in_err-put_two g c =
+    let cut = rw c.from.ensures at c.in_err-put_two.ensures in
+    puts_cut _ (10 ∷ []) _ _ _ c.from_residual.ensures.0 cut.bytes cut.cause.later cut.cause.failed
+
 pub returns : goal.returns
+unfolding line
 returns g c =
-    puts_as _ _ _ _ _ (ap (λ (n : ℕ). line (codes "7 at " ++ decimal c.args.offset ++ codes ", length " ++ decimal n))
-    c.from.ensures) c.say_two.ensures
+    let put = rw c.from.ensures at c.in_ok-put_two.ensures in
+    puts_then _ (10 ∷ []) _ _ _ _ put.bytes put.cause.uncounted c.put_pieces.ensures
