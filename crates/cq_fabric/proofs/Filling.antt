@@ -1,25 +1,24 @@
 -- Cells that come into an empty list or an empty buffer in the order in which they are to stand. Each finds those
 -- ahead of it alone: in a list all more urgent cells for its output stand there, and no less urgent one, so that it
 -- goes in at the end; in a buffer all have lesser keys.
-use Rattle.std.proofs.Common.{◌≡◌, ◌≢◌, ℕ, ◌+◌, ◌<◌, ◌≤◌, ◌^◌, cond, Bool, false, List, [], ◌∷◌, ◌++◌, length, map, get_or, take, drop, replicate, Some, refl, sym, ap, ◌∙◌, subst, ⊎_elim, arith}
-use Rattle.std.specs.Prelude.{◌&&◌, All, insert, slice_get}
+use Rattle.std.proofs.Common.{◌≡◌, ◌≢◌, ℕ, ◌+◌, ◌<◌, ◌≤◌, cond, Bool, false, List, [], ◌∷◌, ◌++◌, length, map, get_or, take, drop, Some, refl, sym, ap, ◌∙◌, subst, ⊎_elim, arith}
+use Rattle.std.specs.Prelude.{◌&&◌, insert, slice_get}
 use Rattle.std.specs.List.{AllByRecursion}
 use Rattle.std.proofs.lemmas.Bool.{and_left, and_right, cases_Bool, eqb-true}
 use Rattle.std.proofs.lemmas.List.{drop_all, drop_more, get_or-map, get_or_read, length-map, length-take-le, take-append-drop, take_all, take_more}
-use Rattle.std.proofs.lemmas.List.Elements.{All-from_recursion, All-push}
+use Rattle.std.proofs.lemmas.List.Elements.{All-from_recursion}
 use Rattle.std.proofs.lemmas.Option.{same_Some, slice_get-get_or}
 use Rattle.cq_base.specs.declared.cell.Queued.{Queued}
 use Rattle.cq_base.specs.Key.{is_before}
 use Rattle.cq_base.specs.Cells.{EachPair, HasOtherKey, IsBefore, IsRising, MoreUrgentAhead, is_for, place_of_arrival, place_of_later, put, with_arrival}
 use Rattle.cq_base.proofs.Keys.{key_laws}
 use Rattle.cq_base.proofs.Lists.{ahead_of_end, first_later}
-use Rattle.cq_list.specs.InputList.{Waiting, cells_of}
-use Rattle.cq_urgency.specs.OutputBuffer.{Buffered, cells_in}
+use Rattle.cq_list.specs.InputList.{Waiting}
 use Rattle.cq_prefs.specs.FirstCells.{list_of}
 use Rattle.cq_ideal.proofs.Changed.{map_next, map_same, take_next}
 use Rattle.cq_laws.proofs.Sound.{not_before_itself}
 use Rattle.cq_fabric.specs.Holding.{CanWait}
-use Rattle.cq_fabric.specs.Queues.{buffer_room, list_room}
+use Rattle.cq_fabric.specs.Telling.{AreFilled, IsFilled}
 
 -- ## A cell behind those that stand before its place
 
@@ -148,55 +147,24 @@ module _ (cells : List Queued) (at : ℕ) (inside : at < length cells) (xs : Lis
       let longer = ap length next in
       omega (arith, length-take-le at cells (omega arith), length-take-le (at + 1) cells (omega arith))
 
--- ## All lists, and all buffers
+-- ## All items
 
 -- what is read of one of some lists
 pub given_at : (lists : List (List Queued)) (i : ℕ) {n : ℕ} {list cells : List Queued} → list ≡ get_or lists i list →
     i < n → length lists ≡ n → cells ≡ list → cells ≡ list_of lists i
 given_at lists i {n} {list} read inside as_many is = is ∙ get_or_read lists i list (omega arith) read []
 
--- the lists of the first n inputs have their cells, and these rooms
-pub record Filled (sizes : List ℕ) (cells : List (List Queued)) (n : ℕ) (lists : List Waiting) : Type 0 where
-  pub filled : cells_of lists ≡ take n cells
-  pub rooms : map list_room lists ≡ take n sizes
-  pub outputs : map (λ list. list.outputs) lists ≡ replicate n (length sizes)
-
-pub one_filled : {sizes : List ℕ} {cells : List (List Queued)} {n : ℕ} {lists more : List Waiting} (w : Waiting) →
-    Filled sizes cells n lists → more ≡ lists ++ w ∷ [] → n < length sizes → length cells ≡ length sizes →
-    w.cells ≡ list_of cells n → list_room w ≡ get_or sizes n 0 → w.outputs ≡ length sizes →
-    Filled sizes cells (n + 1) more
-one_filled {sizes} {cells} {n} {lists} {more} w so_far is inside as_many here room outputs =
-    let within : n < length cells = omega arith in
+pub one_filled : {X : Type 0} {cells_at : X → List Queued} {room_of number : X → ℕ} {m : ℕ} {sizes : List ℕ}
+    {cells : List (List Queued)} {n : ℕ} {items more : List X} (x : X) →
+    AreFilled cells_at room_of number m sizes cells n items → more ≡ items ++ x ∷ [] → n < length sizes →
+    length cells ≡ length sizes → IsFilled cells_at room_of number m (list_of cells n) (get_or sizes n 0) x →
+    AreFilled cells_at room_of number m sizes cells (n + 1) more
+one_filled {X} {cells_at} {room_of} {number} {m} {sizes} {cells} {n} {items} {more} x so_far is inside as_many one =
     let none : List Queued = [] in
-    let cells_at : Waiting → List Queued = λ x. x.cells in
-    let outputs_at : Waiting → ℕ = λ x. x.outputs in
     record {
-      filled = map_next cells_at cells n lists more w none so_far.filled is within here;
-      rooms = map_next list_room sizes n lists more w 0 so_far.rooms is inside room;
-      outputs = map_same outputs_at (length sizes) n lists more w so_far.outputs is outputs;
-    }
-
--- the buffers of the first n outputs have their cells, and these rooms
-pub record Stored (sizes : List ℕ) (cells : List (List Queued)) (n : ℕ) (buffers : List Buffered) : Type 0 where
-  pub stored : cells_in buffers ≡ take n cells
-  pub rooms : map buffer_room buffers ≡ take n sizes
-  pub few : All (λ room. room < 2 ^ 64) (take n sizes)
-
-pub one_stored : {sizes : List ℕ} {cells : List (List Queued)} {n : ℕ} {buffers more : List Buffered} (b : Buffered) →
-    Stored sizes cells n buffers → more ≡ buffers ++ b ∷ [] → n < length sizes → length cells ≡ length sizes →
-    b.cells ≡ list_of cells n → buffer_room b ≡ get_or sizes n 0 → get_or sizes n 0 < 2 ^ 64 →
-    Stored sizes cells (n + 1) more
-one_stored {sizes} {cells} {n} {buffers} {more} b so_far is inside as_many here room one =
-    let within : n < length cells = omega arith in
-    let none : List Queued = [] in
-    let cells_at : Buffered → List Queued = λ x. x.cells in
-    let few : ℕ → Type 0 = λ r. r < 2 ^ 64 in
-    record {
-      stored = map_next cells_at cells n buffers more b none so_far.stored is within here;
-      rooms = map_next buffer_room sizes n buffers more b 0 so_far.rooms is inside room;
-      few =
-          subst (All few) (sym (take_more sizes n 0 inside))
-          (All-push few (take n sizes) (get_or sizes n 0) so_far.few one);
+      cells = map_next cells_at cells n items more x none so_far.cells is (omega arith) one.cells;
+      rooms = map_next room_of sizes n items more x 0 so_far.rooms is inside one.room;
+      numbers = map_same number m n items more x so_far.numbers is one.number;
     }
 
 -- ## What waits

@@ -17,7 +17,7 @@ ghost use Rattle.cq_fabric.specs.Newest.{IsNewest};
 ghost use Rattle.cq_fabric.specs.Queues.{CanCross, ComeApart, Comes, FitEach, FitLists, Fits, buffer_room, fabric_of, list_at, list_room, list_with};
 
 use crate::gone::Gone;
-use crate::standing::{all_told, buffered, filled_buffers, filled_lists, listed};
+use crate::standing::{all_told, buffered, filled_buffer, filled_each, filled_list, listed};
 use cq_base::{Key, NoMemory, Port, Queued, Room, Sequence, Slot, Transfer};
 use cq_ideal::Newcomers;
 use cq_list::InputList;
@@ -218,9 +218,14 @@ impl Queues {
         ensures from_inputs { IfOk result (λ q. q.from_inputs ≡ from_inputs.now) }
         ensures to_outputs { IfOk result (λ q. q.to_outputs ≡ to_outputs.now) }
     {
-        let waiting = filled_lists(alloc, from_inputs, lists)?;
-        let crossed = filled_buffers(alloc, to_outputs, buffers)?;
-        let mut offers = Offers::new(alloc, from_inputs.len() as u16)?;
+        let ports = from_inputs.len() as u16;
+        let waiting = filled_each(alloc, from_inputs, lists, |room, cells| {
+            filled_list(alloc, ports, room, cells)
+        })?;
+        let crossed = filled_each(alloc, to_outputs, buffers, |room, cells| {
+            filled_buffer(alloc, room, cells)
+        })?;
+        let mut offers = Offers::new(alloc, ports)?;
         offers.fill(&waiting);
         Ok(Queues {
             lists: waiting,

@@ -1,22 +1,19 @@
 //! Lists and buffers in which cells wait from the start, and the cells that wait in them.
-ghost use Rattle.std.specs.Prelude.{◌≡◌, ◌^◌, ◌<◌, ◌≤◌, ℕ, All, IfOk, Ok, length, map, replicate, slice_index};
+ghost use Rattle.std.specs.Prelude.{◌≡◌, ◌<◌, ◌≤◌, ℕ, IfOk, Ok, length};
 ghost use Rattle.std.specs.Fn.{FnReturnsAt};
-ghost use Rattle.cq_list.specs.InputList.{cells_of};
-ghost use Rattle.cq_urgency.specs.OutputBuffer.{cells_in};
-ghost use Rattle.cq_prefs.specs.FirstCells.{list_of};
 ghost use Rattle.cq_fabric.specs.Holding.{CanStand, CanWait};
 ghost use Rattle.cq_fabric.specs.Queues.{buffer_room, list_room};
-ghost use Rattle.cq_fabric.specs.Telling.{AllAreTold, AreTold};
+ghost use Rattle.cq_fabric.specs.Telling.{AllAreFilled, AllAreTold, AreTold, CanFill};
 
 use cq_base::{NoMemory, Queued, Sequence};
 use cq_list::InputList;
 use cq_urgency::OutputBuffer;
 use std::alloc::Global;
 
-// A list for so many outputs, with room for so many cells, in which these wait. Each comes behind the others. The error
-// is want of memory.
+/// A list for so many outputs, with room for so many cells, in which these wait. Each comes behind the others. The error
+/// is want of memory.
 #[tactic(auto, using(std::proofs::lemmas::List::take_all))]
-fn filled_list(
+pub fn filled_list(
     alloc: Global,
     outputs: u16,
     room: u64,
@@ -35,9 +32,9 @@ fn filled_list(
     Ok(list)
 }
 
-// A buffer with room for so many cells, in which these wait. The error is want of memory.
+/// A buffer with room for so many cells, in which these wait. The error is want of memory.
 #[tactic(auto, using(std::proofs::lemmas::List::take_all))]
-fn filled_buffer(alloc: Global, room: u64, cells: &[Queued]) -> Result<OutputBuffer, NoMemory>
+pub fn filled_buffer(alloc: Global, room: u64, cells: &[Queued]) -> Result<OutputBuffer, NoMemory>
     requires { CanStand room cells.now }
     ensures cells { IfOk result (λ buffer. buffer.cells ≡ cells.now) }
     ensures room { IfOk result (λ buffer. buffer_room buffer ≡ room) }
@@ -49,51 +46,24 @@ fn filled_buffer(alloc: Global, room: u64, cells: &[Queued]) -> Result<OutputBuf
     Ok(buffer)
 }
 
-/// A list for each of these rooms, over as many outputs, in which these cells wait. The error is want of memory.
-#[tactic(auto, using(std::proofs::lemmas::List::take_all))]
-pub fn filled_lists(
+/// What is made of each of these rooms and of the cells beside it, in order. The error is want of memory.
+pub fn filled_each<T: Drop, F: Fn(u64, &[Queued]) -> Result<T, NoMemory>>(
     alloc: Global,
     rooms: &[u64],
     cells: &[Sequence<Queued>],
-) -> Result<Vec<InputList>, NoMemory>
-    requires few { length rooms.now ≤ 64 }
+    fill: F,
+) -> Result<Vec<T>, NoMemory>
     requires as_many { length cells.now ≡ length rooms.now }
-    requires wait { (i : ℕ) → i < length cells.now →
-        CanWait (length cells.now) (slice_index rooms.now i) (list_of cells.now i) }
-    ensures cells { IfOk result (λ lists. cells_of lists.items ≡ cells.now) }
-    ensures rooms { IfOk result (λ lists. map list_room lists.items ≡ rooms.now) }
-    ensures outputs { IfOk result (λ lists. map (λ list. list.outputs) lists.items
-        ≡ replicate (length rooms.now) (length rooms.now)) }
+    requires can { CanFill (F.pre fill) rooms.now cells.now }
+    ensures { IfOk result (λ made. AllAreFilled (λ room given x. F.post fill room given (Ok x)) rooms.now cells.now
+        (length rooms.now) made.items) }
 {
-    let mut lists = Vec::with_capacity(alloc, rooms.len())?;
-    'inputs: for input in 0..rooms.len() {
-        let waiting = cells[input].as_slice();
-        let list = filled_list(alloc, rooms.len() as u16, rooms[input], waiting)?;
-        lists.push(list)?;
+    let mut made = Vec::with_capacity(alloc, rooms.len())?;
+    'places: for at in 0..rooms.len() {
+        let item = fill(rooms[at], cells[at].as_slice())?;
+        made.push(item)?;
     }
-    Ok(lists)
-}
-
-/// A buffer for each of these rooms, in which these cells wait. The error is want of memory.
-#[tactic(auto, using(std::proofs::lemmas::List::take_all))]
-pub fn filled_buffers(
-    alloc: Global,
-    rooms: &[u64],
-    cells: &[Sequence<Queued>],
-) -> Result<Vec<OutputBuffer>, NoMemory>
-    requires as_many { length cells.now ≡ length rooms.now }
-    requires stand { (j : ℕ) → j < length cells.now → CanStand (slice_index rooms.now j) (list_of cells.now j) }
-    ensures cells { IfOk result (λ buffers. cells_in buffers.items ≡ cells.now) }
-    ensures rooms { IfOk result (λ buffers. map buffer_room buffers.items ≡ rooms.now) }
-    ensures few { IfOk result (λ _. All (λ room. room < 2 ^ 64) rooms.now) }
-{
-    let mut buffers = Vec::with_capacity(alloc, rooms.len())?;
-    'outputs: for output in 0..rooms.len() {
-        let crossed = cells[output].as_slice();
-        let buffer = filled_buffer(alloc, rooms[output], crossed)?;
-        buffers.push(buffer)?;
-    }
-    Ok(buffers)
+    Ok(made)
 }
 
 // The cells that stand at so many places, in order. The error is want of memory.

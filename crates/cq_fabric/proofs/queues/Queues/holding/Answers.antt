@@ -1,21 +1,48 @@
-use Rattle.std.proofs.Common.{◌≡◌, ℕ, ◌^◌, ◌<◌, List, [], length, sym, ap, ◌∙◌, subst}
-use Rattle.std.specs.Prelude.{All}
-use Rattle.std.proofs.lemmas.List.{length-map, length-replicate}
+use Rattle.std.proofs.Common.{◌≡◌, arith, rules, ℕ, ◌^◌, ◌<◌, List, [], length, sym, ap, ◌∙◌, subst}
+use Rattle.std.specs.Prelude.{All, slice_index}
+use Rattle.std.proofs.lemmas.List.{length-map, length-replicate, length-take-le, take_all}
 use Rattle.cq_list.specs.InputList.{Waiting, cells_of}
 use Rattle.cq_urgency.specs.OutputBuffer.{Buffered}
-use Rattle.cq_prefs.specs.FirstCells.{orders_of}
+use Rattle.cq_prefs.specs.FirstCells.{list_of, orders_of}
 use Rattle.cq_prefs.specs.Orders.{ports}
-use Rattle.cq_fabric.specs.Queues.{AreSquare}
-use Rattle.cq_fabric.proofs.Queued.{new_square}
+use Rattle.cq_fabric.specs.Holding.{CanStand, CanWait}
+use Rattle.cq_fabric.specs.Queues.{AreSquare, buffer_room, list_room}
+use Rattle.cq_fabric.specs.Telling.{AreFilled}
+use Rattle.cq_fabric.proofs.Queued.{get_or_same, new_square}
 use Rattle.cq_fabric.proofs.Offered.{as_offered}
 use Rattle.cq_fabric.proofs.queues.Queues.holding.Goals as goal
 use Rattle.cq_fabric.proofs.queues.Queues.holding.Goals.{In_ok-offers}
 
-pub filled_lists-requires-clause-wait : goal.filled_lists-requires-clause-wait
-filled_lists-requires-clause-wait c = c.requires.hold.inputs
+pub filled_each-requires-clause-can : goal.filled_each-requires-clause-can
+filled_each-requires-clause-can c i given inside is =
+    let room = slice_index c.args.from_inputs.now i in
+    let few = c.requires.few in
+    let wait : CanWait (length c.args.from_inputs.now) room given.now =
+    subst (CanWait (length c.args.from_inputs.now) room) (sym is)
+    (subst (λ (n : ℕ). CanWait n room (list_of c.args.lists.now i)) c.requires.lists
+    (c.requires.hold.inputs i (omega arith))) in
+    search (rules, few, wait)
 
-pub filled_buffers-requires-clause-stand : goal.filled_buffers-requires-clause-stand
-filled_buffers-requires-clause-stand c = c.requires.hold.outputs
+pub filled_each-requires-2-clause-can : goal.filled_each-requires-2-clause-can
+filled_each-requires-2-clause-can c i given inside is =
+    let stand : CanStand (slice_index c.args.to_outputs.now i) given.now =
+    subst (CanStand (slice_index c.args.to_outputs.now i)) (sym is) (c.requires.hold.outputs i (omega arith)) in
+    search (rules, stand)
+
+-- the lists and the buffers have their cells and their rooms
+lists_filled : (c : In_ok-offers) →
+    AreFilled (λ (w : Waiting). w.cells) list_room (λ (w : Waiting). w.outputs) (length c.args.from_inputs.now)
+    c.args.from_inputs.now c.args.lists.now (length c.args.from_inputs.now) c.in_ok-waiting.waiting.items
+lists_filled c =
+    c.in_ok-waiting.ensures (λ (w : Waiting). w.cells) list_room (λ (w : Waiting). w.outputs)
+    (length c.args.from_inputs.now) (λ room given x filled. search rules)
+
+buffers_filled : (c : In_ok-offers) →
+    AreFilled (λ (b : Buffered). b.cells) buffer_room (λ (b : Buffered). 0) 0 c.args.to_outputs.now c.args.buffers.now
+    (length c.args.to_outputs.now) c.in_ok-crossed.crossed.items
+buffers_filled c =
+    c.in_ok-crossed.ensures (λ (b : Buffered). b.cells) buffer_room (λ (b : Buffered). 0) 0
+    (λ room given x filled. search rules)
 
 -- there are as many lists as buffers, and so many are offered
 square : (c : In_ok-offers) →
@@ -25,10 +52,11 @@ square c =
     let crossed = c.in_ok-crossed.crossed.items in
     let k = length c.args.from_inputs.now in
     new_square waiting crossed (ports c.in_ok-offers.offers) k c.requires.few
-    (ap ports c.in_ok-offers.ensures ∙ length-replicate k []) c.in_ok-waiting.ensures.outputs
-    (sym (length-map waiting (λ (w : Waiting). w.cells)) ∙ ap length c.in_ok-waiting.ensures.cells ∙ c.requires.lists)
-    (sym (length-map crossed (λ (b : Buffered). b.cells)) ∙ ap length c.in_ok-crossed.ensures.cells
-    ∙ c.requires.buffers)
+    (ap ports c.in_ok-offers.ensures ∙ length-replicate k []) (lists_filled c).numbers
+    (sym (length-map waiting (λ (w : Waiting). w.cells)) ∙ ap length (lists_filled c).cells
+    ∙ length-take-le k c.args.lists.now (omega arith))
+    (sym (length-map crossed (λ (b : Buffered). b.cells)) ∙ ap length (buffers_filled c).cells
+    ∙ length-take-le (length c.args.to_outputs.now) c.args.buffers.now (omega arith) ∙ c.requires.square)
 
 pub fill-requires-clause-lists : goal.fill-requires-clause-lists
 fill-requires-clause-lists c =
@@ -55,6 +83,30 @@ invariant_of-result c =
           };
       offered = follows;
       rooms =
-          subst (λ (rooms : List ℕ). All (λ room. room < 2 ^ 64) rooms) (sym c.in_ok-crossed.ensures.rooms)
-          c.in_ok-crossed.ensures.few;
+          subst (λ (rooms : List ℕ). All (λ room. room < 2 ^ 64) rooms)
+          (sym ((buffers_filled (goal.at.invariant_of-result c).In_ok-offers).rooms
+          ∙ take_all (length c.args.to_outputs.now) c.args.to_outputs.now (omega arith)))
+          (λ k d inside.
+          subst (λ (n : ℕ). n < 2 ^ 64) (get_or_same c.args.to_outputs.now k 0 d inside)
+          (omega (arith, c.type_inv.to_outputs k)));
     }
+
+pub returns-clause-inputs : goal.returns-clause-inputs
+returns-clause-inputs c =
+    (lists_filled (goal.at.returns-clause-inputs c).In_ok-offers).cells
+    ∙ take_all (length c.args.from_inputs.now) c.args.lists.now (omega arith)
+
+pub returns-clause-buffers : goal.returns-clause-buffers
+returns-clause-buffers c =
+    (buffers_filled (goal.at.returns-clause-buffers c).In_ok-offers).cells
+    ∙ take_all (length c.args.to_outputs.now) c.args.buffers.now (omega arith)
+
+pub returns-clause-from_inputs : goal.returns-clause-from_inputs
+returns-clause-from_inputs c =
+    (lists_filled (goal.at.returns-clause-from_inputs c).In_ok-offers).rooms
+    ∙ take_all (length c.args.from_inputs.now) c.args.from_inputs.now (omega arith)
+
+pub returns-clause-to_outputs : goal.returns-clause-to_outputs
+returns-clause-to_outputs c =
+    (buffers_filled (goal.at.returns-clause-to_outputs c).In_ok-offers).rooms
+    ∙ take_all (length c.args.to_outputs.now) c.args.to_outputs.now (omega arith)
