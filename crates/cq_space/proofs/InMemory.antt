@@ -144,32 +144,31 @@ module _ (es : List Entry) (s : State) {faults starved : ℕ} {calls : Calls} {m
     (view : space (columns_of es) s faults starved calls ≡ m) (sound : IsInPlace (columns_of es) s)
     (same : SaysTheSame (columns_of es) (columns_of mid.items)) (is : IsEntryOf (columns_of mid.items).names i name)
     (back : lent ≡ mid.items) (long : length new ≡ length lent) where
+  abbrev seen : MemSpace
+  seen = space (columns_of (with_items mid new).items) s faults starved calls
+
   -- by what a change of the columns is in the meaning
   is_changed : (change : Columns → Columns) (told : MemSpace → MemSpace) →
       ((c : Columns) → c ≡ change (columns_of mid.items) →
       space c s faults starved calls ≡ told (space (columns_of es) s faults starved calls)) →
-      columns_of new ≡ change (columns_of lent) →
-      space (columns_of (with_items mid new).items) s faults starved calls ≡ told m
+      columns_of new ≡ change (columns_of lent) → seen ≡ told m
   is_changed change told means changed = means _ (written_back mid lent new change back long changed) ∙ ap told view
 
   pub bytes_are_set : (bytes : List ℕ) → m.mode ≡ Closed → columns_of new ≡ with_bytes (columns_of lent) i bytes →
-      space (columns_of (with_items mid new).items) s faults starved calls
-      ≡ record m { contents = insert m.contents name bytes }
+      seen ≡ record m { contents = insert m.contents name bytes }
   bytes_are_set bytes closed = is_changed (λ c. with_bytes c i bytes)
       (λ k. record k { contents = insert k.contents name bytes })
       (λ c. sets _ _ c s faults starved calls i name same (are_even mid.items) is bytes
       (ap (λ (k : MemSpace). k.mode) view ∙ closed))
 
   pub reading_is_cut : (after : ℕ) → columns_of new ≡ with_read_cut (columns_of lent) i after →
-      space (columns_of (with_items mid new).items) s faults starved calls
-      ≡ record m { read_cuts = insert m.read_cuts name after }
+      seen ≡ record m { read_cuts = insert m.read_cuts name after }
   reading_is_cut after = is_changed (λ c. with_read_cut c i after)
       (λ k. record k { read_cuts = insert k.read_cuts name after })
       (λ c. cuts_reading _ _ c s faults starved calls i name same (are_even mid.items) is after sound)
 
   pub writing_is_cut : (after : ℕ) → columns_of new ≡ with_write_cut (columns_of lent) i after →
-      space (columns_of (with_items mid new).items) s faults starved calls
-      ≡ record m { write_cuts = insert m.write_cuts name after }
+      seen ≡ record m { write_cuts = insert m.write_cuts name after }
   writing_is_cut after = is_changed (λ c. with_write_cut c i after)
       (λ k. record k { write_cuts = insert k.write_cuts name after })
       (λ c. cuts_writing _ _ c s faults starved calls i name same (are_even mid.items) is after sound)

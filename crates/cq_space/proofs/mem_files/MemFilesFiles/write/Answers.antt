@@ -29,20 +29,19 @@ returns-in-Ok-clause-moved c =
     )
 
 pub returns-in-None-clause-answered : goal.returns-in-None-clause-answered
-returns-in-None-clause-answered c =
-    let now = stands c.in-Writes.is c.self.view_is c.self.invariant in
-    record {
-      cause = search rules;
-      why =
-          inr (inl (record {
-            cut =
-                of_write IsReached c.index-entry.result.now c.held.result.now now c.index-entry.ensures c.held.ensures
-                c.in-None.ensures.reached;
-            starved =
-                ap (λ (m : MemSpace). m.starved) c.fault-in-None.ensures.closed
-                ∙ ap (λ (m : MemSpace). m.starved) c.self.view_is;
-          }));
-      passed = tt;
-      counted = search rules;
-      kept = search rules;
-    }
+returns-in-None-clause-answered c = record {
+  cause = search rules;
+  why =
+      inr (inl (record {
+        cut =
+            of_write IsReached c.index-entry.result.now c.held.result.now
+            (stands c.in-Writes.is c.self.view_is c.self.invariant) c.index-entry.ensures c.held.ensures
+            c.in-None.ensures.reached;
+        starved =
+            ap (λ (m : MemSpace). m.starved) c.fault-in-None.ensures.closed
+            ∙ ap (λ (m : MemSpace). m.starved) c.self.view_is;
+      }));
+  passed = tt;
+  counted = search rules;
+  kept = search rules;
+}
