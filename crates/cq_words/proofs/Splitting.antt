@@ -120,22 +120,6 @@ config_split word v is taken ends splits asks = (
   asks ∙ ap (λ (b : Bool). b && true) (passes word config_rules (v ∷ []) (is, tt) taken ends),
 )
 
-check_split : (v : Text) → is_value v ≡ true → IsSplit (codes "check" ∷ v ∷ [])
-unfolding walked walk_passes
-check_split v is = config_split (codes "check") v is (refl, refl, tt) refl refl refl
-
-ideal_split : (v : Text) → is_value v ≡ true → IsSplit (codes "ideal" ∷ v ∷ [])
-unfolding walked walk_passes
-ideal_split v is = config_split (codes "ideal") v is (refl, refl, tt) refl refl refl
-
-run_split : (v : Text) → is_value v ≡ true → IsSplit (codes "run" ∷ v ∷ [])
-unfolding walked walk_passes
-run_split v is = config_split (codes "run") v is (refl, refl, tt) refl refl refl
-
-audit_split : (v : Text) → is_value v ≡ true → IsSplit (codes "audit" ∷ v ∷ [])
-unfolding walked walk_passes
-audit_split v is = config_split (codes "audit") v is (refl, refl, tt) refl refl refl
-
 -- ---- two values
 
 -- A form of two values, by the command of what is found under their names.
@@ -157,18 +141,6 @@ two_split word rules first second command v u iv iu taken ends one two is splits
           ∙ sym (ap₂ (λ (a b : Bool). if a && (b && true) then with_two word v u else None) iv iu),
       asks ∙ ap (λ (b : Bool). b && true) (passes word rules vs are taken ends),
     )
-
-pass_split : (v u : Text) → is_value v ≡ true → is_value u ≡ true → IsSplit (codes "pass" ∷ v ∷ u ∷ [])
-unfolding walked walk_passes
-pass_split v u iv iu =
-    two_split (codes "pass") pass_rules (codes "IN") (codes "OUT") captures_in v u iv iu
-    (refl, refl, (refl, refl, tt)) refl refl refl refl refl refl
-
-resume_split : (v u : Text) → is_value v ≡ true → is_value u ≡ true → IsSplit (codes "resume" ∷ v ∷ u ∷ [])
-unfolding walked walk_passes
-resume_split v u iv iu =
-    two_split (codes "resume") resume_rules (codes "CONFIG") (codes "STATE") state_in v u iv iu
-    (refl, refl, (refl, refl, tt)) refl refl refl refl refl refl
 
 -- ---- three values
 
@@ -200,20 +172,6 @@ three_split word rules first second third command v u t iv iu it taken ends one 
       asks ∙ ap (λ (b : Bool). b && true) (passes word rules vs are taken ends),
     )
 
-soak_split : (v u t : Text) → is_value v ≡ true → is_value u ≡ true → is_value t ≡ true →
-    IsSplit (codes "soak" ∷ v ∷ u ∷ t ∷ [])
-unfolding walked walk_passes
-soak_split v u t iv iu it =
-    three_split (codes "soak") soak_rules (codes "SEED") (codes "PORTS") (codes "SLOTS") numbers_in v u t iv iu it
-    (refl, refl, (refl, refl, (refl, refl, tt))) refl refl refl refl refl refl refl
-
-part_split : (v u t : Text) → is_value v ≡ true → is_value u ≡ true → is_value t ≡ true →
-    IsSplit (codes "part" ∷ v ∷ u ∷ t ∷ [])
-unfolding walked walk_passes
-part_split v u t iv iu it =
-    three_split (codes "part") part_rules (codes "CONFIG") (codes "SLOTS") (codes "STATE") slots_in v u t iv iu it
-    (refl, refl, (refl, refl, (refl, refl, tt))) refl refl refl refl refl refl refl
-
 -- ---- all words that are a command
 
 is_text : (word text : Text) → bytes_eq word text ≡ true → word ≡ text
@@ -233,20 +191,26 @@ config_tests x y z u true false false false true h = (refl, inr (inr (inr refl))
 config_tests x y z u true false false false false h = let bad : false ≡ true = h in cc
 config_tests x y z u false b c d e h = let bad : false ≡ true = h in cc
 
+-- what is said of a word is said of a word that reads the same
+said : (word known : Text) (rest : List Text) → bytes_eq word known ≡ true → IsSplit (known ∷ rest) →
+    IsSplit (word ∷ rest)
+said word known rest e split = subst (λ (w : Text). IsSplit (w ∷ rest)) (sym (is_text word known e)) split
+
 config_case : (word v : Text) → is_value v ≡ true
     →
     (bytes_eq word (codes "check") ≡ true)
     ⊎ ((bytes_eq word (codes "ideal") ≡ true)
     ⊎ ((bytes_eq word (codes "run") ≡ true) ⊎ (bytes_eq word (codes "audit") ≡ true)))
     → IsSplit (word ∷ v ∷ [])
+unfolding walked walk_passes
 config_case word v is (inl e) =
-    subst (λ (w : Text). IsSplit (w ∷ v ∷ [])) (sym (is_text word (codes "check") e)) (check_split v is)
+    said word (codes "check") (v ∷ []) e (config_split (codes "check") v is (refl, refl, tt) refl refl refl)
 config_case word v is (inr (inl e)) =
-    subst (λ (w : Text). IsSplit (w ∷ v ∷ [])) (sym (is_text word (codes "ideal") e)) (ideal_split v is)
+    said word (codes "ideal") (v ∷ []) e (config_split (codes "ideal") v is (refl, refl, tt) refl refl refl)
 config_case word v is (inr (inr (inl e))) =
-    subst (λ (w : Text). IsSplit (w ∷ v ∷ [])) (sym (is_text word (codes "run") e)) (run_split v is)
+    said word (codes "run") (v ∷ []) e (config_split (codes "run") v is (refl, refl, tt) refl refl refl)
 config_case word v is (inr (inr (inr e))) =
-    subst (λ (w : Text). IsSplit (w ∷ v ∷ [])) (sym (is_text word (codes "audit") e)) (audit_split v is)
+    said word (codes "audit") (v ∷ []) e (config_split (codes "audit") v is (refl, refl, tt) refl refl refl)
 
 config_words : (word v : Text) → is_some (command_for (word ∷ v ∷ [])) ≡ true → IsSplit (word ∷ v ∷ [])
 config_words word v h =
@@ -266,10 +230,15 @@ two_tests x y false b c d h = let bad : false ≡ true = h in cc
 
 two_case : (word v u : Text) → is_value v ≡ true → is_value u ≡ true
     → (bytes_eq word (codes "pass") ≡ true) ⊎ (bytes_eq word (codes "resume") ≡ true) → IsSplit (word ∷ v ∷ u ∷ [])
+unfolding walked walk_passes
 two_case word v u iv iu (inl e) =
-    subst (λ (w : Text). IsSplit (w ∷ v ∷ u ∷ [])) (sym (is_text word (codes "pass") e)) (pass_split v u iv iu)
+    said word (codes "pass") (v ∷ u ∷ []) e
+    (two_split (codes "pass") pass_rules (codes "IN") (codes "OUT") captures_in v u iv iu
+    (refl, refl, (refl, refl, tt)) refl refl refl refl refl refl)
 two_case word v u iv iu (inr e) =
-    subst (λ (w : Text). IsSplit (w ∷ v ∷ u ∷ [])) (sym (is_text word (codes "resume") e)) (resume_split v u iv iu)
+    said word (codes "resume") (v ∷ u ∷ []) e
+    (two_split (codes "resume") resume_rules (codes "CONFIG") (codes "STATE") state_in v u iv iu
+    (refl, refl, (refl, refl, tt)) refl refl refl refl refl refl)
 
 two_words : (word v u : Text) → is_some (command_for (word ∷ v ∷ u ∷ [])) ≡ true → IsSplit (word ∷ v ∷ u ∷ [])
 two_words word v u h =
@@ -290,10 +259,15 @@ three_tests x y false b c d e h = let bad : false ≡ true = h in cc
 
 three_case : (word v u t : Text) → is_value v ≡ true → is_value u ≡ true → is_value t ≡ true
     → (bytes_eq word (codes "soak") ≡ true) ⊎ (bytes_eq word (codes "part") ≡ true) → IsSplit (word ∷ v ∷ u ∷ t ∷ [])
+unfolding walked walk_passes
 three_case word v u t iv iu it (inl e) =
-    subst (λ (w : Text). IsSplit (w ∷ v ∷ u ∷ t ∷ [])) (sym (is_text word (codes "soak") e)) (soak_split v u t iv iu it)
+    said word (codes "soak") (v ∷ u ∷ t ∷ []) e
+    (three_split (codes "soak") soak_rules (codes "SEED") (codes "PORTS") (codes "SLOTS") numbers_in v u t
+    iv iu it (refl, refl, (refl, refl, (refl, refl, tt))) refl refl refl refl refl refl refl)
 three_case word v u t iv iu it (inr e) =
-    subst (λ (w : Text). IsSplit (w ∷ v ∷ u ∷ t ∷ [])) (sym (is_text word (codes "part") e)) (part_split v u t iv iu it)
+    said word (codes "part") (v ∷ u ∷ t ∷ []) e
+    (three_split (codes "part") part_rules (codes "CONFIG") (codes "SLOTS") (codes "STATE") slots_in v u t
+    iv iu it (refl, refl, (refl, refl, (refl, refl, tt))) refl refl refl refl refl refl refl)
 
 three_words : (word v u t : Text) → is_some (command_for (word ∷ v ∷ u ∷ t ∷ [])) ≡ true →
     IsSplit (word ∷ v ∷ u ∷ t ∷ [])
