@@ -1,6 +1,6 @@
 -- Only proofs use this.
 -- An ideal switch of three ports and two classes, as the tests try it.
-use Rattle.std.specs.Prelude.{◌≡◌, ℕ, ◌<◌, ◌≤◌, false, List, length}
+use Rattle.std.specs.Prelude.{◌≡◌, ℕ, ◌+◌, ◌<◌, ◌≤◌, false, List, length}
 use Rattle.cq_base.specs.Room.{RoomView}
 use Rattle.cq_base.specs.declared.cell.Departure.{Departure}
 use Rattle.cq_rank.specs.Machine.{Machine}
@@ -19,3 +19,9 @@ pub record CanStep (ms : List Machine) (ideal : IdealSwitch) (room : RoomView De
   pub counts : CanCount 3 ideal.refused
   -- each output can send a cell
   pub sent : 3 ≤ room.spare
+
+-- it had its next slot: no more cells went into a list, and no more were refused at an output, than arrive at 64 places
+pub record HasStepped (old new : IdealSwitch) : Type 0 where
+  pub next : new.next ≡ old.next + 1
+  pub spare : (j : ℕ) → j < 3 → spare_at old j ≤ spare_at new j + 64
+  pub counts : (n : ℕ) → CanCount (n + 64) old.refused → CanCount n new.refused

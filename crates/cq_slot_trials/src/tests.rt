@@ -1,6 +1,5 @@
 //! The trials, by the crate that they try, and what they share.
 mod coming;
-mod draws;
 mod engine;
 mod fabric;
 mod ideal;

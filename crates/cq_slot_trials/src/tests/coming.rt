@@ -51,6 +51,20 @@ impl<const PORTS: u16> Coming<PORTS> {
         self.with_cell(id, output, class)
     }
 
+    /// And the second cell of the packet comes to the input.
+    pub(super) fn with_second(self, input: Port, packet: u32, output: Port) -> Coming<PORTS>
+        requires few { PORTS ≤ 64 }
+        requires input { input < PORTS }
+        requires output { output < PORTS }
+    {
+        let id = CellId {
+            input,
+            packet,
+            index: 1,
+        };
+        self.with_cell(id, output, 0)
+    }
+
     /// And the cell with this id comes to its input.
     #[tactic(auto, using(crate::proofs::Arriving::for_ports_with))]
     pub(super) fn with_cell(self, id: CellId, output: Port, class: Class) -> Coming<PORTS>

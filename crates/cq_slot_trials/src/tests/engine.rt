@@ -6,15 +6,15 @@ ghost use Rattle.cq_engine.specs.Engine.{IsMadeAs};
 ghost use Rattle.cq_slot_trials.specs.Trial.{HasGrown, IsOnTrial};
 
 use super::coming::Coming;
-use super::draws::Draws;
-use super::outputs::{first_come, note_departures};
+use super::outputs::{first_come, note_departures, refused_at};
 use super::slow::{LEVELS, PRIORITIES, Slow};
 use cq_base::{
-    CellId, ClassRow, Departure, InputFigures, NoMemory, OutputFigures, Queued, Room, Sequence,
-    TagFault, Transfer,
+    CellId, ClassRow, Departure, Figures, InputFigures, NoMemory, OutputFigures, Queued, Room,
+    Sequence, TagFault, Transfer,
 };
-use cq_engine::{Engine, Gate, OpenGate, Refused};
+use cq_engine::{Engine, Gate, OpenGate};
 use cq_rank::{FirstCome, Priority, Rank};
+use cq_trial_kit::Draws;
 use std::alloc::Global;
 use std::test::Fail;
 use std::thread::Threads;
@@ -62,6 +62,11 @@ impl Told {
             crossed: Vec::new(alloc),
             fault: None,
         }
+    }
+
+    // Whether these departures and these transfers are told, and no fault.
+    fn is(&self, sent: &[[u64; 4]], crossed: &[[u64; 5]]) -> bool {
+        self.sent.as_slice() == sent && self.crossed.as_slice() == crossed && self.fault.is_none()
     }
 
     // The departures and the transfers of a slot.
@@ -161,14 +166,22 @@ fn a_new_cell_goes_ahead_of_an_older_one_for_a_busy_output(rt: HostRuntime) -> R
     ];
     for workers in 1..3 {
         let (engine, told) = worked(&rt, rt.alloc(), NO_LIMITS, worked_slots(), workers)?;
-        assert_eq!(rt; told.sent.as_slice(), &sent[..]);
-        assert_eq!(rt; told.crossed.as_slice(), &crossed[..]);
-        assert!(rt; told.fault.is_none());
-        assert!(rt; engine.empty());
-        assert!(rt; !engine.stopped());
-        assert_eq!(rt; engine.next(), 3);
+        assert!(rt; told.is(&sent, &crossed), "{workers} workers");
+        assert!(rt; engine.empty() && !engine.stopped() && engine.next() == 3);
     }
     Ok(())
+}
+
+// Whether the slots, the proposals and the most of them are these, and what was seen of each port.
+fn are(
+    figures: &Figures,
+    sums: [u64; 3],
+    inputs: &[InputFigures],
+    outputs: &[OutputFigures],
+) -> bool {
+    [figures.slots, figures.proposals, figures.most] == sums
+        && figures.inputs.as_slice() == inputs
+        && figures.outputs.as_slice() == outputs
 }
 
 #[test]
@@ -187,9 +200,7 @@ fn figures_count_cells_proposals_slack_and_waits(rt: HostRuntime) -> Result<(), 
         of_output(0, None),
         of_output(0, None),
     ];
-    assert_eq!(rt; [figures.slots, figures.proposals, figures.most], [3, 7, 3]);
-    assert_eq!(rt; figures.inputs.as_slice(), &inputs[..]);
-    assert_eq!(rt; figures.outputs.as_slice(), &outputs[..]);
+    assert!(rt; are(&figures, [3, 7, 3], &inputs, &outputs));
     Ok(())
 }
 
@@ -209,6 +220,15 @@ struct Standing {
     lists: Vec<usize>,
     buffers: Vec<usize>,
     marks: Vec<bool>,
+}
+
+impl Standing {
+    fn is(&self, next: u64, lists: [usize; 4], buffers: [usize; 4], marks: [bool; 4]) -> bool {
+        self.next == next
+            && self.lists.as_slice() == lists.as_slice()
+            && self.buffers.as_slice() == buffers.as_slice()
+            && self.marks.as_slice() == marks.as_slice()
+    }
 }
 
 // The slot that comes next, how many cells wait at each input and in each buffer, and the marks.
@@ -234,21 +254,13 @@ fn an_engine_that_stands_still_tells_what_waits(rt: HostRuntime) -> Result<(), F
     let (engine, _) = worked(&rt, rt.alloc(), NO_LIMITS, late_slots(), 2)?;
     assert!(rt; !engine.stopped());
     let tells = what_waits(rt.alloc(), &engine)?;
-    assert_eq!(rt; tells.next, 3);
-    assert_eq!(rt; tells.lists.as_slice(), &[0, 0, 1, 0][..]);
-    assert_eq!(rt; tells.buffers.as_slice(), &[1, 0, 0, 0][..]);
-    assert_eq!(rt; tells.marks.as_slice(), &[false; 4][..]);
+    assert!(rt; tells.is(3, [0, 0, 1, 0], [1, 0, 0, 0], [false; 4]));
     Ok(())
 }
 
 // Cells of three inputs come for output 0, then the second cell of input 2's packet, and then another packet there.
 fn crowded_slots() -> [Coming<4>; 3] {
-    let second = CellId {
-        input: 2,
-        packet: 0,
-        index: 1,
-    };
-    let rest = Coming::nothing().with_cell(second, 0, 0);
+    let rest = Coming::nothing().with_second(2, 0, 0);
     let next = Coming::nothing().with_packet(2, 1, 0, 0);
     [Coming::three(), rest, next]
 }
@@ -260,20 +272,8 @@ fn an_output_is_full_of_what_waits_for_it_at_inputs(rt: HostRuntime) -> Result<(
     let limits = [Some(2), None, Some(1), None];
     let (engine, told) = worked(&rt, rt.alloc(), limits, crowded_slots(), 2)?;
     let sent = [[0, 0, 0, 0], [1, 0, 1, 0], [2, 0, 2, 1]];
-    assert_eq!(rt; told.sent.as_slice(), &sent[..]);
-    let at_zero = Refused {
-        output: 0,
-        limit: 2,
-        packets: 1,
-        cells: 2,
-    };
-    let at_two = Refused {
-        output: 2,
-        limit: 1,
-        packets: 0,
-        cells: 0,
-    };
-    assert_eq!(rt; engine.refused(), &[at_zero, at_two][..]);
+    let refused = [refused_at(0, 2, 1, 2), refused_at(2, 1, 0, 0)];
+    assert!(rt; told.sent.as_slice() == &sent[..] && engine.refused() == &refused[..]);
     Ok(())
 }
 
@@ -291,8 +291,8 @@ fn drawn_arrivals(draws: &mut Draws, slot: u32, ports: u16) -> Coming<4>
                 packet: slot,
                 index: u32::from(draws.below(3) == 0),
             };
-            let output = draws.below(ports);
-            coming = coming.with_cell(id, output, draws.below(2));
+            let output = draws.below(u64::from(ports)) as u16;
+            coming = coming.with_cell(id, output, draws.below(2) as u16);
         }
     }
     coming
@@ -302,8 +302,8 @@ fn drawn_arrivals(draws: &mut Draws, slot: u32, ports: u16) -> Coming<4>
 fn drawn_slots(alloc: Global, seed: u64) -> Result<Vec<Coming<4>>, NoMemory>
     ensures { IfOk result (λ slots. length slots.items ≡ 40) }
 {
-    let mut draws = Draws { state: seed };
-    let ports = 2 + draws.below(3);
+    let mut draws = Draws::from_seed(seed);
+    let ports = 2 + draws.below(3) as u16;
     let mut slots = Vec::new(alloc);
     'slots: for slot in 0..40 {
         let coming = if slot < 30 {
@@ -318,12 +318,12 @@ fn drawn_slots(alloc: Global, seed: u64) -> Result<Vec<Coming<4>>, NoMemory>
 
 // Of each output the limit, from 1 to 6 cells, or none.
 fn drawn_limits(seed: u64) -> [Option<u64>; 4] {
-    let mut draws = Draws { state: seed };
+    let mut draws = Draws::from_seed(seed);
     let mut limits = NO_LIMITS;
     for limit in &mut limits {
         let drawn = draws.below(9);
         if drawn > 2 {
-            *limit = Some(u64::from(drawn - 2));
+            *limit = Some(drawn - 2);
         }
     }
     limits
@@ -371,6 +371,14 @@ fn prioritized<T: Threads + Sync>(
     Ok((engine, told))
 }
 
+// Whether the engine came to what the plain slow fabric came to.
+fn is_as_plain(engine: &Engine<Priority>, told: &Told, plain: &Slow) -> bool {
+    let sums = [plain.slots, plain.proposals, plain.most];
+    told.is(plain.told.sent.as_slice(), plain.told.crossed.as_slice())
+        && are(engine.figures(), sums, &plain.inputs, &plain.outputs)
+        && engine.refused() == plain.refused.as_slice()
+}
+
 #[test]
 fn drawn_slots_are_as_in_the_plain_slow_fabric(rt: HostRuntime) -> Result<(), Fail> {
     for seed in 1..17 {
@@ -379,29 +387,7 @@ fn drawn_slots_are_as_in_the_plain_slow_fabric(rt: HostRuntime) -> Result<(), Fa
         let plain = Slow::run(rt.alloc(), limits, &slots)?;
         for workers in 1..3 {
             let (engine, told) = prioritized(&rt, rt.alloc(), limits, &slots, workers)?;
-            let figures = engine.figures();
-            assert_eq!(rt;
-                told.sent.as_slice(),
-                plain.told.sent.as_slice(),
-                "seed {seed}"
-            );
-            assert_eq!(rt;
-                told.crossed.as_slice(),
-                plain.told.crossed.as_slice(),
-                "seed {seed}"
-            );
-            assert_eq!(rt; figures.inputs.as_slice(), &plain.inputs[..], "seed {seed}");
-            assert_eq!(rt;
-                figures.outputs.as_slice(),
-                &plain.outputs[..],
-                "seed {seed}"
-            );
-            assert_eq!(rt;
-                [figures.slots, figures.proposals, figures.most],
-                [plain.slots, plain.proposals, plain.most],
-                "seed {seed}"
-            );
-            assert_eq!(rt; engine.refused(), plain.refused.as_slice(), "seed {seed}");
+            assert!(rt; is_as_plain(&engine, &told, &plain), "seed {seed}");
         }
     }
     Ok(())

@@ -1,13 +1,11 @@
 //! Worked slots, the tag fault, and the call that wants memory, with ample memory.
-ghost use Rattle.std.specs.Prelude.{◌≡◌, ◌+◌, ◌<◌, ◌≤◌, ℕ, OnOk, is_err, length, map};
+ghost use Rattle.std.specs.Prelude.{◌≡◌, OnOk, is_err, length, map};
 ghost use Rattle.cq_rank.specs.Switch.{AreForOneSwitch, class_count};
-ghost use Rattle.cq_ideal.specs.Ideal.{spare_at};
-ghost use Rattle.cq_ideal.specs.Limiter.{CanCount};
-ghost use Rattle.cq_slot_trials.specs.ThreePorts.{CanStep};
+ghost use Rattle.cq_slot_trials.specs.ThreePorts.{CanStep, HasStepped};
 
 use super::coming::Coming;
-use super::outputs::{first_come, note_departures};
-use cq_base::{CellId, Class, Departure, NoMemory, Room, TagFault};
+use super::outputs::{first_come, note_departures, refused_at};
+use cq_base::{Class, Departure, NoMemory, Room, TagFault};
 use cq_ideal::{Ideal, Refused};
 use cq_rank::{FirstCome, Rank, TagOverflow};
 use std::alloc::Global;
@@ -71,10 +69,8 @@ fn step<R: Rank>(
     requires { CanStep (map R.machine ideal.old.fixed) ideal.old sent.old }
     ensures fixed { ideal.new.fixed ≡ ideal.old.fixed }
     ensures rooms { ideal.new.rooms ≡ ideal.old.rooms }
-    ensures next { OnOk result (ideal.new.next ≡ ideal.old.next + 1) }
     ensures stopped { ideal.new.stopped ≡ is_err result }
-    ensures spare { OnOk result ((j : ℕ) → j < 3 → spare_at ideal.old j ≤ spare_at ideal.new j + 64) }
-    ensures counts { OnOk result ((n : ℕ) → CanCount (n + 64) ideal.old.refused → CanCount n ideal.new.refused) }
+    ensures stepped { OnOk result (HasStepped ideal.old ideal.new) }
 {
     // Its contract tells that there are 64 places.
     let _places = coming.arrivals.at(0);
@@ -128,6 +124,16 @@ fn departures<R: Rank>(
     what_came(alloc, &ideal, left, None)
 }
 
+// Three slots of a switch whose outputs send in the order of arrival.
+fn first_come_departures(
+    alloc: Global,
+    limits: [Option<u64>; 3],
+    slots: [Coming<3>; 3],
+) -> Result<Slots, NoMemory> {
+    let ranks = vec![in alloc; first_come(alloc)?, first_come(alloc)?, first_come(alloc)?]?;
+    departures(alloc, ranks, limits, slots)
+}
+
 // The machine that refuses class 1.
 fn refusing(alloc: Global) -> Result<RefusesClassOne, NoMemory> {
     Ok(RefusesClassOne {
@@ -137,35 +143,23 @@ fn refusing(alloc: Global) -> Result<RefusesClassOne, NoMemory> {
 
 #[test]
 fn cells_for_one_output_leave_in_the_order_of_their_inputs(rt: HostRuntime) -> Result<(), Fail> {
-    let alloc = rt.alloc();
-    let ranks = vec![in alloc; first_come(alloc)?, first_come(alloc)?, first_come(alloc)?]?;
     let both = Coming::nothing()
         .with_packet(1, 0, 0, 0)
         .with_packet(0, 0, 0, 0);
-    let ran = departures(
-        rt.alloc(),
-        ranks,
-        NO_LIMITS,
-        [both, Coming::nothing(), Coming::nothing()],
-    )?;
-    assert_eq!(rt; ran.left.as_slice(), &[[0, 0, 0, 0], [1, 0, 1, 0]][..]);
-    assert!(rt; ran.fault.is_none());
+    let slots = [both, Coming::nothing(), Coming::nothing()];
+    let ran = first_come_departures(rt.alloc(), NO_LIMITS, slots)?;
+    let sent = [[0, 0, 0, 0], [1, 0, 1, 0]];
+    assert!(rt; ran.left.as_slice() == &sent[..] && ran.fault.is_none());
     Ok(())
 }
 
 #[test]
 fn a_cell_does_not_wait_for_another_output(rt: HostRuntime) -> Result<(), Fail> {
-    let alloc = rt.alloc();
-    let ranks = vec![in alloc; first_come(alloc)?, first_come(alloc)?, first_come(alloc)?]?;
     let later = Coming::nothing().with_packet(2, 1, 1, 0);
-    let ran = departures(
-        rt.alloc(),
-        ranks,
-        NO_LIMITS,
-        [Coming::three(), later, Coming::nothing()],
-    )?;
+    let slots = [Coming::three(), later, Coming::nothing()];
+    let ran = first_come_departures(rt.alloc(), NO_LIMITS, slots)?;
     let sent = [[0, 0, 0, 0], [1, 0, 1, 0], [1, 1, 2, 1], [2, 0, 2, 0]];
-    assert_eq!(rt; ran.left.as_slice(), &sent[..]);
+    assert!(rt; ran.left.as_slice() == &sent[..]);
     Ok(())
 }
 
@@ -180,52 +174,30 @@ fn the_first_input_whose_rank_does_not_fit_stops_the_switch(rt: HostRuntime) -> 
         .with_packet(0, 1, 0, 0)
         .with_packet(1, 1, 2, 1)
         .with_packet(2, 0, 1, 1);
-    let ran = departures(
-        rt.alloc(),
-        ranks,
-        NO_LIMITS,
-        [first, second, Coming::nothing()],
-    )?;
-    assert_eq!(rt; ran.left.as_slice(), &[[0, 1, 1, 0], [0, 2, 0, 0]][..]);
+    let slots = [first, second, Coming::nothing()];
+    let ran = departures(rt.alloc(), ranks, NO_LIMITS, slots)?;
+    let sent = [[0, 1, 1, 0], [0, 2, 0, 0]];
     let stated = TagFault {
         slot: 1,
         input: 1,
         output: 2,
     };
-    assert_eq!(rt; ran.fault, Some(stated));
+    assert!(rt; ran.left.as_slice() == &sent[..] && ran.fault == Some(stated));
     Ok(())
 }
 
 #[test]
 fn a_packet_that_finds_its_output_full_is_refused_whole(rt: HostRuntime) -> Result<(), Fail> {
-    let alloc = rt.alloc();
-    let ranks = vec![in alloc; first_come(alloc)?, first_come(alloc)?, first_come(alloc)?]?;
     let first = Coming::nothing()
         .with_packet(0, 0, 0, 0)
         .with_packet(1, 0, 0, 0);
-    let second = CellId {
-        input: 1,
-        packet: 0,
-        index: 1,
-    };
-    let rest = Coming::nothing().with_cell(second, 0, 0);
+    let rest = Coming::nothing().with_second(1, 0, 0);
     let next = Coming::nothing().with_packet(1, 1, 0, 0);
     let limits = [Some(1), None, Some(2)];
-    let ran = departures(rt.alloc(), ranks, limits, [first, rest, next])?;
-    assert_eq!(rt; ran.left.as_slice(), &[[0, 0, 0, 0], [2, 0, 1, 1]][..]);
-    let at_zero = Refused {
-        output: 0,
-        limit: 1,
-        packets: 1,
-        cells: 2,
-    };
-    let at_two = Refused {
-        output: 2,
-        limit: 2,
-        packets: 0,
-        cells: 0,
-    };
-    assert_eq!(rt; ran.refused.as_slice(), &[at_zero, at_two][..]);
+    let ran = first_come_departures(rt.alloc(), limits, [first, rest, next])?;
+    let sent = [[0, 0, 0, 0], [2, 0, 1, 1]];
+    let refused = [refused_at(0, 1, 1, 2), refused_at(2, 2, 0, 0)];
+    assert!(rt; ran.left.as_slice() == &sent[..] && ran.refused.as_slice() == &refused[..]);
     Ok(())
 }
 
@@ -233,8 +205,6 @@ fn a_packet_that_finds_its_output_full_is_refused_whole(rt: HostRuntime) -> Resu
 fn a_new_switch_is_empty_and_runs(rt: HostRuntime) -> Result<(), Fail> {
     let ranks = vec![in rt.alloc(); first_come(rt.alloc())?]?;
     let ideal = Ideal::new(rt.alloc(), ranks, &[1], &[None])?;
-    assert!(rt; ideal.empty());
-    assert!(rt; !ideal.stopped());
-    assert_eq!(rt; ideal.next(), 0);
+    assert!(rt; ideal.empty() && !ideal.stopped() && ideal.next() == 0);
     Ok(())
 }

@@ -36,13 +36,13 @@ pub slots-preserved : goal.slots-preserved
 slots-preserved g c =
     record {
       running = search rules;
-      next = search rules;
+      next = let next = c.in_default.ensures.stepped.next in omega arith;
       ports = search rules;
       rooms = search rules;
       classes = search rules;
-      counts = λ n few. c.in_default.ensures.counts n (c.slots.invariant.counts (n + 64) (omega arith));
+      counts = λ n few. c.in_default.ensures.stepped.counts n (c.slots.invariant.counts (n + 64) (omega arith));
       spare = λ j inside.
           let was = c.slots.invariant.spare j inside in
-          let now = c.in_default.ensures.spare j inside in
+          let now = c.in_default.ensures.stepped.spare j inside in
           omega arith;
     }

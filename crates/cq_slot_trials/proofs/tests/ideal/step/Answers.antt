@@ -34,27 +34,22 @@ slot-requires g c =
       sent = omega arith;
     }
 
-pub returns-clause-spare : goal.returns-clause-spare
-returns-clause-spare g c =
+pub returns-clause-stepped : goal.returns-clause-stepped
+returns-clause-stepped g c =
     let cells = c.args.coming.now.arrivals in
     let old = marked_state c.args.ideal.now in
+    let places = c.at-places.ensures.arrivals.places in
     after_slot c.args.ideal.now.limits (map g.R.Rank.machine c.args.ideal.now.fixed) c.next.result cells old
     c.slot.result _ _ c.slot.ensures.answer c.slot.ensures.slot
-    (λ sent is done j inside.
-    let rooms = c.requires.rooms in
-    let spare = done.spare j (omega arith) in
-    let places = c.at-places.ensures.arrivals.places in
-    let most = admitted_most c.args.ideal.now.limits (ideal_held old.state) old.marks cells j sent.admission is in
-    omega arith)
-
-pub returns-clause-counts : goal.returns-clause-counts
-returns-clause-counts g c =
-    let cells = c.args.coming.now.arrivals in
-    let old = marked_state c.args.ideal.now in
-    after_slot c.args.ideal.now.limits (map g.R.Rank.machine c.args.ideal.now.fixed) c.next.result cells old
-    c.slot.result _ _ c.slot.ensures.answer c.slot.ensures.slot
-    (λ sent is done n can.
-    let places = c.at-places.ensures.arrivals.places in
-    let few = refusals_most c.args.ideal.now.limits (ideal_held old.state) old.marks cells sent.admission is in
-    subst (CanCount n) (sym done.refused) (counts_fit sent.admission.refused n 64 c.args.ideal.now.refused can
-    (omega arith)))
+    (λ sent is done. record {
+      next = let now = c.next.ensures in let next = done.next in omega arith;
+      spare = λ j inside.
+          let rooms = c.requires.rooms in
+          let spare = done.spare j (omega arith) in
+          let most = admitted_most c.args.ideal.now.limits (ideal_held old.state) old.marks cells j sent.admission is in
+          omega arith;
+      counts = λ n can.
+          let few = refusals_most c.args.ideal.now.limits (ideal_held old.state) old.marks cells sent.admission is in
+          subst (CanCount n) (sym done.refused) (counts_fit sent.admission.refused n 64 c.args.ideal.now.refused can
+          (omega arith));
+    })
