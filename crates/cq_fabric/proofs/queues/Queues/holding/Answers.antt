@@ -91,22 +91,15 @@ invariant_of-result c =
           (omega (arith, c.type_inv.to_outputs k)));
     }
 
-pub returns-clause-inputs : goal.returns-clause-inputs
-returns-clause-inputs c =
-    (lists_filled (goal.at.returns-clause-inputs c).In_ok-offers).cells
-    ∙ take_all (length c.args.from_inputs.now) c.args.lists.now (omega arith)
-
-pub returns-clause-buffers : goal.returns-clause-buffers
-returns-clause-buffers c =
-    (buffers_filled (goal.at.returns-clause-buffers c).In_ok-offers).cells
-    ∙ take_all (length c.args.to_outputs.now) c.args.buffers.now (omega arith)
-
-pub returns-clause-from_inputs : goal.returns-clause-from_inputs
-returns-clause-from_inputs c =
-    (lists_filled (goal.at.returns-clause-from_inputs c).In_ok-offers).rooms
-    ∙ take_all (length c.args.from_inputs.now) c.args.from_inputs.now (omega arith)
-
-pub returns-clause-to_outputs : goal.returns-clause-to_outputs
-returns-clause-to_outputs c =
-    (buffers_filled (goal.at.returns-clause-to_outputs c).In_ok-offers).rooms
-    ∙ take_all (length c.args.to_outputs.now) c.args.to_outputs.now (omega arith)
+pub returns : goal.returns
+returns c =
+    let lists = lists_filled (goal.at.returns c).In_ok-offers in
+    let buffers = buffers_filled (goal.at.returns c).In_ok-offers in
+    let n = length c.args.to_outputs.now in
+    let k = length c.args.from_inputs.now in
+    record {
+      inputs = lists.cells ∙ take_all k c.args.lists.now (omega arith);
+      buffers = buffers.cells ∙ take_all n c.args.buffers.now (omega arith);
+      from_inputs = lists.rooms ∙ take_all k c.args.from_inputs.now (omega arith);
+      to_outputs = buffers.rooms ∙ take_all n c.args.to_outputs.now (omega arith);
+    }
