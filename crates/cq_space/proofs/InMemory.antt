@@ -94,6 +94,9 @@ closed_still c d state.Shut closed = refl
 closed_still c d (state.Reads at place) closed = absurd (let P : ⊥ = cc in P)
 closed_still c d (state.Writes at) closed = absurd (let P : ⊥ = cc in P)
 
+abbrev pub starved_of : MemSpace → ℕ
+starved_of m = m.starved
+
 -- the meaning of columns, by its parts
 seen_as : (new : Columns) (s : State) (v : MemSpace) → mode_of new s ≡ v.mode → contents_of new ≡ v.contents →
     read_cuts_of new ≡ v.read_cuts → write_cuts_of new ≡ v.write_cuts →

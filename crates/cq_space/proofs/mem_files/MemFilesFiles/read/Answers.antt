@@ -2,7 +2,7 @@ use Rattle.std.proofs.Common.{◌≤◌, ◌∙◌, ap, refl, arith, inr, rules}
 use Rattle.cq_space.specs.MemSpace.{MemSpace}
 use Rattle.cq_space.specs.Calls.{one_more}
 use Rattle.cq_space.specs.Cut.{IsReached, StaysBefore}
-use Rattle.cq_space.proofs.InMemory.{stands, of_read, short_before, stays_less, reads_on}
+use Rattle.cq_space.proofs.InMemory.{starved_of, stands, of_read, short_before, stays_less, reads_on}
 use Rattle.cq_space.proofs.mem_files.MemFilesFiles.read.Goals as goal
 
 pub returns-in-Some-clause-next : goal.returns-in-Some-clause-next
@@ -34,9 +34,7 @@ returns-in-None-clause-answered c = record {
         cut =
             of_read IsReached c.index-entry.result.now (stands c.in-Reads.is c.self.view_is c.self.invariant)
             c.index-entry.ensures c.in-None.ensures.reached;
-        starved =
-            ap (λ (m : MemSpace). m.starved) c.fault-in-None.ensures.closed
-            ∙ ap (λ (m : MemSpace). m.starved) c.self.view_is;
+        starved = ap starved_of c.fault-in-None.ensures.closed ∙ ap starved_of c.self.view_is;
       });
   passed = tt;
   counted = search rules;

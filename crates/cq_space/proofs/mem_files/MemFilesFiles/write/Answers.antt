@@ -3,7 +3,7 @@ use Rattle.cq_space.specs.MemSpace.{MemSpace}
 use Rattle.cq_space.specs.Calls.{one_more}
 use Rattle.cq_space.specs.Cut.{IsReached, StaysBefore}
 use Rattle.cq_space.specs.Entries.{Columns, bytes_at, with_bytes}
-use Rattle.cq_space.proofs.InMemory.{written_back, stands, of_write, short_before, appends}
+use Rattle.cq_space.proofs.InMemory.{starved_of, written_back, stands, of_write, short_before, appends}
 use Rattle.cq_space.proofs.mem_files.MemFilesFiles.write.Goals as goal
 
 pub returns-in-Ok-clause-ok : goal.returns-in-Ok-clause-ok
@@ -37,9 +37,7 @@ returns-in-None-clause-answered c = record {
             of_write IsReached c.index-entry.result.now c.held.result.now
             (stands c.in-Writes.is c.self.view_is c.self.invariant) c.index-entry.ensures c.held.ensures
             c.in-None.ensures.reached;
-        starved =
-            ap (λ (m : MemSpace). m.starved) c.fault-in-None.ensures.closed
-            ∙ ap (λ (m : MemSpace). m.starved) c.self.view_is;
+        starved = ap starved_of c.fault-in-None.ensures.closed ∙ ap starved_of c.self.view_is;
       }));
   passed = tt;
   counted = search rules;
