@@ -5,7 +5,8 @@ use Rattle.cq_state.proofs.write.rank_fields.Goals as goal
 
 pub returns : goal.returns
 returns c =
-    let put =
-    items_from_extend c.extend.result c.extend.ensures.ran
-    (YieldsList-from_map _ Some (YieldsList-from_slice c.args.numbers.now cc) (cc) (λ x r q k. search rules)) in
-    search rules
+    search (
+      rules,
+      items_from_extend c.extend.result c.extend.ensures.ran
+          (YieldsList-from_map _ Some (YieldsList-from_slice c.args.numbers.now cc) (cc) (λ x r q k. search rules)),
+    )
