@@ -6,7 +6,8 @@ use Rattle.cq_resume.proofs.write.put_named.Goals as goal
 
 pub returns : goal.returns
 returns c =
-    let put =
-    items_from_extend c.extend.result c.extend.ensures.ran
-    (YieldsList-from_map _ named_as (YieldsList-from_slice c.args.cells.now cc) (cc) (λ x r q k. search rules)) in
-    search rules
+    search (
+      rules,
+      items_from_extend c.extend.result c.extend.ensures.ran
+          (YieldsList-from_map _ named_as (YieldsList-from_slice c.args.cells.now cc) (cc) (λ x r q k. search rules)),
+    )

@@ -8,6 +8,5 @@ returns-in_err-row-clause-refused c =
 
 pub classes-preserved : goal.classes-preserved
 classes-preserved c =
-    let told = c.in_ok-row.ensures in
-    walked_more c.classes.invariant _ (omega arith) c.index-values-index.is told.held told.value
-    (told.level, told.cost) (search rules)
+    walked_more c.classes.invariant _ (omega arith) c.index-values-index.is c.in_ok-row.ensures.held
+    c.in_ok-row.ensures.value (c.in_ok-row.ensures.level, c.in_ok-row.ensures.cost) (search rules)

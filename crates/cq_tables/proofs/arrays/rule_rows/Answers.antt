@@ -8,6 +8,5 @@ returns-in_err-row-clause-refused c =
 
 pub rules-preserved : goal.rules-preserved
 rules-preserved c =
-    let told = c.in_ok-row.ensures in
-    walked_more c.rules.invariant _ (omega arith) c.index-values-index.is told.held told.value
-    (told.input, told.class) (search rules)
+    walked_more c.rules.invariant _ (omega arith) c.index-values-index.is c.in_ok-row.ensures.held
+    c.in_ok-row.ensures.value (c.in_ok-row.ensures.input, c.in_ok-row.ensures.class) (search rules)
