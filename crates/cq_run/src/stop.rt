@@ -45,6 +45,20 @@ impl From<NoMemory> for Halt {
     }
 }
 
+impl From<NoMemory> for Stop {
+    ghost use Rattle.std.specs.Prelude.{◌≡◌};
+    ghost use Rattle.cq_run.specs.declared.stop.Halt.TheVariants.{NoMemory as no_memory};
+    ghost use Rattle.cq_run.specs.declared.stop.Stop.TheVariants.{Halted};
+
+    ghost from_gives = { λ _ stop. stop ≡ Halted no_memory };
+
+    fn from(_: NoMemory) -> Self {
+        Stop::Halted {
+            halt: Halt::NoMemory,
+        }
+    }
+}
+
 impl From<Halt> for Stop {
     ghost use Rattle.std.specs.Prelude.{◌≡◌};
     ghost use Rattle.cq_run.specs.declared.stop.Stop.TheVariants.{Halted};

@@ -19,7 +19,7 @@ ghost use Rattle.cq_run.specs.StatusCauses.{StatusCauses};
 use crate::judge::run_ahead;
 use crate::perform::perform;
 use crate::top::answer;
-use crate::{Command, Halt, Stop, switch_top};
+use crate::{Command, Stop, switch_top};
 use cq_base::{Name, Status};
 use cq_crew::Gate;
 use cq_space::{Files, Sink};
@@ -103,7 +103,7 @@ where
         (Some (Command.Run config.now)) files.old files.new out.old out.new result }
     ensures closed { (F.space files.new).mode ≡ Closed }
 {
-    let name = Name::of(alloc, config).map_err(Halt::from)?;
+    let name = Name::of(alloc, config)?;
     let work = run_ahead(rt, alloc, files, name, gate, watch)?;
     perform(files, out, work)?;
     Ok(())

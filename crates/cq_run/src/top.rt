@@ -114,7 +114,7 @@ fn run<R: Threads + Sync, F: Files, O: Sink, G: Gate>(
         (command_for (map string_bytes words.now)) files.old files.new out.old out.new result }
     ensures closed { (F.space files.new).mode ≡ Closed }
 {
-    match command_of(alloc, words).map_err(Halt::from)? {
+    match command_of(alloc, words)? {
         Some(command) => obey(rt, alloc, files, out, command, gate),
         None => Err(Stop::from(Halt::Refused {
             refusal: Refusal::Words,
