@@ -24,7 +24,8 @@ pub fn read_text(alloc: Global, text: &[u8]) -> Result<State, LineRefusal>
     let mut line: u64 = 1;
     let mut to = [None; MOST_FIELDS];
     'lines: while let Some((kind, count, next, behind)) = next_line(place, rest, &mut to) {
-        told.add(alloc, kind, &to[..count]).or(Err(LineRefusal::NoMemory))?;
+        told.add(alloc, kind, &to[..count])
+            .or(Err(LineRefusal::NoMemory))?;
         place = next;
         rest = behind;
         line += 1;
