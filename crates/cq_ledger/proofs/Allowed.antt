@@ -5,7 +5,7 @@ use Rattle.std.proofs.lemmas.Bool.{cases_eq}
 use Rattle.std.proofs.lemmas.List.{set-get_or}
 use Rattle.std.proofs.lemmas.List.Sums.{get_or-le-sum_by}
 use Rattle.atomic_table.proofs.Lists.{set_here, set_else, set_again}
-use Rattle.atomic_table.specs.Table.{step, Act, keeps, Valid, carried_after, Allows, Splits, Joins}
+use Rattle.atomic_table.specs.Table.{step, keeps, Allows, Splits, Joins}
 use Rattle.cq_prefs.specs.Orders.{Orders, ports, position_of, IsOffered}
 use Rattle.cq_prefs.specs.Proposals.{next_place, state_after}
 use Rattle.cq_prefs.proofs.Counts.{events_at_most}

@@ -4,7 +4,6 @@ ghost use Rattle.std.specs.List.{position_or_len};
 ghost use Rattle.cq_base.specs.Key.{is_before};
 ghost use Rattle.cq_base.specs.Cells.{HasOtherKey, MoreUrgentAhead, is_for, has_id, first_for, without_first, with_arrival};
 ghost use Rattle.cq_list.specs.Split.{is_output, place_of_nth, count_of};
-ghost use Rattle.cq_list.specs.Pool.{queue_of};
 ghost use Rattle.cq_list.specs.InputList.{AreWaiting};
 
 use crate::places::Places;

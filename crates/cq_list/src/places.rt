@@ -1,6 +1,6 @@
 //! The outputs of the cells of a list, in order.
-ghost use Rattle.std.specs.Prelude.{◌≡◌, ℕ, ◌+◌, ◌<◌, ◌≤◌, ◌++◌, ◌^◌, [], Some, IfOk, length, take, drop, insert, remove, slice_get, slice_set, slice_index_or, vec_len, vec_capacity};
-ghost use Rattle.std.specs.List.{AllByRecursion, position_or_len, concat};
+ghost use Rattle.std.specs.Prelude.{◌≡◌, ℕ, ◌+◌, ◌<◌, ◌≤◌, ◌^◌, [], Some, IfOk, length, take, insert, remove, slice_get, slice_index_or, vec_capacity};
+ghost use Rattle.std.specs.List.{position_or_len, concat};
 ghost use Rattle.cq_list.specs.Split.{is_output, place_of_nth, count_of};
 ghost use Rattle.cq_list.specs.Places.{IsSpot, IsAhead, AreFilled, HaveMemory, joined, pulled};
 

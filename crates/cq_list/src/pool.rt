@@ -1,9 +1,9 @@
 //! The cells that wait, in a queue for each output.
-ghost use Rattle.std.specs.Prelude.{◌≡◌, ◌≢◌, ℕ, ◌-◌, ◌+◌, ◌<◌, ◌≤◌, ◌==◌, ◌^◌, [], ◌∷◌, Some, IfOk, IsTrue, length, replicate, drop, insert, slice_get, slice_set, is_some, not, if◌then◌else◌};
+ghost use Rattle.std.specs.Prelude.{◌≡◌, ◌-◌, ◌+◌, ◌<◌, ◌==◌, ◌^◌, [], ◌∷◌, Some, IfOk, IsTrue, length, replicate, drop, insert, slice_get, slice_set, not, if◌then◌else◌};
 ghost use Rattle.std.specs.List.{position_or_len};
 ghost use Rattle.cq_base.specs.Key.{is_before};
-ghost use Rattle.cq_base.specs.Cells.{IsRising, HasOtherKey, has_id, put};
-ghost use Rattle.cq_list.specs.Pool.{queue_of, chain, linked, places, cells, EndsAt, IsChained, IsLinked, OthersStay};
+ghost use Rattle.cq_base.specs.Cells.{HasOtherKey, has_id, put};
+ghost use Rattle.cq_list.specs.Pool.{queue_of, chain, linked, cells, EndsAt, IsChained, IsLinked, OthersStay};
 ghost use Rattle.slab.specs.Slab.{get, slab_len, HasRoomFor};
 
 use cq_base::{CellId, Key, NoMemory, Port, Queued};

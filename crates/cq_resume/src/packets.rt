@@ -1,7 +1,7 @@
 //! The packets that have begun: each is named whole or not at all, and then it was refused.
-ghost use Rattle.std.specs.Prelude.{◌≡◌, ◌∷◌, ◌+◌, ◌==◌, ◌<◌, ◌≤◌, ◌^◌, [], if◌then◌else◌, AllPairs, IfNone, IfOk, IfSome, false, length, map, not};
+ghost use Rattle.std.specs.Prelude.{◌≡◌, ◌∷◌, ◌+◌, ◌==◌, ◌<◌, ◌≤◌, ◌^◌, [], if◌then◌else◌, AllPairs, IfNone, IfOk, IfSome, false, length, map};
 ghost use Rattle.cq_ideal.specs.Limiter.{CanCount};
-ghost use Rattle.cq_ideal.specs.Refused.{refused_counts, with_cells, with_refused};
+ghost use Rattle.cq_ideal.specs.Refused.{with_refused};
 ghost use Rattle.cq_resume.specs.Finding.{ArePackets, IsNameBefore, PacketsStand, TalliesUp, coming, has_limit, has_name, mark_on, may_come, unnamed};
 
 use crate::found::{Name, is_named};

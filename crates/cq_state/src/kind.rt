@@ -1,7 +1,7 @@
 //! The kinds of line of a state.
 ghost use Rattle.std.specs.Prelude.{◌≡◌, ◌≢◌, ℕ, ◌≤◌, List, ◌++◌, length, take, Option, IfSome, IfNone, IsTrue, ◌↔◌};
 ghost use Rattle.cq_lines.specs.Lines.{line, ending};
-ghost use Rattle.cq_lines.specs.Ranges.{Within, any_number};
+ghost use Rattle.cq_lines.specs.Ranges.{Within};
 ghost use Rattle.cq_state.specs.StateText.{HasRoom, word, needed, is_free, ranges, further, between, count, count_or_none};
 
 use cq_lines::{Range, behind, take_fields_within};

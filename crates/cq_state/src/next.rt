@@ -1,9 +1,8 @@
 //! The next line of a state's text.
 ghost use Rattle.std.specs.Prelude.{◌≡◌, ◌≢◌, ℕ, ◌+◌, ◌<◌, ◌≤◌, ◌^◌, ◌↔◌, List, ◌++◌, length, take, get_or, unwrap_or, Option, None, IfSome, IfNone, IsTrue};
 ghost use Rattle.cq_lines.specs.Lines.{line};
-ghost use Rattle.cq_lines.specs.Ranges.{Within};
 ghost use Rattle.cq_state.specs.declared.kind.Kind.TheVariants.{Shape};
-ghost use Rattle.cq_state.specs.StateText.{Line, ComesAt, HasRoom, word, ranges, further, ports_behind, spelled, start, MayEnd};
+ghost use Rattle.cq_state.specs.StateText.{Line, ComesAt, ports_behind, spelled, start, MayEnd};
 ghost use Rattle.cq_state.specs.Places.{place_of};
 
 use crate::kind::{Due, KINDS, Kind, MOST_FIELDS, take_due};

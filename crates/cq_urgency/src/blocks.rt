@@ -1,5 +1,5 @@
 //! Cells in blocks, in an order of blocks.
-ghost use Rattle.std.specs.Prelude.{◌≡◌, ◌≢◌, ℕ, ◌+◌, ◌<◌, ◌≤◌, ◌^◌, ◌∷◌, ◌++◌, [], Some, IfOk, length, map, take, drop, insert, slice_get, slice_set, slice_index_or, vec_capacity};
+ghost use Rattle.std.specs.Prelude.{◌≡◌, ◌≢◌, ℕ, ◌+◌, ◌<◌, ◌≤◌, ◌^◌, ◌∷◌, ◌++◌, [], Some, IfOk, length, take, drop, insert, slice_get, slice_set, slice_index_or, vec_capacity};
 ghost use Rattle.std.specs.List.{sum_by};
 ghost use Rattle.cq_urgency.specs.Blocks.{flattened, block_at, cells_in_all, halved, parted, without_first, times, has, ComesIn};
 

@@ -1,5 +1,5 @@
 //! A phase by workers: worked examples by one and by several, and workers who wait for one another.
-ghost use Rattle.std.specs.Prelude.{◌≡◌, ◌<◌, ◌≤◌, IfOk};
+ghost use Rattle.std.specs.Prelude.{◌<◌, ◌≤◌};
 
 use super::opposed::opposed_offers;
 use cq_base::Port;
