@@ -8,7 +8,7 @@ ghost use Rattle.cq_simulate.specs.IdealRuns.{ideal_departures, IsRefusalOf};
 ghost use Rattle.cq_simulate.specs.ScheduleFor.{IsScheduleFor};
 ghost use Rattle.cq_simulate.specs.GoingOn.{HasKept, HasRunOn, IsReadyOn, IsRefusalOn, StopsOn};
 
-use crate::RunResult;
+use crate::RunRefusal;
 use crate::ports::{engine_for, port_count};
 use cq_base::{Departure, Departures, Figures, Room, Slot, TagFault, Transfer};
 use cq_cells::{Coming, Schedule};
@@ -59,7 +59,7 @@ pub fn run_fabric<R: Threads + Sync, G: Gate>(
     tables: &Tables,
     schedule: &Schedule,
     gate: &G,
-) -> RunResult<FabricRun>
+) -> Result<FabricRun, RunRefusal>
     requires { IsScheduleFor tables.now schedule.now }
     ensures run { IfOk result (IsKeptOf tables.now schedule.now.came) }
     ensures as_ideal { IfOk result (λ run. ideal_departures tables.now schedule.now.came ≡ Ok run.sent.items) }
@@ -88,7 +88,7 @@ pub fn run_fabric_packed<R: Threads + Sync, G: Gate>(
     tables: &Tables,
     schedule: &Schedule,
     gate: &G,
-) -> RunResult<PackedFabricRun>
+) -> Result<PackedFabricRun, RunRefusal>
     requires { IsScheduleFor tables.now schedule.now }
     ensures run { IfOk result (λ run. IsKeptOf tables.now schedule.now.came (unpacked_run run)) }
     ensures as_ideal { IfOk result (λ run. ideal_departures tables.now schedule.now.came ≡ Ok run.sent.items) }
@@ -113,7 +113,7 @@ pub fn run_on<T: Threads + Sync, R: Rank, G: Gate>(
     gate: &G,
     mut sent: Departures,
     mut note: Room<Transfer>,
-) -> RunResult<PackedFabricRun>
+) -> Result<PackedFabricRun, RunRefusal>
     requires ready { IsReadyOn (map R.machine engine.fixed) schedule.now.came engine sent note }
     requires ports { ports ≡ length engine.fixed }
     ensures run { IfOk result (HasKept (map R.machine engine.fixed) schedule.now.came engine sent note) }

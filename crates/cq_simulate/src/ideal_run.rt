@@ -12,7 +12,7 @@ ghost use Rattle.cq_simulate.specs.Ready.{IsReady};
 ghost use Rattle.cq_simulate.specs.ScheduleFor.{IsScheduleFor};
 ghost use Rattle.cq_traffic.specs.Stretch.{IsQuiet};
 
-use crate::RunResult;
+use crate::RunRefusal;
 use cq_base::{Departure, Departures, Room, Slot, TagFault};
 use cq_cells::{Coming, Schedule};
 use cq_ideal::Ideal;
@@ -37,7 +37,11 @@ pub struct IdealRun {
 ///
 /// - `Tag`: a rank does not fit 128 bits; the first such fault of the ideal switch.
 /// - `NoMemory`: there was not the memory for the lists and the departures.
-pub fn run_ideal(alloc: Global, tables: &Tables, schedule: &Schedule) -> RunResult<IdealRun>
+pub fn run_ideal(
+    alloc: Global,
+    tables: &Tables,
+    schedule: &Schedule,
+) -> Result<IdealRun, RunRefusal>
     requires { IsScheduleFor tables.now schedule.now }
     ensures sent { IfOk result (λ run. ideal_departures tables.now schedule.now.came ≡ Ok run.sent.items) }
     ensures slots { IfOk result (λ run. run.slots ≡ slots_of run.sent.items) }
@@ -59,7 +63,7 @@ pub fn run_ideal_packed(
     alloc: Global,
     tables: &Tables,
     schedule: &Schedule,
-) -> RunResult<Departures>
+) -> Result<Departures, RunRefusal>
     requires { IsScheduleFor tables.now schedule.now }
     ensures sent { IfOk result (λ sent. ideal_departures tables.now schedule.now.came ≡ Ok sent.items) }
     ensures early { IfOk result (λ sent. slots_of sent.items ≤ 2 ^ 63 + 2 ^ 35) }

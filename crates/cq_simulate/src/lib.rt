@@ -21,4 +21,4 @@ pub use laws::{
 pub use packets::packets_of;
 pub use packing::{Packing, packets_of_all};
 pub use parted_run::{Parted, part_fabric, resume_fabric};
-pub use refusal::{RunRefusal, RunResult};
+pub use refusal::RunRefusal;

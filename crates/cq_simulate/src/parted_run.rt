@@ -10,7 +10,7 @@ ghost use Rattle.cq_simulate.specs.PartedRuns.{CanBeTakenUp, IsPartFault, IsResu
 ghost use Rattle.cq_simulate.specs.FabricRuns.{unpacked_run};
 ghost use Rattle.cq_simulate.specs.ScheduleFor.{IsScheduleFor};
 
-use crate::RunResult;
+use crate::RunRefusal;
 use crate::fabric_run::{PackedFabricRun, run_on, skip};
 use crate::ports::{engine_for, port_count, ports_for};
 use cq_base::{Departure, Departures, NoMemory, Room, Slot, TagFault, Transfer};
@@ -47,7 +47,7 @@ pub fn part_fabric<R: Threads + Sync, G: Gate>(
     schedule: &Schedule,
     slots: Slot,
     gate: &G,
-) -> RunResult<Parted>
+) -> Result<Parted, RunRefusal>
     requires fit { IsScheduleFor tables.now schedule.now }
     requires slots { slots < 2 ^ 63 }
     ensures parted { IfOk result (λ run.
@@ -87,7 +87,7 @@ pub fn resume_fabric<R: Threads + Sync, G: Gate>(
     schedule: &Schedule,
     taken: &Taken,
     gate: &G,
-) -> RunResult<PackedFabricRun>
+) -> Result<PackedFabricRun, RunRefusal>
     requires fit { IsScheduleFor tables.now schedule.now }
     requires sound { CanBeTakenUp (switch_of tables.now schedule.now) taken.now }
     ensures run { IfOk result (λ run.

@@ -1,9 +1,6 @@
 //! Why a run has no result.
 use cq_base::{NoMemory, TagFault};
 
-/// What a run gives, or why it gives nothing.
-pub type RunResult<T> = Result<T, RunRefusal>;
-
 /// Why a run has no result.
 #[derive(Clone, Copy, Debug, PartialEq, Eq)]
 pub enum RunRefusal {
