@@ -10,6 +10,7 @@ use cq_base::NoMemory;
 use cq_crew::OpenGate;
 use cq_run::{Command, command_of, switch_top};
 use cq_space::{HostFiles, MemSink};
+use cq_trial_kit::FORMS;
 use cq_trials::{Disk, MICROSECONDS, NANOSECONDS, Packet, answer, capture_with, words_of};
 use std::alloc::Global;
 use std::rt::Files;
@@ -99,33 +100,11 @@ fn a_packet_leaves_in_the_slot_of_its_last_cell(rt: HostRuntime) -> Result<(), F
     Ok(())
 }
 
-/// One packet at 7 seconds and 250 microseconds, as it is written.
-const WRITTEN: &[u8] = &[
-    0x4d, 0x3c, 0xb2, 0xa1, 2, 0, 4, 0, 0, 0, 0, 0, 0, 0, 0, 0, 0, 0, 4, 0, 1, 0, 0, 0, //
-    7, 0, 0, 0, 0x90, 0xd0, 3, 0, 2, 0, 0, 0, 2, 0, 0, 0, 0xab, 0xcd,
-];
-
-/// The same packet in each form.
-const FORMS: &[&[u8]] = &[
-    WRITTEN,
-    &[
-        0xd4, 0xc3, 0xb2, 0xa1, 2, 0, 4, 0, 0, 0, 0, 0, 0, 0, 0, 0, 0, 0, 4, 0, 1, 0, 0, 0, //
-        7, 0, 0, 0, 0xfa, 0, 0, 0, 2, 0, 0, 0, 2, 0, 0, 0, 0xab, 0xcd,
-    ],
-    &[
-        0xa1, 0xb2, 0xc3, 0xd4, 0, 2, 0, 4, 0, 0, 0, 0, 0, 0, 0, 0, 0, 4, 0, 0, 0, 0, 0, 1, //
-        0, 0, 0, 7, 0, 0, 0, 0xfa, 0, 0, 0, 2, 0, 0, 0, 2, 0xab, 0xcd,
-    ],
-    &[
-        0xa1, 0xb2, 0x3c, 0x4d, 0, 2, 0, 4, 0, 0, 0, 0, 0, 0, 0, 0, 0, 4, 0, 0, 0, 0, 0, 1, //
-        0, 0, 0, 7, 0, 3, 0xd0, 0x90, 0, 0, 0, 2, 0, 0, 0, 2, 0xab, 0xcd,
-    ],
-];
-
 #[test]
 fn every_form_of_a_capture_passes_alike(rt: HostRuntime) -> Result<(), Fail> {
-    for input in FORMS {
-        assert!(rt; passes(&rt, rt.alloc(), input, WRITTEN)?, "{input:?}");
+    let written = &FORMS[1];
+    for input in &FORMS {
+        assert!(rt; passes(&rt, rt.alloc(), input, written)?, "{input:?}");
     }
     Ok(())
 }

@@ -11,6 +11,7 @@
 mod capture;
 mod disk;
 mod keys;
+mod runs;
 #[cfg(test)]
 mod tests;
 mod trial;
@@ -21,5 +22,6 @@ pub use capture::{
 };
 pub use disk::Disk;
 pub use keys::{DEAREST, DEFAULTS, Keys, configuration};
+pub use runs::{RUNS, RUNS_BY_KEYS, THREE_INPUTS, TWO_FOR_ONE};
 pub use trial::{Ended, answer, refuses, streamed, watched, words_of};
-pub use worked::{Run, TWO_FOR_ONE};
+pub use worked::Run;

@@ -1,5 +1,5 @@
 //! Worked runs: what a switch is told, and all that it writes.
-use crate::{DEFAULTS, Disk, Ended, Frame, Keys, answer, capture_of, streamed};
+use crate::{Disk, Ended, Frame, Keys, answer, capture_of, streamed};
 use cq_base::NoMemory;
 use cq_stream::Watch;
 use std::alloc::Global;
@@ -24,21 +24,6 @@ pub struct Run {
     /// What standard output takes.
     pub report: &'static str,
 }
-
-/// Two inputs with a cell for one output.
-pub const TWO_FOR_ONE: Run = Run {
-    shows: "two inputs with a cell for one output: the lesser goes first",
-    keys: DEFAULTS,
-    inputs: &[&[(0, 0, 0, 60)], &[(0, 0, 0, 60)]],
-    outputs: &[&[(0, 0, 0, 60), (0, 512, 0, 60)], &[]],
-    trace: "0 0 0 0 0\n1 0 1 0 0\n",
-    log: "0 1 0 0 0 0\n0 2 1 0 0 0\n",
-    report: "slots 2\nproposals 3\nmost 2\n\
-        input 0 cells 1 longest 1 slack 0\n\
-        input 1 cells 1 longest 1 slack 0\n\
-        output 0 cells 2 idle 0 wait 1\n\
-        output 1 cells 0 idle 2 wait -\n",
-};
 
 impl Run {
     /// What the run begins with, where it has so many workers.
@@ -90,15 +75,17 @@ impl Run {
         self.is_crossed(alloc, &ended, &disk)
     }
 
-    /// Whether an audit says yes to what the run has left on this disk.
+    /// Whether the crossbar switch with so many workers does all of the run, and an audit says yes to what it leaves.
     pub fn is_audited<R: Threads + Sync>(
         &self,
         rt: &R,
         alloc: Global,
-        disk: &mut Disk,
+        workers: u8,
     ) -> Result<bool, NoMemory> {
-        let ended = answer(rt, alloc, &["audit", "c.toml"], disk)?;
-        Ok(ended.is_done("audit yes\n") && self.is_sent(alloc, disk)?)
+        let mut disk = self.disk(alloc, workers)?;
+        let crosses = self.crosses(rt, alloc, &mut disk)?;
+        let ended = answer(rt, alloc, &["audit", "c.toml"], &mut disk)?;
+        Ok(crosses && ended.is_done("audit yes\n") && self.is_sent(alloc, &disk)?)
     }
 
     /// Whether a run that stops after so many slots writes its state alone, and what goes on from there does all of the

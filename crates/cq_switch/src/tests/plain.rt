@@ -5,9 +5,9 @@
 //! sorts a list whenever a cell comes. Slots, cells and outputs are those of `cq_trials::configuration`.
 ghost use Rattle.std.specs.Prelude.{◌<◌};
 
-use super::crossed::RUNS;
 use cq_base::NoMemory;
-use cq_trials::{DEFAULTS, Disk, Frame, answer};
+use cq_trial_kit::Draws;
+use cq_trials::{DEFAULTS, Disk, Frame, RUNS, answer};
 use std::alloc::Global;
 use std::test::Fail;
 use std::thread::Threads;
@@ -139,60 +139,37 @@ fn trace_of(alloc: Global, inputs: &[&[Frame]]) -> Result<String, NoMemory> {
     Ok(trace)
 }
 
-/// A linear congruential generator, with the constants of Knuth's MMIX.
-#[derive(Drop)]
-struct Draws {
-    state: u64,
+/// A frame of up to 300 bytes, stamped within 4 microseconds of three seconds.
+fn drawn_frame(draws: &mut Draws, ports: u64) -> Frame
+    requires some { 0 < ports }
+    requires few { ports < 5 }
+{
+    let stamp = 2_999_996_000 + draws.below(8_000);
+    let seconds = (stamp / 1_000_000_000) as u32;
+    let nanoseconds = (stamp % 1_000_000_000) as u32;
+    let output = draws.below(ports) as u8;
+    (seconds, nanoseconds, output, draws.below(301) as u32)
 }
 
-impl Draws {
-    fn below(&mut self, limit: u32) -> u32
-        requires { 0 < limit }
-        ensures { result < limit }
-    {
-        self.state = self
-            .state
-            .wrapping_mul(6_364_136_223_846_793_005)
-            .wrapping_add(1_442_695_040_888_963_407);
-        ((self.state >> 33) % u64::from(limit)) as u32
+/// Three to six frames.
+fn drawn_frames(draws: &mut Draws, alloc: Global, ports: u64) -> Result<Vec<Frame>, NoMemory>
+    requires some { 0 < ports }
+    requires few { ports < 5 }
+{
+    let mut frames = Vec::new(alloc);
+    for _ in 0..3 + draws.below(4) {
+        frames.push(drawn_frame(draws, ports))?;
     }
-
-    /// A frame of up to 300 bytes, stamped within 4 microseconds of three seconds.
-    fn frame(&mut self, ports: u32) -> Frame
-        requires some { 0 < ports }
-        requires few { ports < 5 }
-    {
-        let stamp = 2_999_996_000 + u64::from(self.below(8_000));
-        let seconds = (stamp / 1_000_000_000) as u32;
-        let nanoseconds = (stamp % 1_000_000_000) as u32;
-        (
-            seconds,
-            nanoseconds,
-            self.below(ports) as u8,
-            self.below(301),
-        )
-    }
-
-    /// Three to six frames.
-    fn frames(&mut self, alloc: Global, ports: u32) -> Result<Vec<Frame>, NoMemory>
-        requires some { 0 < ports }
-        requires few { ports < 5 }
-    {
-        let mut frames = Vec::new(alloc);
-        for _ in 0..3 + self.below(4) {
-            frames.push(self.frame(ports))?;
-        }
-        Ok(frames)
-    }
+    Ok(frames)
 }
 
 /// The frames of two to four inputs.
 fn drawn_inputs(alloc: Global, seed: u64) -> Result<Vec<Vec<Frame>>, NoMemory> {
-    let mut draws = Draws { state: seed };
+    let mut draws = Draws::from_seed(seed);
     let ports = 2 + draws.below(3);
     let mut inputs = Vec::new(alloc);
     for _ in 0..ports {
-        inputs.push(draws.frames(alloc, ports)?)?;
+        inputs.push(drawn_frames(&mut draws, alloc, ports)?)?;
     }
     Ok(inputs)
 }
@@ -227,13 +204,9 @@ const LINES: &[Line] = &[
     ("a busy line", &[(0, 0, 0, 200), (0, 512, 0, 60)], &[0, 4]),
 ];
 
-/// Whether the frames of one input start in these slots, also in the program.
-fn starts_at<R: Threads + Sync>(
-    rt: &R,
-    alloc: Global,
-    frames: &[Frame],
-    starts: &[u64],
-) -> Result<bool, NoMemory> {
+/// Whether the frames of the one input start in these slots, also in the program.
+fn starts_so<R: Threads + Sync>(rt: &R, alloc: Global, line: &Line) -> Result<bool, NoMemory> {
+    let (_, frames, starts) = *line;
     let inputs = [frames];
     let plain = starts_of(alloc, frames, origin_of(&inputs))?;
     Ok(plain.as_slice() == starts && agrees(rt, alloc, &inputs)?)
@@ -241,8 +214,8 @@ fn starts_at<R: Threads + Sync>(
 
 #[test]
 fn one_line_is_as_in_the_plain_switch(rt: HostRuntime) -> Result<(), Fail> {
-    for (case, frames, starts) in LINES {
-        assert!(rt; starts_at(&rt, rt.alloc(), frames, starts)?, "{case}");
+    for line in LINES {
+        assert!(rt; starts_so(&rt, rt.alloc(), line)?, "{}", line.0);
     }
     Ok(())
 }

@@ -1,9 +1,8 @@
 //! Captures are decoded by readers ahead of the engine, and two of them are at work at once.
 
-use super::crossed::{RUNS, RUNS_BY_KEYS, RUNS_WITH_A_LIMIT};
 use cq_base::Port;
 use cq_stream::{OpenWatch, Watch};
-use cq_trials::TWO_FOR_ONE;
+use cq_trials::{RUNS, RUNS_BY_KEYS, TWO_FOR_ONE};
 use std::alloc::Global;
 use std::sync::Arc;
 use std::sync::atomic::AtomicU64;
@@ -99,7 +98,7 @@ fn readers_meet(rt: HostRuntime) -> Result<(), Fail> {
 
 #[test]
 fn worked_runs_are_the_same_where_captures_are_read_ahead(rt: HostRuntime) -> Result<(), Fail> {
-    for run in RUNS.iter().chain(RUNS_WITH_A_LIMIT).chain(RUNS_BY_KEYS) {
+    for run in RUNS.iter().chain(RUNS_BY_KEYS) {
         assert!(rt; run.streams(rt, rt.alloc(), &OpenWatch)?, "{}", run.shows);
     }
     Ok(())

@@ -66,17 +66,3 @@ fn an_audit_tells_what_is_wrong_first(rt: HostRuntime) -> Result<(), Fail> {
     }
     Ok(())
 }
-
-// Whether an audit without a trace is a read fault.
-fn misses_trace<R: Threads + Sync>(rt: &R, alloc: Global) -> Result<bool, NoMemory> {
-    let mut disk = TWO_FOR_ONE.disk(alloc, 1)?;
-    disk.set("log.txt", TWO_FOR_ONE.log.as_bytes())?;
-    let ended = answer(rt, alloc, &["audit", "c.toml"], &mut disk)?;
-    Ok(ended.is_refused(5, "read fault: trace.txt\n"))
-}
-
-#[test]
-fn an_audit_without_a_trace_is_a_read_fault(rt: HostRuntime) -> Result<(), Fail> {
-    assert!(rt; misses_trace(&rt, rt.alloc())?);
-    Ok(())
-}

@@ -79,16 +79,3 @@ fn a_state_that_is_refused_says_why_and_starts_no_file(rt: HostRuntime) -> Resul
     }
     Ok(())
 }
-
-// Whether taking up a run without a state is a read fault.
-fn misses_state<R: Threads + Sync>(rt: &R, alloc: Global) -> Result<bool, NoMemory> {
-    let mut disk = TWO_FOR_ONE.disk(alloc, 1)?;
-    let ended = answer(rt, alloc, &["resume", "c.toml", "s.txt"], &mut disk)?;
-    Ok(ended.is_refused(5, "read fault: s.txt\n"))
-}
-
-#[test]
-fn a_run_without_a_state_is_a_read_fault(rt: HostRuntime) -> Result<(), Fail> {
-    assert!(rt; misses_state(&rt, rt.alloc())?);
-    Ok(())
-}

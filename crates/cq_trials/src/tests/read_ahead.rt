@@ -139,6 +139,6 @@ fn other_words_are_answered_too(rt: HostRuntime) -> Result<(), Fail> {
     }
     let mut disk = Disk::new(rt.alloc());
     let stream = answer(&rt, rt.alloc(), &["stream", "c.toml"], &mut disk)?;
-    assert_eq!(rt; stream.code, 1);
+    assert!(rt; stream.code == 1);
     Ok(())
 }
