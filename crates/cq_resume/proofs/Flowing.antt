@@ -37,8 +37,8 @@ never_itself : (m : Name) → IsNameBefore m m → ⊥
 never_itself m (inl less) = omega arith
 never_itself m (inr (same, less)) = omega arith
 
--- of two items that are among others, of each of which and each later one something holds: it holds of the two, this way
--- or the other way, or they are one
+-- of items of which something holds of each and each later one, it holds of any two, this way or the other way, or the
+-- two are one
 either_way : {X : Type 0} (P : X → X → Type 0) (xs : List X) → AllPairs P xs → (x y : X) → Contains xs x →
     Contains xs y → P x y ⊎ ((x ≡ y) ⊎ P y x)
 either_way {X} P xs pairs x y at to =

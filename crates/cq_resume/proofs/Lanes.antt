@@ -211,7 +211,8 @@ module _ {X : Type 0} (input lane : X → ℕ) (R : X → X → Type 0) where
                       let long = length-set now (lane here) (Some here) in
                       elim (cases_eq k n) [
                         | inl own ↦ not_mine l other k d own in_lane
-                        | inr less ↦ are.none l (omega arith) (sym (read_other l other) ∙ is) k d (omega arith) at in_lane
+                        | inr less ↦
+                            are.none l (omega arith) (sym (read_other l other) ∙ is) k d (omega arith) at in_lane
                       ]
                 ];
           }

@@ -66,7 +66,8 @@ abbrev with_moved : State → List Transfer → State
 with_moved s xs = record s { moved = s.moved ++ xs }
 
 -- the state of these parts
-abbrev pub of_parts : Head → List Seen → List (List ℕ) → List Named → List Named → List kept.Sent → List Transfer → State
+abbrev pub of_parts : Head → List Seen → List (List ℕ) → List Named → List Named → List kept.Sent → List Transfer →
+    State
 of_parts head inputs ranks listed buffered sent moved =
     let begun = with_ranks (with_inputs (record nothing { head = head }) inputs) ranks in
     with_moved (with_sent (with_buffered (with_listed begun listed) buffered) sent) moved

@@ -116,8 +116,8 @@ impl Due {
     }
 }
 
-/// The fields of the line that is due, at the front, and what stands behind it. None where there may be no such line, or
-/// none stands there.
+/// The fields of the line that is due, at the front, and what stands behind it. None where there may be no such line,
+/// or none stands there.
 pub fn take_due<'a>(
     due: Due,
     text: &'a [u8],
@@ -128,7 +128,8 @@ pub fn take_due<'a>(
         × Within (ranges due.ports due.seen due.kind) (further due.kind) (take f.0 to.new)
         × (text.now ≡ line (word due.kind) (take f.0 to.new) ++ f.1.now)) }
     ensures none { IfNone result ((fs : List (Option ℕ)) (more : List ℕ) → HasRoom due.ports due.kind due.seen →
-        Within (ranges due.ports due.seen due.kind) (further due.kind) fs → text.now ≢ line (word due.kind) fs ++ more) }
+        Within (ranges due.ports due.seen due.kind) (further due.kind) fs →
+        text.now ≢ line (word due.kind) fs ++ more) }
 {
     if !due.has_room() {
         return None;

@@ -6,8 +6,5 @@ use Rattle.cq_resume.proofs.write.put_named.Goals as goal
 
 pub returns : goal.returns
 returns c =
-    search (
-      rules,
-      items_from_extend c.extend.result c.extend.ensures.ran
-          (YieldsList-from_map _ named_as (YieldsList-from_slice c.args.cells.now cc) (cc) (λ x r q k. search rules)),
-    )
+    let all = YieldsList-from_map _ named_as (YieldsList-from_slice c.args.cells.now cc) (cc) (λ x r q k. search rules) in
+    search (rules, items_from_extend _ c.extend.ensures.ran all)

@@ -5,8 +5,5 @@ use Rattle.cq_state.proofs.write.rank_fields.Goals as goal
 
 pub returns : goal.returns
 returns c =
-    search (
-      rules,
-      items_from_extend c.extend.result c.extend.ensures.ran
-          (YieldsList-from_map _ Some (YieldsList-from_slice c.args.numbers.now cc) (cc) (λ x r q k. search rules)),
-    )
+    let all = YieldsList-from_map _ Some (YieldsList-from_slice c.args.numbers.now cc) (cc) (λ x r q k. search rules) in
+    search (rules, items_from_extend _ c.extend.ensures.ran all)
