@@ -145,6 +145,6 @@ pub fn state_bytes(
         proposals: frozen.figures.proposals,
         most: frozen.figures.most,
     };
-    let state = told(alloc, head, frozen, sent, note)?;
+    let state = told(alloc, head, frozen, sent, note).or(Err(StateLong::NoMemory))?;
     text_of(alloc, &state)
 }

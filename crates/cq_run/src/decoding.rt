@@ -95,7 +95,7 @@ fn join_and_close<R: Threads>(
     ensures faulty { IfErr result (λ refusal. IfSome (fault_of refusal) (IsFaulty (bytes_to_read (reader_of reader)))) }
 {
     let done = reader.join(rt, &intake);
-    intake.close(done, rows?)
+    intake.close(done, rows.or(Err(PcapRefusal::NoMemory))?)
 }
 
 // Waits for all items, and keeps their rows. Where no memory is left it takes the rest all the same, so that the
