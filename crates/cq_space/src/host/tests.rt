@@ -116,11 +116,11 @@ fn a_file_moves_one_byte_at_a_time(rt: HostRuntime) -> Result<(), Fail> {
     let alloc = rt.alloc();
     let name = own_name(&rt, "slow")?;
     let mut files = HostFiles::new(alloc, SlowFiles(&rt));
-    assert_eq!(rt; write_whole(&mut files, &name, TEXT), Ok(()));
-    assert_eq!(rt; fs::read(&rt, &name)?.as_slice(), TEXT.as_slice());
+    assert!(rt; write_whole(&mut files, &name, TEXT) == Ok(()));
+    assert!(rt; fs::read(&rt, &name)?.as_slice() == TEXT.as_slice());
     let bytes = read_whole(alloc, &mut files, &name, 9)?;
-    assert_eq!(rt; bytes.as_slice(), TEXT.as_slice());
-    assert_eq!(rt; files.faults, 0);
+    assert!(rt; bytes.as_slice() == TEXT.as_slice());
+    assert!(rt; files.faults == 0);
     fs::remove_file(&rt, &name)?;
     Ok(())
 }
@@ -128,9 +128,9 @@ fn a_file_moves_one_byte_at_a_time(rt: HostRuntime) -> Result<(), Fail> {
 #[test]
 fn a_writer_takes_one_byte_at_a_time(rt: HostRuntime) -> Result<(), Fail> {
     let mut sink = HostSink::new(Slow(Vec::new(rt.alloc())));
-    assert_eq!(rt; put_all(&mut sink, TEXT), Ok(()));
-    assert_eq!(rt; sink.inner.0.as_slice(), TEXT.as_slice());
-    assert_eq!(rt; sink.faults, 0);
+    assert!(rt; put_all(&mut sink, TEXT) == Ok(()));
+    assert!(rt; sink.inner.0.as_slice() == TEXT.as_slice());
+    assert!(rt; sink.faults == 0);
     Ok(())
 }
 
@@ -138,10 +138,10 @@ fn a_writer_takes_one_byte_at_a_time(rt: HostRuntime) -> Result<(), Fail> {
 fn a_writer_that_is_full_is_a_counted_fault(rt: HostRuntime) -> Result<(), Fail> {
     let mut room = [0u8; 3];
     let mut sink = HostSink::new(room.as_mut_slice());
-    assert_eq!(rt; put_all(&mut sink, TEXT), Err(WriteFault));
-    assert_eq!(rt; sink.faults, 1);
+    assert!(rt; put_all(&mut sink, TEXT) == Err(WriteFault));
+    assert!(rt; sink.faults == 1);
     drop(sink);
-    assert_eq!(rt; room.as_slice(), &TEXT[..3]);
+    assert!(rt; room.as_slice() == &TEXT[..3]);
     Ok(())
 }
 
@@ -153,9 +153,9 @@ fn a_name_that_cannot_be_opened_is_a_counted_fault(rt: HostRuntime) -> Result<()
     fs::write(&rt, &name, TEXT)?;
     let mut files = HostFiles::new(alloc, &rt);
     let unread = read_whole(alloc, &mut files, &below, 9).err();
-    assert_eq!(rt; unread, Some(ReadRefusal::Fault));
-    assert_eq!(rt; write_whole(&mut files, &below, TEXT), Err(WriteFault));
-    assert_eq!(rt; files.faults, 2);
+    assert!(rt; unread == Some(ReadRefusal::Fault));
+    assert!(rt; write_whole(&mut files, &below, TEXT) == Err(WriteFault));
+    assert!(rt; files.faults == 2);
     fs::remove_file(&rt, &name)?;
     Ok(())
 }
@@ -179,13 +179,12 @@ fn what_was_read_is_not_written_over_by_another_name(rt: HostRuntime) -> Result<
     for (written, wanted, left) in cases {
         let mut files = HostFiles::new(alloc, &rt);
         let _bytes = read_whole(alloc, &mut files, &name, 9)?;
-        assert_eq!(rt;
-            write_whole(&mut files, written, b"new"),
-            wanted,
+        assert!(rt;
+            write_whole(&mut files, written, b"new") == wanted,
             "{written}"
         );
-        assert_eq!(rt; files.faults, u64::from(wanted.is_err()), "{written}");
-        assert_eq!(rt; fs::read(&rt, written)?.as_slice(), left, "{written}");
+        assert!(rt; files.faults == u64::from(wanted.is_err()), "{written}");
+        assert!(rt; fs::read(&rt, written)?.as_slice() == left, "{written}");
     }
     for gone in [&name, &linked, &other] {
         fs::remove_file(&rt, gone)?;

@@ -1,12 +1,34 @@
+ghost use Rattle.std.specs.Prelude.{◌≤◌, ◌^◌};
+
 use super::*;
 use crate::{MemFiles, MemSink};
+use cq_base::NoMemory;
 use std::test::Fail;
 
 const TEXT: &[u8; 5] = b"abcde";
 
+/// Whether reading comes to this, where the name has a limit and may be cut, and the name stays.
+fn is_read(
+    alloc: Global,
+    limit: u64,
+    cut: Option<u64>,
+    wanted: Result<usize, ReadRefusal>,
+) -> Result<bool, NoMemory>
+    requires { limit ≤ 2 ^ 28 }
+{
+    let mut files = MemFiles::new(alloc);
+    files.set("in", TEXT)?;
+    if let Some(after) = cut {
+        files.fail_read("in", 1)?;
+        files.fail_read("in", after)?;
+    }
+    let count = read_whole(alloc, &mut files, "in", limit).map(|bytes| bytes.len());
+    let stays = files.bytes("in") == Some(TEXT.as_slice()) && files.starved() == 0;
+    Ok(count == wanted && stays)
+}
+
 #[test]
 fn a_name_is_read_up_to_its_cut_and_the_limit(rt: HostRuntime) -> Result<(), Fail> {
-    let alloc = rt.alloc();
     let cases = [
         (5, None, Ok(5)),
         (4, None, Err(ReadRefusal::Long { limit: 4 })),
@@ -18,16 +40,10 @@ fn a_name_is_read_up_to_its_cut_and_the_limit(rt: HostRuntime) -> Result<(), Fai
         (2, Some(3), Err(ReadRefusal::Long { limit: 2 })),
     ];
     for (limit, cut, wanted) in cases {
-        let mut files = MemFiles::new(alloc);
-        files.set("in", TEXT)?;
-        if let Some(after) = cut {
-            files.fail_read("in", 1)?;
-            files.fail_read("in", after)?;
-        }
-        let count = read_whole(alloc, &mut files, "in", limit).map(|bytes| bytes.len());
-        assert_eq!(rt; count, wanted, "limit {limit}, cut {cut:?}");
-        assert_eq!(rt; files.bytes("in"), Some(TEXT.as_slice()));
-        assert_eq!(rt; files.starved(), 0);
+        assert!(rt;
+            is_read(rt.alloc(), limit, cut, wanted)?,
+            "limit {limit}, cut {cut:?}"
+        );
     }
     Ok(())
 }
@@ -39,8 +55,7 @@ fn a_name_that_is_only_cut_is_missing(rt: HostRuntime) -> Result<(), Fail> {
     files.fail_read("in", 0)?;
     files.set("other", TEXT)?;
     let refusal = read_whole(alloc, &mut files, "in", 9).err();
-    assert_eq!(rt; refusal, Some(ReadRefusal::Missing));
-    assert_eq!(rt; files.bytes("in"), None);
+    assert!(rt; refusal == Some(ReadRefusal::Missing) && files.bytes("in").is_none());
     Ok(())
 }
 
@@ -50,57 +65,74 @@ fn a_name_of_many_pieces_is_read_and_written_whole(rt: HostRuntime) -> Result<()
     let text = vec![in alloc; 7u8; 2 * PIECE + 1]?;
     let mut files = MemFiles::new(alloc);
     files.set("out", TEXT)?;
-    assert_eq!(rt; write_whole(&mut files, "out", &text), Ok(()));
+    let written = write_whole(&mut files, "out", &text);
     let bytes = read_whole(alloc, &mut files, "out", 1 << 28)?;
-    assert_eq!(rt; bytes.as_slice(), text.as_slice());
+    assert!(rt; written == Ok(()) && bytes.as_slice() == text.as_slice());
     Ok(())
+}
+
+/// Where writing is cut, what it comes to, and what is left.
+type Cut = (Option<u64>, Result<(), WriteFault>, &'static [u8]);
+
+/// Of a name that had other bytes.
+const CUT_NAMES: [Cut; 4] = [
+    (None, Ok(()), b"abcde"),
+    (Some(0), Err(WriteFault), b""),
+    (Some(3), Err(WriteFault), b"abc"),
+    (Some(5), Ok(()), b"abcde"),
+];
+
+/// Of a sink that has taken one byte.
+const CUT_SINKS: [Cut; 4] = [
+    (None, Ok(()), b"-abcde"),
+    (Some(0), Err(WriteFault), b"-"),
+    (Some(3), Err(WriteFault), b"-ab"),
+    (Some(6), Ok(()), b"-abcde"),
+];
+
+/// Whether writing comes to this, where the name may be cut, and leaves so many bytes and all of another name.
+fn is_written(
+    alloc: Global,
+    cut: Option<u64>,
+    wanted: Result<(), WriteFault>,
+    left: &[u8],
+) -> Result<bool, NoMemory> {
+    let mut files = MemFiles::new(alloc);
+    files.set("out", b"before")?;
+    files.set("other", b"kept")?;
+    if let Some(after) = cut {
+        files.fail_read("out", 0)?;
+        files.fail_write("out", 1)?;
+        files.fail_write("out", after)?;
+    }
+    let written = write_whole(&mut files, "out", TEXT);
+    let other = files.bytes("other") == Some(b"kept".as_slice());
+    Ok(written == wanted && files.bytes("out") == Some(left) && other && files.starved() == 0)
 }
 
 #[test]
 fn a_name_is_written_up_to_its_cut(rt: HostRuntime) -> Result<(), Fail> {
-    let alloc = rt.alloc();
-    let cases = [
-        (None, Ok(()), 5),
-        (Some(0), Err(WriteFault), 0),
-        (Some(3), Err(WriteFault), 3),
-        (Some(5), Ok(()), 5),
-    ];
-    for (cut, wanted, left) in cases {
-        let mut files = MemFiles::new(alloc);
-        files.set("out", b"before")?;
-        files.set("other", b"kept")?;
-        if let Some(after) = cut {
-            files.fail_read("out", 0)?;
-            files.fail_write("out", 1)?;
-            files.fail_write("out", after)?;
-        }
-        assert_eq!(rt; write_whole(&mut files, "out", TEXT), wanted, "cut {cut:?}");
-        assert_eq!(rt; files.bytes("out"), Some(&TEXT[..left]));
-        assert_eq!(rt; files.bytes("other"), Some(b"kept".as_slice()));
-        assert_eq!(rt; files.starved(), 0);
+    for (cut, wanted, left) in CUT_NAMES {
+        assert!(rt; is_written(rt.alloc(), cut, wanted, left)?, "cut {cut:?}");
     }
     Ok(())
 }
 
-#[test]
-fn a_sink_takes_bytes_up_to_its_cut(rt: HostRuntime) -> Result<(), Fail> {
-    let alloc = rt.alloc();
-    let cases = [
-        (None, Ok(()), b"-abcde".as_slice()),
-        (Some(0), Err(WriteFault), b"-".as_slice()),
-        (Some(3), Err(WriteFault), b"-ab".as_slice()),
-        (Some(6), Ok(()), b"-abcde".as_slice()),
-    ];
-    for (cut, wanted, taken) in cases {
-        let mut sink = MemSink::new(alloc);
-        assert_eq!(rt; put_all(&mut sink, b"-"), Ok(()));
-        if let Some(after) = cut {
-            sink.fail_after(1);
-            sink.fail_after(after);
-        }
-        assert_eq!(rt; put_all(&mut sink, TEXT), wanted, "cut {cut:?}");
-        assert_eq!(rt; sink.bytes(), taken);
-        assert_eq!(rt; sink.starved(), 0);
+/// Whether a sink that may be cut comes to this behind a first byte, and has then taken these bytes.
+fn is_taken(alloc: Global, cut: Option<u64>, wanted: Result<(), WriteFault>, taken: &[u8]) -> bool {
+    let mut sink = MemSink::new(alloc);
+    let first = put_all(&mut sink, b"-");
+    if let Some(after) = cut {
+        sink.fail_after(1);
+        sink.fail_after(after);
     }
-    Ok(())
+    let then = put_all(&mut sink, TEXT);
+    first == Ok(()) && then == wanted && sink.bytes() == taken && sink.starved() == 0
+}
+
+#[test]
+fn a_sink_takes_bytes_up_to_its_cut(rt: HostRuntime) {
+    for (cut, wanted, taken) in CUT_SINKS {
+        assert!(rt; is_taken(rt.alloc(), cut, wanted, taken), "cut {cut:?}");
+    }
 }
