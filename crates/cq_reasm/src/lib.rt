@@ -8,8 +8,6 @@
 mod joiner;
 mod laws;
 mod open_packets;
-#[cfg(test)]
-mod tests;
 
 pub use joiner::{Joined, Joiner};
 pub use laws::{pieces_give_the_frame, whole_packets_are_given};

@@ -1,6 +1,8 @@
-//! What no clause says of arrivals, runs, packets and audits.
+//! What no clause says of arrivals, runs, packets, states and audits.
 mod audit;
 mod cells;
 mod given;
+mod reasm;
 mod resume;
 mod simulate;
+mod state;

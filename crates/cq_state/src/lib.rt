@@ -8,8 +8,6 @@ mod laws;
 mod next;
 mod read;
 mod state;
-#[cfg(test)]
-mod tests;
 mod write;
 
 pub use laws::{state_texts_are_exact, states_have_one_text};

@@ -5,10 +5,11 @@ ghost use Rattle.cq_prefs.specs.FirstCells.{orders_of};
 ghost use Rattle.cq_audit.specs.Phase.{AreOfPhase};
 
 use cq_audit::{PhaseFault, audit_trace, part, read_log, stable_told};
-use cq_base::{Cell, CellId, Key, NoMemory, Port, Queued, Transfer};
+use cq_base::{NoMemory, Port, Transfer};
 use cq_lines::LineRefusal;
 use cq_list::InputList;
 use cq_prefs::Offers;
+use cq_trial_kit::{list_of, waiting};
 use std::alloc::Global;
 use std::test::Fail;
 
@@ -29,15 +30,6 @@ fn the_log_of_two_cells_for_one_output_is_read(rt: HostRuntime) {
     assert!(rt; is_read_as(rt.alloc(), LOG, &[crossing(1, 0, 0), crossing(2, 1, 0)]));
 }
 
-// The line at fault, or 0 where there is none.
-fn fault(alloc: Global, log: &[u8]) -> Option<u64> {
-    match read_log(alloc, log, 2) {
-        Ok(_) => None,
-        Err(LineRefusal::Line { line }) => Some(line),
-        Err(LineRefusal::NoMemory) => Some(0),
-    }
-}
-
 #[test]
 fn a_log_is_refused_at_its_first_wrong_line(rt: HostRuntime) {
     let alloc = rt.alloc();
@@ -53,7 +45,8 @@ fn a_log_is_refused_at_its_first_wrong_line(rt: HostRuntime) {
         (b"0 1 0 0 0 -\n", Some(1)),
     ];
     for (log, line) in cases {
-        assert!(rt; fault(alloc, log) == line, "{log:?}");
+        let refusal = line.map(|line| LineRefusal::Line { line });
+        assert!(rt; read_log(alloc, log, 2).err() == refusal, "{log:?}");
     }
 }
 
@@ -71,40 +64,11 @@ fn a_trace_differs_in_its_first_line_that_is_other(rt: HostRuntime) {
     }
 }
 
-// The id of the first cell of an input.
-fn first_of(input: Port) -> CellId {
-    CellId {
-        input,
-        packet: 0,
-        index: 0,
-    }
-}
-
 // The list of an input of two, with one cell, which is for output 0.
 fn one_waits(alloc: Global, input: Port) -> Result<InputList, NoMemory>
     ensures { IfOk result (λ list. list.outputs ≡ 2) }
 {
-    let mut list = InputList::new(alloc, 2, 1)?;
-    list.insert(
-        Queued {
-            cell: Cell {
-                id: first_of(input),
-                output: 0,
-                class: 0,
-                last: true,
-                at: 0,
-                len: 64,
-            },
-            key: Key {
-                level: 0,
-                rank: 0,
-                slot: 0,
-                input,
-            },
-        },
-        0,
-    );
-    Ok(list)
+    list_of(alloc, input, 2, &[(0, 0)])
 }
 
 // The line of an input whose first cell crosses to an output in a phase of slot zero.
@@ -119,7 +83,7 @@ fn crossing(phase: u8, input: Port, output: Port) -> Transfer
         phase,
         input,
         output,
-        id: first_of(input),
+        id: waiting(input, 0, 0, 0).cell.id,
     }
 }
 

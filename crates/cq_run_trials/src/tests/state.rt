@@ -1,0 +1,57 @@
+//! Shows what no clause says: that memory is enough for whole states, and what a worked one says.
+use cq_lines::LineRefusal;
+use cq_state::{read_text, text_of};
+use std::alloc::Global;
+
+// Two inputs with a cell each for output 0, stopped after slot 0.
+const STATE: &[u8] =
+    b"cq-state 1\nnext 1\nshape 2 1 0 2\nsum 3 2\ninput 0 1 0\ninput 1 1 0\nrank 0\nrank 1\n\
+    buffer 0 0 0 1\nsent 0 0 0 0 0\nmoved 0 1 0 0 0 0\nmoved 0 2 1 0 0 0\nend\n";
+
+#[test]
+fn wrong_texts_are_refused_at_their_first_wrong_line(rt: HostRuntime) {
+    let alloc = rt.alloc();
+    let cases: [(&[u8], Option<u64>); 9] = [
+        (STATE, None),
+        (&STATE[..STATE.len() - 4], Some(13)),
+        (&STATE[..STATE.len() - 1], Some(13)),
+        (b"", Some(1)),
+        (b"cq-state 2\n", Some(1)),
+        (b"cq-state 1\nnext 01\n", Some(2)),
+        (b"cq-state 1\nnext 9223372036854775808\n", Some(2)),
+        (b"cq-state 1\nnext 9223372036854775807\n", Some(3)),
+        (
+            b"cq-state 1\nnext 1\nshape 1 1 0 0\nsum 0 0\ninput 0 0 -\ninput 1 0 -\n",
+            Some(6),
+        ),
+    ];
+    for (text, line) in cases {
+        let refusal = line.map(|line| LineRefusal::Line { line });
+        assert!(rt; read_text(alloc, text).err() == refusal, "{text:?}");
+    }
+}
+
+// Whether the state is read, and is written again as it was: it tells of one cell in a buffer, and of a transfer in the
+// second phase.
+fn is_written_again(alloc: Global) -> bool {
+    let Ok(state) = read_text(alloc, STATE) else {
+        return false;
+    };
+    let buffered = state.buffered.as_slice();
+    let moved = state.moved.as_slice().get(1);
+    let told = (
+        state.head.next,
+        buffered.len(),
+        buffered.get(0).map(|named| named.input),
+        moved.map(|transfer| transfer.phase),
+    );
+    match text_of(alloc, &state) {
+        Ok(text) => text.as_slice() == STATE && told == (1, 1, Some(1), Some(2)),
+        Err(_) => false,
+    }
+}
+
+#[test]
+fn a_state_is_read_and_written_again(rt: HostRuntime) {
+    assert!(rt; is_written_again(rt.alloc()));
+}
