@@ -120,7 +120,8 @@ module _ (M : List ℕ → Machine) {slot : ℕ} {cells : List (Option Cell)} (r
     no_fault are fault err =
         let clash : false ≡ true =
         subst (λ (r : Result Ranking TagFault). IsOk r)
-        (ap (λ (a : Admission). ranking machines slot 0 a.cells ranks.states) (sym (admitted_is are)) ∙ err) can.ranked in
+        (ap (λ (a : Admission). ranking machines slot 0 a.cells ranks.states) (sym (admitted_is are)) ∙ err)
+        can.ranked in
         let P : ⊥ = cc in P
 
     module _ (came : List (Option Queued)) (states : List (List ℕ))

@@ -202,8 +202,8 @@ module _ (M : List ℕ → Machine) {came : List Arrival} {lines : List Transfer
         Before (slot + 1) left new note'
     at_next cells left new note' are had =
         replaying_next b more cells left new note' are
-        (subst (λ (fixed : List (List ℕ)). SlotReplayed (map M fixed) slot cells rest left now new note note') b.made.fixed
-        had)
+        (subst (λ (fixed : List (List ℕ)). SlotReplayed (map M fixed) slot cells rest left now new note note')
+        b.made.fixed had)
 
     -- ## A fault
 

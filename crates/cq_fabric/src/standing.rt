@@ -10,8 +10,8 @@ use cq_list::InputList;
 use cq_urgency::OutputBuffer;
 use std::alloc::Global;
 
-/// A list for so many outputs, with room for so many cells, in which these wait. Each comes behind the others. The error
-/// is want of memory.
+/// A list for so many outputs, with room for so many cells, in which these wait. Each comes behind the others. The
+/// error is want of memory.
 #[tactic(auto, using(std::proofs::lemmas::List::take_all))]
 pub fn filled_list(
     alloc: Global,

@@ -76,7 +76,8 @@ module _ (ms : List Machine) (j slot : ℕ) (laws : KeepsLaws (machine_at ms j))
     abbrev with_new : List Queued
     with_new = cond (is_for j new_cell) (put new_cell xs) xs
 
-    from_list : (l : List Queued) → with_new ≡ l → Filled come l (put_all j rest.came l) (given_in ranks cell) rest.ranks →
+    from_list : (l : List Queued) → with_new ≡ l →
+        Filled come l (put_all j rest.came l) (given_in ranks cell) rest.ranks →
         shown i c l ++ of_flow i c j come ≡ shown i c xs ++ of_flow i c j (cell ∷ come) → FilledByOne
     unfolding FilledByOne new_cell
     from_list l is f shows =

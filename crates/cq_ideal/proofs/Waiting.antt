@@ -165,8 +165,8 @@ length-put_all j (Some q ∷ came) xs =
 
 -- ## The ranking keeps the cells
 
-pub ranked_cells : (ms : List Machine) (slot input : ℕ) (cells : List (Option Cell)) (ranks : List (List ℕ)) (r : Ranking)
-    → ranking ms slot input cells ranks ≡ Ok r → map cell_here r.came ≡ cells
+pub ranked_cells : (ms : List Machine) (slot input : ℕ) (cells : List (Option Cell)) (ranks : List (List ℕ))
+    (r : Ranking) → ranking ms slot input cells ranks ≡ Ok r → map cell_here r.came ≡ cells
 unfolding cell_here
 ranked_cells ms slot input [] ranks r h =
     subst (λ (r : Ranking). map cell_here r.came ≡ []) (only_ok refl h) refl
@@ -203,7 +203,8 @@ pub record Counted (slot : ℕ) (cells : List (Option Cell)) (old : IdealState) 
   pub departs : (j : ℕ) → j < length old.lists → 0 < length (slice_index_or old.lists j []) + count_for j cells →
       0 < length (departures_in slot sent.gone)
 
-pub length-filled : (came : List (Option Queued)) (lists : List (List Queued)) → length (filled came lists) ≡ length lists
+pub length-filled : (came : List (Option Queued)) (lists : List (List Queued)) →
+    length (filled came lists) ≡ length lists
 unfolding filled
 length-filled came lists =
     length-map-range_with_len (λ (k : ℕ). put_all k came (slice_index_or lists k [])) 0 (length lists)

@@ -6,5 +6,6 @@ use Rattle.cq_resume.proofs.write.put_named.Goals as goal
 
 pub returns : goal.returns
 returns c =
-    let all = YieldsList-from_map _ named_as (YieldsList-from_slice c.args.cells.now cc) (cc) (λ x r q k. search rules) in
+    let all = YieldsList-from_map _ named_as (YieldsList-from_slice c.args.cells.now cc)
+    (cc) (λ x r q k. search rules) in
     search (rules, items_from_extend _ c.extend.ensures.ran all)

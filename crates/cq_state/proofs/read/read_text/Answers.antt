@@ -16,7 +16,8 @@ lines-preserved c =
     let read : Line = record { kind = c.in-Some.kind; fields = take c.in-Some.count c.next_line.new.to } in
     line_told c.args.text.now c.lines.told c.add.new.self c.lines.line c.lines.place c.in-Some.next c.lines.rest.now
     c.in-Some.behind.now read c.lines.invariant c.in-Some.ensures.found.1 c.in-Some.ensures.found.2
-    (ends_well c.add.result _ _ c.add.ensures c.in_ok-or.ensures) c.in-Some.ensures.shorter c.in-Some.ensures.seen c.in-Some.ensures.few
+    (ends_well c.add.result _ _ c.add.ensures c.in_ok-or.ensures) c.in-Some.ensures.shorter c.in-Some.ensures.seen
+    c.in-Some.ensures.few
 
 pub returns-then-may_end-clause-read : goal.returns-then-may_end-clause-read
 returns-then-may_end-clause-read c =
