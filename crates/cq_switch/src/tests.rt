@@ -102,6 +102,7 @@ fn a_packet_leaves_in_the_slot_of_its_last_cell(rt: HostRuntime) -> Result<(), F
 
 #[test]
 fn every_form_of_a_capture_passes_alike(rt: HostRuntime) -> Result<(), Fail> {
+    // The form that the program writes.
     let written = &FORMS[1];
     for input in &FORMS {
         assert!(rt; passes(&rt, rt.alloc(), input, written)?, "{input:?}");

@@ -8,7 +8,7 @@ pub struct Draws {
 }
 
 impl Draws {
-    /// The numbers that this one begins.
+    /// The numbers that follow from this seed.
     pub fn from_seed(seed: u64) -> Draws {
         Draws { state: seed }
     }

@@ -1,8 +1,8 @@
 //! Trials of the top call over files in memory.
 //!
 //! The crate exists for the tests of the whole program, its own and those of the program's crate. It makes
-//! what a trial begins with, captures and configurations, keeps them on a `Disk`, has the top call answer
-//! words over it, and compares. The program uses nothing of it.
+//! what a trial begins with, captures and configurations, among them the worked runs with what they come to,
+//! keeps them on a `Disk`, has the top call answer words over it, and compares. The program uses nothing of it.
 //!
 //! Whether a trial ends as it should is a `bool` here, and the tests assert it: so a test is short, and its
 //! proof too.

@@ -1,4 +1,4 @@
-//! Numbers that look drawn, one from the other.
+//! Numbers that look drawn, each from the one before.
 ghost use Rattle.std.specs.Prelude.{◌<◌, ◌^◌};
 
 /// The number after this one, by the generator that the standard of C gives as an example.

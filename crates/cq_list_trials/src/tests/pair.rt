@@ -99,13 +99,13 @@ fn outputs_keep_the_best_and_displace_the_others(rt: HostRuntime) -> Result<(), 
 fn settling_does_not_depend_on_who_proposes_next(rt: HostRuntime) -> Result<(), Fail> {
     let offers = opposed_offers(rt.alloc(), 3)?;
     let settled = ([Some(2), Some(1), Some(0)], 6);
-    assert!(rt; settled_by(&offers, &mut LastFirst) == settled);
-    assert!(rt; settled_by(&offers, &mut LowestFirst) == settled);
+    assert!(rt; settled_in(&offers, &mut LastFirst) == settled);
+    assert!(rt; settled_in(&offers, &mut LowestFirst) == settled);
     Ok(())
 }
 
 // The partners, and the number of proposals, where the order tells who proposes next.
-fn settled_by<O: Order>(offers: &Offers, order: &mut O) -> ([Option<Port>; 3], u64) {
+fn settled_in<O: Order>(offers: &Offers, order: &mut O) -> ([Option<Port>; 3], u64) {
     let mut core = Core::begin(offers);
     core.settle(offers, order);
     (partners(&core, offers), core.made())
@@ -246,7 +246,7 @@ fn drawn_offers_settle_at_the_best_of_all_stable_matchings(rt: HostRuntime) -> R
     let mut some_have_several = false;
     for round in 0..40u16 {
         let offers = drawn_offers(rt.alloc(), &mut drawn)?;
-        let (settled, _) = settled_by(&offers, &mut LastFirst);
+        let (settled, _) = settled_in(&offers, &mut LastFirst);
         let (several, best) = other_stable(&offers, &settled);
         assert!(rt; best && is_stable(&offers, &settled), "in round {round}");
         some_have_several = some_have_several || several;

@@ -12,8 +12,8 @@ use cq_xbar::transfer;
 use std::alloc::Global;
 use std::test::Fail;
 
-// The list of an input of three, with a cell of rank 0 for each of these outputs, that arrived one after another. The
-// first of them that is for the wanted output is there.
+// The list of an input of three, with a cell of rank 0 for each of these outputs (modulo 3), that arrived one after
+// another. The first of them that is for the wanted output is there.
 fn three_waiting(
     alloc: Global,
     input: Port,

@@ -51,7 +51,7 @@ impl<const PORTS: u16> Coming<PORTS> {
         self.with_cell(id, output, class)
     }
 
-    /// And the second cell of the packet comes to the input.
+    /// And the second cell of the packet comes to the input, in class 0.
     pub(super) fn with_second(self, input: Port, packet: u32, output: Port) -> Coming<PORTS>
         requires few { PORTS ≤ 64 }
         requires input { input < PORTS }

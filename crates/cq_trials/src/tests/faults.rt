@@ -1,4 +1,5 @@
-//! Reading or writing fails, or goes on for too long, while a capture is passed on; and what is to be read is not there.
+//! Reading or writing fails, or goes on for too long, while a capture is passed on; and what is to be read is not
+//! there.
 use crate::{Disk, MICROSECONDS, NANOSECONDS, TWO_FOR_ONE, answer, watched};
 use cq_base::NoMemory;
 use cq_crew::OpenGate;
@@ -79,20 +80,23 @@ fn a_capture_above_the_limit_is_told(rt: HostRuntime) -> Result<(), Fail> {
     Ok(())
 }
 
-/// Commands, and the line of each where nothing is there but what its run reads and the log that it wrote.
-const MISSING: &[(&[&str], &str)] = &[
-    (&["audit", "c.toml"], "read fault: trace.txt\n"),
-    (&["resume", "c.toml", "s.txt"], "read fault: s.txt\n"),
+/// Commands, whether there is a log beside what a run reads, and the line of each where nothing else is there.
+const MISSING: &[(&[&str], bool, &str)] = &[
+    (&["audit", "c.toml"], true, "read fault: trace.txt\n"),
+    (&["resume", "c.toml", "s.txt"], false, "read fault: s.txt\n"),
 ];
 
 fn is_missed<R: Threads + Sync>(
     rt: &R,
     alloc: Global,
     words: &[&str],
+    has_log: bool,
     line: &str,
 ) -> Result<bool, NoMemory> {
     let mut disk = TWO_FOR_ONE.disk(alloc, 1)?;
-    disk.set("log.txt", TWO_FOR_ONE.log.as_bytes())?;
+    if has_log {
+        disk.set("log.txt", TWO_FOR_ONE.log.as_bytes())?;
+    }
     let ended = answer(rt, alloc, words, &mut disk)?;
     Ok(ended.is_refused(5, line))
 }
@@ -101,8 +105,11 @@ fn is_missed<R: Threads + Sync>(
 fn an_audit_without_a_trace_and_a_run_without_a_state_are_read_faults(
     rt: HostRuntime,
 ) -> Result<(), Fail> {
-    for (words, line) in MISSING {
-        assert!(rt; is_missed(&rt, rt.alloc(), words, line)?, "{line}");
+    for (words, has_log, line) in MISSING {
+        assert!(rt;
+            is_missed(&rt, rt.alloc(), words, *has_log, line)?,
+            "{line}"
+        );
     }
     Ok(())
 }
