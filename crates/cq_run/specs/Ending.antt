@@ -62,7 +62,7 @@ abbrev pub Ends : Pace → Reader → (unread unwritten : List ℕ → Type 0) �
 Ends pace r unread unwritten untaken words old new end =
     EndsFor pace r unread unwritten untaken (command_for words) old new end
 
--- in objects that are a file space and a sink, and in which the calls failed
+-- over objects that are a file space and a sink: the calls that failed are calls of these
 abbrev pub EndsIn : {F O : Type 0} → (F → Space) → (Call → F → F → Type 0) → (F → F → Type 0)
     → (O → Option (List ℕ)) → (O → ℕ) → (O → O → Type 0) → (O → O → Type 0) → Pace → Reader → Option Command
     → (old new : F) → (before after : O) → Result (Unit {0}) Stop → Type 0

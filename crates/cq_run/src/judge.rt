@@ -241,7 +241,7 @@ fn part<R: Threads + Sync, F: Files, G: Gate>(
     Ok(build_state(alloc, state, text)?)
 }
 
-// What the crossbar switch makes of these captures, one for each port, from the state on whose text this is.
+// What the crossbar switch makes of these captures, one for each port, where it goes on from the state of this text.
 fn resume<R: Threads + Sync, G: Gate>(
     rt: &R,
     alloc: Global,
