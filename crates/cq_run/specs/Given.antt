@@ -14,7 +14,7 @@ use Rattle.cq_run.specs.Aim.{Aim}
 use Rattle.cq_run.specs.Judging.{Judges}
 use Rattle.cq_run.specs.Pace.{Pace}
 use Rattle.cq_run.specs.Reader.{Reader}
-use Rattle.cq_run.specs.Verdict.{captures_in, tables_in}
+use Rattle.cq_run.specs.Verdict.{◌>>=◌, captures_in, tables_in}
 
 -- this is read of what the file space told: tables that are in range, and a capture for each of their ports. No fault
 -- was counted, and nothing was written

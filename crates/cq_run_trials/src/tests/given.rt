@@ -31,9 +31,9 @@ pub fn captures_of(alloc: Global, inputs: &[&[Come]]) -> Result<Vec<Capture>, No
 }
 
 fn capture_of(alloc: Global, packets: &[Come]) -> Result<Capture, PcapRefusal> {
-    let mut bytes = Vec::from_slice(alloc, &HEADER).map_err(NoMemory::from)?;
+    let mut bytes = Vec::from_slice(alloc, &HEADER).or(Err(PcapRefusal::NoMemory))?;
     for (stamp, length, to) in packets {
-        put_packet(&mut bytes, *stamp, *length, *to)?;
+        put_packet(&mut bytes, *stamp, *length, *to).or(Err(PcapRefusal::NoMemory))?;
     }
     bytes.truncate(MANY);
     read_capture(alloc, bytes)
