@@ -8,3 +8,4 @@ pub mod Pairs
 pub mod Phase
 pub mod StableRun
 pub mod Trace
+pub mod Terms

@@ -1,13 +1,6 @@
 //! Whether a log of any maker is that of a stable run.
 ghost use Rattle.std.specs.Prelude.{◌≡◌, ◌↔◌, ◌+◌, ◌-◌, ◌<◌, ◌≤◌, [], IfErr, IsTrue, OnOk, length, map};
-ghost use Rattle.cq_base.specs.Arriving.{end_of};
-ghost use Rattle.cq_laws.specs.Fabric.{IsEmptyFabric};
-ghost use Rattle.cq_audit.specs.Audit.{CanBeAudited, IsNo, IsYes};
-ghost use Rattle.cq_audit.specs.Log.{AreInOrder};
-ghost use Rattle.cq_audit.specs.Phase.{NoneBefore};
-ghost use Rattle.cq_audit.specs.Replay.{HasRested, IsInStep, ports_in};
-ghost use Rattle.cq_audit.specs.Running.{FirstIsLeast, IsReady, IsStill, RunEnds};
-ghost use Rattle.cq_audit.specs.declared.refusal.AuditRefusal.TheVariants.{Left};
+ghost use Rattle.cq_audit.specs.Terms.{end_of, IsEmptyFabric, CanBeAudited, IsNo, IsYes, AreInOrder, NoneBefore, HasRested, IsInStep, ports_in, FirstIsLeast, IsReady, IsStill, RunEnds, Left};
 
 use crate::log::read_log;
 use crate::refusal::AuditRefusal;

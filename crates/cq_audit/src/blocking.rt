@@ -2,9 +2,7 @@
 //!
 //! It is looked for in the orders of the first cells, so that no list is read again.
 ghost use Rattle.std.specs.Prelude.{◌≡◌, ◌≢◌, ◌<◌, ◌≤◌, ◌↔◌, ◌⊎◌, ℕ, IfNone, IfSome, IsTrue, Some, length};
-ghost use Rattle.cq_prefs.specs.Orders.{IsOffered, place_of, ports, position_of};
-ghost use Rattle.cq_prefs.specs.Pairing.{HasBetterInput, HasBetterOutput, partner_of};
-ghost use Rattle.cq_audit.specs.Phase.{IsBlocking, IsFirstBlocking};
+ghost use Rattle.cq_audit.specs.Terms.{IsOffered, place_of, ports, position_of, HasBetterInput, HasBetterOutput, partner_of, IsBlocking, IsFirstBlocking};
 
 use crate::pairs::Pairs;
 use cq_base::Port;

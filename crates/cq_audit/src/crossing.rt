@@ -1,8 +1,6 @@
 //! The transfers that the lines of a phase tell.
 ghost use Rattle.std.specs.Prelude.{◌≡◌, ◌≤◌, IfErr, OnErr, OnOk, length};
-ghost use Rattle.cq_fabric.specs.Queues.{CanCross};
-ghost use Rattle.cq_audit.specs.Crossing.{AreNoted, HaveCrossed};
-ghost use Rattle.cq_audit.specs.Phase.{AreOfPhase, IsPhaseFault};
+ghost use Rattle.cq_audit.specs.Terms.{CanCross, AreNoted, HaveCrossed, AreOfPhase, IsPhaseFault};
 
 use crate::phase::{PhaseFault, stable_told};
 use cq_base::{Room, Slot, Transfer};

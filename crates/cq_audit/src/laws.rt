@@ -1,20 +1,6 @@
 //! What a log says.
 ghost use Rattle.std.specs.Prelude.{◌≡◌, ℕ, List, Option};
-ghost use Rattle.cq_base.specs.Arriving.{Arrival};
-ghost use Rattle.cq_base.specs.declared.cell.Cell.{Cell};
-ghost use Rattle.cq_base.specs.declared.cell.Transfer.{Transfer};
-ghost use Rattle.cq_base.specs.declared.setup.Setup.{Setup};
-ghost use Rattle.cq_ideal.specs.Admission.{Marked};
-ghost use Rattle.cq_rank.specs.Machine.{Machine};
-ghost use Rattle.cq_prefs.specs.Pairing.{IsStable};
-ghost use Rattle.cq_laws.specs.Fabric.{Fabric};
-ghost use Rattle.cq_laws.specs.LimitedFabric.{LimitedFabricRun, LimitedRecord, slots_in};
-ghost use Rattle.cq_laws.specs.Records.{transfers_of_run};
-ghost use Rattle.cq_audit.specs.Audit.{IsAuditExact};
-ghost use Rattle.cq_audit.specs.Log.{AreInOrder, IsLog, IsLogExact};
-ghost use Rattle.cq_audit.specs.Phase.{IsPhaseExact};
-ghost use Rattle.cq_audit.specs.StableRun.{StableRun};
-ghost use Rattle.cq_audit.specs.Trace.{IsTraceExact};
+ghost use Rattle.cq_audit.specs.Terms.{Arrival, Cell, Transfer, Setup, Marked, Machine, IsStable, Fabric, LimitedFabricRun, LimitedRecord, slots_in, transfers_of_run, IsAuditExact, AreInOrder, IsLog, IsLogExact, IsPhaseExact, StableRun, IsTraceExact};
 
 /// A log is read in one way, or refused at one line, and never both. Each of its lines is behind all before it.
 /// It does nothing: its contract is the claim.

@@ -1,7 +1,6 @@
 //! Reads the log of any maker.
 ghost use Rattle.std.specs.Prelude.{IfOk, IfErr};
-ghost use Rattle.cq_audit.specs.Log.{IsLog, IsLogFault};
-ghost use Rattle.cq_lines.specs.Refusals.{IsCause};
+ghost use Rattle.cq_audit.specs.Terms.{IsLog, IsLogFault, IsCause};
 
 use crate::transfer::next_transfer;
 use cq_base::Transfer;

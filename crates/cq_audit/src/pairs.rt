@@ -1,7 +1,6 @@
 //! The pairs of a phase, told from both sides.
 ghost use Rattle.std.specs.Prelude.{◌≡◌, ◌<◌, ◌≤◌, ℕ, IfNone, IfSome, None, Some, length, replicate};
-ghost use Rattle.cq_prefs.specs.Pairing.{IsFreeOutput, partner_of, with_pair};
-ghost use Rattle.cq_audit.specs.Pairs.{CanBeJoined};
+ghost use Rattle.cq_audit.specs.Terms.{IsFreeOutput, partner_of, with_pair, CanBeJoined};
 
 use cq_base::Port;
 use cq_prefs::Matching;

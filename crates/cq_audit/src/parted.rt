@@ -1,8 +1,7 @@
 //! The lines of one phase after another.
 ghost use Rattle.std.specs.Prelude.{◌≡◌, ◌≤◌, ℕ, length, not, position};
 ghost use Rattle.std.specs.List.{position_or_len};
-ghost use Rattle.cq_audit.specs.Log.{AreInOrder};
-ghost use Rattle.cq_audit.specs.Phase.{AreParted, NoneBefore, is_at};
+ghost use Rattle.cq_audit.specs.Terms.{AreInOrder, AreParted, NoneBefore, is_at};
 
 use cq_base::{Slot, Transfer};
 

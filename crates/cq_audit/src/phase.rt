@@ -1,8 +1,6 @@
 //! The lines of a phase, held against what the lists offer.
 ghost use Rattle.std.specs.Prelude.{◌≡◌, ◌≤◌, IfErr, IfOk, length};
-ghost use Rattle.cq_list.specs.InputList.{cells_of};
-ghost use Rattle.cq_prefs.specs.FirstCells.{orders_of};
-ghost use Rattle.cq_audit.specs.Phase.{AreOfPhase, IsPhaseFault, IsStableTold};
+ghost use Rattle.cq_audit.specs.Terms.{cells_of, orders_of, AreOfPhase, IsPhaseFault, IsStableTold};
 
 use crate::blocking::first_blocking;
 use crate::pairs::Pairs;

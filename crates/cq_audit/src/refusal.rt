@@ -1,6 +1,6 @@
 //! Why a log is not that of a stable run.
 ghost use Rattle.std.specs.Prelude.{◌≡◌};
-ghost use Rattle.cq_audit.specs.Audit.{refusal_of};
+ghost use Rattle.cq_audit.specs.Terms.{refusal_of};
 
 use crate::phase::PhaseFault;
 use crate::replay::SlotFault;

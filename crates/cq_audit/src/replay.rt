@@ -2,12 +2,7 @@
 //!
 //! It is the fabric of the definitions, with the matchings that the lines tell in place of ones that were looked for.
 ghost use Rattle.std.specs.Prelude.{◌≡◌, ◌<◌, ◌↔◌, IfErr, IfOk, IsTrue, length, map};
-ghost use Rattle.cq_rank.specs.Switch.{AreForOneSwitch};
-ghost use Rattle.cq_laws.specs.Fabric.{IsEmptyFabric};
-ghost use Rattle.cq_laws.specs.LimitedFabric.{empty_limited_fabric};
-ghost use Rattle.cq_audit.specs.Phase.{IsPhaseFault, in_phase};
-ghost use Rattle.cq_audit.specs.Replay.{CanCome, CanReplay, HasRested, IsInStep, IsSlotFault, SlotReplayed, shown};
-ghost use Rattle.cq_audit.specs.SlotSteps.{CanGoBy, CanSend, HasGoneBy, HaveAllSent, HaveCome};
+ghost use Rattle.cq_audit.specs.Terms.{AreForOneSwitch, IsEmptyFabric, empty_limited_fabric, IsPhaseFault, in_phase, CanCome, CanReplay, HasRested, IsInStep, IsSlotFault, SlotReplayed, shown, CanGoBy, CanSend, HasGoneBy, HaveAllSent, HaveCome};
 
 use crate::crossing::cross;
 use crate::parted::part;

@@ -1,10 +1,7 @@
 //! The pairs that the lines of a phase tell.
 ghost use Rattle.std.specs.Prelude.{◌≡◌, ◌≢◌, ◌<◌, ◌≤◌, ◌↔◌, ◌⊎◌, ℕ, IfErr, IfOk, IsTrue, Some, false, length};
 ghost use Rattle.std.specs.List.{AllByRecursion};
-ghost use Rattle.cq_list.specs.InputList.{cells_of};
-ghost use Rattle.cq_prefs.specs.Pairing.{IsFreeOutput, partner_of};
-ghost use Rattle.cq_audit.specs.Log.{IsOf};
-ghost use Rattle.cq_audit.specs.Phase.{AreRight, IsFirstWrong, first_id, line_of_input, told};
+ghost use Rattle.cq_audit.specs.Terms.{cells_of, IsFreeOutput, partner_of, IsOf, AreRight, IsFirstWrong, first_id, line_of_input, told};
 
 use crate::pairs::Pairs;
 use cq_base::{Port, Transfer};

@@ -1,6 +1,6 @@
 //! Compares a trace of any maker with the ideal one.
 ghost use Rattle.std.specs.Prelude.{◌≡◌, ℕ, List, ◌∷◌, IfSome, IfNone, MatchOption};
-ghost use Rattle.cq_audit.specs.Trace.{DiffersFirst};
+ghost use Rattle.cq_audit.specs.Terms.{DiffersFirst};
 
 /// The first line, from 1, in which the trace differs from the ideal one. None exactly where both are equal.
 /// Where one of them ends and the other goes on, this is the line that goes on.

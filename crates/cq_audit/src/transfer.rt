@@ -1,7 +1,6 @@
 //! A line of the log.
 ghost use Rattle.std.specs.Prelude.{◌≡◌, ◌≢◌, ◌↔◌, ℕ, List, ◌++◌, Option, IfSome, IfNone, IsTrue, Some};
-ghost use Rattle.cq_base.specs.Texts.{log_line};
-ghost use Rattle.cq_audit.specs.Log.{IsTransfer, IsOf, IsBefore, Comes, numbers_behind};
+ghost use Rattle.cq_audit.specs.Terms.{log_line, IsTransfer, IsOf, IsBefore, Comes, numbers_behind};
 
 use cq_base::{CellId, Transfer};
 use cq_lines::{take_fields, take_number};

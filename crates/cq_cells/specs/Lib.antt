@@ -4,3 +4,4 @@ pub mod Scheduled
 pub mod Lines
 pub mod NextArrival
 pub mod Coming
+pub mod Terms

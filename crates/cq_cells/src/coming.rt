@@ -1,9 +1,6 @@
 //! What arrives slot after slot.
 ghost use Rattle.std.specs.Prelude.{◌≡◌, ◌≤◌, ◌↔◌, IsTrue, length};
-ghost use Rattle.cq_base.specs.Arrivals.{no_arrivals};
-ghost use Rattle.cq_base.specs.Arriving.{arriving};
-ghost use Rattle.cq_cells.specs.Coming.{StandBelow};
-ghost use Rattle.cq_cells.specs.Lines.{AreOwn, all_of};
+ghost use Rattle.cq_cells.specs.Terms.{no_arrivals, arriving, StandBelow, AreOwn, all_of};
 
 use crate::line::Line;
 use crate::nearby::Nearby;

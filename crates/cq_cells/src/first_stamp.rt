@@ -1,7 +1,7 @@
 // The stamp from which slots are counted.
 ghost use Rattle.std.specs.Prelude.{◌≡◌, map, min};
 ghost use Rattle.std.specs.List.{reduce};
-ghost use Rattle.cq_cells.specs.Schedule.{earlier, first_stamp};
+ghost use Rattle.cq_cells.specs.Terms.{earlier, first_stamp};
 
 use cq_pcap::{Capture, PacketRow};
 

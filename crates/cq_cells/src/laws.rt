@@ -1,10 +1,6 @@
 // Laws of what arrives.
 ghost use Rattle.std.specs.Prelude.{◌≡◌, ℕ, ◌<◌, List, filter, length};
-ghost use Rattle.cq_cells.specs.Schedule.{arrivals, arrivals_at, packets_of};
-ghost use Rattle.cq_cells.specs.Traffic.{IsRecorded, IsShort, IsTraffic, is_from};
-ghost use Rattle.cq_pcap.specs.Captured.{Captured};
-ghost use Rattle.cq_route.specs.declared.tables.Tables.{Tables};
-ghost use Rattle.cq_route.specs.Tables.{AreTables, classes_of, ports_of};
+ghost use Rattle.cq_cells.specs.Terms.{arrivals, arrivals_at, packets_of, IsRecorded, IsShort, IsTraffic, is_from, Captured, Tables, AreTables, classes_of, ports_of};
 
 /// Each cell that arrives comes to a port, goes to a port and is of a class of the tables, and the
 /// cells of an input arrive one after another: at most one in a slot.

@@ -2,13 +2,8 @@
 // before was, or by halving: the work grows with the logarithm of the number of packets at most.
 ghost use Rattle.std.specs.Prelude.{◌≡◌, ℕ, ◌+◌, ◌-◌, ◌/◌, ◌==◌, ◌^◌, ◌<◌, ◌≤◌, find, length, map, max, option_map, slice_index_or, IfOk, IsTrue};
 ghost use Rattle.std.specs.List.Sorted.{IsNonDecreasingBy};
-ghost use Rattle.cq_base.specs.Arriving.{end_of};
-ghost use Rattle.cq_cells.specs.Lines.{AreAdded, AreRows, IsBegun, IsEnded, row_at, row_cell};
-ghost use Rattle.cq_cells.specs.NextArrival.{IsNextArrival};
-ghost use Rattle.cq_cells.specs.Schedule.{arrivals_at, cells_of, first_stamp as first_stamp_of, packets_of};
-ghost use Rattle.cq_cells.specs.Traffic.{IsRecorded};
-ghost use Rattle.cq_route.specs.Route.{route};
-ghost use Rattle.cq_route.specs.Tables.{AreTables, ports_of};
+ghost use Rattle.cq_cells.specs.Schedule.{first_stamp as first_stamp_of};
+ghost use Rattle.cq_cells.specs.Terms.{end_of, AreAdded, AreRows, IsBegun, IsEnded, row_at, row_cell, IsNextArrival, arrivals_at, cells_of, packets_of, IsRecorded, route, AreTables, ports_of};
 
 use crate::segments::cells_of;
 use cq_base::{Cell, CellId, Class, NoMemory, Port, Slot};

@@ -1,8 +1,6 @@
 // Where the packets of a capture go. Each is routed on its own, so threads share those of a long capture.
 ghost use Rattle.std.specs.Prelude.{◌≡◌, ◌<◌, length, map, IfOk};
-ghost use Rattle.cq_cells.specs.Schedule.{packet_in};
-ghost use Rattle.cq_route.specs.Directory.{IsDirectoryOf};
-ghost use Rattle.cq_route.specs.Route.{route};
+ghost use Rattle.cq_cells.specs.Terms.{packet_in, IsDirectoryOf, route};
 
 use cq_base::{Class, NoMemory, Port};
 use cq_pcap::Capture;

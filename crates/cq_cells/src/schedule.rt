@@ -1,14 +1,8 @@
 // What arrives at all inputs.
 ghost use Rattle.std.specs.Prelude.{◌≡◌, ℕ, ◌^◌, ◌<◌, ◌≤◌, filter, length, map, replicate, IfOk};
 ghost use Rattle.std.specs.List.{range_with_len};
-ghost use Rattle.cq_base.specs.Arriving.{arriving, arriving_at, end_of};
-ghost use Rattle.cq_cells.specs.Lines.{AreAdded, all_of};
-ghost use Rattle.cq_cells.specs.NextArrival.{IsNextArrival};
-ghost use Rattle.cq_cells.specs.Schedule.{arrivals_at, first_stamp as first_stamp_of, packets_of};
-ghost use Rattle.cq_cells.specs.Scheduled.{schedule_of};
-ghost use Rattle.cq_cells.specs.Traffic.{IsRecorded, IsShort, IsTraffic, is_from, is_to, number_of};
-ghost use Rattle.cq_route.specs.Directory.{IsDirectoryOf};
-ghost use Rattle.cq_route.specs.Tables.{AreTables, classes_of, ports_of};
+ghost use Rattle.cq_cells.specs.Schedule.{first_stamp as first_stamp_of};
+ghost use Rattle.cq_cells.specs.Terms.{arriving, arriving_at, end_of, AreAdded, all_of, IsNextArrival, arrivals_at, packets_of, schedule_of, IsRecorded, IsShort, IsTraffic, is_from, is_to, number_of, IsDirectoryOf, AreTables, classes_of, ports_of};
 
 use crate::coming::Coming;
 use crate::first_stamp::{earlier, first_stamp};

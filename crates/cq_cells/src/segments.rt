@@ -1,6 +1,6 @@
 // How packets are cut into cells.
 ghost use Rattle.std.specs.Prelude.{◌≡◌, ◌≤◌};
-ghost use Rattle.cq_cells.specs.Schedule.{cells_of};
+ghost use Rattle.cq_cells.specs.Terms.{cells_of};
 
 /// How many cells a packet of this many captured bytes has, where a cell carries so many: enough for
 /// all bytes, and one for a packet without bytes.

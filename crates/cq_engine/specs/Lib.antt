@@ -4,3 +4,4 @@ pub mod Engine
 pub mod Straight
 pub mod Sending
 pub mod Resting
+pub mod Terms

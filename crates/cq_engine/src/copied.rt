@@ -1,10 +1,7 @@
 //! What an engine that stands still is copied into, and what one is made of that goes on.
 ghost use Rattle.std.specs.Prelude.{◌≡◌, ℕ, ◌+◌, ◌<◌, ◌^◌, All, IfOk, filter, length, map, slice_index, slice_set};
-ghost use Rattle.cq_base.specs.Cells.{is_for};
 ghost use Rattle.cq_base.specs.declared.cell.Queued.{Queued as OfCell};
-ghost use Rattle.cq_laws.specs.Fabric.{IsAmong, input};
-ghost use Rattle.cq_laws.specs.Frozen.{fabric_in};
-ghost use Rattle.cq_laws.specs.Holding.{fabric_held, held_for};
+ghost use Rattle.cq_engine.specs.Terms.{is_for, IsAmong, input, fabric_in, fabric_held, held_for};
 
 use cq_base::{Figures, NoMemory, Port, Queued, Sequence};
 use cq_laws::Frozen;

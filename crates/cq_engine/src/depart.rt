@@ -1,11 +1,7 @@
 //! How the outputs send.
 ghost use Rattle.std.specs.Prelude.{◌≡◌, ◌+◌, ◌-◌, ◌<◌, ◌≤◌, ◌^◌, ◌++◌, ℕ, Some, is_some, if◌then◌else◌, length, map, max, slice_get};
 ghost use Rattle.std.specs.List.{enumerate_from, list_any};
-ghost use Rattle.cq_base.specs.declared.figures.OutputFigures.{OutputFigures};
-ghost use Rattle.cq_ideal.specs.IdealSlot.{departures_in, fronts, rests};
-ghost use Rattle.cq_laws.specs.Phases.{came_to};
-ghost use Rattle.cq_engine.specs.Measuring.{output_counted};
-ghost use Rattle.cq_engine.specs.Sending.{CanSend, EachHasSent};
+ghost use Rattle.cq_engine.specs.Terms.{OutputFigures, departures_in, fronts, rests, came_to, output_counted, CanSend, EachHasSent};
 
 use crate::measure::count_outputs;
 use cq_base::{Departure, Figures, Port, Queued, Room, Slot};

@@ -1,11 +1,6 @@
 //! The engine: a fabric, slot by slot.
 ghost use Rattle.std.specs.Prelude.{◌≡◌, ◌↔◌, ◌+◌, ◌-◌, ◌^◌, ◌<◌, IsTrue, false, is_err, IfOk, OnOk, OnErr, length, map, max};
-ghost use Rattle.cq_rank.specs.Switch.{class_count};
-ghost use Rattle.cq_ideal.specs.Ranking.{AreForPorts, ranking};
-ghost use Rattle.cq_laws.specs.Fabric.{IsEmptyFabric};
-ghost use Rattle.cq_laws.specs.Measures.{no_figures};
-ghost use Rattle.cq_engine.specs.Engine.{CanBeMade, CanGoOn, HasGoneOn, HasStopped, IsMadeAs, IsReadyFor, SlotDone, answer_to, fresh_engine, frozen_of, its_admission, ports_of};
-ghost use Rattle.cq_engine.specs.Resting.{HasRested};
+ghost use Rattle.cq_engine.specs.Terms.{class_count, AreForPorts, ranking, IsEmptyFabric, no_figures, CanBeMade, CanGoOn, HasGoneOn, HasStopped, IsMadeAs, IsReadyFor, SlotDone, answer_to, fresh_engine, frozen_of, its_admission, ports_of, HasRested};
 
 use crate::copied::{copied_figures, held_in};
 use crate::depart::depart;

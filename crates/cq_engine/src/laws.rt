@@ -1,15 +1,6 @@
 //! How many cells an engine comes to hold. The law is the contract of a function that does nothing.
 ghost use Rattle.std.specs.Prelude.{ℕ, ◌+◌, ◌≤◌, List, Option, is_some, if◌then◌else◌, length};
-ghost use Rattle.cq_base.specs.declared.cell.Cell.{Cell};
-ghost use Rattle.cq_base.specs.Arrivals.{arrival_at};
-ghost use Rattle.cq_ideal.specs.Admission.{Marked};
-ghost use Rattle.cq_ideal.specs.Ideal.{count_for};
-ghost use Rattle.cq_rank.specs.Machine.{Machine};
-ghost use Rattle.cq_prefs.specs.Pairing.{IsInputBest};
-ghost use Rattle.cq_laws.specs.Fabric.{Fabric, input};
-ghost use Rattle.cq_laws.specs.FabricSlot.{SlotRecord, FabricSlot};
-ghost use Rattle.cq_laws.specs.Holding.{held_for};
-ghost use Rattle.cq_laws.specs.LimitedFabric.{LimitedFabricSlot, LimitedRecord};
+ghost use Rattle.cq_engine.specs.Terms.{Cell, arrival_at, Marked, count_for, Machine, IsInputBest, Fabric, input, SlotRecord, FabricSlot, held_for, LimitedFabricSlot, LimitedRecord};
 
 /// In a slot the list of an input grows by the cell that arrives there at most, and the cells that are held for
 /// an output grow by those that arrive for it at most. So rooms for all cells of a run are enough in each slot.

@@ -1,15 +1,9 @@
 //! The figures of a run, slot by slot.
 ghost use Rattle.std.specs.Prelude.{◌≡◌, ℕ, ◌-◌, [], ◌<◌, ◌^◌, length, map, max, min, slice_get, Some, is_some, if◌then◌else◌};
 ghost use Rattle.std.specs.List.{enumerate_from, reduce};
-ghost use Rattle.cq_base.specs.declared.cell.Queued.{Queued};
 ghost use Rattle.cq_base.specs.declared.figures.InputFigures.{InputFigures as OfInput};
 ghost use Rattle.cq_base.specs.declared.figures.OutputFigures.{OutputFigures as OfOutput};
-ghost use Rattle.cq_prefs.specs.FirstCells.{list_of};
-ghost use Rattle.cq_laws.specs.Measures.{either_by, slacks};
-ghost use Rattle.cq_laws.specs.Phases.{came_to};
-ghost use Rattle.cq_fabric.specs.Newest.{IsNewest};
-ghost use Rattle.cq_fabric.specs.Queues.{fabric_of};
-ghost use Rattle.cq_engine.specs.Measuring.{arriving_slack, input_counted, output_counted, slack_seen, wait_of};
+ghost use Rattle.cq_engine.specs.Terms.{Queued, list_of, either_by, slacks, came_to, IsNewest, fabric_of, arriving_slack, input_counted, output_counted, slack_seen, wait_of};
 
 use cq_base::{InputFigures, OutputFigures, Queued, Sequence, Slot};
 use cq_fabric::Queues;

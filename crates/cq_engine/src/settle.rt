@@ -1,7 +1,6 @@
 //! Finding the matching of a phase, and transferring it.
 ghost use Rattle.std.specs.Prelude.{◌≡◌, ◌↔◌, ℕ, [], IsTrue};
-ghost use Rattle.cq_engine.specs.Crossing.{CanBeCrossed, HasCrossed};
-ghost use Rattle.cq_prefs.specs.Orders.{outputs_of};
+ghost use Rattle.cq_engine.specs.Terms.{CanBeCrossed, HasCrossed, outputs_of};
 
 use cq_base::{Room, Slot, Transfer};
 use cq_crew::{Gate, pair_phase, settle_kept};

@@ -6,9 +6,7 @@ ghost use Rattle.std.specs.Prelude.{◌≡◌, ◌↔◌, ◌+◌, ◌-◌, ◌<
 ghost use Rattle.std.specs.List.{enumerate_from};
 ghost use Rattle.cq_base.specs.declared.cell.Queued.{Queued as OfCell};
 ghost use Rattle.cq_base.specs.declared.figures.InputFigures.{InputFigures as OfInput};
-ghost use Rattle.cq_laws.specs.Phases.{came_to};
-ghost use Rattle.cq_engine.specs.Sending.{CanSend, EachHasSent};
-ghost use Rattle.cq_engine.specs.Straight.{AreApart, AreSent, CanGoStraight, GoStraight, crossings, input_passed};
+ghost use Rattle.cq_engine.specs.Terms.{came_to, CanSend, EachHasSent, AreApart, AreSent, CanGoStraight, GoStraight, crossings, input_passed};
 
 use crate::depart::leave;
 use cq_base::{Departure, Figures, InputFigures, Queued, Room, Sequence, Slot, Transfer};

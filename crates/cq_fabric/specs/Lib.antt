@@ -5,3 +5,4 @@ pub mod Held
 pub mod Crossing
 pub mod Released
 pub mod Telling
+pub mod Terms

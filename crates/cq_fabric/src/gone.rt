@@ -1,6 +1,6 @@
 //! What the outputs send in a slot.
 ghost use Rattle.std.specs.Prelude.{◌≡◌, ◌<◌, ◌≤◌, None, Some, drop, length, map, replicate, slice_index_or, slice_set, take};
-ghost use Rattle.cq_fabric.specs.Queues.{front_of, popped};
+ghost use Rattle.cq_fabric.specs.Terms.{front_of, popped};
 
 use cq_base::{Port, Queued};
 use cq_urgency::OutputBuffer;

@@ -1,20 +1,8 @@
 //! The lists of all inputs, and the buffers of all outputs.
 ghost use Rattle.std.specs.Prelude.{◌≡◌, ◌≢◌, ◌==◌, ◌+◌, ◌-◌, ◌^◌, ◌<◌, ◌≤◌, ◌++◌, ℕ, [], All, IfOk, IsTrue, Some, drop, length, map, replicate, slice_get, slice_index, take};
 ghost use Rattle.std.specs.List.{list_all, position_or_len};
-ghost use Rattle.cq_base.specs.Cells.{cushion};
 ghost use Rattle.cq_base.specs.declared.cell.Queued.{Queued as OfCell};
-ghost use Rattle.cq_ideal.specs.IdealSlot.{fronts, rests};
-ghost use Rattle.cq_list.specs.InputList.{cells_of};
-ghost use Rattle.cq_urgency.specs.OutputBuffer.{cells_in};
-ghost use Rattle.cq_prefs.specs.FirstCells.{first_key, key_before, list_of, orders_of};
-ghost use Rattle.cq_prefs.specs.Moves.{Moves, transfers_of};
-ghost use Rattle.cq_prefs.specs.Pairing.{IsMatching};
-ghost use Rattle.cq_xbar.specs.Crossbar.{MovesRoom};
-ghost use Rattle.cq_laws.specs.Phases.{came_to, list_arrived};
-ghost use Rattle.cq_fabric.specs.Crossing.{CanCrossInPairs, CanFollow};
-ghost use Rattle.cq_fabric.specs.Holding.{CanHold};
-ghost use Rattle.cq_fabric.specs.Newest.{IsNewest};
-ghost use Rattle.cq_fabric.specs.Queues.{CanCross, ComeApart, Comes, FitEach, FitLists, Fits, buffer_room, fabric_of, list_at, list_room, list_with};
+ghost use Rattle.cq_fabric.specs.Terms.{cushion, fronts, rests, cells_of, cells_in, first_key, key_before, list_of, orders_of, Moves, transfers_of, IsMatching, MovesRoom, came_to, list_arrived, CanCrossInPairs, CanFollow, CanHold, IsNewest, CanCross, ComeApart, Comes, FitEach, FitLists, Fits, buffer_room, fabric_of, list_at, list_room, list_with};
 
 use crate::gone::Gone;
 use crate::standing::{all_told, buffered, filled_buffer, filled_each, filled_list, listed};

@@ -1,8 +1,6 @@
 //! What follows from what the outputs sent.
 ghost use Rattle.std.specs.Prelude.{◌≡◌, ◌<◌, ◌≤◌, ℕ, IfSome, length, map, slice_index_or};
-ghost use Rattle.cq_ideal.specs.IdealSlot.{all_told};
-ghost use Rattle.cq_laws.specs.Phases.{came_to};
-ghost use Rattle.cq_fabric.specs.Released.{HasReleased};
+ghost use Rattle.cq_fabric.specs.Terms.{all_told, came_to, HasReleased};
 
 use cq_base::{Port, Queued};
 use cq_ideal::{Limiter, Ranks};

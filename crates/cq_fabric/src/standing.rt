@@ -1,9 +1,7 @@
 //! Lists and buffers in which cells wait from the start, and the cells that wait in them.
 ghost use Rattle.std.specs.Prelude.{◌≡◌, ◌<◌, ◌≤◌, ℕ, IfOk, Ok, length};
 ghost use Rattle.std.specs.Fn.{FnReturnsAt};
-ghost use Rattle.cq_fabric.specs.Holding.{CanStand, CanWait};
-ghost use Rattle.cq_fabric.specs.Queues.{buffer_room, list_room};
-ghost use Rattle.cq_fabric.specs.Telling.{AllAreFilled, AllAreTold, AreTold, CanFill};
+ghost use Rattle.cq_fabric.specs.Terms.{CanStand, CanWait, buffer_room, list_room, AllAreFilled, AllAreTold, AreTold, CanFill};
 
 use cq_base::{NoMemory, Queued, Sequence};
 use cq_list::InputList;

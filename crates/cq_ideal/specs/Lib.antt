@@ -19,3 +19,4 @@ pub mod Rest
 pub mod Taking
 pub mod WholePackets
 pub mod Newcomers
+pub mod Terms

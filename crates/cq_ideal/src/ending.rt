@@ -1,13 +1,7 @@
 //! Where the run of the ideal switch ends. Each law is the contract of a function that does nothing.
 ghost use Rattle.std.specs.Prelude.{◌≡◌, ◌≤◌, ℕ, List, Err, Ok};
 ghost use Rattle.std.specs.List.{AllByRecursion};
-ghost use Rattle.cq_base.specs.Arriving.{Arrival, enough, traffic_of};
-ghost use Rattle.cq_base.specs.declared.cell.TagFault.{TagFault};
-ghost use Rattle.cq_rank.specs.Machine.{Machine};
-ghost use Rattle.cq_ideal.specs.Ending.{IdealEnds, first_slots, slots_of, slots_of_run, whole_ideal_run};
-ghost use Rattle.cq_ideal.specs.Flows.{IsForSwitch};
-ghost use Rattle.cq_ideal.specs.IdealRun.{Ran, departures_of, departures_ran, empty_ideal, ideal_run};
-ghost use Rattle.cq_ideal.specs.IdealSlot.{IdealState};
+ghost use Rattle.cq_ideal.specs.Terms.{Arrival, enough, traffic_of, TagFault, Machine, IdealEnds, first_slots, slots_of, slots_of_run, whole_ideal_run, IsForSwitch, Ran, departures_of, departures_ran, empty_ideal, ideal_run, IdealState};
 
 /// A run over all cells that arrive has one end, if no rank is a tag fault.
 pub fn ideal_run_ends()

@@ -1,5 +1,5 @@
 //! That flows keep their order.
-ghost use Rattle.cq_ideal.specs.Flows.{FlowsLeaveAsTheyCame};
+ghost use Rattle.cq_ideal.specs.Terms.{FlowsLeaveAsTheyCame};
 
 /// The cells of one input and class for one output leave it in the order in which they came, and none
 /// is lost, in every run that ends without a tag fault. It does nothing: its contract is the claim.

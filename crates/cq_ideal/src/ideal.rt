@@ -1,11 +1,6 @@
 //! The ideal switch, slot by slot.
 ghost use Rattle.std.specs.Prelude.{◌≡◌, ◌↔◌, ◌<◌, IsTrue, false, is_err, All, IfOk, OnErr, [], length, map};
-ghost use Rattle.cq_rank.specs.Switch.{AreForOneSwitch};
-ghost use Rattle.cq_ideal.specs.Fresh.{fresh_ideal};
-ghost use Rattle.cq_ideal.specs.Ideal.{answer_to, its_slot};
-ghost use Rattle.cq_ideal.specs.IdealRun.{IsEmptyIdeal};
-ghost use Rattle.cq_ideal.specs.OneSlot.{CanHaveSlot, HasHadSlot, IsSameSwitch, IsUnchanged};
-ghost use Rattle.cq_ideal.specs.Rest.{HasRested};
+ghost use Rattle.cq_ideal.specs.Terms.{AreForOneSwitch, fresh_ideal, answer_to, its_slot, IsEmptyIdeal, CanHaveSlot, HasHadSlot, IsSameSwitch, IsUnchanged, HasRested};
 
 use crate::Refused;
 use crate::limiter::Limiter;

@@ -1,9 +1,6 @@
 //! Laws of the ideal switch.
 ghost use Rattle.std.specs.Prelude.{◌≡◌, ◌≤◌, ℕ, List, [], All, IfOk};
-ghost use Rattle.cq_base.specs.Arrivals.{no_arrivals};
-ghost use Rattle.cq_base.specs.Arriving.{Arrival, arriving, enough, traffic_of};
-ghost use Rattle.cq_rank.specs.Machine.{Machine};
-ghost use Rattle.cq_ideal.specs.IdealRun.{empty_ideal, ideal_run};
+ghost use Rattle.cq_ideal.specs.Terms.{no_arrivals, Arrival, arriving, enough, traffic_of, Machine, empty_ideal, ideal_run};
 
 /// A run of the ideal switch has enough slots: where no rank is a tag fault, all lists are empty at its
 /// end, and no cell arrives in a later slot. So nothing is cut off. This function does nothing: its

@@ -2,16 +2,7 @@
 //! nothing.
 ghost use Rattle.std.specs.Prelude.{◌≡◌, ◌≤◌, ℕ, List, Option, Err, Ok, max};
 ghost use Rattle.std.specs.List.{AllByRecursion};
-ghost use Rattle.cq_base.specs.Arriving.{Arrival, end_of, enough, traffic_of};
-ghost use Rattle.cq_base.specs.declared.cell.TagFault.{TagFault};
-ghost use Rattle.cq_rank.specs.Machine.{Machine};
-ghost use Rattle.cq_ideal.specs.Admission.{Marked, NoLimits};
-ghost use Rattle.cq_ideal.specs.Ending.{first_slots, slots_of, slots_of_run, whole_ideal_run};
-ghost use Rattle.cq_ideal.specs.Flows.{IsForSwitch};
-ghost use Rattle.cq_ideal.specs.IdealRun.{departures_of, empty_ideal};
-ghost use Rattle.cq_ideal.specs.IdealSlot.{IdealState};
-ghost use Rattle.cq_ideal.specs.LimitedEnding.{LimitedIdealEnds, departures_limited, slots_of_limited_run, whole_limited_run};
-ghost use Rattle.cq_ideal.specs.LimitedIdeal.{LimitedRan, empty_limited, limited_run, unlimited};
+ghost use Rattle.cq_ideal.specs.Terms.{Arrival, end_of, enough, traffic_of, TagFault, Machine, Marked, NoLimits, first_slots, slots_of, slots_of_run, whole_ideal_run, IsForSwitch, departures_of, empty_ideal, IdealState, LimitedIdealEnds, departures_limited, slots_of_limited_run, whole_limited_run, LimitedRan, empty_limited, limited_run, unlimited};
 
 /// Where outputs have limits a run over all cells that arrive has one end too, if no rank is a tag fault. It ends
 /// with the last arrival, or with the last departure where that is later.

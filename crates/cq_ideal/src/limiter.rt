@@ -3,12 +3,7 @@
 //! A packet is refused whole, by what its output holds as its first cell arrives. How many cells that is stands in a
 //! number which is kept: it rises with each cell that is admitted, and falls as the switch tells that one has left.
 ghost use Rattle.std.specs.Prelude.{◌≡◌, ◌+◌, ◌<◌, ◌≤◌, ◌^◌, ◌∷◌, ℕ, Some, None, IfOk, IfSome, [], false, length, replicate, slice_index_or, slice_set};
-ghost use Rattle.cq_base.specs.declared.cell.Cell.{Cell};
-ghost use Rattle.cq_base.specs.Arrivals.{arrival_at};
-ghost use Rattle.cq_ideal.specs.Admission.{admitted, held_after, is_full, mark_after, mark_at, marks_after, marks_down, refused};
-ghost use Rattle.cq_ideal.specs.Ideal.{count_for};
-ghost use Rattle.cq_ideal.specs.Limiter.{CanCount, ComeToPorts, HasPorts, held_without, where_up};
-ghost use Rattle.cq_ideal.specs.Refused.{refused_counts, with_refused};
+ghost use Rattle.cq_ideal.specs.Terms.{Cell, arrival_at, admitted, held_after, is_full, mark_after, mark_at, marks_after, marks_down, refused, count_for, CanCount, ComeToPorts, HasPorts, held_without, where_up, refused_counts, with_refused};
 
 use crate::Refused;
 use crate::refused::{count_refused, none_refused};

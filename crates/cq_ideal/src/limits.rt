@@ -1,14 +1,6 @@
 //! Switches whose outputs have limits. Each law is the contract of a function that does nothing.
 ghost use Rattle.std.specs.Prelude.{◌≡◌, ℕ, ◌++◌, Bool, List, [], ◌∷◌, Option, Ok};
-ghost use Rattle.cq_base.specs.declared.cell.Cell.{Cell};
-ghost use Rattle.cq_base.specs.Arrivals.{no_arrivals};
-ghost use Rattle.cq_ideal.specs.Admission.{Admission, MarksDecide, NoLimits, RefusesNone, marks_down};
-ghost use Rattle.cq_ideal.specs.EachOnce.{EachLeavesOrIsRefused, RefusesNoneElsewhere};
-ghost use Rattle.cq_ideal.specs.LimitedExample.{discard_admissions, discard_ran, discard_refused, discard_slots, first_come_all, limit_one};
-ghost use Rattle.cq_ideal.specs.LimitedFlows.{FlowsLeaveInPackets};
-ghost use Rattle.cq_ideal.specs.LimitedIdeal.{IsRunOfAdmitted, IsRunOfAll, LimitedRunIsWhole, empty_limited, limited_run};
-ghost use Rattle.cq_ideal.specs.Refused.{AreAllZero, EachCountsOnce, refused_counts, refused_in, with_refused};
-ghost use Rattle.cq_ideal.specs.WholePackets.{CellsComeInOrder, RunsAdmitWholePackets, WholePacketsAreAdmitted};
+ghost use Rattle.cq_ideal.specs.Terms.{Cell, no_arrivals, Admission, MarksDecide, NoLimits, RefusesNone, marks_down, EachLeavesOrIsRefused, RefusesNoneElsewhere, discard_admissions, discard_ran, discard_refused, discard_slots, first_come_all, limit_one, FlowsLeaveInPackets, IsRunOfAdmitted, IsRunOfAll, LimitedRunIsWhole, empty_limited, limited_run, AreAllZero, EachCountsOnce, refused_counts, refused_in, with_refused, CellsComeInOrder, RunsAdmitWholePackets, WholePacketsAreAdmitted};
 
 /// A run with limits is the run without limits of the arrivals that it admits, slot by slot. So what is said of
 /// runs without limits is said of admitted cells.

@@ -1,6 +1,6 @@
 //! The list of one output.
 ghost use Rattle.std.specs.Prelude.{◌≡◌, ◌<◌, ◌==◌, ◌^◌, IfOk, [], drop, length, slice_get};
-ghost use Rattle.cq_base.specs.Cells.{HasOtherKey, put};
+ghost use Rattle.cq_ideal.specs.Terms.{HasOtherKey, put};
 
 use cq_base::{NoMemory, Queued};
 use cq_urgency::OutputBuffer;

@@ -1,8 +1,7 @@
 //! The lists of all outputs.
 ghost use Rattle.std.specs.Prelude.{◌≡◌, ◌<◌, ◌≤◌, ◌==◌, ◌^◌, ◌↔◌, ℕ, IsTrue, All, IfOk, IfSome, [], drop, length, replicate, slice_get, slice_index, slice_set};
 ghost use Rattle.std.specs.List.{list_all};
-ghost use Rattle.cq_ideal.specs.IdealSlot.{filled};
-ghost use Rattle.cq_ideal.specs.Parts.{AreWithinRooms, CameToPorts, CanPut, HaveOwnKeys, HaveRoomFor, list_at, with_came, with_cell};
+ghost use Rattle.cq_ideal.specs.Terms.{filled, AreWithinRooms, CameToPorts, CanPut, HaveOwnKeys, HaveRoomFor, list_at, with_came, with_cell};
 
 use crate::newcomers::Newcomers;
 use crate::queue::Queue;

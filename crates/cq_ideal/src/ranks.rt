@@ -1,11 +1,6 @@
 //! The rank machines of all outputs.
 ghost use Rattle.std.specs.Prelude.{◌≡◌, ◌↔◌, ◌+◌, ◌<◌, ◌≤◌, ◌^◌, ◌∷◌, List, Option, Ok, Err, IfErr, IfOk, IsErr, None, OnErr, OnOk, Some, length, map, slice_index_or, slice_set, []};
-ghost use Rattle.cq_base.specs.declared.cell.Cell.{Cell};
-ghost use Rattle.cq_rank.specs.Machine.{machine_at, told};
-ghost use Rattle.cq_rank.specs.Switch.{AreForOneSwitch, AreSized, class_count};
-ghost use Rattle.cq_ideal.specs.Admission.{admitted};
-ghost use Rattle.cq_ideal.specs.Parts.{all_idle, given_at, level_at, rank_at};
-ghost use Rattle.cq_ideal.specs.Ranking.{AreForPorts, after_input, keyed, ranking};
+ghost use Rattle.cq_ideal.specs.Terms.{Cell, machine_at, told, AreForOneSwitch, AreSized, class_count, admitted, all_idle, given_at, level_at, rank_at, AreForPorts, after_input, keyed, ranking};
 
 use crate::limiter::Limiter;
 use crate::newcomers::Newcomers;

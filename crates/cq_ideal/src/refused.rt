@@ -1,7 +1,6 @@
 //! What is refused at an output.
 ghost use Rattle.std.specs.Prelude.{◌≡◌, ◌+◌, ◌<◌, ◌≤◌, ◌^◌, ◌∷◌, IfOk, [], length};
-ghost use Rattle.cq_ideal.specs.Limiter.{CanCount};
-ghost use Rattle.cq_ideal.specs.Refused.{refused_counts, with_cells, with_refused};
+ghost use Rattle.cq_ideal.specs.Terms.{CanCount, refused_counts, with_cells, with_refused};
 
 use cq_base::{Cell, NoMemory, Port};
 use std::alloc::Global;

@@ -1,9 +1,6 @@
 //! How the outputs of an ideal switch send.
 ghost use Rattle.std.specs.Prelude.{◌≤◌, length, map};
-ghost use Rattle.cq_ideal.specs.Ideal.{HaveLeft};
-ghost use Rattle.cq_ideal.specs.IdealSlot.{fronts};
-ghost use Rattle.cq_ideal.specs.Limiter.{HoldsLists, JudgesAsBefore};
-ghost use Rattle.cq_ideal.specs.Parts.{AreTold, FirstsHaveLeft, FitTogether};
+ghost use Rattle.cq_ideal.specs.Terms.{HaveLeft, fronts, HoldsLists, JudgesAsBefore, AreTold, FirstsHaveLeft, FitTogether};
 
 use crate::limiter::Limiter;
 use crate::queues::Queues;

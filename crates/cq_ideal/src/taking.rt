@@ -1,8 +1,6 @@
 //! How the cells that arrive in a slot are taken in.
 ghost use Rattle.std.specs.Prelude.{◌≡◌, Err, IfErr, OnErr, OnOk, length, map};
-ghost use Rattle.cq_ideal.specs.Admission.{admitted};
-ghost use Rattle.cq_ideal.specs.Ranking.{ranking};
-ghost use Rattle.cq_ideal.specs.Taking.{CanTakeIn, HasJudged, HasTakenIn};
+ghost use Rattle.cq_ideal.specs.Terms.{admitted, ranking, CanTakeIn, HasJudged, HasTakenIn};
 
 use crate::limiter::Limiter;
 use crate::newcomers::Newcomers;

@@ -16,3 +16,4 @@ pub mod Quiet
 pub mod Frozen
 pub mod Entering
 pub mod Example
+pub mod Terms

@@ -1,21 +1,7 @@
 //! Why the fabric sends what the ideal switch sends. Each law is the contract of a function that does nothing.
 ghost use Rattle.std.specs.Prelude.{◌↔◌, ℕ, List, Option, length};
 ghost use Rattle.std.specs.List.{AllByRecursion};
-ghost use Rattle.cq_base.specs.declared.cell.Cell.{Cell};
-ghost use Rattle.cq_rank.specs.Machine.{Machine};
-ghost use Rattle.cq_ideal.specs.Admission.{Marked};
-ghost use Rattle.cq_ideal.specs.LimitedIdeal.{empty_limited};
-ghost use Rattle.cq_ideal.specs.Ranking.{AreForPorts};
-ghost use Rattle.cq_ideal.specs.IdealSlot.{IdealState};
-ghost use Rattle.cq_ideal.specs.IdealRun.{IsEmptyIdeal, empty_ideal};
-ghost use Rattle.cq_prefs.specs.Pairing.{IsStable, IsInputBest};
-ghost use Rattle.cq_laws.specs.Fabric.{Fabric, empty_fabric, IsEmptyFabric};
-ghost use Rattle.cq_laws.specs.Slack.{HasSlack};
-ghost use Rattle.cq_laws.specs.FabricSlot.{SlotRecord};
-ghost use Rattle.cq_laws.specs.FabricRun.{FabricRun};
-ghost use Rattle.cq_laws.specs.Agreement.{ActAlikeFromEmptyWithoutLimits, ActAlikeWithoutLimits, Agrees};
-ghost use Rattle.cq_laws.specs.LimitedFabric.{LimitedFabricRun, LimitedRecord, empty_limited_fabric};
-ghost use Rattle.cq_laws.specs.LimitedAgreement.{ActAlike, ActAlikeFromEmpty, LimitedAgrees};
+ghost use Rattle.cq_laws.specs.Terms.{Cell, Machine, Marked, empty_limited, AreForPorts, IdealState, IsEmptyIdeal, empty_ideal, IsStable, IsInputBest, Fabric, empty_fabric, IsEmptyFabric, HasSlack, SlotRecord, FabricRun, ActAlikeFromEmptyWithoutLimits, ActAlikeWithoutLimits, Agrees, LimitedFabricRun, LimitedRecord, empty_limited_fabric, ActAlike, ActAlikeFromEmpty, LimitedAgrees};
 
 /// From states that agree, the ideal switch and the fabric with input-best matchings admit, refuse and send the
 /// same in a slot and agree again, or have the same tag fault. So over whole runs, from empty states on, they

@@ -1,19 +1,7 @@
 //! Where runs of the fabric end. Each law is the contract of a function that does nothing.
 ghost use Rattle.std.specs.Prelude.{◌≡◌, ℕ, List, Err, length};
 ghost use Rattle.std.specs.List.{AllByRecursion};
-ghost use Rattle.cq_base.specs.Arriving.{Arrival, traffic_of};
-ghost use Rattle.cq_base.specs.declared.cell.TagFault.{TagFault};
-ghost use Rattle.cq_rank.specs.Machine.{Machine};
-ghost use Rattle.cq_ideal.specs.Ending.{first_slots, whole_ideal_run};
-ghost use Rattle.cq_ideal.specs.Flows.{IsForSwitch};
-ghost use Rattle.cq_ideal.specs.IdealRun.{empty_ideal};
-ghost use Rattle.cq_ideal.specs.Ranking.{AreForPorts};
-ghost use Rattle.cq_prefs.specs.Pairing.{IsInputBest, IsStable};
-ghost use Rattle.cq_laws.specs.Agreement.{EndsAlike};
-ghost use Rattle.cq_laws.specs.Fabric.{Fabric, empty_fabric};
-ghost use Rattle.cq_laws.specs.FabricRun.{BeginsWhole, FabricRun, FabricStops, WholeRun};
-ghost use Rattle.cq_laws.specs.FabricSlot.{SlotRecord};
-ghost use Rattle.cq_laws.specs.Measures.{figures_of};
+ghost use Rattle.cq_laws.specs.Terms.{Arrival, traffic_of, TagFault, Machine, first_slots, whole_ideal_run, IsForSwitch, empty_ideal, AreForPorts, IsInputBest, IsStable, EndsAlike, Fabric, empty_fabric, BeginsWhole, FabricRun, FabricStops, WholeRun, SlotRecord, figures_of};
 
 /// The fabric and the ideal switch end after the same slot, whichever stable matchings are taken, or stop at
 /// the same tag fault.

@@ -1,16 +1,6 @@
 //! What the lists and buffers of a fabric are asked for. Each law is the contract of a function that does nothing.
 ghost use Rattle.std.specs.Prelude.{◌≡◌, ℕ, List, Ok, Option, Some, length};
-ghost use Rattle.cq_base.specs.declared.cell.Cell.{Cell};
-ghost use Rattle.cq_base.specs.declared.cell.Queued.{Queued};
-ghost use Rattle.cq_rank.specs.Machine.{Machine};
-ghost use Rattle.cq_ideal.specs.IdealSlot.{IdealState};
-ghost use Rattle.cq_ideal.specs.Ranking.{AreForPorts, ranking};
-ghost use Rattle.cq_prefs.specs.FirstCells.{orders_of};
-ghost use Rattle.cq_prefs.specs.Pairing.{IsStable, Partners};
-ghost use Rattle.cq_laws.specs.Agreement.{Agrees};
-ghost use Rattle.cq_laws.specs.Entering.{FirstsCanCross, FitsList};
-ghost use Rattle.cq_laws.specs.Fabric.{Fabric};
-ghost use Rattle.cq_laws.specs.Phases.{Arrives, Departs, Transfers, came_to};
+ghost use Rattle.cq_laws.specs.Terms.{Cell, Queued, Machine, IdealState, AreForPorts, ranking, orders_of, IsStable, Partners, Agrees, FirstsCanCross, FitsList, Fabric, Arrives, Departs, Transfers, came_to};
 
 /// In a slot from a state that agrees with an ideal one each cell that comes fits the list of its input, and the
 /// cells can cross before each of the two matchings, whichever stable one the first is.

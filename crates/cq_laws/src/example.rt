@@ -1,14 +1,6 @@
 //! The definitions on a worked run. The law is the contract of a function that does nothing.
 ghost use Rattle.std.specs.Prelude.{◌≡◌, [], ◌∷◌, Some, Ok};
-ghost use Rattle.cq_ideal.specs.IdealRun.{ideal_run, empty_ideal};
-ghost use Rattle.cq_ideal.specs.LimitedExample.{first_come_all};
-ghost use Rattle.cq_prefs.specs.Pairing.{IsInputBest};
-ghost use Rattle.cq_laws.specs.Fabric.{empty_fabric};
-ghost use Rattle.cq_laws.specs.Phases.{list_arrived};
-ghost use Rattle.cq_laws.specs.FabricRun.{FabricRun};
-ghost use Rattle.cq_laws.specs.Records.{gone_in, transfers_of_run};
-ghost use Rattle.cq_laws.specs.Measures.{figures_of};
-ghost use Rattle.cq_laws.specs.Example.{from_input2, for_output1, three, three_empty, three_slots, worked_figures, worked_records, worked_transfers};
+ghost use Rattle.cq_laws.specs.Terms.{ideal_run, empty_ideal, first_come_all, IsInputBest, empty_fabric, list_arrived, FabricRun, gone_in, transfers_of_run, figures_of, from_input2, for_output1, three, three_empty, three_slots, worked_figures, worked_records, worked_transfers};
 
 /// Three inputs have a cell for one output, and one of them gets a cell for another output. The records that
 /// were worked out by hand are the run with input-best matchings; the ideal switch sends what they say, and

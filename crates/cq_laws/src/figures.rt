@@ -1,7 +1,6 @@
 //! The figures of a run, added slot by slot. Each law is the contract of a function that does nothing.
 ghost use Rattle.std.specs.Prelude.{◌≡◌, ℕ, List, [], ◌∷◌, ◌++◌, fold};
-ghost use Rattle.cq_laws.specs.FabricSlot.{SlotRecord};
-ghost use Rattle.cq_laws.specs.Measures.{figures_of, figures_after, no_figures};
+ghost use Rattle.cq_laws.specs.Terms.{SlotRecord, figures_of, figures_after, no_figures};
 
 /// The figures of a run are those before its first slot, with the record of each slot added in turn.
 pub fn figures_add_up()

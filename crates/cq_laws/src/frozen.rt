@@ -1,9 +1,6 @@
 //! A fabric that stands still between two slots.
 ghost use Rattle.std.specs.Prelude.{◌≡◌, ℕ};
-ghost use Rattle.cq_ideal.specs.IdealSlot.{IdealState};
-ghost use Rattle.cq_laws.specs.Agreement.{Agrees};
-ghost use Rattle.cq_laws.specs.Fabric.{Fabric};
-ghost use Rattle.cq_laws.specs.Frozen.{IsSoundFabric, ideal_of};
+ghost use Rattle.cq_laws.specs.Terms.{IdealState, Agrees, Fabric, IsSoundFabric, ideal_of};
 
 use crate::Refused;
 use cq_base::{Figures, Queued, Sequence, Slot};

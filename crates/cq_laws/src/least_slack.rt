@@ -2,21 +2,7 @@
 //! nothing.
 ghost use Rattle.std.specs.Prelude.{◌≡◌, ◌+◌, ◌==◌, ◌<◌, ℕ, min, List, Option, Some, filter_map, length};
 ghost use Rattle.std.specs.List.{AllByRecursion, position_or_len, reduce};
-ghost use Rattle.cq_base.specs.declared.cell.Cell.{Cell};
-ghost use Rattle.cq_base.specs.declared.cell.Queued.{Queued};
-ghost use Rattle.cq_base.specs.declared.figures.Figures.{Figures};
-ghost use Rattle.cq_base.specs.Cells.{place_of_arrival};
-ghost use Rattle.cq_rank.specs.Machine.{Machine};
-ghost use Rattle.cq_ideal.specs.Ranking.{AreForPorts};
-ghost use Rattle.cq_ideal.specs.IdealSlot.{IdealState};
-ghost use Rattle.cq_prefs.specs.Pairing.{IsStable};
-ghost use Rattle.cq_laws.specs.Fabric.{Fabric, input, cushion_of, empty_fabric};
-ghost use Rattle.cq_laws.specs.Phases.{Arrives, came_to};
-ghost use Rattle.cq_laws.specs.Slack.{EachRises, EachArrivesOr, Falls};
-ghost use Rattle.cq_laws.specs.FabricSlot.{SlotRecord, FabricSlot};
-ghost use Rattle.cq_laws.specs.FabricRun.{FabricRun};
-ghost use Rattle.cq_laws.specs.Agreement.{Agrees};
-ghost use Rattle.cq_laws.specs.Measures.{figures_of, figures_after, no_figures, slacks, either_by, least_slack, slack_on_arrival, HasMoreSlack};
+ghost use Rattle.cq_laws.specs.Terms.{Cell, Queued, Figures, place_of_arrival, Machine, AreForPorts, IdealState, IsStable, Fabric, input, cushion_of, empty_fabric, Arrives, came_to, EachRises, EachArrivesOr, Falls, SlotRecord, FabricSlot, FabricRun, Agrees, figures_of, figures_after, no_figures, slacks, either_by, least_slack, slack_on_arrival, HasMoreSlack};
 
 /// From the arrivals of a slot to its end the slack of each cell that still waits rises by one at least, so that
 /// to the arrivals of the next slot it does not fall.

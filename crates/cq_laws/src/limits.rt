@@ -2,28 +2,7 @@
 //! without limits hold of its runs. Each law is the contract of a function that does nothing.
 ghost use Rattle.std.specs.Prelude.{◌≡◌, ℕ, Bool, List, Option, Err, length, replicate};
 ghost use Rattle.std.specs.List.{AllByRecursion};
-ghost use Rattle.cq_base.specs.declared.cell.Cell.{Cell};
-ghost use Rattle.cq_base.specs.declared.cell.TagFault.{TagFault};
-ghost use Rattle.cq_base.specs.Arrivals.{no_arrivals};
-ghost use Rattle.cq_base.specs.Arriving.{Arrival};
-ghost use Rattle.cq_rank.specs.Machine.{Machine};
-ghost use Rattle.cq_ideal.specs.Admission.{Marked, NoLimits, admitted_in, marked, marks_down, unmarked};
-ghost use Rattle.cq_ideal.specs.Ending.{first_slots};
-ghost use Rattle.cq_ideal.specs.IdealSlot.{IdealState};
-ghost use Rattle.cq_ideal.specs.LimitedEnding.{slots_of_limited_run, whole_limited_run};
-ghost use Rattle.cq_ideal.specs.LimitedIdeal.{admitted_traffic, empty_limited, ideal_admission, ideal_held};
-ghost use Rattle.cq_ideal.specs.Ranking.{AreForPorts};
-ghost use Rattle.cq_ideal.specs.WholePackets.{AreOfPackets, AreWholePackets, cells_at};
-ghost use Rattle.cq_prefs.specs.Pairing.{IsInputBest, IsStable};
-ghost use Rattle.cq_laws.specs.Agreement.{Agrees};
-ghost use Rattle.cq_laws.specs.Fabric.{Fabric, empty_fabric};
-ghost use Rattle.cq_laws.specs.FabricRun.{FabricRun, FabricStops};
-ghost use Rattle.cq_laws.specs.FabricSlot.{SlotRecord};
-ghost use Rattle.cq_laws.specs.Holding.{fabric_held};
-ghost use Rattle.cq_laws.specs.LimitedAgreement.{LimitedAgrees, LimitedEndsAlike};
-ghost use Rattle.cq_laws.specs.LimitedFabric.{IsRunOfRecorded, LimitedFabricRun, LimitedFabricSlot, LimitedFabricStops, LimitedRecord, LimitedWholeRun, admissions_in, empty_limited_fabric, fabric_admission, passed, slots_in};
-ghost use Rattle.cq_laws.specs.LimitedQuiet.{quiet_limited_slot, quiet_limited_slots};
-ghost use Rattle.cq_laws.specs.Quiet.{idled, idled_for};
+ghost use Rattle.cq_laws.specs.Terms.{Cell, TagFault, no_arrivals, Arrival, Machine, Marked, NoLimits, admitted_in, marked, marks_down, unmarked, first_slots, IdealState, slots_of_limited_run, whole_limited_run, admitted_traffic, empty_limited, ideal_admission, ideal_held, AreForPorts, AreOfPackets, AreWholePackets, cells_at, IsInputBest, IsStable, Agrees, Fabric, empty_fabric, FabricRun, FabricStops, SlotRecord, fabric_held, LimitedAgrees, LimitedEndsAlike, IsRunOfRecorded, LimitedFabricRun, LimitedFabricSlot, LimitedFabricStops, LimitedRecord, LimitedWholeRun, admissions_in, empty_limited_fabric, fabric_admission, passed, slots_in, quiet_limited_slot, quiet_limited_slots, idled, idled_for};
 
 /// In states that agree each output holds equally many cells: in the ideal switch those of its list, in the
 /// fabric those for it at all inputs and in its buffer. So where the marks are equal both admit and refuse the

@@ -1,18 +1,6 @@
 //! What each phase of a slot keeps. The law is the contract of a function that does nothing.
 ghost use Rattle.std.specs.Prelude.{◌≡◌, ℕ, Bool, List, Option, length};
-ghost use Rattle.cq_base.specs.declared.cell.Cell.{Cell};
-ghost use Rattle.cq_base.specs.declared.cell.Queued.{Queued};
-ghost use Rattle.cq_rank.specs.Machine.{Machine};
-ghost use Rattle.cq_ideal.specs.Admission.{admission};
-ghost use Rattle.cq_ideal.specs.IdealSlot.{IdealState};
-ghost use Rattle.cq_ideal.specs.Ranking.{AreForPorts};
-ghost use Rattle.cq_prefs.specs.FirstCells.{orders_of};
-ghost use Rattle.cq_prefs.specs.Pairing.{Partners, IsStable};
-ghost use Rattle.cq_laws.specs.Agreement.{Agrees};
-ghost use Rattle.cq_laws.specs.Fabric.{Fabric, IsWholeFabric, ListsKeepOrder};
-ghost use Rattle.cq_laws.specs.FabricSlot.{SlotRecord, FabricSlot, EachIsWhole};
-ghost use Rattle.cq_laws.specs.Phases.{Arrives, Transfers, Departs};
-ghost use Rattle.cq_laws.specs.Places.{NoKeyTwice};
+ghost use Rattle.cq_laws.specs.Terms.{Cell, Queued, Machine, admission, IdealState, AreForPorts, orders_of, Partners, IsStable, Agrees, Fabric, IsWholeFabric, ListsKeepOrder, SlotRecord, FabricSlot, EachIsWhole, Arrives, Transfers, Departs, NoKeyTwice};
 
 /// Each phase leaves a fabric a fabric: each cell is for one of the outputs, the cells of a buffer are for its
 /// output and stand in the order of their keys, and each output has one rank state. So it is at each moment of a

@@ -1,12 +1,6 @@
 //! Slots in which nothing waits and nothing comes. Each law is the contract of a function that does nothing.
 ghost use Rattle.std.specs.Prelude.{◌≡◌, ◌+◌, ℕ, List, length, replicate};
-ghost use Rattle.cq_base.specs.Arrivals.{no_arrivals};
-ghost use Rattle.cq_rank.specs.Machine.{Machine};
-ghost use Rattle.cq_prefs.specs.Pairing.{IsInputBest};
-ghost use Rattle.cq_laws.specs.Fabric.{Fabric, empty_fabric, IsEmptyFabric};
-ghost use Rattle.cq_laws.specs.FabricSlot.{FabricSlot};
-ghost use Rattle.cq_laws.specs.FabricRun.{FabricRun};
-ghost use Rattle.cq_laws.specs.Quiet.{AddNothing, KeepLaws, idled, idled_for, quiet_slot, quiet_slots};
+ghost use Rattle.cq_laws.specs.Terms.{no_arrivals, Machine, IsInputBest, Fabric, empty_fabric, IsEmptyFabric, FabricSlot, FabricRun, AddNothing, KeepLaws, idled, idled_for, quiet_slot, quiet_slots};
 
 /// From a state without cells, slots in which none arrives send nothing, transfer nothing and change no
 /// figure. They only tell the rank machines that their outputs were idle.

@@ -1,18 +1,6 @@
 //! Runs: how they go on, and which of them there are. Each law is the contract of a function that does nothing.
 ghost use Rattle.std.specs.Prelude.{◌≡◌, ◌++◌, ℕ, List, Option};
-ghost use Rattle.cq_base.specs.Arriving.{Arrival};
-ghost use Rattle.cq_base.specs.declared.cell.Cell.{Cell};
-ghost use Rattle.cq_base.specs.declared.cell.Queued.{Queued};
-ghost use Rattle.cq_base.specs.declared.cell.TagFault.{TagFault};
-ghost use Rattle.cq_rank.specs.Machine.{Machine};
-ghost use Rattle.cq_prefs.specs.FirstCells.{orders_of};
-ghost use Rattle.cq_prefs.specs.Moves.{transfers_of};
-ghost use Rattle.cq_prefs.specs.Pairing.{IsStable, IsInputBest, Partners};
-ghost use Rattle.cq_laws.specs.Fabric.{Fabric};
-ghost use Rattle.cq_laws.specs.FabricSlot.{SlotRecord, FabricSlot};
-ghost use Rattle.cq_laws.specs.FabricRun.{FabricRun, FabricStops, IsFault, WholeRun};
-ghost use Rattle.cq_laws.specs.LimitedFabric.{IsLimitedFault, LimitedFabricSlot};
-ghost use Rattle.cq_laws.specs.SlotBySlot.{GoOn, HasParts, IsOneRun};
+ghost use Rattle.cq_laws.specs.Terms.{Arrival, Cell, Queued, TagFault, Machine, orders_of, transfers_of, IsStable, IsInputBest, Partners, Fabric, SlotRecord, FabricSlot, FabricRun, FabricStops, IsFault, WholeRun, IsLimitedFault, LimitedFabricSlot, GoOn, HasParts, IsOneRun};
 
 /// A state, its marks and what arrives leave one run with input-best matchings, if there is one: its records,
 /// and its end or its tag fault.

@@ -1,15 +1,7 @@
 //! What each phase of a slot does to the slack of the cells that wait at the inputs. Each law is the contract
 //! of a function that does nothing.
 ghost use Rattle.std.specs.Prelude.{ℕ, List, Option};
-ghost use Rattle.cq_base.specs.declared.cell.Cell.{Cell};
-ghost use Rattle.cq_base.specs.declared.cell.Queued.{Queued};
-ghost use Rattle.cq_rank.specs.Machine.{Machine};
-ghost use Rattle.cq_prefs.specs.FirstCells.{orders_of};
-ghost use Rattle.cq_prefs.specs.Pairing.{Partners, IsStable};
-ghost use Rattle.cq_laws.specs.Fabric.{Fabric, IsAmong, IsFabric, ListsKeepOrder, buffer};
-ghost use Rattle.cq_laws.specs.Phases.{Arrives, Transfers, Departs};
-ghost use Rattle.cq_laws.specs.Places.{IsMostUrgentFor, NoKeyTwice};
-ghost use Rattle.cq_laws.specs.Slack.{EachArrivesOrFalls, EachRises, EachFalls, HasSlack};
+ghost use Rattle.cq_laws.specs.Terms.{Cell, Queued, Machine, orders_of, Partners, IsStable, Fabric, IsAmong, IsFabric, ListsKeepOrder, buffer, Arrives, Transfers, Departs, IsMostUrgentFor, NoKeyTwice, EachArrivesOrFalls, EachRises, EachFalls, HasSlack};
 
 /// A cell that arrives has slack 0 at least, and arrivals lower the slack of every other by one at most.
 pub fn slack_after_arrivals()

@@ -10,3 +10,4 @@ pub mod Resumed
 pub mod Parts
 pub mod Neighbours
 pub mod Steps
+pub mod Terms

@@ -1,10 +1,7 @@
 //! The levels and the floors of the classes.
 ghost use Rattle.std.specs.Prelude.{◌≡◌, ◌↔◌, ◌<◌, ℕ, IsTrue, length, slice_index_or, []};
 ghost use Rattle.std.specs.List.{AllByRecursion};
-ghost use Rattle.cq_rank.specs.Machine.{machine_at};
-ghost use Rattle.cq_rank.specs.Switch.{AreSized};
-ghost use Rattle.cq_resume.specs.Finding.{StandsBelow};
-ghost use Rattle.cq_scfq.specs.Disciplines.{machine_of, machines_of};
+ghost use Rattle.cq_resume.specs.Terms.{machine_at, AreSized, StandsBelow, machine_of, machines_of};
 
 use cq_base::{Class, Kind, Port, Queued, Sequence, Setup};
 

@@ -1,7 +1,7 @@
 //! The cells of one input, output and class: they leave in the order of arrival.
 ghost use Rattle.std.specs.Prelude.{◌≡◌, ◌↔◌, ◌<◌, ◌≤◌, AllPairs, IfOk, IfSome, IsTrue, None, length, map, replicate};
 ghost use Rattle.std.specs.List.{AllByRecursion};
-ghost use Rattle.cq_resume.specs.Finding.{FlowsStand, IsNameBefore, Leaves, begins_at};
+ghost use Rattle.cq_resume.specs.Terms.{FlowsStand, IsNameBefore, Leaves, begins_at};
 
 use crate::found::Name;
 use crate::order::is_before;

@@ -1,8 +1,8 @@
 //! The cells that a state names, looked up among those that arrive.
 ghost use Rattle.std.specs.Prelude.{◌≡◌, ◌↔◌, ◌<◌, ◌&&◌, ◌||◌, ◌==◌, nat_lt, AllPairs, IfErr, IfNone, IfOk, IfSome, IsPermutation, IsTrue, None, OnOk, filter, length, map};
 ghost use Rattle.std.specs.List.{AllAdjacentBelow, AllByRecursion, list_any};
-ghost use Rattle.cq_resume.specs.Finding.{AreGone, AreFound, IsFound, IsNameBefore, IsNameNotAfter, SomeMissed, names_of as names_told, sent_name, told_of, waiting_name};
-ghost use Rattle.cq_resume.specs.Sound.{AreArrivals, IsForPorts, IsOnlyFor};
+ghost use Rattle.cq_resume.specs.Finding.{names_of as names_told};
+ghost use Rattle.cq_resume.specs.Terms.{AreGone, AreFound, IsFound, IsNameBefore, IsNameNotAfter, SomeMissed, sent_name, told_of, waiting_name, AreArrivals, IsForPorts, IsOnlyFor};
 
 use crate::StateRefusal;
 use crate::between::between;

@@ -1,6 +1,6 @@
 //! A test of each item and the next one.
 ghost use Rattle.std.specs.Fn.{FnReturnsAtPair};
-ghost use Rattle.cq_resume.specs.Neighbours.{IsOfNeighbours};
+ghost use Rattle.cq_resume.specs.Terms.{IsOfNeighbours};
 
 /// Whether a test holds of each item and the next one. It is asked of each two once, in order, up to the first two of
 /// which it does not hold.

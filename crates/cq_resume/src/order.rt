@@ -1,9 +1,7 @@
 //! Whether the lines of a state stand in order.
 ghost use Rattle.std.specs.Prelude.{◌≡◌, ◌↔◌, ◌<◌, AllPairs, IfSome, IsTrue, None, length, map, replicate};
 ghost use Rattle.std.specs.List.{AllByRecursion};
-ghost use Rattle.cq_base.specs.Cells.{IsBefore};
-ghost use Rattle.cq_resume.specs.Finding.{BuffersStand, IsBufferedBefore, IsListedBefore, IsNoLaterInput, IsSentBefore, IsTimely, ListsStand, SentStand, begins_at};
-ghost use Rattle.cq_resume.specs.Sound.{IsMovedBefore};
+ghost use Rattle.cq_resume.specs.Terms.{IsBefore, BuffersStand, IsBufferedBefore, IsListedBefore, IsNoLaterInput, IsSentBefore, IsTimely, ListsStand, SentStand, begins_at, IsMovedBefore};
 
 use crate::found::{Found, Gone};
 use crate::neighbours::neighbours_hold;

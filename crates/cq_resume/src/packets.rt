@@ -1,8 +1,6 @@
 //! The packets that have begun: each is named whole or not at all, and then it was refused.
 ghost use Rattle.std.specs.Prelude.{◌≡◌, ◌∷◌, ◌+◌, ◌==◌, ◌<◌, ◌≤◌, ◌^◌, [], if◌then◌else◌, AllPairs, IfNone, IfOk, IfSome, false, length, map};
-ghost use Rattle.cq_ideal.specs.Limiter.{CanCount};
-ghost use Rattle.cq_ideal.specs.Refused.{with_refused};
-ghost use Rattle.cq_resume.specs.Finding.{ArePackets, IsNameBefore, PacketsStand, TalliesUp, coming, has_limit, has_name, mark_on, may_come, unnamed};
+ghost use Rattle.cq_resume.specs.Terms.{CanCount, with_refused, ArePackets, IsNameBefore, PacketsStand, TalliesUp, coming, has_limit, has_name, mark_on, may_come, unnamed};
 
 use crate::found::{Name, is_named};
 use cq_base::{Cell, NoMemory, Port, Sequence, Slot};

@@ -1,8 +1,6 @@
 //! Reads a state, and judges it.
 ghost use Rattle.std.specs.Prelude.{IfErr, IfOk};
-ghost use Rattle.cq_resume.specs.Reading.{IsRead, IsRefusal};
-ghost use Rattle.cq_resume.specs.Switch.{IsScheduleOf, switch_of};
-ghost use Rattle.cq_route.specs.Tables.{AreTables};
+ghost use Rattle.cq_resume.specs.Terms.{IsRead, IsRefusal, IsScheduleOf, switch_of, AreTables};
 
 use crate::shape::has_shape;
 use crate::sound::judge;

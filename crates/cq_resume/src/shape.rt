@@ -1,8 +1,6 @@
 //! Whether a state is one of a switch of this shape.
 ghost use Rattle.std.specs.Prelude.{◌≡◌, ◌↔◌, ◌≤◌, IsTrue, length};
-ghost use Rattle.cq_rank.specs.Switch.{AreSized};
-ghost use Rattle.cq_resume.specs.Switch.{HasShape, IsHeadOf, switch_of};
-ghost use Rattle.cq_scfq.specs.Disciplines.{machine_of, machines_of};
+ghost use Rattle.cq_resume.specs.Terms.{AreSized, HasShape, IsHeadOf, switch_of, machine_of, machines_of};
 
 use cq_base::{ClassRow, Kind, Sequence, Setup};
 use cq_cells::Schedule;

@@ -1,7 +1,6 @@
 //! The slack of the cells that wait at inputs.
 ghost use Rattle.std.specs.Prelude.{◌≡◌, ◌↔◌, ◌==◌, AllPairs, IsTrue, filter, length};
-ghost use Rattle.cq_base.specs.Cells.{IsRising};
-ghost use Rattle.cq_resume.specs.Finding.{BuffersStand, IsNoLaterInput, SlackStands, cushion_in};
+ghost use Rattle.cq_resume.specs.Terms.{IsRising, BuffersStand, IsNoLaterInput, SlackStands, cushion_in};
 
 use crate::between::between;
 use crate::order::begins;

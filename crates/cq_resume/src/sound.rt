@@ -1,17 +1,7 @@
 //! Whether a state is sound.
 ghost use Rattle.std.specs.Prelude.{◌≡◌, ◌↔◌, ◌<◌, ◌≤◌, AllPairs, IfErr, IfOk, IsTrue, OnOk, length};
 ghost use Rattle.std.specs.List.{AllByRecursion};
-ghost use Rattle.cq_cells.specs.Traffic.{IsTraffic};
-ghost use Rattle.cq_resume.specs.Counted.{IsTally};
-ghost use Rattle.cq_rank.specs.Switch.{AreSized};
-ghost use Rattle.cq_resume.specs.Finding.{ArePackets, FlowsStand, IsFound, IsNameBefore};
-ghost use Rattle.cq_resume.specs.Steps.{AreCellsFor, AreNamesFor, AreOrdered, HaveRoom, IsFirstOfTwo, StandBelow};
-ghost use Rattle.cq_resume.specs.Sound.{IsFirstOf, IsSound};
-ghost use Rattle.cq_resume.specs.Switch.{HasShape, switch_of};
-ghost use Rattle.cq_resume.specs.Taking.{CanTakeUp};
-ghost use Rattle.cq_route.specs.Tables.{AreTables, classes_of, ports_of};
-ghost use Rattle.cq_scfq.specs.Disciplines.{machines_of};
-ghost use Rattle.cq_state.specs.State.{IsInRange};
+ghost use Rattle.cq_resume.specs.Terms.{IsTraffic, IsTally, AreSized, ArePackets, FlowsStand, IsFound, IsNameBefore, AreCellsFor, AreNamesFor, AreOrdered, HaveRoom, IsFirstOfTwo, StandBelow, IsFirstOf, IsSound, HasShape, switch_of, CanTakeUp, AreTables, classes_of, ports_of, machines_of, IsInRange};
 
 use crate::StateRefusal;
 use crate::floors::are_below_floors;

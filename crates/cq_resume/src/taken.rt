@@ -1,11 +1,7 @@
 //! What a sound state comes to.
 ghost use Rattle.std.specs.Prelude.{◌≡◌, ◌+◌, ◌==◌, ◌<◌, ◌≤◌, ◌^◌, AllPairs, IfOk, None, filter, length, map, replicate};
 ghost use Rattle.std.specs.List.{AllByRecursion, enumerate_from, range_with_len};
-ghost use Rattle.cq_ideal.specs.Ending.{slots_of};
-ghost use Rattle.cq_resume.specs.Counted.{IsTally, output_told, taken_of};
-ghost use Rattle.cq_resume.specs.Finding.{BuffersStand, IsFound, IsNameBefore, IsNoLaterInput};
-ghost use Rattle.cq_resume.specs.Switch.{Switch};
-ghost use Rattle.cq_resume.specs.Taking.{CanTakeUp, departed, figures_at_input, longer, with_departure};
+ghost use Rattle.cq_resume.specs.Terms.{slots_of, IsTally, output_told, taken_of, BuffersStand, IsFound, IsNameBefore, IsNoLaterInput, Switch, CanTakeUp, departed, figures_at_input, longer, with_departure};
 
 use crate::between::between;
 use crate::copies::copied;

@@ -1,9 +1,7 @@
 //! Writes a stopped run as the text of its state.
 ghost use Rattle.std.specs.Prelude.{◌≡◌, ◌<◌, ◌≤◌, ◌^◌, ◌++◌, IfErr, IfOk, OnOk, length, map};
 ghost use Rattle.std.specs.List.{flat_map};
-ghost use Rattle.cq_resume.specs.Reading.{named_as, seen_as, sent_as, state_of, told_by};
-ghost use Rattle.cq_state.specs.Refusals.{IsTooLong};
-ghost use Rattle.cq_state.specs.State.{state_text};
+ghost use Rattle.cq_resume.specs.Terms.{named_as, seen_as, sent_as, state_of, told_by, IsTooLong, state_text};
 
 use crate::Frozen;
 use crate::copies::copied;

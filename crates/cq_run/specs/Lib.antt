@@ -26,3 +26,4 @@ pub mod Line
 pub mod Answers
 pub mod RunsAudited
 pub mod StatusCauses
+pub mod Terms

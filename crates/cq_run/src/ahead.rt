@@ -5,16 +5,7 @@
 //! whatever they come to: neither what was begun nor its reader can be dropped, and only a join uses a reader up. So
 //! a way out that leaves one behind is no program.
 ghost use Rattle.std.specs.Prelude.{◌≡◌, ◌+◌, ◌≤◌, ◌<◌, ◌^◌, ◌∷◌, [], IfErr, IfOk, IfSome, MatchOption, length};
-ghost use Rattle.cq_pcap.specs.Record.{Spells};
-ghost use Rattle.cq_route.specs.Tables.{AreTables};
-ghost use Rattle.cq_space.specs.Failing.{Fails, Reads};
-ghost use Rattle.cq_space.specs.Space.{Closed};
-ghost use Rattle.cq_run.specs.Decoding.{HasBegun, IsBegun, source};
-ghost use Rattle.cq_run.specs.Input.{IsHaltFor};
-ghost use Rattle.cq_run.specs.Judging.{Halts, Judges};
-ghost use Rattle.cq_run.specs.Pace.{Ahead, InTurn};
-ghost use Rattle.cq_run.specs.Reader.{Reader};
-ghost use Rattle.cq_run.specs.Verdict.{captures_from, packets_at};
+ghost use Rattle.cq_run.specs.Terms.{Spells, AreTables, Fails, Reads, Closed, HasBegun, IsBegun, source, IsHaltFor, Halts, Judges, Ahead, InTurn, Reader, captures_from, packets_at};
 
 use crate::Halt;
 use crate::decoding::{Decoding, begin, finish};

@@ -1,10 +1,6 @@
 //! Building the bytes that a command comes to. Here nothing is read and nothing is written.
 ghost use Rattle.std.specs.Prelude.{◌≡◌, ◌∷◌, ◌++◌, ◌≤◌, [], All, IfOk, OnOk, length};
-ghost use Rattle.cq_route.specs.Tables.{AreTables, ports_of};
-ghost use Rattle.cq_run.specs.Plans.{audited, capture_out, captures_out, check_line, checked, counted, state_written, switched, yes_line};
-ghost use Rattle.cq_report.specs.Report.{report_with};
-ghost use Rattle.cq_base.specs.Texts.{log_of, trace_of};
-ghost use Rattle.cq_run.specs.Switching.{IsSent, IsSwitched, sent_by};
+ghost use Rattle.cq_run.specs.Terms.{AreTables, ports_of, audited, capture_out, captures_out, check_line, checked, counted, state_written, switched, yes_line, report_with, log_of, trace_of, IsSent, IsSwitched, sent_by};
 
 use crate::plan::{Work, Write};
 use crate::reading::Given;

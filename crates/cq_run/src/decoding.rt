@@ -1,11 +1,6 @@
 //! The decoding of one capture: by a reader in a thread of its own, or here where no thread can be had.
 ghost use Rattle.std.specs.Prelude.{◌≡◌, ◌≤◌, ◌^◌, [], IfErr, IfOk, IfSome, length};
-ghost use Rattle.cq_pcap.specs.Faults.{IsFaulty, fault_of};
-ghost use Rattle.cq_pcap.specs.Record.{Spells};
-ghost use Rattle.cq_stream.specs.Rings.{IsPairOf, SameReader, bytes_to_read, taken};
-ghost use Rattle.cq_stream.specs.Stream.{items_of};
-ghost use Rattle.cq_run.specs.Decoding.{IsBegun, source};
-ghost use Rattle.cq_run.specs.Running.{IsEmptied, reader_of};
+ghost use Rattle.cq_run.specs.Terms.{IsFaulty, fault_of, Spells, IsPairOf, SameReader, bytes_to_read, taken, items_of, IsBegun, source, IsEmptied, reader_of};
 
 use crate::running::Running;
 use cq_base::{NoMemory, Port};

@@ -1,6 +1,6 @@
 //! What an audit says no to.
 ghost use Rattle.std.specs.Prelude.{◌≡◌};
-ghost use Rattle.cq_run.specs.Auditing.{denial_for};
+ghost use Rattle.cq_run.specs.Terms.{denial_for};
 
 use cq_audit::AuditRefusal;
 use cq_base::{Port, Slot};

@@ -1,18 +1,7 @@
 //! Judging what the words name. Nothing is written here.
 ghost use Rattle.std.specs.Prelude.{◌≡◌, ◌<◌, ◌^◌, ◌∷◌, [], IfErr, IfOk, IsOk, length};
 ghost use Rattle.std.specs.Int.{IsInRange};
-ghost use Rattle.cq_space.specs.Space.{Closed};
-ghost use Rattle.cq_route.specs.Tables.{AreTables, ports_of};
-ghost use Rattle.cq_gen.specs.Packets.{soak_captures};
-ghost use Rattle.cq_gen.specs.Tables.{soak_tables};
-ghost use Rattle.cq_run.specs.Aim.{Meets, Reporting};
-ghost use Rattle.cq_run.specs.Judged.{IsJudged};
-ghost use Rattle.cq_run.specs.Judging.{IsHaltOf};
-ghost use Rattle.cq_run.specs.Pace.{Ahead, InTurn};
-ghost use Rattle.cq_run.specs.PartEnds.{IsResumeHalt, IsResuming};
-ghost use Rattle.cq_run.specs.Planning.{IsWithinRange};
-ghost use Rattle.cq_run.specs.Switching.{IsCrossing, IsIdeal, IsPassing};
-ghost use Rattle.cq_run.specs.Verdict.{ideally_sent};
+ghost use Rattle.cq_run.specs.Terms.{Closed, AreTables, ports_of, soak_captures, soak_tables, Meets, Reporting, IsJudged, IsHaltOf, Ahead, InTurn, IsResumeHalt, IsResuming, IsWithinRange, IsCrossing, IsIdeal, IsPassing, ideally_sent};
 
 use crate::ahead::stream_from;
 use crate::build::{

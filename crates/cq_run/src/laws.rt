@@ -1,7 +1,6 @@
 //! How captures are read, and what an audit says of a run. A law is the contract of a function that does nothing.
 ghost use Rattle.std.specs.Prelude.{◌≡◌, ◌<◌, ℕ, List, slice_index};
-ghost use Rattle.cq_run.specs.Reader.{Reader};
-ghost use Rattle.cq_run.specs.RunsAudited.{RunsAreAudited};
+ghost use Rattle.cq_run.specs.Terms.{Reader, RunsAreAudited};
 
 /// There is a reader that goes by the grammar of captures and by its faults, and of a file of bytes any two such
 /// readers make the same. So what holds for any reader holds for one that is pinned on all files.

@@ -1,9 +1,6 @@
 //! Stopping a run over the captures that were read, and taking one up.
 ghost use Rattle.std.specs.Prelude.{◌≡◌, ◌<◌, ◌^◌, IfErr, IfOk, OnOk, length};
-ghost use Rattle.cq_route.specs.Tables.{AreTables, ports_of};
-ghost use Rattle.cq_run.specs.Headline.{AreGiven};
-ghost use Rattle.cq_run.specs.PartEnds.{IsPartHalt, IsResumeHalt, IsResumedBy};
-ghost use Rattle.cq_run.specs.Parting.{IsPartText};
+ghost use Rattle.cq_run.specs.Terms.{AreTables, ports_of, AreGiven, IsPartHalt, IsResumeHalt, IsResumedBy, IsPartText};
 
 use crate::switching::Crossed;
 use crate::{Halt, Refusal, StateFault};

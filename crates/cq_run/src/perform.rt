@@ -1,9 +1,6 @@
 //! Writing what is planned.
 ghost use Rattle.std.specs.Prelude.{◌≡◌, IfErr, OnOk};
-ghost use Rattle.cq_space.specs.Failing.{Fails, FailsTaking, Writes};
-ghost use Rattle.cq_space.specs.Space.{Closed};
-ghost use Rattle.cq_run.specs.World.{world};
-ghost use Rattle.cq_run.specs.Writing.{IsDone, IsCut, IsCutAtFile, all_replaced};
+ghost use Rattle.cq_run.specs.Terms.{Fails, FailsTaking, Writes, Closed, world, IsDone, IsCut, IsCutAtFile, all_replaced};
 
 use crate::Unwritten;
 use crate::plan::{Work, Write};

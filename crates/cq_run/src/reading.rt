@@ -1,18 +1,7 @@
 //! Reading what a command names. Nothing is written here.
 ghost use Rattle.std.specs.Prelude.{◌≡◌, ◌≤◌, ◌^◌, ◌∷◌, ◌++◌, [], IfErr, IfOk, IsTrue, OnOk, length};
-ghost use Rattle.cq_route.specs.Tables.{AreTables, ports_of};
-ghost use Rattle.cq_space.specs.Failing.{Fails, Reads};
 ghost use Rattle.std.specs.Option.{option_map};
-ghost use Rattle.cq_pcap.specs.Faults.{fault_of};
-ghost use Rattle.cq_space.specs.Space.{Closed};
-ghost use Rattle.cq_run.specs.Given.{EndsGiven, IsGiven};
-ghost use Rattle.cq_run.specs.Input.{IsFileOf};
-ghost use Rattle.cq_run.specs.Judging.{Halts, Judges};
-ghost use Rattle.cq_run.specs.Pace.{InTurn};
-ghost use Rattle.cq_run.specs.Reader.{Reader};
-ghost use Rattle.cq_run.specs.Refusals.{capture_fault, meaning_of};
-ghost use Rattle.cq_run.specs.Switching.{halt_for};
-ghost use Rattle.cq_run.specs.Verdict.{capture_in, captures_in, packets_at, short_in, state_in, tables_in, text_in};
+ghost use Rattle.cq_run.specs.Terms.{AreTables, ports_of, Fails, Reads, fault_of, Closed, EndsGiven, IsGiven, IsFileOf, Halts, Judges, InTurn, Reader, capture_fault, meaning_of, halt_for, capture_in, captures_in, packets_at, short_in, state_in, tables_in, text_in};
 
 use crate::{CaptureFault, Denial, Halt, Refusal, StateFault};
 use cq_base::{Name, NoMemory, Sequence};

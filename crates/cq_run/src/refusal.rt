@@ -1,8 +1,7 @@
 //! What words and files are refused for.
 ghost use Rattle.std.specs.Prelude.{◌≡◌};
 ghost use Rattle.std.specs.Option.{option_map};
-ghost use Rattle.cq_pcap.specs.Faults.{fault_of};
-ghost use Rattle.cq_run.specs.Refusals.{capture_fault, meaning_of};
+ghost use Rattle.cq_run.specs.Terms.{fault_of, capture_fault, meaning_of};
 
 use crate::Denial;
 use cq_base::{Name, Status, TagFault};

@@ -1,9 +1,7 @@
 //! The line that tells why a run stopped. Nothing here takes memory.
 ghost use Rattle.std.specs.Prelude.{◌++◌};
 ghost use Rattle.std.specs.List.{flat_map};
-ghost use Rattle.cq_base.specs.Decimal.{decimal};
-ghost use Rattle.cq_run.specs.Refusals.{denial_text, fault_text, meaning_of, state_fault_text};
-ghost use Rattle.cq_run.specs.Line.{Says, line, halt_text, unwritten_text, stop_text};
+ghost use Rattle.cq_run.specs.Terms.{decimal, denial_text, fault_text, meaning_of, state_fault_text, Says, line, halt_text, unwritten_text, stop_text};
 
 use crate::{CaptureFault, Denial, Halt, Refusal, StateFault, Stop, Unwritten};
 use cq_base::{MOST_DIGITS, Name, Port, Slot, TagFault, digits};

@@ -1,6 +1,6 @@
 //! Why a run stops before its work is done.
 ghost use Rattle.std.specs.Prelude.{◌≡◌};
-ghost use Rattle.cq_run.specs.Ending.{halt_status, stop_status};
+ghost use Rattle.cq_run.specs.Terms.{halt_status, stop_status};
 
 use crate::Refusal;
 use cq_base::{Name, NoMemory, Status};

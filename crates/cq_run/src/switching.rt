@@ -1,10 +1,6 @@
 //! Running a switch over the captures that were read.
 ghost use Rattle.std.specs.Prelude.{◌≡◌, ◌≤◌, All, IfOk, IfErr, OnOk, length};
-ghost use Rattle.cq_route.specs.Tables.{AreTables, ports_of};
-ghost use Rattle.cq_run.specs.AuditEnds.{IsAuditHalted, IsAuditPassed};
-ghost use Rattle.cq_run.specs.Judging.{IsHaltOf};
-ghost use Rattle.cq_run.specs.Switching.{IsCrossed, IsSwitched, sent_by};
-ghost use Rattle.cq_run.specs.Verdict.{ideally_sent};
+ghost use Rattle.cq_run.specs.Terms.{AreTables, ports_of, IsAuditHalted, IsAuditPassed, IsHaltOf, IsCrossed, IsSwitched, sent_by, ideally_sent};
 
 use crate::{Denial, Halt, Refusal};
 use cq_audit::{AuditRefusal, audit_log, audit_trace};

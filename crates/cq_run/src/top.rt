@@ -1,20 +1,6 @@
 //! The top call.
 ghost use Rattle.std.specs.Prelude.{◌≡◌, None, Some, IfSome, map, string_bytes};
-ghost use Rattle.cq_space.specs.Failing.{Fails, FailsTaking, Reads, Writes};
-ghost use Rattle.cq_space.specs.Space.{Closed};
-ghost use Rattle.cq_words.specs.Words.{command_for};
-ghost use Rattle.cq_run.specs.Headline.{Emulates};
-ghost use Rattle.cq_run.specs.Pace.{InTurn};
-ghost use Rattle.cq_run.specs.Plan.{Plan};
-ghost use Rattle.cq_run.specs.Planning.{IsWithinRange, known_by};
-ghost use Rattle.cq_run.specs.Reader.{Reader};
-ghost use Rattle.cq_run.specs.Verdict.{verdict};
-ghost use Rattle.cq_run.specs.Writing.{IsDone};
-ghost use Rattle.cq_run.specs.World.{world, taken_by};
-ghost use Rattle.cq_run.specs.Ending.{EndsIn, status_of};
-ghost use Rattle.cq_run.specs.Line.{Tells};
-ghost use Rattle.cq_run.specs.Answers.{Answers};
-ghost use Rattle.cq_run.specs.StatusCauses.{StatusCauses};
+ghost use Rattle.cq_run.specs.Terms.{Fails, FailsTaking, Reads, Writes, Closed, command_for, Emulates, InTurn, Plan, IsWithinRange, known_by, Reader, verdict, IsDone, world, taken_by, EndsIn, status_of, Tells, Answers, StatusCauses};
 
 use crate::judge::judge;
 use crate::perform::perform;

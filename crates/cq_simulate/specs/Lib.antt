@@ -10,3 +10,4 @@ pub mod Ready
 pub mod ScheduleFor
 pub mod GoingOn
 pub mod PartedRuns
+pub mod Terms

@@ -1,12 +1,7 @@
 //! The run of the fabric.
 ghost use Rattle.std.specs.Prelude.{◌≡◌, ◌↔◌, ◌<◌, ◌≤◌, ℕ, IsTrue, false, IfOk, IfErr, Ok, OnOk, [], length, map};
-ghost use Rattle.cq_base.specs.Arriving.{arriving, end_of};
 ghost use Rattle.cq_engine.specs.Resting.{HasRested};
-ghost use Rattle.cq_laws.specs.Fabric.{IsEmptyFabric};
-ghost use Rattle.cq_simulate.specs.FabricRuns.{IsKeptOf, unpacked_run};
-ghost use Rattle.cq_simulate.specs.IdealRuns.{ideal_departures, IsRefusalOf};
-ghost use Rattle.cq_simulate.specs.ScheduleFor.{IsScheduleFor};
-ghost use Rattle.cq_simulate.specs.GoingOn.{HasKept, HasRunOn, IsReadyOn, IsRefusalOn, StopsOn};
+ghost use Rattle.cq_simulate.specs.Terms.{arriving, end_of, IsEmptyFabric, IsKeptOf, unpacked_run, ideal_departures, IsRefusalOf, IsScheduleFor, HasKept, HasRunOn, IsReadyOn, IsRefusalOn, StopsOn};
 
 use crate::RunRefusal;
 use crate::ports::{engine_for, port_count};

@@ -1,16 +1,7 @@
 //! The run of the ideal switch.
 ghost use Rattle.std.specs.Prelude.{◌≡◌, ◌↔◌, ◌+◌, ◌<◌, ◌≤◌, ◌^◌, IsTrue, false, All, Ok, Err, IfOk, IfErr, OnOk, [], length, map, max};
-ghost use Rattle.cq_base.specs.Arriving.{arriving, end_of, traffic_of};
-ghost use Rattle.cq_ideal.specs.Admission.{NoLimits};
-ghost use Rattle.cq_ideal.specs.Ideal.{marked_state};
-ghost use Rattle.cq_ideal.specs.LimitedEnding.{departures_limited};
-ghost use Rattle.cq_ideal.specs.LimitedIdeal.{limited_run};
 ghost use Rattle.cq_ideal.specs.Rest.{HasRested};
-ghost use Rattle.cq_ideal.specs.Ending.{slots_of};
-ghost use Rattle.cq_simulate.specs.IdealRuns.{ideal_departures, slots_ran, IsRefusalOf};
-ghost use Rattle.cq_simulate.specs.Ready.{IsReady};
-ghost use Rattle.cq_simulate.specs.ScheduleFor.{IsScheduleFor};
-ghost use Rattle.cq_traffic.specs.Stretch.{IsQuiet};
+ghost use Rattle.cq_simulate.specs.Terms.{arriving, end_of, traffic_of, NoLimits, marked_state, departures_limited, limited_run, slots_of, ideal_departures, slots_ran, IsRefusalOf, IsReady, IsScheduleFor, IsQuiet};
 
 use crate::RunRefusal;
 use cq_base::{Departure, Departures, Room, Slot, TagFault};

@@ -1,12 +1,6 @@
 //! The slots in which an output is idle. The law is the contract of a function that does nothing.
 ghost use Rattle.std.specs.Prelude.{◌≤◌, ℕ, List, Option, All};
-ghost use Rattle.cq_base.specs.declared.cell.Cell.{Cell};
-ghost use Rattle.cq_rank.specs.Machine.{Machine};
-ghost use Rattle.cq_prefs.specs.Pairing.{IsInputBest};
-ghost use Rattle.cq_laws.specs.Fabric.{Fabric};
-ghost use Rattle.cq_laws.specs.FabricSlot.{SlotRecord};
-ghost use Rattle.cq_laws.specs.FabricRun.{FabricRun};
-ghost use Rattle.cq_laws.specs.Measures.{figures_of};
+ghost use Rattle.cq_simulate.specs.Terms.{Cell, Machine, IsInputBest, Fabric, SlotRecord, FabricRun, figures_of};
 
 /// Each output sends one cell a slot at most: in a run of the fabric from slot 0 on, none has sent more
 /// cells than the run has slots. So the slots in which an output was idle are the slots less its cells.

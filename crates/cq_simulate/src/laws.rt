@@ -1,19 +1,7 @@
 //! What holds of what arrives, and of the run of a fabric, whatever it is made of. Each law is the contract of a
 //! function that does nothing.
 ghost use Rattle.std.specs.Prelude.{◌≡◌, ◌<◌, ℕ, List, length};
-ghost use Rattle.cq_base.specs.Arriving.{Arrival, traffic_of};
-ghost use Rattle.cq_cells.specs.Schedule.{arrivals};
-ghost use Rattle.cq_cells.specs.Traffic.{IsTraffic};
-ghost use Rattle.cq_ideal.specs.Admission.{NoLimits};
-ghost use Rattle.cq_ideal.specs.WholePackets.{AreOfPackets, cells_at};
-ghost use Rattle.cq_laws.specs.LimitedFabric.{LimitedRecord, slots_in};
-ghost use Rattle.cq_laws.specs.Measures.{figures_of};
-ghost use Rattle.cq_pcap.specs.Captured.{Captured};
-ghost use Rattle.cq_route.specs.Tables.{AreTables, IsSetup, classes_of, ports_of};
-ghost use Rattle.cq_route.specs.declared.tables.Tables.{Tables};
-ghost use Rattle.cq_simulate.specs.EachPacket.{EachPacketOnce};
-ghost use Rattle.cq_simulate.specs.Emulation.{EmulatesIdeal};
-ghost use Rattle.cq_simulate.specs.FabricRuns.{IsFabricRun, departures_in_run, refused_in_run};
+ghost use Rattle.cq_simulate.specs.Terms.{Arrival, traffic_of, arrivals, IsTraffic, NoLimits, AreOfPackets, cells_at, LimitedRecord, slots_in, figures_of, Captured, AreTables, IsSetup, classes_of, ports_of, Tables, EachPacketOnce, EmulatesIdeal, IsFabricRun, departures_in_run, refused_in_run};
 
 /// The fabric of the tables' ranks and limits admits, refuses and sends what the ideal switch of the same ranks and
 /// limits does, each cell in the same slot at the same output. Its matchings are the input-best ones of what the lists

@@ -1,10 +1,7 @@
 //! The packets that leave an output.
 ghost use Rattle.std.specs.Prelude.{◌≡◌, ◌+◌, ◌*◌, ◌<◌, ◌≤◌, ℕ, All, IfOk, IfSome, OnOk, [], length};
-ghost use Rattle.cq_cells.specs.Schedule.{first_stamp, packet_at, packets_of as packets_at};
-ghost use Rattle.cq_route.specs.Tables.{ports_of};
-ghost use Rattle.cq_reasm.specs.Joining.{IsOtherPair, open_after, open_at};
-ghost use Rattle.cq_simulate.specs.Packets.{HaveLeftOf, packets_out};
-ghost use Rattle.cq_simulate.specs.Pieces.{Fits, IsCaptured, left_with, piece_at};
+ghost use Rattle.cq_cells.specs.Schedule.{packets_of as packets_at};
+ghost use Rattle.cq_simulate.specs.Terms.{first_stamp, packet_at, ports_of, IsOtherPair, open_after, open_at, HaveLeftOf, packets_out, Fits, IsCaptured, left_with, piece_at};
 
 use cq_base::{Cell, Departure, NoMemory, Port, Slot};
 use cq_pcap::{Capture, OutPacket};

@@ -1,8 +1,6 @@
 //! The captures of what leaves all outputs, built in one pass over the departures.
 ghost use Rattle.std.specs.Prelude.{◌≡◌, ◌≤◌, All, IfOk, OnOk, length};
-ghost use Rattle.cq_cells.specs.Schedule.{first_stamp};
-ghost use Rattle.cq_simulate.specs.Packets.{ArePacked, HaveLeftOf};
-ghost use Rattle.cq_simulate.specs.Pieces.{CanBeJoined, IsEmptied, Took};
+ghost use Rattle.cq_simulate.specs.Terms.{first_stamp, ArePacked, HaveLeftOf, CanBeJoined, IsEmptied, Took};
 
 use crate::packets::{frame_of, original_of, stamp_of, take};
 use cq_base::{Cell, Departure, Departures, NoMemory, PackedDeparture};

@@ -1,14 +1,6 @@
 //! The run of the fabric in parts: up to a slot, and on from there.
 ghost use Rattle.std.specs.Prelude.{◌≡◌, ◌-◌, ◌<◌, ◌≤◌, ◌^◌, IfErr, IfOk, OnOk, length, map};
-ghost use Rattle.cq_resume.specs.Parts.{IsParted};
-ghost use Rattle.cq_resume.specs.Resumed.{IsResumed};
-ghost use Rattle.cq_resume.specs.Switch.{switch_of};
-ghost use Rattle.cq_route.specs.Tables.{ports_of};
-ghost use Rattle.cq_scfq.specs.Disciplines.{openings_of};
-ghost use Rattle.cq_simulate.specs.GoingOn.{HasPartedTo, IsReadyPart, NoneCome, StopsWithin};
-ghost use Rattle.cq_simulate.specs.PartedRuns.{CanBeTakenUp, IsPartFault, IsResumeFault, kept_of, taken_at};
-ghost use Rattle.cq_simulate.specs.FabricRuns.{unpacked_run};
-ghost use Rattle.cq_simulate.specs.ScheduleFor.{IsScheduleFor};
+ghost use Rattle.cq_simulate.specs.Terms.{IsParted, IsResumed, switch_of, ports_of, openings_of, HasPartedTo, IsReadyPart, NoneCome, StopsWithin, CanBeTakenUp, IsPartFault, IsResumeFault, kept_of, taken_at, unpacked_run, IsScheduleFor};
 
 use crate::RunRefusal;
 use crate::fabric_run::{PackedFabricRun, run_on, skip};

@@ -1,7 +1,6 @@
 //! What a fabric of tables is made of, and one that has had no slot.
 ghost use Rattle.std.specs.Prelude.{◌≡◌, IfOk};
-ghost use Rattle.cq_route.specs.Tables.{AreTables, ports_of};
-ghost use Rattle.cq_simulate.specs.FreshFabric.{ArePortsFor, IsFreshFor};
+ghost use Rattle.cq_simulate.specs.Terms.{AreTables, ports_of, ArePortsFor, IsFreshFor};
 
 use cq_base::NoMemory;
 use cq_cells::Schedule;

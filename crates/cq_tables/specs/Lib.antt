@@ -4,3 +4,4 @@ pub mod Value
 pub mod Key
 pub mod Document
 pub mod Files
+pub mod Terms

@@ -2,12 +2,7 @@
 ghost use Rattle.std.specs.Prelude.{◌≡◌, ◌≢◌, ◌<◌, ◌||◌, ℕ, List, None, IfOk, IfErr, All, map, take, true, codes};
 ghost use Rattle.std.specs.List.{AllPairs, list_any};
 ghost use Rattle.std.specs.Str.{bytes_eq};
-ghost use Rattle.toml.specs.View.{view, table_view};
-ghost use Rattle.cq_tables.specs.Check.{Refuses, each, first};
-ghost use Rattle.cq_tables.specs.Document.{address_keys, address_row, and_then, element_check, is_new, mac_in};
-ghost use Rattle.cq_tables.specs.declared.refusal.Wrong.TheVariants.{DuplicateAddress};
-ghost use Rattle.cq_tables.specs.Key.{key_check, required, table_checks};
-ghost use Rattle.cq_tables.specs.Value.{address, address_value, members};
+ghost use Rattle.cq_tables.specs.Terms.{view, table_view, Refuses, each, first, address_keys, address_row, and_then, element_check, is_new, mac_in, DuplicateAddress, key_check, required, table_checks, address, address_value, members};
 
 use crate::entries::Entries;
 use crate::limits::GREATEST_PORT;

@@ -1,10 +1,6 @@
 // The arrays of a configuration, element by element.
 ghost use Rattle.std.specs.Prelude.{◌≡◌, ◌≤◌, ◌<◌, None, IfOk, IfErr, IfSome, All, map};
-ghost use Rattle.toml.specs.View.{view};
-ghost use Rattle.cq_tables.specs.Check.{Refuses, each, first};
-ghost use Rattle.cq_tables.specs.Document.{class_keys, class_row, element_check, port_keys, port_kind, port_limit};
-ghost use Rattle.cq_tables.specs.Document.{port_row, rule_keys, rule_row};
-ghost use Rattle.cq_tables.specs.Value.{members};
+ghost use Rattle.cq_tables.specs.Terms.{view, Refuses, each, first, class_keys, class_row, element_check, port_keys, port_kind, port_limit, port_row, rule_keys, rule_row, members};
 
 use crate::place::Array;
 use crate::refusal::TableRefusal;

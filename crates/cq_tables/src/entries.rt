@@ -1,14 +1,7 @@
 // The tables of a document, and how their keys are read.
 ghost use Rattle.std.specs.Prelude.{◌≡◌, ◌≤◌, ◌<◌, ℕ, List, None, Some, IfOk, IfErr, IfSome, length, map};
 ghost use Rattle.std.specs.Int.{IsInRange};
-ghost use Rattle.toml.specs.Data.{get_member};
-ghost use Rattle.toml.specs.View.{view, table_view};
-ghost use Rattle.cq_tables.specs.Check.{Refuses, at};
-ghost use Rattle.cq_tables.specs.Document.{elements_at, number_below};
-ghost use Rattle.cq_tables.specs.Key.{found, found_or, key_check, optional, required};
-ghost use Rattle.cq_tables.specs.Place.{path};
-ghost use Rattle.cq_tables.specs.Value.{array_of, discipline, file_name, integer_in, integer_value, kind_value};
-ghost use Rattle.cq_tables.specs.Value.{text_value, wide_from, wide_value};
+ghost use Rattle.cq_tables.specs.Terms.{get_member, view, table_view, Refuses, at, elements_at, number_below, found, found_or, key_check, optional, required, path, array_of, discipline, file_name, integer_in, integer_value, kind_value, text_value, wide_from, wide_value};
 
 use crate::place::Place;
 use crate::refusal::{TableRefusal, Wrong, refusal};

@@ -1,9 +1,6 @@
 // The figures of a configuration: one integer each.
 ghost use Rattle.std.specs.Prelude.{◌≡◌, None, IfOk, IfErr};
-ghost use Rattle.toml.specs.View.{table_view};
-ghost use Rattle.cq_tables.specs.Check.{Refuses, first};
-ghost use Rattle.cq_tables.specs.Document.{AreFigures, figure_keys, figures_of};
-ghost use Rattle.cq_tables.specs.Key.{checks_of};
+ghost use Rattle.cq_tables.specs.Terms.{table_view, Refuses, first, AreFigures, figure_keys, figures_of, checks_of};
 
 use crate::entries::Entries;
 use crate::limits::{

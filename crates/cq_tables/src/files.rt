@@ -2,9 +2,7 @@
 ghost use Rattle.std.specs.Prelude.{◌≡◌, ◌||◌, false, option_map, unwrap_or, ◌≤◌, None, IfOk, IfErr, length, take};
 ghost use Rattle.std.specs.List.{list_any};
 ghost use Rattle.std.specs.Str.{bytes_eq};
-ghost use Rattle.cq_tables.specs.Check.{Refuses, first};
-ghost use Rattle.cq_tables.specs.Document.{apart_from, file_check, names_of};
-ghost use Rattle.cq_tables.specs.Files.{files_before, is_named, read_clashes, write_clashes};
+ghost use Rattle.cq_tables.specs.Terms.{Refuses, first, apart_from, file_check, names_of, files_before, is_named, read_clashes, write_clashes};
 
 use crate::place::{Array, Place};
 use crate::refusal::{TableRefusal, Wrong, refusal};

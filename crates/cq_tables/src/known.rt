@@ -4,9 +4,7 @@ ghost use Rattle.std.specs.BTreeMap.{IsOrdered, keys};
 ghost use Rattle.std.specs.List.{list_any};
 ghost use Rattle.std.specs.Str.{bytes_eq};
 ghost use Rattle.std.specs.String.{string_cmp};
-ghost use Rattle.toml.specs.View.{table_view};
-ghost use Rattle.cq_tables.specs.Check.{Refuses};
-ghost use Rattle.cq_tables.specs.Key.{least_unknown, no_other};
+ghost use Rattle.cq_tables.specs.Terms.{table_view, Refuses, least_unknown, no_other};
 
 use crate::entries::Entries;
 use crate::refusal::{TableRefusal, Wrong};

@@ -1,9 +1,6 @@
 //! What the versions of a configuration have in common.
 ghost use Rattle.std.specs.Prelude.{◌≡◌, None};
-ghost use Rattle.toml.specs.Data.{Members};
-ghost use Rattle.cq_tables.specs.declared.version.Version.TheVariants.{One, Two};
-ghost use Rattle.cq_tables.specs.Document.{class_array, class_rows};
-ghost use Rattle.cq_tables.specs.Key.{check_of};
+ghost use Rattle.cq_tables.specs.Terms.{Members, One, Two, class_array, class_rows, check_of};
 
 /// An array of classes that version 1 accepts is one that version 2 accepts, with the same rows. This function does
 /// nothing: its contract is the claim, and says no word of the other keys of a configuration.

@@ -1,6 +1,6 @@
 // Where a key stands in a configuration, and how its path is written.
 ghost use Rattle.std.specs.Prelude.{◌≡◌, IfOk};
-ghost use Rattle.cq_tables.specs.Place.{array_key, element_path, path};
+ghost use Rattle.cq_tables.specs.Terms.{array_key, element_path, path};
 
 use cq_base::{Name, NoMemory};
 use std::alloc::Global;

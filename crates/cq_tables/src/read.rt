@@ -1,11 +1,6 @@
 // The tables that a configuration gives.
 ghost use Rattle.std.specs.Prelude.{◌≡◌, ◌<◌, ◌++◌, None, Some, Ok, IfOk, IfErr, is_some};
-ghost use Rattle.cq_route.specs.Tables.{AreTables};
-ghost use Rattle.toml.specs.View.{table_view};
-ghost use Rattle.cq_tables.specs.Check.{Refuses, at, first, unless};
-ghost use Rattle.cq_tables.specs.Document.{IsRefusedFor, default_checks, default_checks_of, document, is_there};
-ghost use Rattle.cq_tables.specs.Document.{read_or_refused, tables_of, top_keys, whole};
-ghost use Rattle.cq_tables.specs.Key.{table_checks};
+ghost use Rattle.cq_tables.specs.Terms.{AreTables, table_view, Refuses, at, first, unless, IsRefusedFor, default_checks, default_checks_of, document, is_there, read_or_refused, tables_of, top_keys, whole, table_checks};
 
 use crate::entries::Entries;
 use crate::figures::{Figures, figures_in};

@@ -1,7 +1,6 @@
 // Why a configuration is refused.
 ghost use Rattle.std.specs.Prelude.{◌≡◌, ℕ, List, Some, IfOk};
-ghost use Rattle.cq_tables.specs.Check.{Refuses, code_of, refused};
-ghost use Rattle.cq_tables.specs.Place.{element_path, path};
+ghost use Rattle.cq_tables.specs.Terms.{Refuses, code_of, refused, element_path, path};
 
 use crate::place::{Array, Place, element_name, key_name};
 use cq_base::{Name, NoMemory};

@@ -1,12 +1,6 @@
 // The rows of the arrays, each read from one element.
 ghost use Rattle.std.specs.Prelude.{◌≡◌, ◌≤◌, ◌<◌, None, IfOk, IfErr, IfSome, map};
-ghost use Rattle.toml.specs.View.{view, table_view};
-ghost use Rattle.cq_tables.specs.Check.{Refuses, at, first};
-ghost use Rattle.cq_tables.specs.Document.{class_keys, class_row, level_in, level_keys, port_keys, port_kind};
-ghost use Rattle.cq_tables.specs.Document.{port_limit, port_row, rule_keys, rule_row};
-ghost use Rattle.cq_tables.specs.Key.{checks_of, no_other, table_checks};
-ghost use Rattle.cq_tables.specs.Place.{element_path};
-ghost use Rattle.cq_tables.specs.Value.{members, table_type};
+ghost use Rattle.cq_tables.specs.Terms.{view, table_view, Refuses, at, first, class_keys, class_row, level_in, level_keys, port_keys, port_kind, port_limit, port_row, rule_keys, rule_row, checks_of, no_other, table_checks, element_path, members, table_type};
 
 use crate::entries::Entries;
 use crate::limits::{

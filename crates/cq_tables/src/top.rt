@@ -2,15 +2,7 @@
 ghost use Rattle.std.specs.Prelude.{◌≡◌, ◌≢◌, ◌≤◌, ◌<◌, None, IfOk, IfErr, IfSome, All, length, map};
 ghost use Rattle.std.specs.Int.{IsInRange};
 ghost use Rattle.std.specs.List.{AllPairs};
-ghost use Rattle.toml.specs.Data.{get_member};
-ghost use Rattle.toml.specs.View.{table_view, view};
-ghost use Rattle.cq_tables.specs.Check.{Refuses};
-ghost use Rattle.cq_tables.specs.Document.{ArePortsOf, address_array, address_row, class_array, class_rows};
-ghost use Rattle.cq_tables.specs.Document.{classes_in, elements_at, port_array, ports_in, rows_in, rule_array};
-ghost use Rattle.cq_tables.specs.Document.{rule_row, version_in};
-ghost use Rattle.cq_tables.specs.Key.{check_of, key_check, optional};
-ghost use Rattle.cq_tables.specs.Place.{array_key};
-ghost use Rattle.cq_tables.specs.Value.{array_of};
+ghost use Rattle.cq_tables.specs.Terms.{get_member, table_view, view, Refuses, ArePortsOf, address_array, address_row, class_array, class_rows, classes_in, elements_at, port_array, ports_in, rows_in, rule_array, rule_row, version_in, check_of, key_check, optional, array_key, array_of};
 
 use crate::addresses::address_rows;
 use crate::arrays::{PortEntries, class_rows, port_rows, rule_rows};

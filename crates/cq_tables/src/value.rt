@@ -2,13 +2,8 @@
 ghost use Rattle.std.specs.Prelude.{◌≡◌, ◌↔◌, EachIndex, IsTrue, slice_index, ◌≤◌, ◌<◌, ◌&&◌, IfSome, None, Some, IfOk};
 ghost use Rattle.std.specs.Prelude.{IfErr, length, map, option_map};
 ghost use Rattle.std.specs.Str.{all_ascii_digits};
-ghost use Rattle.toml.specs.Data.{get_member};
-ghost use Rattle.toml.specs.View.{view, table_view};
 ghost use Rattle.std.specs.Int.{IsInRange};
-ghost use Rattle.cq_tables.specs.Document.{number_below};
-ghost use Rattle.cq_tables.specs.Value.{is_from, wide_from, wide_value, address, address_of, address_value, array_of};
-ghost use Rattle.cq_tables.specs.Value.{discipline, discipline_of, elements, file_name, group, hex_digit, integer_in};
-ghost use Rattle.cq_tables.specs.Value.{integer_value, kind_value, natural, text_value, written};
+ghost use Rattle.cq_tables.specs.Terms.{get_member, view, table_view, number_below, is_from, wide_from, wide_value, address, address_of, address_value, array_of, discipline, discipline_of, elements, file_name, group, hex_digit, integer_in, integer_value, kind_value, natural, text_value, written};
 
 use crate::limits::{ADDRESS_TEXT_BYTES, LONGEST_FILE_NAME};
 use crate::refusal::Wrong;

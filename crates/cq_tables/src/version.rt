@@ -1,6 +1,6 @@
 // The version of a configuration.
 ghost use Rattle.std.specs.Prelude.{◌≡◌};
-ghost use Rattle.cq_tables.specs.Document.{version_of};
+ghost use Rattle.cq_tables.specs.Terms.{version_of};
 
 /// What a configuration may say: in version 2 a class may have a level, and in version 1 none has.
 #[derive(Clone, Copy, Debug, PartialEq, Eq)]
