@@ -1,17 +1,17 @@
 -- Stretches of slots in which no cell arrives. No cell comes before the next arrival, so up to it there is nothing that
 -- comes at any input.
-use Rattle.std.proofs.Common.{◌≡◌, ℕ, zero, suc, ◌+◌, ◌<◌, ◌≤◌, ◌&&◌, eqb, Bool, false, List, [], ◌∷◌, map, replicate, Option, Some, None, refl, ap, ◌∙◌, inl, inr, arith}
+use Rattle.std.proofs.Common.{◌≡◌, ℕ, zero, suc, ◌+◌, ◌<◌, ◌≤◌, ◌&&◌, eqb, Bool, false, List, [], ◌∷◌, map, replicate, Option, Some, None, refl, ap, ◌∙◌, sym, subst, inl, inr, ⊎_elim, arith}
 use Rattle.std.specs.Prelude.{min, unwrap_or}
 use Rattle.std.specs.List.{AllByRecursion, range_with_len}
-use Rattle.std.proofs.lemmas.Bool.{ne_eqb}
+use Rattle.std.proofs.lemmas.Bool.{cases_lt, ne_eqb}
 use Rattle.cq_base.specs.Arrivals.{no_arrivals}
 use Rattle.cq_base.specs.Arriving.{Arrival, arriving, arriving_at, end_of}
 use Rattle.cq_base.specs.declared.cell.Cell.{Cell}
 use Rattle.cq_cells.proofs.Rising.{all_each}
-use Rattle.cq_cells.specs.NextArrival.{ArrivesIn, IsNextArrival}
+use Rattle.cq_cells.specs.NextArrival.{ArrivesIn, IsFirstFrom, IsNextArrival}
 use Rattle.cq_ideal.proofs.FlowFound.{arriving_is}
 use Rattle.cq_ideal.specs.Ending.{arriving_from}
-use Rattle.cq_traffic.specs.Stretch.{IsQuiet}
+use Rattle.cq_traffic.specs.Stretch.{IsQuiet, IsQuietUntil}
 
 -- ## Up to the next arrival
 
@@ -43,16 +43,36 @@ no_stretch came slot = record {
   more = λ later. absurd (omega arith);
 }
 
-pub quiet_to_next : (came : List Arrival) (slot : ℕ) (next : Option ℕ) → IsNextArrival came slot next →
-    IsQuiet came slot (unwrap_or next slot)
-quiet_to_next came slot None all = no_stretch came slot
-quiet_to_next came slot (Some next) is = record {
+quiet_to_first : (came : List Arrival) (slot next : ℕ) → IsFirstFrom came slot next → IsQuiet came slot next
+quiet_to_first came slot next is = record {
   late = is.late;
   none = λ t from to.
       none_arrive came t 64 refl
       (all_each (λ (a : Arrival). slot ≤ a.slot → next ≤ a.slot) (λ (a : Arrival). a.slot ≡ t → ⊥) came
       (λ a had at. let later = had (omega arith) in omega arith) is.none_before);
   more = λ later. before_end came next is.arrives;
+}
+
+-- none arrives up to the next arrival, or up to the slot itself
+pub quiet_of : {came : List Arrival} {slot next : ℕ} → IsQuietUntil came slot next → IsQuiet came slot next
+quiet_of {came} {slot} {next} is =
+    ⊎_elim (λ more. quiet_to_first came slot next (is.first more))
+    (λ over. subst (λ (n : ℕ). IsQuiet came slot n) (sym (is.over over)) (no_stretch came slot))
+    (cases_lt slot (end_of came))
+
+ends_before : (came : List Arrival) (slot : ℕ) → AllByRecursion (λ a. a.slot < slot) came → end_of came ≤ slot
+ends_before [] slot all = omega arith
+ends_before (a ∷ came) slot all = let rest = ends_before came slot all.1 in let here = all.0 in omega arith
+
+pub until_next : (came : List Arrival) (slot : ℕ) (next : Option ℕ) → IsNextArrival came slot next →
+    IsQuietUntil came slot (unwrap_or next slot)
+until_next came slot None all = record {
+  first = λ more. absurd (let over = ends_before came slot all in omega arith);
+  over = λ _. refl;
+}
+until_next came slot (Some next) is = record {
+  first = λ _. is;
+  over = λ over. absurd (let late = is.late in let more = before_end came next is.arrives in omega arith);
 }
 
 -- up to a slot that is no later than the next arrival none arrives
@@ -79,6 +99,13 @@ before_both came slot last n None all le is =
     record { late = omega arith; within = omega arith; no_later = omega arith }
 before_both came slot last n (Some next) at le is =
     record { late = omega arith; within = omega arith; no_later = omega arith }
+
+-- and where it is before the last, a cell arrives in it
+pub arrives_before : (came : List Arrival) (slot last n : ℕ) (next : Option ℕ) → IsNextArrival came slot next →
+    n ≡ min (unwrap_or next last) last → n < last → ArrivesIn n came
+arrives_before came slot last n None all is before = absurd (omega arith)
+arrives_before came slot last n (Some next) at is before =
+    let same : next ≡ n = omega arith in subst (λ (t : ℕ). ArrivesIn t came) same at.arrives
 
 -- ## What comes in a stretch
 

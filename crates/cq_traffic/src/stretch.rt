@@ -1,12 +1,13 @@
 //! Stretches of slots in which no cell arrives.
-ghost use Rattle.cq_traffic.specs.Stretch.{IsQuiet};
+ghost use Rattle.cq_traffic.specs.Stretch.{IsQuietUntil};
 
 use cq_base::Slot;
 use cq_cells::Schedule;
 
-/// The slot up to which no cell arrives: that of the next arrival, or this one where none arrives any more.
+/// The slot up to which no cell arrives: that of the next arrival, at or after this one, or this one where none arrives
+/// any more.
 pub fn quiet_until(schedule: &Schedule, slot: Slot) -> Slot
-    ensures { IsQuiet schedule.now.came slot result }
+    ensures { IsQuietUntil schedule.now.came slot result }
 {
     schedule.next_arrival(slot).unwrap_or(slot)
 }
