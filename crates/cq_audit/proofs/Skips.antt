@@ -1,21 +1,24 @@
 -- Slots that a replay skips. No cell arrives up to the next arrival, and no line is of a slot before the first one's.
 -- And a stretch of no slots leaves everything as it is.
-use Rattle.std.proofs.Common.{◌≡◌, ℕ, zero, suc, ◌-◌, ◌<◌, ◌≤◌, ◌⊎◌, min, List, [], ◌∷◌, replicate, Option, None, Some, refl, ap, ◌∙◌, ⊎_elim, arith}
+use Rattle.std.proofs.Common.{◌≡◌, ℕ, zero, suc, ◌-◌, ◌<◌, ◌≤◌, ◌⊎◌, min, List, [], ◌∷◌, replicate, Option, None, Some, refl, ap, sym, subst, ◌∙◌, inl, inr, ⊎_elim, arith}
 use Rattle.std.specs.Prelude.{slice_get}
 use Rattle.std.specs.List.{AllByRecursion}
+use Rattle.std.proofs.lemmas.Bool.{cases_lt}
 use Rattle.cq_base.specs.Arrivals.{no_arrivals}
 use Rattle.cq_base.specs.Arriving.{Arrival}
 use Rattle.cq_base.specs.declared.cell.Transfer.{Transfer}
+use Rattle.cq_cells.specs.NextArrival.{ArrivesIn}
 use Rattle.cq_rank.specs.Machine.{Machine}
 use Rattle.cq_ideal.specs.Admission.{Marked}
 use Rattle.cq_prefs.specs.Pairing.{IsStable}
 use Rattle.cq_laws.specs.Fabric.{Fabric}
 use Rattle.cq_laws.specs.LimitedFabric.{LimitedFabricRun}
 use Rattle.cq_laws.specs.LimitedQuiet.{quiet_limited_slots}
-use Rattle.cq_traffic.specs.Stretch.{IsQuiet}
+use Rattle.cq_traffic.specs.Stretch.{IsQuiet, IsQuietUntil}
+use Rattle.cq_traffic.proofs.Quiet.{quiet_of}
 use Rattle.cq_audit.specs.Phase.{NoneBefore}
 use Rattle.cq_audit.specs.Replay.{HasRested, IsInStep, IsMadeAs, ReplayView, ports_in}
-use Rattle.cq_audit.specs.Running.{FirstIsLeast, IsStill}
+use Rattle.cq_audit.specs.Running.{FirstIsLeast, HasLineOf, IsStill, IsStillUntil}
 use Rattle.cq_audit.proofs.Following.{weaker}
 
 -- ## Up to where nothing happens
@@ -53,6 +56,36 @@ module _ (came : List Arrival) (slot next : ℕ) (quiet : IsQuiet came slot next
         );
         more = λ later. let before_end = quiet.more (omega arith) in omega arith;
       }
+
+first_has_line : (lines : List Transfer) (t : Transfer) → Some t ≡ slice_get lines 0 → HasLineOf t.slot lines
+first_has_line [] t is = absurd (let clash : ◌≡◌ {A = Option Transfer} (Some t) None = is in let P : ⊥ = cc in P)
+first_has_line (u ∷ lines) t is =
+    let same : t ≡ u = let both : ◌≡◌ {A = Option Transfer} (Some t) (Some u) = is in cc in
+    inl (ap (λ (x : Transfer). x.slot) (sym same))
+
+module _ {came : List Arrival} {slot next : ℕ} (until : IsQuietUntil came slot next) (lines : List Transfer) where
+  -- at the next arrival one arrives
+  pub until_arrival : None ≡ slice_get lines 0 → IsStillUntil came lines slot next
+  until_arrival none = record {
+    still = still_to_arrival came slot next (quiet_of until) lines none;
+    ends = λ more. inl (until.first more).arrives;
+  }
+
+  -- and at the line, if it is earlier, there is a line
+  pub until_line : (t : Transfer) → NoneBefore slot 1 lines → FirstIsLeast lines → Some t ≡ slice_get lines 0 →
+      IsStillUntil came lines slot (min next t.slot)
+  until_line t before least is = record {
+    still = still_to_line came slot next (quiet_of until) lines t before least is;
+    ends = λ more.
+        ⊎_elim
+        (λ lt.
+        let first : next ≡ min next t.slot = omega arith in
+        inl (subst (λ (k : ℕ). ArrivesIn k came) first (until.first more).arrives))
+        (λ ge.
+        let first : t.slot ≡ min next t.slot = omega arith in
+        inr (subst (λ (k : ℕ). HasLineOf k lines) first (first_has_line lines t is)))
+        (cases_lt next t.slot);
+  }
 
 -- no slot is skipped
 pub not_skipped : (came : List Arrival) (slot : ℕ) (lines : List Transfer) → NoneBefore slot 1 lines →

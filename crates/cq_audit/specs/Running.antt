@@ -1,11 +1,12 @@
 -- Only proofs use this.
 -- A replay over all cells that arrive: what it begins with, and what its end says of the lines.
-use Rattle.std.specs.Prelude.{◌≡◌, ℕ, ◌+◌, ◌*◌, ◌<◌, ◌≤◌, List, [], ◌∷◌, length, Result, Ok, Err, IsOk, slice_index}
+use Rattle.std.specs.Prelude.{◌≡◌, ℕ, ◌+◌, ◌*◌, ◌<◌, ◌≤◌, ◌⊎◌, List, [], ◌∷◌, length, Result, Ok, Err, IsOk, slice_index}
 use Rattle.std.specs.List.{AllByRecursion}
 use Rattle.cq_base.specs.Arrivals.{no_arrivals}
 use Rattle.cq_base.specs.Arriving.{Arrival, arriving, end_of}
 use Rattle.cq_base.specs.Room.{RoomView}
 use Rattle.cq_base.specs.declared.cell.Transfer.{Transfer}
+use Rattle.cq_cells.specs.NextArrival.{ArrivesIn}
 use Rattle.cq_cells.specs.Traffic.{IsShort, IsTraffic, is_from, is_to, number_of}
 use Rattle.cq_rank.specs.Machine.{Machine}
 use Rattle.cq_rank.specs.Switch.{class_count}
@@ -30,6 +31,16 @@ pub record IsStill (came : List Arrival) (lines : List Transfer) (slot next : �
   pub none : (t : ℕ) → slot ≤ t → t < next → arriving came t ≡ no_arrivals
   pub no_line : AllByRecursion (λ t. next ≤ t.slot) lines
   pub more : slot < next → next < end_of came
+
+-- there is a line of this slot
+abbrev pub HasLineOf : ℕ → List Transfer → Type 0
+HasLineOf slot [] = ⊥
+HasLineOf slot (t ∷ lines) = (t.slot ≡ slot) ⊎ HasLineOf slot lines
+
+-- all is still up to the other slot; and where cells are still to come, one arrives in that slot or a line is of it
+pub record IsStillUntil (came : List Arrival) (lines : List Transfer) (slot next : ℕ) : Type 0 where
+  pub still : IsStill came lines slot next
+  pub ends : slot < end_of came → ArrivesIn next came ⊎ HasLineOf next lines
 
 -- The fabric has had no slot and holds no cell, there is room for all cells that arrive and for all lines, the lines
 -- are in order, and the ideal switch has no tag fault.

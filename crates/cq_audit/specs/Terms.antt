@@ -14,7 +14,7 @@ pub use Rattle.cq_audit.specs.Log.{AreInOrder, IsLog, IsLogExact, IsLogFault, Is
 pub use Rattle.cq_audit.specs.Pairs.{CanBeJoined}
 pub use Rattle.cq_audit.specs.Phase.{NoneBefore, IsBlocking, IsFirstBlocking, AreOfPhase, IsPhaseFault, IsPhaseExact, AreParted, is_at, IsStableTold, in_phase, AreRight, IsFirstWrong, first_id, line_of_input, told}
 pub use Rattle.cq_audit.specs.Replay.{HasRested, IsInStep, ports_in, CanCome, CanReplay, IsSlotFault, SlotReplayed, shown}
-pub use Rattle.cq_audit.specs.Running.{FirstIsLeast, IsReady, IsStill, RunEnds}
+pub use Rattle.cq_audit.specs.Running.{FirstIsLeast, IsReady, IsStill, IsStillUntil, RunEnds}
 pub use Rattle.cq_audit.specs.SlotSteps.{CanGoBy, CanSend, HasGoneBy, HaveAllSent, HaveCome}
 pub use Rattle.cq_audit.specs.StableRun.{StableRun}
 pub use Rattle.cq_audit.specs.Trace.{IsTraceExact, DiffersFirst}

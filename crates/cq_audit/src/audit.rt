@@ -1,6 +1,6 @@
 //! Whether a log of any maker is that of a stable run.
 ghost use Rattle.std.specs.Prelude.{◌≡◌, ◌↔◌, ◌+◌, ◌-◌, ◌<◌, ◌≤◌, [], IfErr, IsTrue, OnOk, length, map};
-ghost use Rattle.cq_audit.specs.Terms.{end_of, IsEmptyFabric, CanBeAudited, IsNo, IsYes, AreInOrder, NoneBefore, HasRested, IsInStep, ports_in, FirstIsLeast, IsReady, IsStill, RunEnds, Left};
+ghost use Rattle.cq_audit.specs.Terms.{end_of, IsEmptyFabric, CanBeAudited, IsNo, IsYes, AreInOrder, NoneBefore, HasRested, IsInStep, ports_in, FirstIsLeast, IsReady, IsStill, IsStillUntil, RunEnds, Left};
 
 use crate::log::read_log;
 use crate::refusal::AuditRefusal;
@@ -58,7 +58,7 @@ fn is_over<R: Rank>(replay: &Replay<R>, schedule: &Schedule, slot: Slot) -> bool
 fn still_until(schedule: &Schedule, lines: &[Transfer], slot: Slot) -> Slot
     requires least { FirstIsLeast lines.now }
     requires none_before { NoneBefore slot 1 lines.now }
-    ensures { IsStill schedule.now.came lines.now slot result }
+    ensures { IsStillUntil schedule.now.came lines.now slot result }
 {
     let next = quiet_until(schedule, slot);
     match lines.first() {
@@ -80,6 +80,8 @@ fn skip<R: Rank>(
     requires in_order { AreInOrder (ports_in replay.old) lines.now }
     requires none_before { NoneBefore slot 1 lines.now }
     ensures still { IsStill schedule.now.came lines.now slot result }
+    ensures skips { IsEmptyFabric replay.old.fabric.state → IsStillUntil schedule.now.came lines.now slot result }
+    ensures empty { slot < result → IsEmptyFabric replay.old.fabric.state }
     ensures rested { HasRested (map R.machine replay.old.fixed) slot result replay.old replay.new }
 {
     if !replay.empty() {

@@ -1,15 +1,13 @@
 use Rattle.std.proofs.Common.{ℕ, sym, subst}
-use Rattle.cq_audit.specs.Running.{IsStill}
-use Rattle.cq_audit.proofs.Skips.{still_to_arrival, still_to_line}
+use Rattle.cq_audit.specs.Running.{IsStillUntil}
+use Rattle.cq_audit.proofs.Skips.{until_arrival, until_line}
 use Rattle.cq_audit.proofs.audit.still_until.Goals as goal
 
 pub returns-in-Some : goal.returns-in-Some
 returns-in-Some c =
-    subst (λ (n : ℕ). IsStill c.args.schedule.now.came c.args.lines.now c.args.slot n) (sym c.min.ensures)
-    (still_to_line c.args.schedule.now.came c.args.slot c.quiet_until-next.result c.quiet_until-next.ensures
-    c.args.lines.now c.in-Some.line.now c.requires.none_before c.requires.least c.in-Some.ensures.value)
+    subst (λ (n : ℕ). IsStillUntil c.args.schedule.now.came c.args.lines.now c.args.slot n) (sym c.min.ensures)
+    (until_line c.quiet_until-next.ensures c.args.lines.now c.in-Some.line.now c.requires.none_before c.requires.least
+    c.in-Some.ensures.value)
 
 pub returns-in-None : goal.returns-in-None
-returns-in-None c =
-    still_to_arrival c.args.schedule.now.came c.args.slot c.quiet_until-next.result c.quiet_until-next.ensures
-    c.args.lines.now c.in-None.ensures.value
+returns-in-None c = until_arrival c.quiet_until-next.ensures c.args.lines.now c.in-None.ensures.value
