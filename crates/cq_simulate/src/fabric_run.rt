@@ -1,7 +1,7 @@
 //! The run of the fabric.
 ghost use Rattle.std.specs.Prelude.{◌≡◌, ◌↔◌, ◌<◌, ◌≤◌, ℕ, IsTrue, false, IfOk, IfErr, Ok, OnOk, [], length, map};
 ghost use Rattle.cq_engine.specs.Resting.{HasRested};
-ghost use Rattle.cq_simulate.specs.Terms.{arriving, end_of, IsEmptyFabric, IsKeptOf, unpacked_run, ideal_departures, IsRefusalOf, IsScheduleFor, HasKept, HasRunOn, IsReadyOn, IsRefusalOn, StopsOn};
+ghost use Rattle.cq_simulate.specs.Terms.{arriving, end_of, IsEmptyFabric, IsKeptOf, unpacked_run, ideal_departures, IsRefusalOf, IsScheduleFor, HasKept, HasRunOn, IsIdle, IsReadyOn, IsRefusalOn, StopsOn};
 
 use crate::RunRefusal;
 use crate::ports::{engine_for, port_count};
@@ -141,8 +141,8 @@ fn is_over<R: Rank>(engine: &Engine<R>, schedule: &Schedule, slot: Slot) -> bool
     schedule.end() <= slot && engine.empty()
 }
 
-// The cells of the slot come. Where none comes and none waits, the slots up to the one that `until` tells are skipped:
-// the fabric rests, and the cells of that slot come. The answer is the slot whose cells came.
+/// The cells of the slot come. Where none comes and none waits, the slots up to the one that `until` tells are skipped:
+/// the fabric rests, and the cells of that slot come. The answer is the slot whose cells came.
 pub fn skip<R: Rank, F: FnOnce() -> Slot>(
     engine: &mut Engine<R>,
     schedule: &Schedule,
@@ -155,7 +155,8 @@ pub fn skip<R: Rank, F: FnOnce() -> Slot>(
     requires tells { F.pre until }
     requires late { (next : ℕ) → F.post until next → slot ≤ next }
     ensures late { slot ≤ result }
-    ensures told { slot < result → F.post until result }
+    ensures idle { slot < result → IsIdle schedule.now.came slot engine.old.fabric }
+    ensures told { IsIdle schedule.now.came slot engine.old.fabric → F.post until result }
     ensures rested { HasRested (map R.machine engine.old.fixed) slot result engine.old engine.new }
     ensures came { coming.new ≡ arriving schedule.now.came result }
 {

@@ -1,7 +1,7 @@
 //! The run of the ideal switch.
 ghost use Rattle.std.specs.Prelude.{◌≡◌, ◌↔◌, ◌+◌, ◌<◌, ◌≤◌, ◌^◌, IsTrue, false, All, Ok, Err, IfOk, IfErr, OnOk, [], length, map, max};
 ghost use Rattle.cq_ideal.specs.Rest.{HasRested};
-ghost use Rattle.cq_simulate.specs.Terms.{arriving, end_of, traffic_of, NoLimits, marked_state, departures_limited, limited_run, slots_of, ideal_departures, slots_ran, IsRefusalOf, IsReady, IsScheduleFor, IsQuiet};
+ghost use Rattle.cq_simulate.specs.Terms.{no_arrivals, arriving, end_of, traffic_of, NoLimits, marked_state, departures_limited, limited_run, slots_of, ideal_departures, slots_ran, IsRefusalOf, IsReady, IsScheduleFor, IsQuiet, IsQuietUntil};
 
 use crate::RunRefusal;
 use cq_base::{Departure, Departures, Room, Slot, TagFault};
@@ -79,11 +79,14 @@ fn is_over<R: Rank>(ideal: &Ideal<R>, schedule: &Schedule, slot: Slot) -> bool
 
 // The cells of the slot come. Where none comes and none waits, the slots up to the next arrival are skipped: the switch
 // rests, and the cells of that slot come. The answer is the slot whose cells came.
-#[tactic(auto, unfolding(cq_ideal::specs::LimitedIdeal::limited_run))]
+#[tactic(auto, unfolding(cq_ideal::specs::LimitedIdeal::limited_run), using(cq_traffic::proofs::Quiet::quiet_of))]
 fn skip<R: Rank>(ideal: &mut Ideal<R>, schedule: &Schedule, slot: Slot, coming: &mut Coming) -> Slot
     requires running { ideal.old.stopped ≡ false }
     requires next { ideal.old.next ≡ slot }
     ensures quiet { IsQuiet schedule.now.came slot result }
+    ensures skips { arriving schedule.now.came slot ≡ no_arrivals →
+        All (λ cells. cells ≡ []) ideal.old.state.lists → IsQuietUntil schedule.now.came slot result }
+    ensures empty { slot < result → All (λ cells. cells ≡ []) ideal.old.state.lists }
     ensures rested { HasRested (map R.machine ideal.old.fixed) slot result ideal.old ideal.new }
     ensures came { coming.new ≡ arriving schedule.now.came result }
 {

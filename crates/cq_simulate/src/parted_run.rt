@@ -1,6 +1,6 @@
 //! The run of the fabric in parts: up to a slot, and on from there.
 ghost use Rattle.std.specs.Prelude.{◌≡◌, ◌-◌, ◌<◌, ◌≤◌, ◌^◌, IfErr, IfOk, OnOk, length, map};
-ghost use Rattle.cq_simulate.specs.Terms.{IsParted, IsResumed, switch_of, ports_of, openings_of, HasPartedTo, IsReadyPart, NoneCome, StopsWithin, CanBeTakenUp, IsPartFault, IsResumeFault, kept_of, taken_at, unpacked_run, IsScheduleFor};
+ghost use Rattle.cq_simulate.specs.Terms.{IsParted, IsResumed, switch_of, ports_of, openings_of, ArrivesIn, HasPartedTo, IsReadyPart, NoneCome, StopsWithin, CanBeTakenUp, IsPartFault, IsResumeFault, kept_of, taken_at, unpacked_run, IsScheduleFor};
 
 use crate::RunRefusal;
 use crate::fabric_run::{PackedFabricRun, run_on, skip};
@@ -140,6 +140,7 @@ fn quiet_before(schedule: &Schedule, slot: Slot, last: Slot) -> Slot
     ensures late { slot ≤ result }
     ensures within { result ≤ last }
     ensures none { NoneCome schedule.now.came slot result }
+    ensures ends { result < last → ArrivesIn result schedule.now.came }
 {
     schedule.next_arrival(slot).unwrap_or(last).min(last)
 }

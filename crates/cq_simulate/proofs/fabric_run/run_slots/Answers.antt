@@ -3,6 +3,7 @@ use Rattle.std.specs.Result.{is_err}
 use Rattle.std.proofs.lemmas.Result.{err_from_is_err_and}
 use Rattle.cq_base.specs.Arriving.{end_of}
 use Rattle.cq_laws.specs.Fabric.{IsEmptyFabric}
+use Rattle.cq_traffic.proofs.Quiet.{quiet_of}
 use Rattle.cq_simulate.proofs.FabricRunning.{over_by}
 use Rattle.cq_simulate.proofs.FabricSteps.{CanRun, HasHad, Stands, can_run_here, can_take_over, emptied, fault_here, goes_on, next_here, places_here, quiet_if, run_begins, run_ends, run_stands, taken_over}
 use Rattle.cq_simulate.proofs.fabric_run.run_slots.Given as given
@@ -21,7 +22,8 @@ stands g c =
     (goes_on c.is_over.result (end_of c.args.schedule.now.came) c.slots.slot
     (IsEmptyFabric c.slots.engine.fabric) c.slots-test.true
     c.is_over.ensures)
-    (quiet_if c.skip-slot.ensures.late (λ lt. let told = c.skip-slot.ensures.told lt in search rules))
+    (quiet_if c.skip-slot.ensures.late
+    (λ lt. let told = c.skip-slot.ensures.told (c.skip-slot.ensures.idle lt) in search (rules, quiet_of)))
     c.skip-slot.ensures.rested
 
 -- and finds all that it asks for, with a list of its own for what leaves

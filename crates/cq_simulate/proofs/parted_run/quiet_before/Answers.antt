@@ -1,6 +1,6 @@
 use Rattle.std.proofs.Common.{ℕ, ap, ◌∙◌}
 use Rattle.std.specs.Prelude.{min}
-use Rattle.cq_traffic.proofs.Quiet.{before_both, none_up_to}
+use Rattle.cq_traffic.proofs.Quiet.{arrives_before, before_both, none_up_to}
 use Rattle.cq_simulate.proofs.parted_run.quiet_before.Goals as goal
 
 pub returns-clause-late : goal.returns-clause-late
@@ -21,3 +21,8 @@ returns-clause-none c =
     (before_both c.args.schedule.now.came c.args.slot c.args.last _ c.next_arrival.result c.next_arrival.ensures
     c.requires
     (c.min.ensures ∙ ap (λ (n : ℕ). min n c.args.last) c.unwrap_or.ensures)).no_later
+
+pub returns-clause-ends : goal.returns-clause-ends
+returns-clause-ends c =
+    arrives_before c.args.schedule.now.came c.args.slot c.args.last c.min.result c.next_arrival.result
+    c.next_arrival.ensures (c.min.ensures ∙ ap (λ (n : ℕ). min n c.args.last) c.unwrap_or.ensures)

@@ -15,7 +15,7 @@ stands : (g : given.Over) (c : After-arrivals-arrivals g) →
 stands g c =
     part_stands g.R.Rank.machine c.requires.ready
     (part_rests g.R.Rank.machine c.requires.ready c.slots.invariant.crossing c.slots.invariant.before
-    c.skip-slot.ensures.late (λ lt. let told = c.skip-slot.ensures.told lt in search rules)
+    c.skip-slot.ensures.late (λ lt. let told = c.skip-slot.ensures.told (c.skip-slot.ensures.idle lt) in search rules)
     c.skip-slot.ensures.rested).0 c.if-slot-last.false
 
 -- and finds all that it asks for
@@ -89,7 +89,7 @@ pub returns-then-slot-last-clause-run : goal.returns-then-slot-last-clause-run
 returns-then-slot-last-clause-run g c =
     let rests =
     part_rests g.R.Rank.machine c.requires.ready c.slots.invariant.crossing c.slots.invariant.before
-    c.skip-slot.ensures.late (λ lt. let told = c.skip-slot.ensures.told lt in search rules)
+    c.skip-slot.ensures.late (λ lt. let told = c.skip-slot.ensures.told (c.skip-slot.ensures.idle lt) in search rules)
     c.skip-slot.ensures.rested in
     let within : c.skip-slot.result ≤ c.args.last = rests.1 in
     part_ends g.R.Rank.machine c.requires.ready rests.0 (omega arith)
