@@ -246,7 +246,8 @@ fn push_block(blocks: &mut Vec<Block>, output: Port)
     requires full { (i : ℕ) → i + 1 ≡ length blocks.old.items → 64 ≤ length (slice_index_or blocks.old.items i []) }
     requires memory { HaveMemory (length (concat blocks.old.items)) (vec_capacity blocks.old) }
     requires in_range { output < 64 }
-    ensures places { concat blocks.new.items ≡ insert (concat blocks.old.items) (length (concat blocks.old.items)) output }
+    ensures places { concat blocks.new.items ≡
+        insert (concat blocks.old.items) (length (concat blocks.old.items)) output }
     ensures filled { AreFilled blocks.new.items }
     ensures capacity { vec_capacity blocks.new ≡ vec_capacity blocks.old }
 {
@@ -261,7 +262,8 @@ fn append_behind(blocks: &mut Vec<Block>, last: usize, output: Port)
     requires last { last + 1 ≡ length blocks.old.items }
     requires memory { HaveMemory (length (concat blocks.old.items)) (vec_capacity blocks.old) }
     requires in_range { output < 64 }
-    ensures places { concat blocks.new.items ≡ insert (concat blocks.old.items) (length (concat blocks.old.items)) output }
+    ensures places { concat blocks.new.items ≡
+        insert (concat blocks.old.items) (length (concat blocks.old.items)) output }
     ensures filled { AreFilled blocks.new.items }
     ensures capacity { vec_capacity blocks.new ≡ vec_capacity blocks.old }
 {
@@ -279,7 +281,8 @@ fn append(blocks: &mut Vec<Block>, output: Port)
     requires filled { AreFilled blocks.old.items }
     requires memory { HaveMemory (length (concat blocks.old.items)) (vec_capacity blocks.old) }
     requires in_range { output < 64 }
-    ensures places { concat blocks.new.items ≡ insert (concat blocks.old.items) (length (concat blocks.old.items)) output }
+    ensures places { concat blocks.new.items ≡
+        insert (concat blocks.old.items) (length (concat blocks.old.items)) output }
     ensures filled { AreFilled blocks.new.items }
     ensures capacity { vec_capacity blocks.new ≡ vec_capacity blocks.old }
 {
@@ -310,7 +313,8 @@ fn insert_inside(blocks: &mut Vec<Block>, place: usize, len: usize, output: Port
 // The places of the next block go over to the end of a block.
 fn join_next(blocks: &mut Vec<Block>, at: usize)
     requires inside { at + 1 < length blocks.old.items }
-    requires fits { length (slice_index_or blocks.old.items at []) + length (slice_index_or blocks.old.items (at + 1) []) ≤ 64 }
+    requires fits { length (slice_index_or blocks.old.items at [])
+        + length (slice_index_or blocks.old.items (at + 1) []) ≤ 64 }
     ensures joined { blocks.new.items ≡ joined blocks.old.items at }
     ensures capacity { vec_capacity blocks.new ≡ vec_capacity blocks.old }
 {
@@ -337,7 +341,8 @@ fn fill_up(blocks: &mut Vec<Block>, at: usize)
     requires inside { at < length blocks.old.items }
     ensures places { concat blocks.new.items ≡ concat blocks.old.items }
     ensures filled { AreFilled blocks.new.items }
-    ensures spot { (place within : ℕ) → IsSpot blocks.old.items place at within → IsSpot blocks.new.items place at within }
+    ensures spot { (place within : ℕ) →
+        IsSpot blocks.old.items place at within → IsSpot blocks.new.items place at within }
     ensures longer { at + 1 < length blocks.new.items → 16 < length (slice_index_or blocks.new.items at []) }
     ensures capacity { vec_capacity blocks.new ≡ vec_capacity blocks.old }
 {
@@ -449,7 +454,8 @@ impl Places {
     pub fn remove_first(&mut self, output: Port, all: usize)
         requires all { all ≡ count_of output self.old.outputs }
         requires some { 0 < all }
-        ensures outputs { self.new.outputs ≡ remove self.old.outputs (position_or_len (is_output output) self.old.outputs) }
+        ensures outputs { self.new.outputs ≡
+            remove self.old.outputs (position_or_len (is_output output) self.old.outputs) }
         ensures spare { self.new.spare ≡ self.old.spare + 1 }
     {
         let (place, spot) = find_nth(

@@ -51,7 +51,8 @@ impl Model for Pool {
 
     ghost Value = { PoolView };
 
-    ghost view = { λ p. record { queues = cells_in_queues (get p.nodes) p.queues.items; spare = p.room - slab_len p.nodes } };
+    ghost view = { λ p.
+        record { queues = cells_in_queues (get p.nodes) p.queues.items; spare = p.room - slab_len p.nodes } };
 
     ghost invariant = { λ p. IsPool p.nodes p.queues.items p.room };
 }
@@ -82,7 +83,8 @@ fn is_same(key: Key, other: Key) -> bool
 // How many cells of a queue are more urgent, cell by cell.
 fn walk(nodes: &Slab<Node>, queue: Queue, key: Key) -> Ahead
     requires { IsChained (get nodes.now) queue }
-    ensures count { result.count ≡ position_or_len (λ x. not (is_before x.key key)) (cells (linked (get nodes.now) queue)) }
+    ensures count { result.count ≡
+        position_or_len (λ x. not (is_before x.key key)) (cells (linked (get nodes.now) queue)) }
     ensures last { EndsAt (linked (get nodes.now) queue) result.count result.last }
 {
     let mut last = queue.last;
@@ -104,7 +106,8 @@ fn walk(nodes: &Slab<Node>, queue: Queue, key: Key) -> Ahead
 // The same, but a last cell that is more urgent tells it at once.
 fn ahead_of(nodes: &Slab<Node>, queue: Queue, key: Key) -> Ahead
     requires { IsChained (get nodes.now) queue }
-    ensures count { result.count ≡ position_or_len (λ x. not (is_before x.key key)) (cells (linked (get nodes.now) queue)) }
+    ensures count { result.count ≡
+        position_or_len (λ x. not (is_before x.key key)) (cells (linked (get nodes.now) queue)) }
     ensures last { EndsAt (linked (get nodes.now) queue) result.count result.last }
 {
     if queue.len > 0 && precedes(nodes[queue.last].queued.key, key) {
@@ -177,7 +180,8 @@ fn put_behind(nodes: &mut Slab<Node>, queue: Queue, queued: Queued, ahead: Ahead
     requires linked { IsLinked (get nodes.old) queued.cell.output queue }
     requires some { 0 < ahead.count }
     requires last { EndsAt (linked (get nodes.old) queue) ahead.count ahead.last }
-    ensures chained { chain (get nodes.new) (queue.len + 1) queue.first ≡ insert (linked (get nodes.old) queue) ahead.count (result, queued) }
+    ensures chained { chain (get nodes.new) (queue.len + 1) queue.first ≡
+        insert (linked (get nodes.old) queue) ahead.count (result, queued) }
     ensures others { OthersStay queued.cell.output (get nodes.old) (get nodes.new) }
     ensures len { slab_len nodes.new ≡ slab_len nodes.old + 1 }
     ensures capacity { nodes.new.capacity ≡ nodes.old.capacity }
@@ -204,7 +208,8 @@ fn put_into(nodes: &mut Slab<Node>, queue: Queue, queued: Queued, ahead: Ahead) 
     requires room { HasRoomFor nodes.old 1 }
     requires linked { IsLinked (get nodes.old) queued.cell.output queue }
     requires other_key { HasOtherKey queued (cells (linked (get nodes.old) queue)) }
-    requires count { ahead.count ≡ position_or_len (λ x. is_before queued.key x.key) (cells (linked (get nodes.old) queue)) }
+    requires count { ahead.count ≡
+        position_or_len (λ x. is_before queued.key x.key) (cells (linked (get nodes.old) queue)) }
     requires last { EndsAt (linked (get nodes.old) queue) ahead.count ahead.last }
     requires fits { queue.len + 1 < 2 ^ 64 }
     ensures linked { IsLinked (get nodes.new) queued.cell.output result }
@@ -254,8 +259,10 @@ impl Pool {
         requires spare { 0 < self.old.spare }
         requires in_range { queued.cell.output < length self.old.queues }
         requires other_key { HasOtherKey queued (queue_of self.old.queues queued.cell.output) }
-        ensures place { result ≡ position_or_len (λ x. is_before queued.key x.key) (queue_of self.old.queues queued.cell.output) }
-        ensures queues { self.new.queues ≡ slice_set self.old.queues queued.cell.output (put queued (queue_of self.old.queues queued.cell.output)) }
+        ensures place { result ≡
+            position_or_len (λ x. is_before queued.key x.key) (queue_of self.old.queues queued.cell.output) }
+        ensures queues { self.new.queues ≡ slice_set self.old.queues queued.cell.output
+            (put queued (queue_of self.old.queues queued.cell.output)) }
         ensures spare { self.new.spare + 1 ≡ self.old.spare }
     {
         let output = queued.cell.output as usize;

@@ -27,8 +27,8 @@ const HEADER: [u8; FILE_HEADER] = [
 // In nanoseconds.
 const SECOND: u128 = 1_000_000_000;
 
-/// The bytes of a capture without packets, with room for so many bytes in all: where the file comes to no more, it never
-/// moves while packets are put behind its header. The error is want of memory.
+/// The bytes of a capture without packets, with room for so many bytes in all: where the file comes to no more, it
+/// never moves while packets are put behind its header. The error is want of memory.
 pub fn begin_capture(alloc: Global, size: usize) -> Result<Vec<u8>, NoMemory>
     ensures { IfOk result (λ v. v.items ≡ written []) }
 {
@@ -37,9 +37,9 @@ pub fn begin_capture(alloc: Global, size: usize) -> Result<Vec<u8>, NoMemory>
     Ok(out)
 }
 
-/// Puts the record of one more packet behind the bytes of a capture: its stamp in nanoseconds, its length on the wire, and
-/// its captured bytes, at most 262,144. The seconds of the stamp are written modulo 2^32. The error is want of memory, and
-/// then the bytes are as before.
+/// Puts the record of one more packet behind the bytes of a capture: its stamp in nanoseconds, its length on the wire,
+/// and its captured bytes, at most 262,144. The seconds of the stamp are written modulo 2^32. The error is want of
+/// memory, and then the bytes are as before.
 #[tactic(auto, using(std::proofs::Common::append_assoc))]
 pub fn put_packet(
     out: &mut Vec<u8>,
@@ -48,7 +48,8 @@ pub fn put_packet(
     body: &[u8],
 ) -> Result<(), NoMemory>
     requires { length body.now ≤ 262144 }
-    ensures record { OnOk result (out.new.items ≡ out.old.items ++ record_of (record { stamp = stamp; original = original; body = body.now })) }
+    ensures record { OnOk result (out.new.items ≡
+        out.old.items ++ record_of (record { stamp = stamp; original = original; body = body.now })) }
     ensures as_before { OnErr result (out.new.items ≡ out.old.items) }
 {
     let figures = [

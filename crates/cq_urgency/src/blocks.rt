@@ -32,7 +32,9 @@ impl Model for Blocks {
 
     ghost view = { λ b. record { blocks = in_order b.pool.items b.order.items; most = b.most } };
 
-    ghost invariant = { λ b. ArePlaced b.pool.items b.order.items b.counts.items b.free.items × HaveMemory b.most (length b.pool.items) (vec_capacity b.pool) (vec_capacity b.order) (vec_capacity b.counts) (vec_capacity b.free) };
+    ghost invariant = { λ b. ArePlaced b.pool.items b.order.items b.counts.items b.free.items
+        × HaveMemory b.most (length b.pool.items) (vec_capacity b.pool) (vec_capacity b.order) (vec_capacity b.counts)
+        (vec_capacity b.free) };
 }
 
 // A new block of one cell. It is made apart from all callers, so that none of them has room for a block on its stack.
@@ -90,7 +92,8 @@ fn put_upper(pool: &mut Vec<Block>, free: &mut Vec<usize>, number: usize) -> usi
     requires full { length (block_at pool.old.items number) ≡ 64 }
     requires within { (n : ℕ) → times n free.old.items ≤ has pool.old.items n }
     requires memory { length free.old.items ≡ 0 → length pool.old.items < vec_capacity pool.old }
-    ensures comes { ComesIn (slice_set pool.old.items number (take 32 (block_at pool.old.items number))) free.old.items pool.new.items free.new.items (drop 32 (block_at pool.old.items number)) result }
+    ensures comes { ComesIn (slice_set pool.old.items number (take 32 (block_at pool.old.items number)))
+        free.old.items pool.new.items free.new.items (drop 32 (block_at pool.old.items number)) result }
     ensures pool { vec_capacity pool.new ≡ vec_capacity pool.old }
     ensures free { vec_capacity free.new ≡ vec_capacity free.old }
 {
@@ -216,7 +219,8 @@ impl Blocks {
         requires block { block < length self.old.blocks }
         requires inside { place ≤ length (block_at self.old.blocks block) }
         requires room { length (block_at self.old.blocks block) < 64 }
-        ensures blocks { self.new.blocks ≡ slice_set self.old.blocks block (insert (block_at self.old.blocks block) place queued) }
+        ensures blocks { self.new.blocks ≡
+            slice_set self.old.blocks block (insert (block_at self.old.blocks block) place queued) }
         ensures most { self.new.most ≡ self.old.most }
     {
         let number = self.order[block];
