@@ -90,7 +90,8 @@ HasBufferRoom cells v = (j : ℕ) → j < ports_in v →
 
 -- ## A slot
 
--- what arrives in this slot can come: it is in step, the ranks of what is admitted fit, and lists and buffers have room
+-- what arrives in this slot can come: the replay is in step, the ranks of what is admitted fit, and lists and buffers
+-- have room
 pub record CanCome (ms : List Machine) (slot : ℕ) (cells : List (Option Cell)) (now : ReplayView) : Type 0 where
   pub in_step : IsInStep ms slot now
   pub arrivals : AreForPorts (ports_in now) (class_count ms) cells
@@ -99,8 +100,8 @@ pub record CanCome (ms : List Machine) (slot : ℕ) (cells : List (Option Cell))
   pub list_room : HasListRoom cells now
   pub buffer_room : HasBufferRoom cells now
 
--- It can have this slot: what arrives can come, the lines are in order and none is earlier, and a transfer of each
--- input can be noted in both phases.
+-- The replay can have this slot: what arrives can come, the lines are in order and none is earlier, and a transfer of
+-- each input can be noted in both phases.
 pub record CanReplay (ms : List Machine) (slot : ℕ) (cells : List (Option Cell)) (lines : List Transfer)
     (now : ReplayView) (note : RoomView Transfer) : Type 0 where
   pub come : CanCome ms slot cells now

@@ -26,10 +26,11 @@ cell_of input packet index last =
 abbrev pub one_cell : ℕ → ℕ → Cell
 one_cell input packet = cell_of input packet 0 true
 
--- The first packet of an input, where it has two cells. That of input 1 will be refused, and that of input 2 admitted.
+-- The first cell of an input's packet of two cells. That packet of input 1 will be refused, that of input 2 admitted.
 abbrev pub first_of_two : ℕ → Cell
 first_of_two input = cell_of input 0 0 false
 
+-- the other cell of that packet
 abbrev pub second_of_two : ℕ → Cell
 second_of_two input = cell_of input 0 1 true
 

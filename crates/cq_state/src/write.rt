@@ -139,7 +139,7 @@ fn cell_fields(cell: Named) -> [Option<u128>; 4]
     ]
 }
 
-// What a line of its own tells.
+// A thing of which the text has a line. `line` is that line, and `put` writes it behind the text.
 trait Told {
     ghost line: { Self → Line };
 

@@ -90,7 +90,8 @@ const CUT_SINKS: [Cut; 4] = [
     (Some(6), Ok(()), b"-abcde"),
 ];
 
-/// Whether writing comes to this, where the name may be cut, and leaves so many bytes and all of another name.
+/// Whether writing to a name, which is cut after so many bytes if at all, has the wanted answer and leaves these bytes
+/// there, and another name keeps its own.
 fn is_written(
     alloc: Global,
     cut: Option<u64>,
