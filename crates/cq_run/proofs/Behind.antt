@@ -112,17 +112,20 @@ module _ (r : Reader) (limit input : ℕ) (row : PortRow) (rows : List PortRow) 
     uncounted = tt;
   })
 
-module _ {S : Type 0} {space : S → Space} {keeps : S → S → Type 0} {row : PortRow} {limit : ℕ} {old mid : S}
-    {begun : Option Decoding} (b : HasBegun space keeps row limit old mid begun) where
+module _ {row : PortRow} {limit : ℕ} {old mid : Space} {begun : Option Decoding}
+    (b : HasBegun row limit old mid begun) where
   pub begun_is : IfSome begun IsBegun
-  begun_is = is_begun row.read limit (space old).told begun b.decoding
+  begun_is = is_begun row.read limit old.told begun b.decoding
 
   pub begun_small : limit ≤ 2 ^ 28 → IfSome begun (λ d. length (source d) ≤ 2 ^ 28)
-  begun_small small = is_small row.read limit (space old).told begun small b.decoding
+  begun_small small = is_small row.read limit old.told begun small b.decoding
 
-  -- what failed since the first file was read failed since this call began, for no fault was counted before
-  module _ (lasts : Lasts keeps) (r : Reader) (input : ℕ) (rows : List PortRow) {may_fail : Call → S → S → Type 0}
-      {new : S} where
+-- what failed since the first file was read failed since this call began, for no fault was counted before
+module _ {S : Type 0} {space : S → Space} {keeps : S → S → Type 0} {row : PortRow} {limit : ℕ} {old mid : S}
+    {begun : Option Decoding} (b : HasBegun row limit (space old) (space mid) begun)
+    (closed : (space mid).mode ≡ Closed) (told : (space mid).told ≡ (space old).told) (kept : keeps old mid)
+    (lasts : Lasts keeps) (r : Reader) (input : ℕ) (rows : List PortRow) {may_fail : Call → S → S → Type 0} {new : S}
+  where
     -- the first capture ends it, whatever the later ones came to
     pub capture_ends : {halt : Halt} {later : Result (List (List Captured)) Halt} →
         MatchOption begun ⊥ (λ d. IsHaltFor input (source d) halt) →
@@ -136,10 +139,10 @@ module _ {S : Type 0} {space : S → Space} {keeps : S → S → Type 0} {row : 
           ok = tt;
           halt = halted r input limit R (space old) (space new) halt row.read begun b.decoding h
               (name_after Ahead Q R (space old).faults (space mid).faults (space new).faults
-              (λ name. fails_after space may_fail keeps (Reads name) old mid new lasts b.uncounted b.kept) b.uncounted
+              (λ name. fails_after space may_fail keeps (Reads name) old mid new lasts b.uncounted kept) b.uncounted
               (counts_of (captures_from r limit (input + 1) rows) Q (space mid) (space new) later g));
           closed = g.closed;
-          told = g.told ∙ b.told;
+          told = g.told ∙ told;
           uncounted = tt;
         })
 
@@ -156,8 +159,8 @@ module _ {S : Type 0} {space : S → Space} {keeps : S → S → Type 0} {row : 
           (first_is r limit input row rows) R (space old) (space new) halt
           (judges_after (packets_at r input limit row.read) (then_later r limit input row rows) R Q R (space old)
           (space mid) (space new) packets halt (packets_stay r input limit row.read)
-          (λ name. fails_after space may_fail keeps (Reads name) old mid new lasts b.uncounted b.kept)
-          (judged_first r input limit R (space old) (space mid) packets row.read begun b.decoding b.closed b.told
+          (λ name. fails_after space may_fail keeps (Reads name) old mid new lasts b.uncounted kept)
+          (judged_first r input limit R (space old) (space mid) packets row.read begun b.decoding closed told
           b.uncounted h)
           (judges_then (captures_from r limit (input + 1) rows)
           (λ (others : List (List Captured)) (m : Contents). Ok (packets ∷ others)) Q Q (space mid) (space new) halt
@@ -176,7 +179,7 @@ module _ {S : Type 0} {space : S → Space} {keeps : S → S → Type 0} {row : 
           (first_is r limit input row rows) R (space old) (space new) all
           (judges_both (packets_at r input limit row.read) (then_later r limit input row rows) R R R (space old)
           (space mid) (space new) packets all
-          (judged_first r input limit R (space old) (space mid) packets row.read begun b.decoding b.closed b.told
+          (judged_first r input limit R (space old) (space mid) packets row.read begun b.decoding closed told
           b.uncounted h)
           (judges_both (captures_from r limit (input + 1) rows)
           (λ (others : List (List Captured)) (m : Contents). Ok (packets ∷ others)) Q R R (space mid) (space new)
@@ -191,7 +194,7 @@ module _ {S : Type 0} {space : S → Space} {keeps : S → S → Type 0} {row : 
         ok = tt;
         halt = inl (g.uncounted ∙ b.uncounted);
         closed = g.closed;
-        told = g.told ∙ b.told;
+        told = g.told ∙ told;
         uncounted = tt;
       }
 

@@ -2,7 +2,7 @@
 -- A decoding that was begun.
 use Rattle.std.specs.Prelude.{◌≡◌, ℕ, List, [], ◌∷◌, Option, None, Some}
 use Rattle.cq_route.specs.declared.tables.PortRow.{PortRow}
-use Rattle.cq_space.specs.Space.{Closed, Contents, Space}
+use Rattle.cq_space.specs.Space.{Contents, Space}
 use Rattle.cq_stream.specs.declared.item.Order.TheVariants.{Send}
 use Rattle.cq_stream.specs.Rings.{IsPairOf, bytes_to_read, taken, told}
 use Rattle.cq_run.specs.declared.decoding.Decoding.{Decoding}
@@ -29,10 +29,6 @@ IsBegunFor (Some name) limit contents (Some decoding) =
 IsBegunFor _ limit contents _ = ⊥
 
 -- the file of a port was read with no fault, and this was begun for its input
-pub record HasBegun {S : Type 0} (space : S → Space) (keeps : S → S → Type 0) (row : PortRow) (limit : ℕ) (old new : S)
-    (begun : Option Decoding) : Type 0 where
-  pub decoding : IsBegunFor row.read limit (space old).told begun
-  pub closed : (space new).mode ≡ Closed
-  pub told : (space new).told ≡ (space old).told
-  pub uncounted : (space new).faults ≡ (space old).faults
-  pub kept : keeps old new
+pub record HasBegun (row : PortRow) (limit : ℕ) (old new : Space) (begun : Option Decoding) : Type 0 where
+  pub decoding : IsBegunFor row.read limit old.told begun
+  pub uncounted : new.faults ≡ old.faults

@@ -64,7 +64,7 @@ fn begin_port<R: Threads + Wait + Copy + Send + 'static, F: Files, W: Watch + 's
 ) -> Result<Option<Decoding>, Halt>
     requires closed { (F.space files.old).mode ≡ Closed }
     requires limit { limit ≤ 2 ^ 28 }
-    ensures begun { IfOk result (HasBegun F.space F.keeps row.now limit files.old files.new) }
+    ensures begun { IfOk result (HasBegun row.now limit (F.space files.old) (F.space files.new)) }
     ensures halts { IfErr result (λ halt. (r : Reader) → Halts InTurn (packets_at r input limit row.now.read)
         (λ asked. Fails F.space F.may_fail F.keeps (Reads asked) files.old files.new)
         (F.space files.old) (F.space files.new) halt) }

@@ -31,27 +31,31 @@ returns-in_err-begun-in-Some-clause-judges g t c = λ r.
 pub returns-in_err-capture-in-Some-clause-judges : goal.returns-in_err-capture-in-Some-clause-judges
 returns-in_err-capture-in-Some-clause-judges g t c = λ r.
     rw (exit_is _ c.from_residual-in_err-capture-in-Some.ensures.1, c.in-Some.ensures.cases.0)
-    (capture_ends c.in_ok-begun-in-Some.ensures.begun g.met.F.Files.lasts r c.args.input c.in-Some.rest.now
+    (capture_ends c.in_ok-begun-in-Some.ensures.begun c.begin_port.ensures.closed c.begin_port.ensures.told
+    c.begin_port.ensures.kept g.met.F.Files.lasts r c.args.input c.in-Some.rest.now
     c.in_err-capture-in-Some.ensures.halts (c.stream_from-later.ensures.judges r))
 
 pub returns-in_err-captures-in-Some-clause-judges : goal.returns-in_err-captures-in-Some-clause-judges
 returns-in_err-captures-in-Some-clause-judges g t c = λ r.
     let spelt = c.in_ok-capture-in-Some.ensures.spelt in
     rw (exit_is _ c.from_residual-in_err-captures-in-Some.ensures.1, c.in-Some.ensures.cases.0)
-    (later_ends c.in_ok-begun-in-Some.ensures.begun g.met.F.Files.lasts r c.args.input c.in-Some.rest.now
+    (later_ends c.in_ok-begun-in-Some.ensures.begun c.begin_port.ensures.closed c.begin_port.ensures.told
+    c.begin_port.ensures.kept g.met.F.Files.lasts r c.args.input c.in-Some.rest.now
     c.in_ok-capture-in-Some.capture spelt (c.in_err-captures-in-Some.ensures.judges r))
 
 pub returns-in_err-in_front-in-Some-clause-judges : goal.returns-in_err-in_front-in-Some-clause-judges
 returns-in_err-in_front-in-Some-clause-judges g t c = λ r.
     rw (exit_is _ c.from_residual-in_err-in_front-in-Some.ensures.1, c.in-Some.ensures.cases.0)
-    (memory_ends c.in_ok-begun-in-Some.ensures.begun g.met.F.Files.lasts r c.args.input c.in-Some.rest.now
+    (memory_ends c.in_ok-begun-in-Some.ensures.begun c.begin_port.ensures.closed c.begin_port.ensures.told
+    c.begin_port.ensures.kept g.met.F.Files.lasts r c.args.input c.in-Some.rest.now
     c.in_ok-capture-in-Some.capture c.in_ok-capture-in-Some.ensures.spelt
     (c.in_ok-captures-in-Some.ensures.judges r))
 
 pub returns-in_ok-in_front-in-Some-clause-judges : goal.returns-in_ok-in_front-in-Some-clause-judges
 returns-in_ok-in_front-in-Some-clause-judges g t c = λ r.
     rw (c.in_ok-in_front-in-Some.ensures, c.in-Some.ensures.cases.0)
-    (all_arrive c.in_ok-begun-in-Some.ensures.begun g.met.F.Files.lasts r c.args.input c.in-Some.rest.now
+    (all_arrive c.in_ok-begun-in-Some.ensures.begun c.begin_port.ensures.closed c.begin_port.ensures.told
+    c.begin_port.ensures.kept g.met.F.Files.lasts r c.args.input c.in-Some.rest.now
     c.in_ok-capture-in-Some.capture c.in_ok-capture-in-Some.ensures.spelt (c.in_ok-captures-in-Some.ensures.judges r))
 
 pub returns-in_ok-in_front-in-Some-clause-each : goal.returns-in_ok-in_front-in-Some-clause-each

@@ -35,10 +35,7 @@ returns-in_ok-begin-in-Some-clause-begun g c =
         subst Q (sym c.in_ok-begin-in-Some.ensures.source)
             (subst P (c.in_ok-name-in-Some.ensures ∙ c.text.ensures) c.in_ok-bytes-in-Some.ensures.file),
       );
-      closed = c.read_file.ensures.closed;
-      told = c.read_file.ensures.told;
       uncounted = c.in_ok-bytes-in-Some.ensures.uncounted;
-      kept = c.read_file.ensures.kept;
     }
 
 -- want of memory for the rings: the file was read with no fault
