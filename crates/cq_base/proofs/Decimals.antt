@@ -1,7 +1,8 @@
 -- How a number is written digit by digit. A number below ten is one digit. Any other is the number without its last
 -- digit, and then that digit, so it is one digit longer. A number below 2 ^ 128 is below 10 ^ 39, so it has at most 39
 -- digits. And a digit that is written right behind those at the front leaves what comes after it as it was.
-use Rattle.std.proofs.Common.{◌≡◌, ℕ, ◌+◌, ◌<◌, ◌≤◌, ◌/◌, ◌%◌, ◌^◌, false, cond, List, [], ◌∷◌, ◌++◌, length, map, refl, ap, sym, ◌∙◌, arith, eqb, lit≤, zero, suc, set, drop, length-append, append_assoc}
+use Rattle.std.proofs.Common.{rules, ◌≡◌, ℕ, ◌+◌, ◌<◌, ◌≤◌, ◌/◌, ◌%◌, ◌^◌, List, [], ◌∷◌, ◌++◌, length, map, refl, ap, sym, ◌∙◌, arith, lit≤, zero, suc, set, drop, length-append, append_assoc}
+use Rattle.std.proofs.lemmas.Grind.{common_steps}
 use Rattle.std.specs.Int.Digits.{digits_of}
 use Rattle.std.proofs.lemmas.Int.Digits.{digits_of_step, length-digits_of-le}
 use Rattle.std.proofs.lemmas.List.{map-append, length-map, length-drop, drop-drop}
@@ -9,46 +10,28 @@ use Rattle.cq_base.specs.Decimal.{decimal}
 
 pub decimal_above : (n : ℕ) → 0 < n → decimal n ≡ map (λ d. 48 + d) (digits_of 10 n)
 unfolding decimal
-decimal_above n h =
-    let e : eqb n 0 ≡ false = grind arith in ap (λ b. map (λ d. 48 + d) (cond b (0 ∷ []) (digits_of 10 n))) e
+decimal_above n h = grind (arith, common_steps)
 
 pub decimal_small : (n : ℕ) → n < 10 → decimal n ≡ (48 + n % 10) ∷ []
 unfolding decimal
 decimal_small zero h = refl
-decimal_small (suc k) h =
-    let a : 0 < suc k = omega arith in
-    let z : suc k / 10 ≡ 0 = omega arith in
-    decimal_above (suc k) a
-    ∙ ap (map (λ d. 48 + d)) (digits_of_step 10 (suc k) (lit≤ tt) a
-    ∙ ap (λ q. digits_of 10 q ++ (suc k % 10) ∷ []) z)
+decimal_small (suc k) h = grind (arith, common_steps, decimal_above (suc k), digits_of_step 10 (suc k) (lit≤ tt))
 
 pub decimal_more : (n : ℕ) → 10 ≤ n → decimal n ≡ decimal (n / 10) ++ (48 + n % 10) ∷ []
-decimal_more n h =
-    let a : 0 < n = omega arith in
-    let b : 0 < n / 10 = omega arith in
-    decimal_above n a ∙ ap (map (λ d. 48 + d)) (digits_of_step 10 n (lit≤ tt) a) ∙ map-append _ _ _
-    ∙ ap (λ ys. ys ++ (48 + n % 10) ∷ []) (sym (decimal_above (n / 10) b))
+decimal_more n h = grind (arith, common_steps, decimal_above, digits_of_step, map-append)
 
 -- a number below a power of ten has no more digits than the power says
 pub length-decimal-le : (most n : ℕ) → 1 ≤ most → n < 10 ^ most → length (decimal n) ≤ most
 unfolding decimal
 length-decimal-le most zero some below = some
 length-decimal-le most (suc k) some below =
-    let a : 0 < suc k = omega arith in
-    let e = ap length (decimal_above (suc k) a) in
-    omega (
-      arith,
-      e,
-      length-map (digits_of 10 (suc k)) (λ d. 48 + d),
-      length-digits_of-le 10 most (suc k) (lit≤ tt) below,
-    )
+    let a : 0 < suc k = omega arith in search (arith, rules, decimal_above, length-map, length-digits_of-le)
 
 pub length-decimal : (n : ℕ) → n < 2 ^ 128 → length (decimal n) ≤ 39
 length-decimal n h = let below : n < 10 ^ 39 = omega arith in length-decimal-le 39 n (lit≤ tt) below
 
 pub length-decimal_more : (n : ℕ) → 10 ≤ n → length (decimal n) ≡ length (decimal (n / 10)) + 1
-length-decimal_more n h =
-    let e = ap length (decimal_more n h) in omega (arith, e, length-append (decimal (n / 10)) ((48 + n % 10) ∷ []))
+length-decimal_more n h = grind (arith, common_steps, decimal_more, length-append)
 
 -- a write right behind the first list is a write at the front of the second
 set-append_seam : (xs ys : List ℕ) (v : ℕ) → set (xs ++ ys) (length xs) v ≡ xs ++ set ys 0 v

@@ -1,9 +1,10 @@
 -- The order of keys is a strict total order. Their comparison is total (`keys_total`). Where it says equal, all four
 -- parts are equal, so the keys are the same. The laws then read this comparison through "is less", by its three cases.
-use Rattle.std.proofs.Common.{◌≡◌, ℕ, true, false, refl, ap}
+use Rattle.std.proofs.lemmas.Grind.{common_steps}
+use Rattle.std.proofs.Common.{arith, ◌≡◌, true, false, refl, ap}
 use Rattle.std.specs.declared.cmp.Ordering.{Ordering}
 use Rattle.std.specs.declared.cmp.Ordering.TheVariants.{Less, Equal, Greater}
-use Rattle.std.specs.Ordering.{nat_cmp, is_lt, ordering_reverse}
+use Rattle.std.specs.Ordering.{is_lt, ordering_reverse}
 use Rattle.std.proofs.lemmas.Cmp.{tied_itself}
 use Rattle.std.proofs.lemmas.Map.Lookups.{exact_pairs, exact_unsigned}
 use Rattle.cq_base.specs.declared.key.Key.{Key}
@@ -11,11 +12,7 @@ use Rattle.cq_base.specs.Key.{key_cmp, keys_total, is_before, KeyLaws}
 
 -- keys that compare alike are one
 exact_keys : (a b : Key) → key_cmp a b ≡ Equal → a ≡ b
-exact_keys a b h =
-    ap (λ (p : ℕ × (ℕ × (ℕ × ℕ))). record { level = p.0; rank = p.1.0; slot = p.1.1.0; input = p.1.1.1 })
-    (exact_pairs nat_cmp _ exact_unsigned
-    (exact_pairs nat_cmp _ exact_unsigned (exact_pairs nat_cmp nat_cmp exact_unsigned exact_unsigned))
-    (a.level, (a.rank, (a.slot, a.input))) (b.level, (b.rank, (b.slot, b.input))) h)
+exact_keys a b h = grind (arith, common_steps, exact_pairs, exact_unsigned)
 
 -- what is less compares as less
 less_from : (o : Ordering) → is_lt o ≡ true → o ≡ Less

@@ -4,7 +4,8 @@
 -- of arrival: a cell that goes in at the least of the three places stands after every more urgent cell for its
 -- output, for these stand below its cushion, and before every less urgent one, for the first of these is one of the
 -- three places.
-use Rattle.std.proofs.Common.{◌≡◌, ◌≢◌, ℕ, zero, suc, ◌+◌, ◌<◌, ◌≤◌, ltb, Bool, true, false, not, cond, List, [], ◌∷◌, length, get_or, Option, None, Some, refl, sym, ap, ◌∙◌, subst, ⊎_elim, arith}
+use Rattle.std.proofs.lemmas.Grind.{common_steps}
+use Rattle.std.proofs.Common.{rules, ◌≡◌, ◌≢◌, ℕ, zero, suc, ◌+◌, ◌<◌, ◌≤◌, Bool, true, false, not, cond, List, [], ◌∷◌, length, get_or, Option, None, Some, refl, sym, ap, ◌∙◌, subst, ⊎_elim, arith}
 use Rattle.std.specs.Prelude.{◌&&◌, slice_get, position, unwrap_or, insert}
 use Rattle.std.specs.List.{AllByRecursion, position_or_len}
 use Rattle.std.proofs.lemmas.Bool.{cond_both, eqb-true, eq-eqb, and_parts, and_from, cases_Bool, cases_lt, ltb-false}
@@ -14,7 +15,7 @@ use Rattle.std.proofs.lemmas.List.Sums.{passes_at_first}
 use Rattle.cq_base.specs.declared.key.Key.{Key}
 use Rattle.cq_base.specs.declared.cell.Queued.{Queued}
 use Rattle.cq_base.specs.Key.{is_before}
-use Rattle.cq_base.specs.Cells.{IsBefore, EachPair, KeepsOrder, KeysDiffer, HasOtherKey, MoreUrgentAhead, ArrivedBefore, is_for, first_for, place_for, without_first, place_of_later, place_of_arrival, with_arrival}
+use Rattle.cq_base.specs.Cells.{IsBefore, EachPair, KeepsOrder, KeysDiffer, HasOtherKey, MoreUrgentAhead, ArrivedBefore, is_for, first_for, without_first, place_of_later, place_of_arrival, with_arrival}
 use Rattle.cq_base.proofs.Keys.{key_laws}
 
 -- ## What a place shows
@@ -40,8 +41,7 @@ pub each_pair_at : (R : Queued → Queued → Type 0) (xs : List Queued) (s t : 
     slice_get xs s ≡ Some a → slice_get xs t ≡ Some b → s < t → R a b
 each_pair_at R [] s t a b e h k l = cc
 each_pair_at R (x ∷ xs) zero zero a b e h k l = absurd (omega arith)
-each_pair_at R (x ∷ xs) zero (suc t) a b e h k l =
-    let same : x ≡ a = cc in subst (λ y. R y b) same (all_at (R x) xs t b e.0 k)
+each_pair_at R (x ∷ xs) zero (suc t) a b e h k l = grind (arith, common_steps, all_at)
 each_pair_at R (x ∷ xs) (suc s) zero a b e h k l = absurd (omega arith)
 each_pair_at R (x ∷ xs) (suc s) (suc t) a b e h k l = each_pair_at R xs s t a b e.1 h k (omega arith)
 
@@ -55,9 +55,7 @@ pub first_later : {X : Type 0} (p : X → Bool) (x : X) (xs : List X) → p x �
 first_later p x xs e = ap (λ b. cond (not b) (1 + position_or_len p xs) 0) e
 
 first_step : {X : Type 0} (p : X → Bool) (x : X) (xs : List X) → position_or_len p (x ∷ xs) ≤ 1 + position_or_len p xs
-first_step p x xs =
-    let n = position_or_len p xs in
-    cond_both (not (p x)) (1 + n) 0 (λ m. m ≤ 1 + n) (λ _. omega arith) (λ _. omega arith)
+first_step p x xs = grind (arith, common_steps, cond_both)
 
 pub first_inside : {X : Type 0} (p : X → Bool) (xs : List X) → position_or_len p xs ≤ length xs
 first_inside p [] = omega arith
@@ -67,43 +65,28 @@ first_inside p (x ∷ xs) = let step = first_step p x xs in let rest = first_ins
 pub first_le : {X : Type 0} (p : X → Bool) (xs : List X) (t : ℕ) (c : X) → slice_get xs t ≡ Some c → p c ≡ true →
     position_or_len p xs ≤ t
 first_le p [] t c h e = cc
-first_le p (x ∷ xs) zero c h e =
-    let same : c ≡ x = cc in
-    let here = first_here p x xs (ap p (sym same) ∙ e) in omega arith
-first_le p (x ∷ xs) (suc t) c h e =
-    let rest = first_le p xs t c h e in
-    let step = first_step p x xs in omega arith
+first_le p (x ∷ xs) zero c h e = grind (arith, common_steps, first_here)
+first_le p (x ∷ xs) (suc t) c h e = grind (arith, common_steps, first_step, first_le p xs t c h e)
 
 -- the place that a search found, or the length
 pub place_found : {X : Type 0} (p : X → Bool) (xs : List X) (o : Option ℕ) (n : ℕ) → o ≡ position p xs →
     n ≡ unwrap_or o (length xs) → n ≡ position_or_len p xs
-place_found p xs o n e f =
-    let at = position_or_len p xs in
-    f ∙ ap (λ v. unwrap_or v (length xs)) e
-    ∙ cond_both (ltb at (length xs)) (Some at) None (λ v. unwrap_or v (length xs) ≡ at) (λ _. refl)
-    (λ no. let le = ltb-false at (length xs) no in let inside = first_inside p xs in omega arith)
+place_found p xs o n e f = grind (arith, common_steps, cond_both, ltb-false, first_inside)
 
 position-none : {X : Type 0} (p : X → Bool) (xs : List X) → position p xs ≡ None → length xs ≤ position_or_len p xs
-position-none p xs h =
-    let at = position_or_len p xs in
-    let none : Option ℕ = None in
-    cond_both (ltb at (length xs)) (Some at) none (λ o. o ≡ none → length xs ≤ at)
-    (λ _ e. absurd (let P : ⊥ = cc in P)) (λ no _. ltb-false at (length xs) no) h
+position-none p xs h = grind (arith, common_steps, cond_both, ltb-false)
 
 -- ## The first cell for an output taken out
 
 pub all_left : (P : Queued → Type 0) (j : ℕ) (xs : List Queued) → AllByRecursion P xs →
     AllByRecursion P (without_first j xs)
 all_left P j [] a = tt
-all_left P j (x ∷ xs) a =
-    cond_both (is_for j x) xs (x ∷ without_first j xs) (AllByRecursion P) (λ _. a.1) (λ _. (a.0, all_left P j xs a.1))
+all_left P j (x ∷ xs) a = grind (arith, common_steps, cond_both, all_left P j xs a.1)
 
 pub each_pair_left : (R : Queued → Queued → Type 0) (j : ℕ) (xs : List Queued) → EachPair R xs →
     EachPair R (without_first j xs)
 each_pair_left R j [] e = tt
-each_pair_left R j (x ∷ xs) e =
-    cond_both (is_for j x) xs (x ∷ without_first j xs) (EachPair R) (λ _. e.1)
-    (λ _. (all_left (R x) j xs e.0, each_pair_left R j xs e.1))
+each_pair_left R j (x ∷ xs) e = grind (arith, common_steps, cond_both, all_left, each_pair_left R j xs e.1)
 
 none_left : (j : ℕ) (xs : List Queued) → first_for j xs ≡ None → without_first j xs ≡ xs
 none_left j [] h = refl
@@ -117,10 +100,7 @@ none_left j (x ∷ xs) h = go (is_for j x) h (none_left j xs)
 -- what is left where a search for the first cell for the output found none
 pub taken_none : (j : ℕ) (xs : List Queued) → position (is_for j) xs ≡ None →
     (None ≡ first_for j xs) × (xs ≡ without_first j xs)
-taken_none j xs h =
-    let none : first_for j xs ≡ None =
-    find_at (is_for j) xs ∙ slice_get_past xs (place_for j xs) (position-none (is_for j) xs h) in
-    (sym none, sym (none_left j xs none))
+taken_none j xs h = grind (arith, common_steps, find_at, slice_get_past, position-none, none_left)
 
 -- ## A cell inserted at a place
 
@@ -143,9 +123,7 @@ each_pair_insert R (x ∷ xs) (suc p) n e before after = (
 
 pub keys_differ_insert : (xs : List Queued) (p : ℕ) (n : Queued) → KeysDiffer xs → HasOtherKey n xs →
     KeysDiffer (insert xs p n)
-keys_differ_insert xs p n differ other =
-    each_pair_insert _ xs p n differ (λ s x h l. all_at (λ y. y.key ≢ n.key) xs s x other h)
-    (λ s x h l e. all_at (λ y. y.key ≢ n.key) xs s x other h (sym e))
+keys_differ_insert xs p n differ other = grind (arith, common_steps, each_pair_insert, all_at)
 
 -- ## An arriving cell keeps the order of the cells for its output
 
@@ -164,20 +142,12 @@ module _ (cushion : ℕ) (n : Queued) (xs : List Queued) (order : KeepsOrder xs)
   before_arrival : (s : ℕ) (x : Queued) → slice_get xs s ≡ Some x → s < place_of_arrival cushion n xs →
       x.cell.output ≡ n.cell.output → IsBefore x n
   unfolding is_later
-  before_arrival s x at l e =
-      ⊎_elim (λ t. t)
-      (λ f.
-      let back = after_other x.key n.key f (differs s x at) in
-      let le = first_le is_later xs s x at (and_from _ _ (eq-eqb x.cell.output n.cell.output e) back) in
-      absurd (omega arith))
-      (cases_Bool (is_before x.key n.key))
+  before_arrival s x at l e = search (rules, after_other, differs, first_le, and_from, eq-eqb, cases_Bool)
 
   after_arrival : (s : ℕ) (x : Queued) → slice_get xs s ≡ Some x → place_of_arrival cushion n xs ≤ s →
       n.cell.output ≡ x.cell.output → IsBefore n x
   unfolding is_later
-  after_arrival s x at l e =
-      ⊎_elim (λ t. t)
-      (λ f.
+  after_arrival s x at l e = ⊎_elim (λ t. t) (λ f.
       let back = after_other n.key x.key f (λ same. differs s x at (sym same)) in
       let below = ahead s x at (sym e) back in
       let inside = slice_get_within xs s x at in
@@ -188,12 +158,9 @@ module _ (cushion : ℕ) (n : Queued) (xs : List Queued) (order : KeepsOrder xs)
       slice_get-get_or xs (place_of_later n xs) x first_inside in
       let passes = and_parts _ _ (passes_at_first is_later xs x first_inside) in
       let out = eqb-true first.cell.output n.cell.output passes.0 in
-      ⊎_elim
-      (λ lt. key_laws.on n.key first.key x.key passes.1 (each_pair_at _ xs (place_of_later n xs) s first x order
-      at_first at lt (out ∙ e)))
-      (λ ge. subst (λ (y : Queued). is_before n.key y.key ≡ true)
-      (same_shown xs (place_of_later n xs) s first x (omega arith) at_first at) passes.1)
-      (cases_lt (place_of_later n xs) s))
+      ⊎_elim (λ lt. key_laws.on n.key first.key x.key passes.1
+      (each_pair_at _ xs (place_of_later n xs) s first x order at_first at lt (out ∙ e)))
+      (λ ge. search (arith, rules, same_shown)) (cases_lt (place_of_later n xs) s))
       (cases_Bool (is_before n.key x.key))
 
   pub keeps_order_arrival : KeepsOrder (with_arrival cushion n xs)
@@ -203,10 +170,7 @@ module _ (cushion : ℕ) (n : Queued) (xs : List Queued) (order : KeepsOrder xs)
 
 -- no older cell has its key
 pub other_key_newest : (c : Queued) (xs : List Queued) → ArrivedBefore c.key.slot xs → HasOtherKey c xs
-other_key_newest c xs before =
-    all_by _ xs (λ t x at e. let older = all_at (λ y. y.key.slot < c.key.slot) xs t x before at in
-    let same = ap (λ (k : Key). k.slot) e in
-    omega arith)
+other_key_newest c xs before = grind (arith, common_steps, all_by, all_at)
 
 -- a cushion that is no less than any place
 pub ahead_of_end : (cushion : ℕ) (c : Queued) (xs : List Queued) → length xs ≤ cushion → MoreUrgentAhead cushion c xs
@@ -215,6 +179,4 @@ ahead_of_end cushion c xs l place x at _ _ = let inside = slice_get_within xs pl
 -- all arrived before the next slot
 pub arrived_newest : (cushion : ℕ) (c : Queued) (xs : List Queued) → ArrivedBefore c.key.slot xs →
     ArrivedBefore (c.key.slot + 1) (with_arrival cushion c xs)
-arrived_newest cushion c xs before =
-    all_insert _ xs (place_of_arrival cushion c xs) c (omega arith) (all_by _ xs
-    (λ t x at. let older = all_at (λ y. y.key.slot < c.key.slot) xs t x before at in omega arith))
+arrived_newest cushion c xs before = search (rules, all_insert, all_by, all_at)

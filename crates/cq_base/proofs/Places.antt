@@ -1,7 +1,8 @@
 -- What stands at the places of arrivals. Where no cell came every place answers none, inside the list and beyond it,
 -- so there is no cell of which anything is asked. And what is read at a place, if it is a cell, stands at its own
 -- input, also where it was put there in place of another.
-use Rattle.std.proofs.Common.{◌≡◌, ◌≢◌, ◌<◌, ℕ, List, get_or, set, Option, None, Some, Bor, refl, sym, ap, ◌∙◌, subst, ⊎_elim, length-set, get_or-set_same, get_or-set_other, arith}
+use Rattle.std.proofs.lemmas.Grind.{common_steps}
+use Rattle.std.proofs.Common.{rules, ◌≡◌, ◌<◌, ℕ, List, get_or, set, Option, None, Some, Bor, refl, sym, ◌∙◌, length-set, get_or-set_same, get_or-set_other, arith, ◌≢◌, ap, ⊎_elim}
 use Rattle.std.specs.Prelude.{IfSome, unwrap_or}
 use Rattle.std.specs.Option.{option_copied, option_flatten, option_map}
 use Rattle.std.proofs.lemmas.Bool.{cases_eq, cases_lt}
@@ -42,17 +43,14 @@ option_flatten-copied (Some b) = refl
 pub own_read : (input : ℕ) (cells : List (Option Cell)) (found : Option (Bor (Option Cell))) (o : Option Cell) →
     AreArrivals cells → ((d : Option Cell) → unwrap_or (option_map (λ b. b.now) found) d ≡ get_or cells input d) →
     o ≡ option_flatten (option_copied found) → IfSome o (λ cell. cell.id.input ≡ input)
-own_read input cells found o are read is =
-    let none : Option Cell = None in
-    own_at input cells o are (is ∙ option_flatten-copied found ∙ read none ∙ sym (unwrap_or-slice_get cells input none))
+own_read input cells found o are read is = search (rules, own_at, option_flatten-copied, unwrap_or-slice_get)
 
 -- ## One place
 
 own_of : (o : Option Cell) (cell : Cell) (input : ℕ) → o ≡ Some cell → IfSome o (λ c. c.id.input ≡ input) →
     cell.id.input ≡ input
 own_of None cell input is own = absurd (let clash : ⊥ = cc in clash)
-own_of (Some c) cell input is own =
-    let same : c ≡ cell = cc in subst (λ (x : Cell). x.id.input ≡ input) same own
+own_of (Some c) cell input is own = grind (arith, common_steps)
 
 -- what is put to an input is its own, and the other places keep theirs
 pub put_are : (cells : List (Option Cell)) (input : ℕ) (o : Option Cell) → AreArrivals cells → input < 64 →

@@ -1,7 +1,8 @@
 -- Why a text is read in one way. At a place one line at most stands at the front, and it leads to one place. So of
 -- two readings neither parts from the other: they have the same lines as long as both go on, and where one finds no
 -- line that may come, or the end, so does the other.
-use Rattle.std.proofs.Common.{◌≡◌, ◌≢◌, ℕ, ◌+◌, List, [], ◌∷◌, ◌++◌, length, refl, ap, sym, subst, ◌∙◌, append_assoc}
+use Rattle.std.proofs.Common.{arith, ◌≡◌, ◌≢◌, ℕ, ◌+◌, List, [], ◌∷◌, ◌++◌, refl, ap, sym, ◌∙◌, append_assoc, length, subst}
+use Rattle.std.proofs.lemmas.Grind.{common_steps}
 use Rattle.std.specs.List.{flat_map}
 use Rattle.std.proofs.lemmas.List.{append-nil}
 use Rattle.cq_lines.specs.Texts.{Leads, IsExact}
@@ -24,19 +25,10 @@ module _ {P X : Type 0} (spelling : X → List ℕ) (Rule : P → X → P → Ty
   same_stop : (p : P) (xs ys : List X) (q r : P) (a b : List ℕ) → IsSound p → Leads Rule p xs q → Leads Rule p ys r →
       flat_map spelling xs ++ a ≡ flat_map spelling ys ++ b → NoLine q a → NoLine r b → (xs ≡ ys) × (q ≡ r) × (a ≡ b)
   same_stop p [] [] q r a b sound l m e none_a none_b = (refl, sym l ∙ m, e)
-  same_stop p [] (y ∷ ys) q r a b sound l m e none_a none_b =
-      absurd (none_a y (flat_map spelling ys ++ b) m.0 (subst (λ s. Rule s y m.0) l m.1) (e
-      ∙ append_assoc (spelling y) (flat_map spelling ys) b))
-  same_stop p (x ∷ xs) [] q r a b sound l m e none_a none_b =
-      absurd (none_b x (flat_map spelling xs ++ a) l.0 (subst (λ s. Rule s x l.0) m l.1) (sym e
-      ∙ append_assoc (spelling x) (flat_map spelling xs) a))
+  same_stop p [] (y ∷ ys) q r a b sound l m e none_a none_b = grind (arith, common_steps, append_assoc)
+  same_stop p (x ∷ xs) [] q r a b sound l m e none_a none_b = grind (arith, common_steps, append_assoc)
   same_stop p (x ∷ xs) (y ∷ ys) q r a b sound l m e none_a none_b =
-      let first = way.same p l.0 m.0 x y (flat_map spelling xs ++ a) (flat_map spelling ys ++ b) sound l.1 m.1
-      (sym (append_assoc (spelling x) (flat_map spelling xs) a) ∙ e
-      ∙ append_assoc (spelling y) (flat_map spelling ys) b) in
-      let rest = same_stop l.0 xs ys q r a b (way.sound p l.0 x sound l.1) l.2 (subst (λ s. Leads Rule s ys r) (sym
-      first.1) m.2) first.2 none_a none_b in
-      (ap (λ z. z ∷ xs) first.0 ∙ ap (λ zs. y ∷ zs) rest.0, rest.1, rest.2)
+      grind (arith, common_steps, append_assoc, same_stop l.0 xs ys q r a b (way.sound p l.0 x sound l.1) l.2)
 
   nothing_left : (p : P) → NoLine p []
   nothing_left p x more q step e = way.some p q x more step (sym e)

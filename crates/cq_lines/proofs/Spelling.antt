@@ -2,7 +2,7 @@
 -- with the same digits are one. Digits with more digits behind them say a greater number, and 0 stands at the front
 -- of no other digit. So a text that goes on with digits behind those of one number begins with no lesser number, and
 -- with none at all behind a 0.
-use Rattle.std.proofs.Common.{◌≡◌, ℕ, zero, suc, ◌+◌, ◌-◌, ◌*◌, ◌/◌, ◌%◌, ◌^◌, ◌<◌, ◌≤◌, ◌⊎◌, List, [], ◌∷◌, ◌++◌, map, drop, get_or, Option, None, Some, refl, ap, sym, subst, ◌∙◌, arith, lit≤, ⊎_elim, append_assoc}
+use Rattle.std.proofs.Common.{rules, ◌≡◌, ℕ, zero, suc, ◌+◌, ◌-◌, ◌*◌, ◌/◌, ◌%◌, ◌^◌, ◌<◌, ◌≤◌, ◌⊎◌, List, [], ◌∷◌, ◌++◌, map, drop, get_or, Option, None, Some, refl, ap, sym, subst, ◌∙◌, arith, lit≤, ⊎_elim, append_assoc}
 use Rattle.std.specs.Int.{IsInRange}
 use Rattle.std.specs.Int.Digits.{digits_of, number_from_digits_after, AllBelowBase}
 use Rattle.std.specs.List.{AllByRecursion}
@@ -40,9 +40,8 @@ said_by_values n (d ∷ ds) = let e : n * 10 + ((48 + d) - 48) ≡ n * 10 + d = 
 
 pub said_decimal : (n : ℕ) → said_after 0 (decimal n) ≡ n
 said_decimal zero = ap (said_after 0) (decimal_small 0 (lit≤ tt))
-said_decimal (suc k) =
-    ap (said_after 0) (decimal_above (suc k) (omega arith)) ∙ said_by_values 0 (digits_of 10 (suc k))
-    ∙ number_digits_of 10 (suc k) (lit≤ tt)
+said_decimal (suc k) = ap (said_after 0) (decimal_above (suc k) (omega arith))
+    ∙ said_by_values 0 (digits_of 10 (suc k)) ∙ number_digits_of 10 (suc k) (lit≤ tt)
 
 said_append : (n : ℕ) (xs ys : List ℕ) → said_after n (xs ++ ys) ≡ said_after (said_after n xs) ys
 said_append n [] ys = refl
@@ -62,10 +61,7 @@ pub digits_go_on : (a b x y : List ℕ) → AreDigits a → AreDigits b → Ends
 digits_go_on [] b x y p q ends e = (b, refl, e)
 digits_go_on (c ∷ a) [] x y p q ends e = absurd (subst EndsDigits (sym e) ends p.0)
 digits_go_on (c ∷ a) (d ∷ b) x y p q ends e =
-    let same : c ≡ d = cc in
-    let rest : a ++ x ≡ b ++ y = cc in
-    let more = digits_go_on a b x y p.1 q.1 ends rest in
-    (more.0, ap (λ h. h ∷ b) (sym same) ∙ ap (λ t. c ∷ t) more.1, more.2)
+    let same : c ≡ d = cc in search (arith, rules, digits_go_on a b x y p.1 q.1 ends)
 
 all_behind : (xs ys : List ℕ) → AreDigits (xs ++ ys) → AreDigits ys
 all_behind [] ys a = a
@@ -84,10 +80,7 @@ first_digit n h =
 
 decimal_is_some : (n : ℕ) → decimal n ≡ [] → ⊥
 decimal_is_some n e =
-    let zero_said : n ≡ 0 = sym (said_decimal n) ∙ ap (said_after 0) e in
-    let none : List ℕ = [] in
-    let clash : 48 ∷ [] ≡ none = sym (decimal_small 0 (lit≤ tt)) ∙ ap decimal (sym zero_said) ∙ e in
-    absurd (let P : ⊥ = cc in P)
+    let zero_said : n ≡ 0 = sym (said_decimal n) ∙ ap (said_after 0) e in search (arith, rules, decimal_small)
 
 alone_behind_zero : (n d : ℕ) (ds : List ℕ) → decimal n ≡ 48 ∷ d ∷ ds → ⊥
 alone_behind_zero zero d ds e = let none : List ℕ = [] in
@@ -104,9 +97,7 @@ above_zero (suc m) n d ds e = omega arith
 more_digits : (m n d : ℕ) (ds : List ℕ) → decimal n ≡ decimal m ++ (48 + d) ∷ ds → (0 < m) × (m * 10 + d ≤ n)
 more_digits m n d ds e =
     let said = sym (said_decimal n) ∙ ap (said_after 0) e ∙ said_append 0 (decimal m) ((48 + d) ∷ ds)
-    ∙ ap (λ k. said_after (k * 10 + ((48 + d) - 48)) ds) (said_decimal m) in
-    let ge = said_ge (m * 10 + ((48 + d) - 48)) ds in
-    (above_zero m n d ds e, omega arith)
+    ∙ ap (λ k. said_after (k * 10 + ((48 + d) - 48)) ds) (said_decimal m) in omega (arith, said_ge, above_zero)
 
 -- ## What a text begins with
 
@@ -150,13 +141,7 @@ digit_alone text rest n d small is e =
 pub one_digit_more : (text rest after : List ℕ) (m n d : ℕ) → d < 10 → 0 < m → n ≡ m * 10 + d →
     text ≡ decimal m ++ rest → rest ≡ (48 + d) ∷ after → text ≡ decimal n ++ after
 one_digit_more text rest after m n d small above is e f =
-    let whole : n / 10 ≡ m = omega arith in
-    let last : 48 + n % 10 ≡ 48 + d = omega arith in
-    let longer : decimal n ≡ decimal m ++ (48 + d) ∷ [] =
-    decimal_more n (omega arith) ∙ ap (λ k. decimal k ++ (48 + n % 10) ∷ []) whole
-    ∙ ap (λ c. decimal m ++ c ∷ []) last in
-    e ∙ ap (λ r. decimal m ++ r) f ∙ sym (append_assoc (decimal m) ((48 + d) ∷ []) after)
-    ∙ ap (λ ds. ds ++ after) (sym longer)
+    let whole : n / 10 ≡ m = omega arith in search (arith, rules, decimal_more, append_assoc)
 
 -- no number of 128 bits is spelled so: another digit stands behind a 0, or behind digits that say too much with it
 pub none_goes_on : (text rest after : List ℕ) (m d : ℕ) → d < 10 → text ≡ decimal m ++ rest →

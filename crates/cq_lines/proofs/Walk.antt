@@ -1,7 +1,7 @@
 -- Reading a line field by field. What was read so far stands at the front of the text, and whoever reads a whole line
 -- there reads the same fields first, and the rest of his line from the rest of the text. So where no field can go on,
 -- no line stands there.
-use Rattle.std.proofs.Common.{◌≡◌, ◌≢◌, ℕ, suc, ◌+◌, ◌<◌, ◌≤◌, List, [], ◌∷◌, ◌++◌, length, take, drop, set, get_or, Option, None, Some, refl, ap, sym, subst, ◌∙◌, arith, append_assoc, length-set}
+use Rattle.std.proofs.Common.{rules, ◌≡◌, ◌≢◌, ℕ, suc, ◌+◌, ◌<◌, ◌≤◌, List, [], ◌∷◌, ◌++◌, length, take, drop, set, get_or, Option, None, Some, refl, ap, sym, ◌∙◌, arith, append_assoc, length-set}
 use Rattle.std.proofs.lemmas.List.{append-nil, append_cancel_left, take_more_set, take_more, take_all}
 use Rattle.cq_lines.specs.Lines.{field, ending, line, EndsDigits, MayFollow, BeginsWith, Fits, AllFit}
 use Rattle.cq_lines.specs.declared.range.Range.{Range}
@@ -34,8 +34,7 @@ begun_more (g ∷ fs) f = ap (λ t. 32 ∷ field g ++ t) (begun_more fs f)
 
 pub ending_begun : (fs : List (Option ℕ)) (after : List ℕ) → begun fs ++ 10 ∷ after ≡ ending fs ++ after
 ending_begun [] after = refl
-ending_begun (f ∷ fs) after =
-    ap (λ t. 32 ∷ t) (append_assoc (field f) (begun fs) (10 ∷ after)
+ending_begun (f ∷ fs) after = ap (λ t. 32 ∷ t) (append_assoc (field f) (begun fs) (10 ∷ after)
     ∙ ap (λ t. field f ++ t) (ending_begun fs after) ∙ sym (append_assoc (field f) (ending fs) after))
 
 -- the next field of whoever reads a whole line, where a blank stands next
@@ -80,9 +79,8 @@ one_read_more text to count rest after next f had room e begins = record {
         let field_next = next_field w.0 rest after more e w.2 in
         let same = one_field after next (ending field_next.1 ++ more) f field_next.0 begins field_next.3 in (
           field_next.1,
-          w.1 ∙ ap (λ gs. take count to ++ gs) (field_next.2
-              ∙ ap (λ g. g ∷ field_next.1) (sym same.0)) ∙ sym (append_assoc (take count to) (f ∷ []) field_next.1)
-              ∙ ap (λ t. t ++ field_next.1) (sym taken),
+          w.1 ∙ ap (λ gs. take count to ++ gs) (field_next.2 ∙ ap (λ g. g ∷ field_next.1) (sym same.0))
+              ∙ sym (append_assoc (take count to) (f ∷ []) field_next.1) ∙ ap (λ t. t ++ field_next.1) (sym taken),
           same.1,
         )
 
@@ -98,10 +96,7 @@ pub no_next : (text : List ℕ) (to : List (Option ℕ)) (count : ℕ) (rest aft
     BeginsWith after f next → ⊥) → (fs : List (Option ℕ)) (more : List ℕ) → AllFit fs → text ≡ ending fs ++ more → ⊥
 no_next text to count rest after had e none fs more fit h =
     let w = had.alone fs more h in
-    let next = next_field w.0 rest after more e w.2 in
-    let fits = all_fit_behind (take count to) (next.0 ∷ next.1) (subst AllFit (w.1
-    ∙ ap (λ gs. take count to ++ gs) next.2) fit) in
-    none next.0 (ending next.1 ++ more) fits.0 next.3
+    let next = next_field w.0 rest after more e w.2 in search (arith, rules, all_fit_behind)
 
 -- there is neither a blank nor a line feed
 pub no_end : (text : List ℕ) (to : List (Option ℕ)) (count : ℕ) (rest : List ℕ) → ReadSoFar text to count rest →
@@ -119,11 +114,8 @@ no_end text to count rest had blank feed fs more h = go w.0 w.2
 -- the line is at its end
 pub line_read : (text : List ℕ) (to : List (Option ℕ)) (count : ℕ) (rest after : List ℕ) →
     ReadSoFar text to count rest → rest ≡ 10 ∷ after → (count ≤ length to) × (text ≡ ending (take count to) ++ after)
-line_read text to count rest after had e = (
-  had.placed,
-  had.spelled ∙ ap (λ r. begun (take count to) ++ r) e
-      ∙ ending_begun (take count to) after,
-)
+line_read text to count rest after had e =
+    (had.placed, had.spelled ∙ ap (λ r. begun (take count to) ++ r) e ∙ ending_begun (take count to) after)
 
 -- ## One reading
 
@@ -135,22 +127,17 @@ one_ending [] (g ∷ gs) x y e = let next = next_field [] (32 ∷ (field g ++ en
 one_ending (f ∷ fs) [] x y e = let next = next_field [] (32 ∷ (field f ++ ending fs) ++ x) _ y refl e in
     let none : List (Option ℕ) = [] in absurd (let clash : none ≡ next.0 ∷ next.1 = next.2 in let P : ⊥ = cc in P)
 one_ending (f ∷ fs) (g ∷ gs) x y e =
-    let inner : field f ++ (ending fs ++ x) ≡ field g ++ (ending gs ++ y) = sym (append_assoc (field f) (ending fs)
-    x) ∙ ap (drop 1) e ∙ append_assoc (field g) (ending gs) y in
+    let inner : field f ++ (ending fs ++ x) ≡ field g ++ (ending gs ++ y) = search (arith, rules, append_assoc) in
     let text = field f ++ (ending fs ++ x) in
-    let first = one_field text (ending fs ++ x) (ending gs ++ y) f g (record {
-      spelled = refl;
-      ended = may_follow f _
-          (ending_ends fs x);
-    }) (record { spelled = inner; ended = may_follow g _ (ending_ends gs y) }) in
-    let rest = one_ending fs gs x y first.1 in
-    (ap (λ h. h ∷ fs) first.0 ∙ ap (λ t. g ∷ t) rest.0, rest.1)
+    let first = one_field text (ending fs ++ x) (ending gs ++ y) f g
+    (record { spelled = refl; ended = search (arith, rules, may_follow, ending_ends) })
+    (record { spelled = inner; ended = may_follow g _ (ending_ends gs y) }) in
+    search (arith, rules, one_ending fs gs x y first.1)
 
 pub one_line : (word x y : List ℕ) (fs gs : List (Option ℕ)) → line word fs ++ x ≡ line word gs ++ y →
     (fs ≡ gs) × (x ≡ y)
-one_line word x y fs gs e =
-    one_ending fs gs x y (append_cancel_left word _ _ (sym (append_assoc word (ending fs) x) ∙ e
-    ∙ append_assoc word (ending gs) y))
+one_line word x y fs gs e = one_ending fs gs x y
+    (append_cancel_left word _ _ (sym (append_assoc word (ending fs) x) ∙ e ∙ append_assoc word (ending gs) y))
 
 -- ## Writing
 

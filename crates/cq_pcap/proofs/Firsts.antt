@@ -1,6 +1,7 @@
 -- What the bytes from a place on come to: a packet where a whole record stands there, or else what is wrong with it.
 -- The three faults are tried in their order.
-use Rattle.std.proofs.Common.{◌≡◌, ℕ, ◌+◌, ◌*◌, ◌<◌, ◌≤◌, Bool, true, false, cond, ltb, List, length, take, drop, refl, ap, sym, subst, ◌∙◌, arith}
+use Rattle.std.proofs.lemmas.Grind.{common_steps}
+use Rattle.std.proofs.Common.{◌≡◌, ℕ, ◌+◌, ◌*◌, ◌<◌, ◌≤◌, Bool, true, false, cond, ltb, List, length, take, drop, refl, arith}
 use Rattle.std.specs.Prelude.{Result, Ok, Err}
 use Rattle.std.proofs.lemmas.Bool.Decides.{nat_tests}
 use Rattle.cq_pcap.specs.declared.form.Form.{Form}
@@ -30,27 +31,18 @@ front_packet form xs =
 
 -- the answer by the three tests
 abbrev answer : Form → ℕ → List ℕ → Bool → Bool → Bool → Result Captured Fault
-answer form place xs cut long short =
-    cond cut (Err (CutHeader place)) (cond long (Err (LongRecord place (stated form xs)))
-    (cond short (Err (CutBody place)) (Ok (front_packet form xs))))
+answer form place xs cut long short = cond cut (Err (CutHeader place)) (cond long
+    (Err (LongRecord place (stated form xs))) (cond short (Err (CutBody place)) (Ok (front_packet form xs))))
 
 answered_by : (form : Form) (place : ℕ) (xs : List ℕ) (cut long short : Bool) → ltb (length xs) 16 ≡ cut →
     ltb 262144 (stated form xs) ≡ long → ltb (length xs) (16 + stated form xs) ≡ short →
     first_packet form place xs ≡ answer form place xs cut long short
 unfolding first_packet
-answered_by form place xs cut long short c l s =
-    ap (λ b. answer form place xs b (ltb 262144 (stated form xs)) (ltb (length xs) (16 + stated form xs))) c
-    ∙ ap (λ b. answer form place xs cut b (ltb (length xs) (16 + stated form xs))) l
-    ∙ ap (answer form place xs cut long) s
+answered_by form place xs cut long short c l s = grind (arith, common_steps)
 
 pub first_whole : (form : Form) (place : ℕ) (xs : List ℕ) → IsWhole form xs →
     first_packet form place xs ≡ Ok (front_packet form xs)
-first_whole form place xs w =
-    let f = w.figures in
-    let m = w.most in
-    let b = w.body in
-    answered_by form place xs false false false (grind (arith, nat_tests)) (grind (arith, nat_tests))
-    (grind (arith, nat_tests))
+first_whole form place xs w = grind (arith, common_steps, answered_by, nat_tests)
 
 pub first_cut_header : (form : Form) (place : ℕ) (xs : List ℕ) → length xs < 16 →
     first_packet form place xs ≡ Err (CutHeader place)
@@ -58,14 +50,11 @@ first_cut_header form place xs h = answered_by form place xs true _ _ (grind (ar
 
 pub first_long : (form : Form) (place : ℕ) (xs : List ℕ) → 16 ≤ length xs → 262144 < stated form xs →
     first_packet form place xs ≡ Err (LongRecord place (stated form xs))
-first_long form place xs h l =
-    answered_by form place xs false true _ (grind (arith, nat_tests)) (grind (arith, nat_tests)) refl
+first_long form place xs h l = grind (arith, common_steps, answered_by, nat_tests)
 
 pub first_cut_body : (form : Form) (place : ℕ) (xs : List ℕ) → 16 ≤ length xs → stated form xs ≤ 262144 →
     length xs < 16 + stated form xs → first_packet form place xs ≡ Err (CutBody place)
-first_cut_body form place xs h l s =
-    answered_by form place xs false false true (grind (arith, nat_tests)) (grind (arith, nat_tests))
-    (grind (arith, nat_tests))
+first_cut_body form place xs h l s = grind (arith, common_steps, answered_by, nat_tests)
 
 -- what an answer says of the bytes
 abbrev pub Says : Form → ℕ → List ℕ → Result Captured Fault → Type 0
@@ -85,15 +74,9 @@ answer_says : (form : Form) (place : ℕ) (xs : List ℕ) (cut long short : Bool
     Says form place xs (answer form place xs cut long short)
 answer_says form place xs true long short c l s = (refl, grind (arith, nat_tests))
 answer_says form place xs false true short c l s = (refl, grind (arith, nat_tests), refl, grind (arith, nat_tests))
-answer_says form place xs false false true c l s =
-    (refl, grind (arith, nat_tests), grind (arith, nat_tests), grind (arith, nat_tests))
-answer_says form place xs false false false c l s = (
-  record { figures = grind (arith, nat_tests); most = grind (arith, nat_tests); body = grind (arith, nat_tests) },
-  refl,
-)
+answer_says form place xs false false true c l s = grind (arith, common_steps, nat_tests)
+answer_says form place xs false false false c l s = grind (arith, common_steps, nat_tests)
 
 -- what is answered is so
 pub first_says : (form : Form) (place : ℕ) (xs : List ℕ) → Says form place xs (first_packet form place xs)
-first_says form place xs =
-    let P : Result Captured Fault → Type 0 = Says form place xs in
-    subst P (sym (answered_by form place xs _ _ _ refl refl refl)) (answer_says form place xs _ _ _ refl refl refl)
+first_says form place xs = grind (arith, common_steps, answered_by, answer_says)

@@ -1,5 +1,6 @@
 -- The first bytes of a file tell its form, or the first fault of its header: the tests compare what the rule compares.
-use Rattle.std.proofs.Common.{◌≡◌, ℕ, ◌%◌, ◌^◌, ◌<◌, ◌≤◌, Bool, true, false, cond, ltb, not, List, [], ◌∷◌, ◌++◌, length, take, refl, ap, sym, subst, ◌∙◌, arith, length-append}
+use Rattle.std.proofs.lemmas.Grind.{common_steps}
+use Rattle.std.proofs.Common.{◌≡◌, ℕ, ◌%◌, ◌^◌, ◌<◌, ◌≤◌, Bool, true, false, cond, ltb, not, List, [], ◌∷◌, ◌++◌, length, refl, ap, sym, subst, ◌∙◌, arith, length-append}
 use Rattle.std.specs.Prelude.{Option, None, Some, Result, Ok, Err}
 use Rattle.std.specs.Bool.{Decides}
 use Rattle.std.specs.List.{find}
@@ -44,16 +45,10 @@ find_passes p (y ∷ ys) x e = found_or_later p x y (p y) (find p ys) refl e (fi
 -- and its magic stands there
 found_magic : (form : Form) (bytes : List ℕ) → form_at bytes ≡ Some form → HasMagic form bytes
 unfolding form_at
-found_magic form bytes e =
-    (bytes_eq-Decides (take 4 bytes) (magic form)).0 (find_passes (λ f. bytes_eq (take 4 bytes) (magic f)) forms form
-    e)
+found_magic form bytes e = grind (arith, common_steps, bytes_eq-Decides, find_passes)
 
 version-Decides : (form : Form) (bytes : List ℕ) → Decides (has_version form bytes) (HasVersion form bytes)
-version-Decides form bytes =
-    Decides-like (has_version form bytes)
-    (λ parts. record { major = parts.0; minor = parts.1 })
-    (λ v. (v.major, v.minor))
-    (Decides-and _ _ (Decides-eqb (number_at form.big 2 bytes 4) 2) (Decides-eqb (number_at form.big 2 bytes 6) 4))
+version-Decides form bytes = grind (arith, common_steps, Decides-like, Decides-and, Decides-eqb)
 
 link-Decides : (form : Form) (bytes : List ℕ) → Decides (has_link_type form bytes) (HasLinkType form bytes)
 link-Decides form bytes = Decides-eqb (number_at form.big 4 bytes 20 % 2 ^ 16) 1
@@ -74,12 +69,7 @@ answer bytes short found = cond short (Err NoHeader) (ok_or found Magic >>= chec
 judged_by : (form : Form) (bytes : List ℕ) (version link : Bool) → 24 ≤ length bytes → HasMagic form bytes →
     has_version form bytes ≡ version → has_link_type form bytes ≡ link → header_form bytes ≡ checked form version link
 unfolding header_form
-judged_by form bytes version link long m v l =
-    let short : ltb (length bytes) 24 ≡ false = grind (arith, nat_tests) in
-    ap (λ b. answer bytes b (form_at bytes)) short
-    ∙ ap (answer bytes false) (form_found form bytes m)
-    ∙ ap (λ b. checked form b (has_link_type form bytes)) v
-    ∙ ap (checked form version) l
+judged_by form bytes version link long m v l = grind (arith, common_steps, nat_tests, form_found)
 
 -- what an answer says of the header
 abbrev pub Says : List ℕ → Result Form Fault → Type 0
@@ -94,21 +84,15 @@ no_link form bytes e h = let t = (link-Decides form bytes).1 h in cc
 
 checked_says : (form : Form) (bytes : List ℕ) (version link : Bool) → 24 ≤ length bytes → HasMagic form bytes →
     has_version form bytes ≡ version → has_link_type form bytes ≡ link → Says bytes (checked form version link)
-checked_says form bytes true true long m v l =
-    (long, m, (version-Decides form bytes).0 v, (link-Decides form bytes).0 l)
+checked_says form bytes true true long m v l = grind (arith, common_steps, version-Decides, link-Decides)
 checked_says form bytes true false long m v l = (long, form, m, (version-Decides form bytes).0 v, no_link form bytes l)
 checked_says form bytes false link long m v l = (long, form, m, no_version form bytes v)
 
 answer_says : (bytes : List ℕ) (short : Bool) (found : Option Form) → ltb (length bytes) 24 ≡ short →
     form_at bytes ≡ found → Says bytes (answer bytes short found)
 answer_says bytes true found s f = grind (arith, nat_tests)
-answer_says bytes false None s f =
-    let long : 24 ≤ length bytes = grind (arith, nat_tests) in
-    (long, λ form m. let some = form_found form bytes m in cc)
-answer_says bytes false (Some form) s f =
-    let long : 24 ≤ length bytes = grind (arith, nat_tests) in
-    checked_says form bytes (has_version form bytes) (has_link_type form bytes) long (found_magic form bytes f) refl
-    refl
+answer_says bytes false None s f = grind (arith, common_steps, nat_tests, form_found)
+answer_says bytes false (Some form) s f = grind (arith, common_steps, nat_tests, checked_says, found_magic)
 
 -- what is answered is so
 header_says : (bytes : List ℕ) → Says bytes (header_form bytes)
@@ -138,9 +122,7 @@ answer_place bytes false (Some form) = checked_place form (has_version form byte
 
 pub header_place : (bytes : List ℕ) (fault : Fault) → header_form bytes ≡ Err fault → offset_of fault ≡ None
 unfolding header_form
-header_place bytes fault e =
-    let P : Result Form Fault → Type 0 = Placeless in
-    subst P e (answer_place bytes (ltb (length bytes) 24) (form_at bytes))
+header_place bytes fault e = grind (arith, common_steps, answer_place)
 
 -- and what is so is answered: a header of a form, whatever follows it, and each fault of a header
 pub header_read : (form : Form) (header rest : List ℕ) → IsHeader form header → header_form (header ++ rest) ≡ Ok form
@@ -159,9 +141,7 @@ header_read form header rest h =
 
 pub no_header_read : (bytes : List ℕ) → length bytes < 24 → header_form bytes ≡ Err NoHeader
 unfolding header_form
-no_header_read bytes h =
-    let short : ltb (length bytes) 24 ≡ true = grind (arith, nat_tests) in
-    ap (λ b. answer bytes b (form_at bytes)) short
+no_header_read bytes h = grind (arith, common_steps, nat_tests)
 
 no_form : (bytes : List ℕ) (found : Option Form) → form_at bytes ≡ found → ((form : Form) → ¬ HasMagic form bytes) →
     found ≡ None
@@ -171,18 +151,14 @@ no_form bytes (Some form) e h = absurd (h form (found_magic form bytes e))
 pub no_magic_read : (bytes : List ℕ) → 24 ≤ length bytes → ((form : Form) → ¬ HasMagic form bytes) →
     header_form bytes ≡ Err Magic
 unfolding header_form
-no_magic_read bytes long h =
-    let short : ltb (length bytes) 24 ≡ false = grind (arith, nat_tests) in
-    ap (λ b. answer bytes b (form_at bytes)) short ∙ ap (answer bytes false) (no_form bytes (form_at bytes) refl h)
+no_magic_read bytes long h = grind (arith, common_steps, nat_tests, no_form)
 
 pub no_version_read : (form : Form) (bytes : List ℕ) → 24 ≤ length bytes → HasMagic form bytes →
     ¬ HasVersion form bytes → header_form bytes ≡ Err Version
-no_version_read form bytes long m h =
-    judged_by form bytes false (has_link_type form bytes) long m
+no_version_read form bytes long m h = judged_by form bytes false (has_link_type form bytes) long m
     (is_false (has_version form bytes) (version-Decides form bytes) h) refl
 
 pub no_link_read : (form : Form) (bytes : List ℕ) → 24 ≤ length bytes → HasMagic form bytes → HasVersion form bytes →
     ¬ HasLinkType form bytes → header_form bytes ≡ Err LinkType
-no_link_read form bytes long m v h =
-    judged_by form bytes true false long m ((version-Decides form bytes).1 v)
+no_link_read form bytes long m v h = judged_by form bytes true false long m ((version-Decides form bytes).1 v)
     (is_false (has_link_type form bytes) (link-Decides form bytes) h)

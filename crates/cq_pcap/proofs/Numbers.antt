@@ -1,6 +1,7 @@
 -- Numbers of a file in either order: each reads back from its bytes, and the bytes are those of the number read from
 -- them.
-use Rattle.std.proofs.Common.{◌≡◌, ℕ, zero, suc, ◌+◌, ◌<◌, ◌≤◌, ◌^◌, List, [], ◌∷◌, ◌++◌, length, drop, slice_index, refl, ap, sym, subst, ◌∙◌, arith, Bool, true, false}
+use Rattle.std.proofs.lemmas.Grind.{common_steps}
+use Rattle.std.proofs.Common.{rules, ◌≡◌, ℕ, zero, suc, ◌+◌, ◌<◌, ◌≤◌, ◌^◌, List, [], ◌∷◌, ◌++◌, length, drop, slice_index, refl, ap, sym, subst, arith, Bool, true, false}
 use Rattle.std.proofs.lemmas.List.{drop-append-le, drop-drop, get_or-drop, length-drop}
 use Rattle.std.proofs.lemmas.Nat.{be_bytes_4, le_bytes_4}
 use Rattle.byteorder.specs.Numbers.{big_from-append, big_from-lt, big_number-reads_back, little_from-append, little_from-lt, little_number-reads_back}
@@ -27,9 +28,7 @@ number_in-append true n xs ys h = big_from-append n xs ys h
 pub number_at-append : (big : Bool) (n : ℕ) (xs ys : List ℕ) (at : ℕ) → at + n ≤ length xs →
     number_at big n (xs ++ ys) at ≡ number_at big n xs at
 unfolding number_at
-number_at-append big n xs ys at h =
-    let long : n ≤ length (drop at xs) = omega (arith, length-drop at xs) in
-    ap (number_in big n) (drop-append-le at xs ys (omega arith)) ∙ number_in-append big n (drop at xs) ys long
+number_at-append big n xs ys at h = grind (arith, common_steps, length-drop, drop-append-le, number_in-append)
 
 -- a number after a place is one of the bytes from that place on
 pub number_at-drop : (big : Bool) (n : ℕ) (xs : List ℕ) (place at : ℕ) →
@@ -55,12 +54,10 @@ four_spelt big a b c d ys fits = spelt_in big
     four (suc (suc (suc (suc k)))) = omega arith
 
     spelt_in : (o : Bool) → a ∷ b ∷ c ∷ d ∷ ys ≡ bytes_in o 4 (number_in o 4 (a ∷ b ∷ c ∷ d ∷ ys)) ++ ys
-    spelt_in false =
-        ap (λ xs. xs ++ ys) (sym (le_bytes_4 (a ∷ b ∷ c ∷ d ∷ []) (number_in false 4 (a ∷ b ∷ c ∷ d ∷ ys)) refl four
-        (omega arith)))
-    spelt_in true =
-        ap (λ xs. xs ++ ys) (sym (be_bytes_4 (a ∷ b ∷ c ∷ d ∷ []) (number_in true 4 (a ∷ b ∷ c ∷ d ∷ ys)) refl four
-        (omega arith)))
+    spelt_in false = ap (λ xs. xs ++ ys)
+        (sym (le_bytes_4 (a ∷ b ∷ c ∷ d ∷ []) (number_in false 4 (a ∷ b ∷ c ∷ d ∷ ys)) refl four (omega arith)))
+    spelt_in true = ap (λ xs. xs ++ ys)
+        (sym (be_bytes_4 (a ∷ b ∷ c ∷ d ∷ []) (number_in true 4 (a ∷ b ∷ c ∷ d ∷ ys)) refl four (omega arith)))
 
 first_four : (big : Bool) (ys : List ℕ) → AreBytes ys → 4 ≤ length ys →
     ys ≡ bytes_in big 4 (number_in big 4 ys) ++ drop 4 ys
@@ -75,6 +72,4 @@ pub number_at-spelt : (big : Bool) (xs : List ℕ) (at next : ℕ) → AreBytes 
 unfolding number_at
 number_at-spelt big xs at next fits e h =
     let long : 4 ≤ length (drop at xs) = omega (arith, length-drop at xs) in
-    first_four big (drop at xs) (AreBytes-drop xs at fits) long
-    ∙ ap (λ ys. bytes_in big 4 (number_in big 4 (drop at xs)) ++ ys)
-    (drop-drop 4 at xs ∙ ap (λ n. drop n xs) (sym e))
+    search (arith, rules, first_four big (drop at xs), AreBytes-drop xs at fits, drop-drop 4 at xs)

@@ -2,12 +2,13 @@
 -- at the front are the spelling of the record read there, and the bytes after it are spelt in turn. This goes on
 -- until no byte is left, or to a record with a fault. Then the bytes before it are a capture, so the fault is the
 -- file's.
-use Rattle.std.proofs.Common.{◌≡◌, ◌⊎◌, ℕ, zero, suc, ◌+◌, ◌%◌, ◌<◌, ◌≤◌, ◌^◌, List, [], ◌∷◌, ◌++◌, length, map, take, drop, inl, inr, refl, ap, sym, subst, ◌∙◌, add-zero, arith, append_assoc, length-append}
+use Rattle.std.proofs.Common.{rules, ◌≡◌, ◌⊎◌, ℕ, zero, suc, ◌+◌, ◌<◌, ◌≤◌, List, [], ◌∷◌, ◌++◌, length, map, take, drop, inl, inr, refl, ap, sym, subst, ◌∙◌, add-zero, arith, append_assoc, length-append}
+use Rattle.std.proofs.lemmas.Grind.{common_steps}
 use Rattle.std.proofs.lemmas.List.{drop-drop, drop_at, length-drop, length-take-le, take-append-drop, take-append-le, take_at}
 use Rattle.std.specs.Prelude.{Result, Ok, Err}
 use Rattle.std.specs.List.{flat_map, AllByRecursion}
 use Rattle.cq_pcap.specs.declared.form.Form.{Form}
-use Rattle.cq_pcap.specs.Form.{bytes_in, number_at}
+use Rattle.cq_pcap.specs.Form.{number_at, bytes_in}
 use Rattle.cq_pcap.specs.Captured.{Captured}
 use Rattle.cq_pcap.specs.Faults.{Fault, NoHeader, Magic, Version, LinkType, CutHeader, LongRecord, CutBody, IsFaulty, IsSpeltUpTo}
 use Rattle.cq_pcap.specs.Reading.{◌>>=◌, first_packet, header_form, packets_from, packets_of}
@@ -29,17 +30,10 @@ front_record form xs =
 
 module _ (form : Form) (xs : List ℕ) (fits : AreBytes xs) (w : IsWhole form xs) where
   pub body_length : length (take (stated form xs) (drop 16 xs)) ≡ stated form xs
-  body_length =
-      let k : stated form xs ≤ length (drop 16 xs) = omega (arith, w.body, length-drop 16 xs) in
-      length-take-le (stated form xs) (drop 16 xs) k
+  body_length = grind (arith, common_steps, stated, length-drop, length-take-le)
 
   pub record_fits : Fits (front_record form xs)
-  record_fits = record {
-    seconds = number_at-lt form.big xs 0 fits;
-    subseconds = number_at-lt form.big xs 4 fits;
-    original = number_at-lt form.big xs 12 fits;
-    body = omega (arith, body_length, w.most);
-  }
+  record_fits = grind (arith, common_steps, number_at-lt, body_length)
 
   pub record_spelt : xs ≡ spelling form.big (front_record form xs) ++ drop (16 + stated form xs) xs
   record_spelt =
@@ -97,18 +91,14 @@ one_more form place xs (Err fault) fits w s =
     let spelt = flat_map (spelling form.big) s.records in
     let whole = record_spelt form xs fits w in
     let len : 16 + stated form xs ≡ length (spelling form.big r) =
-    let all = ap length whole ∙ length-append (spelling form.big r) (drop (16 + stated form xs) xs) in
-    let b = w.body in
-    omega (arith, all, length-drop (16 + stated form xs) xs) in
+    search (arith, rules, length-append, stated, length-drop) in
     let ends : place + (16 + stated form xs) + length spelt ≡ place + length (spelling form.big r ++ spelt) =
     omega (arith, len, length-append (spelling form.big r) spelt) in
     record {
       records = r ∷ s.records;
       rest = s.rest;
       fit = (record_fits form xs fits w, s.fit);
-      whole =
-          whole ∙ ap (λ ys. spelling form.big r ++ ys) s.whole
-          ∙ sym (append_assoc (spelling form.big r) spelt s.rest);
+      whole = search (arith, rules, append_assoc);
       some = s.some;
       first = ap (λ n. first_packet form n s.rest) (sym ends) ∙ s.first;
     }
@@ -149,12 +139,9 @@ walk form n place [] fits h =
     let P : Result (List Captured) Fault → Type 0 = Walked form place [] in
     subst P (sym (packets_from-nil form place)) (record { records = []; fit = tt; whole = refl; kept = refl })
 walk form zero place (b ∷ bs) fits h = absurd (omega arith)
-walk form (suc n) place (b ∷ bs) fits h =
-    walk_first form place (b ∷ bs) (first_packet form place (b ∷ bs)) fits (omega arith) refl
-    (first_says form place (b ∷ bs))
-    (λ w. walk form n (place + (16 + stated form (b ∷ bs))) (drop (16 + stated form (b ∷ bs)) (b ∷ bs))
-    (AreBytes-drop (b ∷ bs) (16 + stated form (b ∷ bs)) fits) (omega
-    (arith, length-drop (16 + stated form (b ∷ bs)) (b ∷ bs))))
+walk form (suc n) place (b ∷ bs) fits h = walk_first form place (b ∷ bs) (first_packet form place (b ∷ bs)) fits
+    (omega arith) refl (first_says form place (b ∷ bs)) (λ w.
+    search (arith, rules, stated form (b ∷ bs), AreBytes-drop (b ∷ bs), length-drop, walk form n))
 
 -- the first 24 bytes are a header where all bytes say so
 module _ (form : Form) (bytes : List ℕ) (long : 24 ≤ length bytes) (m : HasMagic form bytes)
@@ -168,14 +155,7 @@ module _ (form : Form) (bytes : List ℕ) (long : 24 ≤ length bytes) (m : HasM
       ∙ ap (λ ys. number_at form.big n ys at) (take-append-drop 24 bytes)
 
   pub begins : IsHeader form (take 24 bytes)
-  begins = record {
-    len = header_length;
-    magic =
-        sym (take-append-le 4 (take 24 bytes) (drop 24 bytes) (omega (arith, header_length)))
-        ∙ ap (take 4) (take-append-drop 24 bytes) ∙ m;
-    version = record { major = in_header 2 4 (omega arith) ∙ v.major; minor = in_header 2 6 (omega arith) ∙ v.minor };
-    link = ap (λ n. n % 2 ^ 16) (in_header 4 20 (omega arith)) ∙ l;
-  }
+  begins = grind (arith, common_steps, header_length, take-append-le, take-append-drop, in_header)
 
   -- where the bytes after the header are walked to a fault, the bytes before it are a capture
   spelt_up_to : (fault : Fault) (s : StopsAfter form 24 (drop 24 bytes) fault) →
@@ -184,20 +164,12 @@ module _ (form : Form) (bytes : List ℕ) (long : 24 ≤ length bytes) (m : HasM
       let spelt = flat_map (spelling form.big) s.records in
       let some = s.some in
       let whole : bytes ≡ (take 24 bytes ++ spelt) ++ s.rest =
-      sym (take-append-drop 24 bytes) ∙ ap (λ ys. take 24 bytes ++ ys) s.whole
-      ∙ sym (append_assoc (take 24 bytes) spelt s.rest) in
+      search (arith, rules, take-append-drop, append_assoc) in
       let len : length (take 24 bytes ++ spelt) ≡ 24 + length spelt =
       omega (arith, header_length, length-append (take 24 bytes) spelt) in
       record {
         packets = map (captured_of form) s.records;
-        spelt = record {
-          header = take 24 bytes;
-          records = s.records;
-          begins = begins;
-          fit = s.fit;
-          whole = ap (take (24 + length spelt)) whole ∙ take_at (take 24 bytes ++ spelt) s.rest (24 + length spelt) len;
-          kept = refl;
-        };
+        spelt = search (arith, rules, begins, take_at);
         left = omega (arith, len, ap length whole, length-append (take 24 bytes ++ spelt) s.rest);
       }
 
@@ -217,33 +189,9 @@ Comes bytes (Err fault) = IsFaulty bytes fault
 -- a fault at a place where the bytes before it are a capture
 pub faulty_at : (form : Form) (bytes : List ℕ) (offset : ℕ) (fault : Fault) → IsSpeltUpTo form bytes offset →
     Says form offset (drop offset bytes) (Err fault) → IsFaulty bytes fault
-faulty_at form bytes offset (CutHeader o) u h =
-    let P : ℕ → Type 0 = λ n. IsFaulty bytes (CutHeader n) in
-    let cut = h.1 in
-    subst P (sym h.0) (form, u, omega (arith, length-drop offset bytes))
-faulty_at form bytes offset (LongRecord o len) u h =
-    let P : ℕ → Type 0 = λ n. IsFaulty bytes (LongRecord n len) in
-    let there = h.1 in
-    subst P (sym h.0) (
-      form,
-      u,
-      omega (arith, length-drop offset bytes),
-      h.2 ∙ number_at-drop form.big 4 bytes offset 8,
-      h.3,
-    )
-faulty_at form bytes offset (CutBody o) u h =
-    let P : ℕ → Type 0 = λ n. IsFaulty bytes (CutBody n) in
-    let there = h.1 in
-    let most = h.2 in
-    let cut = h.3 in
-    let is = number_at-drop form.big 4 bytes offset 8 in
-    subst P (sym h.0) (
-      form,
-      u,
-      omega (arith, length-drop offset bytes),
-      omega arith,
-      omega (arith, length-drop offset bytes),
-    )
+faulty_at form bytes offset (CutHeader o) u h = grind (arith, common_steps, length-drop)
+faulty_at form bytes offset (LongRecord o len) u h = grind (arith, common_steps, length-drop, number_at-drop)
+faulty_at form bytes offset (CutBody o) u h = grind (arith, common_steps, number_at-drop, length-drop)
 faulty_at form bytes offset NoHeader u h = absurd h
 faulty_at form bytes offset Magic u h = absurd h
 faulty_at form bytes offset Version u h = absurd h
@@ -286,13 +234,11 @@ comes bytes fits = comes_by bytes (header_form bytes) fits refl
 
 pub read_is_spelt : (bytes : List ℕ) (packets : List Captured) → AreBytes bytes → packets_of bytes ≡ Ok packets →
     Spells bytes packets
-read_is_spelt bytes packets fits e =
-    let P : Result (List Captured) Fault → Type 0 = Comes bytes in subst P e (comes bytes fits)
+read_is_spelt bytes packets fits e = grind (arith, common_steps, comes)
 
 pub read_is_faulty : (bytes : List ℕ) (fault : Fault) → AreBytes bytes → packets_of bytes ≡ Err fault →
     IsFaulty bytes fault
-read_is_faulty bytes fault fits e =
-    let P : Result (List Captured) Fault → Type 0 = Comes bytes in subst P e (comes bytes fits)
+read_is_faulty bytes fault fits e = grind (arith, common_steps, comes)
 
 either_of : (bytes : List ℕ) (answer : Result (List Captured) Fault) → Comes bytes answer →
     ((packets : List Captured) × Spells bytes packets) ⊎ ((fault : Fault) × IsFaulty bytes fault)

@@ -2,13 +2,13 @@
 -- header on, they end at that place, and the bytes before it are a capture of their packets. A whole record at that
 -- place goes on so: the record read there is spelt by the bytes up to its end. A fault there is the file's, and where
 -- no byte is left the file is a capture.
-use Rattle.std.proofs.Common.{◌≡◌, ℕ, ◌+◌, ◌-◌, ◌<◌, ◌≤◌, ◌^◌, List, [], ◌∷◌, ◌++◌, length, take, drop, refl, ap, sym, subst, ◌∙◌, arith, add-zero, append_assoc, length-append}
+use Rattle.std.proofs.Common.{rules, ◌≡◌, ℕ, ◌+◌, ◌-◌, ◌<◌, ◌≤◌, ◌^◌, List, [], ◌∷◌, ◌++◌, length, take, drop, ap, sym, subst, ◌∙◌, arith, add-zero, append_assoc, length-append}
+use Rattle.std.proofs.lemmas.Grind.{common_steps, flat_map-append}
 use Rattle.std.proofs.lemmas.List.{append-nil, map-append, length-drop, length-take-le, drop-drop, take-append-drop, take_all, take_at, take_rest}
 use Rattle.std.proofs.lemmas.List.Elements.{All-push}
 use Rattle.std.proofs.lemmas.List.Sums.{sum_by-cons, sum_by_push}
-use Rattle.std.proofs.lemmas.Grind.{flat_map-append}
-use Rattle.std.specs.Prelude.{Result, Ok, Err, Some, None, sum_by, All, option_map}
-use Rattle.std.specs.List.{AllByRecursion, flat_map}
+use Rattle.std.specs.Prelude.{Ok, Err, Some, None, sum_by, option_map, Result}
+use Rattle.std.specs.List.{AllByRecursion}
 use Rattle.cq_pcap.specs.declared.capture.PacketRow.{PacketRow}
 use Rattle.cq_pcap.specs.declared.form.Form.{Form}
 use Rattle.cq_pcap.specs.declared.read.PcapRefusal.{PcapRefusal}
@@ -40,86 +40,47 @@ rows_from-push : (place : ℕ) (ps : List Captured) (p : Captured)
     → rows_from place (ps ++ p ∷ []) ≡ rows_from place ps ++ row_of p (place + records_length ps) ∷ []
 rows_from-push place [] p = ap (λ n. row_of p n ∷ []) (sym (add-zero place))
 rows_from-push place (q ∷ ps) p =
-    let after = place + 16 + length q.body in
-    let e : after + records_length ps ≡ place + records_length (q ∷ ps) =
-    omega (arith, sum_by-cons (λ (r : Captured). 16 + length r.body) q ps) in
-    ap (λ rs. row_of q place ∷ rs) (rows_from-push after ps p ∙ ap (λ n. rows_from after ps ++ row_of p n ∷ []) e)
+    grind (arith, common_steps, sum_by-cons, rows_from-push (place + 16 + length q.body) ps p)
 
 module _ (form : Form) (bytes : List ℕ) (at : ℕ) (row : PacketRow) (r : IsRowOf form (drop at bytes) at row) where
   packet_is : first_packet form at (drop at bytes) ≡ Ok (packet_at bytes row)
-  packet_is =
-      let body : take row.len (drop 16 (drop at bytes)) ≡ take row.len (drop row.at bytes) =
-      ap (take row.len) (drop-drop 16 at bytes ∙ ap (λ n. drop n bytes) (sym r.at)) in
-      r.read ∙ ap (λ body. Ok (record { stamp = row.stamp; original = row.original; body = body })) body
+  packet_is = cc (drop-drop 16 at bytes)
 
   inside_is : row.at + row.len ≤ length bytes
   inside_is = omega (arith, r.fits, r.at, length-drop at bytes)
 
   length_is : length (take row.len (drop row.at bytes)) ≡ row.len
-  length_is =
-      let k : row.len ≤ length (drop row.at bytes) =
-      omega (arith, inside_is, length-drop row.at bytes) in length-take-le row.len (drop row.at bytes) k
+  length_is = grind (arith, common_steps, inside_is, length-drop, length-take-le)
 
 -- the header alone, where it is one of a form
 pub rows_none : (form : Form) (bytes : List ℕ) → header_form bytes ≡ Ok form → AreRowsTo form bytes 24 []
 rows_none form bytes e =
-    let h = header_ok bytes form e in
-    record {
-      within = h.0;
-      ends = refl;
-      stand =
-          record {
-            places = refl;
-            inside = tt;
-            stamps = tt;
-            small = omega arith;
-            bodies = λ k d h. absurd (omega arith);
-          };
-      spelt =
-          record {
-            header = take 24 bytes;
-            records = [];
-            begins = begins form bytes h.0 h.1 h.2 h.3;
-            fit = tt;
-            whole = sym (append-nil (take 24 bytes));
-            kept = refl;
-          };
-    }
+    grind (
+      arith,
+      common_steps,
+      header_ok bytes form e,
+      begins,
+      begins form bytes (header_ok bytes form e).0
+          (header_ok bytes form e).1 (header_ok bytes form e).2 (header_ok bytes form e).3,
+      append-nil (take 24 bytes),
+    )
 
 -- the places of one row more
 places_more : (form : Form) (bytes : List ℕ) (rows : List PacketRow) (at : ℕ) (row : PacketRow)
     → length bytes ≤ 2 ^ 28 → at ≡ file_length (packets_at bytes rows) → AreRowsOf bytes rows
     → IsRowOf form (drop at bytes) at row
     → (row.at + row.len ≡ file_length (packets_at bytes (rows ++ row ∷ []))) × AreRowsOf bytes (rows ++ row ∷ [])
-places_more form bytes rows at row small so_far s r =
-    let front = packets_at bytes rows in
-    let p = packet_at bytes row in
-    let pushed : packets_at bytes (rows ++ row ∷ []) ≡ front ++ p ∷ [] = map-append (packet_at bytes) rows (row ∷ []) in
-    let len : length p.body ≡ row.len = length_is form bytes at row r in
-    let ends : row.at + row.len ≡ file_length (packets_at bytes (rows ++ row ∷ [])) =
-    omega
-    (arith, so_far, len, r.at, ap file_length pushed, sum_by_push (λ (q : Captured). 16 + length q.body) front p)
-    in
-    let within = inside_is form bytes at row r in
-    let place : 24 + records_length front + 16 ≡ row.at = omega (arith, so_far, r.at) in
-    let row_is : row_of p (24 + records_length front) ≡ row =
-    λ i. record { stamp = row.stamp; original = row.original; at = place i; len = len i } in
-    let Q : List Captured → Type 0 = AllByRecursion (λ q. q.stamp < 2 ^ 63) in
-    let R : List Captured → Type 0 = All (λ q. length q.body ≤ 262144) in (
-      ends,
-      record {
-        places =
-            ap (λ rs. rs ++ row ∷ []) s.places ∙ ap (λ q. rows_from 24 front ++ q ∷ []) (sym row_is)
-            ∙ sym (rows_from-push 24 front p) ∙ ap (rows_from 24) (sym pushed);
-        inside = AllByRecursion-push (λ (q : PacketRow). q.at + q.len ≤ length bytes) rows row s.inside within;
-        stamps =
-            subst Q (sym pushed) (AllByRecursion-push (λ (q : Captured). q.stamp < 2 ^ 63) front p s.stamps r.early);
-        small = omega (arith, within, ends);
-        bodies =
-            subst R (sym pushed) (All-push (λ (q : Captured). length q.body ≤ 262144) front p s.bodies
-            (omega (arith, len, r.short)));
-      },
-    )
+places_more form bytes rows at row small so_far s r = grind (
+  arith,
+  common_steps,
+  map-append,
+  length_is,
+  sum_by_push,
+  inside_is,
+  rows_from-push,
+  AllByRecursion-push,
+  All-push,
+)
 
 -- a record at the front of what follows a capture goes on with it
 module _ (form : Form) (bytes : List ℕ) (at : ℕ) (packets : List Captured) (fits : AreBytes bytes)
@@ -134,10 +95,7 @@ module _ (form : Form) (bytes : List ℕ) (at : ℕ) (packets : List Captured) (
   spelt_next = record_spelt form xs (AreBytes-drop bytes at fits) w
 
   next_length : length (spelling form.big next) ≡ 16 + stated form xs
-  next_length =
-      let all = ap length spelt_next ∙ length-append (spelling form.big next) (drop (16 + stated form xs) xs) in
-      let b = w.body in
-      omega (arith, all, length-drop (16 + stated form xs) xs)
+  next_length = grind (arith, common_steps, spelt_next, length-append, stated, length-drop)
 
   front_is : take (at + (16 + stated form xs)) bytes ≡ take at bytes ++ spelling form.big next
   front_is =
@@ -158,12 +116,7 @@ module _ (form : Form) (bytes : List ℕ) (at : ℕ) (packets : List Captured) (
     records = s.records ++ next ∷ [];
     begins = s.begins;
     fit = AllByRecursion-push Fits s.records next s.fit (record_fits form xs (AreBytes-drop bytes at fits) w);
-    whole =
-        front_is ∙ ap (λ ys. ys ++ spelling form.big next) s.whole
-        ∙ append_assoc s.header (flat_map (spelling form.big) s.records) (spelling form.big next)
-        ∙ ap (λ ys. s.header ++ (flat_map (spelling form.big) s.records ++ ys))
-        (sym (append-nil (spelling form.big next)))
-        ∙ ap (λ ys. s.header ++ ys) (sym (flat_map-append (spelling form.big) s.records (next ∷ [])));
+    whole = search (arith, rules, front_is, append_assoc, append-nil, flat_map-append);
     kept = map-append (captured_of form) s.records (next ∷ []) ∙ ap (λ ps. ps ++ front_packet form xs ∷ []) s.kept;
   }
 
@@ -244,6 +197,4 @@ header_fault bytes refusal e =
 -- no byte is left
 pub rows_all : (form : Form) (bytes : List ℕ) (rows : List PacketRow) (at : ℕ) → at ≡ length bytes
     → AreRowsTo form bytes at rows → AreSpelt bytes rows
-rows_all form bytes rows at e so_far =
-    let P : List ℕ → Type 0 = λ ys. SpellsIn form ys (packets_at bytes rows) in
-    record { stand = so_far.stand; spelt = (form, subst P (take_all at bytes (omega (arith, e))) so_far.spelt) }
+rows_all form bytes rows at e so_far = grind (arith, common_steps, take_all)

@@ -1,11 +1,12 @@
 -- What is spelt is read: each number reads back from its four bytes, so the record at the front is the one that was
 -- put there, and the bytes after it are the rest.
-use Rattle.std.proofs.Common.{◌≡◌, ℕ, ◌+◌, ◌*◌, ◌<◌, ◌^◌, List, [], ◌∷◌, ◌++◌, length, map, take, drop, refl, ap, sym, ◌∙◌, add-zero, arith, append_assoc, length-append, Bool, true, false}
+use Rattle.std.proofs.Common.{◌≡◌, ℕ, ◌+◌, List, [], ◌∷◌, ◌++◌, length, map, take, drop, refl, ap, sym, ◌∙◌, add-zero, arith, append_assoc, length-append, Bool, true, false, ◌<◌}
+use Rattle.std.proofs.lemmas.Grind.{common_steps}
 use Rattle.std.proofs.lemmas.List.{append-nil, drop-drop, drop_at, length-drop, length-take-le, take-append-drop, take_at}
 use Rattle.std.specs.Prelude.{Result, Ok, Err}
 use Rattle.std.specs.List.{flat_map, AllByRecursion}
 use Rattle.cq_pcap.specs.declared.form.Form.{Form}
-use Rattle.cq_pcap.specs.Form.{bytes_in, number_at, number_in, unit}
+use Rattle.cq_pcap.specs.Form.{bytes_in, number_at}
 use Rattle.cq_pcap.specs.Captured.{Captured}
 use Rattle.cq_pcap.specs.Faults.{Fault, NoHeader, Magic, Version, LinkType, CutHeader, LongRecord, CutBody, IsFaulty, IsSpeltUpTo}
 use Rattle.cq_pcap.specs.Reading.{◌>>=◌, first_packet, header_form, packets_from, packets_of}
@@ -36,46 +37,20 @@ parted true r rest = (refl, refl, refl, refl, refl, omega (arith, length-append 
 
 stands : (big : Bool) (r : Record) (rest : List ℕ) → Fits r → Stands big r (spelling big r ++ rest) rest
 unfolding number_at
-stands big r rest fit =
-    let p = parted big r rest in
-    let reads : (ys zs : List ℕ) (x : ℕ) → ys ≡ bytes_in big 4 x ++ zs → x < 2 ^ 32 → number_in big 4 ys ≡ x =
-    λ ys zs x e h. ap (number_in big 4) e ∙ number_in-reads_back big x zs h in
-    record {
-      seconds = reads _ _ r.seconds p.0 fit.seconds;
-      subseconds = reads _ _ r.subseconds p.1 fit.subseconds;
-      len = reads _ _ (length r.body) p.2 (omega (arith, fit.body));
-      original = reads _ _ r.original p.3 fit.original;
-      left = p.4;
-      long = p.5;
-    }
+stands big r rest fit = grind (arith, common_steps, parted, number_in-reads_back)
 
 module _ (form : Form) (r : Record) (rest : List ℕ) (fit : Fits r) where
   first_is : (place : ℕ) → first_packet form place (spelling form.big r ++ rest) ≡ Ok (captured_of form r)
-  first_is place =
-      let s = stands form.big r rest fit in
-      let len = s.len in
-      let long = s.long in
-      let most = fit.body in
-      let body : take (number_at form.big 4 (spelling form.big r ++ rest) 8) (drop 16 (spelling form.big r ++ rest))
-      ≡ r.body =
-      ap (λ n. take n (drop 16 (spelling form.big r ++ rest))) s.len ∙ ap (take (length r.body)) s.left
-      ∙ take_at r.body rest (length r.body) refl in
-      first_whole form place (spelling form.big r ++ rest) (record {
-        figures = omega arith;
-        most = omega arith;
-        body = omega arith;
-      })
-      ∙ (λ i. Ok (record {
-        stamp = s.seconds i * 1000000000 + s.subseconds i * unit form.nano;
-        original = s.original i;
-        body = body i;
-      }))
+  first_is place = grind (
+    arith,
+    common_steps,
+    stands form.big r rest fit,
+    take_at r.body rest (length r.body) refl,
+    first_whole form place (spelling form.big r ++ rest),
+  )
 
   after_is : drop (16 + length r.body) (spelling form.big r ++ rest) ≡ rest
-  after_is =
-      let s = stands form.big r rest fit in
-      sym (drop-drop (length r.body) 16 (spelling form.big r ++ rest)) ∙ ap (drop (length r.body)) s.left
-      ∙ drop_at r.body rest (length r.body) refl
+  after_is = grind (arith, common_steps, stands, drop-drop, drop_at)
 
   length_is : length (spelling form.big r ++ rest) ≡ 16 + (length r.body + length rest)
   length_is = (stands form.big r rest fit).long
@@ -127,8 +102,7 @@ capture_read form front rest packets s =
     ∙ ap (λ n. joined packets (packets_from form n rest)) ends
 
 pub spelt_is_read : (bytes : List ℕ) (packets : List Captured) → Spells bytes packets → packets_of bytes ≡ Ok packets
-spelt_is_read bytes packets s =
-    ap packets_of (sym (append-nil bytes)) ∙ capture_read s.0 bytes [] packets s.1
+spelt_is_read bytes packets s = ap packets_of (sym (append-nil bytes)) ∙ capture_read s.0 bytes [] packets s.1
     ∙ joined-end packets _ (packets_from-nil s.0 (length bytes))
 
 -- a fault of the record after a capture is the file's

@@ -1,6 +1,7 @@
 -- What is written is spelt: the header is one of the form, each record fits, and the seconds and nanoseconds of a
 -- stamp below 2^32 seconds make the stamp again.
-use Rattle.std.proofs.Common.{◌≡◌, ◌+◌, ◌*◌, ◌/◌, ◌%◌, ◌^◌, List, [], ◌∷◌, ◌++◌, map, refl, ap, ◌∙◌, arith, true, false}
+use Rattle.std.proofs.lemmas.Grind.{common_steps}
+use Rattle.std.proofs.Common.{◌≡◌, ◌+◌, ◌^◌, List, [], ◌∷◌, ◌++◌, map, refl, ap, arith, true, false}
 use Rattle.std.specs.List.{flat_map, AllByRecursion}
 use Rattle.cq_pcap.specs.declared.form.Form.{Form}
 use Rattle.cq_pcap.specs.declared.write.OutPacket.{OutPacket}
@@ -16,10 +17,7 @@ record_fits : (p : OutPacket) → IsWritable p → Fits (written_record p)
 record_fits p w = record { seconds = omega arith; subseconds = omega arith; original = w.original; body = w.body }
 
 stamp_again : (p : OutPacket) → IsWritable p → captured_of little_nanos (written_record p) ≡ read_again p
-stamp_again p w =
-    let stamp : p.stamp / 1000000000 % 2 ^ 32 * 1000000000 + p.stamp % 1000000000 * 1 ≡ p.stamp =
-    omega (arith, w.stamp) in
-    λ i. record { stamp = stamp i; original = p.original; body = p.body }
+stamp_again p w = grind (arith, common_steps)
 
 records_fit : (ps : List OutPacket) → AllByRecursion IsWritable ps → AllByRecursion Fits (map written_record ps)
 records_fit [] w = tt
@@ -28,9 +26,7 @@ records_fit (p ∷ ps) w = (record_fits p w.0, records_fit ps w.1)
 records_kept : (ps : List OutPacket) → AllByRecursion IsWritable ps →
     map (captured_of little_nanos) (map written_record ps) ≡ map read_again ps
 records_kept [] w = refl
-records_kept (p ∷ ps) w =
-    ap (λ q. q ∷ map (captured_of little_nanos) (map written_record ps)) (stamp_again p w.0)
-    ∙ ap (λ qs. read_again p ∷ qs) (records_kept ps w.1)
+records_kept (p ∷ ps) w = grind (arith, common_steps, stamp_again, records_kept ps w.1)
 
 records_spelt : (ps : List OutPacket) → flat_map record_of ps ≡ flat_map (spelling false) (map written_record ps)
 records_spelt [] = refl
@@ -41,14 +37,4 @@ unfolding number_at
 begins = record { len = refl; magic = refl; version = record { major = refl; minor = refl }; link = refl }
 
 pub written_is_spelt : (ps : List OutPacket) → AllByRecursion IsWritable ps → Spells (written ps) (map read_again ps)
-written_is_spelt ps w = (
-  little_nanos,
-  record {
-    header = written_header;
-    records = map written_record ps;
-    begins = begins;
-    fit = records_fit ps w;
-    whole = ap (λ bytes. written_header ++ bytes) (records_spelt ps);
-    kept = records_kept ps w;
-  },
-)
+written_is_spelt ps w = grind (arith, common_steps, begins, records_fit, records_spelt, records_kept)

@@ -1,6 +1,7 @@
 -- Ranks of a class never fall between idle slots. A rank of the class is its floor from then on; no step lowers a
 -- floor; and the next rank of the class is no less than the floor that stands then.
-use Rattle.std.proofs.Common.{◌≡◌, ℕ, ◌<◌, ◌≤◌, eqb, true, false, List, [], ◌∷◌, length, subst, sym, inl, inr, ◌∙◌, arith}
+use Rattle.std.proofs.lemmas.Grind.{common_steps}
+use Rattle.std.proofs.Common.{◌≡◌, ℕ, ◌<◌, ◌≤◌, List, [], ◌∷◌, length, arith}
 use Rattle.std.proofs.lemmas.Bool.{cases_Bool, eqb-true, eq-eqb}
 use Rattle.cq_rank.specs.Machine.{Machine, KeepsLaws}
 use Rattle.cq_rank.specs.Steps.{Step, Given, Sent, AreOfClasses, after}
@@ -17,14 +18,7 @@ module _ (m : Machine) (laws : KeepsLaws m) where
   -- a rank of any class lowers no floor
   pub given_floor : (state : List ℕ) (c d : ℕ) → length state ≡ m.size → c < m.classes → d < m.classes →
       m.floor state d ≤ m.floor (m.given state c) d
-  given_floor state c d long in_c in_d = elim (cases_Bool (eqb c d)) [
-    | inl same ↦ let e : c ≡ d = eqb-true c d same in
-        let up = laws.above state c long in_c in
-        let now = laws.given_floor state c long in_c in
-        let P : ℕ → Type 0 = λ d. m.floor state d ≤ m.floor (m.given state c) d in subst P e (omega arith)
-    | inr other ↦ laws.other_floor state c d long in_c in_d (λ e. absurd
-        (let clash : true ≡ false = sym (eq-eqb c d e) ∙ other in cc))
-  ]
+  given_floor state c d long in_c in_d = grind (arith, common_steps, cases_Bool, eqb-true, eq-eqb)
 
   after_floor : (steps : List Step) (state : List ℕ) (c : ℕ) → length state ≡ m.size → c < m.classes →
       AreOfClasses m.classes steps → m.floor state c ≤ m.floor (after m steps state) c
@@ -40,10 +34,4 @@ module _ (m : Machine) (laws : KeepsLaws m) where
 
   pub never_fall : (c : ℕ) (steps : List Step) (state : List ℕ) → length state ≡ m.size → c < m.classes →
       AreOfClasses m.classes steps → m.ranked state c ≤ m.ranked (after m steps (m.given state c)) c
-  never_fall c steps state long in_c inside =
-      let kept = laws.given_length state c long in_c in
-      let now = laws.given_floor state c long in_c in
-      let rise = after_floor steps (m.given state c) c kept in_c inside in
-      let next =
-      laws.above (after m steps (m.given state c)) c (after_length steps (m.given state c) kept inside) in_c in
-      omega arith
+  never_fall c steps state long in_c inside = grind (arith, common_steps, after_floor, after_length)

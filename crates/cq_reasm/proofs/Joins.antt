@@ -1,10 +1,11 @@
 -- What a cell changes of a joiner: what is open of its pair, and nothing else.
-use Rattle.std.proofs.Common.{◌≡◌, ◌≢◌, ◌⊎◌, ⊎_elim, ℕ, zero, suc, ◌+◌, ◌*◌, ◌/◌, ◌<◌, true, cond, arith, List, [], ◌∷◌, set, get_or, Option, None, Some, refl, sym, ap, ◌∙◌}
+use Rattle.std.proofs.lemmas.Grind.{common_steps}
+use Rattle.std.proofs.Common.{rules, ◌≡◌, ◌≢◌, ◌⊎◌, ℕ, zero, suc, ◌+◌, ◌*◌, ◌<◌, true, arith, List, [], ◌∷◌, set, get_or, Option, None, Some, refl, sym, ap}
 use Rattle.std.proofs.lemmas.Nat.{div-mul-add}
 use Rattle.std.proofs.lemmas.List.{get_or-set_other}
 use Rattle.cq_base.specs.declared.cell.Cell.{Cell}
-use Rattle.cq_reasm.specs.Open.{Open, cells_taken, with_piece}
-use Rattle.cq_reasm.specs.Joining.{JoinerView, IsNext, IsOtherPair, place_of, open_at, with_open, open_after}
+use Rattle.cq_reasm.specs.Open.{Open, cells_taken}
+use Rattle.cq_reasm.specs.Joining.{JoinerView, IsNext, IsOtherPair, open_at, with_open, open_after}
 
 -- as many cells were taken as stand before it in its packet
 pub taken_before : (o : Option Open) (cell : Cell) → IsNext o cell → cells_taken o ≡ cell.id.index
@@ -15,8 +16,7 @@ taken_before (Some p) cell h = h.1
 pub open_is : (inputs classes : ℕ) (packets : List (Option Open)) (joiner : JoinerView) (input class place : ℕ) →
     (let seen : JoinerView = record { inputs = inputs; classes = classes; open_packets = packets } in seen) ≡ joiner →
     place ≡ input * classes + class → get_or packets place None ≡ open_at joiner input class
-open_is inputs classes packets joiner input class place e p =
-    ap (λ i. get_or packets i None) p ∙ ap (λ (v : JoinerView). open_at v input class) e
+open_is inputs classes packets joiner input class place e p = grind (arith, common_steps)
 
 -- the joiner with something else at that place
 pub left_is : (inputs classes : ℕ) (packets left : List (Option Open)) (joiner : JoinerView) (input class place : ℕ)
@@ -25,10 +25,7 @@ pub left_is : (inputs classes : ℕ) (packets left : List (Option Open)) (joiner
     place ≡ input * classes + class → left ≡ set packets place now →
     (let seen : JoinerView = record { inputs = inputs; classes = classes; open_packets = left } in seen)
     ≡ with_open joiner input class now
-left_is inputs classes packets left joiner input class place now e p h =
-    ap (λ l. let seen : JoinerView = record { inputs = inputs; classes = classes; open_packets = l } in seen)
-    (h ∙ ap (λ i. set packets i now) p)
-    ∙ ap (λ (v : JoinerView). with_open v input class now) e
+left_is inputs classes packets left joiner input class place now e p h = grind (arith, common_steps)
 
 -- what was put at a place and taken away again
 pub closed_again : (packets : List (Option Open)) (place : ℕ) (added now : Option Open) →
@@ -40,24 +37,18 @@ closed_again (x ∷ xs) (suc place) added now = ap (λ ys. x ∷ ys) (closed_aga
 -- the last cell leaves nothing open
 pub closed_by_last : (was : Option Open) (cell : Cell) (piece : List ℕ) → cell.last ≡ true →
     None ≡ open_after was cell piece
-closed_by_last was cell piece e =
-    let none : Option Open = None in sym (ap (λ b. cond b none (Some (with_piece was cell.id.packet piece))) e)
+closed_by_last was cell piece e = grind (arith, common_steps)
 
 -- another pair stands at another place
 other_place : (input class input' class' n : ℕ) → class < n → class' < n → (input ≢ input') ⊎ (class ≢ class') →
     input * n + class ≢ input' * n + class'
 other_place input class input' class' n l l' differs e =
-    let same : input ≡ input' =
-    sym (div-mul-add input n class l) ∙ ap (λ k. k / n) e ∙ div-mul-add input' n class' l' in
-    let start : input * n ≡ input' * n = ap (λ k. k * n) same in
-    ⊎_elim (λ ne. ne same) (λ ne. ne (omega arith)) differs
+    grind (arith, common_steps, div-mul-add input n class l, div-mul-add input' n class' l')
 
 open_of_others : (joiner : JoinerView) (cell : Cell) (now : Option Open) (input class : ℕ) →
     cell.class < joiner.classes → class < joiner.classes → IsOtherPair input class cell →
     open_at (with_open joiner cell.id.input cell.class now) input class ≡ open_at joiner input class
-open_of_others joiner cell now input class h l differs =
-    get_or-set_other joiner.open_packets (place_of joiner cell.id.input cell.class) (place_of joiner input class) now
-    None (other_place input class cell.id.input cell.class joiner.classes l h differs)
+open_of_others joiner cell now input class h l differs = search (rules, get_or-set_other, other_place)
 
 -- every other pair is as before, whatever was put at the place of this one
 pub others_kept : (inputs classes : ℕ) (packets left : List (Option Open)) (joiner : JoinerView) (cell : Cell)
@@ -68,6 +59,4 @@ pub others_kept : (inputs classes : ℕ) (packets left : List (Option Open)) (jo
     open_at (let seen : JoinerView = record { inputs = inputs; classes = classes; open_packets = left } in seen) input
     class ≡ open_at joiner input class
 others_kept inputs classes packets left joiner cell place now e p h inside input class l differs =
-    ap (λ (v : JoinerView). open_at v input class) (left_is inputs classes packets left joiner cell.id.input
-    cell.class place now e p h)
-    ∙ open_of_others joiner cell now input class inside l differs
+    grind (arith, common_steps, left_is, open_of_others)

@@ -1,8 +1,8 @@
 -- The pieces of consecutive cells are consecutive stretches of the frame, so the pieces of as many cells as the frame
 -- needs are all of it. A last piece that is cut off at the frame's end is the same as one of full length, since
 -- nothing follows.
-use Rattle.std.proofs.Common.{◌≡◌, ℕ, suc, ◌+◌, ◌-◌, ◌*◌, ◌/◌, ◌<◌, ◌≤◌, List, [], ◌∷◌, ◌++◌, length, take, drop, sym, ap, ◌∙◌, arith}
-use Rattle.std.specs.Prelude.{max, min}
+use Rattle.std.proofs.lemmas.Grind.{common_steps}
+use Rattle.std.proofs.Common.{◌≡◌, ℕ, ◌+◌, ◌-◌, ◌*◌, ◌<◌, ◌≤◌, List, [], ◌∷◌, length, take, drop, arith, suc, ◌++◌, sym, ap, ◌∙◌}
 use Rattle.std.proofs.lemmas.List.{take_min, take_all, length-drop, drop-drop}
 use Rattle.std.proofs.Math.Nat.{lt-div-mul-add, mul-le-mul_right}
 use Rattle.std.proofs.Math.Seq.{take-add}
@@ -12,12 +12,7 @@ use Rattle.cq_reasm.specs.Cutting.{cells_of, IsCutFrom, AreCutFrom, joined_piece
 -- a piece is a stretch of full length, or what is left
 full_length : (frame : List ℕ) (cell_bytes index : ℕ) (x : Piece) → IsCutFrom frame cell_bytes index x →
     x.bytes ≡ take cell_bytes (drop (index * cell_bytes) frame)
-full_length frame cell_bytes index x h =
-    let rest = drop x.cell.at frame in
-    h.stretch
-    ∙ ap (λ n. take n rest) (h.len ∙ ap (min cell_bytes) (sym (length-drop x.cell.at frame)))
-    ∙ take_min cell_bytes rest
-    ∙ ap (λ n. take cell_bytes (drop n frame)) h.at
+full_length frame cell_bytes index x h = grind (arith, common_steps, length-drop, take_min)
 
 -- the pieces of the cells from one on
 stretch : (frame : List ℕ) (cell_bytes first : ℕ) (pieces : List Piece) → AreCutFrom frame cell_bytes first pieces →
@@ -39,21 +34,7 @@ stretch frame cell_bytes first (x ∷ pieces) h =
 
 -- so many cells have room for all bytes
 enough_cells : (bytes cell_bytes : ℕ) → 0 < cell_bytes → bytes ≤ cells_of bytes cell_bytes * cell_bytes
-enough_cells bytes cell_bytes h =
-    let quotient = (bytes + (cell_bytes - 1)) / cell_bytes in
-    let above : bytes + (cell_bytes - 1) < quotient * cell_bytes + cell_bytes =
-    lt-div-mul-add {a = bytes + (cell_bytes - 1)} {b = cell_bytes} h in
-    let more : quotient * cell_bytes ≤ max 1 quotient * cell_bytes =
-    mul-le-mul_right {m = quotient} {n = max 1 quotient} cell_bytes (omega arith) in
-    omega arith
+enough_cells bytes cell_bytes h = grind (arith, common_steps, lt-div-mul-add, mul-le-mul_right)
 
 pub pieces_give_frame : PiecesGiveFrame
-pieces_give_frame frame cell_bytes pieces h cut count =
-    let none : 0 * cell_bytes ≡ 0 = omega arith in
-    let enough : length frame ≤ length pieces * cell_bytes =
-    let e = enough_cells (length frame) cell_bytes h in
-    let same = ap (λ n. n * cell_bytes) count in
-    omega arith in
-    stretch frame cell_bytes 0 pieces cut
-    ∙ ap (λ n. take (length pieces * cell_bytes) (drop n frame)) none
-    ∙ take_all (length pieces * cell_bytes) frame enough
+pieces_give_frame frame cell_bytes pieces h cut count = grind (arith, common_steps, enough_cells, stretch, take_all)

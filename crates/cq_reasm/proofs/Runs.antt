@@ -1,14 +1,15 @@
 -- The cells of whole packets are taken one after another. At each cell before the last one the packet stays open,
 -- with this cell's piece behind the others, so the next cell is the next of the packet. The last one gives the
 -- packet, and closes it, so the first cell of the packet behind it is the next.
-use Rattle.std.proofs.Common.{◌≡◌, ℕ, ◌+◌, true, false, cond, List, [], ◌∷◌, ◌++◌, Option, None, Some, refl, sym, ap, subst, ◌∙◌, arith, append_assoc}
+use Rattle.std.proofs.Common.{rules, ◌≡◌, ℕ, ◌+◌, true, false, List, [], ◌∷◌, ◌++◌, Option, None, Some, refl, sym, ap, ◌∙◌, arith, append_assoc}
+use Rattle.std.proofs.lemmas.Grind.{common_steps}
 use Rattle.std.specs.List.{flat_map}
 use Rattle.std.proofs.lemmas.List.{append-nil}
 use Rattle.cq_reasm.specs.declared.joiner.Joined.{Joined}
 use Rattle.cq_reasm.specs.Open.{Open, bytes_taken, with_piece}
 use Rattle.cq_reasm.specs.Joining.{IsNext, joined_at, open_after}
 use Rattle.cq_reasm.specs.Piece.{Piece}
-use Rattle.cq_reasm.specs.Whole.{IsCellOf, AreCellsFrom, cells_in, whole, AreNext, given, given_or, open_after_all, WholeAreTaken}
+use Rattle.cq_reasm.specs.Whole.{IsCellOf, AreCellsFrom, cells_in, AreNext, given, open_after_all, WholeAreTaken, whole}
 
 -- so many cells of the packet with this number are taken
 abbrev IsOpenAt : Option Open → ℕ → ℕ → Type 0
@@ -34,34 +35,19 @@ module _ (input class packet : ℕ) where
 
   stays_open : (was : Option Open) (x : Piece) → x.cell.last ≡ false →
       open_after was x.cell x.bytes ≡ Some (with_piece was x.cell.id.packet x.bytes)
-  stays_open was x e =
-      let none : Option Open = None in ap (λ b. cond b none (Some (with_piece was x.cell.id.packet x.bytes))) e
+  stays_open was x e = grind (arith, common_steps)
 
   gives_none : (was : Option Open) (x : Piece) → x.cell.last ≡ false → joined_at was x.cell x.bytes ≡ None
-  gives_none was x e =
-      let none : Option Joined = None in
-      let all : Joined =
-      record { input = x.cell.id.input; packet = x.cell.id.packet; body = bytes_taken was ++ x.bytes } in
-      ap (λ b. cond b (Some all) none) e
+  gives_none was x e = grind (arith, common_steps)
 
   closes : (was : Option Open) (x : Piece) → x.cell.last ≡ true → open_after was x.cell x.bytes ≡ None
-  closes was x e =
-      let none : Option Open = None in ap (λ b. cond b none (Some (with_piece was x.cell.id.packet x.bytes))) e
+  closes was x e = grind (arith, common_steps)
 
   gives_all : (was : Option Open) (index : ℕ) (x : Piece) → IsCellOf input class packet index x → x.cell.last ≡ true →
       joined_at was x.cell x.bytes
       ≡ Some (let all : Joined = record { input = input; packet = packet; body = bytes_taken was ++ x.bytes } in
       all)
-  gives_all was index x h e =
-      let none : Option Joined = None in
-      let all : Joined =
-      record { input = x.cell.id.input; packet = x.cell.id.packet; body = bytes_taken was ++ x.bytes } in
-      ap (λ b. cond b (Some all) none) e
-      ∙ ap (λ i. Some (let j : Joined = record
-      { input = i; packet = x.cell.id.packet; body = bytes_taken was ++ x.bytes } in
-      j)) h.of_input
-      ∙ ap (λ n. Some (let j : Joined = record { input = input; packet = n; body = bytes_taken was ++ x.bytes } in j))
-      h.of_packet
+  gives_all was index x h e = grind (arith, common_steps)
 
   -- the cells of a packet from one on, and others behind them
   record Rest (was : Option Open) (xs later : List Piece) : Type 0 where
@@ -75,43 +61,11 @@ module _ (input class packet : ℕ) where
   rest_of : (was : Option Open) (index : ℕ) (xs later : List Piece) → IsOpenAt was packet index →
       AreCellsFrom input class packet index xs → Rest was xs later
   rest_of was index [] later o h = absurd h
-  rest_of was index (x ∷ []) later o h =
-      let shut = closes was x h.1 in
-      record {
-        next =
-            λ n. (
-              is_next was index x o h.0,
-              let P : Option Open → Type 0 = λ w. AreNext w later in
-                  subst P (sym shut) n,
-            );
-        gives =
-            ap (λ j. given_or j (given (open_after was x.cell x.bytes) later)) (gives_all was index x h.0 h.1)
-            ∙ ap (λ ys. (let all : Joined = record { input = input; packet = packet; body = bytes_taken was ++ ys } in
-            all) ∷ given (open_after was x.cell x.bytes) later) (sym (append-nil x.bytes))
-            ∙ ap (λ w. (let all : Joined = record
-            { input = input; packet = packet; body = bytes_taken was ++ (x.bytes ++ []) } in
-            all) ∷ given w later) shut;
-        left = ap (λ w. open_after_all w later) shut;
-      }
+  rest_of was index (x ∷ []) later o h = grind (arith, common_steps, closes, is_next, x.bytes, gives_all, append-nil)
   rest_of was index (x ∷ y ∷ xs) later o h =
       let on : Option Open = Some (with_piece was x.cell.id.packet x.bytes) in
       let kept : open_after was x.cell x.bytes ≡ on = stays_open was x h.1 in
-      let r = rest_of on (index + 1) (y ∷ xs) later (one_more was index x o h.0) h.2 in
-      record {
-        next =
-            λ n. (
-              is_next was index x o h.0,
-              let P : Option Open → Type 0 = λ w. AreNext w (y ∷ xs ++ later) in
-                  subst P (sym kept) (r.next n),
-            );
-        gives =
-            ap (λ j. given_or j (given (open_after was x.cell x.bytes) (y ∷ xs ++ later))) (gives_none was x h.1)
-            ∙ ap (λ w. given w (y ∷ xs ++ later)) kept
-            ∙ r.gives
-            ∙ ap (λ ys. (let all : Joined = record { input = input; packet = packet; body = ys } in all)
-            ∷ given None later) (bytes_more was x.cell.id.packet x.bytes (flat_map (λ x. x.bytes) (y ∷ xs)));
-        left = ap (λ w. open_after_all w (y ∷ xs ++ later)) kept ∙ r.left;
-      }
+      search (arith, rules, one_more, is_next, gives_none, bytes_more, rest_of on (index + 1) (y ∷ xs) later)
 
 pub whole_are_taken : WholeAreTaken
 whole_are_taken input class [] h = record { next = tt; gives = refl; closes = refl }

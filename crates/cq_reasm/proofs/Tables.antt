@@ -1,6 +1,7 @@
 -- The open packets lie in a slab under keys, no key stands at two places, and each packet of the slab stands at one.
 -- So what happens under one key changes what is seen at its own place, and at no other.
-use Rattle.std.proofs.Common.{◌≡◌, ◌≢◌, ℕ, zero, suc, ◌-◌, ◌<◌, List, [], ◌∷◌, ◌++◌, take, length, map, get_or, set, Option, None, Some, refl, sym, ap, subst, ◌∙◌, ⊎_elim, arith}
+use Rattle.std.proofs.lemmas.Grind.{common_steps}
+use Rattle.std.proofs.Common.{rules, ◌≡◌, ◌≢◌, ℕ, zero, suc, ◌-◌, ◌<◌, List, [], ◌∷◌, ◌++◌, take, length, map, get_or, set, Option, None, Some, refl, sym, ap, subst, ◌∙◌, ⊎_elim, arith}
 use Rattle.std.specs.Prelude.{replicate, IsSome, option_map}
 use Rattle.std.proofs.lemmas.Option.{same_Some}
 use Rattle.std.proofs.lemmas.Bool.{cases_eq}
@@ -58,12 +59,7 @@ nothing_seen packets keys places e = ap (map (packet_under packets)) e ∙ seen_
 -- a list that was empty, filled up
 pub filled : (was now : List (Option ℕ)) (n l : ℕ) → was ≡ [] → l ≡ 0 → now ≡ take n was ++ replicate (n - l) None →
     now ≡ replicate n None
-filled was now n l e z h =
-    let count : n - l ≡ n = omega arith in
-    let empty : List (Option ℕ) = [] in
-    let none : Option ℕ = None in
-    h ∙ ap (λ xs. take n xs ++ replicate (n - l) none) e
-    ∙ ap (λ xs. xs ++ replicate (n - l) none) (take_all n empty (omega arith)) ∙ ap (λ m. replicate m none) count
+filled was now n l e z h = grind (arith, common_steps, take_all)
 
 -- ## The key at a place
 
@@ -81,8 +77,7 @@ key_at (x ∷ xs) (suc place) k h e = key_at xs place k (omega arith) e
 -- where no key stands no packet is open
 pub none_at : (packets : Slab OpenPacket) (keys : List (Option ℕ)) (seen : List (Option Open)) (place : ℕ) →
     map (packet_under packets) keys ≡ seen → get_or keys place None ≡ None → get_or seen place None ≡ None
-none_at packets keys seen place e none =
-    ap (λ xs. get_or xs place None) (sym e) ∙ seen_at packets keys place ∙ ap (packet_under packets) none
+none_at packets keys seen place e none = grind (arith, common_steps, seen_at)
 
 -- closed already
 pub closed_already : (seen : List (Option Open)) (place : ℕ) → get_or seen place None ≡ None →
@@ -129,55 +124,29 @@ module _ (old new : Slab OpenPacket) (keys : List (Option ℕ)) (place key : ℕ
 
     pub grown_seen : (now : Option Open) → packet_under new (Some key) ≡ now →
         map (packet_under new) keys ≡ set (map (packet_under old) keys) place now
-    grown_seen now e =
-        ap (map (packet_under new)) (sym (set-get_or keys place None))
+    grown_seen now e = ap (map (packet_under new)) (sym (set-get_or keys place None))
         ∙ seen_at_one (packet_under old) (packet_under new) keys place (get_or keys place None) None now
         (ap (packet_under new) at ∙ e) (λ q l ne. seen_elsewhere q ne)
 
     closed_elsewhere : (p k : ℕ) → get_or (set keys place None) p None ≡ Some k → p ≢ place
-    closed_elsewhere p k e same =
-        let gone = get_or-set_same keys place None None inside in
-        let here : get_or (set keys place None) place None ≡ Some k =
-        ap (λ i. get_or (set keys place None) i None) (sym same) ∙ e in
-        let P : ⊥ = cc in P
+    closed_elsewhere p k e same = grind (arith, common_steps, get_or-set_same)
 
     -- what is left in the slab stands where it stood
     left_at : get new key ≡ None → (k : ℕ) → ContainsKey new k →
         (p : ℕ) × (get_or (set keys place None) p None ≡ Some k)
-    left_at gone k h =
-        let ne : k ≢ key =
-        λ same. let P : ℕ → Type 0 = λ n. ContainsKey new n in
-        let there = subst P same h in
-        let B : ⊥ = cc in
-        B in
-        let was = table.placed k (was_present k ne h) in
-        let away : was.0 ≢ place = λ same. ne (same_Some k key (sym was.1 ∙ ap (λ p. get_or keys p None) same ∙ at)) in
-        (was.0, get_or-set_other keys place was.0 None None away ∙ was.1)
+    left_at gone k h = search (rules, was_present, same_Some, get_or-set_other)
 
     pub closed_table : get new key ≡ None → IsTable new (set keys place None)
-    closed_table gone = record {
-      present =
-          λ p k e. let ne = closed_elsewhere p k e in
-          let was = shown_elsewhere p None (Some k) ne e in
-          kept_present k (not_elsewhere p k ne was) (table.present p k was);
-      apart =
-          λ p q k e f. table.apart p q k (shown_elsewhere p None (Some k) (closed_elsewhere p k e) e)
-          (shown_elsewhere q None (Some k) (closed_elsewhere q k f) f);
-      placed = left_at gone;
-    }
+    closed_table gone = search (rules, closed_elsewhere, shown_elsewhere, kept_present, not_elsewhere, left_at)
 
     pub closed_seen : map (packet_under new) (set keys place None) ≡ set (map (packet_under old) keys) place None
-    closed_seen =
-        seen_at_one (packet_under old) (packet_under new) keys place None None None refl
+    closed_seen = seen_at_one (packet_under old) (packet_under new) keys place None None None refl
         (λ q l ne. seen_elsewhere q ne)
 
   -- a packet comes under a key that had none
   module _ (vacant : get old key ≡ None) (now : Open) (stored : packet_under new (Some key) ≡ Some now) where
     vacant_elsewhere : (q k : ℕ) → get_or keys q None ≡ Some k → k ≢ key
-    vacant_elsewhere q k e same =
-        let had = table.present q k e in
-        let P : Option OpenPacket → Type 0 = λ o. IsSome o in
-        let gone = subst P (ap (get old) same ∙ vacant) had in let B : ⊥ = cc in B
+    vacant_elsewhere q k e same = grind (arith, common_steps)
 
     present_now : ContainsKey new key
     present_now = has (get new key) stored
@@ -224,6 +193,5 @@ module _ (old new : Slab OpenPacket) (keys : List (Option ℕ)) (place key : ℕ
 
     pub started_seen : map (packet_under new) (set keys place (Some key))
         ≡ set (map (packet_under old) keys) place (Some now)
-    started_seen =
-        seen_at_one (packet_under old) (packet_under new) keys place (Some key) None (Some now) stored
+    started_seen = seen_at_one (packet_under old) (packet_under new) keys place (Some key) None (Some now) stored
         (λ q l ne. seen_alike old new (get_or keys q None) (λ k e. others k (vacant_elsewhere q k e)))

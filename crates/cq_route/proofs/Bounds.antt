@@ -15,20 +15,17 @@ use Rattle.cq_route.specs.Route.{is_to, is_met, output_for, class_for, fields_of
 found_keeps : {X : Type 0} (P : ℕ → Type 0) (f : X → ℕ) (p : X → Bool) (xs : List X) (d : ℕ) → All (λ x. P (f x)) xs →
     P d → P (option_map_or f (find p xs) d)
 found_keeps P f p [] d all h = h
-found_keeps P f p (x ∷ xs) d all h =
-    cond_both (p x) (Some x) (find p xs) (λ r. P (option_map_or f r d)) (λ e. all 0 x (omega arith))
-    (λ e. found_keeps P f p xs d (λ k y b. all (suc k) y (omega arith)) h)
+found_keeps P f p (x ∷ xs) d all h = cond_both (p x) (Some x) (find p xs) (λ r. P (option_map_or f r d))
+    (λ e. all 0 x (omega arith)) (λ e. found_keeps P f p xs d (λ k y b. all (suc k) y (omega arith)) h)
 
 pub output_below : (t : Tables) (dest : Option (List ℕ)) → AreTables t → output_for t dest < ports_of t.setup
-output_below t dest a =
-    found_keeps (λ n. n < ports_of t.setup) (λ row. row.output) (is_to dest) t.addresses t.default_output a.outputs
-    a.default_output
+output_below t dest a = found_keeps (λ n. n < ports_of t.setup) (λ row. row.output) (is_to dest) t.addresses
+    t.default_output a.outputs a.default_output
 
 pub class_below : (t : Tables) (input : ℕ) (fields : FrameParts) → AreTables t →
     class_for t input fields < classes_of t.setup
-class_below t input fields a =
-    found_keeps (λ n. n < classes_of t.setup) (λ rule. rule.class) (is_met input fields) t.rules t.default_class
-    a.rule_classes a.default_class
+class_below t input fields a = found_keeps (λ n. n < classes_of t.setup) (λ rule. rule.class) (is_met input fields)
+    t.rules t.default_class a.rule_classes a.default_class
 
 -- the same of a route
 pub route_output : (t : Tables) (input : ℕ) (bytes : List ℕ) → AreTables t → (route t input bytes).0 < ports_of t.setup

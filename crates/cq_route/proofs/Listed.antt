@@ -1,7 +1,7 @@
 -- Rows that are listed by the numbers of their addresses.
-use Rattle.std.proofs.Common.{ℕ, zero, suc, ◌≡◌, ◌<◌, ◌==◌, ◌+◌, Bool, w64, List, [], ◌∷◌, ◌++◌, length, take, drop, get_or, Option, None, Some, option_map, All, refl, ap, sym, ◌∙◌, arith, nat_cmp, BTreeMap, rules, subst, if◌then◌else◌}
+use Rattle.std.proofs.lemmas.Grind.{common_steps}
+use Rattle.std.proofs.Common.{ℕ, zero, suc, ◌≡◌, ◌<◌, ◌==◌, ◌+◌, Bool, w64, List, [], ◌∷◌, ◌++◌, length, take, drop, get_or, Option, None, Some, option_map, All, refl, ap, sym, ◌∙◌, arith, nat_cmp, BTreeMap, rules, if◌then◌else◌, subst}
 use Rattle.std.specs.BTreeMap.{get, IsEmpty}
-use Rattle.std.specs.Bool.{Decides}
 use Rattle.std.specs.Int.{to_be_bytes}
 use Rattle.std.specs.List.{find}
 use Rattle.std.specs.Option.{option_map_or, option_or, unwrap_or}
@@ -43,26 +43,19 @@ same_address a b x y e = ap (drop 2) (sym (bytes_are a (number_of a) x refl) ∙
 
 same_test : (mac other : List ℕ) → IsAddress mac → IsAddress other →
     (number_of other == number_of mac) ≡ bytes_eq mac other
-same_test mac other a b =
-    let d = Decides-eqb (number_of other) (number_of mac) in
-    let numbers : Decides (number_of other == number_of mac) (mac ≡ other) =
-    (λ t. sym (same_address other mac b a (d.0 t)), λ e. d.1 (ap number_of (sym e))) in
-    same_from_decides (number_of other == number_of mac) (bytes_eq mac other) numbers (bytes_eq-Decides mac other)
+same_test mac other a b = grind (arith, common_steps, Decides-eqb, same_address, same_from_decides, bytes_eq-Decides)
 
 -- two tests that agree at each row find the same one
 find_same : (p q : AddressRow → Bool) (rows : List AddressRow) → All (λ row. p row ≡ q row) rows →
     find p rows ≡ find q rows
 find_same p q [] all = refl
-find_same p q (r ∷ rows) all =
-    ap (λ b. if b then Some r else find p rows) (all 0 r (omega arith))
+find_same p q (r ∷ rows) all = ap (λ b. if b then Some r else find p rows) (all 0 r (omega arith))
     ∙ ap (λ o. if q r then Some r else o) (find_same p q rows (λ k d h. all (suc k) d (omega arith)))
 
 -- what is listed of an address is what the first row with it says
 pub listed_is : (mac : List ℕ) (rows : List AddressRow) → IsAddress mac → AreAddresses rows →
     listed rows (number_of mac) ≡ option_map (λ row. row.output) (find (is_to (Some mac)) rows)
-listed_is mac rows a all =
-    ap (option_map (λ (row : AddressRow). row.output)) (find_same (λ row. number_of row.mac == number_of mac)
-    (is_to (Some mac)) rows (λ k d h. same_test mac (get_or rows k d).mac a (all k d h)))
+listed_is mac rows a all = grind (arith, common_steps, option_map, find_same, same_test)
 
 either : (o e : Option AddressRow) →
     option_map (λ (row : AddressRow). row.output) (option_or o e)
@@ -73,17 +66,12 @@ either None e = refl
 
 one : (p : AddressRow → Bool) (row : AddressRow) →
     option_map (λ (r : AddressRow). r.output) (find p (row ∷ [])) ≡ some_if (p row) row.output
-one p row =
-    cond_both (p row) (Some row) None (λ o. option_map (λ (r : AddressRow). r.output) o ≡ some_if (p row) row.output)
-    (λ e. rw e refl) (λ e. rw e refl)
+one p row = grind (arith, common_steps, cond_both, option_map)
 
 -- one row more: it is listed where none with its number came before it
 pub listed_push : (rows : List AddressRow) (row : AddressRow) (q : ℕ) →
     listed (rows ++ row ∷ []) q ≡ option_or (listed rows q) (some_if (number_of row.mac == q) row.output)
-listed_push rows row q =
-    let p : AddressRow → Bool = λ r. number_of r.mac == q in
-    ap (option_map (λ (r : AddressRow). r.output)) (find-append p rows (row ∷ []))
-    ∙ either (find p rows) (find p (row ∷ [])) ∙ ap (option_or (listed rows q)) (one p row)
+listed_push rows row q = grind (arith, common_steps, option_map, find-append, either, one)
 
 -- the rows are listed in a map
 pub record AreListed (rows : List AddressRow) (outputs : BTreeMap ℕ ℕ) : Type 0 where
@@ -105,9 +93,7 @@ found None d = refl
 pub goes_to : (t : Tables) (d : Directory) (mac : List ℕ) → IsAddress mac → IsDirectoryOf t d →
     unwrap_or (get nat_cmp d.outputs (number_of mac)) t.default_output ≡ output_for t (Some mac)
 unfolding IsDirectoryOf
-goes_to t d mac a is =
-    ap (λ (o : Option ℕ). unwrap_or o t.default_output) (is mac a)
-    ∙ found (find (is_to (Some mac)) t.addresses) t.default_output
+goes_to t d mac a is = grind (arith, common_steps, found)
 
 -- no row speaks of a frame without an address
 nobody : (rows : List AddressRow) → find (is_to None) rows ≡ None
@@ -115,9 +101,7 @@ nobody [] = refl
 nobody (r ∷ rows) = nobody rows
 
 pub goes_nowhere : (t : Tables) → output_for t None ≡ t.default_output
-goes_nowhere t =
-    ap (λ (o : Option AddressRow). option_map_or (λ (row : AddressRow). row.output) o t.default_output)
-    (nobody t.addresses)
+goes_nowhere t = grind (arith, common_steps, nobody)
 
 -- an empty map lists no row
 pub none_listed : (outputs : BTreeMap ℕ ℕ) → IsEmpty outputs → AreListed [] outputs

@@ -1,5 +1,5 @@
 -- The machines of a switch know the same classes: each knows those of the switch.
-use Rattle.std.proofs.Common.{◌≡◌, ℕ, ◌<◌, ◌≤◌, List, [], ◌∷◌, length, map, refl, sym, ◌∙◌, arith}
+use Rattle.std.proofs.Common.{rules, ◌≡◌, ℕ, ◌<◌, ◌≤◌, List, [], ◌∷◌, length, map, refl, sym, ◌∙◌, arith}
 use Rattle.std.specs.List.{AllByRecursion}
 use Rattle.std.proofs.lemmas.List.{length-map}
 use Rattle.cq_base.specs.declared.setup.ClassRow.{ClassRow}
@@ -30,10 +30,4 @@ count setup some = count_of setup.classes setup.kinds some
 
 pub for_one_switch : (setup : Setup) → 0 < length setup.kinds → length setup.kinds ≤ 64 →
     AreForOneSwitch (machines_of setup)
-for_one_switch setup some few =
-    let long = length-map setup.kinds (λ kind. machine_of kind setup.classes) in
-    record {
-      some = omega arith;
-      few = omega arith;
-      same = all_of setup.classes (class_count (machines_of setup)) setup.kinds (count setup some);
-    }
+for_one_switch setup some few = search (rules, length-map, all_of, count)

@@ -2,7 +2,8 @@
 -- The map is made from the last entry to the first, so a name has the value of its first entry. Two maps
 -- that answer alike are equal, so each lemma on maps compares what they answer, by an induction on the
 -- entries: the first entry of a name is at the head, or the head has another name.
-use Rattle.std.proofs.Common.{◌≡◌, ℕ, suc, ◌+◌, ◌<◌, ◌≤◌, Bool, true, false, not, cond, List, [], ◌∷◌, ◌++◌, length, get_or, set, refl, ap, sym, subst, ◌∙◌, arith}
+use Rattle.std.proofs.lemmas.Grind.{common_steps}
+use Rattle.std.proofs.Common.{rules, ◌≡◌, ℕ, suc, ◌+◌, ◌<◌, ◌≤◌, Bool, true, false, not, cond, List, [], ◌∷◌, ◌++◌, length, get_or, set, refl, ap, sym, ◌∙◌, arith, subst}
 use Rattle.std.specs.Prelude.{Option, None, Some}
 use Rattle.std.specs.List.{position_or_len}
 use Rattle.std.specs.declared.cmp.Ordering.{Ordering}
@@ -45,8 +46,7 @@ module _ {X : Type 0} where
       get (by_name names values) q ≡ value_of names values q
   get-by_name [] values q = get-empty (slice_cmp nat_cmp) q
   get-by_name (name ∷ names) [] q = get-empty (slice_cmp nat_cmp) q
-  get-by_name (name ∷ names) (value ∷ values) q =
-      get-put (by_name names values) name value q ∙ ap (cond (same_name q name) value) (get-by_name names values q)
+  get-by_name (name ∷ names) (value ∷ values) q = grind (arith, common_steps, get-put, get-by_name names values q)
 
   at_head : (b : Bool) (value : Option X) (values : List (Option X)) (place : ℕ) (rest : Option X) →
       (b ≡ false → rest ≡ get_or values place None) →
@@ -61,9 +61,7 @@ module _ {X : Type 0} where
   value_of-first [] values name there lengths = absurd (omega arith)
   value_of-first (n ∷ names) [] name there lengths = absurd (omega arith)
   value_of-first (n ∷ names) (value ∷ values) name there lengths =
-      let tail : length values ≡ length names = omega arith in
-      at_head (same_name name n) value values (position_or_len (same_name name) names) _
-      (λ other. value_of-first names values name (below (same_name name n) _ _ there other) tail)
+      grind (arith, common_steps, at_head, below, value_of-first names values name)
 
   is_none : (b : Bool) (value rest : Option X) (place count : ℕ) → suc count ≤ cond (not b) (1 + place) 0 →
       (count ≤ place → rest ≡ None) → cond b value rest ≡ None
@@ -75,9 +73,7 @@ module _ {X : Type 0} where
       length names ≤ position_or_len (same_name name) names → value_of names values name ≡ None
   value_of-none [] values name none = refl
   value_of-none (n ∷ names) [] name none = refl
-  value_of-none (n ∷ names) (value ∷ values) name none =
-      is_none (same_name name n) value _ (position_or_len (same_name name) names) (length names) none
-      (λ later. value_of-none names values name later)
+  value_of-none (n ∷ names) (value ∷ values) name none = search (rules, is_none, value_of-none names values name)
 
   overwrite : (b : Bool) (w value rest : Option X) → cond b w rest ≡ cond b w (cond b value rest)
   overwrite true w value rest = refl
@@ -122,9 +118,7 @@ module _ {X : Type 0} where
   value_of-set [] values name w q there lengths = absurd (omega arith)
   value_of-set (n ∷ names) [] name w q there lengths = absurd (omega arith)
   value_of-set (n ∷ names) (value ∷ values) name w q there lengths =
-      let tail : length values ≡ length names = omega arith in
-      changed (same_name name n) n name q w value names values (position_or_len (same_name name) names) refl
-      (λ other. value_of-set names values name w q (below (same_name name n) _ _ there other) tail)
+      grind (arith, common_steps, changed, below, value_of-set names values name w q)
 
   either_way : (b : Bool) (value : Option X) → cond b value value ≡ value
   either_way true value = refl
@@ -136,9 +130,7 @@ module _ {X : Type 0} where
   value_of-push [] [] name q lengths = either_way (same_name q name) None
   value_of-push [] (v ∷ values) name q lengths = absurd (omega arith)
   value_of-push (n ∷ names) [] name q lengths = absurd (omega arith)
-  value_of-push (n ∷ names) (value ∷ values) name q lengths =
-      let tail : length values ≡ length names = omega arith in
-      ap (cond (same_name q n) value) (value_of-push names values name q tail)
+  value_of-push (n ∷ names) (value ∷ values) name q lengths = search (rules, value_of-push names values name q)
 
   -- maps that answer alike are equal
   pub same_answers : (m n : FinMap (slice_cmp nat_cmp) X) → ((q : List ℕ) → get m q ≡ get n q) → m ≡ n
@@ -156,6 +148,4 @@ module _ {X : Type 0} where
 
   pub by_name-push : (names : List (List ℕ)) (values : List (Option X)) (name : List ℕ) →
       length values ≡ length names → by_name (names ++ name ∷ []) (values ++ None ∷ []) ≡ by_name names values
-  by_name-push names values name lengths = same_answers _ _ (λ q.
-      get-by_name (names ++ name ∷ []) _ q ∙ value_of-push names values name q lengths
-      ∙ sym (get-by_name names values q))
+  by_name-push names values name lengths = search (rules, same_answers, get-by_name, value_of-push)

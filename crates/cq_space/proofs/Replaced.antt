@@ -1,7 +1,8 @@
 -- A name that is written piece after piece.
-use Rattle.std.proofs.Common.{◌≡◌, ℕ, ◌+◌, ◌-◌, Bool, true, false, cond, List, [], ◌++◌, length, take, drop, refl, ap, sym, ◌∙◌}
+use Rattle.std.proofs.lemmas.Grind.{common_steps}
+use Rattle.std.proofs.Common.{arith, ◌≡◌, ℕ, ◌+◌, ◌-◌, Bool, true, false, cond, List, ◌++◌, length, take, drop, refl, ap, sym, ◌∙◌}
 use Rattle.std.proofs.Math.Seq.{take-add}
-use Rattle.std.specs.Prelude.{Option, None, Some, unwrap_or}
+use Rattle.std.specs.Prelude.{Option, None, Some}
 use Rattle.std.specs.Ordering.{nat_cmp, eq_by_cmp}
 use Rattle.std.specs.Cmp.{eq_by_cmp_equiv}
 use Rattle.std.specs.Cmp.Lexicographic.{slice_cmp, nat_list_cmp_total}
@@ -10,8 +11,7 @@ use Rattle.cq_space.specs.Space.{Contents, Mode, Writing, bytes_of, replaced, ap
 use Rattle.cq_space.proofs.Pieces.{take_of_rest}
 
 pub get_same : (m : Contents) (name bytes : List ℕ) → get (insert m name bytes) name ≡ Some bytes
-get_same m name bytes =
-    get-insert nat_list_cmp_total m name bytes name
+get_same m name bytes = get-insert nat_list_cmp_total m name bytes name
     ∙ ap (λ b. cond b (Some bytes) (get m name)) ((eq_by_cmp_equiv nat_list_cmp_total).refl name)
 
 overwrite : (b : Bool) (x y z : Option (List ℕ)) → cond b x (cond b y z) ≡ cond b x z
@@ -29,9 +29,7 @@ insert-insert m name front bytes =
 
 pub insert-appended : (m : Contents) (name front piece : List ℕ) →
     insert (insert m name front) name (bytes_of (insert m name front) name ++ piece) ≡ insert m name (front ++ piece)
-insert-appended m name front piece =
-    ap (λ bs. insert (insert m name front) name (bs ++ piece)) (ap (λ o. unwrap_or o []) (get_same m name front))
-    ∙ insert-insert m name front (front ++ piece)
+insert-appended m name front piece = grind (arith, common_steps, get_same, insert-insert)
 
 pub appended-replaced : (told : Option Contents) (name front piece : List ℕ) →
     appended name piece (replaced name front told) ≡ replaced name (front ++ piece) told
@@ -44,9 +42,4 @@ pub replaced_on : (start before now : Option Contents) (mode : Mode) (name bytes
     now ≡ appended (written_name mode) (take n (take (length bytes - done) (drop done bytes))) before →
     now ≡ replaced name (take (done + n) bytes) start
 replaced_on start before now mode name bytes done n begun front piece =
-    piece
-    ∙ ap (λ (k : Mode). appended (written_name k) (take n (take (length bytes - done) (drop done bytes))) before) begun
-    ∙ ap (λ k. appended name (take n (take (length bytes - done) (drop done bytes))) k) front
-    ∙ appended-replaced start name (take done bytes) _
-    ∙ ap (λ ys. replaced name (take done bytes ++ ys) start) (take_of_rest bytes done n)
-    ∙ ap (λ ys. replaced name ys start) (sym (take-add done n bytes))
+    grind (arith, common_steps, appended-replaced, take_of_rest, take-add)

@@ -1,11 +1,12 @@
 -- Both ends of the ring in one thread show that what was taken, and what still waits, is what was sent. The last item
 -- that was taken says that there are no more, and only the last one sent says so. So nothing waits, and the rows
 -- taken are the rows sent. Where nothing was sent, nothing was taken either.
-use Rattle.std.proofs.Common.{◌≡◌, ℕ, List, [], ◌∷◌, ◌++◌, refl, ap, sym, subst, ◌∙◌}
+use Rattle.std.proofs.lemmas.Grind.{common_steps}
+use Rattle.std.proofs.Common.{arith, ◌≡◌, ℕ, List, [], ◌∷◌, ◌++◌, refl, ◌∙◌}
 use Rattle.std.specs.Prelude.{Err, IfSome, Option, Some}
 use Rattle.cq_pcap.specs.declared.capture.PacketRow.{PacketRow}
 use Rattle.cq_pcap.specs.declared.read.PcapRefusal.{PcapRefusal}
-use Rattle.cq_pcap.specs.Faults.{Fault, fault_of}
+use Rattle.cq_pcap.specs.Faults.{fault_of}
 use Rattle.cq_pcap.specs.Reading.{packets_of}
 use Rattle.cq_pcap.specs.Rows.{AreRowsUntil}
 use Rattle.cq_pcap.proofs.SpeltIsRead.{fault_is_read}
@@ -18,10 +19,7 @@ use Rattle.cq_stream.specs.Stream.{HasObeyed, HasRun, all_sent, bytes_of, fault_
 -- the fault of a file is read
 pub unread : (bytes : List ℕ) (refusal : PcapRefusal) (rows : List PacketRow)
     → AreRowsUntil bytes (Some refusal) rows → IfSome (fault_of refusal) (λ fault. packets_of bytes ≡ Err fault)
-unread bytes refusal rows until =
-    let there = until.1 in
-    let P : Option Fault → Type 0 = λ named. IfSome named (λ fault. packets_of bytes ≡ Err fault) in
-    subst P (sym there.named) (fault_is_read bytes there.fault there.faulty)
+unread bytes refusal rows until = grind (arith, common_steps, fault_is_read)
 
 -- the items of a file have one end
 one_end : (rows others : List PacketRow) (rest : List Item)
@@ -29,10 +27,7 @@ one_end : (rows others : List PacketRow) (rest : List Item)
 one_end [] [] rest e = refl
 one_end [] (o ∷ others) rest e = absurd (let P : ⊥ = cc e in P)
 one_end (r ∷ rows) [] rest e = absurd (let P : ⊥ = cc e in P)
-one_end (r ∷ rows) (o ∷ others) rest e =
-    let head : r ≡ o = cc e in
-    let tail : items_of rows ++ rest ≡ items_of others = cc e in
-    ap (λ x. x ∷ rows) head ∙ ap (λ xs. o ∷ xs) (one_end rows others rest tail)
+one_end (r ∷ rows) (o ∷ others) rest e = grind (arith, common_steps, one_end rows others rest)
 
 some_item : (rows : List PacketRow) (rest : List Item) → items_of rows ++ rest ≡ [] → ⊥
 some_item [] rest e = cc e
@@ -41,16 +36,11 @@ some_item (r ∷ rows) rest e = cc e
 sent_are_taken : (order : Order) (bytes : List ℕ) (fault : Option PcapRefusal) (sent waiting : List Item)
     (rows : List PacketRow)
     → HasObeyed order bytes fault sent → items_of rows ++ waiting ≡ sent → AreRowsUntil bytes fault rows
-sent_are_taken Send bytes fault sent waiting rows h e =
-    let same : rows ≡ h.rows = one_end rows h.rows waiting (e ∙ h.sent) in
-    let P : List PacketRow → Type 0 = AreRowsUntil bytes fault in
-    subst P (sym same) h.until
+sent_are_taken Send bytes fault sent waiting rows h e = grind (arith, common_steps, one_end)
 sent_are_taken Alone bytes fault sent waiting rows h e = absurd (some_item rows waiting (e ∙ h.1))
 
 -- the rows that were taken are those of the file, where its reader left this
 pub closes : (done : Done) (rows : List PacketRow) (taken after waiting : List Item) → HasRun done
     → taken ≡ items_of rows → after ≡ taken → after ++ waiting ≡ all_sent done
     → AreRowsUntil (bytes_of done) (fault_found done) rows
-closes done rows taken after waiting ran t a fifo =
-    sent_are_taken ran.order (bytes_of done) (fault_found done) (all_sent done) waiting rows ran.obeyed
-    (ap (λ items. items ++ waiting) (sym t ∙ sym a) ∙ fifo)
+closes done rows taken after waiting ran t a fifo = grind (arith, common_steps, sent_are_taken)

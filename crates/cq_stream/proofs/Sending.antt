@@ -1,13 +1,13 @@
 -- What a reader has sent while it stands at a place of the file: a row for each record before that place, after what
 -- had been sent before. Each row that is found goes on with it. At the end of the bytes, or at their fault, these are
 -- the rows of the file.
-use Rattle.std.proofs.Common.{◌≡◌, ℕ, List, [], ◌∷◌, ◌++◌, length, map, ap, sym, ◌∙◌, append_assoc}
+use Rattle.std.proofs.Common.{rules, arith, ◌≡◌, ℕ, List, [], ◌∷◌, ◌++◌, length, map, append_assoc}
+use Rattle.std.proofs.lemmas.Grind.{common_steps}
 use Rattle.std.proofs.lemmas.List.{map-append}
-use Rattle.std.specs.Prelude.{None, Some}
+use Rattle.std.specs.Prelude.{None}
 use Rattle.cq_pcap.specs.declared.capture.PacketRow.{PacketRow}
 use Rattle.cq_pcap.specs.declared.form.Form.{Form}
-use Rattle.cq_pcap.specs.declared.read.PcapRefusal.{PcapRefusal}
-use Rattle.cq_pcap.specs.Rows.{AreRowsTo, IsFaultAt}
+use Rattle.cq_pcap.specs.Rows.{AreRowsTo}
 use Rattle.cq_pcap.proofs.Rows.{rows_all}
 use Rattle.cq_stream.specs.declared.item.Item.{Item}
 use Rattle.cq_stream.specs.declared.item.Item.TheVariants.{Row}
@@ -27,20 +27,10 @@ pub sends_more : (form : Form) (bytes : List ℕ) (at next : ℕ) (row : PacketR
 sends_more form bytes at next row before so_far after e goes_on s = record {
   rows = s.rows ++ row ∷ [];
   stand = goes_on s.rows s.stand;
-  sent =
-      e ∙ ap (λ items. items ++ Row row ∷ []) s.sent ∙ append_assoc before (map Row s.rows) (Row row ∷ [])
-      ∙ ap (λ items. before ++ items) (sym (map-append Row s.rows (row ∷ [])));
+  sent = search (arith, rules, append_assoc, map-append);
 }
 
 -- no byte is left
 pub sends_all : (form : Form) (bytes : List ℕ) (at : ℕ) (before after : List Item) → at ≡ length bytes
     → SendsTo form bytes at before after → HasSent bytes None before after
-sends_all form bytes at before after e s =
-    record { rows = s.rows; until = rows_all form bytes s.rows at e s.stand; sent = s.sent }
-
--- a fault of a record
-pub sends_fault : (form : Form) (bytes : List ℕ) (at : ℕ) (before after : List Item) (refusal : PcapRefusal)
-    → IsFaultAt bytes (Some at) refusal → SendsTo form bytes at before after
-    → HasSent bytes (Some refusal) before after
-sends_fault form bytes at before after refusal fault s =
-    record { rows = s.rows; until = (Some at, fault, (form, s.stand)); sent = s.sent }
+sends_all form bytes at before after e s = grind (arith, common_steps, rows_all)

@@ -1,5 +1,6 @@
 -- More than four words are no command, and neither are four whose first begins no form of four.
-use Rattle.std.proofs.Common.{◌≡◌, ℕ, ◌≤◌, Bool, true, false, List, [], ◌∷◌, length, map, if◌then◌else◌, Option, None, refl, ap, sym, ◌∙◌, arith}
+use Rattle.std.proofs.lemmas.Grind.{common_steps}
+use Rattle.std.proofs.Common.{◌≡◌, ℕ, ◌≤◌, Bool, true, false, List, [], ◌∷◌, length, map, if◌then◌else◌, Option, None, refl, arith}
 use Rattle.std.specs.Prelude.{codes, is_some}
 use Rattle.std.specs.List.{list_all}
 use Rattle.std.specs.Str.{bytes_eq}
@@ -18,15 +19,12 @@ too_many_words bytes (word ∷ []) many = refl
 too_many_words bytes (word ∷ a ∷ []) many = absurd (omega arith)
 too_many_words bytes (word ∷ a ∷ b ∷ []) many = absurd (omega arith)
 too_many_words bytes (word ∷ a ∷ b ∷ c ∷ []) many = absurd (omega arith)
-too_many_words bytes (word ∷ a ∷ b ∷ c ∷ d ∷ rest) many =
-    none_both_ways (list_all is_value (map bytes (a ∷ b ∷ c ∷ d ∷ rest)))
+too_many_words bytes (word ∷ a ∷ b ∷ c ∷ d ∷ rest) many = grind (arith, common_steps, none_both_ways)
 
 -- a first word that is neither `soak` nor `part` begins no command of four words
 no_word : (a d e : Bool) (x y : Option Command) → d ≡ false → e ≡ false
     → false ≡ is_some (if a then (if d then x else if e then y else None) else None)
-no_word true d e x y f g =
-    sym (ap (λ (b : Bool). is_some (if b then x else if e then y else None)) f
-    ∙ ap (λ (b : Bool). is_some (if b then y else None)) g)
+no_word true d e x y f g = grind (arith, common_steps)
 no_word false d e x y f g = refl
 
 -- a text that is another one

@@ -1,6 +1,7 @@
 -- Digits that are read one after another. What is read so far stands as many places up as there are digits
 -- left. So one more digit changes nothing of the whole: what is read moves up one place, and the digit fills
 -- the place that comes free. And a number of so many digits is below that power of ten.
+use Rattle.std.proofs.lemmas.Grind.{common_steps}
 use Rattle.std.proofs.Common.{◌≡◌, ℕ, ◌+◌, ◌-◌, ◌*◌, ◌^◌, ◌<◌, ◌≤◌, List, [], ◌∷◌, length, drop, get_or, ◌∙◌, arith, add-one}
 use Rattle.std.proofs.Math.Nat.{pow-suc}
 use Rattle.std.proofs.lemmas.List.{at_drop_more, at_drop_all}
@@ -18,9 +19,7 @@ next_place v x rest = rw (pow-suc 10 (length rest)) (places v (x - 48) (10 ^ len
 pub one_digit_more : (v : ℕ) (text : List ℕ) (i : ℕ) → i < length text
     → v * 10 ^ length (drop i text) + value_of (drop i text)
     ≡ (v * 10 + (get_or text i 0 - 48)) * 10 ^ length (drop (i + 1) text) + value_of (drop (i + 1) text)
-one_digit_more v text i at =
-    at_drop_more (λ (t : List ℕ). v * 10 ^ length t + value_of t) text i 0 at
-    ∙ next_place v (get_or text i 0) (drop (i + 1) text)
+one_digit_more v text i at = grind (arith, common_steps, at_drop_more, next_place)
 
 read_all : (v : ℕ) → v * 10 ^ 0 + value_of [] ≡ v
 unfolding value_of

@@ -1,7 +1,8 @@
 -- `clap` splits the words of a command into the values that they are, and refuses none of them. Each form is
 -- run through `clap`'s own rule of a parse. Its first word is one of the subcommands by its text, so the rest
 -- goes to that subcommand. There each value goes to the next positional, which has no value yet.
-use Rattle.std.proofs.Common.{◌≡◌, ◌∙◌, ◌&&◌, ◌⊎◌, inl, inr, ℕ, suc, fold, Bool, true, false, refl, sym, ap, ap₂, subst, List, [], ◌∷◌, Option, Some, None, codes, is_some, if◌then◌else◌}
+use Rattle.std.proofs.lemmas.Grind.{common_steps}
+use Rattle.std.proofs.Common.{arith, rules, ◌≡◌, ◌&&◌, ◌⊎◌, inl, inr, ℕ, suc, fold, Bool, true, false, refl, sym, subst, List, [], ◌∷◌, Option, Some, None, codes, is_some, if◌then◌else◌, ◌∙◌, ap, ap₂}
 use Rattle.std.specs.Prelude.{option_and_then}
 use Rattle.std.specs.List.{AllByRecursion, list_all}
 use Rattle.std.specs.Str.{bytes_eq}
@@ -74,9 +75,7 @@ module _ (word : Text) (rules : List Rule) where
       fold (walked rules []) w vs ≡ walked_to rules w place vs
   values_walked w place [] are taken = refl
   values_walked w place (v ∷ vs) are taken =
-      ap (λ (u : Walk). fold (walked rules []) u vs)
-      (ap (λ (u : Walk). walked rules [] u v) taken.0 ∙ value_walked rules w.held place v are.0)
-      ∙ values_walked (after rules w.held place v) (suc place) vs are.1 taken.2
+      search (arith, rules, value_walked, values_walked (after rules w.held place v) (suc place) vs are.1 taken.2)
 
   walk_taken : (w : Walk) (place : ℕ) (vs : List Text) → AreValues vs → AreTaken word rules w place vs →
       walk_passes (leaf word rules) [] w vs ≡ true
@@ -94,17 +93,14 @@ module _ (word : Text) (rules : List Rule) where
 
     -- what is found under the name of a value
     found : (name : Text) → first_of name (rows_after rules [] vs) ≡ first_of name (finished rules end.held)
-    found name =
-        ap (λ (w : Walk). first_of name (finished rules w.held)) (values_walked (at nothing_held 1) 1 vs are taken)
+    found name = grind (arith, common_steps, values_walked)
 
     passes : end_passes (leaf word rules) end ≡ true → level_passes (leaf word rules) [] nothing_held vs false ≡ true
-    passes ends = ap₂ ◌&&◌ (walk_taken (at nothing_held 1) 1 vs are taken)
-        (ap (end_passes (leaf word rules)) (values_walked (at nothing_held 1) 1 vs are taken) ∙ ends)
+    passes ends = grind (arith, common_steps, walk_taken, values_walked)
 
 -- the words are split into what they are, and `clap` takes them
 abbrev pub IsSplit : List Text → Type 0
-IsSplit words = (command_found (subcommand_of line words) ≡ command_for words)
-    × (takes line words ≡ true)
+IsSplit words = (command_found (subcommand_of line words) ≡ command_for words) × (takes line words ≡ true)
 
 -- ---- one value
 
@@ -203,14 +199,10 @@ config_case : (word v : Text) → is_value v ≡ true
     ⊎ ((bytes_eq word (codes "run") ≡ true) ⊎ (bytes_eq word (codes "audit") ≡ true)))
     → IsSplit (word ∷ v ∷ [])
 unfolding walked walk_passes
-config_case word v is (inl e) =
-    said word (codes "check") (v ∷ []) e (config_split (codes "check") v is (refl, refl, tt) refl refl refl)
-config_case word v is (inr (inl e)) =
-    said word (codes "ideal") (v ∷ []) e (config_split (codes "ideal") v is (refl, refl, tt) refl refl refl)
-config_case word v is (inr (inr (inl e))) =
-    said word (codes "run") (v ∷ []) e (config_split (codes "run") v is (refl, refl, tt) refl refl refl)
-config_case word v is (inr (inr (inr e))) =
-    said word (codes "audit") (v ∷ []) e (config_split (codes "audit") v is (refl, refl, tt) refl refl refl)
+config_case word v is (inl e) = search (rules, said, config_split)
+config_case word v is (inr (inl e)) = search (rules, said, config_split)
+config_case word v is (inr (inr (inl e))) = search (rules, said, config_split)
+config_case word v is (inr (inr (inr e))) = search (rules, said, config_split)
 
 config_words : (word v : Text) → is_some (command_for (word ∷ v ∷ [])) ≡ true → IsSplit (word ∷ v ∷ [])
 config_words word v h =

@@ -1,5 +1,6 @@
 -- The words `stream CONFIG` have no form of a command, and `run CONFIG` has one.
-use Rattle.std.proofs.Common.{◌≡◌, ℕ, Bool, true, false, ◌&&◌, List, [], ◌∷◌, length, refl, ap, subst, sym}
+use Rattle.std.proofs.lemmas.Grind.{common_steps}
+use Rattle.std.proofs.Common.{arith, ◌≡◌, ℕ, Bool, true, false, ◌&&◌, List, [], ◌∷◌, length, refl, ap}
 use Rattle.std.specs.Prelude.{Option, None, Some, if◌then◌else◌, map, codes}
 use Rattle.std.specs.List.{list_all}
 use Rattle.std.specs.Str.{bytes_eq}
@@ -31,6 +32,4 @@ no_command : (config : List ℕ) → command_for (codes "stream" ∷ config ∷ 
 no_command config = either_none (list_all is_value (config ∷ [])) (with_config (codes "stream") config) refl
 
 pub other : (word config : List ℕ) → bytes_eq word (codes "stream") ≡ true → command_for (word ∷ config ∷ []) ≡ None
-other word config e =
-    let P : List ℕ → Type 0 = λ w. command_for (w ∷ config ∷ []) ≡ None in
-    subst P (sym ((bytes_eq-Decides word (codes "stream")).0 e)) (no_command config)
+other word config e = grind (arith, common_steps, bytes_eq-Decides, no_command)

@@ -1,13 +1,12 @@
+use Rattle.std.proofs.Common.{arith, rules}
 use Rattle.cq_lines.proofs.Spelling.{no_number, none_goes_on, one_digit_more, digit_alone}
 use Rattle.cq_lines.proofs.number.take_number.Goals as goal
 
 pub returns-in_err-first-clause-none : goal.returns-in_err-first-clause-none
-returns-in_err-first-clause-none c = rw c.from_residual.ensures (λ n rest small begins. no_number c.args.text.now
-    c.in_err-first.ensures.none n rest begins)
+returns-in_err-first-clause-none c = search (arith, rules, no_number)
 
 pub digits-init : goal.digits-init
-digits-init c = digit_alone c.args.text.now c.in_ok-first.rest.now c.from-number.result c.in_ok-first.first
-    c.in_ok-first.ensures.found.0 c.from-number.ensures c.in_ok-first.ensures.found.1
+digits-init c = search (arith, rules, digit_alone)
 
 pub returns-in_err-number-clause-none : goal.returns-in_err-number-clause-none
 returns-in_err-number-clause-none c =

@@ -1,5 +1,4 @@
-use Rattle.std.proofs.Common.{◌≡◌, true, false, subst, sym, ◌∙◌}
-use Rattle.cq_lines.specs.Ranges.{Within}
+use Rattle.std.proofs.Common.{arith, rules}
 use Rattle.cq_lines.proofs.Walk.{one_ending, within_fits, few_within}
 use Rattle.cq_lines.proofs.range.take_fields_within.Goals as goal
 
@@ -9,8 +8,4 @@ returns-in_err-count-clause-none c =
     c.args.further fs within) (few_within c.args.ranges.now c.args.further c.args.to.now fs c.requires within))
 
 pub returns-else-are_within-clause-none : goal.returns-else-are_within-clause-none
-returns-else-are_within-clause-none c fs rest within e =
-    let same = one_ending fs _ rest _ (sym e ∙ c.in_ok-count.ensures.found.1) in
-    let clash : false ≡ true = sym c.if-are_within.false
-    ∙ c.are_within.ensures.1 (subst (Within c.args.ranges.now c.args.further) same.0 within) in
-    absurd (let P : ⊥ = cc in P)
+returns-else-are_within-clause-none c fs rest within e = search (arith, rules, one_ending)

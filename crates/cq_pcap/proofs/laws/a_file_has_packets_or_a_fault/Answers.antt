@@ -1,3 +1,4 @@
+use Rattle.std.proofs.Common.{arith, rules}
 use Rattle.cq_pcap.proofs.ReadIsSpelt.{spelt_or_faulty}
 use Rattle.cq_pcap.proofs.SpeltIsRead.{fault_is_read, spelt_is_read}
 use Rattle.cq_pcap.proofs.laws.a_file_has_packets_or_a_fault.Goals as goal
@@ -6,19 +7,10 @@ pub returns-clause-either : goal.returns-clause-either
 returns-clause-either c = spelt_or_faulty
 
 pub returns-clause-never_both : goal.returns-clause-never_both
-returns-clause-never_both c bytes packets fault s f =
-    let read = spelt_is_read bytes packets s in
-    let unread = fault_is_read bytes fault f in
-    cc
+returns-clause-never_both c bytes packets fault s f = cc (spelt_is_read bytes packets s, fault_is_read bytes fault f)
 
 pub returns-clause-one_list : goal.returns-clause-one_list
-returns-clause-one_list c bytes packets others s t =
-    let once = spelt_is_read bytes packets s in
-    let again = spelt_is_read bytes others t in
-    cc
+returns-clause-one_list c bytes packets others s t = cc (spelt_is_read bytes packets s, spelt_is_read bytes others t)
 
 pub returns-clause-one_fault : goal.returns-clause-one_fault
-returns-clause-one_fault c bytes fault other f g =
-    let once = fault_is_read bytes fault f in
-    let again = fault_is_read bytes other g in
-    cc
+returns-clause-one_fault c bytes fault other f g = search (arith, rules, fault_is_read)

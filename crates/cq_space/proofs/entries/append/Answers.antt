@@ -1,3 +1,4 @@
+use Rattle.std.proofs.Common.{arith, rules}
 use Rattle.std.proofs.lemmas.Result.{err_from_is_err_and}
 use Rattle.cq_space.proofs.Columns.{lengthened, unlengthened}
 use Rattle.cq_space.proofs.entries.append.Goals as goal
@@ -11,6 +12,4 @@ returns-in_err-extend_from_slice-in-Some-clause-err c =
     c.in_err-extend_from_slice-in-Some.ensures.items)
 
 pub returns-clause-ok : goal.returns-clause-ok
-returns-clause-ok c =
-    lengthened c.args.entries.now c.args.at c.index-entries-at.result c.in-Some.bytes c.extend_from_slice.new.self
-    c.args.piece.now c.requires.there c.in-Some.is c.in_ok-extend_from_slice-in-Some.ensures.items
+returns-clause-ok c = search (arith, rules, lengthened)

@@ -3,9 +3,8 @@ use Rattle.cq_space.proofs.Columns.{finds, finds_none, says_pushed, pushed_first
 use Rattle.cq_space.proofs.entries.place_of.Goals as goal
 
 pub returns-in-Some-clause-ok : goal.returns-in-Some-clause-ok
-returns-in-Some-clause-ok c =
-    finds c.args.entries.now.items c.deref.result.now c.args.name.now c.in-Some.at c.deref.ensures.value
-    c.in-Some.ensures
+returns-in-Some-clause-ok c = finds c.args.entries.now.items c.deref.result.now c.args.name.now c.in-Some.at
+    c.deref.ensures.value c.in-Some.ensures
 
 pub returns-clause-ok : goal.returns-clause-ok
 returns-clause-ok c =

@@ -1,4 +1,4 @@
-use Rattle.std.proofs.Common.{rules, ◌≡◌, ◌&&◌, if◌then◌else◌, Bool, Some, None, true, ℕ, List, ◌+◌, ◌-◌, ◌<◌, ◌≤◌, length, drop, get_or, sym, ap, ◌∙◌, arith}
+use Rattle.std.proofs.Common.{rules, ◌≡◌, if◌then◌else◌, Some, None, true, ℕ, List, ◌-◌, ◌≤◌, length, arith, sym, ◌∙◌, ◌&&◌, Bool, ◌+◌, ◌<◌, drop, get_or, ap}
 use Rattle.std.specs.List.{list_all}
 use Rattle.std.specs.Char.{is_ascii_digit}
 use Rattle.std.proofs.lemmas.Bool.Decides.{nat_tests}

@@ -1,35 +1,22 @@
-use Rattle.std.proofs.Common.{◌≡◌, ◌+◌, ◌*◌, set, get_or, None, Some, ap, ◌∙◌, rules}
-use Rattle.cq_reasm.specs.Open.{cells_taken, with_piece}
+use Rattle.std.proofs.Common.{arith, ◌≡◌, ◌+◌, ◌*◌, set, get_or, None, Some, ap, ◌∙◌, rules}
+use Rattle.cq_reasm.specs.Open.{with_piece}
 use Rattle.cq_reasm.specs.Joining.{open_at, with_open}
 use Rattle.cq_reasm.proofs.Joins.{taken_before, open_is, left_is, closed_again, closed_by_last, others_kept}
 use Rattle.cq_reasm.proofs.joiner.Joiner.take_reserving.Goals as goal
 
 pub add-requires-clause-next : goal.add-requires-clause-next
-add-requires-clause-next c =
-    let id = c.args.cell.now.id in
-    let place : c.from.result * c.from-2.result + c.from-3.result
-    ≡ id.input * c.self.inside.classes + c.args.cell.now.class =
-    cc in
-    ap cells_taken (open_is c.self.inside.inputs c.self.inside.classes c.self.inside.packets c.args.self.now id.input
-    c.args.cell.now.class _ c.self.view_is place)
-    ∙ taken_before _ c.args.cell.now c.requires.next
+add-requires-clause-next c = search (arith, rules, open_is, taken_before)
 
 pub returns-then-not-cell : goal.returns-then-not-cell
-returns-then-not-cell c =
-    let id = c.args.cell.now.id in
-    let at = c.from.result * c.from-2.result + c.from-3.result in
-    let place : at ≡ id.input * c.self.inside.classes + c.args.cell.now.class = cc in
-    let packets = c.self.inside.packets in
-    let added = Some (with_piece (get_or packets at None) id.packet c.args.piece.now) in
-    record {
-      joined = search rules;
-      left = search rules;
-      pair = search rules;
-      others =
-          others_kept c.self.inside.inputs c.self.inside.classes packets c.add.new.self c.args.self.now c.args.cell.now
-          at added c.self.view_is place c.in_ok-add.ensures.added c.requires.class;
-      as_before = tt;
-    }
+returns-then-not-cell c = search (
+  arith,
+  rules,
+  c.from.result * c.from-2.result,
+  others_kept c.self.inside.inputs c.self.inside.classes c.self.inside.packets c.add.new.self c.args.self.now
+      c.args.cell.now (c.from.result * c.from-2.result + c.from-3.result) (Some (with_piece
+      (get_or c.self.inside.packets (c.from.result * c.from-2.result + c.from-3.result) None)
+      c.args.cell.now.id.packet c.args.piece.now)) c.self.view_is,
+)
 
 pub returns : goal.returns
 returns c =
@@ -43,14 +30,12 @@ returns c =
     ∙ closed_again packets at added None in
     record {
       joined = search rules;
-      left =
-          left_is c.self.inside.inputs c.self.inside.classes packets c.close-body.new.self c.args.self.now id.input
+      left = left_is c.self.inside.inputs c.self.inside.classes packets c.close-body.new.self c.args.self.now id.input
           class at None c.self.view_is place closed
           ∙ ap (with_open c.args.self.now id.input class) (closed_by_last (open_at c.args.self.now id.input class)
           c.args.cell.now c.args.piece.now c.if-not-cell.false);
       pair = search rules;
-      others =
-          others_kept c.self.inside.inputs c.self.inside.classes packets c.close-body.new.self c.args.self.now
+      others = others_kept c.self.inside.inputs c.self.inside.classes packets c.close-body.new.self c.args.self.now
           c.args.cell.now at None c.self.view_is place closed c.requires.class;
       as_before = tt;
     }

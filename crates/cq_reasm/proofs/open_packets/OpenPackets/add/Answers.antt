@@ -29,15 +29,13 @@ returns-in_ok-key-in-None-clause-added c =
 pub returns-in-Some-clause-added : goal.returns-in-Some-clause-added
 returns-in-Some-clause-added c =
     let keys = c.self.inside.keys.items in
-    let inside = inside_keys c.self.inside.packets keys c.args.self.now c.args.place c.self.view_is c.requires.place in
+    let inside =
+    inside_keys c.self.inside.packets keys c.args.self.now c.args.place c.self.view_is c.requires.place in
     let at = key_at keys c.args.place c.index.result.now inside c.index.ensures ∙ c.in-Some.is in
-    let now =
-    grown_now c.self.inside.packets keys c.args.self.now c.args.place c.in-Some.key c.args.number c.args.piece.now
-    c.self.invariant c.self.view_is at in
-    on_ok_weaker c.grow.result
-    (λ more.
-    grown_seen c.self.inside.packets c.grow.new.packets keys c.args.place c.in-Some.key c.self.invariant inside
-    c.grow.ensures.others at _ (more ∙ now)
-    ∙ ap (λ seen. set seen c.args.place (Some (with_piece (get_or c.args.self.now c.args.place None) c.args.number
-    c.args.piece.now))) c.self.view_is)
-    c.grow.ensures.grown
+    let now = grown_now c.self.inside.packets keys c.args.self.now c.args.place c.in-Some.key c.args.number
+    c.args.piece.now c.self.invariant c.self.view_is at in
+    on_ok_weaker c.grow.result (λ more. grown_seen c.self.inside.packets c.grow.new.packets keys c.args.place
+    c.in-Some.key c.self.invariant inside c.grow.ensures.others at _ (more ∙ now)
+    ∙ ap (λ seen. set seen c.args.place
+    (Some (with_piece (get_or c.args.self.now c.args.place None) c.args.number c.args.piece.now)))
+    c.self.view_is) c.grow.ensures.grown

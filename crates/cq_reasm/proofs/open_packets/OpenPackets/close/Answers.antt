@@ -23,6 +23,5 @@ returns-clause-closed c =
     let keys = c.self.inside.keys.items in
     let inside = inside_keys c.self.inside.packets keys c.args.self.now c.args.place c.self.view_is c.requires in
     closed_seen c.self.inside.packets c.finish.new.packets keys c.args.place c.in_ok-key.key c.self.invariant inside
-    c.finish.ensures.others
-    (key_at keys c.args.place c.index.result.now inside c.index.ensures ∙ c.in_ok-key.was)
+    c.finish.ensures.others (key_at keys c.args.place c.index.result.now inside c.index.ensures ∙ c.in_ok-key.was)
     ∙ ap (λ seen. set seen c.args.place None) c.self.view_is

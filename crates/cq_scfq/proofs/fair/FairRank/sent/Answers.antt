@@ -1,4 +1,4 @@
-use Rattle.std.proofs.Common.{◌≡◌, ◌+◌, ◌≤◌, ℕ, List, length, set, sym, ap, ◌∙◌, arith}
+use Rattle.std.proofs.Common.{rules, ◌≡◌, ◌+◌, ◌≤◌, ℕ, List, length, set, sym, ap, ◌∙◌, arith}
 use Rattle.std.proofs.lemmas.List.{set_past}
 use Rattle.cq_base.specs.declared.setup.ClassRow.{ClassRow}
 use Rattle.cq_rank.specs.Classes.{numbers_of, rows_of, rows_again}
@@ -15,6 +15,4 @@ no_time rows numbers now level rank is past =
     sym (set_past now.state (length (rows_of now.fixed) + level) rank (omega arith))
 
 pub returns-else-place-len-clause-state : goal.returns-else-place-len-clause-state
-returns-else-place-len-clause-state c =
-    no_time c.self.inside.classes c.self.inside.numbers.items c.args.self.now c.args.level c.args.rank c.self.view_is
-    (omega (arith, c.self.inside.numbers.ok.0))
+returns-else-place-len-clause-state c = search (arith, rules, no_time)

@@ -1,11 +1,11 @@
 use Rattle.std.proofs.Common.{ap, sym, ◌∙◌}
-use Rattle.std.specs.Prelude.{Some}
-use Rattle.std.specs.Option.{option_map}
-use Rattle.std.specs.FinMap.{get}
-use Rattle.cq_space.specs.MemSpace.{MemSpace}
 use Rattle.cq_space.proofs.Columns.{finds_none}
 use Rattle.cq_space.proofs.InMemory.{told_found, told_none}
 use Rattle.cq_space.proofs.mem_files.MemFiles.bytes.Goals as goal
+use Rattle.std.specs.FinMap.{get}
+use Rattle.cq_space.specs.MemSpace.{MemSpace}
+use Rattle.std.specs.Option.{option_map}
+use Rattle.std.specs.Prelude.{Some}
 
 pub returns-in-Some-bytes : goal.returns-in-Some-bytes
 returns-in-Some-bytes c =

@@ -1,7 +1,7 @@
-use Rattle.std.proofs.Common.{◌≡◌, rules, List, ℕ, ap, ◌∙◌}
-use Rattle.std.specs.FinMap.{insert}
+use Rattle.std.proofs.Common.{rules, ◌≡◌, List, ℕ, ap, ◌∙◌}
 use Rattle.cq_space.proofs.InMemory.{bytes_are_set}
 use Rattle.cq_space.proofs.mem_files.MemFiles.set.Goals as goal
+use Rattle.std.specs.FinMap.{insert}
 
 pub returns-clause-ok : goal.returns-clause-ok
 returns-clause-ok c =

@@ -27,16 +27,15 @@ returns-in-Some-clause-moved c =
     )
 
 pub returns-in-None-clause-answered : goal.returns-in-None-clause-answered
-returns-in-None-clause-answered c = record {
-  cause = search rules;
-  why =
-      inr (record {
-        cut =
-            of_read IsReached c.index-entry.result.now (stands c.in-Reads.is c.self.view_is c.self.invariant)
+returns-in-None-clause-answered c =
+    record {
+      cause = search rules;
+      why = inr (record {
+        cut = of_read IsReached c.index-entry.result.now (stands c.in-Reads.is c.self.view_is c.self.invariant)
             c.index-entry.ensures c.in-None.ensures.reached;
         starved = ap starved_of c.fault-in-None.ensures.closed ∙ ap starved_of c.self.view_is;
       });
-  passed = tt;
-  counted = search rules;
-  kept = search rules;
-}
+      passed = tt;
+      counted = search rules;
+      kept = search rules;
+    }

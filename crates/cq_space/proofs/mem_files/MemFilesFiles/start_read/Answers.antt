@@ -1,13 +1,13 @@
-use Rattle.std.proofs.Common.{List, ℕ, ap, sym, subst, ◌∙◌, arith}
-use Rattle.std.specs.Prelude.{Some}
-use Rattle.std.specs.FinMap.{get}
+use Rattle.std.proofs.Common.{arith, ap, sym, ◌∙◌, subst, List, ℕ}
 use Rattle.cq_space.specs.declared.entries.State.TheVariants as state
-use Rattle.cq_space.specs.MemSpace.{MemSpace}
-use Rattle.cq_space.specs.Entries.{columns_of, mode_of, IsEntryOf}
-use Rattle.cq_space.specs.Space.{BeginsReading}
 use Rattle.cq_space.proofs.Columns.{finds, finds_none}
 use Rattle.cq_space.proofs.InMemory.{begins, told_nothing, told_none}
 use Rattle.cq_space.proofs.mem_files.MemFilesFiles.start_read.Goals as goal
+use Rattle.std.specs.FinMap.{get}
+use Rattle.cq_space.specs.MemSpace.{MemSpace}
+use Rattle.std.specs.Prelude.{Some}
+use Rattle.cq_space.specs.Entries.{columns_of, mode_of, IsEntryOf}
+use Rattle.cq_space.specs.Space.{BeginsReading}
 
 pub invariant_of-self-then-is_some : goal.invariant_of-self-then-is_some
 invariant_of-self-then-is_some c =

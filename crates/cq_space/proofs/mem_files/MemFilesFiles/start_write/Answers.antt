@@ -10,13 +10,11 @@ use Rattle.cq_space.proofs.mem_files.MemFilesFiles.start_write.Goals as goal
 pub returns-in-Ok-clause-ok : goal.returns-in-Ok-clause-ok
 returns-in-Ok-clause-ok c =
     let mid = c.place_of.new.entries in
-    let changed =
-    written_back mid c.deref_mut.result.now c.put_bytes.new.entries
+    let changed = written_back mid c.deref_mut.result.now c.put_bytes.new.entries
     (λ (k : Columns). with_bytes k c.in-Ok.at c.new.result.items) c.deref_mut.ensures.value
     c.put_bytes.auto.entries c.put_bytes.ensures in
-    let told =
-    gives_bytes (columns_of c.self.inside.entries.items) (columns_of mid.items) _ c.in-Ok.at c.args.name.now
-    c.new.result.items c.in-Ok.ensures.same (are_even mid.items) c.in-Ok.ensures.ok changed in
+    let told = gives_bytes (columns_of c.self.inside.entries.items) (columns_of mid.items) _ c.in-Ok.at
+    c.args.name.now c.new.result.items c.in-Ok.ensures.same (are_even mid.items) c.in-Ok.ensures.ok changed in
     record {
       mode = search rules;
       told =

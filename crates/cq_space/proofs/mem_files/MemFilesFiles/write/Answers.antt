@@ -10,10 +10,9 @@ pub returns-in-Ok-clause-ok : goal.returns-in-Ok-clause-ok
 returns-in-Ok-clause-ok c =
     let old = c.self.inside.entries in
     let now = stands c.in-Writes.is c.self.view_is c.self.invariant in
-    let changed =
-    written_back old c.deref_mut.result.now c.append.new.entries (λ (k : Columns). with_bytes k c.in-Writes.at
-    (bytes_at k c.in-Writes.at ++ take c.in-Some.count c.args.bytes.now)) c.deref_mut.ensures.value
-    c.append.auto.entries c.in-Ok.ensures.ok in
+    let changed = written_back old c.deref_mut.result.now c.append.new.entries (λ (k : Columns).
+    with_bytes k c.in-Writes.at (bytes_at k c.in-Writes.at ++ take c.in-Some.count c.args.bytes.now))
+    c.deref_mut.ensures.value c.append.auto.entries c.in-Ok.ensures.ok in
     appends _ c.self.inside.state c.in-Some.count c.index-entry.result.now c.args.bytes.now now c.in-Writes.is
     c.index-entry.ensures (c.in-Some.ensures.progress (c.within.ensures.some c.requires.some))
     (let b = c.in-Some.ensures.bound in let w = c.within.ensures.bound in omega arith) changed
@@ -29,17 +28,16 @@ returns-in-Ok-clause-moved c =
     )
 
 pub returns-in-None-clause-answered : goal.returns-in-None-clause-answered
-returns-in-None-clause-answered c = record {
-  cause = search rules;
-  why =
-      inr (inl (record {
-        cut =
-            of_write IsReached c.index-entry.result.now c.held.result.now
+returns-in-None-clause-answered c =
+    record {
+      cause = search rules;
+      why = inr (inl (record {
+        cut = of_write IsReached c.index-entry.result.now c.held.result.now
             (stands c.in-Writes.is c.self.view_is c.self.invariant) c.index-entry.ensures c.held.ensures
             c.in-None.ensures.reached;
         starved = ap starved_of c.fault-in-None.ensures.closed ∙ ap starved_of c.self.view_is;
       }));
-  passed = tt;
-  counted = search rules;
-  kept = search rules;
-}
+      passed = tt;
+      counted = search rules;
+      kept = search rules;
+    }
