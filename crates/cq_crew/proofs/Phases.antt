@@ -1,6 +1,7 @@
 -- What closing a ledger says of the phase, and what a core says that has settled.
-use Rattle.std.proofs.Common.{◌≡◌, ◌*◌, ◌≤◌, ◌∙◌, ap, arith, subst}
-use Rattle.cq_prefs.specs.Orders.{Orders, AreOffers, ports}
+use Rattle.std.proofs.lemmas.Grind.{common_steps}
+use Rattle.std.proofs.Common.{◌≡◌, arith}
+use Rattle.cq_prefs.specs.Orders.{Orders, AreOffers}
 use Rattle.cq_prefs.specs.Pairing.{IsInputBest, proposals}
 use Rattle.cq_prefs.specs.declared.outcome.Phase.{Phase}
 use Rattle.cq_ledger.specs.Plays.{IsFew}
@@ -13,15 +14,7 @@ pub best-closed : (o : Orders) (l : LedgerState) (s : SeatState) (phase : Phase)
     IsFew s.view → IsInputBest l.offers phase.matching → phase.proposals ≡ proposals l.offers phase.matching →
     phase.proposals ≡ s.view.made →
     IsBestPhase o phase
-best-closed o l s phase same of few is_best counted made =
-    let P : Orders → Type 0 = λ x. s.view.made ≤ ports x * ports x in
-    let Q : Orders → Type 0 = λ x. IsInputBest x phase.matching in
-    let most : s.view.made ≤ ports o * ports o = subst P (of.offers ∙ same) few in
-    record {
-      best = subst Q same is_best;
-      count = counted ∙ ap (λ (x : Orders). proposals x phase.matching) same;
-      few = omega arith;
-    }
+best-closed o l s phase same of few is_best counted made = grind (arith, common_steps)
 
 pub best-kept : (o : Orders) → AreOffers o → (c : Progress) → IsReached o c → IsInputBest o c.matching →
     c.made ≡ proposals o c.matching → IsBestAfter o c.made c.matching

@@ -1,14 +1,15 @@
 -- What claims, proposals and joins do to what a seat has claimed and seen: nothing of it is ever lost.
-use Rattle.std.proofs.Common.{ℕ, ◌≡◌, ◌≢◌, ◌⊎◌, inl, inr, ◌+◌, ◌-◌, ◌*◌, ◌<◌, ◌≤◌, ◌^◌, Option, Some, None, refl, sym, ◌∙◌, ap, arith, subst}
+use Rattle.std.proofs.lemmas.Grind.{common_steps}
+use Rattle.std.proofs.Common.{rules, ℕ, ◌≡◌, ◌≢◌, ◌⊎◌, inl, inr, ◌+◌, ◌-◌, ◌*◌, ◌<◌, ◌≤◌, ◌^◌, Option, Some, None, refl, sym, ◌∙◌, ap, arith, subst}
 use Rattle.std.specs.Prelude.{IsSome, option_map}
 use Rattle.std.proofs.lemmas.Bool.{cases_lt, cases_eq}
-use Rattle.cq_prefs.specs.Orders.{Orders, ports}
+use Rattle.cq_prefs.specs.Orders.{ports}
 use Rattle.cq_prefs.specs.declared.outcome.Outcome.{Outcome}
 use Rattle.cq_ledger.specs.declared.view.View.{View}
 use Rattle.cq_ledger.specs.Plays.{IsFew}
 use Rattle.cq_ledger.specs.Seats.{LedgerState, SeatState, IsSeatOf, IsProposed}
 use Rattle.cq_ledger.specs.Steps.{claim_refused, claim_taken, first_tried, joined}
-use Rattle.cq_ledger.specs.Views.{bit, HasClaimed}
+use Rattle.cq_ledger.specs.Views.{HasClaimed}
 use Rattle.cq_ledger.proofs.Views.{bit-or_same, bit-left}
 use Rattle.cq_crew.specs.Work.{HasTried, HaveTried, ProposesFor, Grows, IsIdleAfter, HasWorked}
 
@@ -18,20 +19,10 @@ pub grows-same : (v : View) → Grows v v
 grows-same v = record { claims = λ i h. h; seen = λ i h. h; made = omega arith }
 
 pub grows-after : (u v w : View) → Grows u v → Grows v w → Grows u w
-grows-after u v w a b =
-    record {
-      claims = λ i h. b.claims i (a.claims i h);
-      seen = λ i h. b.seen i (a.seen i h);
-      made = omega arith;
-    }
+grows-after u v w a b = grind (arith, common_steps, b.claims, a.claims, b.seen, a.seen)
 
 pub grows-proposing : (v w : View) → ProposesFor v w → Grows v w
-grows-proposing v w p =
-    record {
-      claims = λ i h. ap (λ (n : ℕ). bit n i) p.claims ∙ h;
-      seen = λ i h. ap (λ (n : ℕ). bit n i) p.seen ∙ h;
-      made = p.made;
-    }
+grows-proposing v w p = grind (arith, common_steps)
 
 pub grows-taken : (v : View) (i : ℕ) → Grows v (claim_taken v i)
 grows-taken v i = record { claims = λ q h. bit-left v.claims (2 ^ i) q h; seen = λ q h. h; made = omega arith }
@@ -40,12 +31,7 @@ pub grows-refused : (v : View) (i : ℕ) → Grows v (claim_refused v i)
 grows-refused v i = record { claims = λ q h. h; seen = λ q h. bit-left v.seen (2 ^ i) q h; made = omega arith }
 
 pub grows-joined : (v w : View) → Grows v (joined v w)
-grows-joined v w =
-    record {
-      claims = λ q h. bit-left v.claims w.claims q h;
-      seen = λ q h. bit-left v.seen w.seen q h;
-      made = omega arith;
-    }
+grows-joined v w = grind (arith, common_steps, bit-left)
 
 -- ## What was tried
 
@@ -97,28 +83,15 @@ idle-taken l v u s i is of empty proposes =
 -- a claim that found it claimed
 pub idle-refused : (l : LedgerState) (v : View) (s : SeatState) (i : ℕ) → v.hand ≡ None → s.view ≡ claim_refused v i →
     IsSeatOf l s → IsIdleAfter l v s × HasTried s.view i
-idle-refused l v s i empty is of =
-    let P : View → Type 0 = λ x. Grows v x in
-    let Q : View → Type 0 = λ x. HasTried x i in (
-      record { seat = of; hand = ap (λ (x : View). x.hand) is ∙ empty; grows = subst P (sym is) (grows-refused v i) },
-      subst Q (sym is) (inr (bit-or_same v.seen i)),
-    )
+idle-refused l v s i empty is of = grind (arith, common_steps, grows-refused v i, bit-or_same v.seen i)
 
 -- a join of another seat
 pub idle-joined : (l : LedgerState) (v w : View) (s t : SeatState) → IsIdleAfter l v s → IsSeatOf l t →
     t.view ≡ joined s.view w → IsIdleAfter l v t
-idle-joined l v w s t a of is =
-    let P : View → Type 0 = λ x. Grows s.view x in
-    record {
-      seat = of;
-      hand = ap (λ (x : View). x.hand) is;
-      grows = grows-after v s.view t.view a.grows (subst P (sym is) (grows-joined s.view w));
-    }
+idle-joined l v w s t a of is = search (arith, rules, grows-after v s.view t.view a.grows, grows-joined s.view w)
 
 pub tried-joined : (v w x : View) (n : ℕ) → x ≡ joined v w → HaveTried v 0 n → HaveTried x 0 n
-tried-joined v w x n is tried i low high =
-    let P : View → Type 0 = λ y. HasTried y i in
-    subst P (sym is) (tried-grown v (joined v w) (grows-joined v w) i (tried i low high))
+tried-joined v w x n is tried i low high = search (arith, rules, tried-grown v (joined v w), grows-joined v w)
 
 -- ## The worker's own number
 
@@ -135,17 +108,11 @@ begun-first v worker is = ap (λ (o : Option ℕ). first_tried o worker) is
 -- both halves of the inputs
 pub worked : (l : LedgerState) (u : View) (s t : SeatState) (k n : ℕ) → n ≡ ports l.offers → IsIdleAfter l u s →
     HaveTried s.view k n → IsIdleAfter l s.view t → HaveTried t.view 0 k → HasWorked l u t
-worked l u s t k n is a above b below =
-    let P : ℕ → Type 0 = λ m. HaveTried t.view 0 m in
-    record { idle = idle-after l u s t a b; tried = subst P is (tried-around s.view t.view k n b.grows above below) }
+worked l u s t k n is a above b below = grind (arith, common_steps, idle-after, tried-around)
 
 pub worked-joined : (l : LedgerState) (v w : View) (s t : SeatState) → HasWorked l v s → IsSeatOf l t →
     t.view ≡ joined s.view w → HasWorked l v t
-worked-joined l v w s t a of is =
-    record {
-      idle = idle-joined l v w s t a.idle of is;
-      tried = tried-joined s.view w t.view (ports l.offers) is a.tried;
-    }
+worked-joined l v w s t a of is = search (rules, idle-joined, tried-joined)
 
 -- one claimed input more
 pub claimed-next : (v : View) (n : ℕ) → ((i : ℕ) → i < n → HasClaimed v i) → HasClaimed v n → (i : ℕ) → i < n + 1 →
@@ -169,10 +136,7 @@ pub hand-told : (hand : Option (ℕ × ℕ)) (shown : Option ℕ) (input : ℕ) 
     shown ≡ option_map (λ (h : ℕ × ℕ). h.0) hand
     → shown ≡ Some input → option_map {U = ℕ × Outcome} (λ (h : ℕ × ℕ). (h.0, answer)) hand ≡ Some (input, answer)
 hand-told None shown input answer e f = absurd (let g : None ≡ Some input = sym e ∙ f in let P : ⊥ = cc in P)
-hand-told (Some h) shown input answer e f =
-    let is : Some h.0 ≡ Some input = sym e ∙ f in
-    let same : h.0 ≡ input = cc is in
-    ap (λ (i : ℕ). let o : Option (ℕ × Outcome) = Some (i, answer) in o) same
+hand-told (Some h) shown input answer e f = grind (arith, common_steps)
 
 pub proposes-same : (v : View) → ProposesFor v v
 proposes-same v = record { claims = refl; seen = refl; began = refl; made = omega arith }
@@ -199,6 +163,4 @@ less_left most a b e h = omega arith
 
 pub proposals-left : (l : LedgerState) (s t : SeatState) → IsSeatOf l t → t.view.made ≡ s.view.made + 1 →
     IsFew t.view → ports l.offers * ports l.offers - t.view.made < ports l.offers * ports l.offers - s.view.made
-proposals-left l s t of made few =
-    let P : Orders → Type 0 = λ o. t.view.made ≤ ports o * ports o in
-    less_left (ports l.offers * ports l.offers) s.view.made t.view.made made (subst P of.offers few)
+proposals-left l s t of made few = grind (arith, common_steps, less_left)

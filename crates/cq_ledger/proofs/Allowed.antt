@@ -1,5 +1,6 @@
 -- The rule allows each kind of step, and what each tells its seat is so.
-use Rattle.std.proofs.Common.{ℕ, suc, ◌≡◌, ◌≢◌, ◌⊎◌, inl, inr, ◌*◌, ◌<◌, ◌≤◌, ◌^◌, min, List, get_or, set, Some, None, refl, sym, ◌∙◌, ap, arith, subst, bit_or}
+use Rattle.std.proofs.Common.{rules, ℕ, suc, ◌≡◌, ◌≢◌, ◌⊎◌, inl, inr, ◌*◌, ◌<◌, ◌≤◌, ◌^◌, min, List, get_or, set, Some, None, refl, sym, ◌∙◌, ap, arith, subst, bit_or}
+use Rattle.std.proofs.lemmas.Grind.{common_steps}
 use mathlib.Core.Option.{none}
 use Rattle.std.proofs.lemmas.Bool.{cases_eq}
 use Rattle.std.proofs.lemmas.List.{set-get_or}
@@ -26,19 +27,15 @@ use Rattle.cq_ledger.proofs.Views.{at_known, bit-lt, or_set, one_power}
 pub made-most : (o : Orders) (words : List ℕ) (views : List View) (k : IsLedger o words views) (id : ℕ) (v : View) →
     Sits views id v → v.made ≤ ports o * ports o
 made-most o words views k id v at =
-    let a = at_known views id v v at in
-    let b = get_or-le-sum_by (λ (y : View). y.made) views id v a.0 in
-    let c : (get_or views id v).made ≡ v.made = ap (λ y. y.made) a.1 in
-    let e = events_at_most o k.offers k.events k.are_events in omega arith
+    search (arith, rules, at_known views id v v at, get_or-le-sum_by, events_at_most o k.offers k.events k.are_events)
 
 pub proposal-keeps : (o : Orders) (words : List ℕ) (views : List View) (k : IsLedger o words views) (id i p : ℕ)
     (v : View) → Sits views id v → v.hand ≡ Some (i, p) → v.offers ≡ o →
     IsLedger o (words_proposed o words i p) (set views id (proposed v i p (get_or words (suc (output_at o i p)) 0)))
 proposal-keeps o words views k id i p v at h e =
     let here : next_place (state_after o k.events) i ≡ p = k.hands.place id i p v at h in
-    let P : ℕ → Type 0 =
-    λ n. IsLedger o (words_proposed o words i n) (set views id (proposed v i n
-    (get_or words (suc (output_at o i n)) 0))) in
+    let P : ℕ → Type 0 = λ n. IsLedger o (words_proposed o words i n)
+    (set views id (proposed v i n (get_or words (suc (output_at o i n)) 0))) in
     subst P here (propose-keeps o words views k id i v at (h ∙ ap (λ n. Some (i, n)) (sym here)) e)
 
 pub proposal-allowed : (o : Orders) (slots id i p : ℕ) (me : Seated) → me.0.hand ≡ Some (i, p) → me.0.offers ≡ o →
@@ -49,13 +46,12 @@ proposal-allowed o slots id i p me h e s k size at bound =
     let k' = proposal-keeps o s.words s.views k id i p me.0 at h e in
     let w = sound-after o k.offers k.events k.are_events in
     let here : next_place (state_after o k.events) i ≡ p = k.hands.place id i p me.0 at h in
-    let offered : IsOffered o i (output_at o i p) =
-    (let P : ℕ → Type 0 = λ n. IsOffered o i (output_at o i n) in
-    subst P here (next_output-offered o k.offers (state_after o k.events) i
-    (k.hands.free id i p me.0 at h).left)) in
+    let offered : IsOffered o i (output_at o i p) = (let P : ℕ → Type 0 = λ n. IsOffered o i (output_at o i n) in
+    subst P here
+    (next_output-offered o k.offers (state_after o k.events) i (k.hands.free id i p me.0 at h).left)) in
     let r = output_in_range o k.offers i (output_at o i p) offered in
-    let few : (proposed me.0 i p found).made ≤ ports o * ports o =
-    made-most o _ _ k' id (proposed me.0 i p found) (set_here s.views id _ (at_known s.views id me.0 me.0 at).0) in
+    let few : (proposed me.0 i p found).made ≤ ports o * ports o = made-most o _ _ k' id (proposed me.0 i p found)
+    (set_here s.views id _ (at_known s.views id me.0 me.0 at).0) in
     let word : IsWord o (output_at o i p) found =
     subst (IsWord o (output_at o i p)) (sym (k.positions (output_at o i p) r)) (w.held_in (output_at o i p) r) in
     let apart : found ≢ position_of o (output_at o i p) i =
@@ -70,8 +66,7 @@ proposal-allowed o slots id i p me h e s k size at bound =
       keeps,
       tt,
       k',
-      λ i' p' h'. let same : (i, p) ≡ (i', p') = cc (sym h ∙ h') in
-          subst T same told,
+      λ i' p' h'. let same : (i, p) ≡ (i', p') = cc (sym h ∙ h') in subst T same told,
     )
 
 -- the same at an output, a position and a word that were computed
@@ -84,13 +79,12 @@ proposal-allowed-at key offers same slots id i p me h e n q j is_output is_posit
     λ k. Allows (Ruled k) slots id me n (λ x. min x q) (proposal (step slots n q 0 none) me) in
     let W : ℕ → Type 0 =
     λ m. Allows (Ruled offers) slots id me m (λ x. min x q) (proposal (step slots m q 0 none) me) in
-    let Q : ℕ → Type 0 =
-    λ m. Allows (Ruled offers) slots id me (suc (output_at offers i p)) (λ x. min x m)
+    let Q : ℕ → Type 0 = λ m. Allows (Ruled offers) slots id me (suc (output_at offers i p)) (λ x. min x m)
     (proposal (step slots (suc (output_at offers i p)) m 0 none) me) in
     let q_is : q ≡ position_of offers (output_at offers i p) i =
     is_position ∙ ap (λ m. position_of offers m i) is_output in
-    subst K (sym same) (subst W (sym (is_word ∙ ap suc is_output)) (subst Q (sym q_is)
-    (proposal-allowed offers slots id i p me h e)))
+    subst K (sym same)
+    (subst W (sym (is_word ∙ ap suc is_output)) (subst Q (sym q_is) (proposal-allowed offers slots id i p me h e)))
 
 module _ (o : Orders) (slots id i : ℕ) (me : Seated) (r : i < ports o) (empty : me.0.hand ≡ None)
     (same_offers : me.0.offers ≡ o)
@@ -103,29 +97,10 @@ module _ (o : Orders) (slots id i : ℕ) (me : Seated) (r : i < ports o) (empty 
   May v = IsLedger o (words_claimed s.words i) (set s.views id v) × IsClaim me i found (v, me.1)
 
   may_take : bit found i ≡ 0 → May (claim_taken me.0 i)
-  may_take clear = (
-    claim-keeps o s.words s.views k id i me.0 at r clear empty same_offers,
-    record {
-      taken = λ h. refl;
-      refused = λ h. absurd (omega arith);
-      claimed = λ h. k.claims.claimed id i me.0 at h;
-      seen = λ h. k.claims.seen id i me.0 at h;
-    },
-  )
+  may_take clear = grind (arith, common_steps, claim-keeps)
 
   may_not : bit found i ≡ 1 → May (claim_refused me.0 i)
-  may_not is_set =
-      let same : words_claimed s.words i ≡ s.words =
-      ap (λ m. set s.words 0 m) (or_set found i is_set) ∙ set-get_or s.words 0 0 in
-      let P : List ℕ → Type 0 = λ l. IsLedger o l (set s.views id (claim_refused me.0 i)) in (
-        subst P (sym same) (refuse-keeps o s.words s.views k id i me.0 at is_set),
-        record {
-          taken = λ h. absurd (omega arith);
-          refused = λ h. refl;
-          claimed = λ h. is_set;
-          seen = λ h. is_set;
-        },
-      )
+  may_not is_set = grind (arith, common_steps, or_set, set-get_or, refuse-keeps)
 
   -- by the bit that is found
   pub claim-may : (v : View) × May v
@@ -147,9 +122,7 @@ split-allowed o id v s k at = split-keeps o s.words s.views k id v at
 
 pub join-allowed : (o : Orders) (id : ℕ) (v : View) (gone : ℕ) (w : View) → v.hand ≡ None → w.hand ≡ None →
     Joins (Ruled o) id v gone w (joined v w) spent
-join-allowed o id v gone w empty empty_gone s k at apart at_gone =
-    join-keeps o s.words s.views k id v at gone w apart (sym (set_else s.views id gone (joined v w) apart) ∙ at_gone)
-    empty empty_gone
+join-allowed o id v gone w empty empty_gone s k at apart at_gone = grind (arith, common_steps, join-keeps, set_else)
 
 pub claim-allowed-at : (key offers : Orders) → key ≡ offers → (slots id i : ℕ) (me : Seated) → i < ports offers →
     me.0.hand ≡ None → me.0.offers ≡ offers → (m : ℕ) → m ≡ 2 ^ i →
@@ -164,14 +137,10 @@ claim-allowed-at key offers same slots id i me r empty e m is =
 -- a look changes nothing
 pub look-allowed : (key offers : Orders) → key ≡ offers → (slots id : ℕ) (me : Seated) → me.0.offers ≡ offers →
     Allows (Ruled key) slots id me 0 (λ n. n) (look (step slots 0 0 0 none) me)
-look-allowed key offers same slots id me e s k size at bound =
-    let P : List View → Type 0 = λ l. IsLedger key s.words l in
-    let Q : List ℕ → Type 0 = λ l. IsLedger key l (set s.views id me.0) in
-    let most : me.0.made ≤ ports key * ports key = made-most key s.words s.views k id me.0 at in
-    let O : Orders → Type 0 = λ o. me.0.made ≤ ports o * ports o in (
-      me.0,
-      keeps,
-      tt,
-      subst Q (sym (set-get_or s.words 0 0)) (subst P (sym (set_again s.views id me.0 at)) k),
-      record { same = refl; few = subst O (same ∙ sym e) most },
-    )
+look-allowed key offers same slots id me e s k size at bound = grind (
+  arith,
+  common_steps,
+  made-most key s.words s.views k id me.0 at,
+  set-get_or s.words 0 0,
+  set_again s.views id me.0 at,
+)

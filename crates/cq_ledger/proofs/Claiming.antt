@@ -50,8 +50,7 @@ module _ (o : Orders) (words : List ℕ) (views : List View) (k : IsLedger o wor
   not_i q h e =
       let P : ℕ → Type 0 = λ n. bit (claim_word words) n ≡ 1 in
       let a : bit (claim_word words) i ≡ 1 = subst P e h in
-      let b = clear in
-      absurd (omega arith)
+      let b = clear in absurd (omega arith)
 
   pub still_set : (q : ℕ) → bit (claim_word words) q ≡ 1 → bit (claim_word words_now) q ≡ 1
   still_set q h = others q (not_i q h) ∙ h
@@ -125,8 +124,7 @@ module _ (o : Orders) (words : List ℕ) (views : List View) (k : IsLedger o wor
       by_one_now : (q : ℕ) → bit (claim_word words_now) q ≡ 1 → (q ≡ i) ⊎ (q ≢ i) →
           (a : ℕ) × (u : View) × Sits views_now a u × (bit u.claims q ≡ 1)
       by_one_now q h (inl e) = (id, view_now, here, rw e (bit-or_same v.claims i))
-      by_one_now q h (inr n) =
-          by_one_still views id v view_now at_id q (λ has. bit-or_other v.claims i q n ∙ has)
+      by_one_now q h (inr n) = by_one_still views id v view_now at_id q (λ has. bit-or_other v.claims i q n ∙ has)
           (k.claims.by_one q (sym (others q n) ∙ h))
 
       apart_now : (b c q : ℕ) → ((b ≡ id) × (q ≡ i)) ⊎ ((x : View) × Sits views b x × (bit x.claims q ≡ 1)) →
@@ -159,12 +157,10 @@ module _ (o : Orders) (words : List ℕ) (views : List View) (k : IsLedger o wor
           b ≡ c
       hands_now b c q p m x y (inl f) (inl g) hx hy = f.0 ∙ sym g.0
       hands_now b c q p m x y (inr f) (inr g) hx hy = k.hands.apart b c q p m x y f.1 g.1 hx hy
-      hands_now b c q p m x y (inl f) (inr g) hx hy =
-          absurd (not_i q (k.hands.claimed c q m y g.1 hy) (sym (hand_at-shows o i 0 q p
-          (sym hand_is ∙ ap (λ z. z.hand) f.1 ∙ hx)).0))
-      hands_now b c q p m x y (inr f) (inl g) hx hy =
-          absurd (not_i q (k.hands.claimed b q p x f.1 hx) (sym (hand_at-shows o i 0 q m
-          (sym hand_is ∙ ap (λ z. z.hand) g.1 ∙ hy)).0))
+      hands_now b c q p m x y (inl f) (inr g) hx hy = absurd (not_i q (k.hands.claimed c q m y g.1 hy)
+          (sym (hand_at-shows o i 0 q p (sym hand_is ∙ ap (λ z. z.hand) f.1 ∙ hx)).0))
+      hands_now b c q p m x y (inr f) (inl g) hx hy = absurd (not_i q (k.hands.claimed b q p x f.1 hx)
+          (sym (hand_at-shows o i 0 q m (sym hand_is ∙ ap (λ z. z.hand) g.1 ∙ hy)).0))
 
       undropped_now : (q : ℕ) → IsFree o s q → Waits words views q → Waits words_now views_now q
       undropped_now q g (inl z) = at (cases_eq q i)

@@ -1,6 +1,6 @@
 -- A seat that has claimed every port and has nobody in its hand knows the whole phase: no other seat has a claim, so
 -- none has made a proposal or has an input in its hand. Nobody is dropped, so nobody is free.
-use Rattle.std.proofs.Common.{ℕ, zero, suc, ◌≡◌, ◌≢◌, ◌⊎◌, inl, inr, ◌<◌, List, [], ◌∷◌, length, Some, None, refl, sym, ◌∙◌, ap, arith, subst}
+use Rattle.std.proofs.Common.{rules, ℕ, zero, suc, ◌≡◌, ◌≢◌, ◌⊎◌, inl, inr, ◌<◌, List, [], ◌∷◌, length, Some, None, refl, sym, ◌∙◌, ap, arith, subst}
 use mathlib.Core.Option.{some-injective, some-ne-none}
 use Rattle.std.specs.List.{sum_by}
 use Rattle.std.proofs.lemmas.Bool.{cases_eq}
@@ -43,9 +43,8 @@ module _ (o : Orders) (words : List ℕ) (views : List View) (k : IsLedger o wor
     (at_id : Sits views id v)
     (all : (i : ℕ) → i < ports o → bit v.claims i ≡ 1) (empty : v.hand ≡ None) where
   others_idle : (a : ℕ) (u : View) → a ≢ id → Sits views a u → (u.hand ≡ None) × (u.made ≡ 0)
-  others_idle a u n at =
-      k.idle a u at (no_bits u.claims (λ q h. n (k.claims.apart a id q u v at at_id h
-      (all q (k.claims.in_range q (k.claims.claimed a q u at h))))))
+  others_idle a u n at = k.idle a u at (no_bits u.claims (λ q h.
+      n (k.claims.apart a id q u v at at_id h (all q (k.claims.in_range q (k.claims.claimed a q u at h))))))
 
   pub closing-quiet : IsQuiescent o (state_after o k.events)
   closing-quiet i f = go (k.hands.undropped i f)
@@ -70,21 +69,12 @@ module _ (o : Orders) (words : List ℕ) (views : List View) (k : IsLedger o wor
   -- what the words show is the one matching that is best for the inputs, and the seat made its proposals
   pub closing-best : IsInputBest o (matching_of o (state_after o k.events))
       × (v.made ≡ proposals o (matching_of o (state_after o k.events)))
-  closing-best = (
-    input_best-quiet o k.offers k.events k.are_events closing-quiet,
-    closing-made ∙ events-quiet o k.offers k.events k.are_events closing-quiet,
-  )
+  closing-best = search (rules, input_best-quiet, closing-quiet, closing-made, events-quiet)
 
 -- the last words show a state that proposals reach
 pub closing-shown : (key offers : Orders) → key ≡ offers → (words items : List ℕ) (views : List View) →
     IsLedger key words views → words ≡ items → (s : State) × IsSound offers s × Shows offers items s
-closing-shown key offers same words items views k is =
-    let K : Orders → List ℕ → Type 0 = λ o l. (s : State) × IsSound o s × Shows o l s in
-    let at_words : K key words =
-    (state_after key k.events, sound-after key k.offers k.events k.are_events, k.positions) in
-    let O : Orders → Type 0 = λ o. K o words in
-    let I : List ℕ → Type 0 = λ l. K offers l in
-    subst I is (subst O same at_words)
+closing-shown key offers same words items views k is = search (rules, sound-after)
 
 -- so the matching that is read off them is the one
 pub closing-phase : (key offers : Orders) → key ≡ offers → (words items : List ℕ) (views : List View) →

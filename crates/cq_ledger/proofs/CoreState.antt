@@ -1,6 +1,5 @@
 -- The state of the proposal core that words and views show is the one that the proposals of the rule reach.
-use Rattle.std.proofs.Common.{ℕ, suc, ◌≡◌, ◌≢◌, ◌⊎◌, inl, inr, ◌+◌, ◌<◌, ◌≤◌, List, [], length, get_or, drop, Option, Some, None, refl, sym, ◌∙◌, ap, arith}
-use lib.Seq.{get_or-drop}
+use Rattle.std.proofs.Common.{rules, ℕ, ◌≡◌, ◌≢◌, ◌⊎◌, inl, inr, ◌<◌, ◌≤◌, List, [], length, drop, Option, Some, None, refl, sym, ◌∙◌, ap, arith}
 use Rattle.std.specs.Prelude.{map}
 use Rattle.std.specs.List.{range_with_len}
 use Rattle.std.proofs.lemmas.Bool.{cases_eq, cases_lt, eq-eqb, ne_eqb}
@@ -25,15 +24,9 @@ module _ (o : Orders) (words : List ℕ) (views : List View) (k : IsLedger o wor
   w = sound-after o k.offers k.events k.are_events
 
   positions-are : drop 1 words ≡ s.positions
-  positions-are =
-      ext_get_or 0 (drop 1 words) s.positions (let a = length-drop 1 words in
-      let b = k.size in
-      let c = w.outputs in
-      omega arith)
-      (λ j l.
-      get_or-drop 1 words j 0
-      ∙ ap (λ n. get_or words n 0) (let e : 1 + j ≡ suc j = omega arith in e)
-      ∙ k.positions j (let a = length-drop 1 words in let b = k.size in omega arith))
+  positions-are = ext_get_or 0 (drop 1 words) s.positions
+      (let a = length-drop 1 words in let b = k.size in let c = w.outputs in omega arith) (λ j l.
+      search (arith, rules, length-drop))
 
   output-is : (i : ℕ) → output_of o words i ≡ keeper o s i
   unfolding keeper
@@ -78,13 +71,9 @@ module _ (o : Orders) (words : List ℕ) (views : List View) (k : IsLedger o wor
       go None e None f = by_claim e f (cases_eq (bit (claim_word words) i) 0)
 
   places-are : map (next_shown o words views) (range_with_len 0 (ports o)) ≡ s.places
-  places-are =
-      ext_get_or 0 (map (next_shown o words views) (range_with_len 0 (ports o))) s.places
+  places-are = ext_get_or 0 (map (next_shown o words views) (range_with_len 0 (ports o))) s.places
       (let a = length-map-range_with_len (next_shown o words views) 0 (ports o) in let b = w.inputs in omega arith)
-      (λ i l.
-      get_or-map-range_with_len (next_shown o words views) 0 (ports o) i i 0
-      (let a = length-map-range_with_len (next_shown o words views) 0 (ports o) in omega arith) (omega arith)
-      ∙ next-is i)
+      (λ i l. search (arith, rules, get_or-map-range_with_len, length-map-range_with_len, next-is))
 
   pub core_state-is : core_state o words views ≡ s
   unfolding core_state

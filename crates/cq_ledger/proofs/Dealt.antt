@@ -1,5 +1,6 @@
 -- A view in another one's place, and the rule where the words stay and the views alone change.
-use Rattle.std.proofs.Common.{ℕ, ◌≡◌, ◌≢◌, ◌⊎◌, inl, inr, ◌+◌, ◌<◌, List, length, get_or, set, None, sym, ◌∙◌, ap, arith, subst}
+use Rattle.std.proofs.lemmas.Grind.{common_steps}
+use Rattle.std.proofs.Common.{ℕ, ◌≡◌, ◌≢◌, ◌⊎◌, inl, inr, ◌+◌, ◌<◌, List, length, set, None, sym, ◌∙◌, arith, subst}
 use Rattle.std.specs.List.{sum_by}
 use Rattle.std.proofs.lemmas.Bool.{cases_eq}
 use Rattle.std.proofs.lemmas.List.Sums.{sum_by-set}
@@ -38,10 +39,7 @@ module _ (views : List View) (id : ℕ) (v now : View) (at_id : Sits views id v)
 
   pub made_with : sum_by (λ (y : View). y.made) (set views id now) + v.made
       ≡ sum_by (λ (y : View). y.made) views + now.made
-  made_with =
-      let a = sum_by-set (λ (y : View). y.made) views id now v id_in in
-      let b : (get_or views id v).made ≡ v.made = ap (λ (y : View). y.made) (at_known views id v v at_id).1 in
-      omega arith
+  made_with = grind (arith, common_steps, sum_by-set, id_in, at_known views id v v at_id)
 
 -- no event: what the views have claimed, seen, made and in their hands is dealt out anew
 unfoldable pub dealt : (o : Orders) (words : List ℕ) (views now : List View) (k : IsLedger o words views) →

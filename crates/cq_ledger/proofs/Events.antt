@@ -50,12 +50,10 @@ module _ (o : Orders) (words : List ℕ) (views : List View) (k : IsLedger o wor
     unfolding propose-keeps
     proposal-shows =
         let k' = propose-keeps o words views k id i v at (hand ∙ ap (λ n. Some (i, n)) (sym here)) same_offers in
-        let P : ℕ → Type 0 =
-        λ n. core_state o (words_proposed o words i n) (set views id
-        (proposed v i n (get_or words (suc (output_at o i n)) 0))) ≡ propose o s i in
+        let P : ℕ → Type 0 = λ n. core_state o (words_proposed o words i n)
+        (set views id (proposed v i n (get_or words (suc (output_at o i n)) 0))) ≡ propose o s i in
         subst P here (core_state-is o (words_proposed o words i (next_place s i))
-        (set views id (proposed v i (next_place s i) (get_or words (suc (output_at o i (next_place s i))) 0)))
-        k')
+        (set views id (proposed v i (next_place s i) (get_or words (suc (output_at o i (next_place s i))) 0))) k')
         ∙ ap (λ t. propose o t i) (sym is)
 
     outcome-now : answer_of o i (next_place s i) (position_held s (next_output o s i)) ≡ outcome_of o s i
@@ -75,8 +73,7 @@ module _ (o : Orders) (words : List ℕ) (views : List View) (k : IsLedger o wor
     pub taken-shows : i < ports o → IsUnclaimed words i → v.hand ≡ None → v.offers ≡ o →
         core_state o (words_claimed words i) (set views id (claim_taken v i)) ≡ core_state o words views
     unfolding claim-keeps
-    taken-shows r clear empty same_offers =
-        as_before (words_claimed words i) (set views id (claim_taken v i))
+    taken-shows r clear empty same_offers = as_before (words_claimed words i) (set views id (claim_taken v i))
         (claim-keeps o words views k id i v at r clear empty same_offers) refl
 
     -- a claim that finds the input claimed leaves the words as they are
@@ -91,19 +88,16 @@ module _ (o : Orders) (words : List ℕ) (views : List View) (k : IsLedger o wor
     pub refused-shows : IsClaimed words i →
         core_state o (words_claimed words i) (set views id (claim_refused v i)) ≡ core_state o words views
     unfolding refuse-keeps dealt
-    refused-shows claimed =
-        ap (λ l. core_state o l (set views id (claim_refused v i))) (words-same claimed)
+    refused-shows claimed = ap (λ l. core_state o l (set views id (claim_refused v i))) (words-same claimed)
         ∙ as_before words (set views id (claim_refused v i)) (refuse-keeps o words views k id i v at claimed) refl
 
   pub split-shows : core_state o words (set views id v ++ blank v.offers ∷ []) ≡ core_state o words views
   unfolding longer-keeps dealt
-  split-shows =
-      ap (λ l. core_state o words (l ++ blank v.offers ∷ [])) (set_again views id v at)
+  split-shows = ap (λ l. core_state o words (l ++ blank v.offers ∷ [])) (set_again views id v at)
       ∙ as_before words (views ++ blank v.offers ∷ []) (longer-keeps o words views k v.offers) refl
 
   pub join-shows : (other : ℕ) (u : View) → other ≢ id → Sits views other u → v.hand ≡ None → u.hand ≡ None →
       core_state o words (set (set views id (joined v u)) other spent) ≡ core_state o words views
   unfolding join-keeps dealt
-  join-shows other u apart at_other empty empty_other =
-      as_before words (set (set views id (joined v u)) other spent)
+  join-shows other u apart at_other empty empty_other = as_before words (set (set views id (joined v u)) other spent)
       (join-keeps o words views k id v at other u apart at_other empty empty_other) refl

@@ -1,6 +1,7 @@
 -- What one proposal does to the hand that made it, and to the free inputs: who is free after it is in the new hand, or
 -- was free before.
-use Rattle.std.proofs.Common.{ℕ, ◌≡◌, ◌≢◌, ◌⊎◌, inl, inr, ◌+◌, ◌<◌, ◌≤◌, Bool, true, false, cond, length, get_or, Option, Some, None, refl, sym, ◌∙◌, ap, arith, subst, ltb}
+use Rattle.std.proofs.lemmas.Grind.{common_steps}
+use Rattle.std.proofs.Common.{rules, ℕ, ◌≡◌, ◌≢◌, ◌⊎◌, inl, inr, ◌+◌, ◌<◌, ◌≤◌, Bool, true, false, cond, length, get_or, Option, Some, None, refl, sym, ◌∙◌, ap, arith, subst, ltb}
 use Rattle.std.proofs.lemmas.Bool.{cases_lt, cases_eq, ltb-true, lt-ltb, le-ltb, eq-eqb, ne_eqb}
 use Rattle.cq_prefs.specs.Orders.{Orders, AreOffers, ports, outputs_of, inputs_of, place_of, position_of}
 use Rattle.cq_prefs.proofs.Steps.{IsStep, step}
@@ -96,11 +97,7 @@ module _ (o : Orders) (v : AreOffers o) (s : State) (w : IsSound o s) (i : ℕ) 
       let place_now : next_place t k ≡ place_of o k j + 1 = st.others_stay k apart ∙ w.last k j h in (
         record {
           left = omega arith;
-          unheld = unheld_now k
-              (λ q m b.
-              let x = w.last k q b in let y = w.last k j h in
-              let z : place_of o k q ≡ place_of o k j = omega arith in
-              m (same_at_place (outputs_of o k) q j z (v.shown_back k q b.1)))
+          unheld = unheld_now k (λ q m b. search (arith, rules, same_at_place))
               (λ here. apart (same_at_place (inputs_of o j) k i (let a = st.held_asked in omega arith) here.1));
         },
         place_now,
@@ -146,16 +143,7 @@ module _ (o : Orders) (v : AreOffers o) (s : State) (w : IsSound o s) (i : ℕ) 
 
       go : (position_of o j i < position_held s j) ⊎ (position_held s j ≤ position_of o j i) → IsHand k q
       go (inl l) = held l (cases_eq (position_held s j) (ports o))
-      go (inr l) =
-          let h' = sym (hand-rejected o i (next_place s i) (position_held s j) (taken_if l) l) ∙ h in
-          let a = hand_at-shows o i (next_place s i + 1) k q h' in
-          let d = refused_free l a.2 in
-          let P : ℕ → Type 0 = λ n. IsFree o t n in
-          record {
-            free = subst P a.0 d.0;
-            place_is = sym (ap (λ n. next_place t n) a.0) ∙ d.1 ∙ a.1;
-            who = inl (sym a.0);
-          }
+      go (inr l) = search (rules, hand-rejected, taken_if, hand_at-shows, refused_free)
 
   -- who is free now is in the new hand, or was free before
   pub free-before : (k : ℕ) → IsFree o t k →
@@ -225,10 +213,7 @@ module _ (o : Orders) (v : AreOffers o) (s : State) (w : IsSound o s) (i : ℕ) 
 
 -- a hand stands within its input's order
 pub hand_at-placed : (o : Orders) (i p : ℕ) (x : ℕ × ℕ) → hand_at o i p ≡ Some x → x.1 < length (outputs_of o x.0)
-hand_at-placed o i p x h =
-    let a = hand_at-shows o i p x.0 x.1 h in
-    let P : ℕ → Type 0 = λ n. p < length (outputs_of o n) in
-    let b : p < length (outputs_of o x.0) = subst P a.0 a.2 in omega arith
+hand_at-placed o i p x h = grind (arith, common_steps, hand_at-shows o i p x.0 x.1 h)
 
 pub hand_after-placed : (o : Orders) (i p : ℕ) (answer : Outcome) (x : ℕ × ℕ) → hand_after o i p answer ≡ Some x →
     x.1 < length (outputs_of o x.0)

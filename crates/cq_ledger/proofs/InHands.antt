@@ -1,8 +1,8 @@
 -- The place that is found for an input in the hands is that of a hand that has it, and where none is found no hand
 -- does.
-use Rattle.std.proofs.Common.{ℕ, zero, suc, ◌≡◌, List, [], ◌∷◌, Option, Some, None, refl, sym, ◌∙◌, ap}
+use Rattle.std.proofs.lemmas.Grind.{common_steps}
+use Rattle.std.proofs.Common.{arith, ℕ, zero, suc, ◌≡◌, List, [], ◌∷◌, Option, Some, None, refl, sym, ◌∙◌, ap}
 use mathlib.Core.Option.{some-injective, some-ne-none}
-use Rattle.std.specs.Prelude.{◌==◌}
 use Rattle.std.proofs.lemmas.Bool.{cond_both, eqb-true, eq-eqb, true≢false}
 use Rattle.cq_ledger.specs.declared.view.View.{View}
 use Rattle.cq_ledger.specs.Shown.{place_in_hand, first_place, place_in_hands}
@@ -12,16 +12,10 @@ use Rattle.cq_ledger.specs.Views.{Sits, IsInAHand}
 
 in_hand-some : (h : Option (ℕ × ℕ)) (i p : ℕ) → place_in_hand h i ≡ Some p → h ≡ Some (i, p)
 in_hand-some None i p e = absurd (let P : ⊥ = cc in P)
-in_hand-some (Some x) i p e =
-    cond_both (x.0 == i) (Some x.1) None (λ r. r ≡ Some p → Some x ≡ Some (i, p))
-    (λ here r. let a : x.0 ≡ i = eqb-true _ _ here in let b : x.1 ≡ p = cc in ap Some (λ n. (a n, b n)))
-    (λ not_here r. absurd (let P : ⊥ = cc in P)) e
+in_hand-some (Some x) i p e = grind (arith, common_steps, cond_both, eqb-true)
 
 in_hand-has : (i p : ℕ) (h : Option (ℕ × ℕ)) → h ≡ Some (i, p) → place_in_hand h i ≡ Some p
-in_hand-has i p h e =
-    ap (λ x. place_in_hand x i) e
-    ∙ cond_both (i == i) (Some p) None (λ r. r ≡ Some p) (λ _. refl) (λ not_here. absurd
-    (true≢false (sym (eq-eqb i i refl) ∙ not_here)))
+in_hand-has i p h e = grind (arith, common_steps, cond_both, true≢false, eq-eqb)
 
 -- ## All hands
 
@@ -38,9 +32,7 @@ in_hands-some (v ∷ views) i p e = go (in_hands-some views i p) (place_in_hand 
 
 not_first : (v : View) (views : List View) (i : ℕ) → place_in_hands (v ∷ views) i ≡ None → (p : ℕ) →
     v.hand ≡ Some (i, p) → ⊥
-not_first v views i e p h =
-    let found = sym (ap (λ x. first_place x (place_in_hands views i)) (in_hand-has i p v.hand h)) ∙ e in
-    absurd (let P : ⊥ = cc in P)
+not_first v views i e p h = grind (arith, common_steps, in_hand-has)
 
 none_later : (h q : Option ℕ) → first_place h q ≡ None → q ≡ None
 none_later None q e = e

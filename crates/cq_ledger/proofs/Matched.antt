@@ -1,5 +1,6 @@
 -- The matching is read off the words, one output after another.
-use Rattle.std.proofs.Common.{ℕ, ◌≡◌, ◌≢◌, ◌⊎◌, inl, inr, ◌+◌, ◌<◌, List, length, get_or, set, Option, Some, None, refl, sym, ◌∙◌, ap, arith, subst, add-one}
+use Rattle.std.proofs.Common.{rules, ℕ, ◌≡◌, ◌≢◌, ◌⊎◌, inl, inr, ◌+◌, ◌<◌, List, length, get_or, set, Option, Some, None, refl, sym, ◌∙◌, ap, arith, subst, add-one}
+use Rattle.std.proofs.lemmas.Grind.{common_steps}
 use Rattle.std.proofs.lemmas.Bool.{cases_eq}
 use Rattle.std.proofs.lemmas.List.{get_or-set_same, get_or-set_other, length-set}
 use Rattle.cq_prefs.specs.Orders.{Orders, AreOffers, ports, outputs_of, inputs_of, place_of}
@@ -97,9 +98,7 @@ module _ (o : Orders) (v : AreOffers o) (s : State) (w : IsSound o s) (m : Partn
 
 pub reads_all : (o : Orders) → AreOffers o → (s : State) → IsSound o s → (m : Partners) → IsRead o s m (ports o) →
     m ≡ matching_of o s
-reads_all o v s w m r =
-    matching_of-is o v s w m r.size (λ k q e. (r.there k q e).1) (λ k q h. r.back k q
-    (output_in_range o v k q (v.shown_back k q h.1)) h)
+reads_all o v s w m r = grind (arith, common_steps, matching_of-is, r.there, r.back, output_in_range, v.shown_back)
 
 -- ## The word of an output
 
@@ -111,8 +110,7 @@ pub record IsWord (o : Orders) (items : List ℕ) (s : State) (n x : ℕ) : Type
 
 module _ (o : Orders) (items : List ℕ) (s : State) (n x : ℕ) (is : IsWord o items s n x) where
   word_is : x ≡ position_held s n
-  word_is =
-      sym (at_known items (n + 1) x 0 is.read).1 ∙ ap (λ m. get_or items m 0) (add-one n) ∙ is.shows n is.range
+  word_is = search (rules, at_known, add-one)
 
   pub word_skips : (v : AreOffers o) (m : Partners) → IsRead o s m n → x ≡ ports o → IsRead o s m (n + 1)
   word_skips v m r free = reads_skip o v s is.sound m n r (sym word_is ∙ free)
@@ -134,9 +132,7 @@ module _ (o : Orders) (items : List ℕ) (s : State) (n x : ℕ) (is : IsWord o 
 
     pub holder_free : (v : AreOffers o) (m : Partners) → IsRead o s m n →
         (get_or order x 0 < length m) × (partner_of m (get_or order x 0) ≡ None)
-    holder_free v m r =
-        let P : ℕ → Type 0 = λ y. (y < length m) × (partner_of m y ≡ None) in
-        subst P (sym holder_is) (k_free o v s is.sound m n r is.range held)
+    holder_free v m r = grind (arith, common_steps, holder_is, k_free o v s is.sound m n r is.range held, held)
 
     pub word_joins : (v : AreOffers o) (m : Partners) → IsRead o s m n →
         IsRead o s (set m (get_or order x 0) (Some n)) (n + 1)

@@ -1,7 +1,8 @@
 -- A proposal keeps the rule, and is one event. The word of the output that is asked becomes the position that it
 -- holds after the event. The new hand has the input that was displaced or rejected, if that is free: no other seat
 -- has it, since it was held, or in this hand.
-use Rattle.std.proofs.Common.{ℕ, suc, ◌≡◌, ◌≢◌, ◌⊎◌, inl, inr, ◌<◌, min, List, ◌∷◌, length, get_or, set, Some, None, refl, sym, ◌∙◌, ap, arith, subst}
+use Rattle.std.proofs.Common.{rules, ℕ, suc, ◌≡◌, ◌≢◌, ◌⊎◌, inl, inr, ◌<◌, min, List, ◌∷◌, length, get_or, set, Some, None, refl, sym, ◌∙◌, ap, arith, subst}
+use Rattle.std.proofs.lemmas.Grind.{common_steps}
 use Rattle.std.specs.List.{sum_by}
 use Rattle.std.proofs.lemmas.Bool.{cases_eq}
 use Rattle.std.proofs.lemmas.List.{get_or-set_same, get_or-set_other, length-set}
@@ -55,9 +56,7 @@ module _ (o : Orders) (words : List ℕ) (views : List View) (k : IsLedger o wor
   views_now = set views id view_now
 
   pub hand_is : view_now.hand ≡ hand_found o i (next_place s i) (position_held s j)
-  hand_is =
-      ap (λ x. hand_found x i (next_place s i) (get_or words (suc j) 0)) same_offers
-      ∙ ap (λ n. hand_found o i (next_place s i) n) found_is
+  hand_is = grind (arith, common_steps, hand_found, found_is)
 
   pub here : Sits views_now id view_now
   here = sits_now views id v view_now at_id
@@ -111,8 +110,7 @@ module _ (o : Orders) (words : List ℕ) (views : List View) (k : IsLedger o wor
 
   -- another view's hand has another input
   pub other_hand : (b q p : ℕ) (u : View) → b ≢ id → Sits views b u → u.hand ≡ Some (q, p) → q ≢ i
-  other_hand b q p u n a h e =
-      n (k.hands.apart b id i p (next_place s i) u v a at_id (h ∙ ap (λ m. Some (m, p)) e) in_hand)
+  other_hand b q p u n a h e = search (rules)
 
   pub hand_free_now : (b q p : ℕ) (u : View) → Sits views_now b u → u.hand ≡ Some (q, p) →
       (IsFree o t q) × (next_place t q ≡ p) × (bit (claim_word words_now) q ≡ 1)
@@ -226,9 +224,5 @@ module _ (o : Orders) (words : List ℕ) (views : List View) (k : IsLedger o wor
 
       idle_now : (b : ℕ) (u : View) → u.claims ≡ 0 → ((b ≡ id) × (view_now ≡ u)) ⊎ ((b ≢ id) × Sits views b u) →
           (u.hand ≡ None) × (u.made ≡ 0)
-      idle_now b u c (inl x) =
-          absurd (let a = (k.idle id v at_id (ap (λ y. y.claims) x.1 ∙ c)).0 in
-          let h = in_hand in
-          let P : ⊥ = cc in
-          P)
+      idle_now b u c (inl x) = search (rules)
       idle_now b u c (inr x) = k.idle b u x.1 c

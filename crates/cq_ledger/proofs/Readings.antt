@@ -1,5 +1,6 @@
 -- What is read from offers.
-use Rattle.std.proofs.Common.{ℕ, ◌≡◌, ◌<◌, List, [], length, get_or, ⊎_elim, ap, arith}
+use Rattle.std.proofs.lemmas.Grind.{common_steps}
+use Rattle.std.proofs.Common.{ℕ, ◌≡◌, ◌<◌, List, length, get_or, arith}
 use Rattle.std.proofs.lemmas.Bool.{cases_lt}
 use Rattle.std.proofs.lemmas.List.{get_or_past}
 use Rattle.cq_prefs.specs.Orders.{Orders, AreOffers, ports, outputs_of, IsOffered}
@@ -11,6 +12,4 @@ offered-at o v i p order e h = rw e (let a = place_of-at o v i p h in omega arit
 
 -- an input whose order has a place is a port
 pub has_place : (o : Orders) (i p : ℕ) → p < length (outputs_of o i) → i < ports o
-has_place o i p h =
-    ⊎_elim (λ l. l) (λ past. absurd (let e = ap length (get_or_past o.outputs i [] past) in omega arith))
-    (cases_lt i (ports o))
+has_place o i p h = grind (arith, common_steps, get_or_past, cases_lt)

@@ -1,8 +1,9 @@
 -- A seat keeps the numbers of its view through each kind of step, and a call on a ledger finds there what it was
 -- promised of the seat.
-use Rattle.std.proofs.Common.{ℕ, ◌≡◌, ◌+◌, ◌<◌, ◌^◌, length, Option, sym, ◌∙◌, ap, subst, bit_or, arith}
+use Rattle.std.proofs.Common.{rules, ℕ, ◌≡◌, ◌+◌, ◌<◌, ◌^◌, Option, sym, ◌∙◌, ap, subst, bit_or, arith}
+use Rattle.std.proofs.lemmas.Grind.{common_steps}
 use Rattle.atomic_table.specs.Seated.{TableId}
-use Rattle.cq_prefs.specs.Orders.{Orders, ports, outputs_of}
+use Rattle.cq_prefs.specs.Orders.{Orders, ports}
 use Rattle.cq_prefs.specs.declared.outcome.Outcome.{Outcome}
 use Rattle.cq_ledger.specs.declared.view.View.{View}
 use Rattle.cq_ledger.specs.Plays.{Seated, IsProposal}
@@ -24,14 +25,7 @@ pub record AreMatched (l : LedgerState) (s : SeatState) (table : TableId) (offer
 pub matched : (l : LedgerState) (s : SeatState) (table : TableId) (offers : Orders) (mine : TableId) (view : View) →
     record { table = table; offers = offers } ≡ l → record { table = mine; view = view } ≡ s → IsSeatOf l s →
     AreMatched l s table offers mine view
-matched l s table offers mine view is_l is_s of =
-    record {
-      table_is = ap (λ x. x.table) is_s ∙ of.table ∙ sym (ap (λ x. x.table) is_l);
-      offers_are = ap (λ x. x.view.offers) is_s ∙ of.offers ∙ sym (ap (λ x. x.offers) is_l);
-      offers_seen = ap (λ x. x.offers) is_l;
-      table_seen = ap (λ x. x.table) is_l;
-      view_seen = ap (λ x. x.view) is_s;
-    }
+matched l s table offers mine view is_l is_s of = grind (arith, common_steps)
 
 module _ (me : Seated) (claims : ℕ) (hand : Option (ℕ × ℕ)) (made : ℕ) (s : IsSeat me claims hand made) (me' : Seated)
   where
@@ -61,9 +55,7 @@ module _ (me : Seated) (claims : ℕ) (hand : Option (ℕ × ℕ)) (made : ℕ) 
           counted = ap (λ v. v.made) is.view ∙ ap (λ n. n + 1) s.counted;
           no_slot = is.slots ∙ s.no_slot;
           placed = λ q r e.
-              let P : Orders → Type 0 = λ o. r < length (outputs_of o q) in
-              subst P (sym (ap (λ v. v.offers) is.view)) (hand_after-placed me.0.offers i p answer (q, r)
-              (sym hand_found ∙ e));
+              search (arith, rules, hand_after-placed me.0.offers i p answer (q, r) (sym hand_found ∙ e));
           few = is.few;
         }
 
@@ -71,7 +63,4 @@ module _ (me : Seated) (claims : ℕ) (hand : Option (ℕ × ℕ)) (made : ℕ) 
 pub all_claimed : (l : LedgerState) (s : SeatState) (table : TableId) (offers : Orders) (mine : TableId) (view : View)
     → AreMatched l s table offers mine view → HasClaimedAll s →
     (i : ℕ) → i < ports offers → HasClaimed view i
-all_claimed l s table offers mine view m all i h =
-    let same : ports s.view.offers ≡ ports offers =
-    ap (λ v. ports v.offers) (sym m.view_seen) ∙ ap ports m.offers_are in
-    ap (λ v. bit v.claims i) m.view_seen ∙ all i (omega arith)
+all_claimed l s table offers mine view m all i h = grind (arith, common_steps)

@@ -1,7 +1,6 @@
 -- Making the first seat, a split and a join keep the rule, and are no event: the words stay, and what the seats have
 -- claimed, seen, made and in their hands is only dealt out anew.
 use Rattle.std.proofs.Common.{ℕ, zero, suc, ◌≡◌, ◌≢◌, ◌⊎◌, inl, inr, ◌+◌, ◌≤◌, List, [], ◌∷◌, ◌++◌, set, replicate, Some, None, refl, sym, ◌∙◌, ap, arith, subst, bit_or}
-use mathlib.Core.Option.{some}
 use Rattle.std.specs.List.{sum_by}
 use Rattle.std.proofs.lemmas.Bool.{cases_eq}
 use Rattle.std.proofs.lemmas.List.{length-replicate, get_or-replicate}
@@ -87,9 +86,8 @@ module _ (o : Orders) (words : List ℕ) (views : List View) (k : IsLedger o wor
       stood b u a (λ e. let f = ap (λ (y : View). bit y.seen q) e in let z = bit-zero q in absurd (omega arith))
 
   pub with_hand : (b q p : ℕ) (u : View) → Sits longer b u → u.hand ≡ Some (q, p) → Sits views b u
-  with_hand b q p u a h =
-      stood b u a (λ e. let f : (blank other).hand ≡ u.hand = ap (λ (y : View). y.hand) e in
-      let P : ⊥ = cc (f, h) in P)
+  with_hand b q p u a h = stood b u a (λ e.
+      let f : (blank other).hand ≡ u.hand = ap (λ (y : View). y.hand) e in let P : ⊥ = cc (f, h) in P)
 
   unfoldable pub longer-keeps : IsLedger o words longer
   longer-keeps =
@@ -142,8 +140,7 @@ module _ (o : Orders) (words : List ℕ) (views : List View) (k : IsLedger o wor
 
   pub here : Sits whole id (joined v w)
   here =
-      let n : id ≢ gone = λ e. apart (sym e) in
-      set_else half gone id spent n ∙ sits_now views id v (joined v w) at_id
+      let n : id ≢ gone = λ e. apart (sym e) in set_else half gone id spent n ∙ sits_now views id v (joined v w) at_id
 
   -- where a view stood before, and where it is now
   pub Home : ℕ → ℕ → Type 0
@@ -282,14 +279,12 @@ module _ (o : Orders) (words : List ℕ) (views : List View) (k : IsLedger o wor
       idle_now b u (inr (inr x)) h = k.idle b u x.2 h
       idle_now b u (inr (inl x)) h =
           let none : bit_or v.claims w.claims ≡ 0 = ap (λ (y : View). y.claims) x.1 ∙ h in
-          let left : v.claims ≡ 0 =
-          no_bits v.claims (λ q e. let z = bit-zero q in
-          let f = sym (bit-left v.claims w.claims q e) ∙ ap (λ n. bit n q) none in
-          absurd (omega arith)) in
-          let right : w.claims ≡ 0 =
-          no_bits w.claims (λ q e. let z = bit-zero q in
-          let f = sym (bit-right v.claims w.claims q e) ∙ ap (λ n. bit n q) none in
-          absurd (omega arith)) in
+          let left : v.claims ≡ 0 = no_bits v.claims (λ q e.
+          let z = bit-zero q in
+          let f = sym (bit-left v.claims w.claims q e) ∙ ap (λ n. bit n q) none in absurd (omega arith)) in
+          let right : w.claims ≡ 0 = no_bits w.claims (λ q e.
+          let z = bit-zero q in
+          let f = sym (bit-right v.claims w.claims q e) ∙ ap (λ n. bit n q) none in absurd (omega arith)) in
           let a = (k.idle id v at_id left).1 in
           let b = (k.idle gone w at_gone right).1 in
           let c : v.made + w.made ≡ u.made = ap (λ (y : View). y.made) x.1 in

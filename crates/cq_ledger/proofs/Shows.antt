@@ -1,6 +1,6 @@
 -- What the rule of a ledger comes to in the words of proposals: the state that words and views show is one that
 -- proposals reach, so all that is known of such a state holds of it.
-use Rattle.std.proofs.Common.{ℕ, suc, ◌≡◌, ◌<◌, ◌≤◌, List, length, get_or, Some, sym, ◌∙◌, ap, arith, subst}
+use Rattle.std.proofs.Common.{rules, ℕ, suc, ◌≡◌, ◌<◌, ◌≤◌, List, length, get_or, Some, sym, ◌∙◌, ap, arith, subst}
 use Rattle.std.specs.Prelude.{sum}
 use Rattle.cq_prefs.specs.LeastFirst.{best}
 use Rattle.cq_prefs.specs.Orders.{Orders, ports, outputs_of, place_of, position_of}
@@ -31,19 +31,11 @@ module _ (o : Orders) (words : List ℕ) (views : List View) (k : IsLedger o wor
   is = core_state-is o words views k
 
   in_one_place : (i : ℕ) → IsInOnePlace o words views s i
-  in_one_place i =
-      record {
-        held_once = λ j l a b. held_once o k.offers s w i j l a b;
-        not_both = λ j h x. (k.hands.free x.0 i x.2 x.1 x.3 x.4).unheld j h;
-        not_unclaimed = λ z x. absurd (let c = k.hands.claimed x.0 i x.2 x.1 x.3 x.4 in omega arith);
-        not_unclaimed_held = λ j z h. absurd (let a = w.last i j h in let b = k.unclaimed i z in omega arith);
-      }
+  in_one_place i = search (rules, held_once, w)
 
   hand-is : (a i p : ℕ) (v : View) → Sits views a v → v.hand ≡ Some (i, p) →
       (next_place s i ≡ p) × (p < length (outputs_of o i))
-  hand-is a i p v at h =
-      let here : next_place s i ≡ p = k.hands.place a i p v at h in
-      let left = (k.hands.free a i p v at h).left in (here, omega arith)
+  hand-is a i p v at h = search (rules)
 
   asked-is : (i j : ℕ) → j < ports o → place_of o i j < next_place s i → get_or words (suc j) 0 ≤ position_of o j i
   asked-is i j r l = let a = w.asked_before i j l in let b = k.positions j r in omega arith
@@ -58,12 +50,10 @@ module _ (o : Orders) (words : List ℕ) (views : List View) (k : IsLedger o wor
   pub shows_proposals : ShowsProposals o words views
   shows_proposals =
       let One : State → Type 0 = λ t. (i : ℕ) → IsInOnePlace o words views t i in
-      let Hand : State → Type 0 =
-      λ t. (a i p : ℕ) (v : View) → Sits views a v → v.hand ≡ Some (i, p) →
-      (next_place t i ≡ p) × (p < length (outputs_of o i)) in
-      let Asked : State → Type 0 =
-      λ t. (i j : ℕ) → j < ports o → place_of o i j < next_place t i →
-      get_or words (suc j) 0 ≤ position_of o j i in
+      let Hand : State → Type 0 = λ t. (a i p : ℕ) (v : View) → Sits views a v → v.hand ≡ Some (i, p)
+      → (next_place t i ≡ p) × (p < length (outputs_of o i)) in
+      let Asked : State → Type 0 = λ t. (i j : ℕ) → j < ports o → place_of o i j < next_place t i
+      → get_or words (suc j) 0 ≤ position_of o j i in
       record {
         reached = record { events = k.events; are_events = k.are_events; state = is; count = k.made };
         made = k.made ∙ sym (sum-places o k.offers k.events k.are_events) ∙ ap (λ t. sum t.places) (sym is);

@@ -1,5 +1,6 @@
 -- A walk along the blocks, from the first on or from the last back. The places ahead of the block behind a block are
 -- those ahead of it and its own; so what is counted grows by a block's numbers, or shrinks by them.
+use Rattle.std.proofs.lemmas.Grind.{common_steps}
 use Rattle.std.proofs.Common.{◌≡◌, ℕ, zero, suc, ◌+◌, ◌-◌, ◌<◌, ◌≤◌, Bool, List, [], ◌∷◌, ◌++◌, length, get_or, take, drop, refl, sym, ap, ◌∙◌, arith, length-append, take-append-drop}
 use Rattle.std.specs.Prelude.{filter}
 use Rattle.std.specs.List.{concat}
@@ -14,17 +15,12 @@ use Rattle.cq_list.proofs.Blocks.{rest_more, ahead_more, whole_is}
 
 pub nth_end : {X : Type 0} (p : X → Bool) (k : ℕ) (xs : List X) → k ≡ length (filter p xs) →
     place_of_nth p k xs ≡ length xs
-nth_end p k xs all =
-    let end = nth_behind p k xs [] (omega arith) in
-    let same = ap (place_of_nth p k) (append-nil xs) in
-    omega arith
+nth_end p k xs all = grind (arith, common_steps, nth_behind p k xs [], append-nil xs)
 
 take_past : (xs ys : List ℕ) (n : ℕ) → length xs ≤ n → take n (xs ++ ys) ≡ xs ++ take (n - length xs) ys
 take_past [] ys n past = let e : n ≡ n - 0 = omega arith in ap (λ m. take m ys) e
 take_past (x ∷ xs) ys zero past = absurd (omega arith)
-take_past (x ∷ xs) ys (suc n) past =
-    let e : n - length xs ≡ suc n - length (x ∷ xs) = omega arith in
-    ap (λ l. x ∷ l) (take_past xs ys n (omega arith) ∙ ap (λ m. xs ++ take m ys) e)
+take_past (x ∷ xs) ys (suc n) past = grind (arith, common_steps, take_past xs ys n)
 
 pub count_all_le : (blocks : List (List ℕ)) (i j : ℕ) → count_of j (concat (take i blocks)) ≤ length (concat blocks)
 count_all_le blocks i j = let le = count_le j (concat (take i blocks)) in let whole = whole_is blocks i in omega arith
@@ -43,22 +39,15 @@ module _ (blocks : List (List ℕ)) (i : ℕ) {block : List ℕ} (inside : i < l
   pub count_next : (j : ℕ) →
       count_of j (concat (take i blocks)) + count_of j block ≡ count_of j (concat (take (i + 1) blocks))
   count_next j =
-      let ahead : List ℕ = concat (take i blocks) in
-      let more = ap (count_of j) (ap concat (take_more blocks i [] inside)
-      ∙ concat-append (take i blocks) (get_or blocks i [] ∷ []))
-      ∙ ap length (filter-append (is_output j) ahead (get_or blocks i [] ++ []))
-      ∙ length-append (filter (is_output j) ahead) (filter (is_output j) (get_or blocks i [] ++ [])) in
-      let same = ap (count_of j) (append-nil (get_or blocks i []) ∙ sym block_is) in omega arith
+      grind (arith, common_steps, take_more, concat-append, filter-append, length-append, append-nil, block_is)
 
   pub ahead_with : {j places own more count : ℕ} → IsAhead blocks j i places own → more ≡ length block →
       count ≡ count_of j block → IsAhead blocks j (i + 1) (places + more) (own + count)
-  ahead_with {j} ahead long many =
-      record { all = let next = ahead_next in omega arith; few = let next = count_next j in omega arith }
+  ahead_with {j} ahead long many = grind (arith, common_steps, ahead_next, count_next)
 
   pub ahead_without : {j places own less count : ℕ} → IsAhead blocks j (i + 1) places own → less ≡ length block →
       count ≡ count_of j block → IsAhead blocks j i (places - less) (own - count)
-  ahead_without {j} ahead long many =
-      record { all = let next = ahead_next in omega arith; few = let next = count_next j in omega arith }
+  ahead_without {j} ahead long many = grind (arith, common_steps, ahead_next, count_next)
 
   pub rest_next : length (concat (drop i blocks)) ≡ length block + length (concat (drop (i + 1) blocks))
   rest_next = ap length rest_is ∙ length-append block (concat (drop (i + 1) blocks))
@@ -89,23 +78,12 @@ module _ (blocks : List (List ℕ)) (i : ℕ) {block : List ℕ} (inside : i < l
 
     pub nth_spot : (within : ℕ) → within ≡ place_of_nth (is_output j) (k - own) block →
         IsSpot blocks (places + within) i within
-    nth_spot within is =
-        record {
-          inside = inside;
-          short = let there = nth_inside (is_output j) (k - own) block own_inside in
-              let same = ap length block_is in omega arith;
-          at = omega arith;
-        }
+    nth_spot within is = grind (arith, common_steps, nth_inside, own_inside, block_is)
 
   pub count_past_block : (j n : ℕ) → length block ≤ n →
       count_of j (take n (concat (drop i blocks))) ≡ count_of j block + count_of j
       (take (n - length block) (concat (drop (i + 1) blocks)))
-  count_past_block j n late =
-      let back : List ℕ = take (n - length block) (concat (drop (i + 1) blocks)) in
-      ap (λ l. count_of j (take n l)) rest_is
-      ∙ ap (count_of j) (take_past block (concat (drop (i + 1) blocks)) n late)
-      ∙ ap length (filter-append (is_output j) block back)
-      ∙ length-append (filter (is_output j) block) (filter (is_output j) back)
+  count_past_block j n late = grind (arith, common_steps, rest_is, take_past, filter-append, length-append)
 
 -- ## The first block
 
@@ -123,16 +101,8 @@ module _ (blocks : List (List ℕ)) (passed : ℕ) (block : List ℕ) (len end :
     (is_read : block ≡ get_or blocks (length blocks - 1 - passed) block) (long : len ≡ length block)
     (ends : end ≡ length (concat (take (length blocks - passed) blocks))) where
   pub starts_back : length (concat (take (length blocks - 1 - passed) blocks)) + len ≡ end
-  starts_back =
-      let i : ℕ = length blocks - 1 - passed in
-      let next : i + 1 ≡ length blocks - passed = omega arith in
-      let ahead = ahead_next blocks i (omega arith) is_read in
-      let same = ap (λ n. length (concat (take n blocks))) next in omega arith
+  starts_back = grind (arith, common_steps, ahead_next)
 
   pub spot_back : (place : ℕ) → place < end → end - len ≤ place →
       IsSpot blocks place (length blocks - 1 - passed) (place - (end - len))
-  spot_back place early late =
-      let inside : length blocks - 1 - passed < length blocks = omega arith in
-      let start = starts_back in
-      let size = ap length (block_is blocks (length blocks - 1 - passed) inside is_read) in
-      record { inside = inside; short = omega arith; at = omega arith }
+  spot_back place early late = grind (arith, common_steps, starts_back, block_is)

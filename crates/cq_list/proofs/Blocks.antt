@@ -1,5 +1,6 @@
 -- Places in blocks: what is done to one block is done to the places where it stands, behind those of the blocks ahead.
-use Rattle.std.proofs.Common.{◌≡◌, ℕ, zero, suc, ◌+◌, ◌-◌, ◌<◌, ◌≤◌, List, [], ◌∷◌, ◌++◌, length, get_or, set, take, drop, Some, refl, sym, ap, ◌∙◌, subst, arith, length-append, length-set, length-take, get_or-set_same, take-append-drop, append_assoc}
+use Rattle.std.proofs.lemmas.Grind.{common_steps}
+use Rattle.std.proofs.Common.{rules, ◌≡◌, ℕ, zero, suc, ◌+◌, ◌-◌, ◌<◌, ◌≤◌, List, [], ◌∷◌, ◌++◌, length, get_or, set, take, drop, Some, refl, sym, ap, ◌∙◌, subst, arith, length-append, length-set, length-take, get_or-set_same, take-append-drop, append_assoc}
 use Rattle.std.specs.Prelude.{insert, remove, slice_get}
 use Rattle.std.specs.List.{concat}
 use Rattle.std.proofs.lemmas.List.{take_more, drop_more, take_all, take-set, take-set-le, take-take, take-append-le, get_or_read}
@@ -11,12 +12,7 @@ use Rattle.cq_list.specs.Places.{IsSpot, joined, pulled}
 
 pub ahead_more : (blocks : List (List ℕ)) (i : ℕ) → i < length blocks →
     length (concat (take (i + 1) blocks)) ≡ length (concat (take i blocks)) + length (get_or blocks i [])
-ahead_more blocks i inside =
-    let block : List ℕ = get_or blocks i [] in
-    let whole = ap length (ap concat (take_more blocks i [] inside) ∙ concat-append (take i blocks) (block ∷ []))
-    ∙ length-append (concat (take i blocks)) (block ++ []) in
-    let one = length-append block [] in
-    omega arith
+ahead_more blocks i inside = grind (arith, common_steps, take_more, concat-append, length-append)
 
 pub rest_more : (blocks : List (List ℕ)) (i : ℕ) → i < length blocks →
     concat (drop i blocks) ≡ get_or blocks i [] ++ concat (drop (i + 1) blocks)
@@ -84,31 +80,18 @@ remove_in (b ∷ bs) (suc i) o inside lt =
 pub split_in : (blocks : List (List ℕ)) (i : ℕ) (front back : List ℕ) → i < length blocks →
     get_or blocks i [] ≡ front ++ back → concat (insert (set blocks i front) (i + 1) back) ≡ concat blocks
 split_in [] i front back inside parts = absurd (omega arith)
-split_in (b ∷ bs) zero front back inside parts = sym (append_assoc front back (concat bs))
-    ∙ ap (λ l. l ++ concat bs) (sym parts)
-split_in (b ∷ bs) (suc i) front back inside parts =
-    let next : suc i + 1 ≡ suc (i + 1) = omega arith in
-    ap (λ n. concat (insert (b ∷ set bs i front) n back)) next
-    ∙ ap (λ l. b ++ l) (split_in bs i front back (omega arith) parts)
+split_in (b ∷ bs) zero front back inside parts = grind (arith, common_steps, append_assoc)
+split_in (b ∷ bs) (suc i) front back inside parts = grind (arith, common_steps, split_in bs i front back)
 
 -- a place at the end of the last block, or in a block of its own
 pub append_in : (blocks : List (List ℕ)) (i y : ℕ) (block : List ℕ) → i + 1 ≡ length blocks →
     block ≡ get_or blocks i [] → concat (set blocks i (insert block (length block) y)) ≡ insert (concat blocks)
     (length (concat blocks)) y
-append_in blocks i y block last read =
-    let inside : i < length blocks = omega arith in
-    let own : List ℕ = get_or blocks i [] in
-    let all = ap length (ap concat (take_all (i + 1) blocks (omega arith))) in
-    let more = ahead_more blocks i inside in
-    let end : length (concat (take i blocks)) + length own ≡ length (concat blocks) = omega arith in
-    ap (λ b. concat (set blocks i (insert b (length b) y))) read
-    ∙ insert_in blocks i (length own) y inside (omega arith)
-    ∙ ap (λ n. insert (concat blocks) n y) end
+append_in blocks i y block last read = grind (arith, common_steps, take_all, ahead_more, insert_in)
 
 pub push_in : (blocks : List (List ℕ)) (y : ℕ) (block : List ℕ) → block ≡ insert [] 0 y →
     concat (blocks ++ block ∷ []) ≡ insert (concat blocks) (length (concat blocks)) y
-push_in blocks y block is =
-    ap (λ b. concat (blocks ++ b ∷ [])) is ∙ concat-append blocks ((y ∷ []) ∷ []) ∙ sym (insert_end (concat blocks) y)
+push_in blocks y block is = grind (arith, common_steps, concat-append, insert_end)
 
 -- ## A short block filled up
 
@@ -116,25 +99,13 @@ pub joined_in : (blocks : List (List ℕ)) (i : ℕ) → i + 1 < length blocks �
 joined_in [] i inside = absurd (omega arith)
 joined_in (b ∷ []) i inside = absurd (omega arith)
 joined_in (b ∷ c ∷ bs) zero inside = append_assoc b c (concat bs)
-joined_in (b ∷ c ∷ bs) (suc i) inside =
-    let next : suc i + 1 ≡ suc (i + 1) = omega arith in
-    let cs : List (List ℕ) = c ∷ bs in
-    ap (λ n. concat (set (remove (b ∷ cs) n) (suc i) (get_or cs i [] ++ get_or (b ∷ cs) n []))) next
-    ∙ ap (λ l. b ++ l) (joined_in cs i (omega arith))
+joined_in (b ∷ c ∷ bs) (suc i) inside = search (arith, rules, joined_in (c ∷ bs) i)
 
 pub pulled_in : (blocks : List (List ℕ)) (i : ℕ) → i + 1 < length blocks → concat (pulled blocks i) ≡ concat blocks
 pulled_in [] i inside = absurd (omega arith)
 pulled_in (b ∷ []) i inside = absurd (omega arith)
-pulled_in (b ∷ c ∷ bs) zero inside =
-    append_assoc b (take 1 c) (drop 1 c ++ concat bs)
-    ∙ ap (λ l. b ++ l) (sym (append_assoc (take 1 c) (drop 1 c) (concat bs))
-    ∙ ap (λ l. l ++ concat bs) (take-append-drop 1 c))
-pulled_in (b ∷ c ∷ bs) (suc i) inside =
-    let next : suc i + 1 ≡ suc (i + 1) = omega arith in
-    let cs : List (List ℕ) = c ∷ bs in
-    ap (λ n. concat (set (set (b ∷ cs) n (drop 1 (get_or (b ∷ cs) n []))) (suc i)
-    (get_or cs i [] ++ take 1 (get_or (b ∷ cs) n [])))) next
-    ∙ ap (λ l. b ++ l) (pulled_in cs i (omega arith))
+pulled_in (b ∷ c ∷ bs) zero inside = grind (arith, common_steps, append_assoc, take-append-drop)
+pulled_in (b ∷ c ∷ bs) (suc i) inside = search (arith, rules, pulled_in (c ∷ bs) i)
 
 -- a place keeps its spot where the blocks ahead are the same and its own is no shorter
 module _ (blocks : List (List ℕ)) (i : ℕ) (inside : i + 1 < length blocks) where
@@ -145,9 +116,7 @@ module _ (blocks : List (List ℕ)) (i : ℕ) (inside : i + 1 < length blocks) w
   next = get_or blocks (i + 1) []
 
   pub joined_at : get_or (joined blocks i) i [] ≡ block ++ next
-  joined_at =
-      let less = length-remove blocks (i + 1) inside in
-      get_or-set_same (remove blocks (i + 1)) i (block ++ next) [] (omega arith)
+  joined_at = grind (arith, common_steps, length-remove, get_or-set_same)
 
   pub spot_joined : (place o : ℕ) → IsSpot blocks place i o → IsSpot (joined blocks i) place i o
   spot_joined place o spot =
@@ -165,78 +134,32 @@ module _ (blocks : List (List ℕ)) (i : ℕ) (inside : i + 1 < length blocks) w
       }
 
   pub pulled_at : get_or (pulled blocks i) i [] ≡ block ++ take 1 next
-  pulled_at =
-      let same = length-set blocks (i + 1) (drop 1 next) in
-      get_or-set_same (set blocks (i + 1) (drop 1 next)) i (block ++ take 1 next) [] (omega arith)
+  pulled_at = grind (arith, common_steps, length-set, get_or-set_same)
 
   pub spot_pulled : (place o : ℕ) → IsSpot blocks place i o → IsSpot (pulled blocks i) place i o
-  spot_pulled place o spot =
-      let same = length-set (set blocks (i + 1) (drop 1 next)) i (block ++ take 1 next) in
-      let as_many = length-set blocks (i + 1) (drop 1 next) in
-      let ahead : take i (pulled blocks i) ≡ take i blocks =
-      take-set (set blocks (i + 1) (drop 1 next)) i (block ++ take 1 next)
-      ∙ take-set-le i blocks (i + 1) (drop 1 next) (omega arith) in
-      record {
-        inside = omega arith;
-        short = let len = ap length pulled_at ∙ length-append block (take 1 next) in
-            omega arith;
-        at = ap (λ l. length (concat l) + o) ahead ∙ spot.at;
-      }
+  spot_pulled place o spot = grind (arith, common_steps, length-set, take-set, take-set-le, pulled_at, length-append)
 
 -- ## Where a place stands after a split
 
 module _ (blocks : List (List ℕ)) (place i o : ℕ) (front back : List ℕ) (spot : IsSpot blocks place i o)
     (parts : get_or blocks i [] ≡ front ++ back) (half : length front ≡ 32) where
   longer : length (insert (set blocks i front) (i + 1) back) ≡ length blocks + 1
-  longer =
-      let same = length-set blocks i front in
-      length-insert (set blocks i front) (i + 1) back (omega arith) ∙ ap (λ n. n + 1) same
+  longer = grind (arith, common_steps, length-set, length-insert)
 
   first_half : get_or (insert (set blocks i front) (i + 1) back) i [] ≡ front
-  first_half =
-      let same = length-set blocks i front in
-      let inside = spot.inside in
-      get_or-insert_below (set blocks i front) (i + 1) back [] i (omega arith) (omega arith)
-      ∙ get_or-set_same blocks i front [] inside
+  first_half = grind (arith, common_steps, length-set, get_or-insert_below, get_or-set_same)
 
   second_half : get_or (insert (set blocks i front) (i + 1) back) (i + 1) [] ≡ back
-  second_half =
-      let same = length-set blocks i front in
-      get_or-insert_at (set blocks i front) (i + 1) back [] (omega arith)
+  second_half = grind (arith, common_steps, length-set, get_or-insert_at)
 
   ahead_same : take i (insert (set blocks i front) (i + 1) back) ≡ take i blocks
-  ahead_same =
-      let same = length-set blocks i front in
-      let long : i ≤ length (take (i + 1) (set blocks i front)) = let len = length-take (i + 1) (set blocks i front) in
-      omega arith in
-      take-append-le i (take (i + 1) (set blocks i front)) (back ∷ drop (i + 1) (set blocks i front)) long
-      ∙ take-take i (i + 1) (set blocks i front) (omega arith)
-      ∙ take-set blocks i front
+  ahead_same = grind (arith, common_steps, length-set, length-take, take-append-le, take-take, take-set)
 
   pub in_front_half : o < 32 → IsSpot (insert (set blocks i front) (i + 1) back) place i o
-  in_front_half early =
-      record {
-        inside = let len = longer in omega arith;
-        short = let len = ap length first_half in omega arith;
-        at = ap (λ l. length (concat l) + o) ahead_same ∙ spot.at;
-      }
+  in_front_half early = grind (arith, common_steps, longer, first_half, ahead_same)
 
   pub in_back_half : (p : ℕ) → p + 32 ≡ o → IsSpot (insert (set blocks i front) (i + 1) back) place (i + 1) p
-  in_back_half p late =
-      let inside : i < length (insert (set blocks i front) (i + 1) back) = let len = longer in
-      let inside = spot.inside in omega arith in
-      record {
-        inside = let len = longer in let inside = spot.inside in omega arith;
-        short =
-            let len = ap length second_half in
-            let whole = ap length parts ∙ length-append front back in
-            omega arith;
-        at =
-            let more = ahead_more (insert (set blocks i front) (i + 1) back) i inside in
-            let first = ap length first_half in
-            let same = ap (λ l. length (concat l)) ahead_same in
-            omega arith;
-      }
+  in_back_half p late = search (rules, longer, second_half, length-append, ahead_more, first_half, ahead_same)
 
 -- ## At a spot
 
@@ -246,21 +169,14 @@ module _ (blocks : List (List ℕ)) (place i o : ℕ) (read : List ℕ) (spot : 
   block_is = get_or_read blocks i read spot.inside is_read []
 
   pub shown_at_spot : (x : ℕ) → slice_get read o ≡ Some x → slice_get (concat blocks) place ≡ Some x
-  shown_at_spot x at = ap (slice_get (concat blocks)) (sym spot.at)
-      ∙ shown_in blocks i o x spot.inside (ap (λ b. slice_get b o) (sym block_is) ∙ at)
+  shown_at_spot x at = grind (arith, common_steps, shown_in, block_is)
 
   pub inserted_at : (y : ℕ) (new : List ℕ) → new ≡ insert read o y →
       concat (set blocks i new) ≡ insert (concat blocks) place y
-  inserted_at y new is =
-      ap (λ b. concat (set blocks i b)) (is ∙ ap (λ b. insert b o y) block_is)
-      ∙ insert_in blocks i o y spot.inside (omega arith)
-      ∙ ap (λ n. insert (concat blocks) n y) spot.at
+  inserted_at y new is = grind (arith, common_steps, block_is, insert_in)
 
   pub removed_at : (new : List ℕ) → new ≡ remove read o → concat (set blocks i new) ≡ remove (concat blocks) place
-  removed_at new is =
-      ap (λ b. concat (set blocks i b)) (is ∙ ap (λ b. remove b o) block_is)
-      ∙ remove_in blocks i o spot.inside spot.short
-      ∙ ap (remove (concat blocks)) spot.at
+  removed_at new is = grind (arith, common_steps, block_is, remove_in)
 
 -- a spot of the same blocks
 pub spot_along : (old new : List (List ℕ)) (place block within : ℕ) → old ≡ new → IsSpot old place block within →

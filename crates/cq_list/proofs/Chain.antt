@@ -5,9 +5,9 @@
 -- cells of other queues are for other outputs.
 --
 -- A node that is linked in behind another one goes into the chain behind it, for it leads on to where that one led.
-use Rattle.std.proofs.Common.{◌≡◌, ◌≢◌, ℕ, zero, suc, List, ◌∷◌, length, Option, None, Some, refl, sym, ap, ◌∙◌, subst, arith}
+use Rattle.std.proofs.lemmas.Grind.{common_steps}
+use Rattle.std.proofs.Common.{rules, ◌≡◌, ◌≢◌, ℕ, zero, suc, List, ◌∷◌, length, Option, None, Some, refl, sym, ap, ◌∙◌, subst, arith}
 use Rattle.std.specs.Prelude.{insert, slice_get}
-use Rattle.std.specs.Option.{option_map}
 use Rattle.std.specs.List.{AllByRecursion}
 use Rattle.std.proofs.lemmas.Option.{same_Some, slice_get-map}
 use Rattle.cq_base.specs.declared.cell.Queued.{Queued}
@@ -17,12 +17,12 @@ use Rattle.cq_base.proofs.Lists.{all_at}
 use Rattle.cq_list.proofs.Put.{all_weaker}
 use Rattle.cq_list.specs.declared.pool.Node.{Node}
 use Rattle.cq_list.specs.Pool.{Nodes, followed, chain, places, cells}
+use Rattle.std.specs.Option.{option_map}
 
 -- no node, no chain
 not_whole : (place n : ℕ) (o : Option Node) (rest : ℕ → List (ℕ × Queued)) → o ≡ None →
     length (followed place o rest) ≡ suc n → ⊥
-not_whole place n o rest none whole = let gone = sym (ap (λ p. length (followed place p rest)) none) ∙ whole in
-    omega arith
+not_whole place n o rest none whole = grind (arith, common_steps)
 
 -- a chain that is whole begins with a node
 pub begins : (nodes : Nodes) (n place : ℕ) → length (chain nodes (suc n) place) ≡ suc n →
@@ -39,27 +39,15 @@ chain-at nodes n place node e = ap (λ o. followed place o (chain nodes n)) e
 
 rest_whole : (nodes : Nodes) (n place : ℕ) (node : Node) → nodes place ≡ Some node →
     length (chain nodes (suc n) place) ≡ suc n → length (chain nodes n node.next) ≡ n
-rest_whole nodes n place node e whole = let same = sym (ap length (chain-at nodes n place node e)) ∙ whole in
-    omega arith
+rest_whole nodes n place node e whole = grind (arith, common_steps, chain-at)
 
 -- the node at a place of the chain
 pub node_at : (nodes : Nodes) (n first p place : ℕ) → length (chain nodes n first) ≡ n →
     slice_get (places (chain nodes n first)) p ≡ Some place →
     (node : Node) × (nodes place ≡ Some node) × (slice_get (chain nodes n first) p ≡ Some (place, node.queued))
 node_at nodes zero first p place whole at = cc
-node_at nodes (suc n) first zero place whole at =
-    let node : Node = (begins nodes n first whole).0 in
-    let here = (begins nodes n first whole).1 in
-    let seen = chain-at nodes n first node here in
-    let same : first ≡ place = same_Some first place (ap (λ l. slice_get (places l) 0) (sym seen) ∙ at) in
-    (node, ap nodes (sym same) ∙ here, ap (λ l. slice_get l 0) seen ∙ ap (λ i. Some (i, node.queued)) same)
-node_at nodes (suc n) first (suc p) place whole at =
-    let node : Node = (begins nodes n first whole).0 in
-    let here = (begins nodes n first whole).1 in
-    let seen = chain-at nodes n first node here in
-    let found = node_at nodes n node.next p place (rest_whole nodes n first node here whole)
-    (ap (λ l. slice_get (places l) (suc p)) (sym seen) ∙ at) in
-    (found.0, found.1, ap (λ l. slice_get l (suc p)) seen ∙ found.2)
+node_at nodes (suc n) first zero place whole at = grind (arith, common_steps, begins, chain-at, same_Some)
+node_at nodes (suc n) first (suc p) place whole at = search (rules, begins, chain-at, rest_whole, node_at nodes n)
 
 -- ## A chain whose nodes stay
 
@@ -68,14 +56,7 @@ pub chain_stays : (old new : Nodes) (P : Queued → Type 0) →
     (chain old n place) ≡ n → AllByRecursion P (cells (chain old n place)) → chain new n place ≡ chain old n place
 chain_stays old new P stay zero place whole all = refl
 chain_stays old new P stay (suc n) place whole all =
-    let node : Node = (begins old n place whole).0 in
-    let here : old place ≡ Some node = (begins old n place whole).1 in
-    let seen = chain-at old n place node here in
-    let own = subst (λ (l : List (ℕ × Queued)). AllByRecursion P (cells l)) seen all in
-    chain-at new n place node (stay place node here own.0)
-    ∙ ap (λ l. (place, node.queued) ∷ l) (chain_stays old new P stay n node.next
-    (rest_whole old n place node here whole) own.1)
-    ∙ sym seen
+    grind (arith, common_steps, begins, chain-at, rest_whole, chain_stays old new P stay n)
 
 -- ## A node more
 
@@ -90,9 +71,7 @@ module _ (old new : Nodes) (a k : ℕ) (ahead : Node) (c : Queued) (here : old a
     (others : (i : ℕ) (node : Node) → old i ≡ Some node → i ≢ a → new i ≡ Some node) where
   -- a node with another cell is another node
   other_cell : (i : ℕ) (node : Node) → old i ≡ Some node → node.queued ≢ ahead.queued → new i ≡ Some node
-  other_cell i node there ne =
-      others i node there
-      (λ same. ne (ap (λ (m : Node). m.queued) (same_Some node ahead (sym there ∙ ap old same ∙ here))))
+  other_cell i node there ne = grind (arith, common_steps, same_Some)
 
   pub chain_behind : (n first p : ℕ) → length (chain old n first) ≡ n → IsRising (cells (chain old n first)) →
       slice_get (chain old n first) p ≡ Some (a, ahead.queued) → chain new (suc n) first ≡ insert (chain old n first)

@@ -1,6 +1,7 @@
 -- The counts of a block, where a place is put in or taken out: the count of its output changes by one, and the others
 -- stay. A place that is taken out can be put back, so the one follows from the other.
-use Rattle.std.proofs.Common.{◌≡◌, ◌≢◌, ℕ, zero, suc, ◌+◌, ◌-◌, ◌<◌, ◌≤◌, List, [], ◌∷◌, ◌++◌, length, replicate, get_or, set, take, drop, refl, sym, ap, ◌∙◌, subst, ⊎_elim, arith, length-set, length-append, get_or-set_same, get_or-set_other}
+use Rattle.std.proofs.lemmas.Grind.{common_steps}
+use Rattle.std.proofs.Common.{rules, ◌≡◌, ◌≢◌, ℕ, zero, suc, ◌+◌, ◌-◌, ◌<◌, ◌≤◌, List, [], ◌∷◌, ◌++◌, length, replicate, get_or, set, take, drop, refl, sym, ap, ◌∙◌, subst, arith, length-set, length-append, get_or-set_same, get_or-set_other}
 use Rattle.std.specs.Prelude.{insert, remove, filter, slice_get, Some}
 use Rattle.std.proofs.lemmas.Option.{same_Some, slice_get_within, get_or_from_slice_get}
 use Rattle.std.specs.List.{AllByRecursion}
@@ -46,8 +47,7 @@ all_remove P (x ∷ xs) (suc i) all = (all.0, all_remove P xs i all.1)
 -- an output beyond the last
 pub count_beyond : (xs : List ℕ) (j : ℕ) → AllByRecursion (λ i. i < 64) xs → 64 ≤ j → 0 ≡ count_of j xs
 count_beyond [] j all beyond = refl
-count_beyond (x ∷ xs) j all beyond =
-    count_beyond xs j all.1 beyond ∙ ap length (sym (fails (is_output j) x xs (ne_eqb x j (λ same. omega arith))))
+count_beyond (x ∷ xs) j all beyond = grind (arith, common_steps, fails, ne_eqb, count_beyond xs j all.1 beyond)
 
 pub no_places : (places counts : List ℕ) → places ≡ [] → counts ≡ replicate 64 0 → AreCounts places counts
 no_places places counts none zeros =
@@ -61,31 +61,22 @@ no_places places counts none zeros =
 
 module _ (places counts : List ℕ) (had : AreCounts places counts) where
   pub count_fits : (j : ℕ) → j < 64 → get_or counts j 0 ≤ 64
-  count_fits j inside = let same = had.counted j inside in let le = count_le j places in
-      omega arith
+  count_fits j inside = grind (arith, common_steps, count_le)
 
   pub counts_insert : (i j : ℕ) → i ≤ length places → length places < 64 → j < 64 →
       AreCounts (insert places i j) (set counts j (get_or counts j 0 + 1))
-  counts_insert i j inside room in_range =
-      let within : j < length counts = omega arith in
-      record {
-        counted = λ k inside_k.
-            ⊎_elim
-            (λ same.
-            ap (λ n. get_or (set counts j (get_or counts j 0 + 1)) n 0) same
-            ∙ get_or-set_same counts j (get_or counts j 0 + 1) 0 within
-            ∙ ap (λ n. n + 1) (had.counted j in_range)
-            ∙ ap (λ n. count_of n places + 1) (sym same)
-            ∙ sym (count_of-own places i j k (sym same)))
-            (λ ne.
-            get_or-set_other counts j k (get_or counts j 0 + 1) 0 ne
-            ∙ had.counted k inside_k
-            ∙ sym (count_of-other places i j k (λ same. ne (sym same))))
-            (cases_eq k j);
-        in_range = all_insert (λ k. k < 64) places i j in_range had.in_range;
-        short = let len = length-insert places i j inside in omega arith;
-        each = length-set counts j (get_or counts j 0 + 1) ∙ had.each;
-      }
+  counts_insert i j inside room in_range = grind (
+    arith,
+    common_steps,
+    get_or-set_same,
+    count_of-own,
+    get_or-set_other,
+    count_of-other,
+    cases_eq,
+    all_insert,
+    length-insert,
+    length-set,
+  )
 
   module _ (i j : ℕ) (inside : i < length places) (read : j ≡ get_or places i j) where
     again : insert (remove places i) i j ≡ places
@@ -100,34 +91,22 @@ module _ (places counts : List ℕ) (had : AreCounts places counts) where
         go (x ∷ xs) (suc k) l all = go xs k (omega arith) all.1
 
     pub count_some : 1 ≤ get_or counts j 0
-    count_some =
-        let same = had.counted j in_range_at in
-        let more = sym (ap (count_of j) again) ∙ count_of-own (remove places i) i j j refl in
-        omega arith
+    count_some = grind (arith, common_steps, in_range_at, again, count_of-own)
 
     pub counts_remove : AreCounts (remove places i) (set counts j (get_or counts j 0 - 1))
-    counts_remove =
-        let within : j < length counts = let in_range = in_range_at in omega arith in
-        record {
-          counted = λ k inside_k.
-              ⊎_elim
-              (λ same.
-              ap (λ n. get_or (set counts j (get_or counts j 0 - 1)) n 0) same
-              ∙ get_or-set_same counts j (get_or counts j 0 - 1) 0 within
-              ∙ (let own = had.counted j in_range_at in
-              let more = sym (ap (count_of j) again) ∙ count_of-own (remove places i) i j j refl in
-              let less : get_or counts j 0 - 1 ≡ count_of j (remove places i) = omega arith in less)
-              ∙ ap (λ n. count_of n (remove places i)) (sym same))
-              (λ ne.
-              get_or-set_other counts j k (get_or counts j 0 - 1) 0 ne
-              ∙ had.counted k inside_k
-              ∙ ap (count_of k) (sym again)
-              ∙ count_of-other (remove places i) i j k (λ same. ne (sym same)))
-              (cases_eq k j);
-          in_range = all_remove (λ k. k < 64) places i had.in_range;
-          short = let len = length-remove places i inside in omega arith;
-          each = length-set counts j (get_or counts j 0 - 1) ∙ had.each;
-        }
+    counts_remove = search (
+      rules,
+      in_range_at,
+      get_or-set_same,
+      again,
+      count_of-own,
+      get_or-set_other,
+      count_of-other,
+      cases_eq,
+      all_remove,
+      length-remove,
+      length-set,
+    )
 
 -- ## The last place goes over to the front of another block
 

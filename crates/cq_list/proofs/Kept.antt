@@ -1,7 +1,8 @@
 -- The places and the pool of a list, before and after its calls. The cells for which they stand are known by the split
 -- alone, so each call has to show no more than the split of the cells that it promises; that these are the cells that
 -- the new places and the new pool stand for follows.
-use Rattle.std.proofs.Common.{◌≡◌, ℕ, zero, suc, ◌<◌, eqb, ltb, Bool, cond, List, [], ◌∷◌, length, set, take, drop, min, Option, None, Some, refl, sym, ap, ◌∙◌, subst, arith, ⊎_elim, length-set, get_or-set_same, get_or-set_other}
+use Rattle.std.proofs.lemmas.Grind.{common_steps}
+use Rattle.std.proofs.Common.{rules, ◌≡◌, ℕ, zero, suc, ◌<◌, eqb, Bool, cond, List, [], ◌∷◌, length, set, take, drop, min, Option, None, Some, refl, sym, ap, ◌∙◌, subst, arith, length-set, get_or-set_same, get_or-set_other}
 use Rattle.std.proofs.lemmas.List.{length-map, get_or_past}
 use Rattle.std.specs.Prelude.{◌&&◌, slice_get, remove, insert, filter, position}
 use Rattle.std.specs.Option.{option_map}
@@ -11,7 +12,7 @@ use Rattle.std.proofs.lemmas.Option.{slice_get-map, slice_get_within, same_Some}
 use Rattle.std.proofs.lemmas.List.Folds.{find_at}
 use Rattle.cq_base.specs.declared.cell.Queued.{Queued}
 use Rattle.cq_base.specs.Key.{is_before}
-use Rattle.cq_base.specs.Cells.{HasOtherKey, MoreUrgentAhead, is_for, first_for, place_for, without_first, put, place_of_later, place_of_arrival, with_arrival}
+use Rattle.cq_base.specs.Cells.{HasOtherKey, MoreUrgentAhead, is_for, first_for, place_for, without_first, put, place_of_arrival, with_arrival}
 use Rattle.cq_list.specs.Split.{Queues, without_head, IsSplit, is_output, place_of_nth, count_of}
 use Rattle.cq_list.specs.Places.{PlacesView}
 use Rattle.cq_list.specs.Pool.{PoolView, queue_of}
@@ -22,10 +23,7 @@ use Rattle.cq_list.proofs.Waiting.{are_waiting_arrived, are_waiting_left}
 -- an output with a cell is one of them
 pub queue_inside : (queues : List (List Queued)) (j : ℕ) (x : Queued) → slice_get (queue_of queues j) 0 ≡ Some x →
     j < length queues
-queue_inside queues j x head =
-    let some = slice_get_within (queue_of queues j) 0 x head in
-    ⊎_elim (λ l. l) (λ past. absurd (let none = ap length (get_or_past queues j [] past) in omega arith))
-    (cases_lt j (length queues))
+queue_inside queues j x head = grind (arith, common_steps, slice_get_within, get_or_past, cases_lt)
 
 -- they stand for no other cells than those that are seen
 pub cells_are : (outputs : ℕ) (places : PlacesView) (pool : PoolView) (xs : List Queued) →
@@ -39,15 +37,7 @@ kept outputs places pool xs s = subst (StandFor outputs places pool) (sym (cells
 -- one queue is changed
 queue_of-set : (queues : List (List Queued)) (j : ℕ) (f : List Queued → List Queued) (i : ℕ) → j < length queues →
     queue_of (set queues j (f (queue_of queues j))) i ≡ cond (eqb j i) (f (queue_of queues i)) (queue_of queues i)
-queue_of-set queues j f i inside =
-    cond_both (eqb j i) (f (queue_of queues i)) (queue_of queues i)
-    (λ l. queue_of (set queues j (f (queue_of queues j))) i ≡ l)
-    (λ e.
-    let same : j ≡ i = eqb-true j i e in
-    ap (queue_of (set queues j (f (queue_of queues j)))) (sym same)
-    ∙ get_or-set_same queues j (f (queue_of queues j)) [] inside
-    ∙ ap (λ k. f (queue_of queues k)) same)
-    (λ e. get_or-set_other queues j i (f (queue_of queues j)) [] (λ same. eqb-false j i e (sym same)))
+queue_of-set queues j f i inside = search (rules, cond_both, eqb-true, get_or-set_same, get_or-set_other, eqb-false)
 
 something_inside : {X : Type 0} (xs : List X) (k : ℕ) → k < length xs → slice_get xs k ≡ None → ⊥
 something_inside [] k inside none = omega arith
@@ -61,9 +51,7 @@ replaced places queues new cells same split = record { outputs = split.outputs; 
 all_filter : {X : Type 0} (P : X → Type 0) (p : X → Bool) (xs : List X) → AllByRecursion P xs →
     AllByRecursion P (filter p xs)
 all_filter P p [] a = tt
-all_filter P p (x ∷ xs) a =
-    cond_both (p x) (x ∷ filter p xs) (filter p xs) (AllByRecursion P) (λ _. (a.0, all_filter P p xs a.1))
-    (λ _. all_filter P p xs a.1)
+all_filter P p (x ∷ xs) a = grind (arith, common_steps, cond_both, all_filter P p xs a.1)
 
 module _ {outputs : ℕ} {places : PlacesView} {pool : PoolView} {w : Waiting}
     (stand : StandFor outputs places pool (cells_in places pool))
@@ -76,19 +64,14 @@ module _ {outputs : ℕ} {places : PlacesView} {pool : PoolView} {w : Waiting}
 
   -- no cell of the queue has its key
   pub queue_has_other_key : (c : Queued) (j : ℕ) → HasOtherKey c w.cells → HasOtherKey c (queue_of pool.queues j)
-  queue_has_other_key c j other =
-      subst (HasOtherKey c) (sym (had.split.queued j))
-      (all_filter (λ x. (x.key ≡ c.key) → ⊥) (is_for j) w.cells other)
+  queue_has_other_key c j other = grind (arith, common_steps, all_filter)
 
   pub as_many : length places.outputs ≡ length w.cells
   as_many = ap length had.split.outputs ∙ length-map w.cells (λ (x : Queued). x.cell.output)
 
   -- an output has as many places as cells
   pub counted : (j : ℕ) → length (queue_of pool.queues j) ≡ count_of j places.outputs
-  counted j =
-      ap length (had.split.queued j)
-      ∙ sym (length-filter-map (is_output j) (λ (x : Queued). x.cell.output) w.cells)
-      ∙ ap (count_of j) (sym had.split.outputs)
+  counted j = grind (arith, common_steps, length-filter-map)
 
   -- the place at which it goes in, as it is computed
   pub place_is : (cushion : ℕ) (c : Queued) (ahead later place : ℕ) →
@@ -96,11 +79,7 @@ module _ {outputs : ℕ} {places : PlacesView} {pool : PoolView} {w : Waiting}
       (is_output c.cell.output) ahead places.outputs → place ≡ min cushion
       (min later (length places.outputs)) → place ≡ place_of_arrival cushion c w.cells
   place_is cushion c ahead later place a l p =
-      let nth = l ∙ ap (λ k. place_of_nth (is_output c.cell.output) k places.outputs) a
-      ∙ sym (both_is_nth places.outputs (queue_of pool.queues) w.cells c.cell.output
-      (λ x. is_before c.key x.key) had.split) in
-      p ∙ ap (λ m. min cushion (min m (length places.outputs))) nth
-      ∙ ap (λ m. min cushion (min (place_of_later c w.cells) m)) as_many
+      grind (arith, common_steps, both_is_nth places.outputs (queue_of pool.queues) w.cells c.cell.output, as_many)
 
   pub arrived : (cushion : ℕ) (c : Queued) (new_places : PlacesView) (new_pool : PoolView) → c.cell.output < outputs →
       HasOtherKey c w.cells → MoreUrgentAhead cushion c w.cells → new_places.outputs ≡ insert places.outputs
@@ -123,14 +102,11 @@ module _ {outputs : ℕ} {places : PlacesView} {pool : PoolView} {w : Waiting}
   -- the place of the first cell for an output that passes a test, as it is computed
   pub place_found : (j : ℕ) (q : Queued → Bool) {ahead place : ℕ} → ahead ≡ position_or_len q (queue_of pool.queues j) →
       place ≡ place_of_nth (is_output j) ahead places.outputs → place ≡ position_or_len (λ x. is_for j x && q x) w.cells
-  place_found j q {ahead} a p =
-      p ∙ ap (λ k. place_of_nth (is_output j) k places.outputs) a
-      ∙ sym (both_is_nth places.outputs (queue_of pool.queues) w.cells j q had.split)
+  place_found j q {ahead} a p = cc (both_is_nth places.outputs (queue_of pool.queues) w.cells j q had.split)
 
   -- an output with a cell has a place
   pub some_places : (j : ℕ) (x : Queued) → slice_get (queue_of pool.queues j) 0 ≡ Some x → 0 < count_of j places.outputs
-  some_places j x head =
-      let some = slice_get_within (queue_of pool.queues j) 0 x head in let same = counted j in omega arith
+  some_places j x head = grind (arith, common_steps, slice_get_within, counted)
 
   -- ## A departure
 
@@ -157,38 +133,20 @@ module _ {outputs : ℕ} {places : PlacesView} {pool : PoolView} {w : Waiting}
   first_is j = ap (λ l. slice_get l 0) (had.split.queued j) ∙ sym (first-is-head j w.cells)
 
   first_place : (j : ℕ) → position_or_len (is_output j) places.outputs ≡ place_for j w.cells
-  first_place j = ap (position_or_len (is_output j)) had.split.outputs
-      ∙ position_or_len-map (is_output j) (λ (x : Queued). x.cell.output) w.cells
+  first_place j = grind (arith, common_steps, position_or_len-map)
 
   -- none waits for it
   pub position-none : (j : ℕ) → slice_get (queue_of pool.queues j) 0 ≡ None → position (is_for j) w.cells ≡ None
-  position-none j head =
-      let none : Option ℕ = None in
-      let gone : slice_get w.cells (place_for j w.cells) ≡ None =
-      sym (find_at (is_for j) w.cells) ∙ sym (first_is j) ∙ head in
-      cond_both (ltb (place_for j w.cells) (length w.cells)) (Some (place_for j w.cells)) none (λ o. o ≡ none)
-      (λ yes. absurd (something_inside w.cells (place_for j w.cells)
-      (ltb-true (place_for j w.cells) (length w.cells) yes) gone))
-      (λ _. refl)
+  position-none j head = grind (arith, common_steps, find_at, first_is, cond_both, something_inside, ltb-true)
 
   -- one waits for it
   pub place_inside : (j : ℕ) (x : Queued) → slice_get (queue_of pool.queues j) 0 ≡ Some x →
       position_or_len (is_output j) places.outputs < length places.outputs
-  place_inside j x head =
-      let shown : slice_get w.cells (place_for j w.cells) ≡ Some x =
-      sym (find_at (is_for j) w.cells) ∙ sym (first_is j) ∙ head in
-      let inside = slice_get_within w.cells (place_for j w.cells) x shown in
-      let same = first_place j in
-      let many = as_many in
-      omega arith
+  place_inside j x head = grind (arith, common_steps, find_at, first_is, slice_get_within, first_place, as_many)
 
   pub position-some : (j : ℕ) (x : Queued) → slice_get (queue_of pool.queues j) 0 ≡ Some x →
       position (is_for j) w.cells ≡ Some (position_or_len (is_output j) places.outputs)
-  position-some j x head =
-      let inside : place_for j w.cells < length w.cells = let h = place_inside j x head in let same = first_place j in
-      let many = as_many in omega arith in
-      ap (λ b. cond b (Some (place_for j w.cells)) None) (lt-ltb (place_for j w.cells) (length w.cells) inside)
-      ∙ ap Some (sym (first_place j))
+  position-some j x head = grind (arith, common_steps, place_inside, first_place, as_many, lt-ltb)
 
   -- ## The cell at a place
 

@@ -1,7 +1,8 @@
 -- The place of the first cell with an id, looked for in one queue after another. The cells for the outputs so far
 -- that have the id first stand somewhere, and those for the next output first stand somewhere: the first of both
 -- stands at the lesser of the two places. In the end these are the cells for all outputs.
-use Rattle.std.proofs.Common.{◌≡◌, ◌≢◌, ℕ, ◌+◌, ◌<◌, ◌≤◌, eqb, ltb, min, not, Bool, true, false, cond, List, [], ◌∷◌, length, Option, Some, None, refl, sym, ap, ◌∙◌, ⊎_elim, arith}
+use Rattle.std.proofs.lemmas.Grind.{common_steps}
+use Rattle.std.proofs.Common.{rules, ◌≡◌, ◌≢◌, ℕ, ◌+◌, ◌<◌, ◌≤◌, eqb, ltb, min, not, Bool, true, false, cond, List, [], ◌∷◌, length, Some, None, refl, ap, ◌∙◌, arith}
 use Rattle.std.specs.Prelude.{◌&&◌, ◌||◌, position}
 use Rattle.std.specs.List.{AllByRecursion, position_or_len}
 use Rattle.std.proofs.Math.Bool.{and-false}
@@ -28,10 +29,7 @@ neither a b fails = ap (λ c. a && c) fails ∙ and-false a
 
 pub least_starts : (id : CellId) (xs : List Queued) → position_or_len (is_below id 0) xs ≡ length xs
 least_starts id [] = refl
-least_starts id (x ∷ xs) =
-    let rest = least_starts id xs in
-    let past = first_later (is_below id 0) x xs (ap (λ c. c && has_id id x) (le-ltb x.cell.output 0 (omega arith))) in
-    omega arith
+least_starts id (x ∷ xs) = grind (arith, common_steps, first_later, le-ltb, least_starts id xs)
 
 -- what passes one of two tests stands first at the lesser of the places of what passes each
 first_of_either : {X : Type 0} (p q : X → Bool) (xs : List X) →
@@ -52,24 +50,14 @@ one_more o j h = grind (arith, nat_tests)
 pub least_next : (id : CellId) (j : ℕ) (xs : List Queued) →
     min (position_or_len (is_below id j) xs) (position_or_len (is_own id j) xs)
     ≡ position_or_len (is_below id (j + 1)) xs
-least_next id j xs =
-    first_of_either (is_below id j) (is_own id j) xs
-    ∙ ap (λ (p : Queued → Bool). position_or_len p xs) (λ k x. one_more x.cell.output j (has_id id x) k)
+least_next id j xs = grind (arith, common_steps, first_of_either, one_more)
 
 pub least_of_all :
     (id : CellId) (n : ℕ) (xs : List Queued) → AllByRecursion (λ x. x.cell.output < n) xs →
     position_or_len (is_below id n) xs ≡ position_or_len (has_id id) xs
 least_of_all id n [] all = refl
 least_of_all id n (x ∷ xs) all =
-    let rest = least_of_all id n xs all.1 in
-    ⊎_elim
-    (λ has. first_here (is_below id n) x xs (both _ _ (lt-ltb x.cell.output n all.0) has)
-    ∙ sym (first_here (has_id id) x xs has))
-    (λ lacks.
-    let a = first_later (is_below id n) x xs (neither (ltb x.cell.output n) (has_id id x) lacks) in
-    let b = first_later (has_id id) x xs lacks in
-    omega arith)
-    (cases_Bool (has_id id x))
+    search (rules, first_here, both, lt-ltb, first_later, neither, cases_Bool, least_of_all id n xs all.1)
 
 -- ## A place that was found, or not, among the cells for all outputs
 
@@ -77,23 +65,10 @@ module _ (id : CellId) (n outputs place : ℕ) (xs : List Queued)
     (all : AllByRecursion (λ x. x.cell.output < outputs) xs) (few : n ≤ outputs) (many : outputs ≤ n)
     (is : place ≡ position_or_len (is_below id n) xs) (len : ℕ) (long : len ≡ length xs) where
   place_is : place ≡ position_or_len (has_id id) xs
-  place_is =
-      let same : n ≡ outputs = omega arith in
-      is ∙ ap (λ m. position_or_len (is_below id m) xs) same ∙ least_of_all id outputs xs all
+  place_is = grind (arith, common_steps, least_of_all)
 
   pub found_at : place ≢ len → Some place ≡ position (has_id id) xs
-  found_at other =
-      let none : Option ℕ = None in
-      let some : ℕ → Option ℕ = λ m. Some m in
-      let here = place_is in
-      let short = first_inside (has_id id) xs in
-      ap some here ∙ sym (ap (λ b. cond b (some (position_or_len (has_id id) xs)) none)
-      (lt-ltb (position_or_len (has_id id) xs) (length xs) (omega arith)))
+  found_at other = grind (arith, common_steps, place_is, first_inside, lt-ltb)
 
   pub found_nowhere : place ≡ len → None ≡ position (has_id id) xs
-  found_nowhere end =
-      let none : Option ℕ = None in
-      let some : ℕ → Option ℕ = λ m. Some m in
-      let here = place_is in
-      sym (ap (λ b. cond b (some (position_or_len (has_id id) xs)) none)
-      (le-ltb (position_or_len (has_id id) xs) (length xs) (omega arith)))
+  found_nowhere end = grind (arith, common_steps, place_is, le-ltb)

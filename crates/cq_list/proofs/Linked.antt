@@ -1,7 +1,8 @@
 -- A queue of nodes that are linked, with one node more or less: it is linked again, and its cells are those of the
 -- queue with the cell put in, or without its head. The other queues keep their nodes, for these have cells for other
 -- outputs.
-use Rattle.std.proofs.Common.{◌≡◌, ◌≢◌, ℕ, zero, suc, ◌+◌, ◌<◌, ◌≤◌, eqb, true, cond, List, [], ◌∷◌, length, None, Some, refl, sym, ap, ◌∙◌, subst, arith}
+use Rattle.std.proofs.lemmas.Grind.{common_steps}
+use Rattle.std.proofs.Common.{rules, ◌≡◌, ◌≢◌, ℕ, zero, suc, ◌+◌, ◌<◌, ◌≤◌, eqb, true, cond, List, [], ◌∷◌, length, None, Some, refl, sym, ap, ◌∙◌, subst, arith}
 use Rattle.std.specs.Prelude.{insert, slice_get}
 use Rattle.std.specs.Option.{option_map}
 use Rattle.std.specs.List.{AllByRecursion, position_or_len}
@@ -26,29 +27,19 @@ use Rattle.cq_list.proofs.Split.{map-insert}
 -- the queue of another output stays
 pub linked_stays : (old new : Nodes) (j i : ℕ) (queue : Queue) → OthersStay j old new → i ≢ j → IsLinked old i queue →
     linked new queue ≡ linked old queue
-linked_stays old new j i queue stay ne had =
-    chain_stays old new (λ c. c.cell.output ≡ i)
+linked_stays old new j i queue stay ne had = chain_stays old new (λ c. c.cell.output ≡ i)
     (λ k node at own. stay k node at (λ same. ne (sym own ∙ same))) queue.len queue.first had.chained.whole had.own
 
 pub is_linked_along : (old new : Nodes) (i : ℕ) (queue : Queue) → linked new queue ≡ linked old queue →
     IsLinked old i queue → IsLinked new i queue
-is_linked_along old new i queue same had =
-    record {
-      chained = record {
-        whole = ap length same ∙ had.chained.whole;
-        rising = subst (λ (l : List (ℕ × Queued)). IsRising (cells l)) (sym same) had.chained.rising;
-        last = subst (λ (l : List (ℕ × Queued)). EndsAt l queue.len queue.last) (sym same) had.chained.last;
-      };
-      own = subst (λ (l : List (ℕ × Queued)). AllByRecursion (λ c. c.cell.output ≡ i) (cells l)) (sym same) had.own;
-    }
+is_linked_along old new i queue same had = grind (arith, common_steps)
 
 -- ## The last cell
 
 pub last_there : (nodes : Nodes) (queue : Queue) (m : ℕ) → IsChained nodes queue → queue.len ≡ m + 1 →
     (node : Node) × (nodes queue.last ≡ Some node)
 last_there nodes queue m had some =
-    let found = node_at nodes queue.len queue.first m queue.last had.whole (had.last m some) in
-    (found.0, found.1)
+    let found = node_at nodes queue.len queue.first m queue.last had.whole (had.last m some) in (found.0, found.1)
 
 -- the last node of a queue of so many and one
 pub record IsLast (nodes : Nodes) (queue : Queue) (m : ℕ) (node : Node) : Type 0 where
@@ -71,15 +62,12 @@ module _ (nodes : Nodes) (queue : Queue) (m : ℕ) (node : Node) (is : IsLast no
   -- where the last cell is more urgent, all cells are
   pub last_ahead : (key : Key) → is_before node.queued.key key ≡ true →
       queue.len ≡ position_or_len (is_no_sooner key) (cells (linked nodes queue))
-  last_ahead key before =
-      is.some ∙ sym (all_ahead key node.queued (cells
-      (linked nodes queue)) m is.chained.rising as_long last_shown before)
+  last_ahead key before = grind (arith, common_steps, all_ahead, as_long, last_shown)
 
   -- where the last cell has the key, all others are
   pub last_is : (key : Key) → node.queued.key ≡ key →
       m ≡ position_or_len (is_no_sooner key) (cells (linked nodes queue))
-  last_is key own =
-      sym (others_ahead key node.queued (cells (linked nodes queue)) m is.chained.rising as_long last_shown own)
+  last_is key own = grind (arith, common_steps, others_ahead, as_long, last_shown)
 
 -- a node of the queue has a cell for its output
 pub own_at : (nodes : Nodes) (j : ℕ) (queue : Queue) (m place : ℕ) (node : Node) → IsLinked nodes j queue →
@@ -100,10 +88,9 @@ pub chain_first : (old new : Nodes) (j : ℕ) (queue : Queue) (k : ℕ) (c : Que
     (queue.len + 1) k ≡ (k, c) ∷ linked old queue
 chain_first old new j queue k c had added others =
     let long : queue.len + 1 ≡ suc queue.len = omega arith in
-    ap (λ n. chain new n k) long
-    ∙ chain-at new queue.len k _ added
-    ∙ ap (λ l. (k, c) ∷ l) (chain_stays old new (λ x. x.cell.output ≡ j)
-    (λ i node there _. others i node there) queue.len queue.first had.chained.whole had.own)
+    ap (λ n. chain new n k) long ∙ chain-at new queue.len k _ added
+    ∙ ap (λ l. (k, c) ∷ l) (chain_stays old new (λ x. x.cell.output ≡ j) (λ i node there _. others i node there)
+    queue.len queue.first had.chained.whole had.own)
 
 -- behind one
 pub chain_more : (old mid new : Slab Node) (j : ℕ) (queue : Queue) (m a k : ℕ) (ahead read : Node) (c : Queued) →
@@ -142,58 +129,22 @@ module _ (old new : Nodes) (j : ℕ) (queue more : Queue) (count k : ℕ) (c : Q
     (chained : linked new more ≡ insert (linked old queue) count (k, c)) (len : more.len ≡ queue.len + 1)
     (last : more.last ≡ cond (eqb count queue.len) k queue.last) where
   count_inside : count ≤ queue.len
-  count_inside =
-      let inside = first_inside (is_later c.key) (cells (linked old queue)) in
-      let same = length-map (linked old queue) (λ (e : ℕ × Queued). e.1) in
-      omega arith
+  count_inside = grind (arith, common_steps, first_inside, is_later, length-map)
 
   pub cells_more : cells (linked new more) ≡ put c (cells (linked old queue))
-  cells_more =
-      ap cells chained
-      ∙ map-insert (λ (e : ℕ × Queued). e.1) (linked old queue) count (k, c)
-      ∙ ap (λ i. insert (cells (linked old queue)) i c) place
-      ∙ sym (put_is c (cells (linked old queue)))
+  cells_more = grind (arith, common_steps, map-insert, put_is)
 
   kept_end : (m : ℕ) → count < m → m ≡ queue.len →
       slice_get (insert (places (linked old queue)) count k) m ≡ Some queue.last
   kept_end zero lt is = absurd (omega arith)
-  kept_end (suc m) lt is =
-      let long : length (places (linked old queue)) ≡ queue.len =
-      length-map (linked old queue) (λ (e : ℕ × Queued). e.0) ∙ had.chained.whole in
-      insert_end_kept (places (linked old queue)) count m k (omega arith) (omega arith)
-      ∙ had.chained.last m (omega arith)
+  kept_end (suc m) lt is = grind (arith, common_steps, length-map, insert_end_kept)
 
   ends_more : EndsAt (linked new more) more.len more.last
   ends_more m is =
-      let at : queue.len ≡ m = omega arith in
-      let keys : List ℕ = places (linked old queue) in
-      let long : length keys ≡ queue.len = length-map (linked old queue) (λ (e : ℕ × Queued). e.0)
-      ∙ had.chained.whole in
-      let inside = count_inside in
-      ap (λ l. slice_get (places l) m) chained
-      ∙ ap (λ l. slice_get l m) (map-insert (λ (e : ℕ × Queued). e.0) (linked old queue) count (k, c))
-      ∙ cond_both (eqb count queue.len) k queue.last (λ p. slice_get (insert keys count k) m ≡ Some p)
-      (λ e.
-      let end : count ≡ m = eqb-true count queue.len e ∙ at in
-      ap (λ i. slice_get (insert keys i k) m) end ∙ insert_end_shown keys m k (long ∙ at))
-      (λ e. kept_end m (let apart = eqb-false count queue.len e in omega arith) (sym at))
-      ∙ ap Some (sym last)
+      search (rules, length-map, count_inside, map-insert, cond_both, eqb-true, insert_end_shown, kept_end, eqb-false)
 
   pub linked_more : IsLinked new j more
-  linked_more =
-      record {
-        chained = record {
-          whole =
-              ap length chained
-              ∙ length-insert (linked old queue) count (k, c)
-              (let inside = count_inside in omega arith)
-              ∙ ap (λ n. n + 1) had.chained.whole ∙ sym len;
-          rising = subst IsRising (sym cells_more) (rising_put c (cells (linked old queue)) had.chained.rising other);
-          last = ends_more;
-        };
-        own = subst (AllByRecursion (λ x. x.cell.output ≡ j)) (sym cells_more)
-            (all_put _ c (cells (linked old queue)) own had.own);
-      }
+  linked_more = grind (arith, common_steps, length-insert, count_inside, cells_more, rising_put, ends_more, all_put)
 
   pub are_more : IsLinked new j more × (cells (linked new more) ≡ put c (cells (linked old queue)))
   are_more = (linked_more, cells_more)
@@ -202,31 +153,22 @@ module _ (old new : Nodes) (j : ℕ) (queue more : Queue) (count k : ℕ) (c : Q
 
 pub head_own : (nodes : Nodes) (j n : ℕ) (queue : Queue) (node : Node) → IsLinked nodes j queue → queue.len ≡ n + 1 →
     nodes queue.first ≡ Some node → node.queued.cell.output ≡ j
-head_own nodes j n queue node had some here =
-    let long : queue.len ≡ suc n = omega arith in
-    own_at nodes j queue 0 queue.first node had
-    (ap (λ l. slice_get (places (chain nodes l queue.first)) 0) long
-    ∙ ap (λ l. slice_get (places l) 0) (chain-at nodes n queue.first node here)) here
+head_own nodes j n queue node had some here = grind (arith, common_steps, own_at, chain-at)
 
 module _ (old new : Nodes) (j n : ℕ) (queue : Queue) (node : Node) (had : IsLinked old j queue)
     (some : queue.len ≡ n + 1) (here : old queue.first ≡ Some node)
     (others : (i : ℕ) (m : Node) → old i ≡ Some m → i ≢ queue.first → new i ≡ Some m) where
   seen : linked old queue ≡ (queue.first, node.queued) ∷ chain old n node.next
-  seen =
-      let long : queue.len ≡ suc n = omega arith in
-      ap (λ l. chain old l queue.first) long ∙ chain-at old n queue.first node here
+  seen = grind (arith, common_steps, chain-at)
 
   rest_stays : chain new n node.next ≡ chain old n node.next
   rest_stays =
       let rising = subst (λ (l : List (ℕ × Queued)). IsRising (cells l)) seen had.chained.rising in
-      let whole : length (chain old n node.next) ≡ n = let same = sym (ap length seen) ∙ had.chained.whole in
-      omega arith in
+      let whole : length (chain old n node.next) ≡ n = search (arith, rules, seen) in
       chain_stays old new (λ x. x ≢ node.queued)
-      (λ i m there ne. others i m there (λ same. ne
-      (ap (λ (o : Node). o.queued) (same_Some m node (sym there ∙ ap old same ∙ here)))))
-      n node.next whole
-      (all_weaker _ _ (λ x before same. differs node.queued x before (sym same))
-      (cells (chain old n node.next)) rising.0)
+      (λ i m there ne. others i m there (λ same. search (arith, rules, same_Some))) n node.next whole
+      (all_weaker _ _ (λ x before same. differs node.queued x before (sym same)) (cells (chain old n node.next))
+      rising.0)
 
   pub cells_less : cells (linked old queue) ≡ node.queued ∷ cells (chain new n node.next)
   cells_less = ap cells seen ∙ ap (λ l. node.queued ∷ cells l) (sym rest_stays)
@@ -237,13 +179,10 @@ module _ (old new : Nodes) (j n : ℕ) (queue : Queue) (node : Node) (had : IsLi
       let own = subst (AllByRecursion (λ c. c.cell.output ≡ j)) cells_less had.own in
       record {
         chained = record {
-          whole = let same = ap length (seen ∙ ap (λ l. (queue.first, node.queued) ∷ l) (sym rest_stays)) in
-              omega arith;
+          whole = search (arith, rules, seen, rest_stays);
           rising = rising.1;
-          last = λ m is.
-              ap (λ l. slice_get (places l) m) rest_stays
-              ∙ ap (λ l. slice_get (places l) (suc m)) (sym seen)
-              ∙ had.chained.last (suc m) (omega arith);
+          last = λ m is. ap (λ l. slice_get (places l) m) rest_stays
+              ∙ ap (λ l. slice_get (places l) (suc m)) (sym seen) ∙ had.chained.last (suc m) (omega arith);
         };
         own = own.1;
       }

@@ -1,7 +1,8 @@
 -- The place of the item number k of those that pass a test. It is read one item at a time: an item that fails is
 -- passed over, the first that passes is the answer for k = 0, and else leaves one less to look for. So it is the
 -- place at which a second test is first met among those that pass the first.
-use Rattle.std.proofs.Common.{◌≡◌, ◌≢◌, ℕ, ◌+◌, ◌-◌, ◌<◌, ◌≤◌, eqb, Bool, true, false, cond, List, [], ◌∷◌, ◌++◌, length, get_or, drop, map, refl, sym, ap, ◌∙◌, ⊎_elim, arith}
+use Rattle.std.proofs.Common.{rules, ◌≡◌, ◌≢◌, ℕ, ◌+◌, ◌-◌, ◌<◌, ◌≤◌, eqb, Bool, true, false, cond, List, [], ◌∷◌, ◌++◌, length, get_or, drop, map, refl, ap, arith, sym, ◌∙◌, ⊎_elim}
+use Rattle.std.proofs.lemmas.Grind.{common_steps}
 use Rattle.std.specs.Prelude.{◌&&◌, filter}
 use Rattle.std.specs.List.{position_or_len}
 use Rattle.std.proofs.lemmas.Bool.{eq-eqb, ne_eqb, cases_Bool, cases_eq}
@@ -26,49 +27,34 @@ nth_here p x xs e = ap (λ b. cond (b && true) 0 (1 + place_of_nth p (cond b 0 0
 
 pub nth_next : {X : Type 0} (p : X → Bool) (k : ℕ) (x : X) (xs : List X) → p x ≡ true →
     place_of_nth p (1 + k) (x ∷ xs) ≡ 1 + place_of_nth p k xs
-nth_next p k x xs e =
-    let less : 1 + k - 1 ≡ k = omega arith in
-    ap (λ b. cond (b && eqb (1 + k) 0) 0 (1 + place_of_nth p (cond b (1 + k - 1) (1 + k)) xs)) e
-    ∙ ap (λ b. cond b 0 (1 + place_of_nth p (1 + k - 1) xs)) (ne_eqb (1 + k) 0 (λ e. omega arith))
-    ∙ ap (λ n. 1 + place_of_nth p n xs) less
+nth_next p k x xs e = grind (arith, common_steps, ne_eqb)
 
 -- the first place is the place of number 0
 pub nth_is_first : {X : Type 0} (p : X → Bool) (xs : List X) → place_of_nth p 0 xs ≡ position_or_len p xs
 nth_is_first p [] = refl
-nth_is_first p (x ∷ xs) =
-    ⊎_elim
-    (λ own. nth_here p x xs own ∙ sym (first_here p x xs own))
-    (λ other. nth_other p 0 x xs other ∙ ap (λ n. 1 + n) (nth_is_first p xs) ∙ sym (first_later p x xs other))
-    (cases_Bool (p x))
+nth_is_first p (x ∷ xs) = search (rules, nth_here, first_here, nth_other, first_later, cases_Bool, nth_is_first p xs)
 
 pub place_of_nth-map : {X Y : Type 0} (p : Y → Bool) (f : X → Y) (k : ℕ) (xs : List X) →
     place_of_nth p k (map f xs) ≡ place_of_nth (λ x. p (f x)) k xs
 place_of_nth-map p f k [] = refl
-place_of_nth-map p f k (x ∷ xs) =
-    ap (λ n. cond (p (f x) && eqb k 0) 0 (1 + n)) (place_of_nth-map p f (cond (p (f x)) (k - 1) k) xs)
+place_of_nth-map p f k (x ∷ xs) = grind (arith, common_steps, place_of_nth-map p f (cond (p (f x)) (k - 1) k) xs)
 
 -- ## Item by item
 
 -- the item at a place is of another output
 pub nth_past_other : (j k : ℕ) (xs : List ℕ) (i : ℕ) → i < length xs → get_or xs i 0 ≢ j →
     place_of_nth (is_output j) k (drop i xs) ≡ 1 + place_of_nth (is_output j) k (drop (i + 1) xs)
-nth_past_other j k xs i h ne =
-    ap (place_of_nth (is_output j) k) (drop_more xs i 0 h)
-    ∙ nth_other (is_output j) k (get_or xs i 0) (drop (i + 1) xs) (ne_eqb _ _ ne)
+nth_past_other j k xs i h ne = grind (arith, common_steps, drop_more, nth_other, ne_eqb)
 
 -- it is of this output, and one of those to be passed over
 pub nth_past_own : (j k : ℕ) (xs : List ℕ) (i : ℕ) → i < length xs → get_or xs i 0 ≡ j →
     place_of_nth (is_output j) (1 + k) (drop i xs) ≡ 1 + place_of_nth (is_output j) k (drop (i + 1) xs)
-nth_past_own j k xs i h e =
-    ap (place_of_nth (is_output j) (1 + k)) (drop_more xs i 0 h)
-    ∙ nth_next (is_output j) k (get_or xs i 0) (drop (i + 1) xs) (eq-eqb _ _ e)
+nth_past_own j k xs i h e = grind (arith, common_steps, drop_more, nth_next, eq-eqb)
 
 -- it is of this output, and the one that is looked for
 pub nth_found : (j : ℕ) (xs : List ℕ) (i : ℕ) → i < length xs → get_or xs i 0 ≡ j →
     place_of_nth (is_output j) 0 (drop i xs) ≡ 0
-nth_found j xs i h e =
-    ap (place_of_nth (is_output j) 0) (drop_more xs i 0 h)
-    ∙ nth_here (is_output j) (get_or xs i 0) (drop (i + 1) xs) (eq-eqb _ _ e)
+nth_found j xs i h e = grind (arith, common_steps, drop_more, nth_here, eq-eqb)
 
 pub nth_none_left : (j k : ℕ) (xs : List ℕ) (i : ℕ) → length xs ≤ i → place_of_nth (is_output j) k (drop i xs) ≡ 0
 nth_none_left j k xs i h = ap (place_of_nth (is_output j) k) (drop_all i xs h)
@@ -79,28 +65,19 @@ nth_none_left j k xs i h = ap (place_of_nth (is_output j) k) (drop_all i xs h)
 pub first_of_both : {X : Type 0} (p q : X → Bool) (xs : List X) →
     position_or_len (λ x. p x && q x) xs ≡ place_of_nth p (position_or_len q (filter p xs)) xs
 first_of_both p q [] = refl
-first_of_both {X} p q (x ∷ xs) =
-    let both : X → Bool = λ y. p y && q y in
-    let rest = first_of_both p q xs in
-    let at : List X → ℕ = λ l. place_of_nth p (position_or_len q l) (x ∷ xs) in
-    ⊎_elim
-    (λ own.
-    let queue = ap at (passes p x xs own) in
-    ⊎_elim
-    (λ yes.
-    first_here both x xs (ap (λ b. b && q x) own ∙ yes)
-    ∙ sym (queue ∙ ap (λ n. place_of_nth p n (x ∷ xs)) (first_here q x (filter p xs) yes) ∙ nth_here p x xs own))
-    (λ no.
-    first_later both x xs (ap (λ b. b && q x) own ∙ no)
-    ∙ ap (λ n. 1 + n) rest
-    ∙ sym (queue ∙ ap (λ n. place_of_nth p n (x ∷ xs)) (first_later q x (filter p xs) no)
-    ∙ nth_next p (position_or_len q (filter p xs)) x xs own))
-    (cases_Bool (q x)))
-    (λ other.
-    first_later both x xs (ap (λ b. b && q x) other)
-    ∙ ap (λ n. 1 + n) rest
-    ∙ sym (ap at (fails p x xs other) ∙ nth_other p (position_or_len q (filter p xs)) x xs other))
-    (cases_Bool (p x))
+first_of_both {X} p q (x ∷ xs) = grind (
+  arith,
+  common_steps,
+  passes,
+  first_here,
+  nth_here,
+  first_later,
+  nth_next,
+  cases_Bool,
+  fails,
+  nth_other,
+  first_of_both p q xs,
+)
 
 -- the item number k is there where more than k pass
 pub nth_inside : {X : Type 0} (p : X → Bool) (k : ℕ) (xs : List X) → k < length (filter p xs) →
@@ -151,23 +128,6 @@ nth_in_front p k (x ∷ xs) ys inside =
 
 pub nth_behind : {X : Type 0} (p : X → Bool) (k : ℕ) (xs ys : List X) → length (filter p xs) ≤ k →
     place_of_nth p k (xs ++ ys) ≡ length xs + place_of_nth p (k - length (filter p xs)) ys
-nth_behind p k [] ys past = let all : k ≡ k - 0 = omega arith in let same = ap (λ n. place_of_nth p n ys) all in
-    omega arith
+nth_behind p k [] ys past = grind (arith, common_steps)
 nth_behind p k (x ∷ xs) ys past =
-    ⊎_elim
-    (λ own.
-    let more = ap length (passes p x xs own) in
-    let less : k ≡ 1 + (k - 1) = omega arith in
-    let left : k - 1 - length (filter p xs) ≡ k - length (filter p (x ∷ xs)) = omega arith in
-    let step = ap (λ n. place_of_nth p n (x ∷ xs ++ ys)) less ∙ nth_next p (k - 1) x (xs ++ ys) own in
-    let rest = nth_behind p (k - 1) xs ys (omega arith) in
-    let same = ap (λ n. place_of_nth p n ys) left in
-    omega arith)
-    (λ other.
-    let as_many = ap length (fails p x xs other) in
-    let left : k - length (filter p xs) ≡ k - length (filter p (x ∷ xs)) = omega arith in
-    let step = nth_other p k x (xs ++ ys) other in
-    let rest = nth_behind p k xs ys (omega arith) in
-    let same = ap (λ n. place_of_nth p n ys) left in
-    omega arith)
-    (cases_Bool (p x))
+    search (rules, passes, nth_next, fails, nth_other, cases_Bool, nth_behind p (k - 1) xs ys, nth_behind p k xs ys)

@@ -1,5 +1,6 @@
 -- A cell put into a queue whose cells rise in their keys: it goes in at the place of the first less urgent cell, and
 -- the queue still rises, since a cell that has another key and is not before it is after it.
+use Rattle.std.proofs.lemmas.Grind.{common_steps}
 use Rattle.std.proofs.Common.{◌≡◌, ℕ, zero, suc, ◌+◌, Bool, true, false, not, List, [], ◌∷◌, length, Some, refl, sym, ap, ◌∙◌, subst, ⊎_elim, arith}
 use Rattle.std.specs.Prelude.{insert, slice_get}
 use Rattle.std.specs.List.{AllByRecursion, position_or_len}
@@ -23,24 +24,20 @@ is_later key x = is_before key x.key
 
 pub put_is : (c : Queued) (xs : List Queued) → put c xs ≡ insert xs (position_or_len (is_later c.key) xs) c
 put_is c [] = refl
-put_is c (x ∷ xs) =
-    cond_both (is_before c.key x.key) (c ∷ x ∷ xs) (x ∷ put c xs)
+put_is c (x ∷ xs) = cond_both (is_before c.key x.key) (c ∷ x ∷ xs) (x ∷ put c xs)
     (λ l. l ≡ insert (x ∷ xs) (position_or_len (is_later c.key) (x ∷ xs)) c)
-    (λ e. ap (λ i. insert (x ∷ xs) i c) (sym (first_here (is_later c.key) x xs e)))
-    (λ e.
-    let place : suc (position_or_len (is_later c.key) xs) ≡ position_or_len (is_later c.key) (x ∷ xs) = let later =
-    first_later (is_later c.key) x xs e in omega arith in
+    (λ e. ap (λ i. insert (x ∷ xs) i c) (sym (first_here (is_later c.key) x xs e))) (λ e.
+    let place : suc (position_or_len (is_later c.key) xs) ≡ position_or_len (is_later c.key) (x ∷ xs) =
+    let later = first_later (is_later c.key) x xs e in omega arith in
     ap (λ l. x ∷ l) (put_is c xs) ∙ ap (λ i. insert (x ∷ xs) i c) place)
 
 pub all_put : (P : Queued → Type 0) (c : Queued) (xs : List Queued) → P c → AllByRecursion P xs →
     AllByRecursion P (put c xs)
-all_put P c xs own all =
-    subst (AllByRecursion P) (sym (put_is c xs)) (all_insert P xs (position_or_len (is_later c.key) xs) c own all)
+all_put P c xs own all = grind (arith, common_steps, put_is, all_insert)
 
 pub rising_put : (c : Queued) (xs : List Queued) → IsRising xs → HasOtherKey c xs → IsRising (put c xs)
 rising_put c [] rising other = (tt, tt)
-rising_put c (x ∷ xs) rising other =
-    cond_both (is_before c.key x.key) (c ∷ x ∷ xs) (x ∷ put c xs) IsRising
+rising_put c (x ∷ xs) rising other = cond_both (is_before c.key x.key) (c ∷ x ∷ xs) (x ∷ put c xs) IsRising
     (λ e. ((e, all_weaker _ _ (λ y later. key_laws.on c.key x.key y.key e later) xs rising.0), rising))
     (λ e. (
       all_put (IsBefore x) c xs (⊎_elim (λ h. h) (λ h. absurd (other.0 (key_laws.alike x.key c.key h e)))
@@ -65,12 +62,8 @@ pub no_sooner_is_later :
 no_sooner_is_later c [] other = refl
 no_sooner_is_later c (x ∷ xs) other =
     let rest = no_sooner_is_later c xs other.1 in
-    ⊎_elim
-    (λ sooner.
-    first_later (is_no_sooner c.key) x xs (ap not sooner)
-    ∙ ap (λ n. 1 + n) rest
-    ∙ sym (first_later (is_later c.key) x xs (key_laws.one_way x.key c.key sooner)))
-    (λ no.
+    ⊎_elim (λ sooner. first_later (is_no_sooner c.key) x xs (ap not sooner) ∙ ap (λ n. 1 + n) rest
+    ∙ sym (first_later (is_later c.key) x xs (key_laws.one_way x.key c.key sooner))) (λ no.
     let later : is_before c.key x.key ≡ true =
     ⊎_elim (λ e. e) (λ neither. absurd (other.0 (key_laws.alike x.key c.key no neither)))
     (cases_Bool (is_before c.key x.key)) in
@@ -114,5 +107,4 @@ module _ (key : Key) (last : Queued) where
       let before = all_at (IsBefore x) xs m last rising.0 at in
       let ahead : is_before x.key key ≡ true = subst (λ (k : Key). is_before x.key k ≡ true) own before in
       let past = first_later (is_no_sooner key) x xs (ap not ahead) in
-      let rest = others_ahead xs m rising.1 (omega arith) at own in
-      omega arith
+      let rest = others_ahead xs m rising.1 (omega arith) at own in omega arith

@@ -1,5 +1,6 @@
 -- A pool in which one queue changes: each queue is linked as before, and the cells of the others are the same.
-use Rattle.std.proofs.Common.{◌≡◌, ◌≢◌, ℕ, zero, suc, ◌+◌, ◌<◌, ◌≤◌, List, [], ◌∷◌, replicate, length, get_or, set, refl, sym, ap, ◌∙◌, subst, ⊎_elim, arith, length-set, get_or-set_same, get_or-set_other}
+use Rattle.std.proofs.lemmas.Grind.{common_steps}
+use Rattle.std.proofs.Common.{rules, ◌≡◌, ◌≢◌, ℕ, zero, suc, ◌+◌, ◌<◌, ◌≤◌, List, [], ◌∷◌, replicate, length, get_or, set, refl, ap, ◌∙◌, arith, length-set, get_or-set_same, get_or-set_other, sym, ⊎_elim}
 use Rattle.std.specs.Prelude.{Bool}
 use Rattle.std.specs.List.{position_or_len}
 use Rattle.std.proofs.lemmas.Bool.{cases_lt, cases_eq}
@@ -15,14 +16,7 @@ use Rattle.cq_list.proofs.Linked.{linked_stays, is_linked_along}
 -- what is seen of a queue, also beyond the last
 pub queue_seen : (nodes : Nodes) (queues : List Queue) (j : ℕ) →
     queue_of (cells_in_queues nodes queues) j ≡ cells (linked nodes (queue_at queues j))
-queue_seen nodes queues j =
-    ⊎_elim
-    (λ inside. get_or-map (λ (q : Queue). cells (linked nodes q)) queues j no_queue [] inside)
-    (λ past.
-    get_or_past (cells_in_queues nodes queues) j []
-    (let same = length-map queues (λ (q : Queue). cells (linked nodes q)) in omega arith)
-    ∙ ap (λ (q : Queue). cells (linked nodes q)) (sym (get_or_past queues j no_queue past)))
-    (cases_lt j (length queues))
+queue_seen nodes queues j = grind (arith, common_steps, get_or-map, get_or_past, length-map, cases_lt)
 
 -- where no cell waits
 pub no_cells : (nodes : Nodes) (queues : List Queue) (n : ℕ) → queues ≡ replicate n no_queue →
@@ -40,12 +34,7 @@ module _ (old new : Nodes) (j : ℕ) (queues : List Queue) (queue : Queue) (had 
 
   pub are_linked_changed : IsLinked new j queue → AreLinked new (set queues j queue)
   are_linked_changed changed i =
-      ⊎_elim
-      (λ same. subst (IsLinked new i) (sym (ap (queue_at (set queues j queue)) same
-      ∙ get_or-set_same queues j queue no_queue inside)) (subst (λ (k : ℕ). IsLinked new k queue) (sym same) changed))
-      (λ ne. subst (IsLinked new i) (sym (get_or-set_other queues j i queue no_queue ne))
-      (is_linked_along old new i (queue_at queues i) (other_stays i ne) (had i)))
-      (cases_eq i j)
+      grind (arith, common_steps, get_or-set_same, get_or-set_other, is_linked_along, other_stays, cases_eq)
 
   pub cells_changed : cells_in_queues new (set queues j queue)
       ≡ set (cells_in_queues old queues) j (cells (linked new queue))
@@ -78,29 +67,22 @@ module _ (old new : Nodes) (j : ℕ) (queues : List Queue) (queue : Queue) (had 
 -- the queue of an output, as it was read
 pub queue_read : (nodes : Nodes) (queues : List Queue) (j : ℕ) (queue : Queue) → AreLinked nodes queues →
     j < length queues → queue ≡ get_or queues j queue → IsLinked nodes j queue
-queue_read nodes queues j queue had inside read =
-    subst (IsLinked nodes j) (sym (get_or_read queues j queue inside read no_queue)) (had j)
+queue_read nodes queues j queue had inside read = search (rules, get_or_read)
 
 pub cells_read : (nodes : Nodes) (queues : List Queue) (seen : List (List Queued)) (j : ℕ) (queue : Queue) →
     cells_in_queues nodes queues ≡ seen → j < length queues → queue ≡ get_or queues j queue → queue_of seen j ≡ cells
     (linked nodes queue)
-cells_read nodes queues seen j queue is inside read =
-    ap (λ l. queue_of l j) (sym is) ∙ queue_seen nodes queues j
-    ∙ ap (λ (q : Queue). cells (linked nodes q)) (sym (get_or_read queues j queue inside read no_queue))
+cells_read nodes queues seen j queue is inside read = grind (arith, common_steps, queue_seen, get_or_read)
 
 -- ## A queue that was read
 
 pub inside_seen : (nodes : Nodes) (queues : List Queue) (seen : List (List Queued)) (j : ℕ) →
     cells_in_queues nodes queues ≡ seen → j < length seen → j < length queues
-inside_seen nodes queues seen j is inside =
-    let same = ap length (sym is) ∙ length-map queues (λ (q : Queue). cells (linked nodes q)) in omega arith
+inside_seen nodes queues seen j is inside = grind (arith, common_steps, length-map)
 
 -- an output with a cell is one of the outputs
 pub inside_some : (seen : List (List Queued)) (j : ℕ) (n : ℕ) → n < length (queue_of seen j) → j < length seen
-inside_some seen j n some =
-    ⊎_elim (λ inside. inside)
-    (λ past. let none = ap length (get_or_past seen j [] past) in absurd (omega arith))
-    (cases_lt j (length seen))
+inside_some seen j n some = grind (arith, common_steps, get_or_past, cases_lt)
 
 -- what is known of it
 pub record IsRead (nodes : Nodes) (queues : List Queue) (seen : List (List Queued)) (j : ℕ)
@@ -114,14 +96,7 @@ pub record IsRead (nodes : Nodes) (queues : List Queue) (seen : List (List Queue
 pub is_read : (nodes : Nodes) (queues : List Queue) (seen : List (List Queued)) (j : ℕ) (queue : Queue) →
     AreLinked nodes queues → cells_in_queues nodes queues ≡ seen → j < length queues → queue ≡ get_or queues j queue →
     IsRead nodes queues seen j queue
-is_read nodes queues seen j queue had view inside read =
-    record {
-      inside = inside;
-      read = read;
-      is_linked = queue_read nodes queues j queue had inside read;
-      view = view;
-      are_cells = cells_read nodes queues seen j queue view inside read;
-    }
+is_read nodes queues seen j queue had view inside read = search (rules, queue_read, cells_read)
 
 -- so of a queue of the pool
 pub read_of : {nodes : Slab Node} {queues : List Queue} {room spare : ℕ} {seen : PoolView} {j : ℕ} {queue : Queue} →
@@ -138,13 +113,11 @@ pub first_seen : {nodes : Slab Node} {queues : List Queue} {room spare : ℕ} {s
     record { queues = cells_in_queues (get nodes) queues; spare = spare } ≡ seen → j < length seen.queues →
     queue ≡ get_or queues j queue → n ≡ position_or_len p (cells (linked (get nodes) queue)) →
     n ≡ position_or_len p (queue_of seen.queues j)
-first_seen p had is inside read first =
-    first ∙ ap (position_or_len p) (sym (read_of had is inside read).are_cells)
+first_seen p had is inside read first = grind (arith, common_steps, read_of)
 
 pub as_many : {nodes : Nodes} {queues : List Queue} {seen : List (List Queued)} {j : ℕ} {queue : Queue} →
     IsRead nodes queues seen j queue → length (queue_of seen j) ≡ queue.len
-as_many {nodes} {queue = queue} r =
-    ap length r.are_cells ∙ length-map (linked nodes queue) (λ (e : ℕ × Queued). e.1) ∙ r.is_linked.chained.whole
+as_many {nodes} {queue = queue} r = grind (arith, common_steps, length-map)
 
 -- ## Another queue in its place
 
@@ -153,21 +126,14 @@ module _ (old new : Slab Node) (j room : ℕ) (queues : List Queue) (seen : List
     (stay : OthersStay j (get old) (get new)) where
   pub is_pool_changed : IsLinked (get new) j queue → slab_len new + read.len ≡ slab_len old + queue.len →
       slab_len new ≤ room → new.capacity ≡ old.capacity → IsPool new (set queues j queue) room
-  is_pool_changed changed len fits capacity =
-      record {
-        linked = are_linked_changed (get old) (get new) j queues queue had.linked r.inside stay changed;
-        counted =
-            let sum = sum_by-set (λ (q : Queue). q.len) queues j queue read r.inside in
-            let same = ap (λ (q : Queue). q.len) r.read in
-            omega arith;
-        fits = fits;
-        memory = omega arith;
-      }
+  is_pool_changed changed len fits capacity = grind (
+    arith,
+    common_steps,
+    are_linked_changed (get old) (get new) j queues queue had.linked r.inside stay changed,
+    sum_by-set,
+  )
 
   pub view_changed : (f : List Queued → List Queued) → cells (linked (get new) queue) ≡ f
       (cells (linked (get old) read)) → cells_in_queues (get new) (set queues j queue) ≡ set seen j
       (f (queue_of seen j))
-  view_changed f same =
-      cells_changed (get old) (get new) j queues queue had.linked r.inside stay
-      ∙ ap (λ l. set l j (cells (linked (get new) queue))) r.view
-      ∙ ap (set seen j) (same ∙ ap f (sym r.are_cells))
+  view_changed f same = grind (arith, common_steps, cells_changed)

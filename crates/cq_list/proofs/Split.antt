@@ -13,7 +13,8 @@
 --
 -- Last what is looked up: a cell at a place, and the place of the first cell for an output that passes a test, which is
 -- the place of the number k of its output where the number k of the queue is the first that passes.
-use Rattle.std.proofs.Common.{◌≡◌, ℕ, zero, suc, ◌+◌, eqb, Bool, true, false, not, cond, List, [], ◌∷◌, ◌++◌, length, take, drop, map, Some, refl, sym, ap, ◌∙◌, subst, arith, take-append-drop}
+use Rattle.std.proofs.lemmas.Grind.{common_steps}
+use Rattle.std.proofs.Common.{rules, ◌≡◌, ℕ, zero, suc, ◌+◌, eqb, Bool, true, false, not, cond, List, [], ◌∷◌, ◌++◌, length, take, drop, map, Some, refl, sym, ap, ◌∙◌, arith, take-append-drop, subst}
 use Rattle.std.proofs.lemmas.List.{map-append, take-map, drop-map}
 use Rattle.std.specs.Prelude.{◌&&◌, slice_get, remove, insert, filter}
 use Rattle.std.specs.List.{AllByRecursion, position_or_len}
@@ -38,8 +39,7 @@ filter-insert-other p xs i y e =
 
 pub filter-insert : {X : Type 0} (p : X → Bool) (xs : List X) (i : ℕ) (y : X) → p y ≡ true →
     filter p (insert xs i y) ≡ filter p (take i xs) ++ y ∷ filter p (drop i xs)
-filter-insert p xs i y e =
-    filter-append p (take i xs) (y ∷ drop i xs) ∙ ap (λ l. filter p (take i xs) ++ l) (passes p y (drop i xs) e)
+filter-insert p xs i y e = grind (arith, common_steps, filter-append, passes)
 
 pub filter-parts : {X : Type 0} (p : X → Bool) (xs : List X) (i : ℕ) →
     filter p xs ≡ filter p (take i xs) ++ filter p (drop i xs)
@@ -50,10 +50,7 @@ filter-parts p xs i = sym (ap (filter p) (take-append-drop i xs)) ∙ filter-app
 -- once the first cell is out of the list, and out of its queue
 behind_first : (queues : Queues) (x : Queued) (xs : List Queued) → ((j : ℕ) → queues j ≡ filter (is_for j) (x ∷ xs)) →
     (j : ℕ) → without_head x.cell.output queues j ≡ filter (is_for j) xs
-behind_first queues x xs same j =
-    cond_both (is_for j x) (drop 1 (queues j)) (queues j) (λ l. l ≡ filter (is_for j) xs)
-    (λ own. ap (drop 1) (same j ∙ passes (is_for j) x xs own))
-    (λ other. same j ∙ fails (is_for j) x xs other)
+behind_first queues x xs same j = grind (arith, common_steps, cond_both, passes, fails)
 
 merged_queues : (cells : List Queued) (queues : Queues) → ((j : ℕ) → queues j ≡ filter (is_for j) cells) →
     merged (map (λ c. c.cell.output) cells) queues ≡ cells
@@ -79,18 +76,12 @@ all_filtered : (c : Queued) (j : ℕ) (xs : List Queued) → c.cell.output ≡ j
     AllByRecursion (λ x. c.cell.output ≡ x.cell.output → IsBefore c x) xs → AllByRecursion (IsBefore c)
     (filter (is_for j) xs)
 all_filtered c j [] own a = tt
-all_filtered c j (x ∷ xs) own a =
-    cond_both (is_for j x) (x ∷ filter (is_for j) xs) (filter (is_for j) xs) (AllByRecursion (IsBefore c))
-    (λ e. (a.0 (own ∙ sym (eqb-true x.cell.output j e)), all_filtered c j xs own a.1))
-    (λ _. all_filtered c j xs own a.1)
+all_filtered c j (x ∷ xs) own a = grind (arith, common_steps, cond_both, eqb-true, all_filtered c j xs own a.1)
 
 -- the queue of a list that keeps the order of each output's cells is rising
 pub queue_rising : (j : ℕ) (xs : List Queued) → KeepsOrder xs → IsRising (filter (is_for j) xs)
 queue_rising j [] order = tt
-queue_rising j (x ∷ xs) order =
-    cond_both (is_for j x) (x ∷ filter (is_for j) xs) (filter (is_for j) xs) IsRising
-    (λ e. (all_filtered x j xs (eqb-true x.cell.output j e) order.0, queue_rising j xs order.1))
-    (λ _. queue_rising j xs order.1)
+queue_rising j (x ∷ xs) order = search (rules, cond_both, all_filtered, eqb-true, queue_rising j xs order.1)
 
 -- a rising queue without one of its cells, to which this cell comes again
 pub put_between : (before after : List Queued) (c : Queued) → IsRising (before ++ c ∷ after) →
@@ -121,50 +112,29 @@ with_queued c queues j = cond (is_for j c) (put c (queues j)) (queues j)
 
 pub map-insert : {X Y : Type 0} (f : X → Y) (xs : List X) (i : ℕ) (y : X) →
     map f (insert xs i y) ≡ insert (map f xs) i (f y)
-map-insert f xs i y =
-    map-append f (take i xs) (y ∷ drop i xs)
-    ∙ ap (λ l. l ++ f y ∷ map f (drop i xs)) (sym (take-map f i xs))
-    ∙ ap (λ l. take i (map f xs) ++ f y ∷ l) (sym (drop-map f i xs))
+map-insert f xs i y = grind (arith, common_steps, map-append, take-map, drop-map)
 
 pub split_arrived : (places : List ℕ) (queues : Queues) (xs : List Queued) (cushion : ℕ) (c : Queued) →
     IsSplit places queues xs → KeepsOrder xs → HasOtherKey c xs → MoreUrgentAhead cushion c xs → IsSplit
     (insert places (place_of_arrival cushion c xs) c.cell.output) (with_queued c queues) (with_arrival cushion c xs)
 split_arrived places queues xs cushion c s order other ahead =
-    let at = place_of_arrival cushion c xs in
-    record {
-      outputs = ap (λ l. insert l at c.cell.output) s.outputs
-          ∙ sym (map-insert (λ (x : Queued). x.cell.output) xs at c);
-      queued = λ j.
-          cond_both (is_for j c) (put c (queues j)) (queues j) (λ l. l ≡ filter (is_for j) (with_arrival cushion c xs))
-          (λ own. ap (put c) (s.queued j) ∙ sym (own_arrived cushion c xs j
-          (eqb-true c.cell.output j own) order other ahead))
-          (λ no. s.queued j ∙ sym (filter-insert-other (is_for j) xs at c no));
-    }
+    grind (arith, common_steps, map-insert, cond_both, s.queued, own_arrived, eqb-true, filter-insert-other)
 
 -- ## The first cell for an output that leaves
 
 -- the head of its queue is the first cell for it
 pub first-is-head : (j : ℕ) (xs : List Queued) → first_for j xs ≡ slice_get (filter (is_for j) xs) 0
 first-is-head j [] = refl
-first-is-head j (x ∷ xs) =
-    cond_both (is_for j x) (x ∷ filter (is_for j) xs) (filter (is_for j) xs) (λ l. first_for j (x ∷ xs) ≡ slice_get l 0)
-    (λ e. ap (λ b. cond b (Some x) (first_for j xs)) e)
-    (λ e. ap (λ b. cond b (Some x) (first_for j xs)) e ∙ first-is-head j xs)
+first-is-head j (x ∷ xs) = grind (arith, common_steps, cond_both, first-is-head j xs)
 
 own_left : (j : ℕ) (xs : List Queued) → filter (is_for j) (without_first j xs) ≡ drop 1 (filter (is_for j) xs)
 own_left j [] = refl
-own_left j (x ∷ xs) =
-    cond_both (is_for j x) xs (x ∷ without_first j xs) (λ l. filter (is_for j) l ≡ drop 1 (filter (is_for j) (x ∷ xs)))
-    (λ e. ap (drop 1) (sym (passes (is_for j) x xs e)))
-    (λ e. fails (is_for j) x (without_first j xs) e ∙ own_left j xs ∙ ap (drop 1) (sym (fails (is_for j) x xs e)))
+own_left j (x ∷ xs) = grind (arith, common_steps, cond_both, passes, fails, own_left j xs)
 
 other_left : (i j : ℕ) (xs : List Queued) → eqb j i ≡ false →
     filter (is_for i) (without_first j xs) ≡ filter (is_for i) xs
 other_left i j [] ne = refl
-other_left i j (x ∷ xs) ne =
-    cond_both (is_for j x) xs (x ∷ without_first j xs) (λ l. filter (is_for i) l ≡ filter (is_for i) (x ∷ xs))
-    (λ e. sym (fails (is_for i) x xs (ap (λ o. eqb o i) (eqb-true x.cell.output j e) ∙ ne)))
-    (λ _. ap (λ l. cond (is_for i x) (x ∷ l) l) (other_left i j xs ne))
+other_left i j (x ∷ xs) ne = grind (arith, common_steps, cond_both, fails, eqb-true, other_left i j xs ne)
 
 outputs_left : (j : ℕ) (xs : List Queued) →
     map (λ c. c.cell.output) (without_first j xs) ≡ remove (map (λ c. c.cell.output) xs)
@@ -177,21 +147,12 @@ outputs_left j (x ∷ xs) =
     (λ l. outputs l ≡ remove (outputs (x ∷ xs)) (position_or_len (is_output j) (outputs (x ∷ xs))))
     (λ e. ap (remove (outputs (x ∷ xs))) (sym (first_here (is_output j) x.cell.output (outputs xs) e)))
     (λ e.
-    let place : suc rest ≡ position_or_len (is_output j) (outputs (x ∷ xs)) = let later =
-    first_later (is_output j) x.cell.output (outputs xs) e in omega arith in
+    let place : suc rest ≡ position_or_len (is_output j) (outputs (x ∷ xs)) = search (arith, rules, first_later) in
     ap (λ l. x.cell.output ∷ l) (outputs_left j xs) ∙ ap (remove (outputs (x ∷ xs))) place)
 
 pub split_left : (places : List ℕ) (queues : Queues) (xs : List Queued) (j : ℕ) → IsSplit places queues xs →
     IsSplit (remove places (position_or_len (is_output j) places)) (without_head j queues) (without_first j xs)
-split_left places queues xs j s =
-    record {
-      outputs = ap (λ l. remove l (position_or_len (is_output j) l)) s.outputs ∙ sym (outputs_left j xs);
-      queued = λ i.
-          cond_both (eqb j i) (drop 1 (queues i)) (queues i) (λ l. l ≡ filter (is_for i) (without_first j xs))
-          (λ own. ap (drop 1) (s.queued i) ∙ sym (own_left i xs)
-          ∙ ap (λ k. filter (is_for i) (without_first k xs)) (sym (eqb-true j i own)))
-          (λ no. s.queued i ∙ sym (other_left i j xs no));
-    }
+split_left places queues xs j s = search (rules, outputs_left, cond_both, s.queued, own_left, eqb-true, other_left)
 
 -- ## What is looked up
 
@@ -203,11 +164,7 @@ position_or_len-map p f (x ∷ xs) = ap (λ n. cond (not (p (f x))) (1 + n) 0) (
 pub length-filter-map : {X Y : Type 0} (p : Y → Bool) (f : X → Y) (xs : List X) →
     length (filter p (map f xs)) ≡ length (filter (λ x. p (f x)) xs)
 length-filter-map p f [] = refl
-length-filter-map p f (x ∷ xs) =
-    cond_both (p (f x)) (x ∷ filter (λ y. p (f y)) xs) (filter (λ y. p (f y)) xs)
-    (λ l. length (filter p (map f (x ∷ xs))) ≡ length l)
-    (λ e. ap length (passes p (f x) (map f xs) e) ∙ ap suc (length-filter-map p f xs))
-    (λ e. ap length (fails p (f x) (map f xs) e) ∙ length-filter-map p f xs)
+length-filter-map p f (x ∷ xs) = grind (arith, common_steps, cond_both, passes, fails, length-filter-map p f xs)
 
 -- the first cell for an output that passes a test too, found in its queue
 pub both_is_nth :
@@ -241,6 +198,5 @@ cell_at places queues xs i c s h =
     ap (λ l. slice_get l (count_of j (take i places))) (s.queued j)
     ∙ ap (λ l. slice_get (filter (is_for j) xs) (count_of j (take i l))) s.outputs
     ∙ ap (λ l. slice_get (filter (is_for j) xs) (count_of j l)) (take-map (λ (x : Queued). x.cell.output) i xs)
-    ∙ ap (slice_get (filter (is_for j) xs)) (length-filter-map (is_output j) (λ (x : Queued). x.cell.output)
-    (take i xs))
-    ∙ own_at xs i c h
+    ∙ ap (slice_get (filter (is_for j) xs))
+    (length-filter-map (is_output j) (λ (x : Queued). x.cell.output) (take i xs)) ∙ own_at xs i c h

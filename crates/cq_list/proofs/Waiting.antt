@@ -1,8 +1,9 @@
 -- The cells of a list stay in range, in the order of their keys for each output, and different in their keys: where a
 -- cell arrives, and where the first cell for an output is taken out.
-use Rattle.std.proofs.Common.{ℕ, List, ◌≡◌, ◌<◌, cond, Result, Ok, is_ok, ap, ◌∙◌}
+use Rattle.std.proofs.lemmas.Grind.{common_steps}
+use Rattle.std.proofs.Common.{arith, ℕ, List, ◌≡◌, ◌<◌, cond, Result, Ok, is_ok, ap, ◌∙◌}
 use Rattle.cq_base.specs.declared.cell.Queued.{Queued}
-use Rattle.cq_base.specs.Cells.{HasOtherKey, MoreUrgentAhead, without_first, place_of_arrival, with_arrival}
+use Rattle.cq_base.specs.Cells.{HasOtherKey, MoreUrgentAhead, without_first, with_arrival}
 use Rattle.cq_base.proofs.Lists.{all_insert, all_left, each_pair_left, keys_differ_insert, keeps_order_arrival}
 use Rattle.cq_list.specs.InputList.{AreWaiting}
 
@@ -10,22 +11,11 @@ pub are_waiting_arrived : (outputs : ℕ) (cells : List Queued) (c : Queued) (cu
     c.cell.output < outputs → HasOtherKey c cells → MoreUrgentAhead cushion c cells → AreWaiting outputs
     (with_arrival cushion c cells)
 are_waiting_arrived outputs cells c cushion w inside other ahead =
-    record {
-      few = w.few;
-      in_range = all_insert _ cells (place_of_arrival cushion c cells) c inside w.in_range;
-      in_order = keeps_order_arrival cushion c cells w.in_order other ahead;
-      keys_differ = keys_differ_insert cells (place_of_arrival cushion c cells) c w.keys_differ other;
-    }
+    grind (arith, common_steps, all_insert, keeps_order_arrival, keys_differ_insert)
 
 pub are_waiting_left : (outputs : ℕ) (cells : List Queued) (j : ℕ) → AreWaiting outputs cells →
     AreWaiting outputs (without_first j cells)
-are_waiting_left outputs cells j w =
-    record {
-      few = w.few;
-      in_range = all_left _ j cells w.in_range;
-      in_order = each_pair_left _ j cells w.in_order;
-      keys_differ = each_pair_left _ j cells w.keys_differ;
-    }
+are_waiting_left outputs cells j w = grind (arith, common_steps, all_left, each_pair_left)
 
 -- what a call leaves where it did not fail
 pub left_by_ok : {T E X : Type 0} (r : Result T E) (t : T) (x y z : X) → x ≡ cond (is_ok r) y z → r ≡ Ok t → x ≡ y

@@ -1,8 +1,8 @@
 -- A walk along a queue, node by node. Where it has come the rest of the chain begins at the place that it looks at,
 -- none of the cells behind it is less urgent, and it knows the place of the last of them.
-use Rattle.std.proofs.Common.{◌≡◌, ℕ, zero, suc, ◌+◌, ◌-◌, ◌<◌, ◌≤◌, Bool, true, false, List, [], ◌∷◌, length, drop, Some, sym, ap, ◌∙◌, arith, length-drop}
+use Rattle.std.proofs.lemmas.Grind.{common_steps}
+use Rattle.std.proofs.Common.{rules, ◌≡◌, ℕ, zero, suc, ◌+◌, ◌-◌, ◌<◌, ◌≤◌, Bool, true, false, List, [], ◌∷◌, drop, Some, sym, ap, ◌∙◌, arith, length-drop, length}
 use Rattle.std.specs.Prelude.{slice_get}
-use Rattle.std.specs.Option.{option_map}
 use Rattle.std.specs.List.{position_or_len}
 use Rattle.std.proofs.lemmas.List.{drop-drop, drop_all, length-map}
 use Rattle.std.proofs.lemmas.Option.{slice_get-map}
@@ -10,7 +10,7 @@ use Rattle.cq_base.specs.declared.cell.Queued.{Queued}
 use Rattle.cq_base.proofs.Lists.{first_here, first_inside}
 use Rattle.cq_list.specs.declared.pool.Node.{Node}
 use Rattle.cq_list.specs.declared.pool.Queue.{Queue}
-use Rattle.cq_list.specs.Pool.{Nodes, chain, linked, places, cells, EndsAt, IsChained}
+use Rattle.cq_list.specs.Pool.{Nodes, chain, linked, cells, EndsAt, IsChained}
 use Rattle.cq_list.proofs.Chain.{chain-at, begins}
 use Rattle.cq_list.proofs.Search.{not_here, drop_shown}
 
@@ -50,8 +50,7 @@ module _ (nodes : Nodes) (queue : Queue) (count place : ℕ) (had : IsChained no
     node_shown = shown_at (linked nodes queue) count _ _ rest_is
 
     pub cell_shown : slice_get (cells (linked nodes queue)) count ≡ Some node.queued
-    cell_shown = slice_get-map (λ (e : ℕ × Queued). e.1) (linked nodes queue) count
-        ∙ ap (option_map (λ (e : ℕ × Queued). e.1)) node_shown
+    cell_shown = grind (arith, common_steps, slice_get-map, node_shown)
 
 -- the head of a queue
 pub head_there : (nodes : Nodes) (queue : Queue) → IsChained nodes queue → 0 < queue.len →
@@ -60,8 +59,7 @@ head_there nodes queue had some = node_there nodes queue 0 queue.first had (reac
 
 pub head_shown : (nodes : Nodes) (queue : Queue) (node : Node) → IsChained nodes queue → 0 < queue.len →
     nodes queue.first ≡ Some node → slice_get (cells (linked nodes queue)) 0 ≡ Some node.queued
-head_shown nodes queue node had some here = cell_shown nodes queue 0 queue.first had
-    (reached_first nodes queue) some node here
+head_shown nodes queue node had some here = grind (arith, common_steps, cell_shown, reached_first)
 
 -- ## A search for the first cell that passes a test
 
@@ -84,8 +82,7 @@ pub record LooksAt (nodes : Nodes) (queue : Queue) (p : Queued → Bool) (count 
 pub looks_at : (nodes : Nodes) (queue : Queue) (p : Queued → Bool) (count place : ℕ) (node : Node) →
     IsChained nodes queue → HasPassed nodes queue p count place → count < queue.len → nodes place ≡ Some node →
     LooksAt nodes queue p count place node
-looks_at nodes queue p count place node chained passed inside here =
-    record { chained = chained; passed = passed; inside = inside; here = here }
+looks_at nodes queue p count place node chained passed inside here = grind (arith, common_steps)
 
 module _ (nodes : Nodes) (queue : Queue) (p : Queued → Bool) (count place : ℕ) (node : Node)
     (looks : LooksAt nodes queue p count place node) where
@@ -93,33 +90,16 @@ module _ (nodes : Nodes) (queue : Queue) (p : Queued → Bool) (count place : �
   shown = cell_shown nodes queue count place looks.chained looks.passed.reached looks.inside node looks.here
 
   pub search_ends : p node.queued ≡ true → count ≡ position_or_len p (cells (linked nodes queue))
-  search_ends passes =
-      let here =
-      ap (position_or_len p) (drop_shown (cells (linked nodes queue)) count node.queued shown)
-      ∙ first_here p node.queued (drop (count + 1) (cells (linked nodes queue))) passes in
-      omega arith
+  search_ends passes = grind (arith, common_steps, drop_shown, shown, first_here)
 
   pub search_on : p node.queued ≡ false → HasPassed nodes queue p (count + 1) node.next
-  search_on fails =
-      record {
-        reached = reached_next nodes queue count place looks.chained looks.passed.reached looks.inside node looks.here;
-        behind = not_here p (cells (linked nodes queue)) count node.queued looks.passed.behind shown fails;
-      }
+  search_on fails = search (rules, reached_next, not_here, shown)
 
   -- the place of its node is the last one behind which it goes on
   pub ends_on : EndsAt (linked nodes queue) (count + 1) place
-  ends_on m is =
-      let at : m ≡ count = omega arith in
-      ap (slice_get (places (linked nodes queue))) at
-      ∙ slice_get-map (λ (e : ℕ × Queued). e.0) (linked nodes queue) count
-      ∙ ap (option_map (λ (e : ℕ × Queued). e.0))
-      (node_shown nodes queue count place looks.chained looks.passed.reached looks.inside node looks.here)
+  ends_on m is = search (rules, slice_get-map, node_shown)
 
 pub searched_all :
     (nodes : Nodes) (queue : Queue) (p : Queued → Bool) (count place : ℕ) → IsChained nodes queue →
     HasPassed nodes queue p count place → queue.len ≤ count → queue.len ≡ position_or_len p (cells (linked nodes queue))
-searched_all nodes queue p count place had passed past =
-    let many = length-map (linked nodes queue) (λ (e : ℕ × Queued). e.1) in
-    let none = ap (position_or_len p) (drop_all count (cells (linked nodes queue)) (omega arith)) in
-    let short = first_inside p (cells (linked nodes queue)) in
-    omega arith
+searched_all nodes queue p count place had passed past = search (rules, length-map, drop_all, first_inside)

@@ -1,6 +1,7 @@
 -- Inputs that leave. The last of the free ones is taken out where it stands, since no input is free twice. And inputs
 -- that are parted one after another, from the first on, leave no pair.
-use Rattle.std.proofs.Common.{◌≡◌, ◌≢◌, ℕ, zero, suc, ◌+◌, ◌-◌, ◌<◌, eqb, List, [], ◌∷◌, ◌++◌, length, take, replicate, Option, Some, None, refl, sym, ap, ◌∙◌, subst, inl, inr, arith}
+use Rattle.std.proofs.lemmas.Grind.{common_steps}
+use Rattle.std.proofs.Common.{◌≡◌, ℕ, zero, suc, ◌+◌, ◌-◌, ◌<◌, eqb, List, [], ◌∷◌, ◌++◌, length, take, replicate, Option, Some, None, refl, ap, inl, inr, arith}
 use Rattle.std.specs.Prelude.{slice_get}
 use Rattle.std.specs.List.{IsDistinct}
 use Rattle.std.proofs.lemmas.List.{length-set, nil_from_length, take_all, take_more_set}
@@ -21,18 +22,13 @@ among_at (y ∷ ys) (suc k) x h = inr (among_at ys k x h)
 last_apart : (xs : List ℕ) (k x : ℕ) → k + 1 ≡ length xs → Apart xs → slice_get xs k ≡ Some x →
     take k xs ≡ without_input x xs
 last_apart [] k x e a h = absurd (let P : ⊥ = cc in P)
-last_apart (y ∷ ys) zero x e a h =
-    let none : ys ≡ [] = nil_from_length ys (omega arith) in
-    sym (without_here x y ys (same_Some y x h) ∙ ap (without_input x) none)
-last_apart (y ∷ ys) (suc k) x e a h =
-    let other : y ≢ x = λ is. a.0 (subst (λ z. Among z ys) (sym is) (among_at ys k x h)) in
-    ap (λ l. y ∷ l) (last_apart ys k x (omega arith) a.1 h) ∙ sym (without_there x y ys other)
+last_apart (y ∷ ys) zero x e a h = grind (arith, common_steps, nil_from_length, without_here, same_Some)
+last_apart (y ∷ ys) (suc k) x e a h = grind (arith, common_steps, Among, among_at, without_there, last_apart ys k x)
 
 pub last_left : (xs : List ℕ) (x : ℕ) → IsDistinct eqb xs → slice_get xs (length xs - 1) ≡ Some x →
     take (length xs - 1) xs ≡ without_input x xs
 last_left [] x differ h = absurd (let P : ⊥ = cc in P)
-last_left (y ∷ ys) x differ h =
-    last_apart (y ∷ ys) (length (y ∷ ys) - 1) x (omega arith) (apart (y ∷ ys) differ) h
+last_left (y ∷ ys) x differ h = last_apart (y ∷ ys) (length (y ∷ ys) - 1) x (omega arith) (apart (y ∷ ys) differ) h
 
 -- ## One after another
 
@@ -47,17 +43,7 @@ one_more (suc n) x = ap (λ l. x ∷ l) (one_more n x)
 
 pub parted-next : (n ports : ℕ) (m : Partners) → n < ports → ArePartedBefore n ports m →
     ArePartedBefore (n + 1) ports (without_pair m n)
-parted-next n ports m inside before =
-    let free : Option ℕ = None in
-    let more : suc n ≡ n + 1 = omega arith in
-    record {
-      size = length-set m n free ∙ before.size;
-      parted =
-          take_more_set m n free (omega arith) ∙ ap (λ l. l ++ free ∷ []) before.parted ∙ one_more n free
-          ∙ ap (λ (k : ℕ). replicate k free) more;
-    }
+parted-next n ports m inside before = grind (arith, common_steps, length-set, take_more_set, one_more)
 
 pub parted-all : (n ports : ℕ) (m : Partners) → n ≡ ports → ArePartedBefore n ports m → m ≡ replicate ports None
-parted-all n ports m all before =
-    let free : Option ℕ = None in
-    sym (take_all n m (omega arith)) ∙ before.parted ∙ ap (λ (k : ℕ). replicate k free) all
+parted-all n ports m all before = grind (arith, common_steps, take_all)

@@ -1,12 +1,13 @@
 -- The steps of one proposal put together: the input goes on to its next place, whom the output held is parted, and
 -- the output takes the input. What is then shown is the state after the event, with its pairs, its free inputs and
 -- its count.
-use Rattle.std.proofs.Common.{ℕ, ◌≡◌, ◌≢◌, ◌+◌, ◌*◌, ◌<◌, ◌≤◌, ◌∷◌, mul-le-mul, true, false, eqb, ltb, List, length, get_or, set, Some, None, refl, sym, ◌∙◌, ap, arith, subst}
+use Rattle.std.proofs.lemmas.Grind.{common_steps}
+use Rattle.std.proofs.Common.{rules, ℕ, ◌≡◌, ◌≢◌, ◌+◌, ◌<◌, ◌≤◌, ◌∷◌, mul-le-mul, true, false, eqb, ltb, List, length, get_or, set, Some, None, refl, sym, ◌∙◌, ap, arith, subst}
 use Rattle.std.proofs.lemmas.Bool.{lt-ltb, le-ltb, eq-eqb, ne_eqb}
 use Rattle.std.proofs.lemmas.List.{get_or-set_other, length-set}
 use Rattle.cq_prefs.specs.Orders.{Orders, ports, inputs_of, position_of}
 use Rattle.cq_prefs.specs.Pairing.{partner_of, IsFreeInput, IsFreeOutput}
-use Rattle.cq_prefs.specs.Proposals.{State, position_held, next_place, Holds, IsFree, IsSound, next_output, holder, propose, outcome_of, matching_of}
+use Rattle.cq_prefs.specs.Proposals.{State, position_held, next_place, Holds, IsSound, next_output, holder, propose, outcome_of, matching_of}
 use Rattle.cq_prefs.specs.declared.outcome.Outcome.{Outcome}
 use Rattle.cq_prefs.specs.declared.outcome.Outcome.TheVariants.{Held, Displaced, Rejected}
 use Rattle.cq_prefs.proofs.Places.{input_in_range, inputs_at_most}
@@ -38,20 +39,12 @@ output_known o c i j p h a = rw a.output (next_known o c i j p h a)
 -- the output does not hold the input already
 taken_less : (o : Orders) (c : Progress) (i j p h : ℕ) → IsAsk o c i j p h → p ≤ h →
     position_of o (next_output o c.state i) i < position_held c.state (next_output o c.state i)
-taken_less o c i j p h a l =
-    let shown = a.offers.shown i (next_output o c.state i) (asked_offered o a.offers c i a.free) in
-    let apart : position_held c.state (next_output o c.state i) ≢ position_of o (next_output o c.state i) i =
-    λ e. a.free.unheld (next_output o c.state i) (e, shown) in
-    omega arith
+taken_less o c i j p h a l = grind (arith, common_steps, a.offers.shown, asked_offered, a.free.unheld)
 
 -- there is one proposal more to make
 pub few_made : (o : Orders) (c : Progress) (i j p h : ℕ) → IsAsk o c i j p h → ports o ≤ 64 → c.made < 4096
 few_made o c i j p h a few =
-    let F : State → Type 0 = λ s. IsFree o s i in
-    let r = a.reached in
-    let most = events_at_most o a.offers (i ∷ r.events) (r.are_events, subst F r.state a.free) in
-    let square : ports o * ports o ≤ 64 * 64 = mul-le-mul few few in
-    omega arith
+    grind (arith, common_steps, events_at_most o a.offers (i ∷ a.reached.events), mul-le-mul few few)
 
 state_from : (s t : State) → s.positions ≡ t.positions → s.places ≡ t.places → s ≡ t
 state_from s t e f = λ k. record { positions = e k; places = f k }
@@ -71,62 +64,30 @@ sizes o c i j p h a d m = (
 pub rejected : (o : Orders) (c : Progress) (i j p h : ℕ) → IsAsk o c i j p h → h < p → (d : Progress) →
     MovesOn o c d i → Proposed o c d i Rejected
 unfolding outcome_of
-rejected o c i j p h a less d m =
-    let w = sound o c i j p h a in
-    let more : position_held c.state (next_output o c.state i) ≤ position_of o (next_output o c.state i) i =
-    omega arith in
-    let most = inputs_at_most o a.offers (next_output o c.state i) in
-    let shown = a.offers.shown i (next_output o c.state i) (asked_offered o a.offers c i a.free) in
-    let somebody : eqb (position_held c.state (next_output o c.state i)) (ports o) ≡ false =
-    ne_eqb _ _ (λ e. omega arith) in
-    let keeps : ltb (position_of o (next_output o c.state i) i) (position_held c.state (next_output o c.state i))
-    ≡ false =
-    le-ltb _ _ more in
-    let event : d.state ≡ propose o c.state i =
-    state_from d.state
-    (record { positions = c.state.positions; places = set c.state.places i (next_place c.state i + 1) })
-    m.positions m.places ∙ sym (state-refused o c.state i more) in
-    record {
-      reached =
-          reached-step o a.offers c d i a.reached a.free event
-          (m.matching ∙ a.reached.matching ∙ matching-refused o a.offers c.state w i a.free more) m.waiting
-          m.made;
-      event = event;
-      made = m.made;
-      answer = rw (somebody, keeps) refl;
-    }
+rejected o c i j p h a less d m = search (
+  rules,
+  sound,
+  inputs_at_most,
+  a.offers.shown,
+  asked_offered,
+  ne_eqb,
+  le-ltb,
+  state_from,
+  state-refused,
+  reached-step,
+  matching-refused,
+)
 
 -- ## The output takes the input
 
 taken : (o : Orders) (c : Progress) (i j p h : ℕ) → IsAsk o c i j p h → p ≤ h → (d e f : Progress) → MovesOn o c d i →
     e.state ≡ d.state → Takes o e f i j p → f.state ≡ propose o c.state i
-taken o c i j p h a l d e f m same t =
-    state_from f.state (record {
-      positions = set c.state.positions (next_output o c.state i)
-          (position_of o (next_output o c.state i) i);
-      places = set c.state.places i (next_place c.state i + 1);
-    })
-    (
-    t.positions
-    ∙ ap (λ s. set s.positions j p) same
-    ∙ ap (λ ps. set ps j p) m.positions
-    ∙ ap (λ n. set c.state.positions n p) a.output
-    ∙ ap (set c.state.positions (next_output o c.state i)) a.position
-    )
-    (t.places ∙ ap (λ s. s.places) same ∙ m.places)
-    ∙ sym (state-taken o c.state i (taken_less o c i j p h a l))
+taken o c i j p h a l d e f m same t = search (rules, state_from, state-taken, taken_less)
 
 -- it held nobody
 pub free_input : (o : Orders) (c : Progress) (i j p h : ℕ) → IsAsk o c i j p h → (d : Progress) → MovesOn o c d i →
     (i < length d.matching) × IsFreeInput d.matching i
-free_input o c i j p h a d m =
-    let known = input_known o c i j p h a in
-    let e : d.matching ≡ matching_of o c.state = m.matching ∙ a.reached.matching in (
-      let z = (matching-of o a.offers c.state).size in
-          let y = ap length e in
-          omega arith,
-      ap (λ l. partner_of l i) e ∙ partner-free o a.offers c.state i a.free,
-    )
+free_input o c i j p h a d m = grind (arith, common_steps, input_known, matching-of, partner-free)
 
 pub free_output : (o : Orders) (c : Progress) (i j p h : ℕ) → IsAsk o c i j p h → h ≡ ports o → (d : Progress) →
     MovesOn o c d i → (j < length d.matching) × IsFreeOutput d.matching j
@@ -168,16 +129,11 @@ other_held o c i j p h a n e = n (a.held ∙ e)
 
 pub is_holder : (o : Orders) (c : Progress) (i j p h k : ℕ) (order : List ℕ) → IsAsk o c i j p h →
     order ≡ inputs_of o j → k ≡ get_or order h 0 → k ≡ holder o c.state (next_output o c.state i)
-is_holder o c i j p h k order a e f =
-    f ∙ ap (λ l. get_or l h 0) (e ∙ ap (inputs_of o) a.output)
-    ∙ ap (λ n. get_or (inputs_of o (next_output o c.state i)) n 0) a.held
+is_holder o c i j p h k order a e f = grind (arith, common_steps)
 
 holds_other : (o : Orders) (c : Progress) (i j p h k : ℕ) → IsAsk o c i j p h → h ≢ ports o →
     k ≡ holder o c.state (next_output o c.state i) → Holds o c.state (next_output o c.state i) k
-holds_other o c i j p h k a n e =
-    let P : ℕ → Type 0 = λ x. Holds o c.state (next_output o c.state i) x in
-    subst P (sym e) (holder-is o a.offers c.state (sound o c i j p h a) (next_output o c.state i)
-    (next_known o c i j p h a) (other_held o c i j p h a n)).1
+holds_other o c i j p h k a n e = search (rules, holder-is, sound, next_known, other_held)
 
 pub held_inside : (o : Orders) (c : Progress) (i j p h : ℕ) → IsAsk o c i j p h → h ≢ ports o →
     h < length (inputs_of o j)
@@ -190,26 +146,16 @@ held_inside o c i j p h a n =
 
 pub other_known : (o : Orders) (c : Progress) (i j p h k : ℕ) → IsAsk o c i j p h → h ≢ ports o →
     k ≡ holder o c.state (next_output o c.state i) → k < ports o
-other_known o c i j p h k a n e =
-    input_in_range o k (next_output o c.state i) (a.offers.shown_back k (next_output o c.state i)
-    (holds_other o c i j p h k a n e).1)
+other_known o c i j p h k a n e = search (rules, input_in_range, a.offers.shown_back, holds_other)
 
 pub other_has_partner : (o : Orders) (c : Progress) (i j p h k : ℕ) → IsAsk o c i j p h → h ≢ ports o →
     k ≡ holder o c.state (next_output o c.state i) → (d : Progress) → MovesOn o c d i → partner_of d.matching k ≢ None
-other_has_partner o c i j p h k a n e d m none =
-    let had =
-    partner-from o a.offers c.state (sound o c i j p h a) k (next_output o c.state i)
-    (holds_other o c i j p h k a n e) in
-    let same = ap (λ l. partner_of l k) (m.matching ∙ a.reached.matching) in
-    let P : ⊥ = cc in P
+other_has_partner o c i j p h k a n e d m none = search (rules, partner-from, sound, holds_other)
 
 parted : (o : Orders) (c : Progress) (i j p h k : ℕ) → IsAsk o c i j p h →
     k ≡ holder o c.state (next_output o c.state i) → (d e : Progress) → MovesOn o c d i → Parts o d e k →
     e.matching ≡ set (matching_of o c.state) (holder o c.state (next_output o c.state i)) None
-parted o c i j p h k a is d e m s =
-    s.matching
-    ∙ ap (λ l. set l k None) (m.matching ∙ a.reached.matching)
-    ∙ ap (λ n. set (matching_of o c.state) n None) is
+parted o c i j p h k a is d e m s = grind (arith, common_steps)
 
 pub free_input_then : (o : Orders) (c : Progress) (i j p h k : ℕ) → IsAsk o c i j p h → h ≢ ports o →
     k ≡ holder o c.state (next_output o c.state i) → (d e : Progress) → MovesOn o c d i → Parts o d e k →
@@ -228,14 +174,7 @@ pub free_output_then : (o : Orders) (c : Progress) (i j p h k : ℕ) → IsAsk o
     k ≡ holder o c.state (next_output o c.state i) → (d e : Progress) → MovesOn o c d i → Parts o d e k →
     (j < length e.matching) × IsFreeOutput e.matching j
 free_output_then o c i j p h k a n is d e m s =
-    let known = output_known o c i j p h a in
-    let q = parted o c i j p h k a is d e m s in (
-      let z = length-set (matching_of o c.state) (holder o c.state (next_output o c.state i)) None in
-          let y = (matching-of o a.offers c.state).size in let x = ap length q in omega arith,
-      λ l t. unheld-parted o a.offers c.state (sound o c i j p h a) (next_output o c.state i)
-          (next_known o c i j p h a) (other_held o c i j p h a n) l
-          (ap (λ r. partner_of r l) (sym q) ∙ t ∙ ap (λ r. Some r) a.output),
-    )
+    search (rules, output_known, parted, length-set, matching-of, unheld-parted, sound, next_known, other_held)
 
 pub displaced : (o : Orders) (c : Progress) (i j p h k : ℕ) → IsAsk o c i j p h → p ≤ h → h ≢ ports o →
     k ≡ holder o c.state (next_output o c.state i) →

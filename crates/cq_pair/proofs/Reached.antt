@@ -2,12 +2,13 @@
 -- list of free inputs is free, and where the list is empty nobody is, so what is held is the matching best for the
 -- inputs.
 use Rattle.std.proofs.Common.{ℕ, ◌≡◌, ◌+◌, ◌*◌, ◌<◌, ◌≤◌, List, [], ◌∷◌, Option, None, length, get_or, replicate, sym, ◌∙◌, ap, arith, subst}
+use Rattle.std.proofs.lemmas.Grind.{common_steps}
 use Rattle.std.specs.List.{range_with_len}
 use Rattle.std.proofs.lemmas.List.{length-replicate}
 use Rattle.std.proofs.lemmas.List.Elements.{filter_passes}
 use Rattle.cq_prefs.specs.Orders.{Orders, AreOffers, ports, IsOffered}
 use Rattle.cq_prefs.specs.Pairing.{IsInputBest, proposals}
-use Rattle.cq_prefs.specs.Proposals.{State, start, state_after, IsFree, IsQuiescent, IsSound, is_free, free_inputs, next_output, propose, matching_of}
+use Rattle.cq_prefs.specs.Proposals.{State, start, IsFree, IsQuiescent, IsSound, is_free, free_inputs, next_output, propose, matching_of, state_after}
 use Rattle.cq_prefs.proofs.Places.{input_in_range, output_in_range, inputs_at_most}
 use Rattle.cq_prefs.proofs.Members.{Among, among_kept, in_range}
 use Rattle.cq_prefs.proofs.Steps.{sound-start, sound-after, held-start, next_output-offered}
@@ -44,8 +45,7 @@ pub made-most : (o : Orders) → AreOffers o → (c : Progress) → IsReached o 
 made-most o v c r = rw r.made (events_at_most o v r.events r.are_events)
 
 pub waiting-reached : (o : Orders) → AreOffers o → (c : Progress) → IsReached o c → ShowsWaiting o c
-waiting-reached o v c r =
-    r.free ∙ sym (waiting-free o v c.state) ∙ ap (waiting_inputs o c.state.places) (sym r.matching)
+waiting-reached o v c r = grind (arith, common_steps, waiting-free)
 
 -- ## The beginning
 
@@ -63,23 +63,11 @@ matching-start o v =
 pub start-shown : (o : Orders) (n : ℕ) (positions places : List ℕ) → n ≡ ports o → positions ≡ replicate n n →
     places ≡ replicate n 0 → record { positions = positions; places = places } ≡ start o
 unfolding start
-start-shown o n positions places e a b =
-    let x : positions ≡ replicate (ports o) (ports o) = a ∙ ap (λ (k : ℕ). replicate k k) e in
-    let y : places ≡ replicate (ports o) 0 = b ∙ ap (λ (k : ℕ). let z : ℕ = 0 in replicate k z) e in
-    λ i. record { positions = x i; places = y i }
+start-shown o n positions places e a b = grind (arith, common_steps)
 
 pub reached-begin : (o : Orders) → AreOffers o → (c : Progress) → c.state ≡ start o →
     c.matching ≡ replicate (ports o) None → ShowsWaiting o c → c.made ≡ 0 → IsReached o c
-reached-begin o v c state matching waiting made =
-    let held : c.matching ≡ matching_of o c.state = matching ∙ matching-start o v ∙ ap (matching_of o) (sym state) in
-    record {
-      events = [];
-      are_events = tt;
-      state = state;
-      matching = held;
-      free = waiting ∙ ap (waiting_inputs o c.state.places) held ∙ waiting-free o v c.state;
-      made = made;
-    }
+reached-begin o v c state matching waiting made = grind (arith, common_steps, matching-start, waiting-free)
 
 -- ## One proposal more
 

@@ -1,7 +1,8 @@
 -- What the steps of a core do to what it shows. Its fields are what was shown; the free inputs that it shows are those
 -- that wait by the places and the pairs, and so they are after a step that takes an input out, or puts it back, as it
 -- waits.
-use Rattle.std.proofs.Common.{ℕ, ◌≡◌, ◌≢◌, ◌+◌, ◌<◌, ◌≤◌, eqb, List, length, set, get_or, Some, None, sym, ◌∙◌, ap, subst, arith}
+use Rattle.std.proofs.lemmas.Grind.{common_steps}
+use Rattle.std.proofs.Common.{ℕ, ◌≡◌, ◌≢◌, ◌+◌, ◌<◌, ◌≤◌, eqb, List, length, set, get_or, Some, None, sym, ap, subst, arith}
 use Rattle.std.specs.List.{IsDistinct}
 use Rattle.cq_prefs.specs.Orders.{Orders, ports, outputs_of}
 use Rattle.cq_prefs.specs.Pairing.{Partners, partner_of}
@@ -41,71 +42,41 @@ module _ (o : Orders) (fields now : Progress) (is : fields ≡ now) (shows : Sho
       (at : next ≡ next_place fields.state i) (inside : i < length now.state.places) where
     moves : (free : List ℕ) → free ≡ waiting_inputs o (set fields.state.places i (next + 1)) fields.matching →
         MovesOn o now (moved_on fields moved free) i
-    moves free waiting =
-        record {
-          positions = ap (λ x. x.state.positions) is;
-          places = set_is ∙ ap (λ n. set fields.state.places i (n + 1)) at
-              ∙ ap (λ x. set x.state.places i (next_place x.state i + 1)) is;
-          matching = ap (λ x. x.matching) is;
-          made = ap (λ x. x.made + 1) is;
-          waiting = waiting ∙ ap (λ l. waiting_inputs o l fields.matching) (sym set_is);
-        }
+    moves free waiting = grind (arith, common_steps)
 
     -- one that has no output left then is out
     pub moves_out : (free : List ℕ) → length (outputs_of o i) ≤ next + 1 → free ≡ without_input i fields.free →
         MovesOn o now (moved_on fields moved free) i
-    moves_out free end out =
-        let size = ap (λ x. length x.state.places) is in
-        moves free (out ∙ ap (without_input i) waits
-        ∙ moved_out o fields.state.places fields.matching i (next + 1) (omega arith) end)
+    moves_out free end out = grind (arith, common_steps, moves, waits, moved_out)
 
     pub moves_still : next + 1 < length (outputs_of o i) →
         MovesOn o now (moved_on fields moved fields.free) i
-    moves_still left =
-        let size = ap (λ x. length x.state.places) is in
-        moves fields.free
-        (waits ∙ moved_still o fields.state.places fields.matching i (next + 1) (omega arith) (omega arith) left)
+    moves_still left = grind (arith, common_steps, moves, waits, moved_still)
 
   -- ## An input is parted
 
   module _ (i : ℕ) (known : i < ports o) (size : length now.matching ≡ ports o)
-      (partner : partner_of now.matching i ≢ None) (left : get_or fields.state.places i 0 < length (outputs_of o i)) where
-    inside : i < length fields.matching
-    inside = let same = ap (λ x. length x.matching) is in omega arith
+      (partner : partner_of now.matching i ≢ None) (left : get_or fields.state.places i 0 < length (outputs_of o i))
+    where
+      inside : i < length fields.matching
+      inside = let same = ap (λ x. length x.matching) is in omega arith
 
-    had : partner_of fields.matching i ≢ None
-    had = let P : Partners → Type 0 = λ m. partner_of m i ≢ None in subst P (sym (ap (λ x. x.matching) is)) partner
+      had : partner_of fields.matching i ≢ None
+      had = let P : Partners → Type 0 = λ m. partner_of m i ≢ None in subst P (sym (ap (λ x. x.matching) is)) partner
 
-    pub parts_room : length fields.free < ports o
-    parts_room =
-        let room = room_back o fields.state.places fields.matching i known inside had left in
-        let shown = ap length waits in omega arith
+      pub parts_room : length fields.free < ports o
+      parts_room = grind (arith, common_steps, room_back, inside, had, waits)
 
-    pub parts_back : (pairs : Partners) (free : List ℕ) → pairs ≡ set fields.matching i None →
-        free ≡ with_input i fields.free →
-        Parts o now (paired fields fields.state.positions pairs free) i
-    parts_back pairs free part_is back =
-        record {
-          state = ap (λ x. x.state) is;
-          matching = part_is ∙ ap (λ x. set x.matching i None) is;
-          made = ap (λ x. x.made) is;
-          waiting = back ∙ ap (with_input i) waits
-              ∙ parted_back o fields.state.places fields.matching i known inside had left
-              ∙ ap (waiting_inputs o fields.state.places) (sym part_is);
-        }
+      pub parts_back : (pairs : Partners) (free : List ℕ) → pairs ≡ set fields.matching i None →
+          free ≡ with_input i fields.free →
+          Parts o now (paired fields fields.state.positions pairs free) i
+      parts_back pairs free part_is back = grind (arith, common_steps, waits, parted_back, inside, had)
 
   -- one that has no output left stays out
   pub parts_out : (i : ℕ) (pairs : Partners) → pairs ≡ set fields.matching i None →
       length (outputs_of o i) ≤ get_or fields.state.places i 0 →
       Parts o now (paired fields fields.state.positions pairs fields.free) i
-  parts_out i pairs part_is end =
-      record {
-        state = ap (λ x. x.state) is;
-        matching = part_is ∙ ap (λ x. set x.matching i None) is;
-        made = ap (λ x. x.made) is;
-        waiting = waits ∙ still_out o fields.state.places fields.matching i None end
-            ∙ ap (waiting_inputs o fields.state.places) (sym part_is);
-      }
+  parts_out i pairs part_is end = grind (arith, common_steps, waits, still_out)
 
   -- ## An output takes an input
 
@@ -113,24 +84,13 @@ module _ (o : Orders) (fields now : Progress) (is : fields ≡ now) (shows : Sho
       (join_is : pairs ≡ set fields.matching i (Some j)) where
     takes : (free : List ℕ) → free ≡ waiting_inputs o fields.state.places (set fields.matching i (Some j)) →
         Takes o now (paired fields positions pairs free) i j p
-    takes free waiting =
-        record {
-          positions = set_is ∙ ap (λ x. set x.state.positions j p) is;
-          places = ap (λ x. x.state.places) is;
-          matching = join_is ∙ ap (λ x. set x.matching i (Some j)) is;
-          made = ap (λ x. x.made) is;
-          waiting = waiting ∙ ap (waiting_inputs o fields.state.places) (sym join_is);
-        }
+    takes free waiting = grind (arith, common_steps)
 
     pub takes_out : (free : List ℕ) → i < length now.matching → free ≡ without_input i fields.free →
         Takes o now (paired fields positions pairs free) i j p
-    takes_out free inside out =
-        let size = ap (λ x. length x.matching) is in
-        takes free (out ∙ ap (without_input i) waits
-        ∙ joined_out o fields.state.places fields.matching i j (omega arith))
+    takes_out free inside out = grind (arith, common_steps, takes, waits, joined_out)
 
     -- one that has no output left is out already
     pub takes_still : length (outputs_of o i) ≤ get_or fields.state.places i 0 →
         Takes o now (paired fields positions pairs fields.free) i j p
-    takes_still end =
-        takes fields.free (waits ∙ still_out o fields.state.places fields.matching i (Some j) end)
+    takes_still end = grind (arith, common_steps, takes, waits, still_out)

@@ -1,7 +1,8 @@
 -- What one proposal does to the pairs of those who are held. One that is refused leaves them. Otherwise the asked
 -- output takes the input, and whom it held is parted. All others stay: no other output holds the input, since it was
 -- free, and the input that is parted was held nowhere else.
-use Rattle.std.proofs.Common.{ℕ, ◌≡◌, ◌≢◌, ◌⊎◌, inl, inr, ◌+◌, ◌<◌, ◌≤◌, min, List, length, set, Some, None, refl, sym, ◌∙◌, ap, arith, subst}
+use Rattle.std.proofs.lemmas.Grind.{common_steps}
+use Rattle.std.proofs.Common.{ℕ, ◌≡◌, ◌≢◌, ◌⊎◌, inl, inr, ◌+◌, ◌<◌, ◌≤◌, length, set, Some, None, refl, sym, ◌∙◌, ap, arith, subst}
 use Rattle.std.proofs.lemmas.Bool.{cases_eq}
 use Rattle.std.proofs.lemmas.List.{get_or-set_same, get_or-set_other, set-get_or, length-set}
 use Rattle.cq_prefs.specs.Orders.{Orders, AreOffers, ports, outputs_of, inputs_of, place_of, position_of}
@@ -16,13 +17,7 @@ pub state-refused : (o : Orders) (s : State) (i : ℕ) →
     position_held s (next_output o s i) ≤ position_of o (next_output o s i) i →
     propose o s i ≡ record { positions = s.positions; places = set s.places i (next_place s i + 1) }
 unfolding propose
-state-refused o s i h =
-    let e : set s.positions (next_output o s i) (min (position_held s (next_output o s i))
-    (position_of o (next_output o s i) i)) ≡ s.positions =
-    ap (λ x. set s.positions (next_output o s i) x) (let n : min (position_held s (next_output o s i))
-    (position_of o (next_output o s i) i) ≡ position_held s (next_output o s i) = omega arith in
-    n) ∙ set-get_or s.positions (next_output o s i) 0 in
-    let P : List ℕ → State = λ ws. record { positions = ws; places = set s.places i (next_place s i + 1) } in ap P e
+state-refused o s i h = grind (arith, common_steps, set-get_or)
 
 pub state-taken : (o : Orders) (s : State) (i : ℕ) →
     position_of o (next_output o s i) i < position_held s (next_output o s i) →
@@ -32,15 +27,7 @@ pub state-taken : (o : Orders) (s : State) (i : ℕ) →
       places = set s.places i (next_place s i + 1);
     }
 unfolding propose
-state-taken o s i h =
-    let P : ℕ → State =
-    λ x. record {
-      positions = set s.positions (next_output o s i) x;
-      places = set s.places i (next_place s i + 1);
-    } in
-    ap P (let n : min (position_held s (next_output o s i)) (position_of o (next_output o s i) i)
-    ≡ position_of o (next_output o s i) i = omega arith in
-    n)
+state-taken o s i h = grind (arith, common_steps)
 
 -- the matching after a proposal that is refused
 pub matching-refused : (o : Orders) → AreOffers o → (s : State) → IsSound o s → (i : ℕ) → IsFree o s i →
@@ -108,16 +95,14 @@ matching-taken o v s w i f h m size there back =
 -- the output held nobody
 pub unheld-empty : (o : Orders) → AreOffers o → (s : State) → IsSound o s → (j : ℕ) → position_held s j ≡ ports o →
     (k : ℕ) → partner_of (matching_of o s) k ≢ Some j
-unheld-empty o v s w j e k h =
-    let a = partner-holds o v s k j h in let b = a.0 in let c = a.1 in let d = inputs_at_most o v j in omega arith
+unheld-empty o v s w j e k h = omega (arith, partner-holds o v s k j h, inputs_at_most o v j)
 
 pub matching-empty : (o : Orders) → AreOffers o → (s : State) → IsSound o s → (i : ℕ) → IsFree o s i →
     position_of o (next_output o s i) i < position_held s (next_output o s i) →
     position_held s (next_output o s i) ≡ ports o →
     set (matching_of o s) i (Some (next_output o s i)) ≡ matching_of o (propose o s i)
 matching-empty o v s w i f h e =
-    matching-taken o v s w i f h (matching_of o s) (matching-of o v s).size
-    (λ k q a. (
+    matching-taken o v s w i f h (matching_of o s) (matching-of o v s).size (λ k q a. (
       partner-holds o v s k q a,
       λ same. unheld-empty o v s w (next_output o s i) e k (a ∙ ap (λ n. Some n) same),
     ))
@@ -145,10 +130,9 @@ parted o v s w j r n k q e = go (cases_eq k (holder o s j))
     go (inl same) =
         let b : partner_of (set (matching_of o s) (holder o s j) None) (holder o s j) ≡ Some q = rw same at e in
         let c : partner_of (set (matching_of o s) (holder o s j) None) (holder o s j) ≡ None =
-        get_or-set_same (matching_of o s) (holder o s j) None None
-        (let a = input_in_range o (holder o s j) j (v.shown_back (holder o s j) j held.1) in
-        let z = (matching-of o v s).size in
-        omega arith) in
+        get_or-set_same (matching_of o s) (holder o s j) None None (let a =
+        input_in_range o (holder o s j) j (v.shown_back (holder o s j) j held.1) in
+        let z = (matching-of o v s).size in omega arith) in
         absurd (let P : ⊥ = cc in P)
     go (inr apart) =
         let a : Holds o s q k =

@@ -2,8 +2,8 @@
 -- below the cushion, since it is more urgent, ahead of the first one that is less urgent, and ahead of the end. So it
 -- stays the first, and the newcomer's output stands behind it in the list of all the cells' outputs, where a repeat
 -- is not seen.
-use Rattle.std.proofs.Common.{◌≡◌, ◌≢◌, ℕ, zero, suc, ◌<◌, cond, Bool, true, false, List, [], ◌∷◌, length, map, Option, Some, None, refl, sym, ap, ◌∙◌, subst, ⊎_elim, arith}
-use Rattle.std.specs.Prelude.{◌&&◌, insert, slice_get}
+use Rattle.std.proofs.Common.{rules, ◌≡◌, ◌≢◌, ℕ, zero, suc, ◌<◌, cond, Bool, true, false, List, [], ◌∷◌, length, map, Option, Some, None, refl, sym, ap, ◌∙◌, subst, ⊎_elim, arith}
+use Rattle.std.specs.Prelude.{◌&&◌, insert}
 use Rattle.std.specs.Option.{option_map}
 use Rattle.std.proofs.lemmas.Bool.{cases_eq, eq-eqb, ne_eqb}
 use Rattle.std.proofs.lemmas.List.{length-map, ext_get_or}
@@ -16,7 +16,6 @@ use Rattle.cq_base.specs.Cells.{IsBefore, MoreUrgentAhead, is_for, first_for, pl
 use Rattle.cq_base.proofs.Keys.{key_laws}
 use Rattle.cq_base.proofs.Lists.{first_here, first_later}
 use Rattle.cq_prefs.specs.FirstCells.{list_of, output_order, input_order, orders_of, first_key, key_before, places_by_key}
-use Rattle.cq_prefs.specs.Renewal.{without}
 use Rattle.cq_prefs.proofs.Changes.{same_but_arrival}
 use Rattle.cq_prefs.proofs.InputOrder.{key_at-first, inputs_at, outputs_at}
 use Rattle.cq_prefs.proofs.OneOrder.{same_orders}
@@ -32,11 +31,7 @@ shown_later x xs k other = ap (λ b. cond b (Some x) (first_for k xs)) (ne_eqb x
 -- the first cell for an output is for this output
 first_output : (k : ℕ) (xs : List Queued) (f : Queued) → first_for k xs ≡ Some f → f.cell.output ≡ k
 first_output k [] f h = absurd (let P : ⊥ = cc in P)
-first_output k (x ∷ xs) f h =
-    ⊎_elim
-    (λ is. ap (λ (q : Queued). q.cell.output) (sym (same_Some x f (sym (shown_here x xs k is) ∙ h))) ∙ is)
-    (λ other. first_output k xs f (sym (shown_later x xs k other) ∙ h))
-    (cases_eq x.cell.output k)
+first_output k (x ∷ xs) f h = search (rules, same_Some, shown_here, shown_later, cases_eq, first_output k xs f)
 
 -- it stands ahead of the first less urgent one for its output
 first_ahead : (c f : Queued) (xs : List Queued) → first_for c.cell.output xs ≡ Some f → IsBefore f c →
@@ -65,12 +60,7 @@ first_ahead c f (x ∷ xs) h before =
 goes_behind : (cushion : ℕ) (c f : Queued) (xs : List Queued) → first_for c.cell.output xs ≡ Some f → IsBefore f c →
     MoreUrgentAhead cushion c xs →
     (place_for c.cell.output xs < place_of_arrival cushion c xs) × (place_for c.cell.output xs < length xs)
-goes_behind cushion c f xs h before ahead =
-    let at : slice_get xs (place_for c.cell.output xs) ≡ Some f = sym (find_at (is_for c.cell.output) xs) ∙ h in
-    let inside = slice_get_within xs (place_for c.cell.output xs) f at in
-    let below = ahead (place_for c.cell.output xs) f at (first_output c.cell.output xs f h) before in
-    let earlier = first_ahead c f xs h before in
-    (omega arith, inside)
+goes_behind cushion c f xs h before ahead = search (rules, find_at, slice_get_within, first_output, first_ahead)
 
 -- ## What stays
 
@@ -85,28 +75,10 @@ module _ (c : Queued) where
       place_for c.cell.output xs < length xs → OfferAlike xs (insert xs place c)
   behind_first [] place ahead inside = absurd (omega arith)
   behind_first (x ∷ xs) zero ahead inside = absurd (omega arith)
-  behind_first (x ∷ xs) (suc place) ahead inside =
-      ⊎_elim
-      (λ is.
+  behind_first (x ∷ xs) (suc place) ahead inside = ⊎_elim (λ is.
       let apart = same_but_arrival (Some c.cell.output) xs (insert xs place c) place c refl refl in
-      record {
-        firsts = λ k. ⊎_elim
-            (λ here. shown_here x (insert xs place c) k here ∙ sym (shown_here x xs k here))
-            (λ other.
-            ap (cond (is_for k x) (Some x)) (apart.firsts k (ne_eqb k c.cell.output (λ e. other (is ∙ sym e)))))
-            (cases_eq x.cell.output k);
-        order =
-            ap (λ l. x.cell.output ∷ l)
-            (subst (λ k. without k (output_order (insert xs place c)) ≡ without k (output_order xs)) (sym is)
-            (sym apart.order));
-      })
-      (λ other.
-      let later = first_later (is_for c.cell.output) x xs (ne_eqb x.cell.output c.cell.output other) in
-      let rest = behind_first xs place (omega arith) (omega arith) in
-      record {
-        firsts = λ k. ap (cond (is_for k x) (Some x)) (rest.firsts k);
-        order = ap (λ l. x.cell.output ∷ without x.cell.output l) rest.order;
-      })
+      search (arith, rules, shown_here, ne_eqb, cases_eq, x.cell.output))
+      (λ other. search (arith, rules, first_later, ne_eqb, x.cell.output, behind_first xs place))
       (cases_eq x.cell.output c.cell.output)
 
 more_urgent_first : (c : Queued) (first : Option Queued) →

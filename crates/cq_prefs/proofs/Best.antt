@@ -1,10 +1,11 @@
 -- Two matchings that are best for the inputs are one. Each is stable, so each gives every input a place that is no
 -- later than the other's. So the places are the same, one place of an order shows one port, and the partners are the
 -- same.
+use Rattle.std.proofs.lemmas.Grind.{common_steps}
 use Rattle.std.proofs.Common.{ℕ, ◌≡◌, ◌<◌, List, length, Option, Some, None, refl, ap, arith}
 use Rattle.std.proofs.lemmas.List.{ext_get_or}
-use Rattle.cq_prefs.specs.Orders.{Orders, outputs_of, place_in}
-use Rattle.cq_prefs.specs.Pairing.{Partners, partner_of, depth, IsInputBest}
+use Rattle.cq_prefs.specs.Orders.{Orders, place_in}
+use Rattle.cq_prefs.specs.Pairing.{Partners, depth, IsInputBest}
 use Rattle.cq_prefs.proofs.Places.{same_at_place}
 
 same_partner : (order : List ℕ) (p r : Option ℕ) → ((j : ℕ) → p ≡ Some j → place_in order j < length order) →
@@ -16,8 +17,4 @@ same_partner order (Some j) (Some k) a b e = ap (λ n. Some n) (same_at_place or
 
 pub one_input_best : (o : Orders) (m n : Partners) → IsInputBest o m → IsInputBest o n → m ≡ n
 one_input_best o m n a b =
-    ext_get_or None m n (omega arith)
-    (λ i l.
-    same_partner (outputs_of o i) (partner_of m i) (partner_of n i) (a.stable.matching.offered i)
-    (b.stable.matching.offered i)
-    (let x = a.best n b.stable i in let y = b.best m a.stable i in omega arith))
+    grind (arith, common_steps, ext_get_or None m n, same_partner, a.best n b.stable, b.best m a.stable)

@@ -1,15 +1,15 @@
 -- What an arrival and a transfer change in the offers. A cell that goes into a list, or the first cell for an output
 -- that leaves it, changes neither the first cells for the other outputs nor the order in which these stand. So with the
 -- pair of the input and of this output taken out, the orders are as before.
-use Rattle.std.proofs.Common.{◌≡◌, ◌≢◌, ℕ, zero, suc, ◌<◌, ◌≤◌, eqb, not, cond, Bool, true, false, List, [], ◌∷◌, length, map, Option, Some, None, refl, sym, ap, ◌∙◌, subst, inl, inr, ⊎_elim, arith}
+use Rattle.std.proofs.lemmas.Grind.{common_steps}
+use Rattle.std.proofs.Common.{rules, ◌≡◌, ◌≢◌, ℕ, zero, suc, eqb, not, cond, Bool, true, false, List, [], ◌∷◌, length, map, Option, Some, None, refl, sym, ap, arith, ◌∙◌, subst}
 use Rattle.std.specs.Prelude.{filter, insert}
-use Rattle.std.specs.Option.{option_map}
 use Rattle.std.proofs.lemmas.Bool.{cond_both, cond-false, cases_eq, cases_lt, eq-eqb, ne_eqb, eqb-true, not-true}
 use Rattle.std.proofs.lemmas.List.{length-map}
 use Rattle.std.proofs.lemmas.List.FromFn.{length-map-range_with_len}
 use Rattle.cq_base.specs.declared.cell.Queued.{Queued}
 use Rattle.cq_base.specs.Cells.{is_for, first_for, without_first}
-use Rattle.cq_prefs.specs.FirstCells.{list_of, FirstKeysDiffer, without_repeats, output_order, input_order, orders_of, first_key, key_at, key_before}
+use Rattle.cq_prefs.specs.FirstCells.{list_of, FirstKeysDiffer, without_repeats, output_order, input_order, orders_of, first_key, key_at}
 use Rattle.cq_prefs.specs.Pairing.{Partners, partner_of}
 use Rattle.cq_prefs.specs.Renewal.{without, is_partner, is_pair, AreSameWithout}
 use Rattle.cq_prefs.proofs.InputOrder.{key_at-first, is_input_order, outputs_at, inputs_at, no_inputs_past}
@@ -21,53 +21,17 @@ use Rattle.cq_prefs.proofs.Sorted.{Rises}
 -- ## The order of the outputs
 
 without_twice : (j : ℕ) (xs : List ℕ) → without j (without j xs) ≡ without j xs
-without_twice j xs =
-    without_none j (without j xs)
-    (λ m.
-    let no = not-true _ (among_filter (λ y. not (eqb y j)) xs j m).1 in
-    let here = eq-eqb j j refl in
-    let P : ⊥ = cc in P)
+without_twice j xs = grind (arith, common_steps, without_none, not-true, among_filter, eq-eqb)
 
 without_swap : (j k : ℕ) (xs : List ℕ) → without j (without k xs) ≡ without k (without j xs)
 without_swap j k [] = refl
-without_swap j k (x ∷ xs) =
-    ⊎_elim
-    (λ is_j.
-    ⊎_elim
-    (λ is_k.
-    ap (without j) (without_here k x xs is_k) ∙ without_swap j k xs ∙ ap (without k) (sym (without_here j x xs is_j)))
-    (λ not_k.
-    ap (without j) (without_there k x xs not_k) ∙ without_here j x (without k xs) is_j ∙ without_swap j k xs
-    ∙ ap (without k) (sym (without_here j x xs is_j)))
-    (cases_eq x k))
-    (λ not_j.
-    ⊎_elim
-    (λ is_k.
-    ap (without j) (without_here k x xs is_k) ∙ without_swap j k xs ∙ sym (without_here k x (without j xs) is_k)
-    ∙ ap (without k) (sym (without_there j x xs not_j)))
-    (λ not_k.
-    ap (without j) (without_there k x xs not_k) ∙ without_there j x (without k xs) not_j
-    ∙ ap (λ l. x ∷ l) (without_swap j k xs)
-    ∙ sym (without_there k x (without j xs) not_k) ∙ ap (without k) (sym (without_there j x xs not_j)))
-    (cases_eq x k))
-    (cases_eq x j)
+without_swap j k (x ∷ xs) = grind (arith, common_steps, without_here, without_there, cases_eq, without_swap j k xs)
 
 -- a number may be left out before or after the repeats are
 left_out : (j : ℕ) (xs : List ℕ) → without j (without_repeats xs) ≡ without_repeats (without j xs)
 left_out j [] = refl
 left_out j (x ∷ xs) =
-    ⊎_elim
-    (λ is.
-    without_here j x (without x (without_repeats xs)) is
-    ∙ ap (λ k. without j (without k (without_repeats xs))) is
-    ∙ without_twice j (without_repeats xs)
-    ∙ left_out j xs
-    ∙ ap without_repeats (sym (without_here j x xs is)))
-    (λ other.
-    without_there j x (without x (without_repeats xs)) other
-    ∙ ap (λ l. x ∷ l) (without_swap j x (without_repeats xs) ∙ ap (without x) (left_out j xs))
-    ∙ ap without_repeats (sym (without_there j x xs other)))
-    (cases_eq x j)
+    grind (arith, common_steps, without_here, without_twice, without_there, without_swap, cases_eq, left_out j xs)
 
 abbrev outputs : List Queued → List ℕ
 outputs cells = map (λ c. c.cell.output) cells
@@ -79,16 +43,11 @@ come_outputs : (cells : List Queued) (place : ℕ) (c : Queued) →
     without c.cell.output (outputs cells) ≡ without c.cell.output (outputs (insert cells place c))
 come_outputs cells zero c = sym (without_here c.cell.output c.cell.output (outputs cells) refl)
 come_outputs [] (suc place) c = sym (without_here c.cell.output c.cell.output [] refl)
-come_outputs (x ∷ cells) (suc place) c =
-    same_tail c.cell.output x.cell.output (outputs cells) (outputs (insert cells place c)) (come_outputs cells place c)
+come_outputs (x ∷ cells) (suc place) c = grind (arith, common_steps, same_tail, come_outputs cells place c)
 
 gone_outputs : (j : ℕ) (cells : List Queued) → without j (outputs cells) ≡ without j (outputs (without_first j cells))
 gone_outputs j [] = refl
-gone_outputs j (x ∷ cells) =
-    cond_both (is_for j x) cells (x ∷ without_first j cells)
-    (λ l. without j (outputs (x ∷ cells)) ≡ without j (outputs l))
-    (λ here. without_here j x.cell.output (outputs cells) (eqb-true x.cell.output j here))
-    (λ _. same_tail j x.cell.output (outputs cells) (outputs (without_first j cells)) (gone_outputs j cells))
+gone_outputs j (x ∷ cells) = search (rules, cond_both, without_here, eqb-true, same_tail, gone_outputs j cells)
 
 -- ## First cells
 
@@ -100,12 +59,7 @@ come_first (x ∷ cells) (suc place) c k other = ap (cond (is_for k x) (Some x))
 
 gone_first : (j : ℕ) (cells : List Queued) (k : ℕ) → k ≢ j → first_for k (without_first j cells) ≡ first_for k cells
 gone_first j [] k other = refl
-gone_first j (x ∷ cells) k other =
-    cond_both (is_for j x) cells (x ∷ without_first j cells) (λ l. first_for k l ≡ first_for k (x ∷ cells))
-    (λ here.
-    sym (cond-false (is_for k x) (Some x) (first_for k cells)
-    (ne_eqb x.cell.output k (λ e. other (sym e ∙ eqb-true x.cell.output j here)))))
-    (λ _. ap (cond (is_for k x) (Some x)) (gone_first j cells k other))
+gone_first j (x ∷ cells) k other = search (rules, cond_both, cond-false, ne_eqb, eqb-true, gone_first j cells k other)
 
 -- ## One list
 
@@ -116,11 +70,7 @@ pub record IsSameBut (p : Option ℕ) (old new : List Queued) : Type 0 where
       filter (λ k. not (is_partner p k)) (output_order old) ≡ filter (λ k. not (is_partner p k)) (output_order new)
 
 pub same_list : (p : Option ℕ) (old new : List Queued) → new ≡ old → IsSameBut p old new
-same_list p old new e =
-    record {
-      firsts = λ k _. ap (first_for k) e;
-      order = ap (λ l. filter (λ k. not (is_partner p k)) (output_order l)) (sym e);
-    }
+same_list p old new e = grind (arith, common_steps)
 
 -- a number is not the one that is taken out
 other_than : (k j : ℕ) → eqb k j ≡ false → k ≢ j
@@ -153,16 +103,12 @@ same_but_taken p old new j partner e =
 
 rises_filter : (b : ℕ → ℕ → Bool) (p : ℕ → Bool) (xs : List ℕ) → Rises b xs → Rises b (filter p xs)
 rises_filter b p [] r = tt
-rises_filter b p (x ∷ xs) r =
-    cond_both (p x) (x ∷ filter p xs) (filter p xs) (Rises b)
-    (λ _. (λ k m. r.0 k (among_filter p xs k m).0, rises_filter b p xs r.1))
-    (λ _. rises_filter b p xs r.1)
+rises_filter b p (x ∷ xs) r = grind (arith, common_steps, cond_both, Rises, among_filter, rises_filter b p xs r.1)
 
 rises_same : (b d : ℕ → ℕ → Bool) (xs : List ℕ) → ((x y : ℕ) → Among x xs → Among y xs → d x y ≡ b x y) → Rises b xs →
     Rises d xs
 rises_same b d [] same r = tt
-rises_same b d (x ∷ xs) same r =
-    (λ k m. same x k (inl refl) (inr m) ∙ r.0 k m, rises_same b d xs (λ y z m n. same y z (inr m) (inr n)) r.1)
+rises_same b d (x ∷ xs) same r = grind (arith, common_steps, rises_same b d xs)
 
 -- two switches in which the first cells for output k are the same but for those of its pairs
 module _ (m : Partners) (old new : List (List Queued)) (k : ℕ)
@@ -176,9 +122,7 @@ module _ (m : Partners) (old new : List (List Queued)) (k : ℕ)
   no_pair i e = not-true _ e
 
   same_key : (i : ℕ) → kept i ≡ true → key_at (map (first_key k) old) i ≡ key_at (map (first_key k) new) i
-  same_key i e =
-      key_at-first k old i ∙ ap (option_map (λ (c : Queued). c.key)) (sym (firsts i (no_pair i e)))
-      ∙ sym (key_at-first k new i)
+  same_key i e = grind (arith, common_steps, key_at-first, no_pair)
 
   pub same_inputs :
       filter (λ i. not (is_pair m i k)) (input_order old k) ≡ filter (λ i. not (is_pair m i k)) (input_order new k)
@@ -190,45 +134,24 @@ module _ (m : Partners) (old new : List (List Queued)) (k : ℕ)
       (filter kept (input_order old k)) (filter kept (input_order new k))
       (rises_filter (more_urgent old k) kept (input_order old k) (inputs_rise old k (input_order old k) a))
       (rises_same (more_urgent new k) (more_urgent old k) (filter kept (input_order new k))
-      (λ x y s t.
-      ap (λ o. key_before o (key_at (map (first_key k) old) y))
-      (same_key x (among_filter kept (input_order new k) x s).1)
-      ∙ ap (key_before (key_at (map (first_key k) new) x)) (same_key y (among_filter kept (input_order new k) y t).1))
+      (λ x y s t. search (arith, rules, same_key, among_filter))
       (rises_filter (more_urgent new k) kept (input_order new k) (inputs_rise new k (input_order new k) b)))
-      (λ i s.
-      let left = among_filter kept (input_order old k) i s in
-      let has = (a.offered i).0 (listed (input_order old k) i left.0) in
-      among_kept kept (input_order new k) i
-      (among (input_order new k) i ((b.offered i).1 (has.0, firsts i (no_pair i left.1) ∙ has.1))) left.1)
-      (λ i s.
-      let left = among_filter kept (input_order new k) i s in
-      let has = (b.offered i).0 (listed (input_order new k) i left.0) in
-      among_kept kept (input_order old k) i
-      (among (input_order old k) i ((a.offered i).1 (has.0, sym (firsts i (no_pair i left.1)) ∙ has.1))) left.1)
+      (λ i s. search (arith, rules, among_filter, listed, among_kept, among, no_pair))
+      (λ i s. search (arith, rules, among_filter, listed, among_kept, among, no_pair))
 
 -- ## All lists
 
 pub same_without : (m : Partners) (old new : List (List Queued)) → length new ≡ length old →
     ((i : ℕ) → IsSameBut (partner_of m i) (list_of old i) (list_of new i)) → FirstKeysDiffer old → FirstKeysDiffer new →
     AreSameWithout m (orders_of old) (orders_of new)
-same_without m old new size each old_differ new_differ =
-    record {
-      ports = (
-        length-map old output_order ∙ sym size ∙ sym (length-map new output_order),
-        length-map-range_with_len (input_order old) 0 (length old) ∙ sym size
-            ∙ sym (length-map-range_with_len (input_order new) 0 (length new)),
-      );
-      outputs = λ i.
-          ap (filter (λ j. not (is_pair m i j))) (outputs_at old i) ∙ (each i).order
-          ∙ sym (ap (filter (λ j. not (is_pair m i j))) (outputs_at new i));
-      inputs = λ k. ⊎_elim
-          (λ l.
-          let l' : k < length new = omega arith in
-          ap (filter (λ i. not (is_pair m i k))) (inputs_at old k l)
-          ∙ same_inputs m old new k (λ i. (each i).firsts k) old_differ new_differ
-          ∙ sym (ap (filter (λ i. not (is_pair m i k))) (inputs_at new k l')))
-          (λ past.
-          let past' : length new ≤ k = omega arith in
-          ap (filter (λ i. not (is_pair m i k))) (no_inputs_past old k past ∙ sym (no_inputs_past new k past')))
-          (cases_lt k (length old));
-    }
+same_without m old new size each old_differ new_differ = grind (
+  arith,
+  common_steps,
+  length-map,
+  length-map-range_with_len,
+  outputs_at,
+  inputs_at,
+  same_inputs,
+  no_inputs_past,
+  cases_lt,
+)

@@ -39,11 +39,10 @@ events_at_most o v events es =
     let w = sound-after o v events es in
     let s = state_after o events in
     let a = sum-places o v events es in
-    let b : sum s.places ≤ length s.places * ports o = sum_by-le (λ x. x) (ports o) s.places
-    (λ k d l. let e : get_or s.places k d ≡ next_place s k = get_or_default s.places k d 0 l in
+    let b : sum s.places ≤ length s.places * ports o = sum_by-le (λ x. x) (ports o) s.places (λ k d l.
+    let e : get_or s.places k d ≡ next_place s k = get_or_default s.places k d 0 l in
     let f = w.within k in
-    let g = outputs_at_most o v k in
-    omega arith) in
+    let g = outputs_at_most o v k in omega arith) in
     let c : length s.places * ports o ≡ ports o * ports o = ap (λ n. n * ports o) w.inputs in omega arith
 
 spent-is : (o : Orders) (s : State) (i : ℕ) → IsKept o s i → (p : Option ℕ) → partner_of (matching_of o s) i ≡ p →
@@ -55,15 +54,12 @@ places-quiet : (o : Orders) → AreOffers o → (s : State) → IsSound o s → 
     s.places ≡ map (λ i. spent (outputs_of o i) (partner_of (matching_of o s) i)) (range_with_len 0 (ports o))
 places-quiet o v s w q =
     let f : ℕ → ℕ = λ i. spent (outputs_of o i) (partner_of (matching_of o s) i) in
-    ext_get_or 0 s.places (map f (range_with_len 0 (ports o))) (let a = length-map-range_with_len f 0 (ports o) in
-    omega arith)
-    (λ i l. spent-is o s i (kept o v s w q i) _ refl
-    ∙ sym (get_or-map-range_with_len f 0 (ports o) i i 0 (omega arith) (omega arith)))
+    ext_get_or 0 s.places (map f (range_with_len 0 (ports o)))
+    (let a = length-map-range_with_len f 0 (ports o) in omega arith) (λ i l. spent-is o s i (kept o v s w q i) _
+    refl ∙ sym (get_or-map-range_with_len f 0 (ports o) i i 0 (omega arith) (omega arith)))
 
 pub events-quiet : (o : Orders) → AreOffers o → (events : List ℕ) → AreEvents o events →
     IsQuiescent o (state_after o events) → length events ≡ proposals o (matching_of o (state_after o events))
 events-quiet o v events es q =
     let s = state_after o events in
-    let w = sound-after o v events es in
-    sym (sum-places o v events es)
-    ∙ ap sum (places-quiet o v s w q)
+    let w = sound-after o v events es in sym (sum-places o v events es) ∙ ap sum (places-quiet o v s w q)

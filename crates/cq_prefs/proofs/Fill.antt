@@ -1,6 +1,6 @@
 -- Offers made from the lists of a switch are the orders of their cells. The orders of the inputs are those read from
 -- the lists. The order of each output is that of the keys that were read, and these are the keys of the first cells.
-use Rattle.std.proofs.Common.{◌≡◌, ℕ, zero, suc, ◌+◌, ◌<◌, ◌≤◌, ◌⊎◌, inl, inr, List, [], ◌∷◌, length, map, get_or, set, Some, None, refl, sym, ap, ◌∙◌, subst, ⊎_elim, arith}
+use Rattle.std.proofs.Common.{rules, ◌≡◌, ℕ, zero, suc, ◌+◌, ◌<◌, ◌≤◌, ◌⊎◌, inl, inr, List, [], ◌∷◌, length, map, get_or, set, Some, None, refl, sym, ap, ◌∙◌, arith}
 use Rattle.std.specs.Prelude.{All}
 use Rattle.std.specs.List.{range_with_len}
 use Rattle.std.proofs.lemmas.Bool.{cases_lt, cases_eq}
@@ -52,18 +52,7 @@ pub record Made (lists : List Waiting) (n : ℕ) (rows : List (List ℕ)) : Type
 
 pub made_more : (lists : List Waiting) (n : ℕ) (rows : List (List ℕ)) (row : List ℕ) → Made lists n rows →
     n < length lists → row ≡ input_order (cells_of lists) n → Made lists (n + 1) (set rows n row)
-made_more lists n rows row m l e =
-    record {
-      size = length-set rows n row ∙ m.size;
-      row = λ j h.
-          ⊎_elim
-          (λ is. ap (λ k. get_or (set rows n row) k []) (sym is)
-          ∙ get_or-set_same rows n row [] (let s = m.size in omega arith) ∙ e
-          ∙ ap (input_order (cells_of lists)) is)
-          (λ other. get_or-set_other rows n j row [] (λ s. other (sym s))
-          ∙ m.row j (let lt : j < n = omega arith in lt))
-          (cases_eq n j);
-    }
+made_more lists n rows row m l e = search (rules, length-set, get_or-set_same, get_or-set_other, m.row, cases_eq)
 
 pub orders_made : (lists : List Waiting) (outputs inputs : List (List ℕ)) →
     outputs ≡ map (λ w. output_order w.cells) lists → Made lists (length lists) inputs →
@@ -73,10 +62,7 @@ orders_made lists outputs inputs e m =
     let rows : inputs ≡ map (input_order (cells_of lists)) (range_with_len 0 (length (cells_of lists))) =
     ext_get_or [] inputs (map (input_order (cells_of lists)) (range_with_len 0 (length (cells_of lists))))
     (m.size ∙ sym n ∙ sym (length-map-range_with_len (input_order (cells_of lists)) 0 (length (cells_of lists))))
-    (λ j l.
-    m.row j (omega arith)
-    ∙ sym (get_or-map-range_with_len (input_order (cells_of lists)) 0 (length (cells_of lists)) j j []
-    (omega arith) (omega arith))) in
+    (λ j l. search (arith, rules, m.row, get_or-map-range_with_len)) in
     let order : outputs ≡ map output_order (cells_of lists) =
     e ∙ mapped_twice output_order (λ (w : Waiting). w.cells) lists in
     cc
@@ -88,7 +74,5 @@ pub offers_made : (lists : List Waiting) (outputs inputs : List (List ℕ)) →
     let o : Orders = record { outputs = outputs; inputs = inputs } in AreOffers o × (ports o ≤ 64)
 offers_made lists outputs inputs e m n waiting same size few =
     let o : Orders = record { outputs = outputs; inputs = inputs } in
-    let is : o ≡ orders_of (cells_of lists) = orders_made lists outputs inputs e m in (
-      subst AreOffers (sym is) (are_offers (cells_of lists) (in_range_of lists n waiting same size)),
-      (let a = ap length e in let b = length-map lists (λ (w : Waiting). output_order w.cells) in omega arith),
-    )
+    let is : o ≡ orders_of (cells_of lists) = orders_made lists outputs inputs e m in
+    search (arith, rules, are_offers, in_range_of, length-map)

@@ -1,13 +1,14 @@
 -- Who holds whom in a state that events reach. The test computes what is said, and an input is held by one output at
 -- most, the one that it asked last. So the matching of the state has exactly the pairs of an output and the input that
 -- it holds.
-use Rattle.std.proofs.Common.{ℕ, ◌≡◌, ◌⊎◌, inl, inr, ◌<◌, ◌≤◌, Bool, true, ⊎_elim, List, [], ◌∷◌, length, Option, Some, None, refl, sym, ◌∙◌, ap, arith}
+use Rattle.std.proofs.lemmas.Grind.{common_steps}
+use Rattle.std.proofs.Common.{ℕ, ◌≡◌, ◌⊎◌, inl, inr, ◌<◌, ◌≤◌, Bool, true, List, [], ◌∷◌, length, Option, Some, None, refl, sym, ◌∙◌, ap, arith}
 use Rattle.std.specs.Prelude.{find, is_none}
 use Rattle.std.specs.List.{range_with_len}
 use Rattle.std.proofs.lemmas.Bool.{cases_lt, cond_both, ltb-true, lt-ltb, eqb-true, eq-eqb, and_parts, and_from, true≢false}
 use Rattle.std.proofs.lemmas.List.{get_or_past, ext_get_or}
 use Rattle.std.proofs.lemmas.List.FromFn.{length-map-range_with_len, get_or-map-range_with_len}
-use Rattle.cq_prefs.specs.Orders.{Orders, AreOffers, ports, outputs_of, inputs_of}
+use Rattle.cq_prefs.specs.Orders.{Orders, AreOffers, ports, inputs_of}
 use Rattle.cq_prefs.specs.Pairing.{Partners, partner_of, IsMatching}
 use Rattle.cq_prefs.specs.Proposals.{State, Holds, IsFree, IsSound, holds, keeper, is_free, matching_of}
 use Rattle.cq_prefs.proofs.Places.{same_at_place, input_in_range, output_in_range}
@@ -17,19 +18,12 @@ use Rattle.cq_prefs.proofs.Members.{Among, in_range}
 
 pub found_passes : (p : ℕ → Bool) (xs : List ℕ) (y : ℕ) → find p xs ≡ Some y → p y ≡ true
 found_passes p [] y e = absurd (let P : ⊥ = cc in P)
-found_passes p (x ∷ xs) y e =
-    cond_both (p x) (Some x) (find p xs) (λ r. r ≡ Some y → p y ≡ true)
-    (λ here r. let same : x ≡ y = cc in ap p (sym same) ∙ here)
-    (λ _ r. found_passes p xs y r) e
+found_passes p (x ∷ xs) y e = grind (arith, common_steps, cond_both, found_passes p xs y)
 
 found_only : (p : ℕ → Bool) (xs : List ℕ) (y : ℕ) → Among y xs → p y ≡ true → ((z : ℕ) → p z ≡ true → z ≡ y) →
     find p xs ≡ Some y
 found_only p [] y m h only = absurd m
-found_only p (x ∷ xs) y m h only =
-    cond_both (p x) (Some x) (find p xs) (λ r. r ≡ Some y)
-    (λ here. ap (λ n. Some n) (only x here))
-    (λ not_here. ⊎_elim (λ is. absurd (true≢false (sym h ∙ ap p (sym is) ∙ not_here)))
-    (λ later. found_only p xs y later h only) m)
+found_only p (x ∷ xs) y m h only = grind (arith, common_steps, cond_both, true≢false, found_only p xs y)
 
 -- ## Who is held
 
@@ -42,9 +36,7 @@ holds-from o s i j h = and_from _ _ (eq-eqb _ _ h.0) (lt-ltb _ _ h.1)
 -- one output at most holds an input
 pub held_once : (o : Orders) → AreOffers o → (s : State) → IsSound o s → (i j k : ℕ) → Holds o s j i → Holds o s k i →
     j ≡ k
-held_once o v s w i j k a b =
-    same_at_place (outputs_of o i) j k (let x = w.last i j a in let y = w.last i k b in omega arith)
-    (v.shown_back i j a.1)
+held_once o v s w i j k a b = grind (arith, common_steps, same_at_place, w.last, v.shown_back)
 
 pub keeper-holds : (o : Orders) (s : State) (i j : ℕ) → keeper o s i ≡ Some j → Holds o s j i
 unfolding keeper
@@ -94,8 +86,7 @@ matching-of o v s =
       offered = λ i j e. v.shown_back i j (partner-holds o v s i j e).1;
       once = λ i k j e f.
           let a = partner-holds o v s i j e in
-          let b = partner-holds o v s k j f in
-          same_at_place (inputs_of o j) i k (omega arith) a.1;
+          let b = partner-holds o v s k j f in same_at_place (inputs_of o j) i k (omega arith) a.1;
     }
 
 -- the matching is what shows exactly who is held
@@ -125,15 +116,9 @@ none_test p e = ap is_none e
 
 pub free_if : (o : Orders) → AreOffers o → (s : State) → IsSound o s → (i : ℕ) → is_free o s i ≡ true → IsFree o s i
 unfolding is_free
-free_if o v s w i h =
-    let parts = and_parts _ _ h in
-    record {
-      left = ltb-true _ _ parts.0;
-      unheld = λ j held. none_here (keeper o s i) j parts.1 (keeper-from o v s w i j held);
-    }
+free_if o v s w i h = grind (arith, common_steps, and_parts, ltb-true, none_here, keeper-from)
 
 pub free_only_if : (o : Orders) → AreOffers o → (s : State) → (i : ℕ) → IsFree o s i → is_free o s i ≡ true
 unfolding is_free
-free_only_if o v s i f =
-    and_from _ _ (lt-ltb _ _ f.left) (none_test (keeper o s i) (none_unless (keeper o s i)
-    (λ j e. f.unheld j (keeper-holds o s i j e))))
+free_only_if o v s i f = and_from _ _ (lt-ltb _ _ f.left)
+    (none_test (keeper o s i) (none_unless (keeper o s i) (λ j e. f.unheld j (keeper-holds o s i j e))))

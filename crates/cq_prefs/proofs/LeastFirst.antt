@@ -1,7 +1,8 @@
 -- Where the least free input proposes, each turn is an event or finds nobody free. There are no more events than the
 -- number of ports squared, so after as many turns nobody is free, and those who are held form the matching that is best
 -- for the inputs.
-use Rattle.std.proofs.Common.{ℕ, zero, suc, ◌≡◌, ◌⊎◌, inl, inr, ◌*◌, ◌<◌, Bool, true, ⊎_elim, List, [], ◌∷◌, length, Option, Some, None, refl, sym, ◌∙◌, ap, subst, arith}
+use Rattle.std.proofs.lemmas.Grind.{common_steps}
+use Rattle.std.proofs.Common.{rules, ℕ, zero, suc, ◌≡◌, ◌⊎◌, inl, ◌*◌, Bool, true, ⊎_elim, List, [], ◌∷◌, length, Option, Some, None, refl, sym, ◌∙◌, ap, subst, arith, ◌<◌}
 use Rattle.std.specs.Prelude.{find}
 use Rattle.std.specs.List.{range_with_len}
 use Rattle.std.proofs.lemmas.Bool.{cond_both, true≢false}
@@ -19,11 +20,7 @@ use Rattle.cq_prefs.proofs.Steps.{sound-after, next_output-offered}
 -- where nothing is found, nothing passes the test
 found_none : (p : ℕ → Bool) (xs : List ℕ) (y : ℕ) → find p xs ≡ None → Among y xs → p y ≡ true → ⊥
 found_none p [] y e m h = absurd m
-found_none p (x ∷ xs) y e m h =
-    cond_both (p x) (Some x) (find p xs) (λ r. r ≡ None → ⊥)
-    (λ here r. absurd (let P : ⊥ = cc in P))
-    (λ not_here r. ⊎_elim (λ is. true≢false (sym h ∙ ap p (sym is) ∙ not_here)) (λ later. found_none p xs y r later h)
-    m) e
+found_none p (x ∷ xs) y e m h = grind (arith, common_steps, cond_both, true≢false, found_none p xs y)
 
 quiet_if_none : (o : Orders) → AreOffers o → (s : State) → least_free o s ≡ None → IsQuiescent o s
 unfolding least_free
@@ -35,9 +32,7 @@ quiet_if_none o v s e i f =
 free_if_found : (o : Orders) → AreOffers o → (events : List ℕ) → AreEvents o events → (i : ℕ) →
     least_free o (state_after o events) ≡ Some i → IsFree o (state_after o events) i
 unfolding least_free
-free_if_found o v events es i e =
-    free_if o v (state_after o events) (sound-after o v events es) i (found_passes (is_free o (state_after o events))
-    (range_with_len 0 (ports o)) i e)
+free_if_found o v events es i e = search (rules, free_if, sound-after, found_passes)
 
 -- what n turns come to
 record IsTurns (o : Orders) (n : ℕ) (s : State) : Type 0 where
@@ -48,8 +43,7 @@ record IsTurns (o : Orders) (n : ℕ) (s : State) : Type 0 where
 
 one_turn : (o : Orders) → AreOffers o → (n : ℕ) (s : State) → IsTurns o n s → (p : Option ℕ) → least_free o s ≡ p →
     IsTurns o (suc n) (propose_if o s p)
-one_turn o v n s t None e =
-    record { events = t.events; are_events = t.are_events; is = t.is; ended = inr (quiet_if_none o v s e) }
+one_turn o v n s t None e = grind (arith, common_steps, quiet_if_none)
 one_turn o v n s t (Some i) e =
     let free : IsFree o (state_after o t.events) i =
     free_if_found o v t.events t.are_events i (ap (least_free o) (sym t.is) ∙ e) in
@@ -57,11 +51,8 @@ one_turn o v n s t (Some i) e =
       events = i ∷ t.events;
       are_events = (t.are_events, free);
       is = ap (λ x. propose o x i) t.is;
-      ended = ⊎_elim
-          (λ all. inl (ap suc all))
-          (λ (quiet : IsQuiescent o s). absurd (quiet i (let P : State → Type 0 = λ x. IsFree o x i in
-          subst P (sym t.is) free)))
-          t.ended;
+      ended = ⊎_elim (λ all. inl (ap suc all)) (λ (quiet : IsQuiescent o s).
+          absurd (quiet i (let P : State → Type 0 = λ x. IsFree o x i in subst P (sym t.is) free))) t.ended;
     }
 
 turns : (o : Orders) → AreOffers o → (n : ℕ) → IsTurns o n (state_at o n)

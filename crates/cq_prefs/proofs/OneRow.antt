@@ -1,9 +1,8 @@
 -- One order that is known but for one port, which left it. Where there is no cell, what is left is the whole order.
 -- Where there is one, the port goes back in at the place that its first cell tells.
-use Rattle.std.proofs.Common.{◌≡◌, ℕ, ◌<◌, ◌≤◌, ltb, List, length, map, Some, None, sym, ap, ◌∙◌}
+use Rattle.std.proofs.Common.{arith, rules, ◌≡◌, ℕ, ◌<◌, ◌≤◌, ltb, List, length, map, Some, None, sym, ap, ◌∙◌}
 use Rattle.std.specs.Prelude.{insert}
 use Rattle.std.specs.List.{position_or_len}
-use Rattle.std.specs.Option.{option_map}
 use Rattle.cq_base.specs.declared.cell.Queued.{Queued}
 use Rattle.cq_base.specs.declared.key.Key.{Key}
 use Rattle.cq_base.specs.Cells.{first_for, place_for}
@@ -14,6 +13,7 @@ use Rattle.cq_prefs.proofs.Members.{Among, among, listed}
 use Rattle.cq_prefs.proofs.OneOrder.{apart, stands_ahead, ahead_one_way, outputs_rise, more_urgent, urgent_one_way, inputs_rise}
 use Rattle.cq_prefs.proofs.OutputOrder.{is_output_order}
 use Rattle.cq_prefs.proofs.PutBack.{put_back, room_back, without_none}
+use Rattle.std.specs.Option.{option_map}
 
 -- ## The order of an input
 
@@ -23,18 +23,12 @@ module _ (cells : List Queued) (j : ℕ) (left : List ℕ) (known : left ≡ wit
 
   pub output_gone : first_for j cells ≡ None → left ≡ output_order cells
   output_gone none =
-      known
-      ∙ without_none j (output_order cells)
-      (λ m.
-      let has = ((is_output_order cells).offered j).0 (listed (output_order cells) j m) in
-      let no : None ≡ Some has.0 = sym none ∙ has.1 in
-      let P : ⊥ = cc in P)
+      search (arith, rules, without_none j (output_order cells), is_output_order cells, listed (output_order cells) j)
 
   pub output_room : HasCellFor cells j → length (output_order cells) ≤ 64 → length left < 64
   output_room has =
       let order = is_output_order cells in
-      room_back (stands_ahead cells) (ahead_one_way cells) j left (output_order cells)
-      (apart (output_order cells) order.differ) (outputs_rise cells (output_order cells) order) (output_there has) known
+      search (arith, rules, room_back, stands_ahead, ahead_one_way, apart, outputs_rise, output_there)
 
   pub output_back : (place at : ℕ) → HasCellFor cells j → place ≡ place_for j cells →
       at ≡ position_or_len (λ k. ltb place (place_for k cells)) left → insert left at j ≡ output_order cells

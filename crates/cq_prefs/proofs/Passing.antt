@@ -72,9 +72,8 @@ none_passed-start o v m matching i j e =
 pub none_passed-after : (o : Orders) → AreOffers o → (events : List ℕ) → AreEvents o events → (m : Partners) →
     IsStable o m → NonePassed o (state_after o events) m
 none_passed-after o v [] es m stable = none_passed-start o v m stable.matching
-none_passed-after o v (i ∷ events) es m stable =
-    none_passed-step o v (state_after o events) (sound-after o v events es.0) m stable
-    (none_passed-after o v events es.0 m stable) i es.1
+none_passed-after o v (i ∷ events) es m stable = none_passed-step o v (state_after o events)
+    (sound-after o v events es.0) m stable (none_passed-after o v events es.0 m stable) i es.1
 
 -- the same by places: an input that has asked its partner is held there, so it asks no further
 pub none_goes_past : (o : Orders) → AreOffers o → (events : List ℕ) → AreEvents o events → (m : Partners) →

@@ -1,7 +1,8 @@
 -- Places in an order, and what offers say of them. A place that is found shows its port, and where no port is twice
 -- the port at a place is found there. So an offered pair has its ports in range, and no order is longer than there
 -- are ports.
-use Rattle.std.proofs.Common.{ℕ, ◌⊎◌, inl, inr, ◌≡◌, ◌<◌, ◌≤◌, true, List, [], length, get_or, eqb, replicate, ⊎_elim, refl, sym, ◌∙◌, ap, arith, subst}
+use Rattle.std.proofs.lemmas.Grind.{common_steps}
+use Rattle.std.proofs.Common.{rules, ℕ, ◌⊎◌, inl, inr, ◌≡◌, ◌<◌, ◌≤◌, true, List, [], length, get_or, eqb, replicate, refl, sym, ◌∙◌, ap, arith, subst}
 use Rattle.std.specs.List.{IsDistinct, Any}
 use Rattle.std.proofs.lemmas.Bool.{cases_lt, eqb-true, eq-eqb, ne_eqb}
 use Rattle.std.proofs.lemmas.List.{get_or_past, get_or_default, get_or-replicate, length-replicate}
@@ -17,10 +18,8 @@ get_or-place_in xs y h = eqb-true _ _ (passes_at_first (λ x. eqb x y) xs 0 h)
 
 pub place_in-get_or : (xs : List ℕ) (p : ℕ) → IsDistinct eqb xs → p < length xs → place_in xs (get_or xs p 0) ≡ p
 unfolding place_in
-place_in-get_or xs p d h =
-    position_or_len_is (λ x. eqb x (get_or xs p 0)) xs p 0 (omega arith)
-    (λ k l. apart_from_distinct eqb xs k p 0 d l h)
-    (λ _. eq-eqb _ _ refl)
+place_in-get_or xs p d h = position_or_len_is (λ x. eqb x (get_or xs p 0)) xs p 0 (omega arith)
+    (λ k l. apart_from_distinct eqb xs k p 0 d l h) (λ _. eq-eqb _ _ refl)
 
 pub place_in-le-length : (xs : List ℕ) (y : ℕ) → place_in xs y ≤ length xs
 unfolding place_in
@@ -28,9 +27,7 @@ place_in-le-length xs y = prefix_len-le-length _ xs
 
 -- one place shows one port
 pub same_at_place : (xs : List ℕ) (a b : ℕ) → place_in xs a ≡ place_in xs b → place_in xs a < length xs → a ≡ b
-same_at_place xs a b e h =
-    sym (get_or-place_in xs a h) ∙ ap (λ p. get_or xs p 0) e
-    ∙ get_or-place_in xs b (let P : ℕ → Type 0 = λ n. n < length xs in subst P e h)
+same_at_place xs a b e h = grind (arith, common_steps, get_or-place_in xs a h, get_or-place_in xs b)
 
 -- ports that are offered are in range
 pub input_in_range : (o : Orders) (i j : ℕ) → IsOffered o i j → i < ports o
@@ -75,12 +72,10 @@ places_at_most xs n d below = length-le_from_distinct_below xs n d (λ q h. at_i
         below q (subst P (sym e) (let f = place_in-get_or xs a.0 d a.2 in omega arith))
 
 pub outputs_at_most : (o : Orders) → AreOffers o → (i : ℕ) → length (outputs_of o i) ≤ ports o
-outputs_at_most o v i =
-    places_at_most (outputs_of o i) (ports o) (v.outputs_differ i) (λ j h. output_in_range o v i j h)
+outputs_at_most o v i = search (rules, places_at_most, v.outputs_differ, output_in_range)
 
 pub inputs_at_most : (o : Orders) → AreOffers o → (j : ℕ) → length (inputs_of o j) ≤ ports o
-inputs_at_most o v j =
-    places_at_most (inputs_of o j) (ports o) (v.inputs_differ j) (λ i h. input_in_range o i j (v.shown_back i j h))
+inputs_at_most o v j = search (rules, places_at_most, v.inputs_differ, input_in_range, v.shown_back)
 
 -- the first place that shows y is its place
 pub place_in_is : (xs : List ℕ) (y i : ℕ) → i ≤ length xs → ((k : ℕ) → k < i → get_or xs k 0 ≡ y → ⊥) →
@@ -95,31 +90,17 @@ abbrev nothing : ℕ → List (List ℕ)
 nothing n = replicate n []
 
 none_at : (n i : ℕ) → get_or (nothing n) i [] ≡ []
-none_at n i =
-    let none : List ℕ = [] in
-    ⊎_elim (λ l. get_or-replicate n i none none l)
-    (λ l. get_or_past (nothing n) i none (omega (arith, length-replicate n none))) (cases_lt i n)
+none_at n i = grind (arith, common_steps, get_or-replicate, get_or_past, length-replicate, cases_lt)
 
 nobody_in : (n i k : ℕ) → place_in (get_or (nothing n) i []) k < length (get_or (nothing n) i []) → ⊥
 nobody_in n i k h = let e = ap length (none_at n i) in omega arith
 
 pub no_offers_are : (n : ℕ) → AreOffers (no_offers n)
 unfolding IsDistinct
-no_offers_are n =
-    record {
-      square = refl;
-      outputs_differ = λ i. subst (IsDistinct eqb) (sym (none_at n i)) tt;
-      inputs_differ = λ j. subst (IsDistinct eqb) (sym (none_at n j)) tt;
-      shown = λ i j h. absurd (nobody_in n i j h);
-      shown_back = λ i j h. absurd (nobody_in n j i h);
-    }
+no_offers_are n = grind (arith, common_steps, none_at, nobody_in)
 
 -- offers of which both sides show nothing
 pub made_none : (n : ℕ) (outputs inputs : List (List ℕ)) → outputs ≡ nothing n → inputs ≡ nothing n → n ≤ 64 →
     let o : Orders = record { outputs = outputs; inputs = inputs } in
     AreOffers o × (ports o ≤ 64)
-made_none n outputs inputs e f l =
-    let o : Orders = record { outputs = outputs; inputs = inputs } in
-    let none : List ℕ = [] in
-    let same : no_offers n ≡ o = cc in
-    (subst AreOffers same (no_offers_are n), let k = length-replicate n none in let m = ap length e in omega arith)
+made_none n outputs inputs e f l = grind (arith, common_steps, no_offers_are, length-replicate)

@@ -1,7 +1,8 @@
 -- A number that leaves an order and goes in before the first that it comes before stands where it stood. Those ahead of
 -- it come before it, so it goes past them, and it comes before the one that followed it. So of an order it is enough to
 -- know what is left without the number, and whether the number is in it.
-use Rattle.std.proofs.Common.{◌≡◌, ◌≢◌, ℕ, suc, ◌<◌, ◌≤◌, eqb, not, cond, Bool, true, false, List, [], ◌∷◌, length, refl, sym, ap, ◌∙◌, subst, inl, inr, ⊎_elim, arith}
+use Rattle.std.proofs.Common.{rules, ◌≡◌, ◌≢◌, ℕ, suc, ◌<◌, ◌≤◌, eqb, not, cond, Bool, true, List, [], ◌∷◌, length, refl, sym, ap, ◌∙◌, inl, ⊎_elim, arith, false, subst}
+use Rattle.std.proofs.lemmas.Grind.{common_steps}
 use Rattle.std.specs.Prelude.{insert, remove}
 use Rattle.std.specs.List.{IsDistinct, position_or_len}
 use Rattle.std.proofs.lemmas.Bool.{cond-true, cond-false, cases_Bool, cases_eq, eq-eqb, ne_eqb}
@@ -22,28 +23,23 @@ without_there x y xs ne = ap (λ b. cond (not b) (y ∷ without x xs) (without x
 -- what is not there leaves nothing
 pub without_none : (x : ℕ) (xs : List ℕ) → (Among x xs → ⊥) → without x xs ≡ xs
 without_none x [] gone = refl
-without_none x (y ∷ xs) gone =
-    without_there x y xs (λ e. gone (inl e)) ∙ ap (λ l. y ∷ l) (without_none x xs (λ m. gone (inr m)))
+without_none x (y ∷ xs) gone = grind (arith, common_steps, without_there, without_none x xs)
 
 -- its one place is removed
 without_place : (x : ℕ) (xs : List ℕ) → Apart xs → Among x xs → remove xs (place_in xs x) ≡ without x xs
 without_place x [] a m = absurd m
 without_place x (y ∷ xs) a m =
-    ⊎_elim
-    (λ is.
-    ap (remove (y ∷ xs)) (place_head xs y x is)
-    ∙ sym (without_here x y xs is ∙ without_none x xs (λ r. a.0 (subst (λ k. Among k xs) (sym is) r))))
-    (λ other.
+    ⊎_elim (λ is. search (arith, rules, place_head, without_here, without_none, Among)) (λ other.
     let later : Among x xs = ⊎_elim (λ e. absurd (other e)) (λ r. r) m in
-    let place : place_in (y ∷ xs) x ≡ suc (place_in xs x) = let next = place_next xs y x other in omega arith in
-    ap (remove (y ∷ xs)) place ∙ ap (λ l. y ∷ l) (without_place x xs a.1 later) ∙ sym (without_there x y xs other))
-    (cases_eq y x)
+    let place : place_in (y ∷ xs) x ≡ suc (place_in xs x) =
+    let next = place_next xs y x other in omega arith in
+    ap (remove (y ∷ xs)) place ∙ ap (λ l. y ∷ l) (without_place x xs a.1 later)
+    ∙ sym (without_there x y xs other)) (cases_eq y x)
 
 -- the same of a place that a search found, or did not find
 pub left_by : (x place : ℕ) (xs : List ℕ) → IsDistinct eqb xs → place ≡ place_in xs x → place < length xs →
     remove xs place ≡ without x xs
-left_by x place xs differ e inside =
-    ap (remove xs) e ∙ without_place x xs (apart xs differ) (among xs x (omega arith))
+left_by x place xs differ e inside = grind (arith, common_steps, without_place, apart, among)
 
 goes_first : (b : ℕ → ℕ → Bool) (x : ℕ) (ys : List ℕ) → ((k : ℕ) → Among k ys → b x k ≡ true) → put_by b x ys ≡ x ∷ ys
 goes_first b x [] before = refl
@@ -70,16 +66,11 @@ module _ (b : ℕ → ℕ → Bool) (one_way : (x y : ℕ) → b x y ≡ true �
   pub put_back :
       (x at : ℕ) (left ys : List ℕ) → Apart ys → Rises b ys → Among x ys → left ≡ without x ys →
       at ≡ position_or_len (b x) left → insert left at x ≡ ys
-  put_back x at left ys a r m e place =
-      ap (λ n. insert left n x) place ∙ sym (put_is b x left) ∙ ap (put_by b x) e ∙ goes_back x ys a r m
+  put_back x at left ys a r m e place = grind (arith, common_steps, put_is, goes_back)
 
   pub room_back : (x : ℕ) (left ys : List ℕ) → Apart ys → Rises b ys → Among x ys → left ≡ without x ys →
       length ys ≤ 64 → length left < 64
-  room_back x left ys a r m e few =
-      let whole = ap length (goes_back x ys a r m) in
-      let longer = length-put b x (without x ys) in
-      let same = ap length e in
-      omega arith
+  room_back x left ys a r m e few = grind (arith, common_steps, goes_back, length-put)
 
 -- a port that does not stand in an order
 pub not_there : (x : ℕ) (xs : List ℕ) → (IsListed xs x → ⊥) → xs ≡ without x xs

@@ -91,7 +91,6 @@ input_best-quiet o v events es q =
     let w = sound-after o v events es in
     record {
       stable = stable-quiet o v (state_after o events) w q;
-      best =
-          λ n stable i. no_better o v (state_after o events) w q n stable.matching
+      best = λ n stable i. no_better o v (state_after o events) w q n stable.matching
           (none_passed-after o v events es n stable) i _ _ refl refl;
     }

@@ -1,7 +1,8 @@
 -- Offers are renewed input by input. The orders of the inputs before the next one, and those of their partners, are as
 -- they are to be. The others are so but for one port each: an input's for its partner, and an output's for the one
 -- input whose partner it is. Who has no partner has had the order from the start.
-use Rattle.std.proofs.Common.{◌≡◌, ◌≢◌, ℕ, ◌+◌, ◌<◌, ◌≤◌, eqb, not, cond, Bool, true, false, List, [], ◌∷◌, length, get_or, set, Option, Some, None, refl, sym, ap, ◌∙◌, subst, ⊎_elim, arith}
+use Rattle.std.proofs.lemmas.Grind.{common_steps}
+use Rattle.std.proofs.Common.{rules, ◌≡◌, ◌≢◌, ℕ, ◌+◌, ◌<◌, ◌≤◌, eqb, Bool, true, false, List, [], ◌∷◌, length, get_or, set, Option, Some, None, refl, sym, ap, ◌∙◌, subst, ⊎_elim, arith, not}
 use Rattle.std.specs.Prelude.{filter}
 use Rattle.std.specs.List.{IsDistinct}
 use Rattle.std.proofs.lemmas.Bool.{cond-true, cases_Bool, cases_eq, cases_lt, eq-eqb, ne_eqb, eqb-true}
@@ -25,14 +26,11 @@ use Rattle.cq_prefs.proofs.Places.{output_in_range, outputs_at_most, inputs_at_m
 
 filter_all : (p : ℕ → Bool) (xs : List ℕ) → ((k : ℕ) → p k ≡ true) → filter p xs ≡ xs
 filter_all p [] all = refl
-filter_all p (x ∷ xs) all =
-    cond-true (p x) (x ∷ filter p xs) (filter p xs) (all x) ∙ ap (λ l. x ∷ l) (filter_all p xs all)
+filter_all p (x ∷ xs) all = grind (arith, common_steps, cond-true, filter_all p xs all)
 
 filter_same : (p q : ℕ → Bool) (xs : List ℕ) → ((k : ℕ) → p k ≡ q k) → filter p xs ≡ filter q xs
 filter_same p q [] same = refl
-filter_same p q (x ∷ xs) same =
-    ap (λ b. cond b (x ∷ filter p xs) (filter p xs)) (same x)
-    ∙ ap (λ l. cond (q x) (x ∷ l) l) (filter_same p q xs same)
+filter_same p q (x ∷ xs) same = grind (arith, common_steps, filter_same p q xs same)
 
 -- ## Partners
 
@@ -46,11 +44,7 @@ partner_if (Some k) j h = ap Some (sym (eqb-true j k h))
 
 -- of the inputs, only the one whose partner it is makes a pair with an output
 one_partner : (m : Partners) → ArePairs m → (i j k : ℕ) → partner_of m i ≡ Some j → is_pair m k j ≡ eqb k i
-one_partner m pairs i j k e =
-    ⊎_elim
-    (λ is. ap (λ p. is_partner p j) (ap (partner_of m) is ∙ e) ∙ eq-eqb j j refl ∙ sym (eq-eqb k i is))
-    (λ other. no_partner (partner_of m k) j (λ h. other (pairs.once k i j h e)) ∙ sym (ne_eqb k i other))
-    (cases_eq k i)
+one_partner m pairs i j k e = search (rules, eq-eqb, no_partner, pairs.once, ne_eqb, cases_eq)
 
 -- ## Some inputs renewed
 
@@ -68,26 +62,7 @@ pub record Renewing (m : Partners) (n : ℕ) (o t : Orders) : Type 0 where
 
 pub none_renewed : (m : Partners) (o t : Orders) → ArePairs m → AreOffers o → AreSameWithout m o t → Renewing m 0 o t
 none_renewed m o t pairs v same =
-    record {
-      ports = same.ports;
-      outputs_differ = v.outputs_differ;
-      inputs_differ = v.inputs_differ;
-      outputs_done = λ i none.
-          let kept : (k : ℕ) → not (is_pair m i k) ≡ true = λ k. ap (λ p. not (is_partner p k)) (none (omega arith)) in
-          sym (filter_all _ (outputs_of o i) kept) ∙ same.outputs i ∙ filter_all _ (outputs_of t i) kept;
-      outputs_wait = λ i j _ e.
-          subst
-          (λ p. filter (λ k. not (is_partner p k)) (outputs_of o i)
-          ≡ filter (λ k. not (is_partner p k)) (outputs_of t i))
-          e (same.outputs i);
-      inputs_done = λ j free.
-          let kept : (k : ℕ) → not (is_pair m k j) ≡ true =
-          λ k. ap not (no_partner (partner_of m k) j (free k (omega arith))) in
-          sym (filter_all _ (inputs_of o j) kept) ∙ same.inputs j ∙ filter_all _ (inputs_of t j) kept;
-      inputs_wait = λ i j _ e.
-          let one : (k : ℕ) → not (is_pair m k j) ≡ not (eqb k i) = λ k. ap not (one_partner m pairs i j k e) in
-          sym (filter_same _ _ (inputs_of o j) one) ∙ same.inputs j ∙ filter_same _ _ (inputs_of t j) one;
-    }
+    search (rules, filter_all, same.outputs, no_partner, same.inputs, one_partner, filter_same)
 
 -- the next input has one: its order and that of its partner are renewed
 pub one_more :
@@ -132,16 +107,13 @@ one_more m n j o t row column pairs v r e inside offered is_row is_column =
     columns = set o.inputs j column
 
     row_here : (i : ℕ) → i ≡ n → get_or rows i [] ≡ outputs_of t i
-    row_here i is =
-        ap (λ k. get_or rows k []) is ∙ get_or-set_same o.outputs n row [] inside ∙ is_row ∙ ap (outputs_of t) (sym is)
+    row_here i is = grind (arith, common_steps, get_or-set_same)
 
     row_there : (i : ℕ) → i ≢ n → get_or rows i [] ≡ outputs_of o i
     row_there i other = get_or-set_other o.outputs n i row [] other
 
     column_here : (k : ℕ) → k ≡ j → get_or columns k [] ≡ inputs_of t k
-    column_here k is =
-        ap (λ i. get_or columns i []) is ∙ get_or-set_same o.inputs j column [] offered ∙ is_column
-        ∙ ap (inputs_of t) (sym is)
+    column_here k is = grind (arith, common_steps, columns, get_or-set_same)
 
     column_there : (k : ℕ) → k ≢ j → get_or columns k [] ≡ inputs_of o k
     column_there k other = get_or-set_other o.inputs j k column [] other
@@ -150,35 +122,20 @@ one_more m n j o t row column pairs v r e inside offered is_row is_column =
 pub all_renewed : (m : Partners) (n : ℕ) (o t : Orders) → Renewing m n o t → length m ≤ n → o ≡ t
 all_renewed m n o t r end =
     let nobody : (i : ℕ) → n ≤ i → partner_of m i ≡ None = λ i l. get_or_past m i None (omega arith) in
-    same_orders o t
-    (ext_get_or [] o.outputs t.outputs r.ports.0 (λ i _. r.outputs_done i (nobody i)))
-    (ext_get_or [] o.inputs t.inputs r.ports.1
-    (λ j _. r.inputs_done j (λ i l h. let no : None ≡ Some j = sym (nobody i l) ∙ h in let P : ⊥ = cc in P)))
+    same_orders o t (ext_get_or [] o.outputs t.outputs r.ports.0 (λ i _. r.outputs_done i (nobody i)))
+    (ext_get_or [] o.inputs t.inputs r.ports.1 (λ j _.
+    r.inputs_done j (λ i l h. let no : None ≡ Some j = sym (nobody i l) ∙ h in let P : ⊥ = cc in P)))
 
 -- where no input of a range has a partner, the range is renewed as it stands
 pub none_between : (m : Partners) (a b : ℕ) (o t : Orders) → Renewing m a o t → a ≤ b →
     ((i : ℕ) → a ≤ i → i < b → partner_of m i ≡ None) → Renewing m b o t
 none_between m a b o t r le none =
-    record {
-      ports = r.ports;
-      outputs_differ = r.outputs_differ;
-      inputs_differ = r.inputs_differ;
-      outputs_done = λ i f.
-          r.outputs_done i (λ l. ⊎_elim (λ below. none i l below) (λ past. f past) (cases_lt i b));
-      outputs_wait = λ i j l e. r.outputs_wait i j (omega arith) e;
-      inputs_done = λ j free. r.inputs_done j (λ i l h. ⊎_elim
-          (λ below. let no : None ≡ Some j = sym (none i l below) ∙ h in let P : ⊥ = cc in P)
-          (λ past. free i past h)
-          (cases_lt i b));
-      inputs_wait = λ i j l e. r.inputs_wait i j (omega arith) e;
-    }
+    grind (arith, common_steps, r.outputs_done, cases_lt, r.outputs_wait, r.inputs_done, r.inputs_wait)
 
 -- as where the next input has none
 pub none_more : (m : Partners) (n : ℕ) (o t : Orders) → Renewing m n o t → partner_of m n ≡ None →
     Renewing m (n + 1) o t
-none_more m n o t r none =
-    none_between m n (n + 1) o t r (omega arith)
-    (λ i low high. let is : i ≡ n = omega arith in ap (partner_of m) is ∙ none)
+none_more m n o t r none = search (rules, none_between)
 
 -- ## Ports in range
 
@@ -208,15 +165,7 @@ pub still_offers :
     (m : Partners) (o now : Orders) (lists : List Waiting) → ArePairs m → AreOffers o × (ports o ≤ 64) → o ≡ now →
     length m ≡ ports now → length lists ≡ ports now → AreSameWithout m now (orders_of (cells_of lists)) →
     AreOffers (orders_of (cells_of lists)) × (ports (orders_of (cells_of lists)) ≤ 64)
-still_offers m o now lists pairs v is long many same =
-    let t = orders_of (cells_of lists) in
-    let before : AreSameWithout m o t = subst (λ x. AreSameWithout m x t) (sym is) same in
-    let seen = ap ports is in
-    let size = length-map lists (λ (w : Waiting). w.cells) in
-    let sizes = length-map (cells_of lists) output_order in (
-      are_offers (cells_of lists) (in_range_still m o (cells_of lists) pairs v.0 (omega arith) (omega arith) before),
-      omega arith,
-    )
+still_offers m o now lists pairs v is long many same = search (rules, length-map, are_offers, in_range_still)
 
 -- ## One pair
 
@@ -231,45 +180,30 @@ module _ (m : Partners) (n j : ℕ) (outputs inputs : List (List ℕ)) (lists : 
     pub offers : AreOffers (orders_of (cells_of lists)) × (ports (orders_of (cells_of lists)) ≤ 64)
 
   pub has_row : Next → n < length outputs
-  has_row x =
-      let size = length-map lists (λ (w : Waiting). w.cells) in
-      let sizes = length-map (cells_of lists) output_order in
-      omega arith
+  has_row x = grind (arith, common_steps, length-map)
 
   pub has_column : Next → j < length inputs
-  has_column x =
-      let size = length-map lists (λ (w : Waiting). w.cells) in
-      let sizes = length-map-range_with_len (input_order (cells_of lists)) 0 (length (cells_of lists)) in
-      let inside = x.pairs.ports n j x.partner in
-      omega arith
+  has_column x = grind (arith, common_steps, length-map, length-map-range_with_len, x.pairs.ports)
 
   -- the order that the input is to have
   row_is : Next → (list : Waiting) → list ≡ get_or lists n list →
       outputs_of (orders_of (cells_of lists)) n ≡ output_order list.cells
-  row_is x list at =
-      outputs_at (cells_of lists) n
-      ∙ ap output_order (cells_at lists n list (omega arith) ∙ ap (λ (w : Waiting). w.cells) (sym at))
+  row_is x list at = grind (arith, common_steps, outputs_at, cells_at)
 
   row_known : Next → (row : List ℕ) (list : Waiting) → row ≡ get_or outputs n row → list ≡ get_or lists n list →
       without j row ≡ without j (output_order list.cells)
-  row_known x row list e at =
-      ap (without j) (e ∙ get_or_default outputs n row [] (has_row x))
-      ∙ x.renewing.outputs_wait n j (let le : n ≤ n = omega arith in le) x.partner
-      ∙ ap (without j) (row_is x list at)
+  row_known x row list e at = grind (arith, common_steps, get_or_default, has_row, x.renewing.outputs_wait, row_is)
 
   row_few : Next → (list : Waiting) → list ≡ get_or lists n list → length (output_order list.cells) ≤ 64
   row_few x list at =
-      let most = outputs_at_most (orders_of (cells_of lists)) x.offers.0 n in
-      let same = ap length (row_is x list at) in
-      omega arith
+      grind (arith, common_steps, outputs_at_most (orders_of (cells_of lists)) x.offers.0 n, row_is x list at)
 
   pub row_renewed : Next → (row : List ℕ) (list : Waiting) → list ≡ get_or lists n list →
       row ≡ output_order list.cells → row ≡ outputs_of (orders_of (cells_of lists)) n
   row_renewed x row list at e = e ∙ sym (row_is x list at)
 
   row_differs : Next → (row : List ℕ) → row ≡ get_or outputs n row → IsDistinct eqb row
-  row_differs x row e =
-      subst (IsDistinct eqb) (sym (e ∙ get_or_default outputs n row [] (has_row x))) (x.renewing.outputs_differ n)
+  row_differs x row e = search (rules, get_or_default, has_row, x.renewing.outputs_differ)
 
   -- what its renewal asks
   pub row_asks : Next → (row : List ℕ) (list : Waiting) → row ≡ get_or outputs n row → list ≡ get_or lists n list →
@@ -279,27 +213,17 @@ module _ (m : Partners) (n j : ℕ) (outputs inputs : List (List ℕ)) (lists : 
 
   -- the order that its partner is to have
   column_is : Next → inputs_of (orders_of (cells_of lists)) j ≡ input_order (cells_of lists) j
-  column_is x =
-      let size = length-map lists (λ (w : Waiting). w.cells) in
-      let inside = x.pairs.ports n j x.partner in
-      inputs_at (cells_of lists) j (omega arith)
+  column_is x = grind (arith, common_steps, length-map, x.pairs.ports, inputs_at)
 
   column_differs : Next → (column : List ℕ) → column ≡ get_or inputs j column → IsDistinct eqb column
-  column_differs x column e =
-      subst (IsDistinct eqb) (sym (e ∙ get_or_default inputs j column [] (has_column x))) (x.renewing.inputs_differ j)
+  column_differs x column e = search (rules, get_or_default, has_column, x.renewing.inputs_differ)
 
   column_known : Next → (column : List ℕ) → column ≡ get_or inputs j column →
       without n column ≡ without n (input_order (cells_of lists) j)
-  column_known x column e =
-      ap (without n) (e ∙ get_or_default inputs j column [] (has_column x))
-      ∙ x.renewing.inputs_wait n j (let le : n ≤ n = omega arith in le) x.partner
-      ∙ ap (without n) (column_is x)
+  column_known x column e = grind (arith, common_steps, get_or_default, has_column, x.renewing.inputs_wait, column_is)
 
   column_few : Next → length (input_order (cells_of lists) j) ≤ 64
-  column_few x =
-      let most = inputs_at_most (orders_of (cells_of lists)) x.offers.0 j in
-      let same = ap length (column_is x) in
-      omega arith
+  column_few x = grind (arith, common_steps, inputs_at_most (orders_of (cells_of lists)) x.offers.0 j, column_is x)
 
   pub column_asks : Next → (column : List ℕ) → column ≡ get_or inputs j column →
       IsDistinct eqb column × (without n column ≡ without n (input_order (cells_of lists) j))
@@ -310,6 +234,4 @@ module _ (m : Partners) (n j : ℕ) (outputs inputs : List (List ℕ)) (lists : 
       column ≡ input_order (cells_of lists) j →
       Renewing m (n + 1) (record { outputs = set outputs n row; inputs = set inputs j column })
       (orders_of (cells_of lists))
-  next_renewed x row column e f =
-      one_more m n j (record { outputs = outputs; inputs = inputs }) (orders_of (cells_of lists)) row column x.pairs
-      x.offers.0 x.renewing x.partner (has_row x) (has_column x) e (f ∙ sym (column_is x))
+  next_renewed x row column e f = search (rules, one_more, has_row, has_column, column_is)

@@ -1,7 +1,8 @@
 -- Offers are renewed where one input changed for one output. It is the renewal of a matching of this one pair: the
 -- inputs before it have no partner, and those behind it have none. So its order and that of the output are all that
 -- is renewed.
-use Rattle.std.proofs.Common.{◌≡◌, ◌≢◌, ℕ, ◌+◌, ◌<◌, ◌≤◌, List, length, get_or, set, replicate, Option, Some, None, sym, ◌∙◌, subst, arith}
+use Rattle.std.proofs.Common.{◌≡◌, ◌≢◌, ℕ, ◌+◌, ◌<◌, ◌≤◌, List, length, get_or, set, replicate, Some, None, sym, ◌∙◌, subst, arith}
+use Rattle.std.proofs.lemmas.Grind.{common_steps}
 use Rattle.std.proofs.lemmas.List.{length-set, length-replicate, get_or-set_same, get_or-set_other}
 use Rattle.cq_list.specs.InputList.{Waiting, cells_of}
 use Rattle.cq_prefs.specs.FirstCells.{output_order, input_order, orders_of}
@@ -17,27 +18,16 @@ pair_of lists n j = with_pair (replicate (length lists) None) n j
 
 module _ (n j : ℕ) (lists : List Waiting) (inside : n < length lists) (within : j < length lists) where
   pair_size : length (pair_of lists n j) ≡ length lists
-  pair_size =
-      let none : Option ℕ = None in
-      length-set (replicate (length lists) none) n (Some j) ∙ length-replicate (length lists) none
+  pair_size = grind (arith, common_steps, length-set, length-replicate)
 
   pair_here : partner_of (pair_of lists n j) n ≡ Some j
-  pair_here =
-      let none : Option ℕ = None in
-      let size = length-replicate (length lists) none in
-      get_or-set_same (replicate (length lists) none) n (Some j) none (omega arith)
+  pair_here = grind (arith, common_steps, length-replicate, get_or-set_same)
 
   pair_else : (i : ℕ) → i ≢ n → partner_of (pair_of lists n j) i ≡ None
-  pair_else i other =
-      let none : Option ℕ = None in
-      get_or-set_other (replicate (length lists) none) n i (Some j) none other ∙ nobody (length lists) i
+  pair_else i other = grind (arith, common_steps, get_or-set_other, nobody)
 
   pair_apart : ArePairs (pair_of lists n j)
-  pair_apart =
-      let none : Option ℕ = None in
-      let size = length-replicate (length lists) none in
-      joined_pairs (replicate (length lists) none) n j (no_pairs (length lists)) (omega arith) (omega arith)
-      (λ i h. let gone : None ≡ Some j = sym (nobody (length lists) i) ∙ h in let P : ⊥ = cc in P)
+  pair_apart = grind (arith, common_steps, length-replicate, joined_pairs, no_pairs, nobody)
 
   -- what is known of the two orders
   pub pair_next : (outputs inputs : List (List ℕ)) (o now : Orders) →
@@ -49,12 +39,9 @@ module _ (n j : ℕ) (lists : List Waiting) (inside : n < length lists) (within 
       let t = orders_of (cells_of lists) in
       let size = pair_size in
       record {
-        renewing =
-            subst (λ (p : Orders). Renewing m n p t) shown
-            (none_between m 0 n o t
+        renewing = subst (λ (p : Orders). Renewing m n p t) shown (none_between m 0 n o t
             (none_renewed m o t pair_apart v.0 (subst (λ (p : Orders). AreSameWithout m p t) (sym is) same))
-            (omega arith)
-            (λ i _ l. let other : i ≢ n = λ e. (let P : ⊥ = omega arith in P) in pair_else i other));
+            (omega arith) (λ i _ l. let other : i ≢ n = λ e. (let P : ⊥ = omega arith in P) in pair_else i other));
         pairs = pair_apart;
         partner = pair_here;
         long = size;

@@ -2,7 +2,8 @@
 -- asked output holds, which only falls, and moves the input on by one place. So an output that was asked once holds the
 -- input or a better one from then on, and whom it holds has it as the last output that was asked: an input that is held
 -- is not free and asks no further.
-use Rattle.std.proofs.Common.{ℕ, ◌≡◌, ◌≢◌, ◌⊎◌, inl, inr, ◌+◌, ◌<◌, ◌≤◌, min, List, [], ◌∷◌, length, replicate, sym, ◌∙◌, arith, subst}
+use Rattle.std.proofs.lemmas.Grind.{common_steps}
+use Rattle.std.proofs.Common.{rules, ℕ, ◌≡◌, ◌≢◌, ◌⊎◌, inl, inr, ◌+◌, ◌<◌, ◌≤◌, min, List, [], ◌∷◌, length, replicate, sym, ◌∙◌, arith, subst}
 use Rattle.std.proofs.lemmas.Bool.{cases_lt, cases_eq}
 use Rattle.std.proofs.lemmas.List.{get_or-set_same, get_or-set_other, get_or_past, length-set, length-replicate, get_or-replicate}
 use Rattle.cq_prefs.specs.Orders.{Orders, AreOffers, ports, outputs_of, inputs_of, place_of, position_of, IsOffered}
@@ -84,8 +85,7 @@ asked_before-step o v s w i t st k j h = go (cases_eq k i)
     go (inr n) =
         let e = st.others_stay k n in
         let b : position_held s j ≤ position_of o j k = w.asked_before k j (omega arith) in
-        let f : position_held t j ≤ position_held s j = falls in
-        omega arith
+        let f : position_held t j ≤ position_held s j = falls in omega arith
     go (inl e) = at_asker (cases_lt (place_of o i j) (next_place s i))
       where
         at_asker : (place_of o i j < next_place s i) ⊎ (next_place s i ≤ place_of o i j) →
@@ -126,15 +126,8 @@ last-step o v s w i f t st k j h = go (cases_eq j (next_output o s i))
 
         at_asked : (position_of o j i < position_held s j) ⊎ (position_held s j ≤ position_of o j i) →
             next_place t k ≡ place_of o k j + 1
-        at_asked (inr l) =
-            let n : position_held t j ≡ min (position_held s j) (position_of o j i) = now in
-            kept (omega arith, h.1)
-        at_asked (inl l) =
-            let n : position_held t j ≡ min (position_held s j) (position_of o j i) = now in
-            let p : position_of o j k ≡ position_of o j i = omega arith in
-            let same : k ≡ i = same_at_place (inputs_of o j) k i p h.1 in
-            let b : place_of o i j ≡ next_place s i = to in
-            rw same (omega arith)
+        at_asked (inr l) = search (rules)
+        at_asked (inl l) = grind (arith, common_steps, same_at_place, to)
 
 held_in-step : (o : Orders) → AreOffers o → (s : State) → IsSound o s → (i : ℕ) (t : State) → IsStep o s i t →
     (j : ℕ) → j < ports o → (position_held t j ≡ ports o) ⊎ (position_held t j < length (inputs_of o j))

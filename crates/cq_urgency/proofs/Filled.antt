@@ -1,8 +1,8 @@
 -- No block is empty, and each but the first has 32 cells at least. Only the first block gets fewer cells, and a block
 -- that is split has 64. So the blocks are few: 32 times their number is at most 31 more than the number of cells, and
 -- where one is split, so it is afterwards.
-use Rattle.std.proofs.Common.{◌≡◌, ℕ, zero, suc, ◌+◌, ◌*◌, ◌/◌, ◌<◌, ◌≤◌, List, [], ◌∷◌, length, set, take, drop, ap, subst, sym, length-append, length-take, length-drop, arith}
-use Rattle.std.specs.Prelude.{insert}
+use Rattle.std.proofs.lemmas.Grind.{common_steps}
+use Rattle.std.proofs.Common.{◌≡◌, ℕ, zero, suc, ◌+◌, ◌*◌, ◌/◌, ◌<◌, ◌≤◌, List, [], ◌∷◌, length, length-append, length-take, length-drop, arith}
 use Rattle.std.specs.List.{AllByRecursion}
 use Rattle.cq_base.specs.declared.cell.Queued.{Queued}
 use Rattle.cq_urgency.specs.Blocks.{flattened, block_at, halved}
@@ -28,14 +28,10 @@ all_filled (b ∷ bs) a = a
 
 led_halved : (least : ℕ) (b : List Queued) (bs : List (List Queued)) (i : ℕ) → least ≤ 32 → AreLed least (b ∷ bs) →
     length (block_at (b ∷ bs) i) ≡ 64 → AreLed least (halved (b ∷ bs) i)
-led_halved least b bs zero few a full =
-    (let len = length-take 32 b in omega arith, (let len = length-drop 32 b in omega arith, a.1))
+led_halved least b bs zero few a full = grind (arith, common_steps, length-take 32 b, length-drop 32 b)
 led_halved least b [] (suc i) few a full = absurd (omega arith)
 led_halved least b (c ∷ bs) (suc i) few a full =
-    let next : suc i + 1 ≡ suc (i + 1) = omega arith in
-    let half : List Queued = take 32 (block_at (c ∷ bs) i) in
-    subst (λ n. AreLed least (insert (b ∷ set (c ∷ bs) i half) n (drop 32 (block_at (c ∷ bs) i)))) (sym next)
-    (a.0, all_half (halved (c ∷ bs) i) (led_halved 32 c bs i (omega arith) a.1 full))
+    grind (arith, common_steps, all_half (halved (c ∷ bs) i), led_halved 32 c bs i)
 
 pub filled_halved : (blocks : List (List Queued)) (i : ℕ) → AreFilled blocks → length (block_at blocks i) ≡ 64 →
     AreFilled (halved blocks i)
@@ -46,18 +42,15 @@ filled_halved (b ∷ bs) i f full = all_filled (halved (b ∷ bs) i) (led_halved
 
 half_few : (blocks : List (List Queued)) → AreHalf blocks → 32 * length blocks ≤ length (flattened blocks)
 half_few [] a = omega arith
-half_few (b ∷ bs) a = let rest = half_few bs a.1 in
-    let len = length-append b (flattened bs) in omega arith
+half_few (b ∷ bs) a = grind (arith, common_steps, length-append, half_few bs a.1)
 
 few_blocks : (blocks : List (List Queued)) → AreFilled blocks → 32 * length blocks ≤ length (flattened blocks) + 31
 few_blocks [] f = omega arith
-few_blocks (b ∷ bs) f = let rest = half_few bs f.1 in
-    let len = length-append b (flattened bs) in omega arith
+few_blocks (b ∷ bs) f = grind (arith, common_steps, half_few, length-append)
 
 -- there is room for one more block where a full one is split
 pub room_to_split : (blocks : List (List Queued)) (i most room : ℕ) → AreFilled blocks → i < length blocks →
     length (block_at blocks i) ≡ 64 → length (halved blocks i) ≡ length blocks + 1 →
     length (flattened blocks) ≤ room → most ≡ room / 32 + 1 → length blocks < most
 room_to_split blocks i most room f inside full longer fits enough =
-    let few = few_blocks (halved blocks i) (filled_halved blocks i f full) in
-    let same = ap length (flattened-halved blocks i inside) in omega arith
+    grind (arith, common_steps, few_blocks, filled_halved, flattened-halved)

@@ -1,6 +1,7 @@
 -- Cells in blocks, one after another. What is done to one block is done to the cells where it stands, behind those of
 -- the blocks ahead.
-use Rattle.std.proofs.Common.{◌≡◌, ℕ, zero, suc, ◌+◌, ◌<◌, ◌≤◌, ◌-◌, List, [], ◌∷◌, ◌++◌, length, set, take, drop, Some, refl, sym, ap, ◌∙◌, append_assoc, length-append, take-append-drop, arith}
+use Rattle.std.proofs.lemmas.Grind.{common_steps}
+use Rattle.std.proofs.Common.{rules, ◌≡◌, ℕ, zero, suc, ◌+◌, ◌<◌, ◌≤◌, ◌-◌, List, [], ◌∷◌, ◌++◌, length, set, take, Some, refl, ap, append_assoc, length-append, take-append-drop, arith}
 use Rattle.std.specs.Prelude.{insert, slice_get}
 use Rattle.std.proofs.lemmas.List.Edits.{insert-append_left, insert-append_right}
 use Rattle.std.proofs.lemmas.List.Sums.{sum_by-cons}
@@ -9,9 +10,7 @@ use Rattle.cq_urgency.specs.Blocks.{flattened, block_at, cells_in_all, halved}
 
 pub length-flattened : (blocks : List (List Queued)) → cells_in_all blocks ≡ length (flattened blocks)
 length-flattened [] = refl
-length-flattened (b ∷ bs) =
-    let rest = length-flattened bs in let whole = length-append b (flattened bs) in
-    let step = sum_by-cons (λ (block : List Queued). length block) b bs in omega arith
+length-flattened (b ∷ bs) = grind (arith, common_steps, length-append, sum_by-cons, length-flattened bs)
 
 pub some_blocks : (blocks : List (List Queued)) → 0 < length (flattened blocks) → 0 < length blocks
 some_blocks [] some = absurd (omega arith)
@@ -33,39 +32,26 @@ pub shown_in : (blocks : List (List Queued)) (i o n : ℕ) (x : Queued) → i < 
     slice_get (block_at blocks i) o ≡ Some x → n ≡ cells_in_all (take i blocks) + o →
     slice_get (flattened blocks) n ≡ Some x
 shown_in [] i o n x inside at place = absurd (omega arith)
-shown_in (b ∷ bs) zero o n x inside at place = ap (slice_get (b ++ flattened bs))
-    (let same : n ≡ o = omega arith in same)
-    ∙ in_front b (flattened bs) o x at
+shown_in (b ∷ bs) zero o n x inside at place = grind (arith, common_steps, in_front)
 shown_in (b ∷ bs) (suc i) o n x inside at place =
-    let step = sum_by-cons (λ (block : List Queued). length block) b (take i bs) in
-    behind b (flattened bs) (cells_in_all (take i bs) + o) n (omega arith)
-    ∙ shown_in bs i o (cells_in_all (take i bs) + o) x (omega arith) at refl
+    grind (arith, common_steps, sum_by-cons, behind, shown_in bs i o (cells_in_all (take i bs) + o) x)
 
 pub insert_in : (blocks : List (List Queued)) (i o n : ℕ) (y : Queued) → i < length blocks →
     o ≤ length (block_at blocks i) → cells_in_all (take i blocks) + o ≡ n →
     flattened (set blocks i (insert (block_at blocks i) o y)) ≡ insert (flattened blocks) n y
 insert_in [] i o n y inside le place = absurd (omega arith)
-insert_in (b ∷ bs) zero o n y inside le place =
-    sym (insert-append_left b (flattened bs) o y le)
-    ∙ ap (λ k. insert (b ++ flattened bs) k y) (let same : o ≡ n = omega arith in same)
+insert_in (b ∷ bs) zero o n y inside le place = grind (arith, common_steps, insert-append_left)
 insert_in (b ∷ bs) (suc i) o n y inside le place =
-    let step = sum_by-cons (λ (block : List Queued). length block) b (take i bs) in
-    ap (λ l. b ++ l) (insert_in bs i o (n - length b) y (omega arith) le (omega arith))
-    ∙ sym (insert-append_right b (flattened bs) (length b) n y refl (omega arith))
+    grind (arith, common_steps, sum_by-cons, insert-append_right, insert_in bs i o (n - length b) y)
 
 -- ## A block split
 
 pub split_in : (blocks : List (List Queued)) (i : ℕ) (front back : List Queued) → i < length blocks →
     front ++ back ≡ block_at blocks i → flattened (insert (set blocks i front) (i + 1) back) ≡ flattened blocks
 split_in [] i front back inside parts = absurd (omega arith)
-split_in (b ∷ bs) zero front back inside parts = sym (append_assoc front back (flattened bs))
-    ∙ ap (λ l. l ++ flattened bs) parts
-split_in (b ∷ bs) (suc i) front back inside parts =
-    let next : suc i + 1 ≡ suc (i + 1) = omega arith in
-    ap (λ n. flattened (insert (b ∷ set bs i front) n back)) next
-    ∙ ap (λ l. b ++ l) (split_in bs i front back (omega arith) parts)
+split_in (b ∷ bs) zero front back inside parts = grind (arith, common_steps, append_assoc)
+split_in (b ∷ bs) (suc i) front back inside parts = grind (arith, common_steps, split_in bs i front back)
 
 pub flattened-halved : (blocks : List (List Queued)) (i : ℕ) → i < length blocks →
     flattened (halved blocks i) ≡ flattened blocks
-flattened-halved blocks i inside = split_in blocks i (take 32 (block_at blocks i)) (drop 32 (block_at blocks i))
-    inside (take-append-drop 32 (block_at blocks i))
+flattened-halved blocks i inside = search (rules, split_in, take-append-drop)

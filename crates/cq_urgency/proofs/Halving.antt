@@ -1,7 +1,8 @@
 -- How many cells have a lesser key, and that halving finds it. The cells stand in the order of keys. So where a cell
 -- has a lesser key, all cells before it have one too. The test is thus passed by the first cells and by no others, and
 -- halving finds the point where they end. As many cells pass as stand before the point.
-use Rattle.std.proofs.Common.{◌≡◌, ℕ, zero, suc, ◌+◌, ◌≤◌, Bool, true, false, cond, List, [], ◌∷◌, ◌++◌, length, get_or, filter, refl, sym, ap, ◌∙◌, inl, inr, subst, length-append, arith}
+use Rattle.std.proofs.lemmas.Grind.{common_steps}
+use Rattle.std.proofs.Common.{rules, ◌≡◌, ℕ, zero, suc, ◌+◌, ◌≤◌, Bool, true, false, cond, List, [], ◌∷◌, ◌++◌, length, filter, refl, sym, ap, ◌∙◌, length-append, arith}
 use Rattle.std.specs.List.{AllByRecursion}
 use Rattle.std.specs.List.Sorted.{IsPartitionPoint, IsPartitionedBy}
 use Rattle.std.proofs.lemmas.Bool.{cases_eq, cond_both}
@@ -17,13 +18,7 @@ use Rattle.cq_base.proofs.Lists.{each_pair_at}
 -- a test that passes on to each cell before parts a rising list
 parts_rising : (p : Queued → Bool) → ((a b : Queued) → IsBefore a b → p b ≡ true → p a ≡ true) → (xs : List Queued) →
     IsRising xs → IsPartitionedBy p xs
-parts_rising p back xs r i j d le lt e =
-    elim (cases_eq i j) [
-      | inl same ↦ let P : ℕ → Type 0 = λ k. p (get_or xs k d) ≡ true in subst P (sym same) e
-      | inr other ↦ back (get_or xs i d) (get_or xs j d)
-          (each_pair_at IsBefore xs i j (get_or xs i d) (get_or xs j d) r (slice_get-get_or xs i d (omega arith))
-          (slice_get-get_or xs j d lt) (omega arith)) e
-    ]
+parts_rising p back xs r i j d le lt e = search (rules, cases_eq, each_pair_at, slice_get-get_or)
 
 -- the cells of lesser key stand first
 pub lesser_part : (key : Key) (xs : List Queued) → IsRising xs → IsPartitionedBy (λ x. is_before x.key key) xs
@@ -42,8 +37,7 @@ passed_at_point p (x ∷ xs) (suc n) few point =
       (λ k d from to. point.0 (suc k) d (omega arith) (omega arith)),
       (λ k d from to. point.1 (suc k) d (omega arith) (omega arith)),
     ) in
-    ap suc rest
-    ∙ ap (λ b. length (cond b (x ∷ filter p xs) (filter p xs))) (sym (point.0 zero x (omega arith) (omega arith)))
+    search (arith, rules, point.0 zero x)
 
 -- ## How many pass
 
@@ -56,17 +50,11 @@ fails_more : {X : Type 0} (p : X → Bool) (x : X) (xs : List X) → p x ≡ fal
 fails_more p x xs e = ap (λ b. length (cond b (x ∷ filter p xs) (filter p xs))) e
 
 pub cushion-append : (key : Key) (xs ys : List Queued) → cushion key (xs ++ ys) ≡ cushion key xs + cushion key ys
-cushion-append key xs ys =
-    let test : Queued → Bool = λ x. is_before x.key key in
-    ap length (filter-append test xs ys) ∙ length-append (filter test xs) (filter test ys)
+cushion-append key xs ys = grind (arith, common_steps, filter-append, length-append)
 
 pub cushion_le : (key : Key) (xs : List Queued) → cushion key xs ≤ length xs
 cushion_le key [] = omega arith
-cushion_le key (x ∷ xs) =
-    let test : Queued → Bool = λ y. is_before y.key key in
-    let rest = cushion_le key xs in
-    cond_both (is_before x.key key) (x ∷ filter test xs) (filter test xs) (λ l. length l ≤ length (x ∷ xs))
-    (λ _. omega arith) (λ _. omega arith)
+cushion_le key (x ∷ xs) = grind (arith, common_steps, cond_both, cushion_le key xs)
 
 pub cushion_all : (key : Key) (xs : List Queued) → AllByRecursion (λ x. is_before x.key key ≡ true) xs →
     cushion key xs ≡ length xs

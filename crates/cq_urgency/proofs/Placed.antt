@@ -2,7 +2,8 @@
 -- changed in the pool changes at its one place in the order and nowhere else; a block that comes in under a number that
 -- was free or is new stands nowhere in the order, so that the blocks there stay; and so do the others where the first
 -- one becomes free.
-use Rattle.std.proofs.Common.{◌≡◌, ◌≢◌, ℕ, zero, suc, ◌+◌, ◌-◌, ◌<◌, ◌≤◌, Bool, true, false, cond, Result, Ok, is_ok, List, [], ◌∷◌, ◌++◌, length, map, get_or, set, take, drop, refl, sym, subst, ap, ◌∙◌, ⊎_elim, arith, Some, length-set, length-take, length-drop, get_or-set_same, get_or-set_other, get_or-drop}
+use Rattle.std.proofs.lemmas.Grind.{common_steps}
+use Rattle.std.proofs.Common.{rules, ◌≡◌, ◌≢◌, ℕ, zero, suc, ◌+◌, ◌-◌, ◌<◌, ◌≤◌, Bool, true, false, cond, Result, Ok, is_ok, List, [], ◌∷◌, ◌++◌, length, map, get_or, set, take, drop, refl, sym, ap, ◌∙◌, arith, Some, length-set, length-take, length-drop, get_or-set_same, get_or-set_other, get_or-drop}
 use Rattle.std.specs.Prelude.{◌==◌, nat_lt, insert, remove, slice_get}
 use Rattle.std.specs.List.{sum_by}
 use Rattle.std.proofs.lemmas.Bool.{cases_Bool, cases_eq, cases_lt, ltb-true, lt-ltb, eq-eqb, ne_eqb, cond-true, cond-false}
@@ -29,14 +30,10 @@ times_push : (n : ℕ) (xs : List ℕ) (x : ℕ) → times n (xs ++ x ∷ []) �
 times_push n xs x = sum_by_push (λ (other : ℕ). bit (other == n)) xs x
 
 times_read : (xs : List ℕ) (i number : ℕ) → i < length xs → number ≡ get_or xs i number → 1 ≤ times number xs
-times_read xs i number inside is =
-    let le = get_or-le-sum_by (λ (other : ℕ). bit (other == number)) xs i number inside in
-    let one = bit_same (get_or xs i number) number (sym is) in omega arith
+times_read xs i number inside is = grind (arith, common_steps, get_or-le-sum_by, bit_same)
 
 has_inside : (pool : List (List Queued)) (n : ℕ) → 1 ≤ has pool n → n < length pool
-has_inside pool n some =
-    ⊎_elim (λ t. ltb-true n (length pool) t) (λ f. let none : has pool n ≡ 0 = ap bit f in absurd (omega arith))
-    (cases_Bool (nat_lt n (length pool)))
+has_inside pool n some = grind (arith, common_steps, ltb-true, cases_Bool)
 
 -- a number that is not there is not the first one
 differs : (number x : ℕ) (xs : List ℕ) → times number (x ∷ xs) ≤ times number xs → x ≢ number
@@ -50,9 +47,7 @@ same_order : (pool pool' : List (List Queued)) (number : ℕ) →
     in_order pool' order ≡ in_order pool order
 same_order pool pool' number others [] none = refl
 same_order pool pool' number others (x ∷ xs) none =
-    let step = times-cons number x xs in
-    ap (λ b. b ∷ in_order pool' xs) (others x (differs number x xs (omega arith)))
-    ∙ ap (λ l. block_at pool x ∷ l) (same_order pool pool' number others xs (omega arith))
+    grind (arith, common_steps, times-cons, differs, same_order pool pool' number others xs)
 
 set_others : (pool : List (List Queued)) (number : ℕ) (block : List Queued) (n : ℕ) → n ≢ number →
     block_at (set pool number block) n ≡ block_at pool n
@@ -64,25 +59,13 @@ set_order : (pool : List (List Queued)) (block : List Queued) (order : List ℕ)
     in_order (set pool number block) order ≡ set (in_order pool order) i block
 set_order pool block [] i number inside is there once = absurd (omega arith)
 set_order pool block (x ∷ xs) zero number inside is there once =
-    let step = times-cons number x xs in
-    let one = bit_same x number (sym is) in
-    ap (λ b. b ∷ in_order (set pool number block) xs)
-    (ap (block_at (set pool number block)) (sym is) ∙ get_or-set_same pool number block [] there)
-    ∙ ap (λ l. block ∷ l)
-    (same_order pool (set pool number block) number (set_others pool number block) xs (omega arith))
+    grind (arith, common_steps, times-cons, bit_same, get_or-set_same, same_order, set_others)
 set_order pool block (x ∷ xs) (suc i) number inside is there once =
-    let step = times-cons number x xs in
-    let some = times_read xs i number (omega arith) is in
-    ap (λ b. b ∷ in_order (set pool number block) xs)
-    (set_others pool number block x (differs number x xs (omega arith)))
-    ∙ ap (λ l. block_at pool x ∷ l) (set_order pool block xs i number (omega arith) is there (omega arith))
+    grind (arith, common_steps, times-cons, times_read, set_others, differs, set_order pool block xs i number)
 
 map-insert : {X Y : Type 0} (f : X → Y) (xs : List X) (i : ℕ) (x : X) →
     map f (insert xs i x) ≡ insert (map f xs) i (f x)
-map-insert f xs i x =
-    map-append f (take i xs) (x ∷ drop i xs)
-    ∙ ap (λ l. l ++ f x ∷ map f (drop i xs)) (sym (take-map f i xs))
-    ∙ ap (λ l. take i (map f xs) ++ f x ∷ l) (sym (drop-map f i xs))
+map-insert f xs i x = grind (arith, common_steps, map-append, take-map, drop-map)
 
 -- ## The block at a place in the order
 
@@ -92,39 +75,23 @@ module _ (pool : List (List Queued)) (order counts free : List ℕ) (p : ArePlac
   number_once = let once = p.once number in let le = bit_le (nat_lt number (length pool)) in omega arith
 
   pub number_there : number < length pool
-  number_there = let once = p.once number in
-      let some = times_read order i number inside is in has_inside pool number (omega arith)
+  number_there = grind (arith, common_steps, times_read, has_inside)
 
   pub not_free : times number free ≡ 0
-  not_free = let once = p.once number in let le = bit_le (nat_lt number (length pool)) in
-      let some = times_read order i number inside is in omega arith
+  not_free = grind (arith, common_steps, bit_le, times_read)
 
   pub block_is : block_at (in_order pool order) i ≡ block_at pool number
   block_is = get_or-map (λ (n : ℕ). block_at pool n) order i number [] inside ∙ ap (block_at pool) (sym is)
 
   pub count_is : (count : ℕ) → count ≡ get_or counts i count → count ≡ length (block_at pool number)
-  count_is count read =
-      read
-      ∙ ap (λ l. get_or l i count) p.counted
-      ∙ get_or-map (λ (block : List Queued). length block) (in_order pool order) i [] count
-      (let same = length-map order (λ (n : ℕ). block_at pool n) in omega arith)
-      ∙ ap (λ (block : List Queued). length block) block_is
+  count_is count read = grind (arith, common_steps, get_or-map, length-map, block_is)
 
   pub changed_order : (block : List Queued) → in_order (set pool number block) order ≡ set (in_order pool order) i block
   changed_order block = set_order pool block order i number inside is number_there number_once
 
   pub changed_placed : (block : List Queued) (count : ℕ) → count ≡ length block →
       ArePlaced (set pool number block) order (set counts i count) free
-  changed_placed block count long =
-      record {
-        once = λ n. p.once n ∙ ap (λ k. bit (nat_lt n k)) (sym (length-set pool number block));
-        all = p.all ∙ sym (length-set pool number block);
-        counted =
-            ap (set counts i) long
-            ∙ ap (λ l. set l i (length block)) p.counted
-            ∙ sym (map-set (λ (b : List Queued). length b) (in_order pool order) i block)
-            ∙ ap (map (λ (b : List Queued). length b)) (sym (changed_order block));
-      }
+  changed_placed block count long = grind (arith, common_steps, length-set, map-set, changed_order)
 
 -- ## A block that comes in
 
@@ -132,54 +99,25 @@ module _ (pool : List (List Queued)) (order counts free : List ℕ) (p : ArePlac
 pub free_there : (pool : List (List Queued)) (free free' : List ℕ) (number : ℕ) →
     ((n : ℕ) → times n free ≤ has pool n) → free ≡ free' ++ number ∷ [] → number < length pool
 free_there pool free free' number within whole =
-    let push = ap (times number) whole ∙ times_push number free' number in
-    let one = bit_same number number refl in
-    let le = within number in has_inside pool number (omega arith)
+    search (arith, rules, times_push number free' number, bit_same number number refl, has_inside pool number)
 
 pub comes_free : (pool : List (List Queued)) (free free' : List ℕ) (block : List Queued) (number : ℕ) →
     number < length pool → free ≡ free' ++ number ∷ [] → ComesIn pool free (set pool number block) free' block number
 comes_free pool free free' block number inside whole =
-    record {
-      at = get_or-set_same pool number block [] inside;
-      others = set_others pool number block;
-      once = λ n.
-          let push = ap (times n) whole ∙ times_push n free' number in
-          let same : has (set pool number block) n ≡ has pool n = ap (λ k. bit (nat_lt n k))
-          (length-set pool number block) in omega arith;
-      all = let push = ap length whole ∙ length_push free' number in
-          let same = length-set pool number block in omega arith;
-      fewer = let push = ap length whole ∙ length_push free' number in omega arith;
-      grown = λ l. absurd (let same = length-set pool number block in omega arith);
-    }
+    grind (arith, common_steps, get_or-set_same, set_others, times_push, length-set, length_push)
 
 module _ (pool : List (List Queued)) (order counts free : List ℕ) (p : ArePlaced pool order counts free)
     (pool' : List (List Queued)) (free' : List ℕ) (block : List Queued) (number : ℕ)
     (q : ComesIn pool free pool' free' block number) where
   fresh : times number order ≡ 0
-  fresh =
-      let had = p.once number in let come = q.once number in
-      let one = bit_same number number refl in let le = bit_le (nat_lt number (length pool')) in omega arith
+  fresh = grind (arith, common_steps, bit_same, bit_le)
 
   pub come_order : (i : ℕ) → in_order pool' (insert order i number) ≡ insert (in_order pool order) i block
-  come_order i =
-      map-insert (λ (n : ℕ). block_at pool' n) order i number
-      ∙ ap (λ l. insert l i (block_at pool' number)) (same_order pool pool' number q.others order fresh)
-      ∙ ap (insert (in_order pool order) i) q.at
+  come_order i = grind (arith, common_steps, map-insert, same_order, fresh)
 
   pub come_placed : (i count : ℕ) → i ≤ length order → count ≡ length block →
       ArePlaced pool' (insert order i number) (insert counts i count) free'
-  come_placed i count le long =
-      record {
-        once = λ n.
-            let more = sum_by-insert (λ (other : ℕ). bit (other == n)) order i number in
-            let had = p.once n in let come = q.once n in omega arith;
-        all = let more = length-insert order i number le in omega arith;
-        counted =
-            ap (insert counts i) long
-            ∙ ap (λ l. insert l i (length block)) p.counted
-            ∙ sym (map-insert (λ (b : List Queued). length b) (in_order pool order) i block)
-            ∙ ap (map (λ (b : List Queued). length b)) (sym (come_order i));
-      }
+  come_placed i count le long = grind (arith, common_steps, sum_by-insert, length-insert, map-insert, come_order)
 
 -- ## The upper half of a block goes over to one that came in
 
@@ -190,16 +128,13 @@ module _ (pool pool' : List (List Queued)) (free free' : List ℕ) (block : List
   had = ap bit (lt-ltb number (length pool) inside)
 
   pub came_apart : other ≢ number
-  came_apart e =
-      let come = q.once number in let first = had in
-      let one = bit_same other number e in let le = bit_le (nat_lt number (length pool')) in absurd (omega arith)
+  came_apart e = grind (arith, common_steps, had, bit_same, bit_le)
 
   pub came_others : block_at pool' number ≡ block_at pool number
   came_others = q.others number (λ e. came_apart (sym e))
 
   pub came_there : other < length pool'
-  came_there = let come = q.once other in let le = within other in
-      let one = bit_same other other refl in has_inside pool' other (omega arith)
+  came_there = grind (arith, common_steps, bit_same other other refl, has_inside pool' other)
 
   pub came_inside : number < length pool'
   came_inside = let come = q.once number in let first = had in has_inside pool' number (omega arith)
@@ -207,51 +142,16 @@ module _ (pool pool' : List (List Queued)) (free free' : List ℕ) (block : List
   pub comes_parted : (front back : List Queued) →
       ComesIn (set pool number front) free (set (set pool' other back) number front) free' back other
   comes_parted front back =
-      let size : length (set pool number front) ≡ length pool = length-set pool number front in
-      let size' : length (set (set pool' other back) number front) ≡ length pool' =
-      length-set (set pool' other back) number front ∙ length-set pool' other back in
-      record {
-        at = set_others (set pool' other back) number front other came_apart
-            ∙ get_or-set_same pool' other back [] came_there;
-        others = λ n ne.
-            ⊎_elim (λ e.
-            ap (block_at (set (set pool' other back) number front)) e
-            ∙ get_or-set_same (set pool' other back) number front []
-            (let there = came_inside in let same = length-set pool' other back in omega arith)
-            ∙ sym (get_or-set_same pool number front [] inside)
-            ∙ ap (block_at (set pool number front)) (sym e))
-            (λ e.
-            set_others (set pool' other back) number front n e
-            ∙ set_others pool' other back n ne
-            ∙ q.others n ne
-            ∙ sym (set_others pool number front n e))
-            (cases_eq n number);
-        once = λ n.
-            let come = q.once n in
-            let one : has (set pool number front) n ≡ has pool n = ap (λ k. bit (nat_lt n k)) size in
-            let two : has (set (set pool' other back) number front) n ≡ has pool' n =
-            ap (λ k. bit (nat_lt n k)) size' in omega arith;
-        all = omega arith;
-        fewer = q.fewer;
-        grown = λ l. q.grown (omega arith);
-      }
+      search (rules, length-set, set_others, came_apart, get_or-set_same, came_there, came_inside, cases_eq)
 
 -- what is read where one block was set
 pub read_other : (pool pool' : List (List Queued)) (from to : ℕ) (block read : List Queued) → to ≢ from →
     from < length pool → pool' ≡ set pool to block → read ≡ get_or pool' from read → read ≡ block_at pool from
-read_other pool pool' from to block read apart inside is e =
-    let same = ap (λ (l : List (List Queued)). length l) is ∙ length-set pool to block in
-    get_or_read pool' from read (omega arith) e []
-    ∙ ap (λ (l : List (List Queued)). block_at l from) is
-    ∙ get_or-set_other pool to from block [] (λ e. apart (sym e))
+read_other pool pool' from to block read apart inside is e = search (rules, length-set, get_or_read, get_or-set_other)
 
 pub read_set : (pool pool' : List (List Queued)) (to : ℕ) (block read : List Queued) → to < length pool →
     pool' ≡ set pool to block → read ≡ get_or pool' to read → read ≡ block
-read_set pool pool' to block read inside is e =
-    let same = ap (λ (l : List (List Queued)). length l) is ∙ length-set pool to block in
-    get_or_read pool' to read (omega arith) e []
-    ∙ ap (λ (l : List (List Queued)). block_at l to) is
-    ∙ get_or-set_same pool to block [] inside
+read_set pool pool' to block read inside is e = grind (arith, common_steps, length-set, get_or_read, get_or-set_same)
 
 -- a cell of the upper half
 pub upper_shown : (block : List Queued) (place : ℕ) (x : Queued) → length block ≡ 64 → place < 32 →
@@ -265,8 +165,7 @@ upper_shown block place x full early at =
 
 pub upper_first : (block : List Queued) (x : Queued) → slice_get block 32 ≡ Some x →
     x ∷ [] ≡ take 1 (drop 32 block)
-upper_first block x at = sym (ap (take 1)
-    (drop_more block 32 x (slice_get_within block 32 x at)
+upper_first block x at = sym (ap (take 1) (drop_more block 32 x (slice_get_within block 32 x at)
     ∙ ap (λ y. y ∷ drop 33 block) (get_or_from_slice_get block 32 x x at)))
 
 -- the next cell of the upper half comes to the others
@@ -318,9 +217,7 @@ freed_placed pool (x ∷ xs) counts free block number p some is =
 
 pub halved_is : (blocks : List (List Queued)) (i : ℕ) (front back : List Queued) → front ≡ take 32 (block_at blocks i) →
     back ≡ drop 32 (block_at blocks i) → insert (set blocks i front) (i + 1) back ≡ halved blocks i
-halved_is blocks i front back f b =
-    ap (λ l. insert (set blocks i l) (i + 1) back) f
-    ∙ ap (insert (set blocks i (take 32 (block_at blocks i))) (i + 1)) b
+halved_is blocks i front back f b = grind (arith, common_steps)
 
 pub without_block : (blocks : List (List Queued)) → length (block_at blocks 0) ≡ 1 →
     without_first blocks ≡ drop 1 blocks
@@ -330,8 +227,7 @@ without_block (b ∷ bs) one = cond-true (length b == 1) bs (drop 1 b ∷ bs) (e
 pub without_cell : (blocks : List (List Queued)) → 0 < length blocks → 1 < length (block_at blocks 0) →
     without_first blocks ≡ set blocks 0 (drop 1 (block_at blocks 0))
 without_cell [] some more = absurd (omega arith)
-without_cell (b ∷ bs) some more = cond-false (length b == 1) bs (drop 1 b ∷ bs)
-    (ne_eqb (length b) 1 (λ e. absurd (omega arith)))
+without_cell (b ∷ bs) some more = grind (arith, common_steps, cond-false, ne_eqb)
 
 -- ## What the fields of the blocks say of their view
 
@@ -343,8 +239,7 @@ left_by_ok r t x y z e ok = e ∙ ap (λ v. cond (is_ok v) y z) ok
 pub memory_same : (most in_pool in_order in_counts in_free pool now : ℕ) →
     HaveMemory most pool in_pool in_order in_counts in_free → now ≡ pool →
     HaveMemory most now in_pool in_order in_counts in_free
-memory_same most in_pool in_order in_counts in_free pool now m same =
-    subst (λ (n : ℕ). HaveMemory most n in_pool in_order in_counts in_free) (sym same) m
+memory_same most in_pool in_order in_counts in_free pool now m same = grind (arith, common_steps)
 
 -- the fields are in order, and stand for these blocks
 pub record Kept (pool : List (List Queued)) (order counts free : List ℕ) (blocks : List (List Queued)) : Type 0 where
@@ -358,8 +253,7 @@ kept pool order counts free most v p view = record { placed = p; seen = ap (λ (
 
 pub as_many : (pool : List (List Queued)) (order counts free : List ℕ) (blocks : List (List Queued)) →
     Kept pool order counts free blocks → length order ≡ length blocks
-as_many pool order counts free blocks w = sym (length-map order (λ (n : ℕ). block_at pool n))
-    ∙ ap (λ (l : List (List Queued)). length l) w.seen
+as_many pool order counts free blocks w = grind (arith, common_steps, length-map)
 
 pub as_many_counts : (pool : List (List Queued)) (order counts free : List ℕ) (blocks : List (List Queued)) →
     Kept pool order counts free blocks → counts ≡ map (λ (b : List Queued). length b) blocks
@@ -368,42 +262,30 @@ as_many_counts pool order counts free blocks w = w.placed.counted ∙ ap (map (�
 sum_counts : (blocks : List (List Queued)) →
     sum_by (λ n. n) (map (λ (b : List Queued). length b) blocks) ≡ cells_in_all blocks
 sum_counts [] = refl
-sum_counts (b ∷ bs) =
-    let rest = sum_counts bs in
-    let counts = sum_by-cons (λ (n : ℕ). n) (length b) (map (λ (block : List Queued). length block) bs) in
-    let step = sum_by-cons (λ (block : List Queued). length block) b bs in omega arith
+sum_counts (b ∷ bs) = grind (arith, common_steps, sum_by-cons, sum_counts bs)
 
 pub sum_parts : (xs : List ℕ) (i : ℕ) → sum_by (λ n. n) (take i xs) + sum_by (λ n. n) (drop i xs) ≡ sum_by (λ n. n) xs
 sum_parts xs i = sum_by-take-drop (λ (n : ℕ). n) xs i
 
 pub sum_rest : (xs : List ℕ) (i : ℕ) →
     sum_by (λ n. n) (take (length xs - i) (drop i xs)) + sum_by (λ n. n) (take i xs) ≡ sum_by (λ n. n) xs
-sum_rest xs i =
-    let parts = sum_parts xs i in
-    let rest = ap (λ (l : List ℕ). sum_by (λ n. n) l) (take_rest xs i) in omega arith
+sum_rest xs i = grind (arith, common_steps, sum_parts, take_rest)
 
 -- the counts ahead of a place add up to the cells ahead
 pub counts_ahead : (pool : List (List Queued)) (order counts free : List ℕ) (blocks : List (List Queued)) →
     Kept pool order counts free blocks → (place : ℕ) →
     sum_by (λ n. n) (take place counts) ≡ cells_in_all (take place blocks)
-counts_ahead pool order counts free blocks w place =
-    ap (λ (l : List ℕ). sum_by (λ n. n) (take place l)) (as_many_counts pool order counts free blocks w)
-    ∙ ap (λ (l : List ℕ). sum_by (λ n. n) l) (take-map (λ (b : List Queued). length b) place blocks)
-    ∙ sum_counts (take place blocks)
+counts_ahead pool order counts free blocks w place = grind (arith, common_steps, as_many_counts, take-map, sum_counts)
 
 pub counts_all : (pool : List (List Queued)) (order counts free : List ℕ) (blocks : List (List Queued)) →
     Kept pool order counts free blocks → sum_by (λ n. n) counts ≡ cells_in_all blocks
-counts_all pool order counts free blocks w =
-    ap (λ (l : List ℕ). sum_by (λ n. n) l) (as_many_counts pool order counts free blocks w) ∙ sum_counts blocks
+counts_all pool order counts free blocks w = grind (arith, common_steps, as_many_counts, sum_counts)
 
 -- where a count is more than nothing, there is a block
 pub count_there : (pool : List (List Queued)) (order counts free : List ℕ) (blocks : List (List Queued)) →
     Kept pool order counts free blocks → (place within : ℕ) → within < get_or counts place 0 → place < length blocks
 count_there pool order counts free blocks w place within some =
-    let size = ap (λ (l : List ℕ). length l) (as_many_counts pool order counts free blocks w)
-    ∙ length-map blocks (λ (b : List Queued). length b) in
-    ⊎_elim (λ l. l) (λ past. absurd (let none = get_or_past counts place 0 (omega arith) in omega arith))
-    (cases_lt place (length blocks))
+    grind (arith, common_steps, as_many_counts, length-map, get_or_past, cases_lt)
 
 module _ (pool : List (List Queued)) (order counts free : List ℕ) (blocks : List (List Queued))
     (w : Kept pool order counts free blocks) (i number : ℕ) (inside : i < length blocks)
@@ -418,24 +300,19 @@ module _ (pool : List (List Queued)) (order counts free : List ℕ) (blocks : Li
   not_freed = not_free pool order counts free w.placed i number in_order_there is
 
   pub block_same : block_at pool number ≡ block_at blocks i
-  block_same =
-      sym (block_is pool order counts free w.placed i number in_order_there is)
-      ∙ ap (λ (l : List (List Queued)). block_at l i) w.seen
+  block_same = grind (arith, common_steps, block_is, in_order_there)
 
   -- what is read in the pool is the block
   pub read_is : (read : List Queued) → read ≡ get_or pool number read → read ≡ block_at blocks i
-  read_is read e =
-      get_or_read pool number read in_pool e [] ∙ block_same
+  read_is read e = grind (arith, common_steps, get_or_read, in_pool, block_same)
 
   pub read_count : (count : ℕ) (read : List Queued) → count ≡ get_or counts i count →
       read ≡ get_or pool number read → count ≡ length read
-  read_count count read e f =
-      count_is pool order counts free w.placed i number in_order_there is count e
+  read_count count read e f = count_is pool order counts free w.placed i number in_order_there is count e
       ∙ ap (λ (b : List Queued). length b) (sym (get_or_read pool number read in_pool f []))
 
   pub seen_changed : (block : List Queued) → in_order (set pool number block) order ≡ set blocks i block
-  seen_changed block =
-      changed_order pool order counts free w.placed i number in_order_there is block
+  seen_changed block = changed_order pool order counts free w.placed i number in_order_there is block
       ∙ ap (λ (l : List (List Queued)). set l i block) w.seen
 
   pub placed_changed : (block : List Queued) (count : ℕ) → count ≡ length block →

@@ -1,5 +1,6 @@
 -- A cell goes in behind the cells of lesser key, and the list stays in the order of keys.
-use Rattle.std.proofs.Common.{◌≡◌, ◌≢◌, ◌+◌, true, false, List, [], ◌∷◌, length, refl, sym, ap, ◌∙◌, ⊎_elim, arith}
+use Rattle.std.proofs.Common.{rules, ◌≡◌, ◌≢◌, ◌+◌, true, false, List, [], ◌∷◌, length, refl, sym, ap, ⊎_elim, arith}
+use Rattle.std.proofs.lemmas.Grind.{common_steps}
 use Rattle.std.specs.Prelude.{insert}
 use Rattle.std.specs.List.{AllByRecursion}
 use Rattle.std.proofs.lemmas.Bool.{cond_both, cases_Bool}
@@ -13,8 +14,7 @@ use Rattle.cq_urgency.proofs.Halving.{cushion_none, cushion_first}
 pub all_put : (P : Queued → Type 0) (c : Queued) (xs : List Queued) → P c → AllByRecursion P xs →
     AllByRecursion P (put c xs)
 all_put P c [] p a = (p, tt)
-all_put P c (x ∷ xs) p a = cond_both (is_before c.key x.key) (c ∷ x ∷ xs) (x ∷ put c xs) (AllByRecursion P)
-    (λ _. (p, a)) (λ _. (a.0, all_put P c xs p a.1))
+all_put P c (x ∷ xs) p a = grind (arith, common_steps, cond_both, all_put P c xs p a.1)
 
 -- what comes before the first cell of a rising list comes before all
 before_all : (c x : Queued) (xs : List Queued) → IsBefore c x → AllByRecursion (IsBefore x) xs →
@@ -37,22 +37,16 @@ none_before c x (y ∷ ys) e
 pub put_is : (c : Queued) (xs : List Queued) → IsRising xs → HasOtherKey c xs →
     insert xs (cushion c.key xs) c ≡ put c xs
 put_is c [] r other = refl
-put_is c (x ∷ xs) r other =
-    cond_both (is_before c.key x.key) (c ∷ x ∷ xs) (x ∷ put c xs) (λ l. insert (x ∷ xs) (cushion c.key (x ∷ xs)) c ≡ l)
-    (λ e. ap (λ n. insert (x ∷ xs) n c)
+put_is c (x ∷ xs) r other = cond_both (is_before c.key x.key) (c ∷ x ∷ xs) (x ∷ put c xs)
+    (λ l. insert (x ∷ xs) (cushion c.key (x ∷ xs)) c ≡ l) (λ e. ap (λ n. insert (x ∷ xs) n c)
     (cushion_none c.key (x ∷ xs) (key_laws.one_way c.key x.key e, none_before c x xs e r.0)))
-    (λ e.
-    ap (λ n. insert (x ∷ xs) n c) (cushion_first c.key x xs (after_other c.key x.key e other.0))
-    ∙ ap (λ l. x ∷ l) (put_is c xs r.1 other.1))
+    (λ e. search (arith, rules, cushion_first, after_other, put_is c xs r.1 other.1))
 
 pub rising_put : (c : Queued) (xs : List Queued) → IsRising xs → HasOtherKey c xs → IsRising (put c xs)
 rising_put c [] r other = (tt, tt)
 rising_put c (x ∷ xs) r other =
-    cond_both (is_before c.key x.key) (c ∷ x ∷ xs) (x ∷ put c xs) IsRising
-    (λ e. ((e, before_all c x xs e r.0), r))
-    (λ e. (all_put (IsBefore x) c xs (after_other c.key x.key e other.0) r.0, rising_put c xs r.1 other.1))
+    grind (arith, common_steps, cond_both, before_all, all_put, after_other, rising_put c xs r.1 other.1)
 
 pub length_put : (c : Queued) (xs : List Queued) → length (put c xs) ≡ length xs + 1
 length_put c [] = refl
-length_put c (x ∷ xs) = cond_both (is_before c.key x.key) (c ∷ x ∷ xs) (x ∷ put c xs)
-    (λ l. length l ≡ length (x ∷ xs) + 1) (λ _. omega arith) (λ _. let rest = length_put c xs in omega arith)
+length_put c (x ∷ xs) = grind (arith, common_steps, cond_both, length_put c xs)

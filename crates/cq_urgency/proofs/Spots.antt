@@ -4,7 +4,8 @@
 -- Where the last cell of all has a lesser key, so have all cells of its block, and the spot is its end.
 --
 -- A full block that is split keeps each place: in its front half, or in its back half behind 32 cells more.
-use Rattle.std.proofs.Common.{◌≡◌, ℕ, zero, suc, ◌+◌, ◌<◌, ◌≤◌, true, false, List, [], ◌∷◌, ◌++◌, length, set, take, drop, Some, sym, ap, ◌∙◌, subst, ⊎_elim, length-append, length-set, length-take, length-drop, get_or-set_same, arith}
+use Rattle.std.proofs.lemmas.Grind.{common_steps}
+use Rattle.std.proofs.Common.{◌≡◌, ℕ, zero, suc, ◌+◌, ◌<◌, ◌≤◌, true, false, List, [], ◌∷◌, ◌++◌, length, take, drop, Some, ap, ⊎_elim, length-append, length-set, length-take, length-drop, get_or-set_same, arith, sym, ◌∙◌, subst}
 use Rattle.std.specs.Prelude.{slice_get}
 use Rattle.std.specs.List.{AllByRecursion}
 use Rattle.std.proofs.lemmas.Bool.{cases_Bool}
@@ -17,7 +18,7 @@ use Rattle.cq_base.specs.Key.{is_before}
 use Rattle.cq_base.specs.Cells.{IsBefore, IsRising, cushion}
 use Rattle.cq_base.proofs.Keys.{key_laws}
 use Rattle.cq_base.proofs.Lists.{all_at}
-use Rattle.cq_urgency.specs.Blocks.{flattened, block_at, cells_in_all, halved}
+use Rattle.cq_urgency.specs.Blocks.{flattened, block_at, halved}
 use Rattle.cq_urgency.specs.OutputBuffer.{AreFilled, AreBegun, IsSpot, starts_before}
 use Rattle.cq_urgency.proofs.Flattened.{length-flattened}
 use Rattle.cq_urgency.proofs.Halving.{cushion_all, cushion_none, cushion_le, cushion-append}
@@ -77,14 +78,12 @@ filled_some (b ∷ bs) f = (f.0, longer_some bs f.1)
 
 none_lesser : (key : Key) (x : Queued) (xs : List Queued) → is_before x.key key ≡ false →
     AllByRecursion (IsBefore x) xs → cushion key (x ∷ xs) ≡ 0
-none_lesser key x xs first after =
-    cushion_none key (x ∷ xs) (
-      first,
-      all_weaker (IsBefore x) (λ y. is_before y.key key ≡ false)
-          (λ y before.
-          ⊎_elim (λ t. absurd (let on = key_laws.on x.key y.key key before t in let P : ⊥ = cc in P)) (λ f. f)
-          (cases_Bool (is_before y.key key))) xs after,
-    )
+none_lesser key x xs first after = cushion_none key (x ∷ xs) (
+  first,
+  all_weaker (IsBefore x) (λ y. is_before y.key key ≡ false) (λ y before.
+      ⊎_elim (λ t. absurd (let on = key_laws.on x.key y.key key before t in let P : ⊥ = cc in P)) (λ f. f)
+      (cases_Bool (is_before y.key key))) xs after,
+)
 
 none_behind : (key : Key) (blocks : List (List Queued)) → IsRising (flattened blocks) → AreSome blocks →
     (0 < length blocks → starts_before key (block_at blocks 0) ≡ false) → cushion key (flattened blocks) ≡ 0
@@ -118,8 +117,7 @@ some_of (b ∷ bs) (suc i) some inside = some_of bs i some.1 (omega arith)
 
 pub some_at : (blocks : List (List Queued)) (i : ℕ) (block : List Queued) → AreFilled blocks → i < length blocks →
     block ≡ block_at blocks i → 0 < length block
-some_at blocks i block f inside is =
-    subst (λ (b : List Queued). 0 < length b) (sym is) (some_of blocks i (filled_some blocks f) inside)
+some_at blocks i block f inside is = grind (arith, common_steps, some_of, filled_some)
 
 -- ## A last cell of lesser key
 
@@ -131,10 +129,7 @@ all_of_none P (x ∷ xs) none = absurd (omega arith)
 all_lesser : (key : Key) (xs : List Queued) (k : ℕ) (x : Queued) → IsRising xs → slice_get xs k ≡ Some x →
     k + 1 ≡ length xs → is_before x.key key ≡ true → AllByRecursion (λ y. is_before y.key key ≡ true) xs
 all_lesser key [] k x r at end e = tt
-all_lesser key (y ∷ ys) zero x r at end e =
-    let same : y ≡ x = cc in
-    let P : Queued → Type 0 = λ z. is_before z.key key ≡ true in
-    (subst P (sym same) e, all_of_none P ys (omega arith))
+all_lesser key (y ∷ ys) zero x r at end e = grind (arith, common_steps, all_of_none)
 all_lesser key (y ∷ ys) (suc k) x r at end e = (
   key_laws.on y.key x.key key (all_at (IsBefore y) ys k x r.0 at) e,
   all_lesser key ys k x r.1 at (omega arith) e,
@@ -150,27 +145,12 @@ starts_lesser key (x ∷ xs) some a = a.0
 module _ (key : Key) (blocks : List (List Queued)) (r : IsRising (flattened blocks)) (f : AreFilled blocks) where
   pub spot_first : (place : ℕ) → AreBegun key blocks place → place ≡ 0 → 0 < length blocks →
       IsSpot blocks (cushion key (flattened blocks)) 0 0
-  spot_first place begun none some =
-      record {
-        inside = some;
-        short = omega arith;
-        at =
-            let all = none_behind key blocks r (filled_some blocks f)
-            (λ l. ap (λ n. starts_before key (block_at blocks n)) (sym none) ∙ begun.behind (omega arith)) in
-            omega arith;
-      }
+  spot_first place begun none some = grind (arith, common_steps, none_behind, filled_some, begun.behind)
 
   pub spot_in : (place block within : ℕ) → AreBegun key blocks place → block + 1 ≡ place →
       within ≡ cushion key (block_at blocks block) → IsSpot blocks (cushion key (flattened blocks)) block within
   spot_in place block within begun next is =
-      record {
-        inside = omega arith;
-        short = let few = cushion_le key (block_at blocks block) in omega arith;
-        at =
-            let all = cushion_in key blocks block r (filled_some blocks f) (omega arith) (begun.before block next)
-            (λ l. ap (λ n. starts_before key (block_at blocks n)) next ∙ begun.behind (omega arith)) in
-            let size = length-flattened (take block blocks) in omega arith;
-      }
+      grind (arith, common_steps, cushion_le, cushion_in, filled_some, begun.before, begun.behind, length-flattened)
 
   -- behind the last cell of all
   pub spot_end : (last within place : ℕ) (block : List Queued) (x : Queued) → last + 1 ≡ length blocks →
@@ -198,34 +178,16 @@ module _ (key : Key) (blocks : List (List Queued)) (r : IsRising (flattened bloc
 module _ (blocks : List (List Queued)) (ahead i o : ℕ) (spot : IsSpot blocks ahead i o)
     (full : length (block_at blocks i) ≡ 64) where
   pub longer : length (halved blocks i) ≡ length blocks + 1
-  longer =
-      let same = length-set blocks i (take 32 (block_at blocks i)) in
-      length-insert (set blocks i (take 32 (block_at blocks i))) (i + 1) (drop 32 (block_at blocks i)) (omega arith)
-      ∙ ap (λ n. n + 1) same
+  longer = grind (arith, common_steps, length-set, length-insert)
 
   first_half : block_at (halved blocks i) i ≡ take 32 (block_at blocks i)
-  first_half =
-      let same = length-set blocks i (take 32 (block_at blocks i)) in
-      let inside = spot.inside in
-      get_or-insert_below (set blocks i (take 32 (block_at blocks i))) (i + 1) (drop 32 (block_at blocks i)) [] i
-      (omega arith) (omega arith)
-      ∙ get_or-set_same blocks i (take 32 (block_at blocks i)) [] inside
+  first_half = grind (arith, common_steps, length-set, get_or-insert_below, get_or-set_same)
 
   second_half : block_at (halved blocks i) (i + 1) ≡ drop 32 (block_at blocks i)
-  second_half =
-      let same = length-set blocks i (take 32 (block_at blocks i)) in
-      get_or-insert_at (set blocks i (take 32 (block_at blocks i))) (i + 1) (drop 32 (block_at blocks i)) []
-      (omega arith)
+  second_half = grind (arith, common_steps, length-set, get_or-insert_at)
 
   ahead_same : take i (halved blocks i) ≡ take i blocks
-  ahead_same =
-      let same = length-set blocks i (take 32 (block_at blocks i)) in
-      let long : i ≤ length (take (i + 1) (set blocks i (take 32 (block_at blocks i)))) = let len = length-take
-      (i + 1) (set blocks i (take 32 (block_at blocks i))) in omega arith in
-      take-append-le i (take (i + 1) (set blocks i (take 32 (block_at blocks i))))
-      (drop 32 (block_at blocks i) ∷ drop (i + 1) (set blocks i (take 32 (block_at blocks i)))) long
-      ∙ take-take i (i + 1) (set blocks i (take 32 (block_at blocks i))) (omega arith)
-      ∙ take-set blocks i (take 32 (block_at blocks i))
+  ahead_same = grind (arith, common_steps, length-set, length-take, take-append-le, take-take, take-set)
 
   pub front_length : length (block_at (halved blocks i) i) ≡ 32
   front_length = let half = ap length first_half in let len = length-take 32 (block_at blocks i) in omega arith
@@ -234,20 +196,7 @@ module _ (blocks : List (List Queued)) (ahead i o : ℕ) (spot : IsSpot blocks a
   back_length = let half = ap length second_half in let len = length-drop 32 (block_at blocks i) in omega arith
 
   pub in_front_half : o ≤ 32 → IsSpot (halved blocks i) ahead i o
-  in_front_half early =
-      record {
-        inside = let len = longer in omega arith;
-        short = let len = front_length in omega arith;
-        at = ap (λ l. cells_in_all l + o) ahead_same ∙ spot.at;
-      }
+  in_front_half early = grind (arith, common_steps, longer, front_length, ahead_same)
 
   pub in_back_half : (p : ℕ) → p + 32 ≡ o → IsSpot (halved blocks i) ahead (i + 1) p
-  in_back_half p late =
-      let len = longer in
-      record {
-        inside = omega arith;
-        short = let size = back_length in omega arith;
-        at =
-            let more = sum_by_more (λ (block : List Queued). length block) (halved blocks i) i [] (omega arith) in
-            let size = front_length in let same = ap cells_in_all ahead_same in omega arith;
-      }
+  in_back_half p late = grind (arith, common_steps, longer, back_length, sum_by_more, front_length, ahead_same)

@@ -1,7 +1,8 @@
 -- The transfers, noted input by input: the next one is put at the end, and no input and no output is in two of them.
-use Rattle.std.proofs.Common.{◌≡◌, ℕ, suc, ◌+◌, ◌≤◌, List, [], ◌∷◌, ◌++◌, length, Option, Some, None, refl, ap, ◌∙◌, arith}
+use Rattle.std.proofs.lemmas.Grind.{common_steps}
+use Rattle.std.proofs.Common.{◌≡◌, ℕ, suc, ◌+◌, ◌≤◌, List, [], ◌∷◌, ◌++◌, length, Option, Some, None, refl, arith}
 use Rattle.std.specs.List.{range_with_len, filter_map, cons_option}
-use Rattle.std.specs.Option.{option_map, option_to_list}
+use Rattle.std.specs.Option.{option_to_list}
 use Rattle.std.proofs.lemmas.List.{append-nil}
 use Rattle.std.proofs.lemmas.List.FromFn.{length-range_with_len}
 use Rattle.std.proofs.lemmas.List.Elements.{filter_map-append}
@@ -34,36 +35,24 @@ one_or_none (Some x) = refl
 -- what is kept of one number more
 pub kept_more : {X : Type 0} (f : ℕ → Option X) (n : ℕ) →
     filter_map f (range_with_len 0 (n + 1)) ≡ filter_map f (range_with_len 0 n) ++ option_to_list (f n)
-kept_more f n =
-    ap (filter_map f) (range_next n)
-    ∙ filter_map-append f (range_with_len 0 n) (n ∷ [])
-    ∙ ap (λ l. filter_map f (range_with_len 0 n) ++ l) (one_or_none (f n))
+kept_more f n = grind (arith, common_steps, range_next, filter_map-append, one_or_none)
 
 noted_more : (m : Partners) (lists : List (List Queued)) (slot phase n : ℕ) →
     noted_until m lists slot phase (n + 1)
     ≡ noted_until m lists slot phase n ++ option_to_list (noted slot phase n (list_of lists n) (partner_of m n))
 unfolding noted_until
-noted_more m lists slot phase n =
-    kept_more (λ i. noted slot phase i (list_of lists i) (partner_of m i)) n
+noted_more m lists slot phase n = grind (arith, common_steps, kept_more)
 
 -- an input without a partner has none
 pub noted_past : (m : Partners) (lists : List (List Queued)) (slot phase n : ℕ) → partner_of m n ≡ None →
     noted_until m lists slot phase (n + 1) ≡ noted_until m lists slot phase n
-noted_past m lists slot phase n none =
-    noted_more m lists slot phase n
-    ∙ ap (λ p. noted_until m lists slot phase n ++ option_to_list (noted slot phase n (list_of lists n) p)) none
-    ∙ append-nil (noted_until m lists slot phase n)
+noted_past m lists slot phase n none = grind (arith, common_steps, noted_more, append-nil)
 
 pub noted_one : (m : Partners) (lists : List (List Queued)) (slot phase n j : ℕ) (c : Queued) →
     partner_of m n ≡ Some j → first_for j (list_of lists n) ≡ Some c →
     let t : Transfer = record { slot = slot; phase = phase; input = n; output = j; id = c.cell.id } in
     noted_until m lists slot phase (n + 1) ≡ noted_until m lists slot phase n ++ t ∷ []
-noted_one m lists slot phase n j c p found =
-    let crosses : Queued → Transfer =
-    λ c. record { slot = slot; phase = phase; input = n; output = j; id = c.cell.id } in
-    noted_more m lists slot phase n
-    ∙ ap (λ q. noted_until m lists slot phase n ++ option_to_list (noted slot phase n (list_of lists n) q)) p
-    ∙ ap (λ o. noted_until m lists slot phase n ++ option_to_list (option_map crosses o)) found
+noted_one m lists slot phase n j c p found = grind (arith, common_steps, noted_more)
 
 mapped_few : {X Y : Type 0} (f : X → Option Y) (xs : List X) → length (filter_map f xs) ≤ length xs
 mapped_few f [] = omega arith
@@ -78,9 +67,4 @@ mapped_few f (x ∷ xs) = go (f x) (mapped_few f xs)
 pub noted_few : (m : Partners) (lists : List (List Queued)) (slot phase n : ℕ) →
     length (noted_until m lists slot phase n) ≤ n
 unfolding noted_until
-noted_few m lists slot phase n =
-    omega (
-      arith,
-      mapped_few (λ i. noted slot phase i (list_of lists i) (partner_of m i)) (range_with_len 0 n),
-      length-range_with_len 0 n,
-    )
+noted_few m lists slot phase n = grind (arith, common_steps, mapped_few, length-range_with_len)

@@ -1,15 +1,15 @@
 -- At most one cell leaves each list and at most one comes to each buffer: a list loses its first cell for its partner
 -- or nothing, and a buffer has a partner's cell put in or is as before. And two transfers of one input, or of one
 -- output, are of one input, so they are one.
-use Rattle.std.proofs.Common.{◌≡◌, ℕ, zero, suc, ◌+◌, ◌<◌, ◌⊎◌, inl, inr, false, List, [], ◌∷◌, length, map, Option, Some, None, refl, sym, ap, ◌∙◌, subst, ⊎_elim, arith}
+use Rattle.std.proofs.lemmas.Grind.{common_steps}
+use Rattle.std.proofs.Common.{rules, ◌≡◌, ℕ, zero, suc, ◌+◌, ◌<◌, ◌⊎◌, inl, inr, false, List, [], ◌∷◌, length, map, Option, Some, None, refl, sym, ap, ◌∙◌, ⊎_elim, arith}
 use Rattle.std.specs.Prelude.{nat_eq}
 use Rattle.std.specs.List.{range_with_len, filter_map, cons_option, AllByRecursion, IsDistinct}
 use Rattle.std.proofs.lemmas.Bool.{cond_both, cases_Bool, cases_eq, eqb-true}
 use Rattle.std.proofs.lemmas.Option.{same_Some}
 use Rattle.cq_base.specs.declared.cell.Queued.{Queued}
 use Rattle.cq_base.specs.declared.cell.Transfer.{Transfer}
-use Rattle.cq_base.specs.Key.{is_before}
-use Rattle.cq_base.specs.Cells.{is_for, first_for, without_first, put}
+use Rattle.cq_base.specs.Cells.{first_for, without_first, put}
 use Rattle.cq_prefs.specs.FirstCells.{list_of}
 use Rattle.cq_prefs.specs.Moves.{Moves, list_taken, noted, transfers_of}
 use Rattle.cq_prefs.specs.Pairing.{Partners, partner_of, ArePairs, IsFreeOutput}
@@ -19,10 +19,7 @@ use Rattle.cq_xbar.specs.Crossbar.{HaveCells, IsSameOrNext, MovesOneEach, NotesO
 
 without_length : (j : ℕ) (xs : List Queued) → IsSameOrNext (length (without_first j xs)) (length xs)
 without_length j [] = inl refl
-without_length j (x ∷ xs) =
-    cond_both (is_for j x) xs (x ∷ without_first j xs) (λ l. IsSameOrNext (length l) (suc (length xs)))
-    (λ _. inr (omega arith))
-    (λ _. ⊎_elim (λ e. inl (ap suc e)) (λ e. inr (omega arith)) (without_length j xs))
+without_length j (x ∷ xs) = grind (arith, common_steps, cond_both, without_length j xs)
 
 taken_length : (p : Option ℕ) (xs : List Queued) → IsSameOrNext (length (list_taken p xs)) (length xs)
 taken_length None xs = inl refl
@@ -30,10 +27,7 @@ taken_length (Some j) xs = without_length j xs
 
 pub put_length : (c : Queued) (xs : List Queued) → length (put c xs) ≡ length xs + 1
 put_length c [] = refl
-put_length c (x ∷ xs) =
-    cond_both (is_before c.key x.key) (c ∷ x ∷ xs) (x ∷ put c xs) (λ l. length l ≡ suc (length xs) + 1)
-    (λ _. omega arith)
-    (λ _. let rest = put_length c xs in omega arith)
+put_length c (x ∷ xs) = grind (arith, common_steps, cond_both, put_length c xs)
 
 -- an output has a partner or has none
 pub partner_or_free : (m : Partners) (j : ℕ) → ((i : ℕ) × (partner_of m i ≡ Some j)) ⊎ IsFreeOutput m j
@@ -57,15 +51,11 @@ pub moves_one_each : (m : Partners) (lists buffers lists' buffers' : List (List 
     Moves m lists buffers lists' buffers' → MovesOneEach lists buffers lists' buffers'
 moves_one_each m lists buffers lists' buffers' have moves =
     record {
-      leaves =
-          λ i. subst (λ l. IsSameOrNext (length l) (length (list_of lists i))) (sym (moves.taken i))
-          (taken_length (partner_of m i) (list_of lists i));
-      comes = λ j.
-          ⊎_elim
-          (λ r. let cell = have r.0 j r.1 in
+      leaves = search (arith, rules, moves.taken, taken_length);
+      comes = λ j. ⊎_elim (λ r.
+          let cell = have r.0 j r.1 in
           inr (ap length (moves.given r.0 j cell.0 r.1 cell.1) ∙ put_length cell.0 (list_of buffers j)))
-          (λ free. inl (ap length (moves.kept j free)))
-          (partner_or_free m j);
+          (λ free. inl (ap length (moves.kept j free))) (partner_or_free m j);
     }
 
 -- ## Transfers
@@ -74,9 +64,7 @@ moves_one_each m lists buffers lists' buffers' have moves =
 module _ (f : ℕ → Option Transfer) (key : Transfer → ℕ)
     (apart : (i k : ℕ) (s t : Transfer) → f i ≡ Some s → f k ≡ Some t → key s ≡ key t → i ≡ k) where
   unlike : (s t : Transfer) (i k : ℕ) → f i ≡ Some s → f k ≡ Some t → i < k → nat_eq (key s) (key t) ≡ false
-  unlike s t i k at_i at_k l =
-      ⊎_elim (λ e. let same = apart i k s t at_i at_k (eqb-true (key s) (key t) e) in absurd (omega arith)) (λ e. e)
-      (cases_Bool (nat_eq (key s) (key t)))
+  unlike s t i k at_i at_k l = grind (arith, common_steps, eqb-true, cases_Bool)
 
   all_unlike : (s : Transfer) (i a n : ℕ) → f i ≡ Some s → i < a →
       AllByRecursion (λ y. nat_eq (key s) y ≡ false) (map key (filter_map f (range_with_len a n)))
@@ -117,16 +105,4 @@ noted_pair slot phase i cells (Some j) t e = go (first_for j cells) refl e
 pub notes_one_each : (m : Partners) (lists : List (List Queued)) (slot phase : ℕ) → ArePairs m →
     NotesOneEach (transfers_of m lists slot phase)
 unfolding transfers_of
-notes_one_each m lists slot phase pairs =
-    let f : ℕ → Option Transfer = λ i. noted slot phase i (list_of lists i) (partner_of m i) in
-    let pair : (i : ℕ) (t : Transfer) → f i ≡ Some t → (t.input ≡ i) × (partner_of m i ≡ Some t.output) =
-    λ i t e. noted_pair slot phase i (list_of lists i) (partner_of m i) t e in
-    record {
-      inputs =
-          all_distinct f (λ t. t.input) (λ i k s t at_i at_k e. sym (pair i s at_i).0 ∙ e ∙ (pair k t at_k).0) 0
-          (length m);
-      outputs =
-          all_distinct f (λ t. t.output)
-          (λ i k s t at_i at_k e. pairs.once i k t.output ((pair i s at_i).1 ∙ ap Some e) (pair k t at_k).1) 0
-          (length m);
-    }
+notes_one_each m lists slot phase pairs = search (rules, noted_pair, all_distinct, pairs.once)

@@ -1,4 +1,4 @@
-use Rattle.std.proofs.Common.{◌∙◌}
+use Rattle.std.proofs.Common.{arith, rules, ◌∙◌}
 use Rattle.cq_crew.proofs.Working.{hand-some, hand-told, proposes-same, proposes-next, proposals-left}
 use Rattle.cq_crew.proofs.worker.propose_all.Goals as goal
 
@@ -6,8 +6,7 @@ pub proposals-init : goal.proposals-init
 proposals-init g c = (c.requires.seat, proposes-same c.args.seat.now.view)
 
 pub propose-outcome-requires-clause-hand : goal.propose-outcome-requires-clause-hand
-propose-outcome-requires-clause-hand g c =
-    hand-some c.proposals.seat.view.hand c.hand.result c.in-Some.input c.hand.ensures.input c.in-Some.is
+propose-outcome-requires-clause-hand g c = search (arith, rules, hand-some)
 
 -- the seat is the worker's still
 pub proposed-requires-clause-worker : goal.proposed-requires-clause-worker
@@ -17,10 +16,7 @@ proposed-requires-clause-worker g c =
     c.proposals.invariant.1 some c.propose-outcome.ensures.proposed).began ∙ c.requires.began
 
 pub proposed-requires-clause-told : goal.proposed-requires-clause-told
-proposed-requires-clause-told g c =
-    c.propose-outcome.ensures.told
-    ∙ hand-told c.proposals.seat.view.hand c.hand.result c.in-Some.input c.propose-outcome.result
-    c.hand.ensures.input c.in-Some.is
+proposed-requires-clause-told g c = search (arith, rules, hand-told)
 
 pub proposals-preserved : goal.proposals-preserved
 proposals-preserved g c =
@@ -31,6 +27,4 @@ proposals-preserved g c =
     )
 
 pub proposals-smaller : goal.proposals-smaller
-proposals-smaller g c =
-    proposals-left c.args.ledger.now c.proposals.seat c.propose-outcome.new.seat c.propose-outcome.ensures.seat
-    c.propose-outcome.ensures.made c.propose-outcome.ensures.few
+proposals-smaller g c = search (arith, rules, proposals-left)

@@ -22,7 +22,6 @@ returns c =
           let P : Orders → Type 0 =
           λ x. core_state o words (slice_set views id v ++ blank x ∷ []) ≡ core_state o words views in
           subst P m.offers (split-shows o words views m.rule id v m.sits);
-      join =
-          λ o words views id other v w m at apart h g. join-shows o words views m.rule id v m.sits other w apart at h
-          g;
+      join = λ o words views id other v w m at apart h g.
+          join-shows o words views m.rule id v m.sits other w apart at h g;
     }

@@ -20,7 +20,6 @@ returns c =
       split = λ o words views id v m.
           let P : Orders → Type 0 = λ x. IsLedger o words (slice_set views id v ++ blank x ∷ []) in
           subst P m.offers (split-keeps o words views m.rule id v m.sits);
-      join =
-          λ o words views id other v w m at apart h g. join-keeps o words views m.rule id v m.sits other w apart at h
-          g;
+      join = λ o words views id other v w m at apart h g.
+          join-keeps o words views m.rule id v m.sits other w apart at h g;
     }

@@ -1,6 +1,5 @@
-use Rattle.std.proofs.Common.{ℕ, ◌≡◌, ◌+◌, ◌∙◌, ap, sym, subst, length, arith}
+use Rattle.std.proofs.Common.{rules, ◌+◌, ◌∙◌, sym, subst, arith}
 use Rattle.std.specs.Slots.{slots_items}
-use Rattle.cq_prefs.specs.Orders.{ports}
 use Rattle.cq_prefs.specs.Pairing.{Partners}
 use Rattle.cq_prefs.specs.Proposals.{State, IsSound}
 use Rattle.cq_prefs.proofs.Places.{inputs_at_most}
@@ -13,13 +12,7 @@ use Rattle.cq_ledger.proofs.reading.read_matching.Goals.{After-word-word, then-w
 word : (c : After-word-word) (s : State) → IsSound c.args.offers.now s →
     Shows c.args.offers.now (slots_items c.args.closed.now.words) s →
     IsWord c.args.offers.now (slots_items c.args.closed.now.words) s c.loop-output.output c.word-word.result
-word c s w shows =
-    record {
-      sound = w;
-      shows = shows;
-      range = omega arith;
-      read = c.word-word.ensures;
-    }
+word c s w shows = search (arith, rules)
 
 -- and of one that they do show
 shown : (c : After-word-word) → IsWord c.args.offers.now (slots_items c.args.closed.now.words) c.requires.shown.0
@@ -27,16 +20,10 @@ shown : (c : After-word-word) → IsWord c.args.offers.now (slots_items c.args.c
 shown c = let s = c.requires.shown in word c s.0 s.1 s.2
 
 pub bounds-inputs_of-word : goal.bounds-inputs_of-word
-bounds-inputs_of-word c =
-    holder_inside _ _ _ _ _ (shown (goal.at.bounds-inputs_of-word c).After-word-word)
-    _ c.ports-ports.ensures.value c.if-word-ports.true _ c.inputs_of.ensures
+bounds-inputs_of-word c = search (arith, rules, holder_inside, shown)
 
 pub offset_bounds-inputs_of-word : goal.offset_bounds-inputs_of-word
-offset_bounds-inputs_of-word c =
-    let inside = holder_inside _ _ _ _ _ (shown (goal.at.offset_bounds-inputs_of-word c).After-word-word)
-    _ c.ports-ports.ensures.value c.if-word-ports.true _ c.inputs_of.ensures in
-    let most = inputs_at_most c.args.offers.now c.ports-ports.ensures.offers c.loop-output.output in
-    let size = ap length c.inputs_of.ensures in omega arith
+offset_bounds-inputs_of-word c = search (arith, rules, holder_inside, shown, inputs_at_most)
 
 pub join-requires : goal.join-requires
 join-requires c =
@@ -58,18 +45,11 @@ loop-output-preserved c = λ s w shows.
     let v = c.ports-ports.ensures.offers in
     let P : Partners → Type 0 = λ m. IsRead c.args.offers.now s m (c.loop-output.output + 1) in
     elim c.if-word-ports.branch [
-      | then-word-ports b ↦
-          subst P (sym (b.matching-is ∙ b.join.ensures)) (word_joins _ _ _ _ _ is
-          _ c.ports-ports.ensures.value b.if-word-ports.true _ b.inputs_of.ensures v _ r)
-      | else-word-ports b ↦
-          subst P (sym b.matching-is)
+      | then-word-ports b ↦ subst P (sym (b.matching-is ∙ b.join.ensures))
+          (word_joins _ _ _ _ _ is _ c.ports-ports.ensures.value b.if-word-ports.true _ b.inputs_of.ensures v _ r)
+      | else-word-ports b ↦ subst P (sym b.matching-is)
           (word_skips _ _ _ _ _ is v _ r (b.if-word-ports.false ∙ c.ports-ports.ensures.value))
     ]
 
 pub returns : goal.returns
-returns c = λ s w shows.
-    let o = c.args.offers.now in
-    let done : c.loop-output.output ≡ ports o = omega arith in
-    let P : ℕ → Type 0 = λ n. IsRead o s c.loop-output.matching n in
-    reads_all o c.ports-ports.ensures.offers s w c.loop-output.matching
-    (subst P done (c.loop-output.invariant s w shows))
+returns c = search (arith, rules, IsRead, reads_all, c.loop-output.invariant)

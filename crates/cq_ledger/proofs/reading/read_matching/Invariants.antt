@@ -5,6 +5,5 @@ use Rattle.cq_ledger.proofs.Matched.{IsRead}
 use Rattle.cq_ledger.proofs.reading.read_matching.Given as goal
 
 abbrev pub invariant-loop-output : goal.invariant-loop-output
-invariant-loop-output l =
-    (s : State) → IsSound l.offers s → Shows l.offers (slots_items l.closed.words) s →
-    IsRead l.offers s l.matching l.output
+invariant-loop-output l = (s : State) → IsSound l.offers s → Shows l.offers (slots_items l.closed.words) s
+    → IsRead l.offers s l.matching l.output

@@ -1,4 +1,4 @@
-use Rattle.std.proofs.Common.{arith}
+use Rattle.std.proofs.Common.{rules, arith}
 use Rattle.cq_list.proofs.BlockWalk.{none_ahead, some_blocks, count_next}
 use Rattle.cq_list.proofs.places.find_nth.Goals as goal
 
@@ -9,8 +9,4 @@ pub nth_in-requires-clause-ahead : goal.nth_in-requires-clause-ahead
 nth_in-requires-clause-ahead c = none_ahead c.args.blocks.now c.args.output
 
 pub nth_in-requires-clause-early : goal.nth_in-requires-clause-early
-nth_in-requires-clause-early c =
-    let inside = some_blocks c.args.blocks.now c.args.output _ _ _ c.requires.all c.requires.there in
-    let next = count_next c.args.blocks.now 0 inside c.index-blocks-0.is c.args.output in
-    let none = (none_ahead c.args.blocks.now c.args.output).few in
-    omega arith
+nth_in-requires-clause-early c = search (arith, rules, some_blocks, count_next, none_ahead)

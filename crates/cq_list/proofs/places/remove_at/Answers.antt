@@ -1,4 +1,4 @@
-use Rattle.std.proofs.Common.{rules, ◌∙◌, [], ap, length, arith}
+use Rattle.std.proofs.Common.{rules, [], ap, length, arith, ◌∙◌}
 use Rattle.std.specs.Prelude.{remove}
 use Rattle.std.proofs.lemmas.List.{get_or_read}
 use Rattle.std.proofs.lemmas.List.Edits.{length-remove}

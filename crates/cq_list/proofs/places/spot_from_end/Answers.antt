@@ -1,16 +1,11 @@
-use Rattle.std.proofs.Common.{◌≡◌, ◌+◌, ◌-◌, ◌∙◌, length, take, ap, sym, arith}
-use Rattle.std.specs.List.{concat}
+use Rattle.std.proofs.Common.{rules, ◌-◌, arith, ◌≡◌, ◌+◌, length, take, ap}
 use Rattle.std.proofs.lemmas.List.{take_all}
 use Rattle.cq_list.proofs.BlockWalk.{starts_back, spot_back}
 use Rattle.cq_list.proofs.places.spot_from_end.Goals as goal
+use Rattle.std.specs.List.{concat}
 
 pub each-init : goal.each-init
-each-init c =
-    record {
-      end = c.requires.len
-          ∙ ap (λ l. length (concat l)) (sym (take_all (length c.args.blocks.now - 0) c.args.blocks.now (omega arith)));
-      early = c.requires.inside;
-    }
+each-init c = search (arith, rules, take_all)
 
 pub overflow_sub-end : goal.overflow_sub-end
 overflow_sub-end c =
@@ -18,10 +13,7 @@ overflow_sub-end c =
     c.index-blocks-block.is c.len-end.ensures.len c.each.invariant.end in omega arith
 
 pub returns-then-end-place : goal.returns-then-end-place
-returns-then-end-place c =
-    spot_back c.args.blocks.now c.each.passed c.index-blocks-block.result _ _ c.each-test.true
-    c.index-blocks-block.is c.len-end.ensures.len c.each.invariant.end c.args.place c.each.invariant.early
-    c.if-end-place.true
+returns-then-end-place c = search (arith, rules, spot_back)
 
 pub each-preserved : goal.each-preserved
 each-preserved c =

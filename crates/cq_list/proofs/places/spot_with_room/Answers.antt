@@ -1,14 +1,13 @@
-use Rattle.std.proofs.Common.{◌≡◌, ◌+◌, ◌∙◌, ◌++◌, get_or, [], ap, sym, subst, List, ⊎_elim, arith}
-use Rattle.std.specs.Prelude.{ℕ, insert, slice_set}
-use Rattle.std.specs.List.{concat}
+use Rattle.std.proofs.Common.{rules, ◌≡◌, ◌+◌, ◌++◌, get_or, [], arith, sym, subst, List, ⊎_elim}
+use Rattle.std.specs.Prelude.{insert, slice_set, ℕ}
 use Rattle.std.proofs.lemmas.Bool.{cases_lt}
 use Rattle.std.proofs.lemmas.List.{get_or_read}
-use Rattle.cq_list.specs.declared.places.Spot.{Spot}
-use Rattle.cq_list.specs.Places.{IsSpot, AreFilled}
+use Rattle.cq_list.specs.Places.{IsSpot}
 use Rattle.cq_list.proofs.Waiting.{left_by_ok}
 use Rattle.cq_list.proofs.Blocks.{spot_along, split_in, in_front_half, in_back_half}
 use Rattle.cq_list.proofs.Filled.{room_for_block, filled_split}
 use Rattle.cq_list.proofs.places.spot_with_room.Goals as goal
+use Rattle.cq_list.specs.declared.places.Spot.{Spot}
 
 pub unwrap-requires : goal.unwrap-requires
 unwrap-requires c =
@@ -25,19 +24,10 @@ record Halved (c : goal.After-in_halves) : Type 0 where
       (c.spot_of-spot.result.block + 1) c.split_off-back.result
 
 halved : (c : goal.After-in_halves) → Halved c
-halved c =
-    let spot = spot_along _ _ _ _ _ c.deref.ensures.value c.spot_of-spot.ensures in
-    record {
-      spot = spot;
-      parts = sym (get_or_read c.args.blocks.now.items _ _ spot.inside c.index_mut-block.ensures.value [])
-          ∙ c.split_off-back.ensures.whole;
-      items = left_by_ok c.insert.result c.unwrap.result _ _ _ c.insert.ensures.items c.unwrap.ensures;
-    }
+halved c = search (arith, rules, spot_along, get_or_read, left_by_ok)
 
 pub returns-clause-places : goal.returns-clause-places
-returns-clause-places c =
-    let h = halved c in
-    ap concat h.items ∙ split_in c.args.blocks.now.items _ _ _ h.spot.inside h.parts
+returns-clause-places c = search (arith, rules, halved, split_in)
 
 pub returns-clause-spot : goal.returns-clause-spot
 returns-clause-spot c =
@@ -67,7 +57,4 @@ returns-clause-capacity c =
     (c.insert.ensures.in_place (omega arith)).1.0
 
 pub returns-clause-filled : goal.returns-clause-filled
-returns-clause-filled c =
-    let h = halved c in
-    subst AreFilled (sym h.items) (filled_split c.args.blocks.now.items _ _ _ c.requires.filled h.spot.inside
-    (omega arith) (omega arith))
+returns-clause-filled c = search (arith, rules, halved, filled_split)

@@ -12,9 +12,8 @@ pub index-requires : goal.index-requires
 index-requires c = ap is_some (node_there _ _ _ _ c.requires c.nodes.invariant.reached c.nodes-test.true).1
 
 pub returns-then-eq : goal.returns-then-eq
-returns-then-eq c =
-    search_ends _ _ _ _ _ _ (looks_at (get c.args.nodes.now) c.args.queue (has_id c.args.id) _ _ _ c.requires
-    c.nodes.invariant c.nodes-test.true c.index.ensures) (rw and_assoc (sym c.eq.ensures ∙ c.if-eq.true))
+returns-then-eq c = search_ends _ _ _ _ _ _ (looks_at (get c.args.nodes.now) c.args.queue (has_id c.args.id) _ _ _
+    c.requires c.nodes.invariant c.nodes-test.true c.index.ensures) (rw and_assoc (sym c.eq.ensures ∙ c.if-eq.true))
 
 pub nodes-preserved : goal.nodes-preserved
 nodes-preserved c =

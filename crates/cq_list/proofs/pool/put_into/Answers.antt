@@ -1,4 +1,4 @@
-use Rattle.std.proofs.Common.{◌∙◌, refl, sym, ap}
+use Rattle.std.proofs.Common.{arith, rules, ◌∙◌, refl, sym, ap}
 use Rattle.std.specs.Prelude.{insert}
 use Rattle.slab.specs.Slab.{get}
 use Rattle.cq_list.specs.Pool.{linked}
@@ -6,24 +6,15 @@ use Rattle.cq_list.proofs.Linked.{linked_more, are_more}
 use Rattle.cq_list.proofs.pool.put_into.Goals as goal
 
 pub returns-then-ahead-eq0-clause-linked : goal.returns-then-ahead-eq0-clause-linked
-returns-then-ahead-eq0-clause-linked c =
-    linked_more
-    (get c.args.nodes.now) _ _ c.args.queue _ c.args.ahead.count _ c.args.queued c.requires.linked refl
-    c.requires.other_key c.requires.count
-    (c.put_first-first.ensures.chained ∙ ap (λ n. insert (linked (get c.args.nodes.now) c.args.queue) n
-    (c.put_first-first.result, c.args.queued)) (sym c.if-ahead-eq0.true))
-    refl c.last_of-last.ensures
+returns-then-ahead-eq0-clause-linked c = linked_more (get c.args.nodes.now) _ _ c.args.queue _ c.args.ahead.count _
+    c.args.queued c.requires.linked refl c.requires.other_key c.requires.count (c.put_first-first.ensures.chained
+    ∙ ap (λ n. insert (linked (get c.args.nodes.now) c.args.queue) n (c.put_first-first.result, c.args.queued))
+    (sym c.if-ahead-eq0.true)) refl c.last_of-last.ensures
 
 pub returns : goal.returns
-returns c =
-    let more = are_more (get c.args.nodes.now) _ _ c.args.queue _ c.args.ahead.count _ c.args.queued c.requires.linked
-    refl c.requires.other_key c.requires.count c.put_behind-place.ensures.chained refl c.last_of-last-2.ensures in
-    let put = c.put_behind-place.ensures in
-    record {
-      linked = more.0;
-      cells = more.1;
-      others = put.others;
-      len = put.len;
-      capacity = put.capacity;
-      longer = refl;
-    }
+returns c = search (
+  arith,
+  rules,
+  are_more (get c.args.nodes.now) _ _ c.args.queue _ c.args.ahead.count _ c.args.queued c.requires.linked refl
+      c.requires.other_key c.requires.count c.put_behind-place.ensures.chained refl c.last_of-last-2.ensures,
+)

@@ -1,4 +1,4 @@
-use Rattle.std.proofs.Common.{◌+◌, sym, subst, arith}
+use Rattle.std.proofs.Common.{rules, ◌+◌, sym, subst, arith}
 use Rattle.cq_prefs.specs.Pairing.{Partners}
 use Rattle.cq_pair.proofs.Leaving.{ArePartedBefore, parted-next, parted-all}
 use Rattle.cq_pair.proofs.proposal_core.part_all.Goals as goal
@@ -7,11 +7,8 @@ pub part-requires : goal.part-requires
 part-requires c = omega arith
 
 pub inputs-preserved : goal.inputs-preserved
-inputs-preserved c =
-    subst (λ (m : Partners). ArePartedBefore (c.inputs.input + 1) c.args.ports m) (sym c.part.ensures)
-    (parted-next c.inputs.input c.args.ports c.inputs.matching (omega arith) c.inputs.invariant)
+inputs-preserved c = subst (λ (m : Partners). ArePartedBefore (c.inputs.input + 1) c.args.ports m)
+    (sym c.part.ensures) (parted-next c.inputs.input c.args.ports c.inputs.matching (omega arith) c.inputs.invariant)
 
 pub returns : goal.returns
-returns c =
-    parted-all c.inputs.input c.args.ports c.inputs.matching (omega arith)
-    c.inputs.invariant
+returns c = search (arith, rules, parted-all)

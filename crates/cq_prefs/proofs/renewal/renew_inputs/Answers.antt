@@ -1,13 +1,11 @@
-use Rattle.std.proofs.Common.{◌∙◌, sym, ap}
+use Rattle.std.proofs.Common.{arith, rules, ◌∙◌, sym, ap}
 use Rattle.std.specs.List.{position_or_len}
 use Rattle.cq_list.specs.InputList.{cells_of}
 use Rattle.cq_prefs.proofs.OneRow.{input_gone, input_room, input_back}
 use Rattle.cq_prefs.proofs.renewal.renew_inputs.Goals as goal
 
 pub insert-requires-clause-room : goal.insert-requires-clause-room
-insert-requires-clause-room c =
-    input_room (cells_of c.args.lists.now) c.requires.keys c.args.output c.args.input c.leave.new.self
-    (c.leave.ensures ∙ c.requires.others) c.in-Some.key (sym c.key_of.ensures ∙ c.in-Some.is) c.requires.few
+insert-requires-clause-room c = search (arith, rules, input_room)
 
 pub returns-in-Some : goal.returns-in-Some
 returns-in-Some c =
@@ -17,6 +15,4 @@ returns-in-Some c =
     (c.place_by_key-at.ensures.place ∙ ap (position_or_len _) c.as_slice.ensures.ports)
 
 pub returns-in_default : goal.returns-in_default
-returns-in_default c =
-    input_gone (cells_of c.args.lists.now) c.requires.keys c.args.output c.args.input c.leave.new.self
-    (c.leave.ensures ∙ c.requires.others) (sym c.key_of.ensures ∙ c.in_default.is)
+returns-in_default c = search (arith, rules, input_gone)

@@ -1,4 +1,4 @@
-use Rattle.std.proofs.Common.{◌∙◌, sym, ap}
+use Rattle.std.proofs.Common.{arith, rules, ◌∙◌, sym, ap}
 use Rattle.std.specs.List.{position_or_len}
 use Rattle.cq_base.proofs.Lists.{taken_none}
 use Rattle.cq_prefs.proofs.OneRow.{output_gone, output_room, output_back}
@@ -6,11 +6,7 @@ use Rattle.cq_prefs.proofs.Placed.{found_place}
 use Rattle.cq_prefs.proofs.renewal.renew_outputs.Goals as goal
 
 pub insert-requires-clause-room : goal.insert-requires-clause-room
-insert-requires-clause-room c =
-    let found = found_place c.args.output c.args.list.now.cells c.in-Some.place
-    (sym c.place_for.ensures ∙ c.in-Some.is) in
-    output_room c.args.list.now.cells c.args.output c.leave.new.self (c.leave.ensures ∙ c.requires.others) found.1
-    c.requires.few
+insert-requires-clause-room c = search (arith, rules, found_place, output_room)
 
 pub returns-in-Some : goal.returns-in-Some
 returns-in-Some c =
@@ -22,7 +18,4 @@ returns-in-Some c =
     (c.place_by_place-at.ensures.place ∙ ap (position_or_len _) c.as_slice.ensures.ports)
 
 pub returns-in_default : goal.returns-in_default
-returns-in_default c =
-    let nobody = taken_none c.args.output c.args.list.now.cells (sym c.place_for.ensures ∙ c.in_default.is) in
-    output_gone c.args.list.now.cells c.args.output c.leave.new.self (c.leave.ensures ∙ c.requires.others)
-    (sym nobody.0)
+returns-in_default c = search (arith, rules, taken_none, output_gone)

@@ -1,4 +1,4 @@
-use Rattle.std.proofs.Common.{◌+◌, ◌∙◌, [], length, take, drop, ap, sym, length-take, length-drop, arith}
+use Rattle.std.proofs.Common.{rules, ◌+◌, ◌∙◌, length, drop, ap, sym, length-take, length-drop, arith, take}
 use Rattle.std.specs.Prelude.{slice_get, slice_set}
 use Rattle.std.proofs.lemmas.List.{take_all, set-get_or}
 use Rattle.cq_urgency.specs.Blocks.{block_at}
@@ -6,18 +6,10 @@ use Rattle.cq_urgency.proofs.Placed.{read_other, read_set, upper_shown, moved_mo
 use Rattle.cq_urgency.proofs.blocks.move_upper.Goals as goal
 
 pub moved-init : goal.moved-init
-moved-init c =
-    record {
-      moved = sym (ap (slice_set c.args.pool.now.items c.args.to) (sym c.requires.first)
-          ∙ set-get_or c.args.pool.now.items c.args.to []);
-      capacity = omega arith;
-    }
+moved-init c = search (arith, rules, set-get_or)
 
 pub at-queued-requires : goal.at-queued-requires
-at-queued-requires c =
-    let same = ap length (read_other _ _ _ _ _ _ c.requires.apart c.requires.from c.moved.invariant.moved
-    c.index.ensures) in
-    omega arith
+at-queued-requires c = search (arith, rules, read_other)
 
 pub insert-requires-clause-inside : goal.insert-requires-clause-inside
 insert-requires-clause-inside c =
@@ -26,9 +18,7 @@ insert-requires-clause-inside c =
     let size = length-take c.moved.place (drop 32 (block_at c.args.pool.now.items c.args.from)) in omega arith
 
 pub insert-requires-clause-room : goal.insert-requires-clause-room
-insert-requires-clause-room c =
-    let same = ap length (read_set _ _ _ _ _ c.requires.to c.moved.invariant.moved c.index_mut.ensures.value) in
-    let size = length-take c.moved.place (drop 32 (block_at c.args.pool.now.items c.args.from)) in omega arith
+insert-requires-clause-room c = search (arith, rules, read_set, length-take)
 
 pub moved-preserved : goal.moved-preserved
 moved-preserved c =
@@ -45,10 +35,7 @@ moved-preserved c =
     }
 
 pub keep_half-requires : goal.keep_half-requires
-keep_half-requires c =
-    ap length (read_other _ _ _ _ _ _ c.requires.apart c.requires.from c.moved.invariant.moved
-    c.index_mut-2.ensures.value)
-    ∙ c.requires.full
+keep_half-requires c = search (arith, rules, read_other)
 
 pub returns-clause-moved : goal.returns-clause-moved
 returns-clause-moved c =

@@ -14,7 +14,6 @@ pub returns-in-Some-clause-comes : goal.returns-in-Some-clause-comes
 returns-in-Some-clause-comes c =
     let there = free_there c.args.pool.now.items c.args.free.now.items _ c.in-Some.number c.requires.within
     c.in-Some.ensures.items in
-    subst
-    (λ (block : List Queued). ComesIn c.args.pool.now.items c.args.free.now.items
-    (slice_set c.args.pool.now.items c.in-Some.number c.restart.new.self) c.pop.new.self.items block c.in-Some.number)
-    c.restart.ensures (comes_free _ _ _ _ _ there c.in-Some.ensures.items)
+    subst (λ (block : List Queued). ComesIn c.args.pool.now.items c.args.free.now.items
+    (slice_set c.args.pool.now.items c.in-Some.number c.restart.new.self) c.pop.new.self.items block
+    c.in-Some.number) c.restart.ensures (comes_free _ _ _ _ _ there c.in-Some.ensures.items)

@@ -1,25 +1,16 @@
-use Rattle.std.proofs.Common.{◌∙◌, [], List, length, take, drop, ap, sym, subst, arith}
-use Rattle.std.specs.Prelude.{slice_get, slice_set}
+use Rattle.std.proofs.Common.{rules, take, drop, arith, ◌∙◌, List, ap, sym, subst}
 use Rattle.std.proofs.lemmas.List.{get_or_read}
-use Rattle.cq_base.specs.declared.cell.Queued.{Queued}
 use Rattle.cq_urgency.specs.Blocks.{block_at, ComesIn}
 use Rattle.cq_urgency.proofs.Placed.{came_others, comes_parted, upper_first}
 use Rattle.cq_urgency.proofs.blocks.put_upper.Goals as goal
+use Rattle.std.specs.Prelude.{slice_set}
+use Rattle.cq_base.specs.declared.cell.Queued.{Queued}
 
 pub at-first-requires : goal.at-first-requires
-at-first-requires c =
-    let read = ap length (get_or_read c.args.pool.now.items c.args.number _ c.requires.there c.index.ensures []) in
-    omega arith
+at-first-requires c = search (arith, rules, get_or_read)
 
 pub move_upper-requires-clause-first : goal.move_upper-requires-clause-first
-move_upper-requires-clause-first c =
-    let come = c.put_block-other.ensures.comes in
-    let read = get_or_read c.args.pool.now.items c.args.number _ c.requires.there c.index.ensures [] in
-    let same = came_others _ _ _ _ _ _ _ c.requires.there c.requires.used c.requires.within come in
-    come.at
-    ∙ upper_first (block_at c.args.pool.now.items c.args.number) _
-    (ap (λ l. slice_get l 32) (sym read) ∙ c.at-first.ensures)
-    ∙ ap (λ l. take 1 (drop 32 l)) (sym same)
+move_upper-requires-clause-first c = search (arith, rules, get_or_read, came_others, upper_first)
 
 pub returns-clause-comes : goal.returns-clause-comes
 returns-clause-comes c =

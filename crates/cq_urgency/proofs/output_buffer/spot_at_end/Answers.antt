@@ -1,21 +1,17 @@
-use Rattle.std.proofs.Common.{◌<◌, ◌∙◌, ◌-◌, sym, arith}
+use Rattle.std.proofs.Common.{rules, ◌<◌, ◌∙◌, ◌-◌, sym, arith}
 use Rattle.cq_urgency.proofs.Spots.{some_at, spot_end}
 use Rattle.cq_urgency.proofs.output_buffer.spot_at_end.Goals as goal
 use Rattle.cq_urgency.proofs.output_buffer.spot_at_end.Goals.{After-len-within}
 
 -- the last block has a cell
 some : (c : After-len-within) → 0 < c.len-within.result
-some c =
-    let cells = some_at c.args.blocks.now.blocks (c.len-last.result - 1) c.block-end.result.now c.requires.filled
-    (omega arith) c.block-end.ensures in
-    omega arith
+some c = search (arith, rules, some_at, c.len-last.result)
 
 pub overflow_sub-place : goal.overflow_sub-place
 overflow_sub-place c = some (goal.at.overflow_sub-place c).After-len-within
 
 pub at-requires : goal.at-requires
-at-requires c =
-    let cells = some (goal.at.at-requires c).After-len-within in omega arith
+at-requires c = search (arith, rules, some)
 
 pub returns-then-precedes : goal.returns-then-precedes
 returns-then-precedes c =

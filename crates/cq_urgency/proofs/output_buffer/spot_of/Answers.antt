@@ -1,16 +1,13 @@
-use Rattle.std.proofs.Common.{◌≡◌, ◌+◌, ◌-◌, ◌∙◌, ap, sym, subst, arith}
-use Rattle.cq_base.specs.Cells.{IsRising, cushion}
+use Rattle.std.proofs.Common.{rules, ◌≡◌, ◌+◌, ◌-◌, ◌∙◌, ap, arith}
+use Rattle.cq_base.specs.Cells.{cushion}
 use Rattle.cq_urgency.proofs.Spots.{rising_block, spot_first, spot_in}
 use Rattle.cq_urgency.proofs.output_buffer.spot_of.Goals as goal
 
 pub returns-then-place-eq0 : goal.returns-then-place-eq0
-returns-then-place-eq0 c =
-    spot_first c.args.key c.args.blocks.now.blocks c.requires.rising c.requires.filled c.begun-place.result
-    c.begun-place.ensures c.if-place-eq0.true c.requires.some
+returns-then-place-eq0 c = search (arith, rules, spot_first)
 
 pub cushion-requires : goal.cushion-requires
-cushion-requires c = subst IsRising (sym c.block.ensures)
-    (rising_block c.args.blocks.now.blocks (c.begun-place.result - 1) c.requires.rising)
+cushion-requires c = search (arith, rules, rising_block, c.begun-place.result)
 
 pub returns : goal.returns
 returns c =

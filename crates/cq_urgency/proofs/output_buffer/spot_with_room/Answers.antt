@@ -1,26 +1,22 @@
-use Rattle.std.proofs.Common.{◌≡◌, ◌≤◌, ◌<◌, ◌∙◌, List, length, ap, sym, subst, ⊎_elim, arith}
+use Rattle.std.proofs.Common.{rules, ◌≡◌, ◌≤◌, List, length, ap, arith, ◌<◌, ◌∙◌, sym, subst, ⊎_elim}
 use Rattle.std.specs.Prelude.{ℕ}
 use Rattle.std.proofs.lemmas.Bool.{cases_lt}
 use Rattle.cq_base.specs.declared.cell.Queued.{Queued}
-use Rattle.cq_base.specs.Cells.{cushion}
-use Rattle.cq_urgency.specs.declared.output_buffer.Spot.{Spot}
-use Rattle.cq_urgency.specs.Blocks.{flattened, block_at, halved}
-use Rattle.cq_urgency.specs.OutputBuffer.{AreFilled, IsSpot}
 use Rattle.cq_urgency.proofs.Filled.{filled_halved, room_to_split}
 use Rattle.cq_urgency.proofs.Flattened.{flattened-halved}
 use Rattle.cq_urgency.proofs.Spots.{longer, front_length, back_length, in_front_half, in_back_half}
 use Rattle.cq_urgency.proofs.output_buffer.spot_with_room.Goals as goal
+use Rattle.cq_urgency.specs.declared.output_buffer.Spot.{Spot}
+use Rattle.cq_urgency.specs.Blocks.{block_at, halved, flattened}
+use Rattle.cq_base.specs.Cells.{cushion}
+use Rattle.cq_urgency.specs.OutputBuffer.{IsSpot}
 
 -- the block is full
 full : (len : ℕ) (block read : List Queued) → len ≡ length read → len ≤ 64 → 64 ≤ len → read ≡ block → length block ≡ 64
 full len block read is fits late same = let size = ap length same in omega arith
 
 pub split-requires-clause-room : goal.split-requires-clause-room
-split-requires-clause-room c =
-    let all = full c.len.result _ _ c.len.ensures.len c.len.ensures.fits c.if-len-lt64.false c.block.ensures in
-    let spot = c.spot_of-spot.ensures in
-    room_to_split c.args.blocks.now.blocks c.spot_of-spot.result.block c.args.blocks.now.most c.args.room
-    c.requires.filled spot.inside all (longer _ _ _ _ spot all) c.requires.fits c.requires.enough
+split-requires-clause-room c = search (arith, rules, full, room_to_split, longer)
 
 pub in_halves-requires : goal.in_halves-requires
 in_halves-requires c =
@@ -31,14 +27,10 @@ in_halves-requires c =
     omega arith
 
 pub returns-clause-cells : goal.returns-clause-cells
-returns-clause-cells c = ap flattened c.split.ensures.blocks
-    ∙ flattened-halved c.args.blocks.now.blocks c.spot_of-spot.result.block c.spot_of-spot.ensures.inside
+returns-clause-cells c = search (arith, rules, flattened-halved)
 
 pub returns-clause-filled : goal.returns-clause-filled
-returns-clause-filled c =
-    let all = full c.len.result _ _ c.len.ensures.len c.len.ensures.fits c.if-len-lt64.false c.block.ensures in
-    subst AreFilled (sym c.split.ensures.blocks)
-    (filled_halved c.args.blocks.now.blocks c.spot_of-spot.result.block c.requires.filled all)
+returns-clause-filled c = search (arith, rules, full, filled_halved)
 
 pub returns-clause-spot : goal.returns-clause-spot
 returns-clause-spot c =

@@ -1,34 +1,27 @@
-use Rattle.std.proofs.Common.{◌≡◌, ◌∙◌, ap, sym, arith}
+use Rattle.std.proofs.Common.{rules, ◌≡◌, ◌∙◌, ap, arith, sym}
 use Rattle.cq_prefs.specs.Orders.{ports}
-use Rattle.cq_ledger.specs.Plays.{Seated}
-use Rattle.cq_ledger.specs.Steps.{hand_at, claim_taken}
+use Rattle.cq_ledger.specs.Steps.{claim_taken, hand_at}
 use Rattle.cq_ledger.proofs.Allowed.{claim-allowed-at}
 use Rattle.cq_ledger.proofs.SeatFields.{matched, taken-seat}
 use Rattle.cq_ledger.proofs.Views.{clear_if}
 use Rattle.cq_ledger.proofs.ledger.Ledger.claim.Goals as goal
 use Rattle.cq_ledger.proofs.ledger.Ledger.claim.Goals.{Else-has_bit}
+use Rattle.cq_ledger.specs.Plays.{Seated}
 
 pub fetch_or-found-requires : goal.fetch_or-found-requires
 fetch_or-found-requires c =
     let m = matched c.args.self.now c.args.seat.now _ _ _ _ c.self.view_is c.seat.view_is c.requires.seat in (
       m.table_is,
       (omega arith),
-      claim-allowed-at c.self.inside.table.shared.key c.self.inside.offers c.self.invariant.0 _ c.seat.inside.seat.id
-          c.args.input c.seat.inside.seat.me
-          (let a = ap ports m.offers_seen in omega arith)
-          (ap (λ v. v.hand) m.view_seen ∙ c.requires.hand) m.offers_are
-          c.bit_of-bit.result c.bit_of-bit.ensures,
+      claim-allowed-at c.self.inside.table.shared.key c.self.inside.offers c.self.invariant.0 _
+          c.seat.inside.seat.id c.args.input c.seat.inside.seat.me (let a = ap ports m.offers_seen in omega arith)
+          (ap (λ v. v.hand) m.view_seen ∙ c.requires.hand) m.offers_are c.bit_of-bit.result c.bit_of-bit.ensures,
     )
 
 -- the step found the input unclaimed
 taken : (c : Else-has_bit) → c.fetch_or-found.new.seat.me
     ≡ (claim_taken c.seat.inside.seat.me.0 c.args.input, c.seat.inside.seat.me.1)
-taken c =
-    (c.fetch_or-found.ensures.2 c.args.input c.bit_of-bit.ensures).taken
-    (clear_if c.fetch_or-found.result c.args.input (λ e. let a = c.has_bit.ensures.1 e in
-    let b = c.if-has_bit.false in
-    let Q : ⊥ = cc in
-    Q))
+taken c = search (arith, rules, clear_if)
 
 pub invariant_of-seat-2 : goal.invariant_of-seat-2
 invariant_of-seat-2 c =
@@ -48,6 +41,4 @@ returns-clause-seat c =
     }
 
 pub returns-clause-taken : goal.returns-clause-taken
-returns-clause-taken c = λ _.
-    ap (λ (x : Seated). x.0) (taken (goal.at.returns-clause-taken c).Else-has_bit)
-    ∙ ap (λ s. claim_taken s.view c.args.input) c.seat.view_is
+returns-clause-taken c = search (arith, rules, taken)

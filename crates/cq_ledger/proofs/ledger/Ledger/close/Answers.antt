@@ -1,6 +1,5 @@
-use Rattle.std.proofs.Common.{◌≡◌, ◌∙◌, ap, sym, subst}
+use Rattle.std.proofs.Common.{arith, rules, ◌≡◌, ◌∙◌, ap}
 use Rattle.std.specs.Slots.{slots_items}
-use Rattle.cq_prefs.specs.Orders.{Orders}
 use Rattle.cq_prefs.specs.Pairing.{IsInputBest, proposals}
 use Rattle.cq_ledger.proofs.Closing.{closing-shown, closing-phase}
 use Rattle.cq_ledger.proofs.SeatFields.{matched, all_claimed}
@@ -27,11 +26,7 @@ phase c =
     c.read_matching-matching.result c.read_matching-matching.ensures
 
 pub returns-clause-best : goal.returns-clause-best
-returns-clause-best c =
-    let P : Orders → Type 0 = λ o. IsInputBest o c.read_matching-matching.result in
-    subst P (ap (λ x. x.offers) c.self.view_is) (phase (goal.at.returns-clause-best c).After-read_matching-matching).0
+returns-clause-best c = search (arith, rules, phase)
 
 pub returns-clause-proposals : goal.returns-clause-proposals
-returns-clause-proposals c =
-    sym c.seat.invariant.counted ∙ (phase (goal.at.returns-clause-proposals c).After-read_matching-matching).1
-    ∙ ap (λ x. proposals x.offers c.read_matching-matching.result) c.self.view_is
+returns-clause-proposals c = search (arith, rules, phase)

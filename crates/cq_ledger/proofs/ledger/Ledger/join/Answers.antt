@@ -1,21 +1,11 @@
-use Rattle.std.proofs.Common.{◌∙◌, ap, arith}
+use Rattle.std.proofs.Common.{rules, ◌∙◌, ap, arith}
 use Rattle.cq_ledger.specs.Plays.{Seated}
 use Rattle.cq_ledger.proofs.Allowed.{join-allowed, look-allowed}
 use Rattle.cq_ledger.proofs.SeatFields.{matched}
 use Rattle.cq_ledger.proofs.ledger.Ledger.join.Goals as goal
 
 pub join_seat-requires : goal.join_seat-requires
-join_seat-requires c =
-    let m = matched c.args.self.now c.args.into.now _ _ _ _ c.self.view_is c.into.view_is c.requires.seat in
-    let n = matched c.args.self.now c.args.other _ _ _ _ c.self.view_is c.other.view_is c.requires.other in (
-      m.table_is,
-      n.table_is,
-      c.other.invariant.no_slot,
-      (omega arith),
-      join-allowed c.self.inside.table.shared.key c.into.inside.seat.id c.into.inside.seat.me.0 c.other.inside.seat.id
-          c.other.inside.seat.me.0
-          (ap (λ v. v.hand) m.view_seen ∙ c.requires.hand) (ap (λ v. v.hand) n.view_seen ∙ c.requires.other_hand),
-    )
+join_seat-requires c = search (arith, rules, matched, join-allowed)
 
 pub load-requires : goal.load-requires
 load-requires c =
@@ -23,6 +13,5 @@ load-requires c =
       c.join_seat.ensures.0 ∙ m.table_is,
       (omega arith),
       look-allowed c.self.inside.table.shared.key c.self.inside.offers c.self.invariant.0 _ c.join_seat.new.seat.id
-          c.join_seat.new.seat.me
-          (ap (λ (x : Seated). x.0.offers) c.join_seat.ensures.2 ∙ m.offers_are),
+          c.join_seat.new.seat.me (ap (λ (x : Seated). x.0.offers) c.join_seat.ensures.2 ∙ m.offers_are),
     )

@@ -1,10 +1,10 @@
-use Rattle.std.proofs.Common.{◌<◌, ◌+◌, ◌∙◌, length, subst, ap, sym, arith, add-one}
-use Rattle.cq_prefs.specs.Orders.{Orders, outputs_of}
+use Rattle.std.proofs.Common.{◌+◌, ◌∙◌, arith, add-one, ap, sym, ◌<◌, length, subst}
 use Rattle.cq_prefs.proofs.Places.{output_in_range}
 use Rattle.cq_ledger.proofs.Allowed.{proposal-allowed-at}
-use Rattle.cq_ledger.specs.Steps.{answer_of, hand_after}
 use Rattle.cq_ledger.proofs.SeatFields.{matched, proposed-seat}
 use Rattle.cq_ledger.proofs.ledger.Ledger.propose.Goals as goal
+use Rattle.cq_ledger.specs.Steps.{answer_of, hand_after}
+use Rattle.cq_prefs.specs.Orders.{Orders, outputs_of}
 
 pub asked_by-asked-requires : goal.asked_by-asked-requires
 asked_by-asked-requires c =

@@ -1,5 +1,5 @@
-use Rattle.std.proofs.Common.{◌∙◌, ◌<◌, sym, ap, length, subst}
-use Rattle.std.specs.Prelude.{ℕ, slice_get}
+use Rattle.std.proofs.Common.{arith, rules, ◌<◌, sym, length, subst}
+use Rattle.std.specs.Prelude.{ℕ}
 use Rattle.std.proofs.lemmas.Option.{slice_get_within}
 use Rattle.cq_list.specs.Pool.{queue_of}
 use Rattle.cq_list.proofs.Kept.{shown}
@@ -13,6 +13,4 @@ at-requires c =
 
 pub returns : goal.returns
 returns c =
-    let there = shown c.self.invariant c.self.view_is c.args.place c.at-output.result c.at-output.ensures in
-    there.2 ∙ sym there.1 ∙ ap (slice_get (queue_of c.self.inside.pool.queues c.at-output.result))
-    (sym c.count_ahead-ahead.ensures) ∙ c.at.ensures
+    search (arith, rules, shown c.self.invariant c.self.view_is c.args.place c.at-output.result c.at-output.ensures)

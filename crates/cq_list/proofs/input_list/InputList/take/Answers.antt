@@ -1,4 +1,4 @@
-use Rattle.std.proofs.Common.{◌∙◌, ◌≡◌, refl, sym, arith}
+use Rattle.std.proofs.Common.{rules, ◌∙◌, ◌≡◌, sym, arith, refl}
 use Rattle.cq_base.specs.Cells.{without_first}
 use Rattle.cq_base.proofs.Lists.{taken_none}
 use Rattle.cq_list.specs.InputList.{StandFor}
@@ -26,17 +26,15 @@ now : (c : goal.After-take) → StandFor c.self.inside.outputs c.remove_first.ne
     (without_first c.args.output c.args.self.now.cells)
 now c =
     let spare : c.remove_first.new.self.spare ≡ c.take.new.self.spare =
-    let same = (had c.self.invariant c.self.view_is).spare in
-    omega arith in
-    left c.self.invariant c.self.view_is c.args.output _ _ _ c.take.ensures.first
-    c.remove_first.ensures.outputs c.take.ensures.queues spare
+    let same = (had c.self.invariant c.self.view_is).spare in omega arith in
+    left c.self.invariant c.self.view_is c.args.output _ _ _ c.take.ensures.first c.remove_first.ensures.outputs
+    c.take.ensures.queues spare
 
 pub invariant_of-self : goal.invariant_of-self
 invariant_of-self c = kept _ _ _ _ (now c)
 
 pub returns-in-Some-clause-first : goal.returns-in-Some-clause-first
-returns-in-Some-clause-first c =
-    sym c.take.ensures.first ∙ first_is c.self.invariant c.self.view_is c.args.output
+returns-in-Some-clause-first c = search (arith, rules, first_is)
 
 pub returns-in-Some-clause-cells : goal.returns-in-Some-clause-cells
 returns-in-Some-clause-cells c = cells_are _ _ _ _ (now c)

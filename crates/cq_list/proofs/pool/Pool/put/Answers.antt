@@ -1,10 +1,10 @@
-use Rattle.std.proofs.Common.{ap, sym, ◌∙◌, subst, arith}
-use Rattle.std.specs.List.{position_or_len}
+use Rattle.std.proofs.Common.{ap, ◌∙◌, subst, arith, sym}
 use Rattle.cq_base.specs.Cells.{HasOtherKey, put}
 use Rattle.cq_list.specs.Pool.{PoolView}
 use Rattle.cq_list.proofs.Put.{is_no_sooner, no_sooner_is_later}
 use Rattle.cq_list.proofs.Queues.{read_of, is_pool_changed, view_changed}
 use Rattle.cq_list.proofs.pool.Pool.put.Goals as goal
+use Rattle.std.specs.List.{position_or_len}
 
 pub put_into-requires-clause-linked : goal.put_into-requires-clause-linked
 put_into-requires-clause-linked c =
@@ -31,7 +31,6 @@ invariant_of-self c =
     read c.put_into.ensures.others c.put_into.ensures.linked (omega arith) (omega arith) c.put_into.ensures.capacity
 
 pub returns-clause-queues : goal.returns-clause-queues
-returns-clause-queues c =
-    view_changed c.self.inside.nodes c.put_into.new.nodes _ c.self.inside.room _ _ _ _ c.self.invariant
-    (read_of c.self.invariant c.self.view_is c.requires.in_range c.index-queue.ensures)
+returns-clause-queues c = view_changed c.self.inside.nodes c.put_into.new.nodes _ c.self.inside.room _ _ _ _
+    c.self.invariant (read_of c.self.invariant c.self.view_is c.requires.in_range c.index-queue.ensures)
     c.put_into.ensures.others (put c.args.queued) c.put_into.ensures.cells

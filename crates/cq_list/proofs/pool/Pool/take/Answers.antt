@@ -1,5 +1,4 @@
-use Rattle.std.proofs.Common.{◌≡◌, ◌≢◌, ◌<◌, ◌+◌, ◌-◌, ◌∙◌, ℕ, Some, ap, sym, drop, is_some, arith}
-use Rattle.std.specs.Prelude.{slice_get}
+use Rattle.std.proofs.Common.{rules, ◌≡◌, ◌≢◌, ◌<◌, ◌+◌, ◌-◌, ◌∙◌, ℕ, Some, ap, sym, drop, is_some, arith}
 use Rattle.slab.specs.Slab.{get}
 use Rattle.cq_list.specs.declared.pool.Node.{Node}
 use Rattle.cq_list.specs.Pool.{OthersStay}
@@ -44,16 +43,11 @@ pub invariant_of-self : goal.invariant_of-self
 invariant_of-self c =
     let t = taken c in
     is_pool_changed c.self.inside.nodes c.remove-node.new.self _ c.self.inside.room _ _ _ _ c.self.invariant t.read
-    t.stay
-    (linked_less _ _ _ _ _ _ t.read.is_linked t.some c.remove-node.ensures.value t.others)
-    (omega arith) (omega arith) c.remove-node.ensures.capacity
+    t.stay (linked_less _ _ _ _ _ _ t.read.is_linked t.some c.remove-node.ensures.value t.others) (omega arith)
+    (omega arith) c.remove-node.ensures.capacity
 
 pub returns-clause-first : goal.returns-clause-first
-returns-clause-first c =
-    let t = taken c in
-    let some : 0 < c.index-queue.result.now.len = let some = t.some in omega arith in
-    ap (λ l. slice_get l 0) t.read.are_cells
-    ∙ head_shown _ _ _ t.read.is_linked.chained some c.remove-node.ensures.value
+returns-clause-first c = search (arith, rules, taken, head_shown)
 
 pub returns-clause-queues : goal.returns-clause-queues
 returns-clause-queues c =

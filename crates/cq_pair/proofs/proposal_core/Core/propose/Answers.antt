@@ -122,7 +122,6 @@ returns c =
     let n : c.asked_by-asked.result.held ≢ ports c.args.offers.now =
     λ e. c.if-asked-ports.false (e ∙ sym c.ports.ensures.value) in
     let is = is_holder _ _ _ _ _ _ _ c.inputs_of.result.now a c.inputs_of.ensures refl in
-    let r =
-    displaced _ _ _ _ _ _ _ a c.if-asked.false n is c.move_on.new.self c.part.new.self c.take-2.new.self
+    let r = displaced _ _ _ _ _ _ _ a c.if-asked.false n is c.move_on.new.self c.part.new.self c.take-2.new.self
     c.move_on.ensures c.part.ensures c.take-2.ensures in
     record { reached = r.reached; event = r.event; made = r.made; outcome = r.answer }

@@ -1,29 +1,11 @@
-use Rattle.std.proofs.Common.{ℕ, ◌∙◌, ap, sym, subst, arith, length, Option, Some, None, set}
+use Rattle.std.proofs.Common.{rules, arith}
 use Rattle.std.proofs.Math.Seq.{take-set-lt}
-use Rattle.cq_prefs.specs.Padded.{length_shown}
-use Rattle.cq_prefs.specs.Pairing.{ArePairs}
 use Rattle.cq_prefs.proofs.Padded.{IsPadded-set}
 use Rattle.cq_prefs.proofs.Pairs.{joined_pairs}
 use Rattle.cq_prefs.proofs.matching.Matching.join.Goals as goal
 
 pub invariant_of-self : goal.invariant_of-self
-invariant_of-self c =
-    let none : Option ℕ = None in
-    let size = length_shown none c.self.inside.ports c.self.inside.partners c.self.invariant.0 in
-    let seen = ap length c.self.view_is in
-    let inside = c.requires.input in
-    let shown =
-    take-set-lt c.self.inside.ports c.self.inside.partners c.args.input (Some c.args.output) (omega arith)
-    ∙ ap (λ t. set t c.args.input (Some c.args.output)) c.self.view_is in (
-      IsPadded-set none _ _ _ _ c.self.invariant.0 (omega arith),
-      subst ArePairs (sym shown) (joined_pairs c.args.self.now c.args.input c.args.output
-          (subst ArePairs c.self.view_is c.self.invariant.1) inside c.requires.output c.requires.free_output),
-    )
+invariant_of-self c = search (arith, rules, take-set-lt, IsPadded-set, joined_pairs)
 
 pub returns : goal.returns
-returns c =
-    let none : Option ℕ = None in
-    let size = length_shown none c.self.inside.ports c.self.inside.partners c.self.invariant.0 in
-    let seen = ap length c.self.view_is in
-    take-set-lt c.self.inside.ports c.self.inside.partners c.args.input (Some c.args.output) (omega arith)
-    ∙ ap (λ t. set t c.args.input (Some c.args.output)) c.self.view_is
+returns c = search (arith, rules, take-set-lt)

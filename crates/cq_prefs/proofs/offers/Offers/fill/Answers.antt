@@ -1,4 +1,4 @@
-use Rattle.std.proofs.Common.{◌≡◌, length, sym, subst, arith}
+use Rattle.std.proofs.Common.{rules, ◌≡◌, length, sym, subst, arith}
 use Rattle.cq_list.specs.InputList.{cells_of}
 use Rattle.cq_prefs.specs.FirstCells.{AreOrdersOf}
 use Rattle.cq_prefs.proofs.Fill.{Made, made_more, orders_made, offers_made}
@@ -18,9 +18,8 @@ pub returns : goal.returns
 returns c =
     let inv = c.loop-output.invariant in
     let end : c.loop-output.output ≡ length c.args.lists.now = omega arith in
-    let orders =
-    orders_made c.args.lists.now _ _ inv.outputs (subst
-    (λ n. Made c.args.lists.now n c.loop-output.self-inside.by_output.items) end inv.made) in
+    let orders = orders_made c.args.lists.now _ _ inv.outputs
+    (subst (λ n. Made c.args.lists.now n c.loop-output.self-inside.by_output.items) end inv.made) in
     record {
       orders = orders;
       first_cells = λ differ. subst (AreOrdersOf (cells_of c.args.lists.now)) (sym orders)
@@ -28,14 +27,4 @@ returns c =
     }
 
 pub loop-output-preserved : goal.loop-output-preserved
-loop-output-preserved c =
-    let inv = c.loop-output.invariant in
-    let inside = c.loop-output-test.true in
-    record {
-      outputs = inv.outputs;
-      waiting = inv.waiting;
-      few = inv.few;
-      made =
-          made_more c.args.lists.now c.loop-output.output _ c.inputs_by_key.result inv.made inside
-          c.inputs_by_key.ensures;
-    }
+loop-output-preserved c = search (arith, rules, made_more)

@@ -1,13 +1,13 @@
-use Rattle.std.proofs.Common.{◌≡◌, ◌≤◌, ◌+◌, ℕ, Some, sym, ◌∙◌, subst, arith}
+use Rattle.std.proofs.Common.{rules, ◌≡◌, ◌+◌, ℕ, Some, sym, ◌∙◌, subst, arith}
 use Rattle.cq_list.specs.InputList.{cells_of}
-use Rattle.cq_prefs.specs.FirstCells.{AreOrdersOf, orders_of}
-use Rattle.cq_prefs.specs.Orders.{Orders, AreOffers, ports}
-use Rattle.cq_prefs.specs.Renewal.{AreSameWithout}
+use Rattle.cq_prefs.specs.FirstCells.{orders_of}
+use Rattle.cq_prefs.specs.Orders.{Orders}
 use Rattle.cq_prefs.specs.declared.offers.Offers.TheInside.{Inside}
 use Rattle.cq_prefs.proofs.InputOrder.{are_orders}
 use Rattle.cq_prefs.proofs.Renewing.{Renewing, Next, none_renewed, none_more, all_renewed, still_offers, row_asks, row_renewed, column_asks, next_renewed}
 use Rattle.cq_prefs.proofs.offers.Offers.renew.Goals as goal
 use Rattle.cq_prefs.proofs.offers.Offers.renew.Goals.{After-partner_of, After-inputs, in-Some, in_default}
+use Rattle.cq_prefs.specs.Renewal.{AreSameWithout}
 
 abbrev shown : Inside → Orders
 shown s = record { outputs = s.by_input.items; inputs = s.by_output.items }
@@ -22,16 +22,7 @@ inputs-init c =
 next : (c : After-partner_of) (j : ℕ) → c.partner_of.result ≡ Some j →
     Next c.args.changed.now c.inputs.input j c.inputs.self-inside.by_input.items c.inputs.self-inside.by_output.items
     c.args.lists.now
-next c j is =
-    record {
-      renewing = c.inputs.invariant;
-      pairs = c.ports-input-end.ensures.pairs;
-      partner = sym c.partner_of.ensures.partner ∙ is;
-      long = c.requires.ports ∙ sym c.requires.lists;
-      inside = omega arith;
-      offers = still_offers _ _ c.args.self.now _ c.ports-input-end.ensures.pairs c.self.invariant c.self.view_is
-          c.requires.ports c.requires.lists c.requires.others;
-    }
+next c j is = search (arith, rules, still_offers)
 
 pub renew_outputs-requires : goal.renew_outputs-requires
 renew_outputs-requires c =
@@ -55,32 +46,24 @@ inputs-preserved c =
     elim c.match-partner_of.branch [
       | in-Some w ↦
           let x = next (goal.at.inputs-preserved c).After-partner_of w.in-Some.output w.in-Some.is in
-          subst (λ (s : Inside). Renewing m (n + 1) (shown s) t) (sym w.self-inside-is)
-          (next_renewed m n w.in-Some.output _ _ c.args.lists.now x w.renew_outputs.new.order w.renew_inputs.new.order
-          (row_renewed m n w.in-Some.output _ _ c.args.lists.now x w.renew_outputs.new.order w.index-lists-at.result
-          w.index-lists-at.is w.renew_outputs.ensures)
-          w.renew_inputs.ensures)
-      | in_default w ↦
-          subst (λ (s : Inside). Renewing m (n + 1) (shown s) t) (sym w.self-inside-is)
+          subst (λ (s : Inside). Renewing m (n + 1) (shown s) t) (sym w.self-inside-is) (next_renewed m n
+          w.in-Some.output _ _ c.args.lists.now x w.renew_outputs.new.order w.renew_inputs.new.order
+          (row_renewed m n w.in-Some.output _ _ c.args.lists.now x w.renew_outputs.new.order
+          w.index-lists-at.result w.index-lists-at.is w.renew_outputs.ensures) w.renew_inputs.ensures)
+      | in_default w ↦ subst (λ (s : Inside). Renewing m (n + 1) (shown s) t) (sym w.self-inside-is)
           (none_more m n _ t c.inputs.invariant (sym c.partner_of.ensures.partner ∙ w.in_default.is))
     ]
 
 -- the orders in the end
 ended : (c : After-inputs) → shown c.inputs.self-inside ≡ orders_of (cells_of c.args.lists.now)
-ended c =
-    all_renewed c.args.changed.now c.inputs.input _ (orders_of (cells_of c.args.lists.now)) c.inputs.invariant
+ended c = all_renewed c.args.changed.now c.inputs.input _ (orders_of (cells_of c.args.lists.now)) c.inputs.invariant
     (omega arith)
 
 pub invariant_of-self : goal.invariant_of-self
-invariant_of-self c =
-    subst (λ o. AreOffers o × (ports o ≤ 64)) (sym (ended (goal.at.invariant_of-self c).After-inputs))
-    (still_offers c.args.changed.now _ c.args.self.now c.args.lists.now c.ports-input-end.ensures.pairs c.self.invariant
-    c.self.view_is c.requires.ports c.requires.lists c.requires.others)
+invariant_of-self c = search (arith, rules, ended, still_offers)
 
 pub returns-clause-orders : goal.returns-clause-orders
 returns-clause-orders c = ended (goal.at.returns-clause-orders c).After-inputs
 
 pub returns-clause-first_cells : goal.returns-clause-first_cells
-returns-clause-first_cells c =
-    subst (AreOrdersOf (cells_of c.args.lists.now)) (sym (ended (goal.at.returns-clause-first_cells c).After-inputs))
-    (are_orders (cells_of c.args.lists.now) c.requires.keys)
+returns-clause-first_cells c = search (arith, rules, ended, are_orders)

@@ -1,7 +1,6 @@
-use Rattle.std.proofs.Common.{◌≡◌, ◌≤◌, set, refl, sym, subst}
+use Rattle.std.proofs.Common.{arith, rules, ◌≡◌, set}
 use Rattle.cq_list.specs.InputList.{cells_of}
-use Rattle.cq_prefs.specs.FirstCells.{AreOrdersOf, orders_of}
-use Rattle.cq_prefs.specs.Orders.{Orders, AreOffers, ports}
+use Rattle.cq_prefs.specs.FirstCells.{orders_of}
 use Rattle.cq_prefs.proofs.InputOrder.{are_orders}
 use Rattle.cq_prefs.proofs.Renewing.{Next, row_asks, column_asks}
 use Rattle.cq_prefs.proofs.RenewingOne.{pair_of, pair_next, pair_renewed}
@@ -12,9 +11,7 @@ use Rattle.cq_prefs.proofs.offers.Offers.renew_pair.Goals.{After-index-lists-at,
 next : (c : After-index-lists-at) → Next (pair_of c.args.lists.now c.args.input c.args.output) c.args.input
     c.args.output
     c.self.inside.by_input.items c.self.inside.by_output.items c.args.lists.now
-next c =
-    pair_next c.args.input c.args.output c.args.lists.now c.requires.input c.requires.output _ _ _ c.args.self.now refl
-    c.self.invariant c.self.view_is c.requires.lists c.requires.others
+next c = search (arith, rules, pair_next)
 
 pub renew_outputs-requires : goal.renew_outputs-requires
 renew_outputs-requires c =
@@ -35,22 +32,13 @@ renewed : (c : After-self-2-1) → Next (pair_of c.args.lists.now c.args.input c
       outputs = set c.self.inside.by_input.items c.args.input c.renew_outputs.new.order;
       inputs = set c.self.inside.by_output.items c.args.output c.renew_inputs.new.order;
     } ≡ orders_of (cells_of c.args.lists.now)
-renewed c x =
-    pair_renewed c.args.input c.args.output c.args.lists.now c.requires.input c.requires.output _ _ _ _ _ x
-    c.index-lists-at.is c.renew_outputs.ensures c.renew_inputs.ensures
+renewed c x = search (arith, rules, pair_renewed)
 
 pub invariant_of-self : goal.invariant_of-self
-invariant_of-self c =
-    let at = goal.at.invariant_of-self c in
-    let x = next at.After-index-lists-at in
-    subst (λ (o : Orders). AreOffers o × (ports o ≤ 64)) (sym (renewed at.After-self-2-1 x)) x.offers
+invariant_of-self c = search (arith, rules, next, renewed)
 
 pub returns-clause-orders : goal.returns-clause-orders
-returns-clause-orders c =
-    let at = goal.at.returns-clause-orders c in renewed at.After-self-2-1 (next at.After-index-lists-at)
+returns-clause-orders c = search (arith, rules, renewed, next)
 
 pub returns-clause-first_cells : goal.returns-clause-first_cells
-returns-clause-first_cells c =
-    let at = goal.at.returns-clause-first_cells c in
-    subst (AreOrdersOf (cells_of c.args.lists.now)) (sym (renewed at.After-self-2-1 (next at.After-index-lists-at)))
-    (are_orders (cells_of c.args.lists.now) c.requires.keys)
+returns-clause-first_cells c = search (arith, rules, renewed, next, are_orders)

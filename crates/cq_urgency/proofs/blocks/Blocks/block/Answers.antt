@@ -9,6 +9,5 @@ index-requires-2 c =
     c.args.place _ c.requires c.index.ensures in omega arith
 
 pub returns : goal.returns
-returns c =
-    read_is _ _ _ _ _ (kept _ _ _ _ _ _ c.self.invariant.0 c.self.view_is) c.args.place _ c.requires c.index.ensures _
-    c.index-2.ensures
+returns c = read_is _ _ _ _ _ (kept _ _ _ _ _ _ c.self.invariant.0 c.self.view_is) c.args.place _ c.requires
+    c.index.ensures _ c.index-2.ensures

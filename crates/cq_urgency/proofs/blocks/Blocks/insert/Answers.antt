@@ -12,9 +12,8 @@ index_mut-requires c =
 
 pub insert-requires-clause-room : goal.insert-requires-clause-room
 insert-requires-clause-room c =
-    let same = ap length (read_is _ _ _ _ _
-    (kept _ _ _ _ _ _ c.self.invariant.0 c.self.view_is)
-    c.args.block _ c.requires.block c.index-number.ensures _ c.index_mut.ensures.value) in
+    let same = ap length (read_is _ _ _ _ _ (kept _ _ _ _ _ _ c.self.invariant.0 c.self.view_is) c.args.block _
+    c.requires.block c.index-number.ensures _ c.index_mut.ensures.value) in
     omega arith
 
 pub invariant_of-self : goal.invariant_of-self

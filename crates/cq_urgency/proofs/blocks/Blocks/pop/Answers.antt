@@ -1,7 +1,7 @@
-use Rattle.std.proofs.Common.{◌-◌, ◌∙◌, length, drop, ap, sym, length-drop, length-set, arith}
-use Rattle.std.specs.Prelude.{slice_set}
+use Rattle.std.proofs.Common.{rules, ◌-◌, ◌∙◌, length, ap, length-drop, length-set, arith, drop, sym}
 use Rattle.cq_urgency.proofs.Placed.{memory_same, kept, in_order_there, read_is, read_count, seen_changed, placed_changed, freed_order, freed_placed, without_block, without_cell}
 use Rattle.cq_urgency.proofs.blocks.Blocks.pop.Goals as goal
+use Rattle.std.specs.Prelude.{slice_set}
 
 pub invariant_of-self : goal.invariant_of-self
 invariant_of-self c =
@@ -27,23 +27,7 @@ returns-then-index-gt1-clause-blocks c =
     ∙ sym (without_cell c.args.self.now.blocks c.requires.block (omega arith))
 
 pub invariant_of-self-2 : goal.invariant_of-self-2
-invariant_of-self-2 c =
-    let b = c.self.inside in
-    let w = kept _ _ _ _ _ _ c.self.invariant.0 c.self.view_is in
-    let some = in_order_there _ _ _ _ _ w 0 _ c.requires.block c.index-number.ensures in (
-      rw (c.remove.ensures.items, c.remove-2.ensures.items, c.push_reserved.ensures.items)
-          (freed_placed _ _ _ _ c.pop-queued.new.self _ w.placed some c.index-number.ensures),
-      let m = c.self.invariant.1 in
-          let size = length-set b.pool.items c.index-number.result.now c.pop-queued.new.self in
-          record {
-            few = omega arith;
-            blocks = m.blocks;
-            ordered = omega arith;
-            counted = omega arith;
-            freed = omega
-                arith;
-          },
-    )
+invariant_of-self-2 c = search (arith, rules, kept, in_order_there, freed_placed, length-set)
 
 pub returns-clause-blocks : goal.returns-clause-blocks
 returns-clause-blocks c =
